@@ -1,0 +1,10 @@
+//! Texts and bytes, and want of memory.
+#![tactic(auto)]
+
+mod bytes;
+mod memory;
+mod text;
+
+pub use bytes::Bytes;
+pub use memory::Memory;
+pub use text::{Txt, TxtFault};

@@ -1,0 +1,93 @@
+ghost use Rattle.std.specs.Prelude.{◌≡◌, ℕ, [], IfOk, IsErrOf};
+ghost use Rattle.std.specs.String.{string_bytes};
+ghost use Rattle.std.specs.Str.{IsUtf8, IsValidUpTo};
+
+use crate::Memory;
+use std::alloc::Global;
+use std::marker::Model;
+
+/// Text in UTF-8 (RFC 3629).
+#[derive(Debug, Drop)]
+pub struct Txt {
+    text: String,
+}
+
+/// Why bytes gave no text.
+#[derive(Clone, Copy, Debug, PartialEq, Eq)]
+pub enum TxtFault {
+    /// The bytes aren't UTF-8; their longest prefix that is UTF-8 has this length.
+    NotUtf8(u64),
+    Memory,
+}
+
+impl Model for Txt {
+    ghost use Rattle.std.specs.Prelude.{List, ℕ};
+    ghost use Rattle.std.specs.String.{string_bytes};
+
+    ghost Value = { List ℕ };
+
+    ghost view = { λ t. string_bytes t.text };
+}
+
+impl Txt {
+    pub fn empty(alloc: Global) -> Txt
+        ensures { result ≡ [] }
+    {
+        Txt {
+            text: String::new(alloc),
+        }
+    }
+
+    pub fn from_string(text: String) -> Txt
+        ensures { result ≡ string_bytes text }
+    {
+        Txt { text }
+    }
+
+    pub fn from_str(alloc: Global, text: &str) -> Result<Txt, Memory>
+        ensures { IfOk result (λ t. t ≡ text.now) }
+    {
+        let text = String::from_str(alloc, text)?;
+        Ok(Txt { text })
+    }
+
+    pub fn into_string(self) -> String
+        ensures { string_bytes result ≡ self }
+    {
+        self.text
+    }
+
+    pub fn as_str(&self) -> &str
+        ensures { result.now ≡ self.now }
+    {
+        self.text.as_str()
+    }
+
+    pub fn as_bytes(&self) -> &[u8]
+        ensures { result.now ≡ self.now }
+    {
+        self.text.as_bytes()
+    }
+
+    pub fn copy(&self, alloc: Global) -> Result<Txt, Memory>
+        ensures { IfOk result (λ t. t ≡ self.now) }
+    {
+        let text = String::from_str(alloc, self.text.as_str())?;
+        Ok(Txt { text })
+    }
+
+    /// The text that the bytes are.
+    pub fn from_bytes(alloc: Global, bytes: &[u8]) -> Result<Txt, TxtFault>
+        ensures text { IfOk result (λ t. (t ≡ bytes.now) × IsUtf8 bytes.now) }
+        ensures not_utf8 { (at : ℕ) → IsErrOf result (TxtFault.NotUtf8 at) → (¬ (IsUtf8 bytes.now)) × IsValidUpTo bytes.now at }
+    {
+        let text = match std::str::from_utf8(bytes) {
+            Ok(text) => text,
+            Err(fault) => return Err(TxtFault::NotUtf8(fault.valid_up_to() as u64)),
+        };
+        match String::from_str(alloc, text) {
+            Ok(text) => Ok(Txt { text }),
+            Err(_) => Err(TxtFault::Memory),
+        }
+    }
+}
