@@ -1,0 +1,9 @@
+-- what a put may leave
+use Rattle.std.specs.Prelude.{ℕ, List, ◌++◌, ◌≡◌}
+
+-- a prefix of the bytes was appended
+pub record AddsPrefix (old new bytes : List ℕ) : Type 0 where
+  pub appended : List ℕ
+  pub left : List ℕ
+  pub parts : bytes ≡ appended ++ left
+  pub now : new ≡ old ++ appended
