@@ -1,0 +1,4 @@
+//! The program's work between the outside and its bytes.
+#![tactic(auto)]
+
+mod line;
