@@ -1,2 +1,6 @@
 pub mod Faults
 pub mod Put
+pub mod Calls
+pub mod NamedFiles
+pub mod FilesState
+pub mod SinkState

@@ -1,0 +1,35 @@
+-- a sink in memory, as contracts see it
+use Rattle.std.specs.Prelude.{ℕ, List, ◌++◌, length, ◌+◌, Bool, ◌||◌, Option, if◌then◌else◌, nat_lt}
+use Rattle.jac_io.specs.Faults.{risen}
+use Rattle.jac_io.specs.Calls.{listed}
+
+-- the bytes that were put, the file's name, the room for all bytes, the calls that are to fail, and how
+-- many calls there were and how many failed
+pub record SinkState : Type 0 where
+  pub held : List ℕ
+  pub aimed : Option (List ℕ)
+  pub room : ℕ
+  pub fails : List ℕ
+  pub calls : ℕ
+  pub faults : ℕ
+
+-- whether the next call is to fail
+abbrev pub is_to_fail : SinkState → Bool
+is_to_fail s = listed (risen s.calls) s.fails
+
+-- whether the next put fails: it is a listed call, or the bytes are more than the rest of the room
+abbrev pub put_fails : SinkState → List ℕ → Bool
+put_fails s bytes = is_to_fail s || nat_lt s.room (length s.held + length bytes)
+
+-- what a call leaves that fails
+abbrev pub failed : SinkState → SinkState
+failed s = record s { calls = risen s.calls; faults = risen s.faults }
+
+-- what the next put leaves
+abbrev pub after_put : SinkState → List ℕ → SinkState
+after_put s bytes =
+    if put_fails s bytes then failed s else record s { calls = risen s.calls; held = s.held ++ bytes }
+
+-- what the next aim leaves
+abbrev pub after_aim : SinkState → Option (List ℕ) → SinkState
+after_aim s name = if is_to_fail s then failed s else record s { calls = risen s.calls; aimed = name }

@@ -1,0 +1,76 @@
+ghost use Rattle.std.specs.Prelude.{◌≡◌, ◌≤◌, ◌<◌, ◌↔◌, length, true, false, IfOk, OnOk, IsTrue, IsErrOf, IsSomeAnd};
+ghost use Rattle.jac_io.specs.Faults.{Rose};
+ghost use Rattle.jac_io.specs.NamedFiles.{file_of};
+
+use crate::{Calls, FileFault, Files, NamedFiles};
+use jac_value::{Bytes, Txt};
+use std::alloc::Global;
+use std::marker::Model;
+
+/// Files in memory. A read fails where it is a listed call, and where the file isn't there.
+#[derive(Debug, Drop)]
+pub struct MemoryFiles {
+    files: NamedFiles,
+    fails: Calls,
+    calls: u64,
+    faults: u64,
+}
+
+impl Model for MemoryFiles {
+    ghost use Rattle.jac_io.specs.FilesState.{FilesState};
+
+    ghost Value = { FilesState };
+
+    ghost view = { λ m. record { files = m.files; fails = m.fails; calls = m.calls; faults = m.faults } };
+}
+
+impl MemoryFiles {
+    pub fn new(files: NamedFiles, fails: Calls) -> MemoryFiles
+        ensures { result ≡ record { files = files; fails = fails; calls = 0; faults = 0 } }
+    {
+        MemoryFiles {
+            files,
+            fails,
+            calls: 0,
+            faults: 0,
+        }
+    }
+}
+
+impl Files for MemoryFiles {
+    ghost use Rattle.jac_io.specs.FilesState.{read_fails, after_read};
+
+    ghost tells = { λ _. true };
+
+    ghost file = { λ m. file_of m.files };
+
+    ghost faults = { λ m. m.faults };
+
+    fn read_all(&mut self, alloc: Global, name: &Txt, limit: usize) -> Result<Bytes, FileFault>
+        ensures left { self.new ≡ after_read self.old name.now }
+        ensures failed { IsErrOf result FileFault.Failed ↔ IsTrue (read_fails self.old name.now) }
+        ensures read { IfOk result (λ b. file_of self.old.files name.now ≡ Some b) }
+        ensures within { IfOk result (λ b. length b ≤ limit) }
+        ensures kept { file_of self.new.files ≡ file_of self.old.files }
+        ensures later { self.old.faults ≤ self.new.faults }
+        ensures cause { IsErrOf result FileFault.Failed → Rose self.old.faults self.new.faults }
+        ensures too_long { IsErrOf result FileFault.TooLong → IsSomeAnd (file_of self.old.files name.now) (λ b. limit < length b) }
+    {
+        self.calls = self.calls.saturating_add(1);
+        let listed = self.fails.lists(self.calls);
+        if listed {
+            self.faults = self.faults.saturating_add(1);
+            return Err(FileFault::Failed);
+        }
+        let found = self.files.find(name);
+        let Some(bytes) = found else {
+            self.faults = self.faults.saturating_add(1);
+            return Err(FileFault::Failed);
+        };
+        if bytes.as_slice().len() > limit {
+            return Err(FileFault::TooLong);
+        }
+        let bytes = bytes.copy(alloc)?;
+        Ok(bytes)
+    }
+}
