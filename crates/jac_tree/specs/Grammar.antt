@@ -1,0 +1,74 @@
+-- Which bytes spell which tree.
+use Rattle.std.specs.Prelude.{◌≡◌, ◌≢◌, ◌≤◌, ℕ, Bool, true, false, not, ◌&&◌, ◌||◌, ◌==◌, ◌⊎◌, List, [], ◌∷◌, ◌++◌, length, Option, Some, None, if◌then◌else◌, IsUtf8}
+use Rattle.std.specs.Char.{is_ascii_alphanumeric}
+use Rattle.jac_tree.specs.Plain.{PlainTree, PlainTrees, nesting}
+
+-- space, tab, line feed or carriage return
+abbrev pub is_white : ℕ → Bool
+is_white b = b == 32 || b == 9 || b == 10 || b == 13
+
+-- the bytes without the white at their front
+abbrev pub skip : List ℕ → List ℕ
+skip [] = []
+skip (b ∷ bs) = if is_white b then skip bs else b ∷ bs
+
+-- an ASCII letter or digit, `_` or `-`
+abbrev pub is_atom_byte : ℕ → Bool
+is_atom_byte b = is_ascii_alphanumeric b || b == 95 || b == 45
+
+abbrev pub are_atom_bytes : List ℕ → Bool
+are_atom_bytes [] = true
+are_atom_bytes (b ∷ bs) = is_atom_byte b && are_atom_bytes bs
+
+abbrev pub begins_with_atom_byte : List ℕ → Bool
+begins_with_atom_byte [] = false
+begins_with_atom_byte (b ∷ bs) = is_atom_byte b
+
+-- any byte that is neither a quote nor a backslash
+abbrev pub is_plain_byte : ℕ → Bool
+is_plain_byte b = not (b == 34 || b == 92)
+
+-- what the byte after a backslash stands for: n, r, t, backslash and quote
+abbrev pub escaped : ℕ → Option ℕ
+escaped e =
+    if e == 110 then Some 10
+    else if e == 114 then Some 13
+    else if e == 116 then Some 9
+    else if e == 92 then Some 92
+    else if e == 34 then Some 34
+    else None
+
+-- a piece that stands for x is at the front of `from`, and `to` follows it
+abbrev pub PieceAt : ℕ → List ℕ → List ℕ → Type 0
+PieceAt x from to =
+    ((is_plain_byte x ≡ true) × (from ≡ x ∷ to))
+    ⊎ ((e : ℕ) × (escaped e ≡ Some x) × (from ≡ 92 ∷ e ∷ to))
+
+-- pieces that stand for the text, and then a quote, are at the front of `from`, and `to` follows them
+abbrev pub PiecesAt : List ℕ → List ℕ → List ℕ → Type 0
+PiecesAt [] from to = from ≡ 34 ∷ to
+PiecesAt (x ∷ xs) from to = (rest : List ℕ) × PieceAt x from rest × PiecesAt xs rest to
+
+-- the tree is at the front of `from`, and `to` follows it; an atom is a longest run
+abbrev mutual
+  pub TreeAt : PlainTree → List ℕ → List ℕ → Type 0
+  TreeAt (PlainTree.atom a) from to =
+      (a ≢ []) × (are_atom_bytes a ≡ true) × (from ≡ a ++ to) × (begins_with_atom_byte to ≡ false)
+  TreeAt (PlainTree.text x) from to = (inside : List ℕ) × (from ≡ 34 ∷ inside) × PiecesAt x inside to
+  TreeAt (PlainTree.list ts) from to = (inside : List ℕ) × (from ≡ 40 ∷ inside) × TreesAt ts inside to
+
+  -- the trees, white around them, and then the closing bracket
+  pub TreesAt : PlainTrees → List ℕ → List ℕ → Type 0
+  TreesAt PlainTrees.none from to = skip from ≡ 41 ∷ to
+  TreesAt (PlainTrees.more t ts) from to = (rest : List ℕ) × TreeAt t (skip from) rest × TreesAt ts rest to
+
+-- the bytes are a document: white, the tree, white
+abbrev pub Spells : List ℕ → PlainTree → Type 0
+Spells bytes t = (to : List ℕ) × TreeAt t (skip bytes) to × (skip to ≡ [])
+
+-- the tree that the bytes are read as
+pub record Accepted (bytes : List ℕ) (t : PlainTree) : Type 0 where
+  pub short : length bytes ≤ 1048576
+  pub utf8 : IsUtf8 bytes
+  pub spelled : Spells bytes t
+  pub shallow : nesting t ≤ 64

@@ -1,0 +1,4 @@
+pub mod Grammar
+pub mod Mirror
+pub mod Plain
+pub mod Reading

@@ -1,0 +1,33 @@
+-- Trees without the places where they lie in memory.
+use Rattle.std.specs.Prelude.{ℕ, ◌+◌, max, List, [], ◌∷◌}
+
+mutual
+  pub data PlainTree : Type 0 where
+    atom : List ℕ → PlainTree
+    text : List ℕ → PlainTree
+    list : PlainTrees → PlainTree
+
+  pub data PlainTrees : Type 0 where
+    none : PlainTrees
+    more : PlainTree → PlainTrees → PlainTrees
+
+-- the trees of a list, as a list
+abbrev pub listed : PlainTrees → List PlainTree
+listed none = []
+listed (more t ts) = t ∷ listed ts
+
+-- the first trees turned round, and then the second
+abbrev pub onto : PlainTrees → PlainTrees → PlainTrees
+onto none over = over
+onto (more t ts) over = onto ts (more t over)
+
+-- how many lists stand round the deepest place of a tree, and the most of those of its trees
+abbrev mutual
+  pub nesting : PlainTree → ℕ
+  nesting (atom a) = 0
+  nesting (text x) = 0
+  nesting (list ts) = nesting_all ts + 1
+
+  pub nesting_all : PlainTrees → ℕ
+  nesting_all none = 0
+  nesting_all (more t ts) = max (nesting t) (nesting_all ts)

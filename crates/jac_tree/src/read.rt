@@ -1,0 +1,268 @@
+ghost use Rattle.std.specs.Prelude.{◌≡◌, ◌<◌, ◌≤◌, ◌↔◌, ℕ, [], ◌∷◌, ◌++◌, length, IfOk, IsErrOf, MatchResult, IsUtf8, IsTrue, true, encode_utf8, string_bytes};
+ghost use Rattle.std.specs.Str.{IsValidUpTo};
+ghost use Rattle.jac_tree.specs.Grammar.{Accepted, is_white, is_atom_byte, escaped};
+ghost use Rattle.jac_tree.specs.Mirror.{plain, plain_all};
+ghost use Rattle.jac_tree.specs.Plain.{PlainTree};
+ghost use Rattle.jac_tree.specs.Reading.{open_lists, Goes, Settles, IsUnescaped};
+
+use crate::{Tree, TreeFault, Trees};
+use jac_value::{Memory, Txt};
+use std::alloc::Global;
+
+/// The most bytes that are read.
+pub const LENGTH_LIMIT: usize = 1_048_576;
+
+/// The most lists that are open at once.
+pub const NESTING_LIMIT: usize = 64;
+
+// Where a reader stands outside of atoms and texts.
+#[derive(Drop)]
+enum Place {
+    // A tree may begin here, or the innermost open list end.
+    Open,
+    // The document's tree was read.
+    Complete(Tree),
+}
+
+// Where a reader stands between two characters.
+#[derive(Drop)]
+enum Mode {
+    Outside(Place),
+    InAtom(String),
+    InText(String),
+    // After a backslash in a text.
+    InEscape(String),
+}
+
+/// The tree that the bytes spell.
+pub fn read_tree(alloc: Global, bytes: &[u8]) -> Result<Tree, TreeFault>
+    ensures tree { IfOk result (λ t. Accepted bytes.now (plain t)) }
+
+    // Each tree that the bytes spell is read, unless memory runs out.
+    ensures only { (t : PlainTree) → Accepted bytes.now t → MatchResult result (λ u. plain u ≡ t) (λ e. e ≡ TreeFault.Memory) }
+
+    // The length is tested first, and then the encoding, and neither takes memory.
+    ensures long { IsErrOf result TreeFault.Long ↔ (1048576 < length bytes.now) }
+    ensures not_utf8 { (at : ℕ) → IsErrOf result (TreeFault.NotUtf8 at) → (length bytes.now ≤ 1048576) × ¬ (IsUtf8 bytes.now) × IsValidUpTo bytes.now at }
+    ensures no_text { length bytes.now ≤ 1048576 → ¬ (IsUtf8 bytes.now) → (at : ℕ) × IsErrOf result (TreeFault.NotUtf8 at) }
+{
+    if bytes.len() > LENGTH_LIMIT {
+        return Err(TreeFault::Long);
+    }
+    let text = match std::str::from_utf8(bytes) {
+        Ok(text) => text,
+        Err(fault) => return Err(TreeFault::NotUtf8(fault.valid_up_to() as u64)),
+    };
+    let tree = read_text(alloc, text)?;
+    Ok(tree)
+}
+
+fn read_text(alloc: Global, text: &str) -> Result<Tree, TreeFault> {
+    let mut open = Vec::new(alloc);
+    let mut mode = Mode::Outside(Place::Open);
+    let mut at: u64 = 0;
+    'characters: for c in text.chars() {
+        mode = step(alloc, &mut open, mode, c, at)?;
+        at += c.len_utf8() as u64;
+    }
+    let tree = finish(mode, &open, at)?;
+    Ok(tree)
+}
+
+// The character c stands at the byte `at`. After a fault the reader is done with.
+fn step(alloc: Global, open: &mut Vec<Trees>, mode: Mode, c: char, at: u64) -> Result<Mode, TreeFault>
+    ensures { Goes (open_lists open.old.items) mode (encode_utf8 c) at (open_lists open.new.items) result }
+{
+    match mode {
+        Mode::Outside(place) => {
+            let next = outside(alloc, open, place, c, at)?;
+            Ok(next)
+        }
+        Mode::InAtom(atom) => {
+            let next = in_atom(alloc, open, atom, c, at)?;
+            Ok(next)
+        }
+        Mode::InText(text) => {
+            let next = in_text(alloc, open, text, c)?;
+            Ok(next)
+        }
+        Mode::InEscape(text) => {
+            let next = in_escape(text, c, at)?;
+            Ok(next)
+        }
+    }
+}
+
+fn outside(alloc: Global, open: &mut Vec<Trees>, place: Place, c: char, at: u64) -> Result<Mode, TreeFault>
+    ensures { Goes (open_lists open.old.items) (Mode.Outside place) (encode_utf8 c) at (open_lists open.new.items) result }
+{
+    match place {
+        Place::Open => {
+            let next = between(alloc, open, c, at)?;
+            Ok(next)
+        }
+        Place::Complete(tree) => {
+            if is_white(c) {
+                Ok(Mode::Outside(Place::Complete(tree)))
+            } else {
+                Err(TreeFault::Stray(at))
+            }
+        }
+    }
+}
+
+// A tree may begin with the character, or the innermost list end.
+fn between(alloc: Global, open: &mut Vec<Trees>, c: char, at: u64) -> Result<Mode, TreeFault>
+    ensures { Goes (open_lists open.old.items) (Mode.Outside Place.Open) (encode_utf8 c) at (open_lists open.new.items) result }
+{
+    if is_white(c) {
+        return Ok(Mode::Outside(Place::Open));
+    }
+    match c {
+        ')' => {
+            let next = close_list(alloc, open, at)?;
+            Ok(next)
+        }
+        '(' => {
+            let next = open_list(open, at)?;
+            Ok(next)
+        }
+        '"' => Ok(Mode::InText(String::new(alloc))),
+        _ => {
+            let next = begin_atom(alloc, c, at)?;
+            Ok(next)
+        }
+    }
+}
+
+fn begin_atom(alloc: Global, c: char, at: u64) -> Result<Mode, TreeFault> {
+    if is_atom_char(c) {
+        let atom = pushed(String::new(alloc), c)?;
+        Ok(Mode::InAtom(atom))
+    } else {
+        Err(TreeFault::Stray(at))
+    }
+}
+
+fn open_list(open: &mut Vec<Trees>, at: u64) -> Result<Mode, TreeFault>
+    ensures { Goes (open_lists open.old.items) (Mode.Outside Place.Open) (40 ∷ []) at (open_lists open.new.items) result }
+{
+    if open.len() >= NESTING_LIMIT {
+        return Err(TreeFault::Deep(at));
+    }
+    add_list(open)?;
+    Ok(Mode::Outside(Place::Open))
+}
+
+fn add_list(open: &mut Vec<Trees>) -> Result<(), Memory> {
+    open.push(Trees::End)?;
+    Ok(())
+}
+
+fn close_list(alloc: Global, open: &mut Vec<Trees>, at: u64) -> Result<Mode, TreeFault>
+    ensures { Goes (open_lists open.old.items) (Mode.Outside Place.Open) (41 ∷ []) at (open_lists open.new.items) result }
+{
+    match open.pop() {
+        None => Err(TreeFault::Stray(at)),
+        Some(items) => {
+            let place = settle(alloc, open, Tree::List(items.before(Trees::End)))?;
+            Ok(Mode::Outside(place))
+        }
+    }
+}
+
+// Puts a tree that was read into the innermost open list.
+fn settle(alloc: Global, open: &mut Vec<Trees>, tree: Tree) -> Result<Place, Memory>
+    ensures { IfOk result (λ place. Settles (open_lists open.old.items) (plain tree) (open_lists open.new.items) place) }
+{
+    match open.pop() {
+        None => Ok(Place::Complete(tree)),
+        Some(items) => {
+            let first = Box::new(alloc, tree)?;
+            let rest = Box::new(alloc, items)?;
+            open.push(Trees::More(first, rest))?;
+            Ok(Place::Open)
+        }
+    }
+}
+
+fn in_atom(alloc: Global, open: &mut Vec<Trees>, atom: String, c: char, at: u64) -> Result<Mode, TreeFault>
+    ensures { Goes (open_lists open.old.items) (Mode.InAtom atom) (encode_utf8 c) at (open_lists open.new.items) result }
+{
+    if is_atom_char(c) {
+        let atom = pushed(atom, c)?;
+        Ok(Mode::InAtom(atom))
+    } else {
+        let place = settle(alloc, open, Tree::Atom(Txt::from_string(atom)))?;
+        let next = outside(alloc, open, place, c, at)?;
+        Ok(next)
+    }
+}
+
+fn in_text(alloc: Global, open: &mut Vec<Trees>, text: String, c: char) -> Result<Mode, Memory>
+    ensures { true ≡ true }
+{
+    match c {
+        '"' => {
+            let place = settle(alloc, open, Tree::Text(Txt::from_string(text)))?;
+            Ok(Mode::Outside(place))
+        }
+        '\\' => Ok(Mode::InEscape(text)),
+        _ => {
+            let text = pushed(text, c)?;
+            Ok(Mode::InText(text))
+        }
+    }
+}
+
+fn in_escape(text: String, c: char, at: u64) -> Result<Mode, TreeFault> {
+    match unescaped(c) {
+        Some(piece) => {
+            let text = pushed(text, piece)?;
+            Ok(Mode::InText(text))
+        }
+        None => Err(TreeFault::Stray(at)),
+    }
+}
+
+fn finish(mode: Mode, open: &Vec<Trees>, at: u64) -> Result<Tree, TreeFault> {
+    match mode {
+        Mode::Outside(Place::Complete(tree)) => Ok(tree),
+        Mode::InAtom(atom) if open.is_empty() => Ok(Tree::Atom(Txt::from_string(atom))),
+        _ => Err(TreeFault::Unclosed(at)),
+    }
+}
+
+fn pushed(text: String, c: char) -> Result<String, Memory>
+    ensures { IfOk result (λ longer. string_bytes longer ≡ string_bytes text ++ encode_utf8 c) }
+{
+    let mut longer = text;
+    longer.push(c)?;
+    Ok(longer)
+}
+
+// What the character after a backslash stands for.
+fn unescaped(c: char) -> Option<char>
+    ensures { IsUnescaped c result }
+{
+    match c {
+        'n' => Some('\n'),
+        'r' => Some('\r'),
+        't' => Some('\t'),
+        '\\' => Some('\\'),
+        '"' => Some('"'),
+        _ => None,
+    }
+}
+
+fn is_white(c: char) -> bool
+    ensures { result ≡ is_white c }
+{
+    matches!(c, ' ' | '\t' | '\n' | '\r')
+}
+
+fn is_atom_char(c: char) -> bool
+    ensures { result ≡ is_atom_byte c }
+{
+    c.is_ascii_alphanumeric() || c == '_' || c == '-'
+}

@@ -1,0 +1,95 @@
+ghost use Rattle.std.specs.Prelude.{◌≡◌, IfOk};
+ghost use Rattle.jac_tree.specs.Mirror.{plain, plain_all};
+ghost use Rattle.jac_tree.specs.Plain.{onto};
+
+use jac_value::{Memory, Txt};
+use std::alloc::Global;
+use std::mem;
+
+/// A tree as its text spells it.
+#[cycle(tree)]
+#[derive(Drop)]
+pub enum Tree {
+    /// A word of ASCII letters, digits, `_` and `-`.
+    Atom(Txt),
+    /// A quoted text, without its quotes and escapes.
+    Text(Txt),
+    List(Trees),
+}
+
+/// The trees of a list, in order. Walk it by a loop over references.
+#[cycle(tree)]
+pub enum Trees {
+    End,
+    More(Box<Tree>, Box<Trees>),
+}
+
+impl Drop for Trees {
+    #[cycle(tree)]
+    fn drop(mut self) {
+        loop {
+            match self {
+                Trees::End => return,
+                Trees::More(first, rest) => {
+                    drop(first);
+                    self = Box::into_inner(rest);
+                }
+            }
+        }
+    }
+}
+
+impl Tree {
+    #[cycle(copy)]
+    pub fn copy(&self, alloc: Global) -> Result<Tree, Memory>
+        ensures { IfOk result (λ t. plain t ≡ plain self.now) }
+    {
+        match self {
+            Tree::Atom(text) => {
+                let text = text.copy(alloc)?;
+                Ok(Tree::Atom(text))
+            }
+            Tree::Text(text) => {
+                let text = text.copy(alloc)?;
+                Ok(Tree::Text(text))
+            }
+            Tree::List(items) => {
+                let items = items.copy(alloc)?;
+                Ok(Tree::List(items))
+            }
+        }
+    }
+}
+
+impl Trees {
+    /// These trees turned round, and then those of `over`; no memory is taken.
+    pub fn before(self, over: Trees) -> Trees
+        ensures { plain_all result ≡ onto (plain_all self) (plain_all over) }
+    {
+        let mut out = over;
+        let mut left = self;
+        'turn: loop {
+            let next = match &mut left {
+                Trees::End => return out,
+                Trees::More(_, rest) => mem::replace(&mut **rest, out),
+            };
+            out = left;
+            left = next;
+        }
+    }
+
+    #[cycle(copy)]
+    pub fn copy(&self, alloc: Global) -> Result<Trees, Memory>
+        ensures { IfOk result (λ ts. plain_all ts ≡ plain_all self.now) }
+    {
+        let mut back = Trees::End;
+        let mut left = self;
+        'copying: while let Trees::More(first, rest) = left {
+            let one = Box::new(alloc, first.copy(alloc)?)?;
+            back = Trees::More(one, Box::new(alloc, back)?);
+            left = rest;
+        }
+        let copied = back.before(Trees::End);
+        Ok(copied)
+    }
+}
