@@ -1,4 +1,6 @@
 //! The program's work between the outside and its bytes.
 #![tactic(auto)]
 
+mod application;
 mod line;
+mod parts;
