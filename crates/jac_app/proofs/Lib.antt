@@ -1,1 +1,6 @@
 pub mod AsciiLemmas
+pub mod OutsideLemmas
+pub mod LackingLemmas
+pub mod EntryLemmas
+pub mod ProgressLemmas
+pub mod LineLemmas

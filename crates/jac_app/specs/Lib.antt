@@ -3,3 +3,7 @@ pub mod Line
 pub mod Piece
 pub mod Made
 pub mod Parts
+pub mod Log
+pub mod Page
+pub mod Outside
+pub mod Serve

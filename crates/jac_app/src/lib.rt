@@ -3,4 +3,8 @@
 
 mod application;
 mod line;
+mod outside;
+mod page;
 mod parts;
+mod reply;
+mod serve;
