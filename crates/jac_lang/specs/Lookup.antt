@@ -1,7 +1,6 @@
 -- Models, fields and groups by name and by number: a number is the place in the text.
-use Rattle.std.specs.Prelude.{ℕ, Bool, ◌==◌, List, [], ◌∷◌, length, position, slice_get, unwrap_or, Option, Some, None}
+use Rattle.std.specs.Prelude.{ℕ, Bool, true, false, ◌==◌, if◌then◌else◌, List, [], ◌∷◌, length, position, slice_get, unwrap_or, Option, Some, None}
 use Rattle.std.specs.Cmp.Lexicographic.{pointwise}
-use Rattle.std.specs.List.{list_any}
 use Rattle.jac_value.specs.declared.value.Kind.{Kind}
 use Rattle.jac_lang.specs.declared.field_kinds.Field.{Field}
 use Rattle.jac_lang.specs.declared.field_kinds.KindName.{KindName}
@@ -50,14 +49,23 @@ kind_in models (Some f) = kind_named models f.kind
 abbrev pub kind_at : List Entity → List Field → ℕ → Kind
 kind_at models fields f = kind_in models (slice_get fields f)
 
+-- one of these is for the field of this name
+abbrev pub names_field : List ℕ → List Assigned → Bool
+names_field name [] = false
+names_field name (g ∷ gs) = if same_text g.field name then true else names_field name gs
+
 -- the group guards the field of this name
 abbrev pub guards_field : List ℕ → FieldGroup → Bool
-guards_field name group = list_any (λ g. same_text g.field name) group.guards
+guards_field name group = names_field name group.guards
 
 -- the place of the first group that guards the field of this name
 abbrev pub group_place : List FieldGroup → List ℕ → Option ℕ
 group_place groups name = position (λ g. guards_field name g) groups
 
-abbrev pub group_in : List FieldGroup → Option Field → Option ℕ
-group_in groups None = None
-group_in groups (Some f) = group_place groups f.name
+abbrev pub group_for : List FieldGroup → Option Field → Option ℕ
+group_for groups None = None
+group_for groups (Some f) = group_place groups f.name
+
+-- the place of the group that guards the field at this place
+abbrev pub group_in : List FieldGroup → List Field → ℕ → Option ℕ
+group_in groups fields f = group_for groups (slice_get fields f)

@@ -16,7 +16,7 @@ pub use application::App;
 pub use bindings::{Binding, PlainEnv};
 pub use expressions::{Expr, Exprs, Op, Query};
 pub use field_kinds::{Field, Fields, KindName};
-pub use lookups::model_of;
+pub use lookups::{field_of, group_of, kind_of, model_of};
 pub use assigned::{Public, Publics};
 pub use pages::{Verb, View, Views};
 pub use queries::{Binder, Binders, Order};
