@@ -1,6 +1,6 @@
-ghost use Rattle.std.specs.Prelude.{◌≡◌, ◌<◌, length, position, unwrap_or, IfSome};
-ghost use Rattle.jac_lang.specs.Lookup.{same_text, model_place, field_place, fields_at, groups_at, kind_named, kind_at, names_field, guards_field, group_place, group_in};
-ghost use Rattle.jac_lang.specs.Mirror.{application_of, entities_of, field_group_of, groups_of, assigned_of};
+ghost use Rattle.std.specs.Prelude.{◌≡◌, ◌<◌, ◌≤◌, length, position, slice_get, unwrap_or, IfSome, Some};
+ghost use Rattle.jac_lang.specs.Lookup.{same_text, model_place, field_place, fields_at, groups_at, kind_named, kind_at, names_field, group_place, group_in};
+ghost use Rattle.jac_lang.specs.Mirror.{application_of, entities_of, groups_of, assigned_of};
 
 use crate::{App, Field, Group, KindName, ModelDef, Models, Publics};
 use jac_value::{Kind, Txt};
@@ -17,8 +17,7 @@ pub fn field_of(app: &App, model: u8, name: &Txt) -> Option<u8>
     requires { model < length app.now.models }
     ensures { result ≡ field_place (fields_at (application_of app.now).models model) name.now }
 {
-    let model = &app.models.as_slice()[usize::from(model)];
-    let fields = model.fields.as_slice();
+    let fields = fields_of(&app.models, model);
     match field_index(fields, name) {
         Some(place) => Some(place as u8),
         None => None,
@@ -32,9 +31,9 @@ pub fn kind_of(app: &App, model: u8, field: u8) -> Kind
     requires field { field < length (fields_at (application_of app.now).models model) }
     ensures { let models = (application_of app.now).models in result ≡ kind_at models (fields_at models model) field }
 {
-    let model = &app.models.as_slice()[usize::from(model)];
-    let field = &model.fields.as_slice()[usize::from(field)];
-    kind_by_name(&app.models, &field.kind)
+    let field = field_at(&app.models, model, field);
+    let kind = kind_by_name(&app.models, &field.kind);
+    kind
 }
 
 /// The number of the group of the model that guards the field.
@@ -43,13 +42,55 @@ pub fn group_of(app: &App, model: u8, field: u8) -> Option<u8>
     requires field { field < length (fields_at (application_of app.now).models model) }
     ensures { let models = (application_of app.now).models in result ≡ group_in (groups_at models model) (fields_at models model) field }
 {
-    let model = &app.models.as_slice()[usize::from(model)];
-    let field = &model.fields.as_slice()[usize::from(field)];
-    let groups = model.groups.as_slice();
-    match group_index(groups, &field.name) {
+    let field = field_at(&app.models, model, field);
+    let place = group_for_name(&app.models, model, &field.name);
+    place
+}
+
+fn group_for_name(models: &Models, model: u8, name: &Txt) -> Option<u8>
+    requires { model < length models.now }
+    ensures { result ≡ group_place (groups_at (entities_of models.now) model) name.now }
+{
+    let groups = groups_of_model(models, model);
+    match group_index(groups, name) {
         Some(place) => Some(place as u8),
         None => None,
     }
+}
+
+fn field_at(models: &Models, model: u8, field: u8) -> &Field
+    requires model { model < length models.now }
+    requires field { field < length (fields_at (entities_of models.now) model) }
+    ensures { slice_get (fields_at (entities_of models.now) model) field ≡ Some result.now }
+{
+    let fields = fields_of(models, model);
+    &fields[usize::from(field)]
+}
+
+fn fields_of(models: &Models, model: u8) -> &[Field]
+    requires { model < length models.now }
+    ensures fields { result.now ≡ fields_at (entities_of models.now) model }
+    ensures few { length result.now ≤ 32 }
+{
+    let model = model_at(models.as_slice(), model);
+    model.fields.as_slice()
+}
+
+fn groups_of_model(models: &Models, model: u8) -> &[Group]
+    requires { model < length models.now }
+    ensures groups { groups_of result.now ≡ groups_at (entities_of models.now) model }
+    ensures few { length result.now ≤ 8 }
+{
+    let model = model_at(models.as_slice(), model);
+    model.groups.as_slice()
+}
+
+fn model_at(models: &[ModelDef], place: u8) -> &ModelDef
+    requires { place < length models.now }
+    ensures model { slice_get models.now place ≡ Some result.now }
+    ensures few { length result.now.fields ≤ 32 }
+{
+    &models[usize::from(place)]
 }
 
 fn place_of(models: &Models, name: &Txt) -> Option<u8>
