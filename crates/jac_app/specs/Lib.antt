@@ -7,3 +7,5 @@ pub mod Log
 pub mod Page
 pub mod Outside
 pub mod Serve
+pub mod Run
+pub mod Status

@@ -7,4 +7,6 @@ mod outside;
 mod page;
 mod parts;
 mod reply;
+mod run;
 mod serve;
+mod status;

@@ -1,5 +1,5 @@
 -- What std's `parse` reads, and what a parameter reads as.
-use Rattle.std.proofs.Common.{◌≡◌, ◌≢◌, ℕ, ◌<◌, ◌≤◌, ◌^◌, Bool, true, false, ◌==◌, ◌&&◌, nat_lt, nat_le, List, [], ◌∷◌, length, drop, slice_index, refl, sym, ◌∙◌, ap, subst, arith, Option, Some, None, if◌then◌else◌, cond, ℤ, pos, neg_ℤ}
+use Rattle.std.proofs.Common.{◌≡◌, ℕ, ◌<◌, ◌≤◌, ◌^◌, Bool, true, false, ◌&&◌, nat_lt, nat_le, List, [], ◌∷◌, length, drop, refl, sym, ◌∙◌, ap, subst, arith, Some, None, if◌then◌else◌, ℤ, pos, neg_ℤ}
 use Rattle.std.proofs.lemmas.Grind.{common_steps}
 use Rattle.std.proofs.lemmas.Int.{ints}
 use Rattle.std.specs.Prelude.{FitsSigned}
@@ -67,6 +67,7 @@ ref-none m bs p refused = split (is_numeral bs) refl (nat_lt (digits_value 10 bs
   where
     same : without_leading_plus bs ≡ bs
     same = without_plus bs p
+
     split : (b : Bool) → is_numeral bs ≡ b → (c : Bool) → nat_lt (digits_value 10 bs) (2 ^ 128) ≡ c → None ≡ ref_read m bs
     split false e c f = rw e refl
     split true e false f = rw (e, wide-no_id m (digits_value 10 bs) (grind arith)) refl
@@ -120,14 +121,18 @@ int-none bs p refused = split (starts_with_minus bs) refl
     minus false s m e f = rw (m, e) refl
     minus true false m e f = rw (m, e, f) refl
     minus true true m e f = absurd (refused (
-        subst (λ (ds : List ℕ). IsNumeral 10 ds) (sym (minus-digits bs m)) (numeral-from_test _ e),
-        subst (λ (v : ℤ). FitsSigned w64 v) (sym (minus-value bs m)) (above-fits _ f)))
+      subst (λ (ds : List ℕ). IsNumeral 10 ds) (sym (minus-digits bs m)) (numeral-from_test _ e),
+      subst (λ (v : ℤ). FitsSigned w64 v) (sym (minus-value bs m)) (above-fits _ f),
+    ))
+
     bare : (n s : Bool) → starts_with_minus bs ≡ false → is_numeral bs ≡ n → nat_le (digits_value 10 bs) 0x7FFF_FFFF_FFFF_FFFF ≡ s → pos 0 ≡ int_read bs
     bare false s m e f = rw (m, e) refl
     bare true false m e f = rw (m, e, f) refl
     bare true true m e f = absurd (refused (
-        subst (λ (ds : List ℕ). IsNumeral 10 ds) (sym (bare-digits bs p m)) (numeral-from_test _ e),
-        subst (λ (v : ℤ). FitsSigned w64 v) (sym (bare-value bs p m)) (below-fits _ f)))
+      subst (λ (ds : List ℕ). IsNumeral 10 ds) (sym (bare-digits bs p m)) (numeral-from_test _ e),
+      subst (λ (v : ℤ). FitsSigned w64 v) (sym (bare-value bs p m)) (below-fits _ f),
+    ))
+
     split : (b : Bool) → starts_with_minus bs ≡ b → pos 0 ≡ int_read bs
     split true m = minus _ _ m refl refl
     split false m = bare _ _ m refl refl

@@ -1,3 +1,4 @@
+pub mod IdLaws
 pub mod Ids
 pub mod Quoted
 pub mod SameValue

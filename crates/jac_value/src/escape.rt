@@ -46,7 +46,11 @@ fn push_digit(text: &mut String, digit: u8) -> Result<(), Memory>
     requires { digit < 16 }
     ensures { OnOk result (string_bytes text.new ≡ string_bytes text.old ++ hex_digit digit ∷ []) }
 {
-    let code = if digit < 10 { b'0' + digit } else { b'a' - 10 + digit };
+    let code = if digit < 10 {
+        b'0' + digit
+    } else {
+        b'a' - 10 + digit
+    };
     text.push(char::from(code))?;
     Ok(())
 }

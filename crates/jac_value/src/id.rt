@@ -19,6 +19,7 @@ impl Model for Id {
 }
 
 const FIRST_ID: u128 = 4096;
+
 const IDS_END: u128 = 1 << 52;
 
 /// The id that the creating statement at the place `site` of its view gives in the request `number`.

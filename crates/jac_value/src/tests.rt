@@ -1,3 +1,5 @@
+ghost use Rattle.std.specs.Prelude.{◌≢◌};
+
 use crate::{
     Bytes, Cells, Id, Ids, Kind, Kinds, Txt, TxtFault, Value, default_of, escape_line, id_model,
     id_of, is_id, label_number, text_of, value_of,
@@ -6,7 +8,9 @@ use std::alloc::Global;
 use std::process::Abort;
 use std::test::Fail;
 
-fn read(alloc: Global, kind: Kind, word: &str) -> Result<Value, Fail> {
+fn read(alloc: Global, kind: Kind, word: &str) -> Result<Value, Fail>
+    requires { kind ≢ Kind.Text }
+{
     let text = Txt::from_str(alloc, word)?;
     Ok(value_of(&kind, &text))
 }
@@ -64,8 +68,14 @@ fn ints_read(rt: HostRuntime) -> Result<(), Fail> {
     assert_eq!(rt; read(alloc, Kind::Int, "-7")?, Value::Int(-7));
     assert_eq!(rt; read(alloc, Kind::Int, "+7")?, Value::Int(0));
     assert_eq!(rt; read(alloc, Kind::Int, "007")?, Value::Int(7));
-    assert_eq!(rt; read(alloc, Kind::Int, "-9223372036854775808")?, Value::Int(i64::MIN));
-    assert_eq!(rt; read(alloc, Kind::Int, "9223372036854775808")?, Value::Int(0));
+    assert_eq!(rt;
+        read(alloc, Kind::Int, "-9223372036854775808")?,
+        Value::Int(i64::MIN)
+    );
+    assert_eq!(rt;
+        read(alloc, Kind::Int, "9223372036854775808")?,
+        Value::Int(0)
+    );
     Ok(())
 }
 
@@ -74,7 +84,10 @@ fn words_read(rt: HostRuntime) -> Result<(), Fail> {
     let alloc = rt.alloc();
     assert_eq!(rt; read(alloc, Kind::Bool, "on")?, Value::Bool(true));
     assert_eq!(rt; read(alloc, Kind::Bool, "yes")?, Value::Bool(false));
-    assert_eq!(rt; read(alloc, Kind::Ref(1), "12289")?, Value::Ref(Some(Id(12289))));
+    assert_eq!(rt;
+        read(alloc, Kind::Ref(1), "12289")?,
+        Value::Ref(Some(Id(12289)))
+    );
     assert_eq!(rt; read(alloc, Kind::Ref(1), "12288")?, Value::Ref(None));
     assert_eq!(rt; read(alloc, Kind::Ref(1), "+12289")?, Value::Ref(None));
     Ok(())
@@ -88,7 +101,12 @@ fn values_shown(rt: HostRuntime) -> Result<(), Fail> {
     shown(&rt, alloc, &Value::Bool(false), "false")?;
     shown(&rt, alloc, &Value::Ref(None), "")?;
     let id = Id(u128::MAX);
-    shown(&rt, alloc, &Value::Ref(Some(id)), "340282366920938463463374607431768211455")?;
+    shown(
+        &rt,
+        alloc,
+        &Value::Ref(Some(id)),
+        "340282366920938463463374607431768211455",
+    )?;
     let text = default_of(alloc, &Kind::Text);
     shown(&rt, alloc, &text, "")?;
     Ok(())

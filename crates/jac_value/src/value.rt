@@ -76,8 +76,8 @@ pub fn text_of(alloc: Global, value: &Value) -> Result<Txt, Memory>
         Value::Ref(None) => Ok(Txt::empty(alloc)),
         Value::Ref(Some(id)) => {
             let number = id.0;
-            let digits = format!(in alloc; "{number}")?;
-            Ok(Txt::from_string(digits))
+            let decimal = format!(in alloc; "{number}")?;
+            Ok(Txt::from_string(decimal))
         }
     }
 }

@@ -1,0 +1,14 @@
+-- The numbers of the statuses. 6, 8 and 9 are of commands that are to come.
+use Rattle.std.specs.Prelude.{ℕ}
+use Rattle.jac_app.specs.declared.status.Status.{Status}
+use Rattle.jac_app.specs.declared.status.Status.TheVariants.{Done, Usage, AppRefused, LineRefused, ReadFault, WriteFault, Memory, TooLong}
+
+abbrev pub number_of : Status → ℕ
+number_of Done = 0
+number_of Usage = 1
+number_of AppRefused = 2
+number_of LineRefused = 3
+number_of ReadFault = 4
+number_of WriteFault = 5
+number_of Memory = 7
+number_of TooLong = 10

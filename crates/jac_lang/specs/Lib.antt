@@ -1,0 +1,4 @@
+pub mod Lookup
+pub mod Mirror
+pub mod Syntax
+pub mod Turned

@@ -1,0 +1,101 @@
+-- The language as plain data: what the types of the program are to a reader, with no pointers in them.
+use Rattle.std.specs.Prelude.{ℕ, ℤ, Bool, List, [], ◌∷◌, Option}
+use Rattle.jac_lang.specs.declared.expressions.Op.{Op}
+use Rattle.jac_lang.specs.declared.field_kinds.Field.{Field}
+use Rattle.jac_lang.specs.declared.queries.Binder.{Binder}
+use Rattle.jac_lang.specs.declared.queries.Order.{Order}
+use Rattle.jac_lang.specs.declared.pages.Verb.{Verb}
+
+mutual
+  -- an expression; a query inside one is its binders, its condition and its order
+  pub data Expression : Type 0 where
+    int : ℤ → Expression
+    text : List ℕ → Expression
+    bool : Bool → Expression
+    none_of : List ℕ → Expression
+    name : List ℕ → Expression
+    this : Expression
+    viewer : Expression
+    get : List ℕ → List ℕ → Expression → Expression
+    live : Expression → Expression
+    two : Op → Expression → Expression → Expression
+    negated : Expression → Expression
+    cat : Expressions → Expression
+    str : Expression → Expression
+    pick : Expression → Expression → Expression → Expression
+    count : List Binder → Expression → Order → Expression
+    sum : List Binder → Expression → Order → Expression → Expression
+    any_of : List Binder → Expression → Order → Expression
+    first : List Binder → Expression → Order → Expression
+
+  -- the parts of a `cat`
+  pub data Expressions : Type 0 where
+    none : Expressions
+    more : Expression → Expressions → Expressions
+
+-- a query
+pub record Question : Type 0 where
+  pub binders : List Binder
+  pub cond : Expression
+  pub order : Order
+
+-- a field and the expression that is to be its value
+pub record Assigned : Type 0 where
+  pub field : List ℕ
+  pub value : Expression
+
+mutual
+  -- a statement
+  pub data Statement : Type 0 where
+    put : Expression → Statement
+    escape : Expression → Statement
+    bind : List ℕ → Expression → Statements → Statement
+    assign : List ℕ → Expression → Statement
+    branch : Expression → Statements → Statements → Statement
+    each : Question → Statements → Statement
+    create : List ℕ → List ℕ → ℕ → List Assigned → Statements → Statement
+    update : List ℕ → Expression → List Assigned → Statement
+    delete : List ℕ → Expression → Statement
+    missing : Statement
+    redirect : Expression → Statement
+    template : List ℕ → Statement
+    block : Statements → Statement
+
+  -- statements, one after another
+  pub data Statements : Type 0 where
+    none : Statements
+    more : Statement → Statements → Statements
+
+-- the fields that one policy guards, each with its public value
+pub record FieldGroup : Type 0 where
+  pub guards : List Assigned
+  pub policy : Expression
+
+-- a model
+pub record Entity : Type 0 where
+  pub name : List ℕ
+  pub fields : List Field
+  pub groups : List FieldGroup
+
+-- a view
+pub record Page : Type 0 where
+  pub method : Verb
+  pub path : List ℕ
+  pub params : List Field
+  pub body : Statements
+
+-- an application
+pub record Application : Type 0 where
+  pub viewer : Option (List ℕ)
+  pub models : List Entity
+  pub views : List Page
+
+-- the parts of a `cat` as a list
+abbrev pub listed : Expressions → List Expression
+listed Expressions.none = []
+listed (Expressions.more e es) = e ∷ listed es
+
+-- the statements of a body as a list
+abbrev pub body_listed : Statements → List Statement
+body_listed Statements.none = []
+body_listed (Statements.more s ss) = s ∷ body_listed ss

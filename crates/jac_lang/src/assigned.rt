@@ -1,0 +1,77 @@
+ghost use Rattle.std.specs.Prelude.{◌≡◌, IfOk};
+ghost use Rattle.jac_lang.specs.Mirror.{assigned_of, one_assigned_of};
+ghost use Rattle.jac_lang.specs.Turned.{turned};
+
+use crate::Expr;
+use jac_value::{Memory, Txt};
+use std::alloc::Global;
+use std::mem;
+
+/// A field and an expression: what the public sees of a guarded field, or what a `set` gives it.
+#[derive(Drop)]
+pub struct Public {
+    pub field: Txt,
+    pub value: Expr,
+}
+
+/// Fields with their expressions, in the order of the text.
+pub enum Publics {
+    End,
+    More(Public, Box<Publics>),
+}
+
+impl Drop for Publics {
+    fn drop(mut self) {
+        'fields: loop {
+            match self {
+                Publics::End => return,
+                Publics::More(first, rest) => {
+                    drop(first);
+                    self = Box::into_inner(rest);
+                }
+            }
+        }
+    }
+}
+
+impl Public {
+    pub fn copy(&self, alloc: Global) -> Result<Public, Memory>
+        ensures { IfOk result (λ p. one_assigned_of p ≡ one_assigned_of self.now) }
+    {
+        let field = self.field.copy(alloc)?;
+        let value = self.value.copy(alloc)?;
+        Ok(Public { field, value })
+    }
+}
+
+impl Publics {
+    /// These fields turned round, before the others. It takes no memory.
+    fn before(self, others: Publics) -> Publics
+        ensures { assigned_of result ≡ turned (assigned_of self) (assigned_of others) }
+    {
+        let mut out = others;
+        let mut left = self;
+        'turn: loop {
+            let next = match &mut left {
+                Publics::End => return out,
+                Publics::More(_, rest) => mem::replace(&mut **rest, out),
+            };
+            out = left;
+            left = next;
+        }
+    }
+
+    pub fn copy(&self, alloc: Global) -> Result<Publics, Memory>
+        ensures { IfOk result (λ p. assigned_of p ≡ assigned_of self.now) }
+    {
+        let mut back = Publics::End;
+        let mut left = self;
+        'copying: while let Publics::More(first, rest) = left {
+            let first = first.copy(alloc)?;
+            back = Publics::More(first, Box::new(alloc, back)?);
+            left = rest;
+        }
+        let copied = back.before(Publics::End);
+        Ok(copied)
+    }
+}

@@ -1,0 +1,77 @@
+ghost use Rattle.std.specs.Prelude.{◌≡◌, [], IfOk};
+
+use jac_value::{Memory, Txt, Value};
+use std::alloc::Global;
+use std::marker::Model;
+
+/// A name and what it stands for.
+#[derive(Debug, Drop)]
+pub struct Binding {
+    pub name: Txt,
+    pub bound_to: Value,
+}
+
+/// The names in scope, the innermost last.
+#[derive(Debug, Drop)]
+pub struct PlainEnv {
+    bindings: Vec<Binding>,
+}
+
+impl Model for PlainEnv {
+    ghost use Rattle.std.specs.Prelude.{List};
+    ghost use Rattle.jac_lang.specs.declared.bindings.Binding.{Binding as Item};
+
+    ghost Value = { List Item };
+
+    ghost view = { λ e. e.bindings.items };
+}
+
+impl Binding {
+    pub fn copy(&self, alloc: Global) -> Result<Binding, Memory>
+        ensures { IfOk result (λ b. b ≡ self.now) }
+    {
+        let name = self.name.copy(alloc)?;
+        let bound_to = self.bound_to.copy(alloc)?;
+        Ok(Binding { name, bound_to })
+    }
+}
+
+impl PlainEnv {
+    pub fn empty(alloc: Global) -> PlainEnv
+        ensures { result ≡ [] }
+    {
+        PlainEnv {
+            bindings: Vec::new(alloc),
+        }
+    }
+
+    pub fn from_vec(bindings: Vec<Binding>) -> PlainEnv
+        ensures { result ≡ bindings.items }
+    {
+        PlainEnv { bindings }
+    }
+
+    pub fn as_slice(&self) -> &[Binding]
+        ensures { result.now ≡ self.now }
+    {
+        self.bindings.as_slice()
+    }
+
+    pub fn into_vec(self) -> Vec<Binding>
+        ensures { result.items ≡ self }
+    {
+        self.bindings
+    }
+
+    pub fn copy(&self, alloc: Global) -> Result<PlainEnv, Memory>
+        ensures { IfOk result (λ e. e ≡ self.now) }
+    {
+        let bindings = self.bindings.as_slice();
+        let mut copied = Vec::new(alloc);
+        'bindings: for binding in bindings {
+            let binding = binding.copy(alloc)?;
+            copied.push(binding)?;
+        }
+        Ok(PlainEnv { bindings: copied })
+    }
+}
