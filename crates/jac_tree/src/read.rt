@@ -58,32 +58,32 @@ pub fn read_tree(alloc: Global, bytes: &[u8]) -> Result<Tree, TreeFault>
 }
 
 fn read_text(alloc: Global, text: &str) -> Result<Tree, TreeFault> {
-    let mut open = Vec::new(alloc);
+    let mut stack = Vec::new(alloc);
     let mut mode = Mode::Outside(Place::Open);
     let mut at: u64 = 0;
     'characters: for c in text.chars() {
-        mode = step(alloc, &mut open, mode, c, at)?;
+        mode = step(alloc, &mut stack, mode, c, at)?;
         at += c.len_utf8() as u64;
     }
-    let tree = finish(mode, &open, at)?;
+    let tree = finish(mode, &stack, at)?;
     Ok(tree)
 }
 
 // The character c stands at the byte `at`. After a fault the reader is done with.
-fn step(alloc: Global, open: &mut Vec<Trees>, mode: Mode, c: char, at: u64) -> Result<Mode, TreeFault>
-    ensures { Goes (open_lists open.old.items) mode (encode_utf8 c) at (open_lists open.new.items) result }
+fn step(alloc: Global, stack: &mut Vec<Trees>, mode: Mode, c: char, at: u64) -> Result<Mode, TreeFault>
+    ensures { Goes (open_lists stack.old.items) mode (encode_utf8 c) at (open_lists stack.new.items) result }
 {
     match mode {
         Mode::Outside(place) => {
-            let next = outside(alloc, open, place, c, at)?;
+            let next = outside(alloc, stack, place, c, at)?;
             Ok(next)
         }
         Mode::InAtom(atom) => {
-            let next = in_atom(alloc, open, atom, c, at)?;
+            let next = in_atom(alloc, stack, atom, c, at)?;
             Ok(next)
         }
         Mode::InText(text) => {
-            let next = in_text(alloc, open, text, c)?;
+            let next = in_text(alloc, stack, text, c)?;
             Ok(next)
         }
         Mode::InEscape(text) => {
@@ -93,12 +93,12 @@ fn step(alloc: Global, open: &mut Vec<Trees>, mode: Mode, c: char, at: u64) -> R
     }
 }
 
-fn outside(alloc: Global, open: &mut Vec<Trees>, place: Place, c: char, at: u64) -> Result<Mode, TreeFault>
-    ensures { Goes (open_lists open.old.items) (Mode.Outside place) (encode_utf8 c) at (open_lists open.new.items) result }
+fn outside(alloc: Global, stack: &mut Vec<Trees>, place: Place, c: char, at: u64) -> Result<Mode, TreeFault>
+    ensures { Goes (open_lists stack.old.items) (Mode.Outside place) (encode_utf8 c) at (open_lists stack.new.items) result }
 {
     match place {
         Place::Open => {
-            let next = between(alloc, open, c, at)?;
+            let next = between(alloc, stack, c, at)?;
             Ok(next)
         }
         Place::Complete(tree) => {
@@ -112,19 +112,19 @@ fn outside(alloc: Global, open: &mut Vec<Trees>, place: Place, c: char, at: u64)
 }
 
 // A tree may begin with the character, or the innermost list end.
-fn between(alloc: Global, open: &mut Vec<Trees>, c: char, at: u64) -> Result<Mode, TreeFault>
-    ensures { Goes (open_lists open.old.items) (Mode.Outside Place.Open) (encode_utf8 c) at (open_lists open.new.items) result }
+fn between(alloc: Global, stack: &mut Vec<Trees>, c: char, at: u64) -> Result<Mode, TreeFault>
+    ensures { Goes (open_lists stack.old.items) (Mode.Outside Place.Open) (encode_utf8 c) at (open_lists stack.new.items) result }
 {
     if is_white(c) {
         return Ok(Mode::Outside(Place::Open));
     }
     match c {
         ')' => {
-            let next = close_list(alloc, open, at)?;
+            let next = close_list(alloc, stack, at)?;
             Ok(next)
         }
         '(' => {
-            let next = open_list(open, at)?;
+            let next = open_list(stack, at)?;
             Ok(next)
         }
         '"' => Ok(Mode::InText(String::new(alloc))),
@@ -144,67 +144,67 @@ fn begin_atom(alloc: Global, c: char, at: u64) -> Result<Mode, TreeFault> {
     }
 }
 
-fn open_list(open: &mut Vec<Trees>, at: u64) -> Result<Mode, TreeFault>
-    ensures { Goes (open_lists open.old.items) (Mode.Outside Place.Open) (40 ∷ []) at (open_lists open.new.items) result }
+fn open_list(stack: &mut Vec<Trees>, at: u64) -> Result<Mode, TreeFault>
+    ensures { Goes (open_lists stack.old.items) (Mode.Outside Place.Open) (40 ∷ []) at (open_lists stack.new.items) result }
 {
-    if open.len() >= NESTING_LIMIT {
+    if stack.len() >= NESTING_LIMIT {
         return Err(TreeFault::Deep(at));
     }
-    add_list(open)?;
+    add_list(stack)?;
     Ok(Mode::Outside(Place::Open))
 }
 
-fn add_list(open: &mut Vec<Trees>) -> Result<(), Memory> {
-    open.push(Trees::End)?;
+fn add_list(stack: &mut Vec<Trees>) -> Result<(), Memory> {
+    stack.push(Trees::End)?;
     Ok(())
 }
 
-fn close_list(alloc: Global, open: &mut Vec<Trees>, at: u64) -> Result<Mode, TreeFault>
-    ensures { Goes (open_lists open.old.items) (Mode.Outside Place.Open) (41 ∷ []) at (open_lists open.new.items) result }
+fn close_list(alloc: Global, stack: &mut Vec<Trees>, at: u64) -> Result<Mode, TreeFault>
+    ensures { Goes (open_lists stack.old.items) (Mode.Outside Place.Open) (41 ∷ []) at (open_lists stack.new.items) result }
 {
-    match open.pop() {
+    match stack.pop() {
         None => Err(TreeFault::Stray(at)),
         Some(items) => {
-            let place = settle(alloc, open, Tree::List(items.before(Trees::End)))?;
+            let place = settle(alloc, stack, Tree::List(items.before(Trees::End)))?;
             Ok(Mode::Outside(place))
         }
     }
 }
 
 // Puts a tree that was read into the innermost open list.
-fn settle(alloc: Global, open: &mut Vec<Trees>, tree: Tree) -> Result<Place, Memory>
-    ensures { IfOk result (λ place. Settles (open_lists open.old.items) (plain tree) (open_lists open.new.items) place) }
+fn settle(alloc: Global, stack: &mut Vec<Trees>, tree: Tree) -> Result<Place, Memory>
+    ensures { IfOk result (λ place. Settles (open_lists stack.old.items) (plain tree) (open_lists stack.new.items) place) }
 {
-    match open.pop() {
+    match stack.pop() {
         None => Ok(Place::Complete(tree)),
         Some(items) => {
             let first = Box::new(alloc, tree)?;
             let rest = Box::new(alloc, items)?;
-            open.push(Trees::More(first, rest))?;
+            stack.push(Trees::More(first, rest))?;
             Ok(Place::Open)
         }
     }
 }
 
-fn in_atom(alloc: Global, open: &mut Vec<Trees>, atom: String, c: char, at: u64) -> Result<Mode, TreeFault>
-    ensures { Goes (open_lists open.old.items) (Mode.InAtom atom) (encode_utf8 c) at (open_lists open.new.items) result }
+fn in_atom(alloc: Global, stack: &mut Vec<Trees>, atom: String, c: char, at: u64) -> Result<Mode, TreeFault>
+    ensures { Goes (open_lists stack.old.items) (Mode.InAtom atom) (encode_utf8 c) at (open_lists stack.new.items) result }
 {
     if is_atom_char(c) {
         let atom = pushed(atom, c)?;
         Ok(Mode::InAtom(atom))
     } else {
-        let place = settle(alloc, open, Tree::Atom(Txt::from_string(atom)))?;
-        let next = outside(alloc, open, place, c, at)?;
+        let place = settle(alloc, stack, Tree::Atom(Txt::from_string(atom)))?;
+        let next = outside(alloc, stack, place, c, at)?;
         Ok(next)
     }
 }
 
-fn in_text(alloc: Global, open: &mut Vec<Trees>, text: String, c: char) -> Result<Mode, Memory>
+fn in_text(alloc: Global, stack: &mut Vec<Trees>, text: String, c: char) -> Result<Mode, Memory>
     ensures { true ≡ true }
 {
     match c {
         '"' => {
-            let place = settle(alloc, open, Tree::Text(Txt::from_string(text)))?;
+            let place = settle(alloc, stack, Tree::Text(Txt::from_string(text)))?;
             Ok(Mode::Outside(place))
         }
         '\\' => Ok(Mode::InEscape(text)),
@@ -225,10 +225,10 @@ fn in_escape(text: String, c: char, at: u64) -> Result<Mode, TreeFault> {
     }
 }
 
-fn finish(mode: Mode, open: &Vec<Trees>, at: u64) -> Result<Tree, TreeFault> {
+fn finish(mode: Mode, stack: &Vec<Trees>, at: u64) -> Result<Tree, TreeFault> {
     match mode {
         Mode::Outside(Place::Complete(tree)) => Ok(tree),
-        Mode::InAtom(atom) if open.is_empty() => Ok(Tree::Atom(Txt::from_string(atom))),
+        Mode::InAtom(atom) if stack.is_empty() => Ok(Tree::Atom(Txt::from_string(atom))),
         _ => Err(TreeFault::Unclosed(at)),
     }
 }
