@@ -1,9 +1,9 @@
-ghost use Rattle.std.specs.Prelude.{◌≡◌, ◌<◌, ◌≤◌, ◌↔◌, ℕ, [], ◌∷◌, ◌++◌, length, IfOk, IsErrOf, MatchResult, IsUtf8, IsTrue, true, encode_utf8, string_bytes};
+ghost use Rattle.std.specs.Prelude.{◌≡◌, ◌≢◌, List, false, OnOk, ◌+◌, ◌<◌, ◌≤◌, ◌↔◌, ℕ, [], ◌∷◌, ◌++◌, length, IfOk, IsErrOf, MatchResult, IsUtf8, encode_utf8, string_bytes};
 ghost use Rattle.std.specs.Str.{IsValidUpTo};
-ghost use Rattle.jac_tree.specs.Grammar.{Accepted, is_white, is_atom_byte, escaped};
+ghost use Rattle.jac_tree.specs.Grammar.{Accepted, IsStrayAt, IsDeepAt, IsUnclosedAt, is_white, is_atom_byte, escaped};
 ghost use Rattle.jac_tree.specs.Mirror.{plain, plain_all};
-ghost use Rattle.jac_tree.specs.Plain.{PlainTree};
-ghost use Rattle.jac_tree.specs.Reading.{open_lists, Goes, Settles, IsUnescaped};
+ghost use Rattle.jac_tree.specs.Plain.{PlainTree, PlainTrees, nesting};
+ghost use Rattle.jac_tree.specs.Reading.{open_lists, Completes, Steps, Goes, Settles, Finishes, Reads, AreShallow, IsShallowPlace, IsShallow};
 
 use crate::{Tree, TreeFault, Trees};
 use jac_value::{Memory, Txt};
@@ -45,6 +45,11 @@ pub fn read_tree(alloc: Global, bytes: &[u8]) -> Result<Tree, TreeFault>
     ensures long { IsErrOf result TreeFault.Long ↔ (1048576 < length bytes.now) }
     ensures not_utf8 { (at : ℕ) → IsErrOf result (TreeFault.NotUtf8 at) → (length bytes.now ≤ 1048576) × ¬ (IsUtf8 bytes.now) × IsValidUpTo bytes.now at }
     ensures no_text { length bytes.now ≤ 1048576 → ¬ (IsUtf8 bytes.now) → (at : ℕ) × IsErrOf result (TreeFault.NotUtf8 at) }
+
+    // Stray and Deep come at the first byte with which no document, or no document of at most 64 levels, goes on.
+    ensures stray { (at : ℕ) → IsErrOf result (TreeFault.Stray at) → IsStrayAt bytes.now at }
+    ensures deep { (at : ℕ) → IsErrOf result (TreeFault.Deep at) → IsDeepAt bytes.now at }
+    ensures unclosed { (at : ℕ) → IsErrOf result (TreeFault.Unclosed at) → IsUnclosedAt bytes.now at }
 {
     if bytes.len() > LENGTH_LIMIT {
         return Err(TreeFault::Long);
@@ -57,7 +62,10 @@ pub fn read_tree(alloc: Global, bytes: &[u8]) -> Result<Tree, TreeFault>
     Ok(tree)
 }
 
-fn read_text(alloc: Global, text: &str) -> Result<Tree, TreeFault> {
+fn read_text(alloc: Global, text: &str) -> Result<Tree, TreeFault>
+    requires { length text.now ≤ 1048576 }
+    ensures { Reads text.now result }
+{
     let mut stack = Vec::new(alloc);
     let mut mode = Mode::Outside(Place::Open);
     let mut at: u64 = 0;
@@ -71,7 +79,8 @@ fn read_text(alloc: Global, text: &str) -> Result<Tree, TreeFault> {
 
 // The character c stands at the byte `at`. After a fault the reader is done with.
 fn step(alloc: Global, stack: &mut Vec<Trees>, mode: Mode, c: char, at: u64) -> Result<Mode, TreeFault>
-    ensures { Goes (open_lists stack.old.items) mode (encode_utf8 c) at (open_lists stack.new.items) result }
+    ensures steps { Goes (open_lists stack.old.items) mode (encode_utf8 c) at (open_lists stack.new.items) result }
+    ensures shallow { IfOk result (λ next. IsShallow (open_lists stack.old.items) mode → IsShallow (open_lists stack.new.items) next) }
 {
     match mode {
         Mode::Outside(place) => {
@@ -94,7 +103,8 @@ fn step(alloc: Global, stack: &mut Vec<Trees>, mode: Mode, c: char, at: u64) -> 
 }
 
 fn outside(alloc: Global, stack: &mut Vec<Trees>, place: Place, c: char, at: u64) -> Result<Mode, TreeFault>
-    ensures { Goes (open_lists stack.old.items) (Mode.Outside place) (encode_utf8 c) at (open_lists stack.new.items) result }
+    ensures steps { Goes (open_lists stack.old.items) (Mode.Outside place) (encode_utf8 c) at (open_lists stack.new.items) result }
+    ensures shallow { IfOk result (λ next. IsShallow (open_lists stack.old.items) (Mode.Outside place) → IsShallow (open_lists stack.new.items) next) }
 {
     match place {
         Place::Open => {
@@ -113,7 +123,8 @@ fn outside(alloc: Global, stack: &mut Vec<Trees>, place: Place, c: char, at: u64
 
 // A tree may begin with the character, or the innermost list end.
 fn between(alloc: Global, stack: &mut Vec<Trees>, c: char, at: u64) -> Result<Mode, TreeFault>
-    ensures { Goes (open_lists stack.old.items) (Mode.Outside Place.Open) (encode_utf8 c) at (open_lists stack.new.items) result }
+    ensures steps { Goes (open_lists stack.old.items) (Mode.Outside Place.Open) (encode_utf8 c) at (open_lists stack.new.items) result }
+    ensures shallow { IfOk result (λ next. IsShallow (open_lists stack.old.items) (Mode.Outside Place.Open) → IsShallow (open_lists stack.new.items) next) }
 {
     if is_white(c) {
         return Ok(Mode::Outside(Place::Open));
@@ -135,7 +146,15 @@ fn between(alloc: Global, stack: &mut Vec<Trees>, c: char, at: u64) -> Result<Mo
     }
 }
 
-fn begin_atom(alloc: Global, c: char, at: u64) -> Result<Mode, TreeFault> {
+// No tree but an atom begins with the character.
+fn begin_atom(alloc: Global, c: char, at: u64) -> Result<Mode, TreeFault>
+    requires no_white { is_white c ≡ false }
+    requires no_quote { c ≢ 34 }
+    requires no_opening { c ≢ 40 }
+    requires no_closing { c ≢ 41 }
+    ensures steps { (gs : List PlainTrees) → Goes gs (Mode.Outside Place.Open) (encode_utf8 c) at gs result }
+    ensures shallow { (gs : List PlainTrees) → AreShallow gs → IfOk result (λ next. IsShallow gs next) }
+{
     if is_atom_char(c) {
         let atom = pushed(String::new(alloc), c)?;
         Ok(Mode::InAtom(atom))
@@ -145,7 +164,8 @@ fn begin_atom(alloc: Global, c: char, at: u64) -> Result<Mode, TreeFault> {
 }
 
 fn open_list(stack: &mut Vec<Trees>, at: u64) -> Result<Mode, TreeFault>
-    ensures { Goes (open_lists stack.old.items) (Mode.Outside Place.Open) (40 ∷ []) at (open_lists stack.new.items) result }
+    ensures steps { Goes (open_lists stack.old.items) (Mode.Outside Place.Open) (40 ∷ []) at (open_lists stack.new.items) result }
+    ensures shallow { IfOk result (λ next. IsShallow (open_lists stack.old.items) (Mode.Outside Place.Open) → IsShallow (open_lists stack.new.items) next) }
 {
     if stack.len() >= NESTING_LIMIT {
         return Err(TreeFault::Deep(at));
@@ -154,13 +174,16 @@ fn open_list(stack: &mut Vec<Trees>, at: u64) -> Result<Mode, TreeFault>
     Ok(Mode::Outside(Place::Open))
 }
 
-fn add_list(stack: &mut Vec<Trees>) -> Result<(), Memory> {
+fn add_list(stack: &mut Vec<Trees>) -> Result<(), Memory>
+    ensures { OnOk result (open_lists stack.new.items ≡ PlainTrees.none ∷ open_lists stack.old.items) }
+{
     stack.push(Trees::End)?;
     Ok(())
 }
 
 fn close_list(alloc: Global, stack: &mut Vec<Trees>, at: u64) -> Result<Mode, TreeFault>
-    ensures { Goes (open_lists stack.old.items) (Mode.Outside Place.Open) (41 ∷ []) at (open_lists stack.new.items) result }
+    ensures steps { Goes (open_lists stack.old.items) (Mode.Outside Place.Open) (41 ∷ []) at (open_lists stack.new.items) result }
+    ensures shallow { IfOk result (λ next. IsShallow (open_lists stack.old.items) (Mode.Outside Place.Open) → IsShallow (open_lists stack.new.items) next) }
 {
     match stack.pop() {
         None => Err(TreeFault::Stray(at)),
@@ -173,7 +196,9 @@ fn close_list(alloc: Global, stack: &mut Vec<Trees>, at: u64) -> Result<Mode, Tr
 
 // Puts a tree that was read into the innermost open list.
 fn settle(alloc: Global, stack: &mut Vec<Trees>, tree: Tree) -> Result<Place, Memory>
-    ensures { IfOk result (λ place. Settles (open_lists stack.old.items) (plain tree) (open_lists stack.new.items) place) }
+    ensures settles { IfOk result (λ place. Settles (open_lists stack.old.items) (plain tree) (open_lists stack.new.items) place) }
+    ensures shallow { IfOk result (λ place. AreShallow (open_lists stack.old.items) → nesting (plain tree) + length (open_lists stack.old.items) ≤ 64
+        → AreShallow (open_lists stack.new.items) × IsShallowPlace place) }
 {
     match stack.pop() {
         None => Ok(Place::Complete(tree)),
@@ -187,7 +212,8 @@ fn settle(alloc: Global, stack: &mut Vec<Trees>, tree: Tree) -> Result<Place, Me
 }
 
 fn in_atom(alloc: Global, stack: &mut Vec<Trees>, atom: String, c: char, at: u64) -> Result<Mode, TreeFault>
-    ensures { Goes (open_lists stack.old.items) (Mode.InAtom atom) (encode_utf8 c) at (open_lists stack.new.items) result }
+    ensures steps { Goes (open_lists stack.old.items) (Mode.InAtom atom) (encode_utf8 c) at (open_lists stack.new.items) result }
+    ensures shallow { IfOk result (λ next. IsShallow (open_lists stack.old.items) (Mode.InAtom atom) → IsShallow (open_lists stack.new.items) next) }
 {
     if is_atom_char(c) {
         let atom = pushed(atom, c)?;
@@ -200,7 +226,8 @@ fn in_atom(alloc: Global, stack: &mut Vec<Trees>, atom: String, c: char, at: u64
 }
 
 fn in_text(alloc: Global, stack: &mut Vec<Trees>, text: String, c: char) -> Result<Mode, Memory>
-    ensures { true ≡ true }
+    ensures steps { IfOk result (λ next. Steps (open_lists stack.old.items) (Mode.InText text) (encode_utf8 c) (open_lists stack.new.items) next) }
+    ensures shallow { IfOk result (λ next. IsShallow (open_lists stack.old.items) (Mode.InText text) → IsShallow (open_lists stack.new.items) next) }
 {
     match c {
         '"' => {
@@ -215,7 +242,10 @@ fn in_text(alloc: Global, stack: &mut Vec<Trees>, text: String, c: char) -> Resu
     }
 }
 
-fn in_escape(text: String, c: char, at: u64) -> Result<Mode, TreeFault> {
+fn in_escape(text: String, c: char, at: u64) -> Result<Mode, TreeFault>
+    ensures steps { (gs : List PlainTrees) → Goes gs (Mode.InEscape text) (encode_utf8 c) at gs result }
+    ensures shallow { (gs : List PlainTrees) → AreShallow gs → IfOk result (λ next. IsShallow gs next) }
+{
     match unescaped(c) {
         Some(piece) => {
             let text = pushed(text, piece)?;
@@ -225,7 +255,10 @@ fn in_escape(text: String, c: char, at: u64) -> Result<Mode, TreeFault> {
     }
 }
 
-fn finish(mode: Mode, stack: &Vec<Trees>, at: u64) -> Result<Tree, TreeFault> {
+fn finish(mode: Mode, stack: &Vec<Trees>, at: u64) -> Result<Tree, TreeFault>
+    ensures finishes { Finishes (open_lists stack.now.items) mode at result }
+    ensures shallow { IfOk result (λ tree. IsShallow (open_lists stack.now.items) mode → nesting (plain tree) ≤ 64) }
+{
     match mode {
         Mode::Outside(Place::Complete(tree)) => Ok(tree),
         Mode::InAtom(atom) if stack.is_empty() => Ok(Tree::Atom(Txt::from_string(atom))),
@@ -243,7 +276,7 @@ fn pushed(text: String, c: char) -> Result<String, Memory>
 
 // What the character after a backslash stands for.
 fn unescaped(c: char) -> Option<char>
-    ensures { IsUnescaped c result }
+    ensures { result ≡ escaped c }
 {
     match c {
         'n' => Some('\n'),
