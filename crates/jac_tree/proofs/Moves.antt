@@ -1,5 +1,5 @@
 -- What each byte makes of the ways to complete a document.
-use Rattle.std.proofs.Common.{◌≡◌, ◌≢◌, ◌↔◌, ◌⊎◌, inl, inr, ℕ, ◌+◌, ◌≤◌, Bool, true, false, ◌&&◌, List, [], ◌∷◌, ◌++◌, length, Option, Some, None, refl, sym, ◌∙◌, ap, subst, arith, append_assoc, append-nil, length-append, if◌then◌else◌}
+use Rattle.std.proofs.Common.{◌≡◌, ◌≢◌, ◌↔◌, ◌⊎◌, inl, inr, ℕ, ◌+◌, ◌≤◌, Bool, true, false, ◌&&◌, List, [], ◌∷◌, ◌++◌, length, Option, Some, None, refl, sym, ◌∙◌, ap, subst, arith, append_assoc, append-nil, length-append, if◌then◌else◌, max}
 use Rattle.jac_tree.specs.Grammar.{is_white, skip, is_atom_byte, are_atom_bytes, begins_with_atom_byte, is_plain_byte, escaped, PieceAt, PiecesAt, TreeAt, TreesAt}
 use Rattle.jac_tree.specs.Plain.{PlainTree, PlainTrees, onto, nesting, nesting_all}
 use Rattle.jac_tree.specs.Plain.PlainTree.{atom, text, list}
@@ -12,10 +12,10 @@ both : (x y : Bool) → x && y ≡ true → (x ≡ true) × (y ≡ true)
 both true y e = (refl, e)
 both false y e = cc
 
-same_head : (a b : ℕ) (xs bs : List ℕ) → a ∷ xs ≡ b ∷ bs → a ≡ b
+pub same_head : (a b : ℕ) (xs bs : List ℕ) → a ∷ xs ≡ b ∷ bs → a ≡ b
 same_head a b xs bs e = cc
 
-apart : (a b : ℕ) → a ≡ 34 → a ≡ b → (b ≡ 92) ⊎ (b ≡ 40) → ⊥
+pub apart : (a b : ℕ) → a ≡ 34 → a ≡ b → (b ≡ 92) ⊎ (b ≡ 40) → ⊥
 apart a b p q (inl r) = omega arith
 apart a b p q (inr r) = omega arith
 
@@ -113,7 +113,7 @@ atom_from gs (atom (x ∷ a)) b bs to t w s (ne, all, e, f) k =
     let r : bs ≡ a ++ to = cc in
     (a, to, (both _ _ all).1, r, f, subst (λ z. After gs (atom (z ∷ a)) to t) q k)
 
-both_true : (x y : Bool) → x ≡ true → y ≡ true → x && y ≡ true
+pub both_true : (x y : Bool) → x ≡ true → y ≡ true → x && y ≡ true
 both_true true y p q = q
 both_true false y p q = p
 
@@ -310,4 +310,11 @@ length-open_lists [] = refl
 length-open_lists (ts ∷ stack) =
     let n = length-open_lists stack in
     let m = length-append (open_lists stack) (plain_all ts ∷ []) in
+    omega arith
+
+-- the most of two lists, one turned round before the other
+pub nesting-onto : (g ts : PlainTrees) → nesting_all (onto g ts) ≡ max (nesting_all g) (nesting_all ts)
+nesting-onto none ts = omega arith
+nesting-onto (more u g) ts =
+    let e : nesting_all (onto g (more u ts)) ≡ max (nesting_all g) (nesting_all (more u ts)) = nesting-onto g (more u ts) in
     omega arith

@@ -261,8 +261,24 @@ fn finish(mode: Mode, stack: &Vec<Trees>, at: u64) -> Result<Tree, TreeFault>
 {
     match mode {
         Mode::Outside(Place::Complete(tree)) => Ok(tree),
-        Mode::InAtom(atom) if stack.is_empty() => Ok(Tree::Atom(Txt::from_string(atom))),
-        _ => Err(TreeFault::Unclosed(at)),
+        Mode::Outside(Place::Open) => Err(TreeFault::Unclosed(at)),
+        Mode::InAtom(atom) => {
+            let tree = finish_atom(atom, stack, at)?;
+            Ok(tree)
+        }
+        Mode::InText(_) => Err(TreeFault::Unclosed(at)),
+        Mode::InEscape(_) => Err(TreeFault::Unclosed(at)),
+    }
+}
+
+fn finish_atom(atom: String, stack: &Vec<Trees>, at: u64) -> Result<Tree, TreeFault>
+    ensures finishes { Finishes (open_lists stack.now.items) (Mode.InAtom atom) at result }
+    ensures shallow { IfOk result (λ tree. nesting (plain tree) ≤ 64) }
+{
+    if stack.is_empty() {
+        Ok(Tree::Atom(Txt::from_string(atom)))
+    } else {
+        Err(TreeFault::Unclosed(at))
     }
 }
 
