@@ -1,5 +1,5 @@
 -- What each character makes of a reader.
-use Rattle.std.proofs.Common.{◌≡◌, ◌≢◌, ◌↔◌, ◌⊎◌, inl, inr, ℕ, ◌+◌, ◌<◌, ◌≤◌, ◌==◌, Bool, true, false, List, [], ◌∷◌, ◌++◌, length, take, Option, Some, None, Result, Ok, Err, refl, sym, ◌∙◌, ap, subst, arith, append-nil, string_bytes, encode_utf8, max}
+use Rattle.std.proofs.Common.{◌≡◌, ◌≢◌, ◌↔◌, ◌⊎◌, inl, inr, ℕ, ◌+◌, ◌<◌, ◌≤◌, ◌==◌, Bool, true, false, List, [], ◌∷◌, ◌++◌, length, take, Option, Some, None, Result, Ok, Err, refl, sym, ◌∙◌, ap, subst, arith, append-nil, length-append, string_bytes, encode_utf8, max}
 use Rattle.std.proofs.lemmas.Str.{encode_ascii}
 use Rattle.jac_tree.specs.declared.read.Mode.{Mode}
 use Rattle.jac_tree.specs.declared.read.Mode.TheVariants as modes
@@ -28,6 +28,9 @@ opened all rest ts e = ap open_lists e ∙ open_lists-push rest ts
 pub none_open : (stack : List Trees) → length stack ≡ 0 → open_lists stack ≡ []
 none_open [] e = refl
 none_open (ts ∷ stack) e = absurd (omega arith)
+
+pub grown : (fs : List PlainTrees) (u v : Tree) (ts us : Trees) → u ≡ v → ts ≡ us → more (plain u) (plain_all ts) ∷ fs ≡ more (plain v) (plain_all us) ∷ fs
+grown fs u v ts us p q = ap (λ z. more (plain z) (plain_all ts) ∷ fs) p ∙ ap (λ z. more (plain v) (plain_all z) ∷ fs) q
 
 -- settle
 pub settles : (gs hs fs : List PlainTrees) (g : PlainTrees) (u : PlainTree) → gs ≡ g ∷ fs → hs ≡ more u g ∷ fs
@@ -85,9 +88,11 @@ pub open_shallow : (gs hs : List PlainTrees) → hs ≡ none ∷ gs → length g
 open_shallow gs hs p n h = let k : AreShallow (none ∷ gs) = (omega arith, h) in subst AreShallow (sym p) k
 
 -- a quote
-pub quote_step : (gs : List PlainTrees) (x : List ℕ) → x ≡ [] → (rest : List ℕ) (t : PlainTree) → Between gs (34 ∷ rest) t ↔ InsideText gs x rest t
-quote_step gs x p rest t =
-    subst (λ z. Between gs (34 ∷ rest) t ↔ InsideText gs z rest t) (sym p) (chain (between_item gs 34 rest t refl (λ e. omega arith)) (item_text gs rest t))
+pub quote_step : (gs : List PlainTrees) (c : ℕ) (x : List ℕ) → c ≡ 34 → x ≡ [] → (rest : List ℕ) (t : PlainTree) → Between gs (encode_utf8 c ++ rest) t ↔ InsideText gs x rest t
+quote_step gs c x q p rest t =
+    let e = encode_ascii c (omega arith) ∙ ap (λ z. z ∷ []) q in
+    let one = chain (between_item gs 34 rest t refl (λ h. omega arith)) (item_text gs rest t) in
+    subst (λ z. Between gs (z ++ rest) t ↔ InsideText gs x rest t) (sym e) (subst (λ z. Between gs (34 ∷ rest) t ↔ InsideText gs z rest t) (sym p) one)
 
 -- the first character of an atom
 pub atom_step : (gs : List PlainTrees) (c : ℕ) (x : List ℕ) → is_white c ≡ false → c ≢ 41 → is_atom_byte c ≡ true → x ≡ encode_utf8 c
@@ -234,9 +239,15 @@ no_halves (z ∷ y) to (rest, p, h) = no_half z rest p
 pub escape_unfinished : (gs : List PlainTrees) (x : List ℕ) (t : PlainTree) → InsideText gs x (92 ∷ []) t → ⊥
 escape_unfinished gs x t (y, to, h, k) = no_halves y to h
 
-pub atom_finished : (gs : List PlainTrees) (x : List ℕ) (t : PlainTree) → gs ≡ [] → InsideAtom gs x [] t ↔ (t ≡ atom x)
-atom_finished gs x t p =
-    subst (λ z. InsideAtom z x [] t ↔ (t ≡ atom x)) (sym p) (chain (atom_end [] x [] t refl) (λ (h, k). k, λ k. (refl, k)))
+pub none_open_from : (stack : List Trees) → open_lists stack ≡ [] → length stack ≡ 0
+none_open_from [] e = refl
+none_open_from (ts ∷ stack) e =
+    let n : length (open_lists stack ++ plain_all ts ∷ []) ≡ 0 = ap length e in
+    absurd (omega (arith, n, length-append (open_lists stack) (plain_all ts ∷ [])))
+
+pub atom_finished : (gs : List PlainTrees) (x y : List ℕ) (t : PlainTree) → gs ≡ [] → y ≡ x → InsideAtom gs x [] t ↔ (t ≡ atom y)
+atom_finished gs x y t p q =
+    subst (λ z. InsideAtom gs x [] t ↔ (t ≡ atom z)) (sym q) (subst (λ z. InsideAtom z x [] t ↔ (t ≡ atom x)) (sym p) (chain (atom_end [] x [] t refl) (λ (h, k). k, λ k. (refl, k))))
 
 pub atom_unfinished : (gs : List PlainTrees) (x : List ℕ) (t : PlainTree) → gs ≢ [] → InsideAtom gs x [] t → ⊥
 atom_unfinished [] x t n h = n refl
