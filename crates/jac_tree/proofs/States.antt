@@ -18,7 +18,7 @@ use Rattle.jac_tree.specs.Reading.{open_lists, After, Between, InsideAtom, Insid
 use Rattle.jac_tree.proofs.Bytes.{white_small, atom_small, escaped_small, First, first_of, first_white, first_atom, first_escaped, first_other, plain_char}
 use Rattle.jac_tree.proofs.Moves.{Item, between_white, between_item, item_list, item_text, item_atom, item_none, between_end, between_no_end, atom_more, atom_end, text_end, text_plain_all, text_escape, text_no_escape, complete_white, complete_other, after_deep, nesting-onto, open_lists-push, same_head, apart}
 
-chain : {A B C : Type 0} → A ↔ B → B ↔ C → A ↔ C
+pub chain : {A B C : Type 0} → A ↔ B → B ↔ C → A ↔ C
 chain p q = (λ a. q.0 (p.0 a), λ c. p.1 (q.1 c))
 
 -- the stack, where the last list was put on it or taken off
@@ -138,20 +138,22 @@ end_atom_step gs hs ks c x place next a s k rest t =
     let w = begins_first (encode_utf8 c) rest f.byte f.front ∙ first_atom c f a in
     chain (ended gs hs x (encode_utf8 c) rest place t w s) (k rest t)
 
+ends_atom : (gs hs : List PlainTrees) (c : ℕ) (mode : Mode) (x : List ℕ) (place : Place) → is_atom_byte c ≡ false
+    → ((rest : List ℕ) (t : PlainTree) → Completes gs mode rest t ↔ InsideAtom gs x rest t) → Settles gs (atom x) hs place
+    → (rest : List ℕ) (t : PlainTree) → Completes gs mode (take 1 (encode_utf8 c) ++ rest) t ↔ CompletesPlace hs place (take 1 (encode_utf8 c) ++ rest) t
+ends_atom gs hs c mode x place n p s rest t =
+    let f = first_of c in
+    let w = begins_first (take 1 (encode_utf8 c)) rest f.byte (ap (take 1) f.front) ∙ first_atom c f n in
+    chain (p (take 1 (encode_utf8 c) ++ rest) t) (ended gs hs x (take 1 (encode_utf8 c)) rest place t w s)
+
 pub end_atom_fault : (gs hs : List PlainTrees) (c : ℕ) (mode : Mode) (x : List ℕ) (place : Place) (at : ℕ) (fault : TreeFault) → is_atom_byte c ≡ false
     → ((rest : List ℕ) (t : PlainTree) → Completes gs mode rest t ↔ InsideAtom gs x rest t) → Settles gs (atom x) hs place
     → FaultsFor hs (modes.Outside place) (encode_utf8 c) at fault → FaultsFor gs mode (encode_utf8 c) at fault
 end_atom_fault gs hs c mode x place at faults.Memory n p s k = tt
 end_atom_fault gs hs c mode x place at (faults.Stray m) n p s (e, k) =
-    let f = first_of c in
-    ( e
-    , λ rest t h.
-        let w = begins_first (take 1 (encode_utf8 c)) rest f.byte (ap (take 1) f.front) ∙ first_atom c f n in
-        k rest t ((ended gs hs x (take 1 (encode_utf8 c)) rest place t w s).0 ((p (take 1 (encode_utf8 c) ++ rest) t).0 h)) )
+    (e, λ rest t h. k rest t ((ends_atom gs hs c mode x place n p s rest t).0 h))
 end_atom_fault gs hs c mode x place at (faults.Deep m) n p s (e, ((rest, t, h), k)) =
-    let f = first_of c in
-    let back = λ (r : List ℕ) (u : PlainTree). chain (p (encode_utf8 c ++ r) u) (ended gs hs x (encode_utf8 c) r place u (begins_first (encode_utf8 c) r f.byte f.front ∙ first_atom c f n) s) in
-    (e, ((rest, t, (back rest t).1 h), λ r u i. k r u ((back r u).0 i)))
+    (e, ((rest, t, (ends_atom gs hs c mode x place n p s rest t).1 h), λ r u i. k r u ((ends_atom gs hs c mode x place n p s r u).0 i)))
 end_atom_fault gs hs c mode x place at faults.Long n p s k = k
 end_atom_fault gs hs c mode x place at (faults.NotUtf8 m) n p s k = k
 end_atom_fault gs hs c mode x place at (faults.Unclosed m) n p s k = k

@@ -59,11 +59,11 @@ Steps gs mode front hs next = (rest : List ℕ) (t : PlainTree) → Completes gs
 abbrev pub IsStuck : List PlainTrees → Mode → List ℕ → Type 0
 IsStuck gs mode front = (rest : List ℕ) (t : PlainTree) → ¬ (Completes gs mode (take 1 front ++ rest) t)
 
--- documents go on with `front`, and each is of a tree that nests deeper than 64
+-- documents go on with the first of the bytes `front`, and each is of a tree that nests deeper than 64
 abbrev pub IsTooDeep : List PlainTrees → Mode → List ℕ → Type 0
 IsTooDeep gs mode front =
-    ((rest : List ℕ) × (t : PlainTree) × Completes gs mode (front ++ rest) t)
-    × ((rest : List ℕ) (t : PlainTree) → Completes gs mode (front ++ rest) t → 64 < nesting t)
+    ((rest : List ℕ) × (t : PlainTree) × Completes gs mode (take 1 front ++ rest) t)
+    × ((rest : List ℕ) (t : PlainTree) → Completes gs mode (take 1 front ++ rest) t → 64 < nesting t)
 
 -- a fault at the place `at`, with its cause
 abbrev pub FaultsFor : List PlainTrees → Mode → List ℕ → ℕ → TreeFault → Type 0
