@@ -111,3 +111,15 @@ end_fault gs mode text at fault n e r s same f =
       begun = subst (λ z. IsBegunWithin 64 z) (whole text at e) (begun gs mode text at r s);
       none = λ t h. f t ((reads_end gs mode text at t e r).0 h);
     })
+
+-- a text that spells a tree has none of the faults
+begins_with : (bytes : List ℕ) (at : ℕ) (t : PlainTree) → Spells bytes t → Spells (take at bytes ++ drop at bytes) t
+begins_with bytes at t h = subst (λ z. Spells z t) (sym (take-append-drop at bytes)) h
+
+pub no_fault : (bytes : List ℕ) (t : PlainTree) (fault : TreeFault) → Spells bytes t → nesting t ≤ 64 → HasFault bytes fault → fault ≡ faults.Memory
+no_fault bytes t faults.Memory h n f = refl
+no_fault bytes t (faults.Stray at) h n f = absurd (f.after (drop (at + 1) bytes, t, begins_with bytes (at + 1) t h))
+no_fault bytes t (faults.Deep at) h n f = absurd (f.deeper (drop (at + 1) bytes, t, begins_with bytes (at + 1) t h, n))
+no_fault bytes t (faults.Unclosed at) h n f = absurd (f.none t h)
+no_fault bytes t faults.Long h n f = absurd f
+no_fault bytes t (faults.NotUtf8 at) h n f = absurd f
