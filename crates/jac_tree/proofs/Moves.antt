@@ -8,7 +8,7 @@ use Rattle.jac_tree.specs.Mirror.{plain_all}
 use Rattle.jac_tree.specs.Reading.{open_lists, After, Between, InsideAtom, InsideText}
 use Rattle.jac_tree.specs.declared.tree.Trees.{Trees}
 
-both : (x y : Bool) → x && y ≡ true → (x ≡ true) × (y ≡ true)
+pub both : (x y : Bool) → x && y ≡ true → (x ≡ true) × (y ≡ true)
 both true y e = (refl, e)
 both false y e = cc
 
@@ -19,10 +19,10 @@ pub apart : (a b : ℕ) → a ≡ 34 → a ≡ b → (b ≡ 92) ⊎ (b ≡ 40) �
 apart a b p q (inl r) = omega arith
 apart a b p q (inr r) = omega arith
 
-skip_white : (b : ℕ) (bs : List ℕ) → is_white b ≡ true → skip (b ∷ bs) ≡ skip bs
+pub skip_white : (b : ℕ) (bs : List ℕ) → is_white b ≡ true → skip (b ∷ bs) ≡ skip bs
 skip_white b bs w = ap (λ z. if z then skip bs else b ∷ bs) w
 
-skip_other : (b : ℕ) (bs : List ℕ) → is_white b ≡ false → skip (b ∷ bs) ≡ b ∷ bs
+pub skip_other : (b : ℕ) (bs : List ℕ) → is_white b ≡ false → skip (b ∷ bs) ≡ b ∷ bs
 skip_other b bs w = ap (λ z. if z then skip bs else b ∷ bs) w
 
 trees_front : (ts : PlainTrees) (x y to : List ℕ) → skip x ≡ skip y → TreesAt ts x to → TreesAt ts y to
@@ -58,7 +58,7 @@ between_item (g ∷ gs) b bs t w ne =
     , λ (u, rest, h, (ts, to, i, k)). (more u ts, to, (rest, subst (λ z. TreeAt u z rest) (sym e) h, i), k) )
 
 -- what the first byte of a tree tells of it
-abbrev Begins : PlainTree → ℕ → Type 0
+abbrev pub Begins : PlainTree → ℕ → Type 0
 Begins (atom a) b = is_atom_byte b ≡ true
 Begins (text x) b = b ≡ 34
 Begins (list ts) b = b ≡ 40
@@ -69,7 +69,7 @@ atom_begins (x ∷ a) to b bs ne all e =
     let q : x ≡ b = cc in
     subst (λ z. is_atom_byte z ≡ true) q (both _ _ all).0
 
-begins : (u : PlainTree) (b : ℕ) (bs to : List ℕ) → TreeAt u (b ∷ bs) to → Begins u b
+pub begins : (u : PlainTree) (b : ℕ) (bs to : List ℕ) → TreeAt u (b ∷ bs) to → Begins u b
 begins (atom a) b bs to (ne, all, e, f) = atom_begins a to b bs ne all e
 begins (text x) b bs to (inside, e, h) = cc
 begins (list ts) b bs to (inside, e, h) = cc
@@ -123,7 +123,7 @@ item_atom gs b bs t w =
     , λ (a, to, all, e, f, k). (atom (b ∷ a), to, (λ q. cc, both_true _ _ w all, ap (λ z. b ∷ z) e, f), k) )
 
 -- any other byte begins no tree
-none_from : (u : PlainTree) (b : ℕ) → b ≢ 34 → b ≢ 40 → is_atom_byte b ≡ false → Begins u b → ⊥
+pub none_from : (u : PlainTree) (b : ℕ) → b ≢ 34 → b ≢ 40 → is_atom_byte b ≡ false → Begins u b → ⊥
 none_from (atom a) b n m w s = cc
 none_from (text x) b n m w s = n s
 none_from (list ts) b n m w s = m s
@@ -182,7 +182,7 @@ atom_end gs a bytes t w =
     , λ k. ([], bytes, refl, refl, w, subst (λ z. After gs (atom z) bytes t) (sym (append-nil a)) k) )
 
 -- inside a text
-piece_quote : (z : ℕ) (bs rest : List ℕ) → PieceAt z (34 ∷ bs) rest → ⊥
+pub piece_quote : (z : ℕ) (bs rest : List ℕ) → PieceAt z (34 ∷ bs) rest → ⊥
 piece_quote z bs rest (inl (p, e)) =
     let q : z ≡ 34 = cc in
     let r : is_plain_byte 34 ≡ true = subst (λ y. is_plain_byte y ≡ true) q p in cc

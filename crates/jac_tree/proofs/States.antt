@@ -203,7 +203,7 @@ complete_stuck gs u c w rest t (h, k) =
     complete_other f.byte rest (first_white c f w) (subst (λ z. skip (z ++ rest) ≡ []) f.front h)
 
 -- where the bytes end
-no_tree : (u : PlainTree) (to : List ℕ) → TreeAt u [] to → ⊥
+pub no_tree : (u : PlainTree) (to : List ℕ) → TreeAt u [] to → ⊥
 no_tree (atom []) to (n, a, e, f) = n refl
 no_tree (atom (x ∷ a)) to (n, b, e, f) = cc
 no_tree (text x) to (inside, e, h) = cc

@@ -1,8 +1,10 @@
-ghost use Rattle.std.specs.Prelude.{◌≡◌, ◌≢◌, List, false, OnOk, ◌+◌, ◌<◌, ◌≤◌, ◌↔◌, ℕ, [], ◌∷◌, ◌++◌, length, IfOk, IsErrOf, MatchResult, IsUtf8, encode_utf8, string_bytes};
+ghost use Rattle.std.specs.Prelude.{◌≡◌, ◌≢◌, List, false, OnOk, ◌+◌, ◌^◌, ◌<◌, ◌≤◌, ◌↔◌, ◌⊎◌, ℕ, [], ◌∷◌, ◌++◌, length, IfOk, IsErrOf, MatchResult, IsUtf8, encode_utf8, string_bytes};
 ghost use Rattle.std.specs.Str.{IsValidUpTo};
-ghost use Rattle.jac_tree.specs.Grammar.{Accepted, IsStrayAt, IsDeepAt, IsUnclosedAt, is_white, is_atom_byte, escaped};
+ghost use Rattle.jac_tree.specs.declared.fault.TreeFault.{TreeFault as AnyFault};
+ghost use Rattle.jac_tree.specs.Faults.{IsFaultOf};
+ghost use Rattle.jac_tree.specs.Grammar.{Accepted, Spells, IsStrayAt, IsDeepAt, IsUnclosedAt, is_white, is_atom_byte, escaped};
 ghost use Rattle.jac_tree.specs.Mirror.{plain, plain_all};
-ghost use Rattle.jac_tree.specs.Plain.{PlainTree, PlainTrees, nesting};
+ghost use Rattle.jac_tree.specs.Plain.{PlainTree, PlainTrees, nesting, widest};
 ghost use Rattle.jac_tree.specs.Reading.{open_lists, Completes, Steps, Goes, Settles, Finishes, Reads, AreShallow, IsShallowPlace, IsShallow};
 
 use crate::{Tree, TreeFault, Trees};
@@ -38,6 +40,8 @@ enum Mode {
 pub fn read_tree(alloc: Global, bytes: &[u8]) -> Result<Tree, TreeFault>
     ensures tree { IfOk result (λ t. Accepted bytes.now (plain t)) }
 
+    ensures short_lists { IfOk result (λ t. widest (plain t) < 2 ^ 32) }
+
     // Each tree that the bytes spell is read, unless memory runs out.
     ensures only { (t : PlainTree) → Accepted bytes.now t → MatchResult result (λ u. plain u ≡ t) (λ e. e ≡ TreeFault.Memory) }
 
@@ -50,6 +54,9 @@ pub fn read_tree(alloc: Global, bytes: &[u8]) -> Result<Tree, TreeFault>
     ensures stray { (at : ℕ) → IsErrOf result (TreeFault.Stray at) → IsStrayAt bytes.now at }
     ensures deep { (at : ℕ) → IsErrOf result (TreeFault.Deep at) → IsDeepAt bytes.now at }
     ensures unclosed { (at : ℕ) → IsErrOf result (TreeFault.Unclosed at) → IsUnclosedAt bytes.now at }
+
+    // Where the bytes have a fault it is answered, unless memory runs out.
+    ensures faults { (fault : AnyFault) → IsFaultOf bytes.now fault → MatchResult result (λ _. ⊥) (λ e. (e ≡ fault) ⊎ (e ≡ TreeFault.Memory)) }
 {
     if bytes.len() > LENGTH_LIMIT {
         return Err(TreeFault::Long);
@@ -60,6 +67,12 @@ pub fn read_tree(alloc: Global, bytes: &[u8]) -> Result<Tree, TreeFault>
     };
     let tree = read_text(alloc, text)?;
     Ok(tree)
+}
+
+/// A law, with nothing to run: bytes spell at most one tree.
+pub fn spells_one_tree()
+    ensures { (bytes : List ℕ) (t : PlainTree) (u : PlainTree) → Spells bytes t → Spells bytes u → t ≡ u }
+{
 }
 
 fn read_text(alloc: Global, text: &str) -> Result<Tree, TreeFault>
