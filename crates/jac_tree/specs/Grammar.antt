@@ -1,5 +1,5 @@
 -- Which bytes spell which tree.
-use Rattle.std.specs.Prelude.{◌≡◌, ◌≢◌, ◌≤◌, ℕ, Bool, true, false, not, ◌&&◌, ◌||◌, ◌==◌, ◌⊎◌, List, [], ◌∷◌, ◌++◌, length, Option, Some, None, if◌then◌else◌, IsUtf8}
+use Rattle.std.specs.Prelude.{◌≡◌, ◌≢◌, ◌+◌, ◌<◌, ◌≤◌, ℕ, Bool, true, false, not, ◌&&◌, ◌||◌, ◌==◌, ◌⊎◌, List, [], ◌∷◌, ◌++◌, length, take, Option, Some, None, if◌then◌else◌, IsUtf8}
 use Rattle.std.specs.Char.{is_ascii_alphanumeric}
 use Rattle.jac_tree.specs.Plain.{PlainTree, PlainTrees, nesting}
 
@@ -65,6 +65,32 @@ abbrev mutual
 -- the bytes are a document: white, the tree, white
 abbrev pub Spells : List ℕ → PlainTree → Type 0
 Spells bytes t = (to : List ℕ) × TreeAt t (skip bytes) to × (skip to ≡ [])
+
+-- some document begins with the bytes, and one whose tree nests at most n deep does
+abbrev pub IsBegun : List ℕ → Type 0
+IsBegun front = (rest : List ℕ) × (t : PlainTree) × Spells (front ++ rest) t
+
+abbrev pub IsBegunWithin : ℕ → List ℕ → Type 0
+IsBegunWithin n front = (rest : List ℕ) × (t : PlainTree) × Spells (front ++ rest) t × (nesting t ≤ n)
+
+-- the byte at this place is the first with which no document goes on
+pub record IsStrayAt (bytes : List ℕ) (at : ℕ) : Type 0 where
+  pub within : at < length bytes
+  pub before : IsBegunWithin 64 (take at bytes)
+  pub after : ¬ (IsBegun (take (at + 1) bytes))
+
+-- the byte at this place is the first with which only documents of trees that nest deeper than 64 go on: it opens a list inside 64 lists
+pub record IsDeepAt (bytes : List ℕ) (at : ℕ) : Type 0 where
+  pub within : at < length bytes
+  pub before : IsBegunWithin 64 (take at bytes)
+  pub after : IsBegun (take (at + 1) bytes)
+  pub deeper : ¬ (IsBegunWithin 64 (take (at + 1) bytes))
+
+-- the bytes, which end at this place, begin a document and are none
+pub record IsUnclosedAt (bytes : List ℕ) (at : ℕ) : Type 0 where
+  pub at_end : at ≡ length bytes
+  pub begun : IsBegunWithin 64 bytes
+  pub none : (t : PlainTree) → ¬ (Spells bytes t)
 
 -- the tree that the bytes are read as
 pub record Accepted (bytes : List ℕ) (t : PlainTree) : Type 0 where

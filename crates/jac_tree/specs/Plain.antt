@@ -1,5 +1,5 @@
 -- Trees without the places where they lie in memory.
-use Rattle.std.specs.Prelude.{ℕ, ◌+◌, max, List, [], ◌∷◌}
+use Rattle.std.specs.Prelude.{ℕ, ◌+◌, max, List, [], ◌∷◌, length}
 
 mutual
   pub data PlainTree : Type 0 where
@@ -31,3 +31,14 @@ abbrev mutual
   pub nesting_all : PlainTrees → ℕ
   nesting_all none = 0
   nesting_all (more t ts) = max (nesting t) (nesting_all ts)
+
+-- how many trees the longest list of a tree has
+abbrev mutual
+  pub widest : PlainTree → ℕ
+  widest (atom a) = 0
+  widest (text x) = 0
+  widest (list ts) = max (length (listed ts)) (widest_all ts)
+
+  pub widest_all : PlainTrees → ℕ
+  widest_all none = 0
+  widest_all (more t ts) = max (widest t) (widest_all ts)

@@ -1,16 +1,17 @@
 -- What a reader that has read some bytes still takes: the bytes that complete the document of a tree.
 -- The open lists are named from the innermost one out, each with its trees so far, turned round.
-use Rattle.std.specs.Prelude.{◌≡◌, ℕ, ◌<◌, ◌↔◌, true, false, List, [], ◌∷◌, ◌++◌, length, Option, Some, None, Result, Ok, Err, String, string_bytes}
+use Rattle.std.specs.Prelude.{◌≡◌, ℕ, ◌+◌, ◌<◌, ◌≤◌, ◌↔◌, true, false, List, [], ◌∷◌, ◌++◌, length, take, Option, Some, None, Result, Ok, Err, String, string_bytes}
 use Rattle.jac_tree.specs.declared.fault.TreeFault.{TreeFault}
 use Rattle.jac_tree.specs.declared.fault.TreeFault.TheVariants as faults
 use Rattle.jac_tree.specs.declared.read.Mode.{Mode}
 use Rattle.jac_tree.specs.declared.read.Mode.TheVariants as modes
 use Rattle.jac_tree.specs.declared.read.Place.{Place}
 use Rattle.jac_tree.specs.declared.read.Place.TheVariants as places
+use Rattle.jac_tree.specs.declared.tree.Tree.{Tree}
 use Rattle.jac_tree.specs.declared.tree.Trees.{Trees}
-use Rattle.jac_tree.specs.Grammar.{skip, are_atom_bytes, begins_with_atom_byte, escaped, PiecesAt, TreeAt, TreesAt}
+use Rattle.jac_tree.specs.Grammar.{skip, are_atom_bytes, begins_with_atom_byte, PiecesAt, TreeAt, TreesAt, Spells, IsStrayAt, IsDeepAt, IsUnclosedAt}
 use Rattle.jac_tree.specs.Mirror.{plain, plain_all}
-use Rattle.jac_tree.specs.Plain.{PlainTree, PlainTrees, onto, nesting}
+use Rattle.jac_tree.specs.Plain.{PlainTree, PlainTrees, onto, nesting, nesting_all}
 
 -- the open lists of a stack, of which the last is the innermost
 abbrev pub open_lists : List Trees → List PlainTrees
@@ -54,13 +55,15 @@ Completes gs (modes.InEscape x) bytes t = InsideText gs (string_bytes x) (92 ∷
 abbrev pub Steps : List PlainTrees → Mode → List ℕ → List PlainTrees → Mode → Type 0
 Steps gs mode front hs next = (rest : List ℕ) (t : PlainTree) → Completes gs mode (front ++ rest) t ↔ Completes hs next rest t
 
--- no document goes on with the bytes `front`
+-- no document goes on with the first of the bytes `front`
 abbrev pub IsStuck : List PlainTrees → Mode → List ℕ → Type 0
-IsStuck gs mode front = (rest : List ℕ) (t : PlainTree) → ¬ (Completes gs mode (front ++ rest) t)
+IsStuck gs mode front = (rest : List ℕ) (t : PlainTree) → ¬ (Completes gs mode (take 1 front ++ rest) t)
 
--- each document that goes on with `front` is of a tree that nests deeper than 64
+-- documents go on with the first of the bytes `front`, and each is of a tree that nests deeper than 64
 abbrev pub IsTooDeep : List PlainTrees → Mode → List ℕ → Type 0
-IsTooDeep gs mode front = (rest : List ℕ) (t : PlainTree) → Completes gs mode (front ++ rest) t → 64 < nesting t
+IsTooDeep gs mode front =
+    ((rest : List ℕ) × (t : PlainTree) × Completes gs mode (take 1 front ++ rest) t)
+    × ((rest : List ℕ) (t : PlainTree) → Completes gs mode (take 1 front ++ rest) t → 64 < nesting t)
 
 -- a fault at the place `at`, with its cause
 abbrev pub FaultsFor : List PlainTrees → Mode → List ℕ → ℕ → TreeFault → Type 0
@@ -76,9 +79,41 @@ abbrev pub Goes : List PlainTrees → Mode → List ℕ → ℕ → List PlainTr
 Goes gs mode front at hs (Ok next) = Steps gs mode front hs next
 Goes gs mode front at hs (Err fault) = FaultsFor gs mode front at fault
 
+-- the trees of each open list leave room for the lists round it, 64 in all
+abbrev pub AreShallow : List PlainTrees → Type 0
+AreShallow [] = Unit {0}
+AreShallow (g ∷ gs) = (nesting_all g + length (g ∷ gs) ≤ 64) × AreShallow gs
+
+abbrev pub IsShallowPlace : Place → Type 0
+IsShallowPlace places.Open = Unit {0}
+IsShallowPlace (places.Complete u) = nesting (plain u) ≤ 64
+
+-- what was read nests at most 64 deep
+abbrev pub IsShallow : List PlainTrees → Mode → Type 0
+IsShallow gs (modes.Outside place) = AreShallow gs × IsShallowPlace place
+IsShallow gs (modes.InAtom a) = AreShallow gs
+IsShallow gs (modes.InText x) = AreShallow gs
+IsShallow gs (modes.InEscape x) = AreShallow gs
+
 -- what the tree u makes of the open lists
 abbrev pub Settles : List PlainTrees → PlainTree → List PlainTrees → Place → Type 0
 Settles gs u hs place = (rest : List ℕ) (t : PlainTree) → After gs u rest t ↔ CompletesPlace hs place rest t
 
-abbrev pub IsUnescaped : ℕ → Option ℕ → Type 0
-IsUnescaped c piece = piece ≡ escaped c
+-- what is answered where the bytes end, at the place `at`
+abbrev pub Finishes : List PlainTrees → Mode → ℕ → Result Tree TreeFault → Type 0
+Finishes gs mode at (Ok tree) = (t : PlainTree) → Completes gs mode [] t ↔ (t ≡ plain tree)
+Finishes gs mode at (Err fault) = (fault ≡ faults.Unclosed at) × ((t : PlainTree) → ¬ (Completes gs mode [] t))
+
+-- a fault of bytes that are a text and aren't too long
+abbrev pub HasFault : List ℕ → TreeFault → Type 0
+HasFault bytes faults.Memory = Unit {0}
+HasFault bytes (faults.Stray at) = IsStrayAt bytes at
+HasFault bytes (faults.Deep at) = IsDeepAt bytes at
+HasFault bytes (faults.Unclosed at) = IsUnclosedAt bytes at
+HasFault bytes faults.Long = ⊥
+HasFault bytes (faults.NotUtf8 at) = ⊥
+
+-- the bytes of a text spell the tree that was read, and no other
+abbrev pub Reads : List ℕ → Result Tree TreeFault → Type 0
+Reads bytes (Ok tree) = (nesting (plain tree) ≤ 64) × ((t : PlainTree) → Spells bytes t ↔ (t ≡ plain tree))
+Reads bytes (Err fault) = HasFault bytes fault

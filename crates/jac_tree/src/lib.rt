@@ -6,5 +6,8 @@ mod read;
 mod tree;
 
 pub use fault::TreeFault;
-pub use read::read_tree;
+pub use read::{read_tree, spells_one_tree};
 pub use tree::{Tree, Trees};
+
+#[cfg(test)]
+mod tests;

@@ -1,9 +1,11 @@
-ghost use Rattle.std.specs.Prelude.{◌≡◌, ◌<◌, ◌≤◌, ◌↔◌, ℕ, [], ◌∷◌, ◌++◌, length, IfOk, IsErrOf, MatchResult, IsUtf8, IsTrue, true, encode_utf8, string_bytes};
+ghost use Rattle.std.specs.Prelude.{◌≡◌, ◌≢◌, List, false, OnOk, ◌+◌, ◌^◌, ◌<◌, ◌≤◌, ◌↔◌, ◌⊎◌, ℕ, [], ◌∷◌, ◌++◌, length, IfOk, IsErrOf, MatchResult, IsUtf8, encode_utf8, string_bytes};
 ghost use Rattle.std.specs.Str.{IsValidUpTo};
-ghost use Rattle.jac_tree.specs.Grammar.{Accepted, is_white, is_atom_byte, escaped};
+ghost use Rattle.jac_tree.specs.declared.fault.TreeFault.{TreeFault as AnyFault};
+ghost use Rattle.jac_tree.specs.Faults.{IsFaultOf};
+ghost use Rattle.jac_tree.specs.Grammar.{Accepted, Spells, IsStrayAt, IsDeepAt, IsUnclosedAt, is_white, is_atom_byte, escaped};
 ghost use Rattle.jac_tree.specs.Mirror.{plain, plain_all};
-ghost use Rattle.jac_tree.specs.Plain.{PlainTree};
-ghost use Rattle.jac_tree.specs.Reading.{open_lists, Goes, Settles, IsUnescaped};
+ghost use Rattle.jac_tree.specs.Plain.{PlainTree, PlainTrees, nesting, widest};
+ghost use Rattle.jac_tree.specs.Reading.{open_lists, Completes, Steps, Goes, Settles, Finishes, Reads, AreShallow, IsShallowPlace, IsShallow};
 
 use crate::{Tree, TreeFault, Trees};
 use jac_value::{Memory, Txt};
@@ -38,6 +40,8 @@ enum Mode {
 pub fn read_tree(alloc: Global, bytes: &[u8]) -> Result<Tree, TreeFault>
     ensures tree { IfOk result (λ t. Accepted bytes.now (plain t)) }
 
+    ensures short_lists { IfOk result (λ t. widest (plain t) < 2 ^ 32) }
+
     // Each tree that the bytes spell is read, unless memory runs out.
     ensures only { (t : PlainTree) → Accepted bytes.now t → MatchResult result (λ u. plain u ≡ t) (λ e. e ≡ TreeFault.Memory) }
 
@@ -45,6 +49,14 @@ pub fn read_tree(alloc: Global, bytes: &[u8]) -> Result<Tree, TreeFault>
     ensures long { IsErrOf result TreeFault.Long ↔ (1048576 < length bytes.now) }
     ensures not_utf8 { (at : ℕ) → IsErrOf result (TreeFault.NotUtf8 at) → (length bytes.now ≤ 1048576) × ¬ (IsUtf8 bytes.now) × IsValidUpTo bytes.now at }
     ensures no_text { length bytes.now ≤ 1048576 → ¬ (IsUtf8 bytes.now) → (at : ℕ) × IsErrOf result (TreeFault.NotUtf8 at) }
+
+    // Stray and Deep come at the first byte with which no document, or no document of at most 64 levels, goes on.
+    ensures stray { (at : ℕ) → IsErrOf result (TreeFault.Stray at) → IsStrayAt bytes.now at }
+    ensures deep { (at : ℕ) → IsErrOf result (TreeFault.Deep at) → IsDeepAt bytes.now at }
+    ensures unclosed { (at : ℕ) → IsErrOf result (TreeFault.Unclosed at) → IsUnclosedAt bytes.now at }
+
+    // Where the bytes have a fault it is answered, unless memory runs out.
+    ensures faults { (fault : AnyFault) → IsFaultOf bytes.now fault → MatchResult result (λ _. ⊥) (λ e. (e ≡ fault) ⊎ (e ≡ TreeFault.Memory)) }
 {
     if bytes.len() > LENGTH_LIMIT {
         return Err(TreeFault::Long);
@@ -57,33 +69,43 @@ pub fn read_tree(alloc: Global, bytes: &[u8]) -> Result<Tree, TreeFault>
     Ok(tree)
 }
 
-fn read_text(alloc: Global, text: &str) -> Result<Tree, TreeFault> {
-    let mut open = Vec::new(alloc);
+/// A law, with nothing to run: bytes spell at most one tree.
+pub fn spells_one_tree()
+    ensures { (bytes : List ℕ) (t : PlainTree) (u : PlainTree) → Spells bytes t → Spells bytes u → t ≡ u }
+{
+}
+
+fn read_text(alloc: Global, text: &str) -> Result<Tree, TreeFault>
+    requires { length text.now ≤ 1048576 }
+    ensures { Reads text.now result }
+{
+    let mut stack = Vec::new(alloc);
     let mut mode = Mode::Outside(Place::Open);
     let mut at: u64 = 0;
     'characters: for c in text.chars() {
-        mode = step(alloc, &mut open, mode, c, at)?;
+        mode = step(alloc, &mut stack, mode, c, at)?;
         at += c.len_utf8() as u64;
     }
-    let tree = finish(mode, &open, at)?;
+    let tree = finish(mode, &stack, at)?;
     Ok(tree)
 }
 
 // The character c stands at the byte `at`. After a fault the reader is done with.
-fn step(alloc: Global, open: &mut Vec<Trees>, mode: Mode, c: char, at: u64) -> Result<Mode, TreeFault>
-    ensures { Goes (open_lists open.old.items) mode (encode_utf8 c) at (open_lists open.new.items) result }
+fn step(alloc: Global, stack: &mut Vec<Trees>, mode: Mode, c: char, at: u64) -> Result<Mode, TreeFault>
+    ensures steps { Goes (open_lists stack.old.items) mode (encode_utf8 c) at (open_lists stack.new.items) result }
+    ensures shallow { IfOk result (λ next. IsShallow (open_lists stack.old.items) mode → IsShallow (open_lists stack.new.items) next) }
 {
     match mode {
         Mode::Outside(place) => {
-            let next = outside(alloc, open, place, c, at)?;
+            let next = outside(alloc, stack, place, c, at)?;
             Ok(next)
         }
         Mode::InAtom(atom) => {
-            let next = in_atom(alloc, open, atom, c, at)?;
+            let next = in_atom(alloc, stack, atom, c, at)?;
             Ok(next)
         }
         Mode::InText(text) => {
-            let next = in_text(alloc, open, text, c)?;
+            let next = in_text(alloc, stack, text, c)?;
             Ok(next)
         }
         Mode::InEscape(text) => {
@@ -93,12 +115,13 @@ fn step(alloc: Global, open: &mut Vec<Trees>, mode: Mode, c: char, at: u64) -> R
     }
 }
 
-fn outside(alloc: Global, open: &mut Vec<Trees>, place: Place, c: char, at: u64) -> Result<Mode, TreeFault>
-    ensures { Goes (open_lists open.old.items) (Mode.Outside place) (encode_utf8 c) at (open_lists open.new.items) result }
+fn outside(alloc: Global, stack: &mut Vec<Trees>, place: Place, c: char, at: u64) -> Result<Mode, TreeFault>
+    ensures steps { Goes (open_lists stack.old.items) (Mode.Outside place) (encode_utf8 c) at (open_lists stack.new.items) result }
+    ensures shallow { IfOk result (λ next. IsShallow (open_lists stack.old.items) (Mode.Outside place) → IsShallow (open_lists stack.new.items) next) }
 {
     match place {
         Place::Open => {
-            let next = between(alloc, open, c, at)?;
+            let next = between(alloc, stack, c, at)?;
             Ok(next)
         }
         Place::Complete(tree) => {
@@ -112,19 +135,20 @@ fn outside(alloc: Global, open: &mut Vec<Trees>, place: Place, c: char, at: u64)
 }
 
 // A tree may begin with the character, or the innermost list end.
-fn between(alloc: Global, open: &mut Vec<Trees>, c: char, at: u64) -> Result<Mode, TreeFault>
-    ensures { Goes (open_lists open.old.items) (Mode.Outside Place.Open) (encode_utf8 c) at (open_lists open.new.items) result }
+fn between(alloc: Global, stack: &mut Vec<Trees>, c: char, at: u64) -> Result<Mode, TreeFault>
+    ensures steps { Goes (open_lists stack.old.items) (Mode.Outside Place.Open) (encode_utf8 c) at (open_lists stack.new.items) result }
+    ensures shallow { IfOk result (λ next. IsShallow (open_lists stack.old.items) (Mode.Outside Place.Open) → IsShallow (open_lists stack.new.items) next) }
 {
     if is_white(c) {
         return Ok(Mode::Outside(Place::Open));
     }
     match c {
         ')' => {
-            let next = close_list(alloc, open, at)?;
+            let next = close_list(alloc, stack, at)?;
             Ok(next)
         }
         '(' => {
-            let next = open_list(open, at)?;
+            let next = open_list(stack, at)?;
             Ok(next)
         }
         '"' => Ok(Mode::InText(String::new(alloc))),
@@ -135,7 +159,15 @@ fn between(alloc: Global, open: &mut Vec<Trees>, c: char, at: u64) -> Result<Mod
     }
 }
 
-fn begin_atom(alloc: Global, c: char, at: u64) -> Result<Mode, TreeFault> {
+// No tree but an atom begins with the character.
+fn begin_atom(alloc: Global, c: char, at: u64) -> Result<Mode, TreeFault>
+    requires no_white { is_white c ≡ false }
+    requires no_quote { c ≢ 34 }
+    requires no_opening { c ≢ 40 }
+    requires no_closing { c ≢ 41 }
+    ensures steps { (gs : List PlainTrees) → Goes gs (Mode.Outside Place.Open) (encode_utf8 c) at gs result }
+    ensures shallow { (gs : List PlainTrees) → AreShallow gs → IfOk result (λ next. IsShallow gs next) }
+{
     if is_atom_char(c) {
         let atom = pushed(String::new(alloc), c)?;
         Ok(Mode::InAtom(atom))
@@ -144,67 +176,75 @@ fn begin_atom(alloc: Global, c: char, at: u64) -> Result<Mode, TreeFault> {
     }
 }
 
-fn open_list(open: &mut Vec<Trees>, at: u64) -> Result<Mode, TreeFault>
-    ensures { Goes (open_lists open.old.items) (Mode.Outside Place.Open) (40 ∷ []) at (open_lists open.new.items) result }
+fn open_list(stack: &mut Vec<Trees>, at: u64) -> Result<Mode, TreeFault>
+    ensures steps { Goes (open_lists stack.old.items) (Mode.Outside Place.Open) (40 ∷ []) at (open_lists stack.new.items) result }
+    ensures shallow { IfOk result (λ next. IsShallow (open_lists stack.old.items) (Mode.Outside Place.Open) → IsShallow (open_lists stack.new.items) next) }
 {
-    if open.len() >= NESTING_LIMIT {
+    if stack.len() >= NESTING_LIMIT {
         return Err(TreeFault::Deep(at));
     }
-    add_list(open)?;
+    add_list(stack)?;
     Ok(Mode::Outside(Place::Open))
 }
 
-fn add_list(open: &mut Vec<Trees>) -> Result<(), Memory> {
-    open.push(Trees::End)?;
+fn add_list(stack: &mut Vec<Trees>) -> Result<(), Memory>
+    ensures { OnOk result (open_lists stack.new.items ≡ PlainTrees.none ∷ open_lists stack.old.items) }
+{
+    stack.push(Trees::End)?;
     Ok(())
 }
 
-fn close_list(alloc: Global, open: &mut Vec<Trees>, at: u64) -> Result<Mode, TreeFault>
-    ensures { Goes (open_lists open.old.items) (Mode.Outside Place.Open) (41 ∷ []) at (open_lists open.new.items) result }
+fn close_list(alloc: Global, stack: &mut Vec<Trees>, at: u64) -> Result<Mode, TreeFault>
+    ensures steps { Goes (open_lists stack.old.items) (Mode.Outside Place.Open) (41 ∷ []) at (open_lists stack.new.items) result }
+    ensures shallow { IfOk result (λ next. IsShallow (open_lists stack.old.items) (Mode.Outside Place.Open) → IsShallow (open_lists stack.new.items) next) }
 {
-    match open.pop() {
+    match stack.pop() {
         None => Err(TreeFault::Stray(at)),
         Some(items) => {
-            let place = settle(alloc, open, Tree::List(items.before(Trees::End)))?;
+            let place = settle(alloc, stack, Tree::List(items.before(Trees::End)))?;
             Ok(Mode::Outside(place))
         }
     }
 }
 
 // Puts a tree that was read into the innermost open list.
-fn settle(alloc: Global, open: &mut Vec<Trees>, tree: Tree) -> Result<Place, Memory>
-    ensures { IfOk result (λ place. Settles (open_lists open.old.items) (plain tree) (open_lists open.new.items) place) }
+fn settle(alloc: Global, stack: &mut Vec<Trees>, tree: Tree) -> Result<Place, Memory>
+    ensures settles { IfOk result (λ place. Settles (open_lists stack.old.items) (plain tree) (open_lists stack.new.items) place) }
+    ensures shallow { IfOk result (λ place. AreShallow (open_lists stack.old.items) → nesting (plain tree) + length (open_lists stack.old.items) ≤ 64
+        → AreShallow (open_lists stack.new.items) × IsShallowPlace place) }
 {
-    match open.pop() {
+    match stack.pop() {
         None => Ok(Place::Complete(tree)),
         Some(items) => {
             let first = Box::new(alloc, tree)?;
             let rest = Box::new(alloc, items)?;
-            open.push(Trees::More(first, rest))?;
+            stack.push(Trees::More(first, rest))?;
             Ok(Place::Open)
         }
     }
 }
 
-fn in_atom(alloc: Global, open: &mut Vec<Trees>, atom: String, c: char, at: u64) -> Result<Mode, TreeFault>
-    ensures { Goes (open_lists open.old.items) (Mode.InAtom atom) (encode_utf8 c) at (open_lists open.new.items) result }
+fn in_atom(alloc: Global, stack: &mut Vec<Trees>, atom: String, c: char, at: u64) -> Result<Mode, TreeFault>
+    ensures steps { Goes (open_lists stack.old.items) (Mode.InAtom atom) (encode_utf8 c) at (open_lists stack.new.items) result }
+    ensures shallow { IfOk result (λ next. IsShallow (open_lists stack.old.items) (Mode.InAtom atom) → IsShallow (open_lists stack.new.items) next) }
 {
     if is_atom_char(c) {
         let atom = pushed(atom, c)?;
         Ok(Mode::InAtom(atom))
     } else {
-        let place = settle(alloc, open, Tree::Atom(Txt::from_string(atom)))?;
-        let next = outside(alloc, open, place, c, at)?;
+        let place = settle(alloc, stack, Tree::Atom(Txt::from_string(atom)))?;
+        let next = outside(alloc, stack, place, c, at)?;
         Ok(next)
     }
 }
 
-fn in_text(alloc: Global, open: &mut Vec<Trees>, text: String, c: char) -> Result<Mode, Memory>
-    ensures { true ≡ true }
+fn in_text(alloc: Global, stack: &mut Vec<Trees>, text: String, c: char) -> Result<Mode, Memory>
+    ensures steps { IfOk result (λ next. Steps (open_lists stack.old.items) (Mode.InText text) (encode_utf8 c) (open_lists stack.new.items) next) }
+    ensures shallow { IfOk result (λ next. IsShallow (open_lists stack.old.items) (Mode.InText text) → IsShallow (open_lists stack.new.items) next) }
 {
     match c {
         '"' => {
-            let place = settle(alloc, open, Tree::Text(Txt::from_string(text)))?;
+            let place = settle(alloc, stack, Tree::Text(Txt::from_string(text)))?;
             Ok(Mode::Outside(place))
         }
         '\\' => Ok(Mode::InEscape(text)),
@@ -215,7 +255,10 @@ fn in_text(alloc: Global, open: &mut Vec<Trees>, text: String, c: char) -> Resul
     }
 }
 
-fn in_escape(text: String, c: char, at: u64) -> Result<Mode, TreeFault> {
+fn in_escape(text: String, c: char, at: u64) -> Result<Mode, TreeFault>
+    ensures steps { (gs : List PlainTrees) → Goes gs (Mode.InEscape text) (encode_utf8 c) at gs result }
+    ensures shallow { (gs : List PlainTrees) → AreShallow gs → IfOk result (λ next. IsShallow gs next) }
+{
     match unescaped(c) {
         Some(piece) => {
             let text = pushed(text, piece)?;
@@ -225,11 +268,30 @@ fn in_escape(text: String, c: char, at: u64) -> Result<Mode, TreeFault> {
     }
 }
 
-fn finish(mode: Mode, open: &Vec<Trees>, at: u64) -> Result<Tree, TreeFault> {
+fn finish(mode: Mode, stack: &Vec<Trees>, at: u64) -> Result<Tree, TreeFault>
+    ensures finishes { Finishes (open_lists stack.now.items) mode at result }
+    ensures shallow { IfOk result (λ tree. IsShallow (open_lists stack.now.items) mode → nesting (plain tree) ≤ 64) }
+{
     match mode {
         Mode::Outside(Place::Complete(tree)) => Ok(tree),
-        Mode::InAtom(atom) if open.is_empty() => Ok(Tree::Atom(Txt::from_string(atom))),
-        _ => Err(TreeFault::Unclosed(at)),
+        Mode::Outside(Place::Open) => Err(TreeFault::Unclosed(at)),
+        Mode::InAtom(atom) => {
+            let tree = finish_atom(atom, stack, at)?;
+            Ok(tree)
+        }
+        Mode::InText(_) => Err(TreeFault::Unclosed(at)),
+        Mode::InEscape(_) => Err(TreeFault::Unclosed(at)),
+    }
+}
+
+fn finish_atom(atom: String, stack: &Vec<Trees>, at: u64) -> Result<Tree, TreeFault>
+    ensures finishes { Finishes (open_lists stack.now.items) (Mode.InAtom atom) at result }
+    ensures shallow { IfOk result (λ tree. nesting (plain tree) ≤ 64) }
+{
+    if stack.is_empty() {
+        Ok(Tree::Atom(Txt::from_string(atom)))
+    } else {
+        Err(TreeFault::Unclosed(at))
     }
 }
 
@@ -243,7 +305,7 @@ fn pushed(text: String, c: char) -> Result<String, Memory>
 
 // What the character after a backslash stands for.
 fn unescaped(c: char) -> Option<char>
-    ensures { IsUnescaped c result }
+    ensures { result ≡ escaped c }
 {
     match c {
         'n' => Some('\n'),
