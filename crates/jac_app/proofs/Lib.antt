@@ -4,3 +4,4 @@ pub mod LackingLemmas
 pub mod EntryLemmas
 pub mod ProgressLemmas
 pub mod LineLemmas
+pub mod RunLemmas

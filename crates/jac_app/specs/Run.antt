@@ -3,11 +3,11 @@ use Rattle.std.specs.Prelude.{◌≡◌, ◌≤◌, ◌<◌, ◌⊎◌, ◌&&◌
 use Rattle.std.specs.Str.{bytes_eq}
 use Rattle.jac_io.specs.Faults.{Rose}
 use Rattle.jac_app.specs.declared.application.View.{View}
-use Rattle.jac_app.specs.declared.run.Command.{Command}
-use Rattle.jac_app.specs.declared.run.Ending.{Ending}
-use Rattle.jac_app.specs.declared.run.Ending.TheVariants as endings
-use Rattle.jac_app.specs.declared.run.Role.{Role}
-use Rattle.jac_app.specs.declared.run.Role.TheVariants as roles
+use Rattle.jac_app.specs.declared.command.Command.{Command}
+use Rattle.jac_app.specs.declared.command.Ending.{Ending}
+use Rattle.jac_app.specs.declared.command.Ending.TheVariants as endings
+use Rattle.jac_app.specs.declared.command.Role.{Role}
+use Rattle.jac_app.specs.declared.command.Role.TheVariants as roles
 use Rattle.jac_app.specs.declared.status.Status.{Status}
 use Rattle.jac_app.specs.declared.status.Status.TheVariants as statuses
 use Rattle.jac_app.specs.Application.{IsApplication}
@@ -21,9 +21,12 @@ pub record Replay : Type 0 where
   pub app : List ℕ
   pub events : List ℕ
 
+abbrev pub replay_of : List ℕ → List ℕ → Replay
+replay_of app events = record { app = app; events = events }
+
 -- the same of the code's command
 abbrev pub named : Command → Replay
-named command = record { app = command.app.now; events = command.events.now }
+named command = replay_of command.app.now command.events.now
 
 -- a word that names a file: it isn't empty, and begins with `-` only where it is `-`
 abbrev pub is_operand : List ℕ → Bool
@@ -59,46 +62,96 @@ pub record Sight : Type 0 where
   pub audit_before : ℕ
   pub audit_after : ℕ
 
+abbrev pub sight : Bool → (List ℕ → Option (List ℕ)) → ℕ → ℕ → ℕ → ℕ → ℕ → ℕ → Sight
+sight tells file files_before files_after out_before out_after audit_before audit_after = record {
+  tells = tells;
+  file = file;
+  files_before = files_before;
+  files_after = files_after;
+  out_before = out_before;
+  out_after = out_after;
+  audit_before = audit_before;
+  audit_after = audit_after;
+}
+
 -- the file of this role was read whole
-pub record IsRead (sight : Sight) (command : Replay) (role : Role) (bytes : List ℕ) : Type 0 where
+pub record IsRead (seen : Sight) (command : Replay) (role : Role) (bytes : List ℕ) : Type 0 where
   pub short : length bytes ≤ limit_of role
-  pub told : IsTrue sight.tells → sight.file (name_of command role) ≡ Some bytes
+  pub told : IsTrue seen.tells → seen.file (name_of command role) ≡ Some bytes
 
 -- the file of this role holds more than its limit
 abbrev pub IsLong : Sight → Replay → Role → Type 0
-IsLong sight command role = IsTrue sight.tells → IsSomeAnd (sight.file (name_of command role)) (λ bytes. limit_of role < length bytes)
+IsLong seen command role = IsTrue seen.tells → IsSomeAnd (seen.file (name_of command role)) (λ bytes. limit_of role < length bytes)
 
 -- both files were read, and the first is an application with these views
-pub record IsOpened (sight : Sight) (command : Replay) (views : List View) (events : List ℕ) : Type 0 where
+pub record IsOpened (seen : Sight) (command : Replay) (views : List View) (events : List ℕ) : Type 0 where
   pub app : List ℕ
-  pub app_read : IsRead sight command roles.App app
+  pub app_read : IsRead seen command roles.App app
   pub application : IsApplication app views
-  pub events_read : IsRead sight command roles.Events events
+  pub events_read : IsRead seen command roles.Events events
 
 abbrev pub IsNothing : List ℕ → List ℕ → Type 0
 IsNothing out audit = (out ≡ []) × (audit ≡ [])
 
 abbrev pub AWriteFailed : Sight → Type 0
-AWriteFailed sight = Rose sight.out_before sight.out_after ⊎ Rose sight.audit_before sight.audit_after
+AWriteFailed seen = Rose seen.out_before seen.out_after ⊎ Rose seen.audit_before seen.audit_after
 
 -- what the steps of a replay put, and why they ended
 abbrev pub Ends : Sight → Replay → List ℕ → List ℕ → Result (Unit {0}) Ending → Type 0
-Ends sight command out audit (Ok done) =
-    (views : List View) × (events : List ℕ) × IsOpened sight command views events
+Ends seen command out audit (Ok done) =
+    (views : List View) × (events : List ℕ) × IsOpened seen command views events
     × ((script_of events).refused ≡ None) × ServesAll views (script_of events) out audit
-Ends sight command out audit (Err (endings.LineRefused n)) =
-    (views : List View) × (events : List ℕ) × IsOpened sight command views events
+Ends seen command out audit (Err (endings.LineRefused n)) =
+    (views : List View) × (events : List ℕ) × IsOpened seen command views events
     × ((script_of events).refused ≡ Some n) × ServesAll views (script_of events) out audit
-Ends sight command out audit (Err endings.WriteFault) =
-    (views : List View) × (events : List ℕ) × IsOpened sight command views events × AWriteFailed sight
+Ends seen command out audit (Err endings.WriteFault) =
+    (views : List View) × (events : List ℕ) × IsOpened seen command views events × AWriteFailed seen
     × (IsNothing out audit ⊎ IsBroken views (script_of events) out audit)
-Ends sight command out audit (Err endings.Memory) =
+Ends seen command out audit (Err endings.Memory) =
     IsNothing out audit
-    ⊎ ((views : List View) × (events : List ℕ) × IsOpened sight command views events × ServesSome views (script_of events) out audit)
-Ends sight command out audit (Err endings.AppRefused) =
-    (app : List ℕ) × IsRead sight command roles.App app × ((views : List View) → IsApplication app views → ⊥) × IsNothing out audit
-Ends sight command out audit (Err (endings.ReadFault role)) = Rose sight.files_before sight.files_after × IsNothing out audit
-Ends sight command out audit (Err (endings.TooLong role)) = IsLong sight command role × IsNothing out audit
+    ⊎ ((views : List View) × (events : List ℕ) × IsOpened seen command views events × ServesSome views (script_of events) out audit)
+Ends seen command out audit (Err endings.AppRefused) =
+    (app : List ℕ) × IsRead seen command roles.App app × ((views : List View) → IsApplication app views → ⊥) × IsNothing out audit
+Ends seen command out audit (Err (endings.ReadFault role)) = Rose seen.files_before seen.files_after × IsNothing out audit
+Ends seen command out audit (Err (endings.TooLong role)) = IsLong seen command role × IsNothing out audit
+
+-- why the file of this role, with this name, wasn't read
+abbrev pub IsUnread : Bool → (List ℕ → Option (List ℕ)) → ℕ → ℕ → List ℕ → Role → Ending → Type 0
+IsUnread tells file before after name role (endings.ReadFault r) = (r ≡ role) × Rose before after
+IsUnread tells file before after name role (endings.TooLong r) =
+    (r ≡ role) × (IsTrue tells → IsSomeAnd (file name) (λ bytes. limit_of role < length bytes))
+IsUnread tells file before after name role endings.Memory = Unit {0}
+IsUnread tells file before after name role endings.AppRefused = ⊥
+IsUnread tells file before after name role (endings.LineRefused n) = ⊥
+IsUnread tells file before after name role endings.WriteFault = ⊥
+
+-- why bytes gave no views
+abbrev pub IsUnopened : List ℕ → Ending → Type 0
+IsUnopened app ending =
+    ((ending ≡ endings.AppRefused) × ((views : List View) → IsApplication app views → ⊥)) ⊎ (ending ≡ endings.Memory)
+
+-- how the last step ends, which aims the audit and serves the events
+abbrev pub EndsServing : Type 0 → List View → List ℕ → List ℕ → List ℕ → Result (Unit {0}) Ending → Type 0
+EndsServing AFault views events out audit (Ok done) = ((script_of events).refused ≡ None) × ServesAll views (script_of events) out audit
+EndsServing AFault views events out audit (Err (endings.LineRefused n)) =
+    ((script_of events).refused ≡ Some n) × ServesAll views (script_of events) out audit
+EndsServing AFault views events out audit (Err endings.WriteFault) = AFault × (IsNothing out audit ⊎ IsBroken views (script_of events) out audit)
+EndsServing AFault views events out audit (Err endings.Memory) = ServesSome views (script_of events) out audit
+EndsServing AFault views events out audit (Err endings.AppRefused) = ⊥
+EndsServing AFault views events out audit (Err (endings.ReadFault role)) = ⊥
+EndsServing AFault views events out audit (Err (endings.TooLong role)) = ⊥
+
+-- the audit was aimed at no file, where the step was done
+abbrev pub IsAimed : Bool → Option (List ℕ) → Result (Unit {0}) Ending → Type 0
+IsAimed tells aimed (Ok done) = IsTrue tells → aimed ≡ None
+IsAimed tells aimed (Err (endings.LineRefused n)) = IsTrue tells → aimed ≡ None
+IsAimed tells aimed (Err ending) = Unit {0}
+
+-- the same, by the status
+abbrev pub IsAimedAt : Bool → Option (List ℕ) → Status → Type 0
+IsAimedAt tells aimed statuses.Done = IsTrue tells → aimed ≡ None
+IsAimedAt tells aimed statuses.LineRefused = IsTrue tells → aimed ≡ None
+IsAimedAt tells aimed status = Unit {0}
 
 abbrev pub usage_line : List ℕ
 usage_line = codes "usage: jac check APP, replay APP EVENTS, serve APP PORT COUNT, demo N, dump APP LABELS; options --db FILE --sessions FILE --audit FILE\n"
@@ -121,20 +174,62 @@ status_of endings.WriteFault = statuses.WriteFault
 status_of endings.Memory = statuses.Memory
 
 -- the last line is put, or the front of it where that put fails
-abbrev pub Closes : Sight → List ℕ → Status → List ℕ → Status → Type 0
-Closes sight line status put answer =
-    ((put ≡ line) × (answer ≡ status))
-    ⊎ (IsFront put line × (answer ≡ statuses.WriteFault) × Rose sight.out_before sight.out_after)
+abbrev pub Closes : Type 0 → List ℕ → Status → List ℕ → Status → Type 0
+Closes OutFault line status put answer =
+    ((put ≡ line) × (answer ≡ status)) ⊎ (IsFront put line × (answer ≡ statuses.WriteFault) × OutFault)
 
 -- what follows the steps of a replay
-abbrev pub Finishes : Sight → Replay → Result (Unit {0}) Ending → List ℕ → Status → Type 0
-Finishes sight command (Ok done) put answer = (put ≡ []) × (answer ≡ statuses.Done)
-Finishes sight command (Err ending) put answer = Closes sight (fault_line command ending) (status_of ending) put answer
+abbrev pub Finishes : Type 0 → Replay → Result (Unit {0}) Ending → List ℕ → Status → Type 0
+Finishes OutFault command (Ok done) put answer = (put ≡ []) × (answer ≡ statuses.Done)
+Finishes OutFault command (Err ending) put answer = Closes OutFault (fault_line command ending) (status_of ending) put answer
 
--- a run whose words are no command, or a run of the steps of its command
+-- the words are a command whose steps were run
+pub record RunsReplay (seen : Sight) (words : List (List ℕ)) (out audit : List ℕ) (answer : Status) : Type 0 where
+  pub command : Replay
+  pub ended : Result (Unit {0}) Ending
+  pub served : List ℕ
+  pub last : List ℕ
+  pub is_command : command_of words ≡ Some command
+  pub ends : Ends seen command served audit ended
+  pub finishes : Finishes (Rose seen.out_before seen.out_after) command ended last answer
+  pub out_text : out ≡ served ++ last
+
+-- the words are no command
+pub record RunsNothing (seen : Sight) (words : List (List ℕ)) (out audit : List ℕ) (answer : Status) : Type 0 where
+  pub no_command : command_of words ≡ None
+  pub closes : Closes (Rose seen.out_before seen.out_after) usage_line statuses.Usage out answer
+  pub audit_text : audit ≡ []
+
 abbrev pub Runs : Sight → List (List ℕ) → List ℕ → List ℕ → Status → Type 0
-Runs sight words out audit answer =
-    ((command_of words ≡ None) × Closes sight usage_line statuses.Usage out answer × (audit ≡ []))
-    ⊎ ((command : Replay) × (command_of words ≡ Some command)
-        × ((ended : Result (Unit {0}) Ending) × (served : List ℕ) × (last : List ℕ)
-            × Ends sight command served audit ended × Finishes sight command ended last answer × (out ≡ served ++ last)))
+Runs seen words out audit answer = RunsReplay seen words out audit answer ⊎ RunsNothing seen words out audit answer
+
+-- everything that a run needs is there, and nothing fails
+pub record CanServe (seen : Sight) (words : List (List ℕ)) : Type 0 where
+  pub command : Replay
+  pub app : List ℕ
+  pub views : List View
+  pub events : List ℕ
+  pub is_command : command_of words ≡ Some command
+  pub told : IsTrue seen.tells
+  pub app_file : seen.file command.app ≡ Some app
+  pub application : IsApplication app views
+  pub events_file : seen.file command.events ≡ Some events
+  pub short : length events ≤ 16777216
+  pub forms : (script_of events).refused ≡ None
+  pub no_read_fault : Rose seen.files_before seen.files_after → ⊥
+  pub no_write_fault : AWriteFailed seen → ⊥
+
+-- a status with its cause
+abbrev pub HasCause : Sight → List (List ℕ) → Status → Type 0
+HasCause seen words statuses.Done = (command : Replay) × (command_of words ≡ Some command)
+HasCause seen words statuses.Usage = command_of words ≡ None
+HasCause seen words statuses.AppRefused =
+    (command : Replay) × (command_of words ≡ Some command)
+    × ((app : List ℕ) × IsRead seen command roles.App app × ((views : List View) → IsApplication app views → ⊥))
+HasCause seen words statuses.LineRefused =
+    (command : Replay) × (command_of words ≡ Some command)
+    × ((views : List View) × (events : List ℕ) × IsOpened seen command views events × ((n : ℕ) × ((script_of events).refused ≡ Some n)))
+HasCause seen words statuses.ReadFault = Rose seen.files_before seen.files_after
+HasCause seen words statuses.WriteFault = AWriteFailed seen
+HasCause seen words statuses.Memory = Unit {0}
+HasCause seen words statuses.TooLong = (command : Replay) × (command_of words ≡ Some command) × ((role : Role) × IsLong seen command role)
