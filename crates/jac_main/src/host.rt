@@ -1,0 +1,139 @@
+ghost use Rattle.std.specs.Prelude.{◌≡◌, ◌≤◌, ◌++◌, false, None, [], length, IfOk, OnOk, OnErr, IsTrue, IsSomeAnd, vec_len};
+ghost use Rattle.jac_io.specs.Faults.{Rose};
+
+use jac_io::{AuditSink, Failed, FileFault, Files, Sink};
+use jac_value::{Bytes, Txt};
+use std::alloc::Global;
+use std::fs::File;
+use std::io;
+use std::io::{Read, Write};
+
+const CHUNK: usize = 65536;
+
+/// The files of the host. They tell nothing of what they hold.
+#[derive(Drop)]
+pub struct HostFiles<'r> {
+    rt: &'r HostRuntime,
+    faults: u64,
+}
+
+impl<'r> HostFiles<'r> {
+    pub fn new(rt: &'r HostRuntime) -> HostFiles<'r> {
+        HostFiles { rt, faults: 0 }
+    }
+}
+
+impl Files for HostFiles<'_> {
+    ghost tells = { λ _. false };
+
+    ghost file = { λ _ _. None };
+
+    ghost faults = { λ f. f.faults };
+
+    fn read_all(&mut self, alloc: Global, name: &Txt, limit: usize) -> Result<Bytes, FileFault> {
+        match read_file(self.rt, alloc, name.as_str(), limit) {
+            Ok(bytes) => Ok(Bytes::from_vec(bytes)),
+            Err(FileFault::Failed) => {
+                self.faults = self.faults.saturating_add(1);
+                Err(FileFault::Failed)
+            }
+            Err(fault) => Err(fault),
+        }
+    }
+}
+
+fn read_file(rt: &HostRuntime, alloc: Global, name: &str, limit: usize) -> Result<Vec<u8>, FileFault>
+    ensures { IfOk result (λ v. vec_len v ≤ limit) }
+{
+    let mut bytes = Vec::new(alloc);
+    let Ok(mut file) = File::open(rt, name) else {
+        return Err(FileFault::Failed);
+    };
+    let mut chunk = [0u8; CHUNK];
+    'chunks: for _ in 0..u64::MAX {
+        let Ok(count) = file.read(&mut chunk) else {
+            return Err(FileFault::Failed);
+        };
+        if count == 0 {
+            return Ok(bytes);
+        }
+        if count > limit - bytes.len() {
+            return Err(FileFault::TooLong);
+        }
+        if bytes.extend_from_slice(&chunk[..count]).is_err() {
+            return Err(FileFault::Memory);
+        }
+    }
+    Err(FileFault::Failed)
+}
+
+/// Standard output. Each put is written through at once.
+#[derive(Drop)]
+pub struct Stdout<'r> {
+    rt: &'r HostRuntime,
+    faults: u64,
+}
+
+impl<'r> Stdout<'r> {
+    pub fn new(rt: &'r HostRuntime) -> Stdout<'r> {
+        Stdout { rt, faults: 0 }
+    }
+}
+
+impl Sink for Stdout<'_> {
+    ghost tells = { λ _. false };
+
+    ghost held = { λ _. [] };
+
+    ghost aimed = { λ _. None };
+
+    ghost faults = { λ s. s.faults };
+
+    fn put(&mut self, bytes: &[u8]) -> Result<(), Failed> {
+        match io::writer(self.rt).write_all(bytes) {
+            Ok(()) => Ok(()),
+            Err(_) => {
+                self.faults = self.faults.saturating_add(1);
+                Err(Failed)
+            }
+        }
+    }
+}
+
+/// An audit that is aimed at no file: it drops its bytes. An aim at a file fails.
+#[derive(Drop)]
+pub struct NoAudit {
+    faults: u64,
+}
+
+impl NoAudit {
+    pub fn new() -> NoAudit {
+        NoAudit { faults: 0 }
+    }
+}
+
+impl Sink for NoAudit {
+    ghost tells = { λ _. false };
+
+    ghost held = { λ _. [] };
+
+    ghost aimed = { λ _. None };
+
+    ghost faults = { λ s. s.faults };
+
+    fn put(&mut self, _bytes: &[u8]) -> Result<(), Failed> {
+        Ok(())
+    }
+}
+
+impl AuditSink for NoAudit {
+    fn aim(&mut self, name: Option<Txt>) -> Result<(), Failed> {
+        match name {
+            None => Ok(()),
+            Some(_) => {
+                self.faults = self.faults.saturating_add(1);
+                Err(Failed)
+            }
+        }
+    }
+}

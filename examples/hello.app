@@ -1,0 +1,2 @@
+(app
+ (view get "/" (params) (put "hello")))
