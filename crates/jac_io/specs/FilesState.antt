@@ -19,5 +19,5 @@ read_fails s name = listed (risen s.calls) s.fails || is_none (file_of s.files n
 abbrev pub after_read : FilesState → List ℕ → FilesState
 after_read s name = record s {
   calls = risen s.calls;
-  faults = if read_fails s name then risen s.faults else s.faults
+  faults = if read_fails s name then risen s.faults else s.faults;
 }

@@ -76,7 +76,8 @@ impl Sink for MemorySink {
     {
         self.calls = self.calls.saturating_add(1);
         let listed = self.fails.lists(self.calls);
-        if listed || bytes.len() > self.room - self.taken.len() {
+        let beyond = bytes.len() > self.room - self.taken.len();
+        if listed || beyond {
             self.faults = self.faults.saturating_add(1);
             return Err(Failed);
         }
