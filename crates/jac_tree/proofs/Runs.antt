@@ -1,15 +1,15 @@
 -- What a reader that stands at a place of a text tells of the text.
-use Rattle.std.proofs.Common.{◌≡◌, ◌↔◌, ℕ, ◌+◌, ◌<◌, ◌≤◌, List, [], ◌∷◌, ◌++◌, length, take, drop, refl, sym, ◌∙◌, ap, subst, arith, append_assoc, append-nil, length-drop, length-append, encode_utf8}
+use Rattle.std.proofs.Common.{◌≡◌, ◌↔◌, ℕ, ◌+◌, ◌<◌, ◌≤◌, List, [], ◌++◌, length, take, drop, refl, sym, ◌∙◌, ap, subst, arith, append_assoc, append-nil, length-drop, length-append, encode_utf8}
 use Rattle.std.proofs.Math.Seq.{take-add, take-append_seam, drop-append_seam}
-use Rattle.std.proofs.lemmas.List.{take-append-le, take-append-drop, drop-drop, nil_from_length}
+use Rattle.std.proofs.lemmas.List.{take-append-le, take-append-drop, drop-drop}
 use Rattle.std.proofs.lemmas.Str.{length-encode, len_utf8_bounds}
 use Rattle.jac_tree.specs.declared.fault.TreeFault.{TreeFault}
 use Rattle.jac_tree.specs.declared.fault.TreeFault.TheVariants as faults
 use Rattle.jac_tree.specs.declared.read.Mode.{Mode}
-use Rattle.jac_tree.specs.Grammar.{Spells, IsBegun, IsBegunWithin, IsStrayAt, IsDeepAt, IsUnclosedAt}
+use Rattle.jac_tree.specs.Grammar.{Spells, IsBegunWithin, IsStrayAt, IsDeepAt}
 use Rattle.jac_tree.specs.Plain.{PlainTree, PlainTrees, nesting}
-use Rattle.jac_tree.specs.Reading.{Completes, Steps, IsStuck, IsTooDeep, FaultsFor, HasFault, IsShallow}
-use Rattle.jac_tree.proofs.States.{chain, can_end}
+use Rattle.jac_tree.specs.Reading.{Completes, Steps, FaultsFor, HasFault, IsShallow}
+use Rattle.jac_tree.proofs.States.{can_end}
 
 -- the reader has read the first `at` bytes of the text
 abbrev pub Reading : List PlainTrees → Mode → List ℕ → ℕ → Type 0
@@ -30,9 +30,10 @@ pub reading_step : (gs hs : List PlainTrees) (mode next : Mode) (text p q : List
 reading_step gs hs mode next text p q at e r s rest t =
     let one = r (p ++ rest) t in
     let two = s rest t in
-    let same : take at text ++ (p ++ rest) ≡ take (at + length p) text ++ rest = sym (append_assoc (take at text) p rest) ∙ ap (λ z. z ++ rest) (sym (upto text p q at e)) in
-    ( λ h. subst (λ z. Spells z t) same (one.0 (two.1 h))
-    , λ h. two.0 (one.1 (subst (λ z. Spells z t) (sym same) h)) )
+    let same : take at text ++ (p ++ rest) ≡ take (at + length p) text ++ rest = sym (append_assoc (take at text) p rest) ∙ ap (λ z. z ++ rest) (sym (upto text p q at e)) in (
+      λ h. subst (λ z. Spells z t) same (one.0 (two.1 h)),
+      λ h. two.0 (one.1 (subst (λ z. Spells z t) (sym same) h)),
+    )
 
 -- the same, where the length is a number of its own
 pub reading_step_by : (gs hs : List PlainTrees) (mode next : Mode) (text p q : List ℕ) (at n : ℕ) → n ≡ length p → drop at text ≡ p ++ q
@@ -81,8 +82,8 @@ step_fault gs mode text q c at (faults.Deep m) n e r s (same, ((rest, t, h), f))
       before = begun gs mode text at r s;
       after = (rest, t, subst (λ z. Spells z t) (sym (next_spells text q rest c at e)) ((r (take 1 (encode_utf8 c) ++ rest) t).0 h));
       deeper = λ (rs, u, i, k).
-        let d : 64 < nesting u = f rs u ((r (take 1 (encode_utf8 c) ++ rs) u).1 (subst (λ z. Spells z u) (next_spells text q rs c at e) i)) in
-        omega arith;
+          let d : 64 < nesting u = f rs u ((r (take 1 (encode_utf8 c) ++ rs) u).1 (subst (λ z. Spells z u) (next_spells text q rs c at e) i)) in
+          omega arith;
     })
 step_fault gs mode text q c at faults.Long n e r s f = f
 step_fault gs mode text q c at (faults.NotUtf8 m) n e r s f = f

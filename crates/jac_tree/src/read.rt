@@ -11,11 +11,11 @@ use crate::{Tree, TreeFault, Trees};
 use jac_value::{Memory, Txt};
 use std::alloc::Global;
 
-/// The most bytes that are read.
-pub const LENGTH_LIMIT: usize = 1_048_576;
+// The most bytes that are read.
+const LENGTH_LIMIT: usize = 1_048_576;
 
-/// The most lists that are open at once.
-pub const NESTING_LIMIT: usize = 64;
+// The most lists that are open at once.
+const NESTING_LIMIT: usize = 64;
 
 // Where a reader stands outside of atoms and texts.
 #[derive(Drop)]
@@ -72,8 +72,7 @@ pub fn read_tree(alloc: Global, bytes: &[u8]) -> Result<Tree, TreeFault>
 /// A law, with nothing to run: bytes spell at most one tree.
 pub fn spells_one_tree()
     ensures { (bytes : List ℕ) (t : PlainTree) (u : PlainTree) → Spells bytes t → Spells bytes u → t ≡ u }
-{
-}
+{}
 
 fn read_text(alloc: Global, text: &str) -> Result<Tree, TreeFault>
     requires { length text.now ≤ 1048576 }
@@ -91,7 +90,13 @@ fn read_text(alloc: Global, text: &str) -> Result<Tree, TreeFault>
 }
 
 // The character c stands at the byte `at`. After a fault the reader is done with.
-fn step(alloc: Global, stack: &mut Vec<Trees>, mode: Mode, c: char, at: u64) -> Result<Mode, TreeFault>
+fn step(
+    alloc: Global,
+    stack: &mut Vec<Trees>,
+    mode: Mode,
+    c: char,
+    at: u64,
+) -> Result<Mode, TreeFault>
     ensures steps { Goes (open_lists stack.old.items) mode (encode_utf8 c) at (open_lists stack.new.items) result }
     ensures shallow { IfOk result (λ next. IsShallow (open_lists stack.old.items) mode → IsShallow (open_lists stack.new.items) next) }
 {
@@ -115,7 +120,13 @@ fn step(alloc: Global, stack: &mut Vec<Trees>, mode: Mode, c: char, at: u64) -> 
     }
 }
 
-fn outside(alloc: Global, stack: &mut Vec<Trees>, place: Place, c: char, at: u64) -> Result<Mode, TreeFault>
+fn outside(
+    alloc: Global,
+    stack: &mut Vec<Trees>,
+    place: Place,
+    c: char,
+    at: u64,
+) -> Result<Mode, TreeFault>
     ensures steps { Goes (open_lists stack.old.items) (Mode.Outside place) (encode_utf8 c) at (open_lists stack.new.items) result }
     ensures shallow { IfOk result (λ next. IsShallow (open_lists stack.old.items) (Mode.Outside place) → IsShallow (open_lists stack.new.items) next) }
 {
@@ -224,7 +235,13 @@ fn settle(alloc: Global, stack: &mut Vec<Trees>, tree: Tree) -> Result<Place, Me
     }
 }
 
-fn in_atom(alloc: Global, stack: &mut Vec<Trees>, atom: String, c: char, at: u64) -> Result<Mode, TreeFault>
+fn in_atom(
+    alloc: Global,
+    stack: &mut Vec<Trees>,
+    atom: String,
+    c: char,
+    at: u64,
+) -> Result<Mode, TreeFault>
     ensures steps { Goes (open_lists stack.old.items) (Mode.InAtom atom) (encode_utf8 c) at (open_lists stack.new.items) result }
     ensures shallow { IfOk result (λ next. IsShallow (open_lists stack.old.items) (Mode.InAtom atom) → IsShallow (open_lists stack.new.items) next) }
 {
