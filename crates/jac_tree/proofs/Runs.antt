@@ -1,7 +1,7 @@
 -- What a reader that stands at a place of a text tells of the text.
-use Rattle.std.proofs.Common.{◌≡◌, ◌↔◌, ℕ, ◌+◌, ◌<◌, ◌≤◌, List, [], ◌++◌, length, take, drop, refl, sym, ◌∙◌, ap, subst, arith, append_assoc, append-nil, length-drop, length-append, encode_utf8}
+use Rattle.std.proofs.Common.{◌≡◌, ◌↔◌, ℕ, ◌+◌, ◌<◌, ◌≤◌, List, [], ◌∷◌, ◌++◌, length, take, drop, get_or, add-zero, refl, sym, ◌∙◌, ap, subst, arith, append_assoc, append-nil, length-drop, length-append, encode_utf8}
 use Rattle.std.proofs.Math.Seq.{take-add, take-append_seam, drop-append_seam}
-use Rattle.std.proofs.lemmas.List.{take-append-le, take-append-drop, drop-drop}
+use Rattle.std.proofs.lemmas.List.{take-append-le, take-append-drop, drop-drop, get_or-drop}
 use Rattle.std.proofs.lemmas.Str.{length-encode, len_utf8_bounds}
 use Rattle.jac_tree.specs.declared.fault.TreeFault.{TreeFault}
 use Rattle.jac_tree.specs.declared.fault.TreeFault.TheVariants as faults
@@ -57,6 +57,16 @@ next_spells : (text q rest : List ℕ) (c at : ℕ) → drop at text ≡ encode_
     → take (at + 1) text ++ rest ≡ take at text ++ (take 1 (encode_utf8 c) ++ rest)
 next_spells text q rest c at e = ap (λ z. z ++ rest) (next_byte text q c at e) ∙ append_assoc (take at text) (take 1 (encode_utf8 c)) rest
 
+first_is : (xs q : List ℕ) (b : ℕ) → take 1 xs ≡ b ∷ [] → get_or (xs ++ q) 0 0 ≡ b
+first_is [] q b o = cc
+first_is (x ∷ xs) q b o = cc
+
+next_is : (text q : List ℕ) (c at b : ℕ) → drop at text ≡ encode_utf8 c ++ q → take 1 (encode_utf8 c) ≡ b ∷ [] → get_or text at 0 ≡ b
+next_is text q c at b e o =
+    let n : get_or (drop at text) 0 0 ≡ get_or text (at + 0) 0 = get_or-drop at text 0 0 in
+    let m : get_or text (at + 0) 0 ≡ get_or text at 0 = ap (λ z. get_or text z 0) (add-zero at) in
+    sym (n ∙ m) ∙ ap (λ z. get_or z 0 0) e ∙ first_is (encode_utf8 c) q b o
+
 begun : (gs : List PlainTrees) (mode : Mode) (text : List ℕ) (at : ℕ) → Reading gs mode text at → IsShallow gs mode → IsBegunWithin 64 (take at text)
 begun gs mode text at r s = let (rest, t, h, n) = can_end gs mode s in (rest, t, (r rest t).0 h, n)
 
@@ -76,9 +86,10 @@ step_fault gs mode text q c at (faults.Stray m) n e r s (same, f) =
       before = begun gs mode text at r s;
       after = λ (rest, t, h). f rest t ((r (take 1 (encode_utf8 c) ++ rest) t).1 (subst (λ z. Spells z t) (next_spells text q rest c at e) h));
     })
-step_fault gs mode text q c at (faults.Deep m) n e r s (same, ((rest, t, h), f)) =
+step_fault gs mode text q c at (faults.Deep m) n e r s (same, (o, (rest, t, h), f)) =
     subst (λ z. IsDeepAt text z) (sym same) (record {
       within = next_within text q c at n e;
+      opens = next_is text q c at 40 e o;
       before = begun gs mode text at r s;
       after = (rest, t, subst (λ z. Spells z t) (sym (next_spells text q rest c at e)) ((r (take 1 (encode_utf8 c) ++ rest) t).0 h));
       deeper = λ (rs, u, i, k).

@@ -152,8 +152,8 @@ pub end_atom_fault : (gs hs : List PlainTrees) (c : ℕ) (mode : Mode) (x : List
 end_atom_fault gs hs c mode x place at faults.Memory n p s k = tt
 end_atom_fault gs hs c mode x place at (faults.Stray m) n p s (e, k) =
     (e, λ rest t h. k rest t ((ends_atom gs hs c mode x place n p s rest t).0 h))
-end_atom_fault gs hs c mode x place at (faults.Deep m) n p s (e, ((rest, t, h), k)) =
-    (e, ((rest, t, (ends_atom gs hs c mode x place n p s rest t).1 h), λ r u i. k r u ((ends_atom gs hs c mode x place n p s r u).0 i)))
+end_atom_fault gs hs c mode x place at (faults.Deep m) n p s (e, (o, (rest, t, h), k)) =
+    (e, (o, (rest, t, (ends_atom gs hs c mode x place n p s rest t).1 h), λ r u i. k r u ((ends_atom gs hs c mode x place n p s r u).0 i)))
 end_atom_fault gs hs c mode x place at faults.Long n p s k = k
 end_atom_fault gs hs c mode x place at (faults.NotUtf8 m) n p s k = k
 end_atom_fault gs hs c mode x place at (faults.Unclosed m) n p s k = k
@@ -327,6 +327,7 @@ can_end gs (modes.InEscape a) h =
 pub open_deep : (gs : List PlainTrees) → 64 ≤ length gs → IsTooDeep gs (modes.Outside places.Open) (40 ∷ [])
 unfolding closers
 open_deep gs n = (
+  refl,
   (
     41 ∷ closers gs,
     closed gs (list none),

@@ -59,10 +59,11 @@ Steps gs mode front hs next = (rest : List ℕ) (t : PlainTree) → Completes gs
 abbrev pub IsStuck : List PlainTrees → Mode → List ℕ → Type 0
 IsStuck gs mode front = (rest : List ℕ) (t : PlainTree) → ¬ (Completes gs mode (take 1 front ++ rest) t)
 
--- documents go on with the first of the bytes `front`, and each is of a tree that nests deeper than 64
+-- the first of the bytes `front` is an opening bracket, documents go on with it, and each is of a tree that nests deeper than 64
 abbrev pub IsTooDeep : List PlainTrees → Mode → List ℕ → Type 0
 IsTooDeep gs mode front =
-    ((rest : List ℕ) × (t : PlainTree) × Completes gs mode (take 1 front ++ rest) t)
+    (take 1 front ≡ 40 ∷ [])
+    × ((rest : List ℕ) × (t : PlainTree) × Completes gs mode (take 1 front ++ rest) t)
     × ((rest : List ℕ) (t : PlainTree) → Completes gs mode (take 1 front ++ rest) t → 64 < nesting t)
 
 -- a fault at the place `at`, with its cause
