@@ -85,7 +85,7 @@ fn read_text(alloc: Global, text: &str) -> Result<Tree, TreeFault>
         mode = step(alloc, &mut stack, mode, c, at)?;
         at += c.len_utf8() as u64;
     }
-    let tree = finish(mode, &stack, at)?;
+    let tree = finish(mode, stack.as_slice(), at)?;
     Ok(tree)
 }
 
@@ -285,9 +285,9 @@ fn in_escape(text: String, c: char, at: u64) -> Result<Mode, TreeFault>
     }
 }
 
-fn finish(mode: Mode, stack: &Vec<Trees>, at: u64) -> Result<Tree, TreeFault>
-    ensures finishes { Finishes (open_lists stack.now.items) mode at result }
-    ensures shallow { IfOk result (λ tree. IsShallow (open_lists stack.now.items) mode → nesting (plain tree) ≤ 64) }
+fn finish(mode: Mode, stack: &[Trees], at: u64) -> Result<Tree, TreeFault>
+    ensures finishes { Finishes (open_lists stack.now) mode at result }
+    ensures shallow { IfOk result (λ tree. IsShallow (open_lists stack.now) mode → nesting (plain tree) ≤ 64) }
 {
     match mode {
         Mode::Outside(Place::Complete(tree)) => Ok(tree),
@@ -301,8 +301,8 @@ fn finish(mode: Mode, stack: &Vec<Trees>, at: u64) -> Result<Tree, TreeFault>
     }
 }
 
-fn finish_atom(atom: String, stack: &Vec<Trees>, at: u64) -> Result<Tree, TreeFault>
-    ensures finishes { Finishes (open_lists stack.now.items) (Mode.InAtom atom) at result }
+fn finish_atom(atom: String, stack: &[Trees], at: u64) -> Result<Tree, TreeFault>
+    ensures finishes { Finishes (open_lists stack.now) (Mode.InAtom atom) at result }
     ensures shallow { IfOk result (λ tree. nesting (plain tree) ≤ 64) }
 {
     if stack.is_empty() {
