@@ -1,5 +1,5 @@
 -- What each byte makes of the ways to complete a document.
-use Rattle.std.proofs.Common.{◌≡◌, ◌≢◌, ◌↔◌, ◌⊎◌, inl, inr, ℕ, ◌+◌, ◌≤◌, Bool, true, false, ◌&&◌, List, [], ◌∷◌, ◌++◌, length, Option, Some, None, refl, sym, ◌∙◌, ap, subst, arith, append_assoc, append-nil, length-append, if◌then◌else◌, max}
+use Rattle.std.proofs.Common.{◌≡◌, ◌≢◌, ◌↔◌, ◌⊎◌, inl, inr, ℕ, ◌+◌, ◌≤◌, Bool, true, false, ◌&&◌, List, [], ◌∷◌, ◌++◌, length, Some, None, refl, sym, ◌∙◌, ap, subst, arith, append_assoc, append-nil, length-append, if◌then◌else◌, max}
 use Rattle.jac_tree.specs.Grammar.{is_white, skip, is_atom_byte, are_atom_bytes, begins_with_atom_byte, is_plain_byte, escaped, PieceAt, PiecesAt, TreeAt, TreesAt}
 use Rattle.jac_tree.specs.Plain.{PlainTree, PlainTrees, onto, nesting, nesting_all}
 use Rattle.jac_tree.specs.Plain.PlainTree.{atom, text, list}
@@ -53,9 +53,10 @@ between_item [] b bs t w ne =
     let e = skip_other b bs w in
     (λ (u, to, h, k). (u, to, subst (λ z. TreeAt u z to) e h, k), λ (u, to, h, k). (u, to, subst (λ z. TreeAt u z to) (sym e) h, k))
 between_item (g ∷ gs) b bs t w ne =
-    let e = skip_other b bs w in
-    ( λ (ts, to, h, k). item_from g gs ts b (b ∷ bs) bs to t e ne h k
-    , λ (u, rest, h, (ts, to, i, k)). (more u ts, to, (rest, subst (λ z. TreeAt u z rest) (sym e) h, i), k) )
+    let e = skip_other b bs w in (
+      λ (ts, to, h, k). item_from g gs ts b (b ∷ bs) bs to t e ne h k,
+      λ (u, rest, h, (ts, to, i, k)). (more u ts, to, (rest, subst (λ z. TreeAt u z rest) (sym e) h, i), k),
+    )
 
 -- what the first byte of a tree tells of it
 abbrev pub Begins : PlainTree → ℕ → Type 0
@@ -84,9 +85,10 @@ list_from gs (list us) bs to t s (inside, e, h) k =
     (us, to, subst (λ z. TreesAt us z to) q h, k)
 
 pub item_list : (gs : List PlainTrees) (bs : List ℕ) (t : PlainTree) → Item gs (40 ∷ bs) t ↔ Between (none ∷ gs) bs t
-item_list gs bs t =
-    ( λ (u, to, h, k). list_from gs u bs to t (begins u 40 bs to h) h k
-    , λ (us, to, h, k). (list us, to, (bs, refl, h), k) )
+item_list gs bs t = (
+  λ (u, to, h, k). list_from gs u bs to t (begins u 40 bs to h) h k,
+  λ (us, to, h, k). (list us, to, (bs, refl, h), k),
+)
 
 -- a quote
 text_from : (gs : List PlainTrees) (u : PlainTree) (bs to : List ℕ) (t : PlainTree)
@@ -98,9 +100,10 @@ text_from gs (text x) bs to t s (inside, e, h) k =
     (x, to, subst (λ z. PiecesAt x z to) q h, k)
 
 pub item_text : (gs : List PlainTrees) (bs : List ℕ) (t : PlainTree) → Item gs (34 ∷ bs) t ↔ InsideText gs [] bs t
-item_text gs bs t =
-    ( λ (u, to, h, k). text_from gs u bs to t (begins u 34 bs to h) h k
-    , λ (x, to, h, k). (text x, to, (bs, refl, h), k) )
+item_text gs bs t = (
+  λ (u, to, h, k). text_from gs u bs to t (begins u 34 bs to h) h k,
+  λ (x, to, h, k). (text x, to, (bs, refl, h), k),
+)
 
 -- a byte of an atom
 atom_from : (gs : List PlainTrees) (u : PlainTree) (b : ℕ) (bs to : List ℕ) (t : PlainTree)
@@ -118,9 +121,10 @@ both_true true y p q = q
 both_true false y p q = p
 
 pub item_atom : (gs : List PlainTrees) (b : ℕ) (bs : List ℕ) (t : PlainTree) → is_atom_byte b ≡ true → Item gs (b ∷ bs) t ↔ InsideAtom gs (b ∷ []) bs t
-item_atom gs b bs t w =
-    ( λ (u, to, h, k). atom_from gs u b bs to t w (begins u b bs to h) h k
-    , λ (a, to, all, e, f, k). (atom (b ∷ a), to, (λ q. cc, both_true _ _ w all, ap (λ z. b ∷ z) e, f), k) )
+item_atom gs b bs t w = (
+  λ (u, to, h, k). atom_from gs u b bs to t w (begins u b bs to h) h k,
+  λ (a, to, all, e, f, k). (atom (b ∷ a), to, (λ q. cc, both_true _ _ w all, ap (λ z. b ∷ z) e, f), k),
+)
 
 -- any other byte begins no tree
 pub none_from : (u : PlainTree) (b : ℕ) → b ≢ 34 → b ≢ 40 → is_atom_byte b ≡ false → Begins u b → ⊥
@@ -141,9 +145,10 @@ end_from g gs (more u ts) bs to t (rest, h, i) k =
     absurd (none_from u 41 (λ e. omega arith) (λ e. omega arith) refl (begins u 41 bs rest h))
 
 pub between_end : (g : PlainTrees) (gs : List PlainTrees) (bs : List ℕ) (t : PlainTree) → Between (g ∷ gs) (41 ∷ bs) t ↔ After gs (list (onto g none)) bs t
-between_end g gs bs t =
-    ( λ (ts, to, h, k). end_from g gs ts bs to t h k
-    , λ k. (none, bs, refl, k) )
+between_end g gs bs t = (
+  λ (ts, to, h, k). end_from g gs ts bs to t h k,
+  λ k. (none, bs, refl, k),
+)
 
 pub between_no_end : (bs : List ℕ) (t : PlainTree) → Between [] (41 ∷ bs) t → ⊥
 between_no_end bs t (u, to, h, k) = none_from u 41 (λ e. omega arith) (λ e. omega arith) refl (begins u 41 bs to h)
@@ -162,9 +167,10 @@ atom_more_from gs a (x ∷ m) b bs to t w all e f k =
 
 pub atom_more : (gs : List PlainTrees) (a : List ℕ) (b : ℕ) (bs : List ℕ) (t : PlainTree)
     → is_atom_byte b ≡ true → InsideAtom gs a (b ∷ bs) t ↔ InsideAtom gs (a ++ b ∷ []) bs t
-atom_more gs a b bs t w =
-    ( λ (m, to, all, e, f, k). atom_more_from gs a m b bs to t w all e f k
-    , λ (m, to, all, e, f, k). (b ∷ m, to, both_true _ _ w all, ap (λ z. b ∷ z) e, f, subst (λ z. After gs (atom z) to t) (append_assoc a (b ∷ []) m) k) )
+atom_more gs a b bs t w = (
+  λ (m, to, all, e, f, k). atom_more_from gs a m b bs to t w all e f k,
+  λ (m, to, all, e, f, k). (b ∷ m, to, both_true _ _ w all, ap (λ z. b ∷ z) e, f, subst (λ z. After gs (atom z) to t) (append_assoc a (b ∷ []) m) k),
+)
 
 atom_end_from : (gs : List PlainTrees) (a m bytes to : List ℕ) (t : PlainTree)
     → begins_with_atom_byte bytes ≡ false → are_atom_bytes m ≡ true → bytes ≡ m ++ to → After gs (atom (a ++ m)) to t → After gs (atom a) bytes t
@@ -177,9 +183,10 @@ atom_end_from gs a (x ∷ m) bytes to t w all e k =
 -- an atom ends where no byte of an atom follows
 pub atom_end : (gs : List PlainTrees) (a bytes : List ℕ) (t : PlainTree)
     → begins_with_atom_byte bytes ≡ false → InsideAtom gs a bytes t ↔ After gs (atom a) bytes t
-atom_end gs a bytes t w =
-    ( λ (m, to, all, e, f, k). atom_end_from gs a m bytes to t w all e k
-    , λ k. ([], bytes, refl, refl, w, subst (λ z. After gs (atom z) bytes t) (sym (append-nil a)) k) )
+atom_end gs a bytes t w = (
+  λ (m, to, all, e, f, k). atom_end_from gs a m bytes to t w all e k,
+  λ k. ([], bytes, refl, refl, w, subst (λ z. After gs (atom z) bytes t) (sym (append-nil a)) k),
+)
 
 -- inside a text
 pub piece_quote : (z : ℕ) (bs rest : List ℕ) → PieceAt z (34 ∷ bs) rest → ⊥
@@ -196,9 +203,10 @@ text_end_from gs x [] bs to t h k =
 text_end_from gs x (z ∷ y) bs to t (rest, p, h) k = absurd (piece_quote z bs rest p)
 
 pub text_end : (gs : List PlainTrees) (x bs : List ℕ) (t : PlainTree) → InsideText gs x (34 ∷ bs) t ↔ After gs (text x) bs t
-text_end gs x bs t =
-    ( λ (y, to, h, k). text_end_from gs x y bs to t h k
-    , λ k. ([], bs, refl, subst (λ z. After gs (text z) bs t) (sym (append-nil x)) k) )
+text_end gs x bs t = (
+  λ (y, to, h, k). text_end_from gs x y bs to t h k,
+  λ k. ([], bs, refl, subst (λ z. After gs (text z) bs t) (sym (append-nil x)) k),
+)
 
 joined : (gs : List PlainTrees) (x y : List ℕ) (b : ℕ) (to : List ℕ) (t : PlainTree)
     → After gs (text (x ++ b ∷ y)) to t ↔ After gs (text ((x ++ b ∷ []) ++ y)) to t
@@ -223,9 +231,10 @@ text_plain_from gs x (z ∷ y) b bs to t w (rest, p, h) k =
 
 pub text_plain : (gs : List PlainTrees) (x : List ℕ) (b : ℕ) (bs : List ℕ) (t : PlainTree)
     → is_plain_byte b ≡ true → InsideText gs x (b ∷ bs) t ↔ InsideText gs (x ++ b ∷ []) bs t
-text_plain gs x b bs t w =
-    ( λ (y, to, h, k). text_plain_from gs x y b bs to t w h k
-    , λ (y, to, h, k). (b ∷ y, to, (bs, inl (w, refl), h), (joined gs x y b to t).1 k) )
+text_plain gs x b bs t w = (
+  λ (y, to, h, k). text_plain_from gs x y b bs to t w h k,
+  λ (y, to, h, k). (b ∷ y, to, (bs, inl (w, refl), h), (joined gs x y b to t).1 k),
+)
 
 abbrev pub are_plain_bytes : List ℕ → Bool
 are_plain_bytes [] = true
@@ -239,9 +248,10 @@ text_plain_all gs x [] bs t w =
 text_plain_all gs x (b ∷ p) bs t w =
     let one = text_plain gs x b (p ++ bs) t (both _ _ w).0 in
     let rest = text_plain_all gs (x ++ b ∷ []) p bs t (both _ _ w).1 in
-    let e = append_assoc x (b ∷ []) p in
-    ( λ h. subst (λ z. InsideText gs z bs t) e (rest.0 (one.0 h))
-    , λ h. one.1 (rest.1 (subst (λ z. InsideText gs z bs t) (sym e) h)) )
+    let e = append_assoc x (b ∷ []) p in (
+      λ h. subst (λ z. InsideText gs z bs t) e (rest.0 (one.0 h)),
+      λ h. one.1 (rest.1 (subst (λ z. InsideText gs z bs t) (sym e) h)),
+    )
 
 -- an escape
 escape_piece : (z e : ℕ) (bs rest : List ℕ) → PieceAt z (92 ∷ e ∷ bs) rest → (escaped e ≡ Some z) × (rest ≡ bs)
@@ -262,9 +272,10 @@ escape_from gs x (z ∷ y) e b bs to t w (rest, p, h) k =
 
 pub text_escape : (gs : List PlainTrees) (x : List ℕ) (e b : ℕ) (bs : List ℕ) (t : PlainTree)
     → escaped e ≡ Some b → InsideText gs x (92 ∷ e ∷ bs) t ↔ InsideText gs (x ++ b ∷ []) bs t
-text_escape gs x e b bs t w =
-    ( λ (y, to, h, k). escape_from gs x y e b bs to t w h k
-    , λ (y, to, h, k). (b ∷ y, to, (bs, inr (e, w, refl), h), (joined gs x y b to t).1 k) )
+text_escape gs x e b bs t w = (
+  λ (y, to, h, k). escape_from gs x y e b bs to t w h k,
+  λ (y, to, h, k). (b ∷ y, to, (bs, inr (e, w, refl), h), (joined gs x y b to t).1 k),
+)
 
 no_escape_from : (y : List ℕ) (e : ℕ) (bs to : List ℕ) → escaped e ≡ None → PiecesAt y (92 ∷ e ∷ bs) to → ⊥
 no_escape_from [] e bs to w h = apart 34 92 refl (same_head _ _ _ _ (sym h)) (inl refl)

@@ -1,15 +1,15 @@
 -- What a reader that stands at a place of a text tells of the text.
-use Rattle.std.proofs.Common.{◌≡◌, ◌↔◌, ℕ, ◌+◌, ◌<◌, ◌≤◌, List, [], ◌∷◌, ◌++◌, length, take, drop, refl, sym, ◌∙◌, ap, subst, arith, append_assoc, append-nil, length-drop, length-append, encode_utf8}
+use Rattle.std.proofs.Common.{◌≡◌, ◌↔◌, ℕ, ◌+◌, ◌<◌, ◌≤◌, List, [], ◌∷◌, ◌++◌, length, take, drop, get_or, add-zero, refl, sym, ◌∙◌, ap, subst, arith, append_assoc, append-nil, length-drop, length-append, encode_utf8}
 use Rattle.std.proofs.Math.Seq.{take-add, take-append_seam, drop-append_seam}
-use Rattle.std.proofs.lemmas.List.{take-append-le, take-append-drop, drop-drop, nil_from_length}
+use Rattle.std.proofs.lemmas.List.{take-append-le, take-append-drop, drop-drop, get_or-drop}
 use Rattle.std.proofs.lemmas.Str.{length-encode, len_utf8_bounds}
 use Rattle.jac_tree.specs.declared.fault.TreeFault.{TreeFault}
 use Rattle.jac_tree.specs.declared.fault.TreeFault.TheVariants as faults
 use Rattle.jac_tree.specs.declared.read.Mode.{Mode}
-use Rattle.jac_tree.specs.Grammar.{Spells, IsBegun, IsBegunWithin, IsStrayAt, IsDeepAt, IsUnclosedAt}
+use Rattle.jac_tree.specs.Grammar.{Spells, IsBegunWithin, IsStrayAt, IsDeepAt}
 use Rattle.jac_tree.specs.Plain.{PlainTree, PlainTrees, nesting}
-use Rattle.jac_tree.specs.Reading.{Completes, Steps, IsStuck, IsTooDeep, FaultsFor, HasFault, IsShallow}
-use Rattle.jac_tree.proofs.States.{chain, can_end}
+use Rattle.jac_tree.specs.Reading.{Completes, Steps, FaultsFor, HasFault, IsShallow}
+use Rattle.jac_tree.proofs.States.{can_end}
 
 -- the reader has read the first `at` bytes of the text
 abbrev pub Reading : List PlainTrees → Mode → List ℕ → ℕ → Type 0
@@ -30,9 +30,10 @@ pub reading_step : (gs hs : List PlainTrees) (mode next : Mode) (text p q : List
 reading_step gs hs mode next text p q at e r s rest t =
     let one = r (p ++ rest) t in
     let two = s rest t in
-    let same : take at text ++ (p ++ rest) ≡ take (at + length p) text ++ rest = sym (append_assoc (take at text) p rest) ∙ ap (λ z. z ++ rest) (sym (upto text p q at e)) in
-    ( λ h. subst (λ z. Spells z t) same (one.0 (two.1 h))
-    , λ h. two.0 (one.1 (subst (λ z. Spells z t) (sym same) h)) )
+    let same : take at text ++ (p ++ rest) ≡ take (at + length p) text ++ rest = sym (append_assoc (take at text) p rest) ∙ ap (λ z. z ++ rest) (sym (upto text p q at e)) in (
+      λ h. subst (λ z. Spells z t) same (one.0 (two.1 h)),
+      λ h. two.0 (one.1 (subst (λ z. Spells z t) (sym same) h)),
+    )
 
 -- the same, where the length is a number of its own
 pub reading_step_by : (gs hs : List PlainTrees) (mode next : Mode) (text p q : List ℕ) (at n : ℕ) → n ≡ length p → drop at text ≡ p ++ q
@@ -56,6 +57,16 @@ next_spells : (text q rest : List ℕ) (c at : ℕ) → drop at text ≡ encode_
     → take (at + 1) text ++ rest ≡ take at text ++ (take 1 (encode_utf8 c) ++ rest)
 next_spells text q rest c at e = ap (λ z. z ++ rest) (next_byte text q c at e) ∙ append_assoc (take at text) (take 1 (encode_utf8 c)) rest
 
+first_is : (xs q : List ℕ) (b : ℕ) → take 1 xs ≡ b ∷ [] → get_or (xs ++ q) 0 0 ≡ b
+first_is [] q b o = cc
+first_is (x ∷ xs) q b o = cc
+
+next_is : (text q : List ℕ) (c at b : ℕ) → drop at text ≡ encode_utf8 c ++ q → take 1 (encode_utf8 c) ≡ b ∷ [] → get_or text at 0 ≡ b
+next_is text q c at b e o =
+    let n : get_or (drop at text) 0 0 ≡ get_or text (at + 0) 0 = get_or-drop at text 0 0 in
+    let m : get_or text (at + 0) 0 ≡ get_or text at 0 = ap (λ z. get_or text z 0) (add-zero at) in
+    sym (n ∙ m) ∙ ap (λ z. get_or z 0 0) e ∙ first_is (encode_utf8 c) q b o
+
 begun : (gs : List PlainTrees) (mode : Mode) (text : List ℕ) (at : ℕ) → Reading gs mode text at → IsShallow gs mode → IsBegunWithin 64 (take at text)
 begun gs mode text at r s = let (rest, t, h, n) = can_end gs mode s in (rest, t, (r rest t).0 h, n)
 
@@ -75,14 +86,15 @@ step_fault gs mode text q c at (faults.Stray m) n e r s (same, f) =
       before = begun gs mode text at r s;
       after = λ (rest, t, h). f rest t ((r (take 1 (encode_utf8 c) ++ rest) t).1 (subst (λ z. Spells z t) (next_spells text q rest c at e) h));
     })
-step_fault gs mode text q c at (faults.Deep m) n e r s (same, ((rest, t, h), f)) =
+step_fault gs mode text q c at (faults.Deep m) n e r s (same, (o, (rest, t, h), f)) =
     subst (λ z. IsDeepAt text z) (sym same) (record {
       within = next_within text q c at n e;
+      opens = next_is text q c at 40 e o;
       before = begun gs mode text at r s;
       after = (rest, t, subst (λ z. Spells z t) (sym (next_spells text q rest c at e)) ((r (take 1 (encode_utf8 c) ++ rest) t).0 h));
       deeper = λ (rs, u, i, k).
-        let d : 64 < nesting u = f rs u ((r (take 1 (encode_utf8 c) ++ rs) u).1 (subst (λ z. Spells z u) (next_spells text q rs c at e) i)) in
-        omega arith;
+          let d : 64 < nesting u = f rs u ((r (take 1 (encode_utf8 c) ++ rs) u).1 (subst (λ z. Spells z u) (next_spells text q rs c at e) i)) in
+          omega arith;
     })
 step_fault gs mode text q c at faults.Long n e r s f = f
 step_fault gs mode text q c at (faults.NotUtf8 m) n e r s f = f

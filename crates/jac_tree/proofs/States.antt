@@ -1,5 +1,5 @@
 -- What each character makes of a reader.
-use Rattle.std.proofs.Common.{◌≡◌, ◌≢◌, ◌↔◌, ◌⊎◌, inl, inr, ℕ, ◌+◌, ◌<◌, ◌≤◌, ◌==◌, Bool, true, false, List, [], ◌∷◌, ◌++◌, length, take, Option, Some, None, Result, Ok, Err, refl, sym, ◌∙◌, ap, subst, arith, append-nil, length-append, string_bytes, encode_utf8, max}
+use Rattle.std.proofs.Common.{◌≡◌, ◌≢◌, ◌↔◌, inl, inr, ℕ, ◌+◌, ◌<◌, ◌≤◌, true, false, List, [], ◌∷◌, ◌++◌, length, take, Some, None, refl, sym, ◌∙◌, ap, subst, arith, length-append, string_bytes, encode_utf8, max}
 use Rattle.std.proofs.lemmas.Str.{encode_ascii}
 use Rattle.jac_tree.specs.declared.read.Mode.{Mode}
 use Rattle.jac_tree.specs.declared.read.Mode.TheVariants as modes
@@ -14,9 +14,9 @@ use Rattle.jac_tree.specs.Mirror.{plain, plain_all}
 use Rattle.jac_tree.specs.Plain.{PlainTree, PlainTrees, onto, nesting, nesting_all}
 use Rattle.jac_tree.specs.Plain.PlainTree.{atom, text, list}
 use Rattle.jac_tree.specs.Plain.PlainTrees.{none, more}
-use Rattle.jac_tree.specs.Reading.{open_lists, After, Between, InsideAtom, InsideText, Completes, CompletesPlace, Steps, IsStuck, IsTooDeep, FaultsFor, Settles, AreShallow, IsShallowPlace, IsShallow}
-use Rattle.jac_tree.proofs.Bytes.{white_small, atom_small, escaped_small, First, first_of, first_white, first_atom, first_escaped, first_other, plain_char}
-use Rattle.jac_tree.proofs.Moves.{Item, between_white, between_item, item_list, item_text, item_atom, item_none, between_end, between_no_end, atom_more, atom_end, text_end, text_plain_all, text_escape, text_no_escape, complete_white, complete_other, after_deep, nesting-onto, open_lists-push, same_head, apart}
+use Rattle.jac_tree.specs.Reading.{open_lists, After, Between, InsideAtom, InsideText, Completes, CompletesPlace, Steps, IsStuck, IsTooDeep, FaultsFor, Settles, AreShallow, IsShallow}
+use Rattle.jac_tree.proofs.Bytes.{white_small, atom_small, escaped_small, first_of, first_white, first_atom, first_escaped, first_other, plain_char}
+use Rattle.jac_tree.proofs.Moves.{between_white, between_item, item_list, item_text, item_atom, item_none, between_end, between_no_end, atom_more, atom_end, text_end, text_plain_all, text_escape, text_no_escape, complete_white, complete_other, after_deep, nesting-onto, open_lists-push, same_head, apart}
 
 pub chain : {A B C : Type 0} → A ↔ B → B ↔ C → A ↔ C
 chain p q = (λ a. q.0 (p.0 a), λ c. p.1 (q.1 c))
@@ -101,7 +101,7 @@ atom_step gs c x w n a p rest t =
     let e = encode_ascii c (atom_small c a) in
     let h = chain (between_item gs c rest t w n) (item_atom gs c rest t a) in
     subst (λ z. Between gs (z ++ rest) t ↔ InsideAtom gs x rest t) (sym e)
-        (subst (λ z. Between gs (c ∷ rest) t ↔ InsideAtom gs z rest t) (sym (p ∙ e)) h)
+    (subst (λ z. Between gs (c ∷ rest) t ↔ InsideAtom gs z rest t) (sym (p ∙ e)) h)
 
 pub begin_stuck : (gs : List PlainTrees) (c : ℕ) → is_white c ≡ false → c ≢ 34 → c ≢ 40 → c ≢ 41 → is_atom_byte c ≡ false
     → IsStuck gs (modes.Outside places.Open) (encode_utf8 c)
@@ -110,7 +110,7 @@ begin_stuck gs c w n m k a rest t h =
     let b = f.byte in
     let i : Between gs (b ∷ rest) t = subst (λ z. Between gs (z ++ rest) t) f.front h in
     item_none gs b rest t (first_other c 34 f (omega arith) n) (first_other c 40 f (omega arith) m) (first_atom c f a)
-        ((between_item gs b rest t (first_white c f w) (first_other c 41 f (omega arith) k)).0 i)
+    ((between_item gs b rest t (first_white c f w) (first_other c 41 f (omega arith) k)).0 i)
 
 -- inside an atom
 pub in_atom_step : (gs : List PlainTrees) (c : ℕ) (x y : List ℕ) → is_atom_byte c ≡ true → y ≡ x ++ encode_utf8 c
@@ -118,7 +118,7 @@ pub in_atom_step : (gs : List PlainTrees) (c : ℕ) (x y : List ℕ) → is_atom
 in_atom_step gs c x y a p rest t =
     let e = encode_ascii c (atom_small c a) in
     subst (λ z. InsideAtom gs x (z ++ rest) t ↔ InsideAtom gs y rest t) (sym e)
-        (subst (λ z. InsideAtom gs x (c ∷ rest) t ↔ InsideAtom gs z rest t) (sym (p ∙ ap (λ z. x ++ z) e)) (atom_more gs x c rest t a))
+    (subst (λ z. InsideAtom gs x (c ∷ rest) t ↔ InsideAtom gs z rest t) (sym (p ∙ ap (λ z. x ++ z) e)) (atom_more gs x c rest t a))
 
 begins_first : (xs rest : List ℕ) (b : ℕ) → take 1 xs ≡ b ∷ [] → begins_with_atom_byte (xs ++ rest) ≡ is_atom_byte b
 begins_first [] rest b e = cc
@@ -152,8 +152,8 @@ pub end_atom_fault : (gs hs : List PlainTrees) (c : ℕ) (mode : Mode) (x : List
 end_atom_fault gs hs c mode x place at faults.Memory n p s k = tt
 end_atom_fault gs hs c mode x place at (faults.Stray m) n p s (e, k) =
     (e, λ rest t h. k rest t ((ends_atom gs hs c mode x place n p s rest t).0 h))
-end_atom_fault gs hs c mode x place at (faults.Deep m) n p s (e, ((rest, t, h), k)) =
-    (e, ((rest, t, (ends_atom gs hs c mode x place n p s rest t).1 h), λ r u i. k r u ((ends_atom gs hs c mode x place n p s r u).0 i)))
+end_atom_fault gs hs c mode x place at (faults.Deep m) n p s (e, (o, (rest, t, h), k)) =
+    (e, (o, (rest, t, (ends_atom gs hs c mode x place n p s rest t).1 h), λ r u i. k r u ((ends_atom gs hs c mode x place n p s r u).0 i)))
 end_atom_fault gs hs c mode x place at faults.Long n p s k = k
 end_atom_fault gs hs c mode x place at (faults.NotUtf8 m) n p s k = k
 end_atom_fault gs hs c mode x place at (faults.Unclosed m) n p s k = k
@@ -164,7 +164,7 @@ pub end_text_step : (gs hs : List PlainTrees) (c : ℕ) (x y : List ℕ) (place 
 end_text_step gs hs c x y place p q s rest t =
     let e = encode_ascii c (omega arith) ∙ ap (λ z. z ∷ []) p in
     subst (λ z. InsideText gs y (z ++ rest) t ↔ CompletesPlace hs place rest t) (sym e)
-        (subst (λ z. InsideText gs z (34 ∷ rest) t ↔ CompletesPlace hs place rest t) q (chain (text_end gs x rest t) (s rest t)))
+    (subst (λ z. InsideText gs z (34 ∷ rest) t ↔ CompletesPlace hs place rest t) q (chain (text_end gs x rest t) (s rest t)))
 
 pub text_step : (gs : List PlainTrees) (c : ℕ) (x y : List ℕ) → c ≢ 34 → c ≢ 92 → y ≡ x ++ encode_utf8 c
     → (rest : List ℕ) (t : PlainTree) → InsideText gs x (encode_utf8 c ++ rest) t ↔ InsideText gs y rest t
@@ -183,7 +183,7 @@ pub escape_step : (gs : List PlainTrees) (c b : ℕ) (x y : List ℕ) → escape
 escape_step gs c b x y w p rest t =
     let small = escaped_small c b w in
     subst (λ z. InsideText gs x (92 ∷ (z ++ rest)) t ↔ InsideText gs y rest t) (sym (encode_ascii c small.0))
-        (subst (λ z. InsideText gs x (92 ∷ c ∷ rest) t ↔ InsideText gs z rest t) (sym (p ∙ ap (λ z. x ++ z) (encode_ascii b small.1))) (text_escape gs x c b rest t w))
+    (subst (λ z. InsideText gs x (92 ∷ c ∷ rest) t ↔ InsideText gs z rest t) (sym (p ∙ ap (λ z. x ++ z) (encode_ascii b small.1))) (text_escape gs x c b rest t w))
 
 pub escape_stuck : (gs : List PlainTrees) (c : ℕ) (x : List ℕ) → escaped c ≡ None → (rest : List ℕ) (t : PlainTree) → InsideText gs x (92 ∷ (take 1 (encode_utf8 c) ++ rest)) t → ⊥
 escape_stuck gs c x w rest t h =
@@ -290,38 +290,51 @@ open_can_end : (gs : List PlainTrees) → AreShallow gs → CanEnd gs (modes.Out
 open_can_end [] h = (97 ∷ [], atom (97 ∷ []), (atom (97 ∷ []), [], ((λ e. cc), refl, refl, refl), (refl, refl)), omega arith)
 open_can_end (g ∷ gs) (m, h) =
     let e : nesting_all (onto g none) ≡ max (nesting_all g) (nesting_all none) = nesting-onto g none in
-    let k : nesting (list (onto g none)) + length gs ≤ 64 = omega arith in
-    ( 41 ∷ closers gs, closed gs (list (onto g none))
-    , (none, closers gs, refl, after_closers gs (list (onto g none)))
-    , closed_shallow gs (list (onto g none)) h k )
+    let k : nesting (list (onto g none)) + length gs ≤ 64 = omega arith in (
+      41 ∷ closers gs,
+      closed gs (list (onto g none)),
+      (none, closers gs, refl, after_closers gs (list (onto g none))),
+      closed_shallow gs (list (onto g none)) h k,
+    )
 
 pub can_end : (gs : List PlainTrees) (mode : Mode) → IsShallow gs mode → CanEnd gs mode
 can_end gs (modes.Outside places.Open) (h, k) = open_can_end gs h
 can_end gs (modes.Outside (places.Complete u)) (h, k) = ([], plain u, (refl, refl), k)
 can_end gs (modes.InAtom a) h =
-    let n = shallow_few gs h in
-    ( closers gs, closed gs (atom (string_bytes a))
-    , (atom_end gs (string_bytes a) (closers gs) _ (closers_end gs)).1 (after_closers gs (atom (string_bytes a)))
-    , closed_shallow gs (atom (string_bytes a)) h (omega arith) )
+    let n = shallow_few gs h in (
+      closers gs,
+      closed gs (atom (string_bytes a)),
+      (atom_end gs (string_bytes a) (closers gs) _ (closers_end gs)).1 (after_closers gs (atom (string_bytes a))),
+      closed_shallow gs (atom (string_bytes a)) h (omega arith),
+    )
 can_end gs (modes.InText a) h =
-    let n = shallow_few gs h in
-    ( 34 ∷ closers gs, closed gs (text (string_bytes a))
-    , (text_end gs (string_bytes a) (closers gs) _).1 (after_closers gs (text (string_bytes a)))
-    , closed_shallow gs (text (string_bytes a)) h (omega arith) )
+    let n = shallow_few gs h in (
+      34 ∷ closers gs,
+      closed gs (text (string_bytes a)),
+      (text_end gs (string_bytes a) (closers gs) _).1 (after_closers gs (text (string_bytes a))),
+      closed_shallow gs (text (string_bytes a)) h (omega arith),
+    )
 can_end gs (modes.InEscape a) h =
     let n = shallow_few gs h in
-    let x = string_bytes a ++ 10 ∷ [] in
-    ( 110 ∷ 34 ∷ closers gs, closed gs (text x)
-    , (text_escape gs (string_bytes a) 110 10 (34 ∷ closers gs) _ refl).1 ((text_end gs x (closers gs) _).1 (after_closers gs (text x)))
-    , closed_shallow gs (text x) h (omega arith) )
+    let x = string_bytes a ++ 10 ∷ [] in (
+      110 ∷ 34 ∷ closers gs,
+      closed gs (text x),
+      (text_escape gs (string_bytes a) 110 10 (34 ∷ closers gs) _ refl).1 ((text_end gs x (closers gs) _).1 (after_closers gs (text x))),
+      closed_shallow gs (text x) h (omega arith),
+    )
 
 -- the bracket that opens a list inside 64 lists
 pub open_deep : (gs : List PlainTrees) → 64 ≤ length gs → IsTooDeep gs (modes.Outside places.Open) (40 ∷ [])
 unfolding closers
-open_deep gs n =
-    ( ( 41 ∷ closers gs, closed gs (list none)
-      , (opens gs (41 ∷ closers gs) _).1 (none, closers gs, refl, after_closers gs (list none)) )
-    , λ rest t h. deeper gs rest t n ((opens gs rest t).0 h) )
+open_deep gs n = (
+  refl,
+  (
+    41 ∷ closers gs,
+    closed gs (list none),
+    (opens gs (41 ∷ closers gs) _).1 (none, closers gs, refl, after_closers gs (list none)),
+  ),
+  λ rest t h. deeper gs rest t n ((opens gs rest t).0 h),
+)
   where
     deeper : (gs : List PlainTrees) (rest : List ℕ) (t : PlainTree) → 64 ≤ length gs → Between (none ∷ gs) rest t → 64 < nesting t
     deeper gs rest t n (ts, to, h, k) =

@@ -1,5 +1,5 @@
 -- Which bytes spell which tree.
-use Rattle.std.specs.Prelude.{◌≡◌, ◌≢◌, ◌+◌, ◌<◌, ◌≤◌, ℕ, Bool, true, false, not, ◌&&◌, ◌||◌, ◌==◌, ◌⊎◌, List, [], ◌∷◌, ◌++◌, length, take, Option, Some, None, if◌then◌else◌, IsUtf8}
+use Rattle.std.specs.Prelude.{◌≡◌, ◌≢◌, ◌+◌, ◌<◌, ◌≤◌, ℕ, Bool, true, false, not, ◌&&◌, ◌||◌, ◌==◌, ◌⊎◌, List, [], ◌∷◌, ◌++◌, length, take, slice_index, Option, Some, None, if◌then◌else◌, IsUtf8}
 use Rattle.std.specs.Char.{is_ascii_alphanumeric}
 use Rattle.jac_tree.specs.Plain.{PlainTree, PlainTrees, nesting}
 
@@ -79,9 +79,10 @@ pub record IsStrayAt (bytes : List ℕ) (at : ℕ) : Type 0 where
   pub before : IsBegunWithin 64 (take at bytes)
   pub after : ¬ (IsBegun (take (at + 1) bytes))
 
--- the byte at this place is the first with which only documents of trees that nest deeper than 64 go on: it opens a list inside 64 lists
+-- the byte at this place opens a list inside 64 lists: it is the first with which only documents of trees that nest deeper than 64 go on
 pub record IsDeepAt (bytes : List ℕ) (at : ℕ) : Type 0 where
   pub within : at < length bytes
+  pub opens : slice_index bytes at ≡ 40
   pub before : IsBegunWithin 64 (take at bytes)
   pub after : IsBegun (take (at + 1) bytes)
   pub deeper : ¬ (IsBegunWithin 64 (take (at + 1) bytes))

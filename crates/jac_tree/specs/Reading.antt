@@ -1,6 +1,6 @@
 -- What a reader that has read some bytes still takes: the bytes that complete the document of a tree.
 -- The open lists are named from the innermost one out, each with its trees so far, turned round.
-use Rattle.std.specs.Prelude.{◌≡◌, ℕ, ◌+◌, ◌<◌, ◌≤◌, ◌↔◌, true, false, List, [], ◌∷◌, ◌++◌, length, take, Option, Some, None, Result, Ok, Err, String, string_bytes}
+use Rattle.std.specs.Prelude.{◌≡◌, ℕ, ◌+◌, ◌<◌, ◌≤◌, ◌↔◌, true, false, List, [], ◌∷◌, ◌++◌, length, take, Result, Ok, Err, string_bytes}
 use Rattle.jac_tree.specs.declared.fault.TreeFault.{TreeFault}
 use Rattle.jac_tree.specs.declared.fault.TreeFault.TheVariants as faults
 use Rattle.jac_tree.specs.declared.read.Mode.{Mode}
@@ -59,10 +59,11 @@ Steps gs mode front hs next = (rest : List ℕ) (t : PlainTree) → Completes gs
 abbrev pub IsStuck : List PlainTrees → Mode → List ℕ → Type 0
 IsStuck gs mode front = (rest : List ℕ) (t : PlainTree) → ¬ (Completes gs mode (take 1 front ++ rest) t)
 
--- documents go on with the first of the bytes `front`, and each is of a tree that nests deeper than 64
+-- the first of the bytes `front` is an opening bracket, documents go on with it, and each is of a tree that nests deeper than 64
 abbrev pub IsTooDeep : List PlainTrees → Mode → List ℕ → Type 0
 IsTooDeep gs mode front =
-    ((rest : List ℕ) × (t : PlainTree) × Completes gs mode (take 1 front ++ rest) t)
+    (take 1 front ≡ 40 ∷ [])
+    × ((rest : List ℕ) × (t : PlainTree) × Completes gs mode (take 1 front ++ rest) t)
     × ((rest : List ℕ) (t : PlainTree) → Completes gs mode (take 1 front ++ rest) t → 64 < nesting t)
 
 -- a fault at the place `at`, with its cause

@@ -11,11 +11,11 @@ use crate::{Tree, TreeFault, Trees};
 use jac_value::{Memory, Txt};
 use std::alloc::Global;
 
-/// The most bytes that are read.
-pub const LENGTH_LIMIT: usize = 1_048_576;
+// The most bytes that are read.
+const LENGTH_LIMIT: usize = 1_048_576;
 
-/// The most lists that are open at once.
-pub const NESTING_LIMIT: usize = 64;
+// The most lists that are open at once.
+const NESTING_LIMIT: usize = 64;
 
 // Where a reader stands outside of atoms and texts.
 #[derive(Drop)]
@@ -72,8 +72,7 @@ pub fn read_tree(alloc: Global, bytes: &[u8]) -> Result<Tree, TreeFault>
 /// A law, with nothing to run: bytes spell at most one tree.
 pub fn spells_one_tree()
     ensures { (bytes : List ℕ) (t : PlainTree) (u : PlainTree) → Spells bytes t → Spells bytes u → t ≡ u }
-{
-}
+{}
 
 fn read_text(alloc: Global, text: &str) -> Result<Tree, TreeFault>
     requires { length text.now ≤ 1048576 }
@@ -86,12 +85,18 @@ fn read_text(alloc: Global, text: &str) -> Result<Tree, TreeFault>
         mode = step(alloc, &mut stack, mode, c, at)?;
         at += c.len_utf8() as u64;
     }
-    let tree = finish(mode, &stack, at)?;
+    let tree = finish(mode, stack.as_slice(), at)?;
     Ok(tree)
 }
 
 // The character c stands at the byte `at`. After a fault the reader is done with.
-fn step(alloc: Global, stack: &mut Vec<Trees>, mode: Mode, c: char, at: u64) -> Result<Mode, TreeFault>
+fn step(
+    alloc: Global,
+    stack: &mut Vec<Trees>,
+    mode: Mode,
+    c: char,
+    at: u64,
+) -> Result<Mode, TreeFault>
     ensures steps { Goes (open_lists stack.old.items) mode (encode_utf8 c) at (open_lists stack.new.items) result }
     ensures shallow { IfOk result (λ next. IsShallow (open_lists stack.old.items) mode → IsShallow (open_lists stack.new.items) next) }
 {
@@ -115,7 +120,13 @@ fn step(alloc: Global, stack: &mut Vec<Trees>, mode: Mode, c: char, at: u64) -> 
     }
 }
 
-fn outside(alloc: Global, stack: &mut Vec<Trees>, place: Place, c: char, at: u64) -> Result<Mode, TreeFault>
+fn outside(
+    alloc: Global,
+    stack: &mut Vec<Trees>,
+    place: Place,
+    c: char,
+    at: u64,
+) -> Result<Mode, TreeFault>
     ensures steps { Goes (open_lists stack.old.items) (Mode.Outside place) (encode_utf8 c) at (open_lists stack.new.items) result }
     ensures shallow { IfOk result (λ next. IsShallow (open_lists stack.old.items) (Mode.Outside place) → IsShallow (open_lists stack.new.items) next) }
 {
@@ -224,7 +235,13 @@ fn settle(alloc: Global, stack: &mut Vec<Trees>, tree: Tree) -> Result<Place, Me
     }
 }
 
-fn in_atom(alloc: Global, stack: &mut Vec<Trees>, atom: String, c: char, at: u64) -> Result<Mode, TreeFault>
+fn in_atom(
+    alloc: Global,
+    stack: &mut Vec<Trees>,
+    atom: String,
+    c: char,
+    at: u64,
+) -> Result<Mode, TreeFault>
     ensures steps { Goes (open_lists stack.old.items) (Mode.InAtom atom) (encode_utf8 c) at (open_lists stack.new.items) result }
     ensures shallow { IfOk result (λ next. IsShallow (open_lists stack.old.items) (Mode.InAtom atom) → IsShallow (open_lists stack.new.items) next) }
 {
@@ -268,9 +285,9 @@ fn in_escape(text: String, c: char, at: u64) -> Result<Mode, TreeFault>
     }
 }
 
-fn finish(mode: Mode, stack: &Vec<Trees>, at: u64) -> Result<Tree, TreeFault>
-    ensures finishes { Finishes (open_lists stack.now.items) mode at result }
-    ensures shallow { IfOk result (λ tree. IsShallow (open_lists stack.now.items) mode → nesting (plain tree) ≤ 64) }
+fn finish(mode: Mode, stack: &[Trees], at: u64) -> Result<Tree, TreeFault>
+    ensures finishes { Finishes (open_lists stack.now) mode at result }
+    ensures shallow { IfOk result (λ tree. IsShallow (open_lists stack.now) mode → nesting (plain tree) ≤ 64) }
 {
     match mode {
         Mode::Outside(Place::Complete(tree)) => Ok(tree),
@@ -284,8 +301,8 @@ fn finish(mode: Mode, stack: &Vec<Trees>, at: u64) -> Result<Tree, TreeFault>
     }
 }
 
-fn finish_atom(atom: String, stack: &Vec<Trees>, at: u64) -> Result<Tree, TreeFault>
-    ensures finishes { Finishes (open_lists stack.now.items) (Mode.InAtom atom) at result }
+fn finish_atom(atom: String, stack: &[Trees], at: u64) -> Result<Tree, TreeFault>
+    ensures finishes { Finishes (open_lists stack.now) (Mode.InAtom atom) at result }
     ensures shallow { IfOk result (λ tree. nesting (plain tree) ≤ 64) }
 {
     if stack.is_empty() {

@@ -58,16 +58,29 @@ fn reads_escapes(rt: HostRuntime) -> Result<(), Fail> {
 
 #[test]
 fn names_the_places_of_faults(rt: HostRuntime) {
-    assert_eq!(rt; fault_of(rt.alloc(), b"(app \"x"), Some(TreeFault::Unclosed(7)));
+    assert_eq!(rt;
+        fault_of(rt.alloc(), b"(app \"x"),
+        Some(TreeFault::Unclosed(7))
+    );
     assert_eq!(rt; fault_of(rt.alloc(), b"(app))"), Some(TreeFault::Stray(5)));
     assert_eq!(rt; fault_of(rt.alloc(), b"a\xff"), Some(TreeFault::NotUtf8(1)));
     assert_eq!(rt; fault_of(rt.alloc(), b""), Some(TreeFault::Unclosed(0)));
 }
 
 #[test]
+fn says_what_is_at_fault(rt: HostRuntime) -> Result<(), Fail> {
+    let text = format!(in rt.alloc(); "{}, {}", TreeFault::NotUtf8(1), TreeFault::Stray(5))?;
+    assert_eq!(rt; text.as_str(), "not UTF-8 at 1, stray at 5");
+    Ok(())
+}
+
+#[test]
 fn nests_to_64(rt: HostRuntime) -> Result<(), Fail> {
     let deep = repeated(rt.alloc(), b"(", 65)?;
-    assert_eq!(rt; fault_of(rt.alloc(), deep.as_slice()), Some(TreeFault::Deep(64)));
+    assert_eq!(rt;
+        fault_of(rt.alloc(), deep.as_slice()),
+        Some(TreeFault::Deep(64))
+    );
     let mut fits = repeated(rt.alloc(), b"(", 64)?;
     let ends = repeated(rt.alloc(), b")", 64)?;
     fits.extend_from_slice(ends.as_slice())?;
@@ -81,7 +94,10 @@ fn stops_at_its_length(rt: HostRuntime) -> Result<(), Fail> {
     bytes.push(b'a')?;
     assert_eq!(rt; fault_of(rt.alloc(), bytes.as_slice()), None);
     bytes.push(b' ')?;
-    assert_eq!(rt; fault_of(rt.alloc(), bytes.as_slice()), Some(TreeFault::Long));
+    assert_eq!(rt;
+        fault_of(rt.alloc(), bytes.as_slice()),
+        Some(TreeFault::Long)
+    );
     Ok(())
 }
 

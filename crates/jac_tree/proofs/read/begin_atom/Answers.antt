@@ -5,7 +5,7 @@ use Rattle.jac_tree.proofs.read.begin_atom.Goals as goal
 pub returns-in_ok-atom-clause-steps : goal.returns-in_ok-atom-clause-steps
 returns-in_ok-atom-clause-steps c gs =
     atom_step gs c.args.c _ c.requires.no_white c.requires.no_closing (sym c.if-is_atom_char.ensures)
-        (c.in_ok-atom.ensures ∙ ap (λ z. z ++ encode_utf8 c.args.c) c.new.ensures.bytes)
+    (c.in_ok-atom.ensures ∙ ap (λ z. z ++ encode_utf8 c.args.c) c.new.ensures.bytes)
 
 pub returns-else-is_atom_char-clause-steps : goal.returns-else-is_atom_char-clause-steps
 returns-else-is_atom_char-clause-steps c gs =

@@ -1,4 +1,4 @@
-use Rattle.std.proofs.Common.{refl, sym}
+use Rattle.std.proofs.Common.{sym}
 use Rattle.std.proofs.lemmas.Result.{err_from_is_err_and}
 use Rattle.jac_tree.proofs.States.{white_step, quote_step}
 use Rattle.jac_tree.proofs.read.between.Goals as goal

@@ -3,7 +3,7 @@ use Rattle.jac_tree.proofs.States.{opened, none_open, close_step, close_shallow,
 use Rattle.jac_tree.proofs.read.close_list.Goals as goal
 
 pub returns-in-None-clause-steps : goal.returns-in-None-clause-steps
-returns-in-None-clause-steps c = 
+returns-in-None-clause-steps c =
     let n : length c.args.stack.now.items ≡ 0 = omega (arith, c.in-None.ensures.cases.0) in
     (refl, close_stuck _ (none_open c.args.stack.now.items n))
 
