@@ -1,5 +1,5 @@
 -- The entry of one event.
-use Rattle.std.proofs.Common.{◌≡◌, refl, inl, inr, ℕ, List}
+use Rattle.std.proofs.Common.{refl, inl, inr, ℕ, List}
 use Rattle.jac_app.specs.declared.application.View.{View}
 use Rattle.jac_app.specs.declared.line.Ask.{Ask}
 use Rattle.jac_app.specs.Log.{Entry, entry_of, request_of}

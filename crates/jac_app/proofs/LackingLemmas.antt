@@ -1,5 +1,5 @@
 -- The lines of a request that met want of memory.
-use Rattle.std.proofs.Common.{◌≡◌, refl, ℕ, Bool, true, false, None, List, [], ◌∷◌, ◌++◌, append_assoc, codes}
+use Rattle.std.proofs.Common.{◌≡◌, refl, ℕ, true, false, None, List, ◌++◌, append_assoc, codes}
 use Rattle.std.specs.Fmt.{decimal, digits}
 use Rattle.std.specs.Str.{bytes_eq}
 use Rattle.jac_app.specs.Log.{reply_text, audit_text}

@@ -1,10 +1,10 @@
 -- One more line, after those that were served.
-use Rattle.std.proofs.Common.{◌≡◌, ◌∙◌, ap, sym, subst, ℕ, ◌+◌, ◌<◌, ◌≤◌, ◌⊎◌, inl, inr, Option, Some, None, IfSome, Ok, Err, List, [], ◌∷◌, ◌++◌, length, append-nil, arith}
+use Rattle.std.proofs.Common.{◌≡◌, ◌∙◌, ap, sym, subst, ℕ, ◌+◌, ◌<◌, ◌≤◌, inl, inr, Option, Some, None, IfSome, Ok, Err, List, [], ◌∷◌, ◌++◌, length, append-nil, arith}
 use denote.Ref.{Bor}
 use Rattle.jac_app.specs.declared.application.View.{View}
 use Rattle.jac_app.specs.declared.serve.Stopped.{Stopped}
 use Rattle.jac_app.specs.declared.serve.Stopped.TheVariants as stops
-use Rattle.jac_app.specs.Log.{Script, script_of}
+use Rattle.jac_app.specs.Log.{script_of}
 use Rattle.jac_app.specs.Parts.{parts_left, option_now, length_left}
 use Rattle.jac_app.specs.Serve.{AnswersLine, ServesAs, ServesAll, ServesSome}
 use Rattle.jac_app.proofs.ProgressLemmas.{Progress, pass_over, serve_one, finish_refused, finish_some, finish_torn}
@@ -32,10 +32,11 @@ pub stop_at : (views : List View) (bytes : List ℕ) (left after : Option (List 
     → AnswersLine views served (lines + 1) line out_more audit_more (Err stopped)
     → ServesAs views bytes (out ++ out_more) (audit ++ audit_more) (Err stopped)
 stop_at views bytes left after lines served out audit line out_more audit_more p parts (stops.Refused n) h =
-    let refused = finish_refused views bytes left after lines served out audit line p parts h.0 h.1 in
-    ( refused.0 ∙ ap (λ (k : ℕ). Some k) (sym h.2),
+    let refused = finish_refused views bytes left after lines served out audit line p parts h.0 h.1 in (
+      refused.0 ∙ ap (λ (k : ℕ). Some k) (sym h.2),
       subst (λ (a : List ℕ). ServesAll views (script_of bytes) (out ++ out_more) a) (nothing_more audit audit_more h.4)
-      (subst (λ (o : List ℕ). ServesAll views (script_of bytes) o audit) (nothing_more out out_more h.3) refused.1) )
+          (subst (λ (o : List ℕ). ServesAll views (script_of bytes) o audit) (nothing_more out out_more h.3) refused.1),
+    )
 stop_at views bytes left after lines served out audit line out_more audit_more p parts stops.Memory h =
     subst (λ (a : List ℕ). ServesSome views (script_of bytes) (out ++ out_more) a) (nothing_more audit audit_more h.1)
     (subst (λ (o : List ℕ). ServesSome views (script_of bytes) o audit) (nothing_more out out_more h.0)

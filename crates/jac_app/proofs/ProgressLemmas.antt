@@ -1,9 +1,9 @@
 -- Serving line after line.
-use Rattle.std.proofs.Common.{◌≡◌, ◌∙◌, ap, sym, subst, refl, ℕ, ◌+◌, ◌==◌, Bool, true, false, Option, Some, None, List, [], ◌∷◌, ◌++◌, length, map, append_assoc, append-nil, arith, add_assoc}
-use Rattle.std.specs.List.{slice_split, flat_map, AllByRecursion}
+use Rattle.std.proofs.Common.{◌≡◌, ◌∙◌, ap, sym, subst, refl, ℕ, ◌+◌, true, false, Option, Some, None, List, [], ◌∷◌, ◌++◌, length, map, append_assoc, append-nil, arith}
+use Rattle.std.specs.List.{AllByRecursion}
 use Rattle.jac_app.specs.declared.application.View.{View}
 use Rattle.jac_app.specs.declared.line.Ask.{Ask}
-use Rattle.jac_app.specs.Line.{ask_of, is_nil, lines_of}
+use Rattle.jac_app.specs.Line.{ask_of, is_nil}
 use Rattle.jac_app.specs.Log.{Entry, Script, Serves, IsAnswered, script_from, script_of, script_step, with_event, request_of, heard_from, heard, subject, reply_line, audit_line, text, audited, audited_from}
 use Rattle.jac_app.specs.Outside.{IsTorn}
 use Rattle.jac_app.specs.Parts.{parts_left}
@@ -28,7 +28,7 @@ heard_from-append : (n : ℕ) (events : List Ask) (event : Ask) → heard_from n
 heard_from-append n [] event = ap (λ (k : ℕ). (k, request_of event) ∷ []) (omega arith)
 heard_from-append n (e ∷ events) event =
     ap (λ (rest : List (ℕ × Ask)). (n, request_of e) ∷ rest)
-        (heard_from-append (n + 1) events event ∙ ap (λ (k : ℕ). heard_from (n + 1) events ++ (k, request_of event) ∷ []) (omega arith))
+    (heard_from-append (n + 1) events event ∙ ap (λ (k : ℕ). heard_from (n + 1) events ++ (k, request_of event) ∷ []) (omega arith))
 
 map_subject-append : (log : List Entry) (entry : Entry) → map subject (log ++ entry ∷ []) ≡ map subject log ++ subject entry ∷ []
 map_subject-append [] entry = refl
@@ -42,7 +42,7 @@ audited_from-append : (k : ℕ) (log : List Entry) (entry : Entry) → audited_f
 audited_from-append k [] entry = append-nil (audit_line k entry) ∙ ap (λ (n : ℕ). audit_line n entry) (omega arith)
 audited_from-append k (x ∷ log) entry =
     ap (λ (rest : List ℕ). audit_line k x ++ rest)
-        (audited_from-append (k + 1) log entry ∙ ap (λ (n : ℕ). audited_from (k + 1) log ++ audit_line n entry) (omega arith))
+    (audited_from-append (k + 1) log entry ∙ ap (λ (n : ℕ). audited_from (k + 1) log ++ audit_line n entry) (omega arith))
     ∙ sym (append_assoc (audit_line k x) (audited_from (k + 1) log) (audit_line (k + length (x ∷ log)) entry))
 
 all-append : (P : Entry → Type 0) (log : List Entry) (entry : Entry) → AllByRecursion P log → P entry → AllByRecursion P (log ++ entry ∷ [])
@@ -58,13 +58,13 @@ pub Serves-push : (views : List View) (events : List Ask) (log : List Entry) (se
     → Serves views events log → length events ≡ served → IsEntryOf views served event entry → Serves views (events ++ event ∷ []) (log ++ entry ∷ [])
 Serves-push views events log served event entry serves count is_entry =
     let next : subject entry ≡ (0 + length events, request_of event) =
-            ap (λ (n : ℕ). (n, entry.request)) (is_entry.place ∙ sym count ∙ omega arith) ∙ ap (λ (r : Ask). (0 + length events, r)) is_entry.request in
+    ap (λ (n : ℕ). (n, entry.request)) (is_entry.place ∙ sym count ∙ omega arith) ∙ ap (λ (r : Ask). (0 + length events, r)) is_entry.request in
     record {
       subjects =
-        map_subject-append log entry
-        ∙ ap (λ (front : List (ℕ × Ask)). front ++ subject entry ∷ []) serves.subjects
-        ∙ ap (λ (one : ℕ × Ask). heard events ++ one ∷ []) next
-        ∙ sym (heard_from-append 0 events event);
+          map_subject-append log entry
+          ∙ ap (λ (front : List (ℕ × Ask)). front ++ subject entry ∷ []) serves.subjects
+          ∙ ap (λ (one : ℕ × Ask). heard events ++ one ∷ []) next
+          ∙ sym (heard_from-append 0 events event);
       answered = all-append (IsAnswered views) log entry serves.answered is_entry.answered;
     }
 
@@ -105,8 +105,8 @@ pass_over views bytes left after lines served out audit line p parts blank = rec
   events = p.events;
   log = p.log;
   script =
-    ap (λ (s : Script). served_before p.events s) (sym (script_blank (lines + 1) line (parts_left 10 after) blank))
-    ∙ opened p line (parts_left 10 after) parts;
+      ap (λ (s : Script). served_before p.events s) (sym (script_blank (lines + 1) line (parts_left 10 after) blank))
+      ∙ opened p line (parts_left 10 after) parts;
   serves = p.serves;
   counted = p.counted;
   same_length = p.same_length;
@@ -123,26 +123,27 @@ serve_one views bytes left after lines served out audit line reply audited_line 
   events = p.events ++ event ∷ [];
   log = p.log ++ entry ∷ [];
   script =
-    served_push p.events event (script_from (lines + 1 + 1) (parts_left 10 after))
-    ∙ ap (λ (s : Script). served_before p.events s) (sym (script_line (lines + 1) line (parts_left 10 after) (Some event) full asked))
-    ∙ opened p line (parts_left 10 after) parts;
+      served_push p.events event (script_from (lines + 1 + 1) (parts_left 10 after))
+      ∙ ap (λ (s : Script). served_before p.events s) (sym (script_line (lines + 1) line (parts_left 10 after) (Some event) full asked))
+      ∙ opened p line (parts_left 10 after) parts;
   serves = Serves-push views p.events p.log served event entry p.serves p.same_length is_entry;
   counted = length-push Entry p.log entry ∙ ap (λ (n : ℕ). n + 1) p.counted;
   same_length = length-push Ask p.events event ∙ ap (λ (n : ℕ). n + 1) p.same_length;
   out_text = ap (λ (o : List ℕ). o ++ reply) p.out_text ∙ ap (λ (r : List ℕ). text p.log ++ r) same_reply ∙ sym (text-append p.log entry);
   audit_text =
-    ap (λ (a : List ℕ). a ++ audited_line) p.audit_text
-    ∙ ap (λ (r : List ℕ). audited p.log ++ r) (same_line ∙ ap (λ (n : ℕ). audit_line n entry) (omega (arith, p.counted)))
-    ∙ sym (audited_from-append 1 p.log entry);
+      ap (λ (a : List ℕ). a ++ audited_line) p.audit_text
+      ∙ ap (λ (r : List ℕ). audited p.log ++ r) (same_line ∙ ap (λ (n : ℕ). audit_line n entry) (omega (arith, p.counted)))
+      ∙ sym (audited_from-append 1 p.log entry);
 }
 
 -- no line is left
 pub finish_all : (views : List View) (bytes : List ℕ) (lines served : ℕ) (out audit : List ℕ)
     → Progress views bytes None lines served out audit → ((script_of bytes).refused ≡ None) × ServesAll views (script_of bytes) out audit
 finish_all views bytes lines served out audit p =
-    let events : (script_of bytes).events ≡ p.events = ap (λ (s : Script). s.events) (sym p.script) ∙ append-nil p.events in
-    ( ap (λ (s : Script). s.refused) (sym p.script),
-      record { log = p.log; serves = subst (λ (es : List Ask). Serves views es p.log) (sym events) p.serves; out_text = p.out_text; audit_text = p.audit_text } )
+    let events : (script_of bytes).events ≡ p.events = ap (λ (s : Script). s.events) (sym p.script) ∙ append-nil p.events in (
+      ap (λ (s : Script). s.refused) (sym p.script),
+      record { log = p.log; serves = subst (λ (es : List Ask). Serves views es p.log) (sym events) p.serves; out_text = p.out_text; audit_text = p.audit_text },
+    )
 
 -- a line has no form
 pub finish_refused : (views : List View) (bytes : List ℕ) (left after : Option (List ℕ)) (lines served : ℕ) (out audit line : List ℕ)
@@ -150,10 +151,11 @@ pub finish_refused : (views : List View) (bytes : List ℕ) (left after : Option
     → ((script_of bytes).refused ≡ Some (lines + 1)) × ServesAll views (script_of bytes) out audit
 finish_refused views bytes left after lines served out audit line p parts full asked =
     let script : script_of bytes ≡ served_before p.events (record { events = []; refused = Some (lines + 1) }) =
-            sym (opened p line (parts_left 10 after) parts) ∙ ap (λ (s : Script). served_before p.events s) (script_line (lines + 1) line (parts_left 10 after) None full asked) in
-    let events : (script_of bytes).events ≡ p.events = ap (λ (s : Script). s.events) script ∙ append-nil p.events in
-    ( ap (λ (s : Script). s.refused) script,
-      record { log = p.log; serves = subst (λ (es : List Ask). Serves views es p.log) (sym events) p.serves; out_text = p.out_text; audit_text = p.audit_text } )
+    sym (opened p line (parts_left 10 after) parts) ∙ ap (λ (s : Script). served_before p.events s) (script_line (lines + 1) line (parts_left 10 after) None full asked) in
+    let events : (script_of bytes).events ≡ p.events = ap (λ (s : Script). s.events) script ∙ append-nil p.events in (
+      ap (λ (s : Script). s.refused) script,
+      record { log = p.log; serves = subst (λ (es : List Ask). Serves views es p.log) (sym events) p.serves; out_text = p.out_text; audit_text = p.audit_text },
+    )
 
 -- memory ran out
 pub finish_some : (views : List View) (bytes : List ℕ) (left : Option (List ℕ)) (lines served : ℕ) (out audit : List ℕ)
@@ -182,8 +184,8 @@ finish_torn views bytes left after lines served out audit line out_torn audit_to
   out_torn = out_torn;
   audit_torn = audit_torn;
   parts =
-    ap (λ (s : Script). s.events)
-        (sym (opened p line (parts_left 10 after) parts) ∙ ap (λ (s : Script). served_before p.events s) (script_line (lines + 1) line (parts_left 10 after) (Some event) full asked));
+      ap (λ (s : Script). s.events)
+      (sym (opened p line (parts_left 10 after) parts) ∙ ap (λ (s : Script). served_before p.events s) (script_line (lines + 1) line (parts_left 10 after) (Some event) full asked));
   serves = p.serves;
   next = subst (λ (n : ℕ). IsEntryOf views n event entry) (sym p.counted) is_entry;
   torn = subst (λ (n : ℕ). IsTorn (reply_line entry) (audit_line (n + 1) entry) out_torn audit_torn) (sym p.counted) torn;

@@ -1,5 +1,5 @@
 -- How the steps of a replay end.
-use Rattle.std.proofs.Common.{◌≡◌, ◌∙◌, ap, sym, subst, refl, ℕ, ◌+◌, ◌^◌, ◌-◌, ◌≤◌, ◌<◌, ◌⊎◌, min, inl, inr, Bool, IsTrue, IsSomeAnd, Result, Ok, Err, Option, Some, None, List, [], ◌++◌, length, arith}
+use Rattle.std.proofs.Common.{◌≡◌, ◌∙◌, ap, sym, subst, refl, ℕ, ◌≤◌, ◌<◌, ◌⊎◌, inl, inr, Bool, IsTrue, IsSomeAnd, Result, Ok, Err, Option, Some, List, [], length, arith}
 use Rattle.jac_io.specs.Faults.{Rose}
 use Rattle.jac_app.specs.declared.application.View.{View}
 use Rattle.jac_app.specs.declared.command.Ending.{Ending}
@@ -22,12 +22,13 @@ pub unread_ends : (seen : Sight) (command : Replay) (role : Role) (tells : Bool)
     → IsUnread tells file before after (name_of command role) role ending → Ends seen command [] [] (Err ending)
 unread_ends seen command role tells file before after (endings.ReadFault r) same_tells same_file earlier later h =
     (Rose-widen _ _ _ _ earlier later h.1, (refl, refl))
-unread_ends seen command role tells file before after (endings.TooLong r) same_tells same_file earlier later h =
-    ( λ told.
-        subst (λ (q : Role). IsSomeAnd (seen.file (name_of command q)) (λ bytes. limit_of q < length bytes)) (sym h.0)
-        (subst (λ (f : List ℕ → Option (List ℕ)). IsSomeAnd (f (name_of command role)) (λ bytes. limit_of role < length bytes)) same_file
-        (h.1 (same_tells ∙ told))),
-      (refl, refl) )
+unread_ends seen command role tells file before after (endings.TooLong r) same_tells same_file earlier later h = (
+  λ told.
+      subst (λ (q : Role). IsSomeAnd (seen.file (name_of command q)) (λ bytes. limit_of q < length bytes)) (sym h.0)
+      (subst (λ (f : List ℕ → Option (List ℕ)). IsSomeAnd (f (name_of command role)) (λ bytes. limit_of role < length bytes)) same_file
+      (h.1 (same_tells ∙ told))),
+  (refl, refl),
+)
 unread_ends seen command role tells file before after endings.Memory same_tells same_file earlier later h = inl (refl, refl)
 unread_ends seen command role tells file before after endings.AppRefused same_tells same_file earlier later h = absurd h
 unread_ends seen command role tells file before after (endings.LineRefused n) same_tells same_file earlier later h = absurd h
@@ -163,6 +164,6 @@ pub is_served : (seen : Sight) (words : List (List ℕ)) (out audit : List ℕ) 
 is_served seen words out audit answer (inl r) can =
     let same : r.command ≡ can.command = some_same _ _ (sym r.is_command ∙ can.is_command) in
     done_or_memory seen words can r.served audit r.ended r.last answer
-        (subst (λ (c : Replay). Ends seen c r.served audit r.ended) same r.ends)
-        (subst (λ (c : Replay). Finishes (Rose seen.out_before seen.out_after) c r.ended r.last answer) same r.finishes)
+    (subst (λ (c : Replay). Ends seen c r.served audit r.ended) same r.ends)
+    (subst (λ (c : Replay). Finishes (Rose seen.out_before seen.out_after) c r.ended r.last answer) same r.finishes)
 is_served seen words out audit answer (inr r) can = let none = sym r.no_command ∙ can.is_command in cc

@@ -1,5 +1,5 @@
 -- The lines of an events file, and the form of an `ask` line.
-use Rattle.std.specs.Prelude.{◌≡◌, ℕ, ◌+◌, ◌-◌, ◌*◌, ◌^◌, ◌==◌, ◌&&◌, ◌||◌, nat_le, nat_lt, Bool, true, false, if◌then◌else◌, Option, Some, None, List, [], ◌∷◌, ◌++◌, length, take, drop, position, codes}
+use Rattle.std.specs.Prelude.{ℕ, ◌+◌, ◌-◌, ◌*◌, ◌^◌, ◌==◌, ◌&&◌, nat_le, nat_lt, Bool, true, false, if◌then◌else◌, Option, Some, None, List, [], ◌∷◌, length, take, drop, position, codes}
 use Rattle.std.specs.Option.{option_map, option_and_then}
 use Rattle.std.specs.List.{slice_split, list_all, before_first, after_first}
 use Rattle.std.specs.Char.{is_ascii_digit, is_ascii_uppercase}
@@ -106,8 +106,8 @@ ask_of line =
     option_and_then (λ rest.
     option_and_then (λ body.
     option_and_then (λ number.
-        if bytes_eq first.0 (codes "ask") && is_method method.0 && is_target target.0 && is_nil body.1
-        then Some (asked number method.0 target.0 body.0) else None)
+    if bytes_eq first.0 (codes "ask") && is_method method.0 && is_target target.0 && is_nil body.1
+    then Some (asked number method.0 target.0 body.0) else None)
     (viewer_of viewer.0))
     (quoted_at rest))
     (after_byte 32 target.1))

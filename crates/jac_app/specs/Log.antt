@@ -1,13 +1,13 @@
 -- What a run did: an entry for each request that was answered.
-use Rattle.std.specs.Prelude.{◌≡◌, ℕ, ◌+◌, ◌⊎◌, ◌==◌, Bool, if◌then◌else◌, Option, Some, None, List, [], ◌∷◌, ◌++◌, map, codes, decimal}
-use Rattle.std.specs.List.{flat_map, slice_split, AllByRecursion, join_with_byte}
+use Rattle.std.specs.Prelude.{◌≡◌, ℕ, ◌+◌, ◌⊎◌, Bool, if◌then◌else◌, Option, Some, None, List, [], ◌∷◌, ◌++◌, map, codes, decimal}
+use Rattle.std.specs.List.{flat_map, AllByRecursion, join_with_byte}
 use Rattle.std.specs.Str.{bytes_eq}
 use Rattle.jac_value.specs.Quoted.{quoted}
 use Rattle.jac_app.specs.declared.application.View.{View}
 use Rattle.jac_app.specs.declared.line.Ask.{Ask}
 use Rattle.jac_app.specs.declared.page.Answer.{Answer}
 use Rattle.jac_app.specs.Line.{ask_of, lines_of, is_nil}
-use Rattle.jac_app.specs.Page.{Found, found, answer_to, page_of, refusal}
+use Rattle.jac_app.specs.Page.{Found, found, answer_to, refusal}
 
 -- the events of a file: those of the lines before the first line that has no form, and the number of that line
 pub record Script : Type 0 where

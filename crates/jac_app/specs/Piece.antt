@@ -1,5 +1,5 @@
 -- A quoted text, a piece at a time.
-use Rattle.std.specs.Prelude.{ℕ, ◌<◌, ◌++◌, Option, Some, None, List, [], ◌∷◌, length}
+use Rattle.std.specs.Prelude.{ℕ, ◌<◌, ◌++◌, Option, Some, None, List, [], length}
 use Rattle.std.specs.Option.{option_map}
 use Rattle.jac_app.specs.Line.{with_byte, unquoted}
 use Rattle.jac_app.specs.declared.line.Piece.{Piece}

@@ -1,5 +1,5 @@
 -- The command that the words give, the steps of a run and how it ends.
-use Rattle.std.specs.Prelude.{◌≡◌, ◌≤◌, ◌<◌, ◌⊎◌, ◌&&◌, not, nat_lt, ℕ, Bool, true, false, IsTrue, IsSomeAnd, if◌then◌else◌, Result, Ok, Err, Option, Some, None, List, [], ◌∷◌, ◌++◌, length, take, codes, decimal}
+use Rattle.std.specs.Prelude.{◌≡◌, ◌≤◌, ◌<◌, ◌⊎◌, ◌&&◌, not, nat_lt, ℕ, Bool, IsTrue, IsSomeAnd, if◌then◌else◌, Result, Ok, Err, Option, Some, None, List, [], ◌∷◌, ◌++◌, length, take, codes, decimal}
 use Rattle.std.specs.Str.{bytes_eq}
 use Rattle.jac_io.specs.Faults.{Rose}
 use Rattle.jac_app.specs.declared.application.View.{View}

@@ -1,12 +1,12 @@
 -- What serving the lines of an events file puts on the two sinks.
-use Rattle.std.specs.Prelude.{◌≡◌, ℕ, ◌+◌, ◌⊎◌, length, true, false, Result, Ok, Err, Option, Some, None, List, [], ◌∷◌, ◌++◌}
+use Rattle.std.specs.Prelude.{◌≡◌, ℕ, ◌+◌, ◌⊎◌, length, true, false, Result, Ok, Err, Some, None, List, [], ◌∷◌, ◌++◌}
 use Rattle.jac_app.specs.declared.application.View.{View}
 use Rattle.jac_app.specs.declared.line.Ask.{Ask}
 use Rattle.jac_app.specs.declared.serve.Stopped.{Stopped}
 use Rattle.jac_app.specs.declared.serve.Stopped.TheVariants as stops
 use Rattle.jac_app.specs.Line.{ask_of, is_nil}
 use Rattle.jac_app.specs.Log.{Entry, Script, script_of, IsAnswered, Serves, request_of, reply_line, audit_line, text, audited}
-use Rattle.jac_app.specs.Outside.{PutBoth, IsFront, IsTorn}
+use Rattle.jac_app.specs.Outside.{PutBoth, IsTorn}
 
 -- the entry of an event, of which there were `served` before
 pub record IsEntryOf (views : List View) (served : ℕ) (event : Ask) (entry : Entry) : Type 0 where
@@ -24,10 +24,10 @@ abbrev pub AnswersLine : List View → ℕ → ℕ → List ℕ → List ℕ →
 AnswersLine views served number line out audit (Ok count) =
     ((is_nil line ≡ true) × (count ≡ served) × (out ≡ []) × (audit ≡ []))
     ⊎ ((is_nil line ≡ false) × (count ≡ served + 1) × ((event : Ask) × (ask_of line ≡ Some event)
-        × ((entry : Entry) × IsEntryOf views served event entry × (out ≡ reply_line entry) × (audit ≡ audit_line (served + 1) entry))))
+    × ((entry : Entry) × IsEntryOf views served event entry × (out ≡ reply_line entry) × (audit ≡ audit_line (served + 1) entry))))
 AnswersLine views served number line out audit (Err stops.Write) =
     (is_nil line ≡ false) × ((event : Ask) × (ask_of line ≡ Some event)
-        × ((entry : Entry) × IsEntryOf views served event entry × IsTorn (reply_line entry) (audit_line (served + 1) entry) out audit))
+    × ((entry : Entry) × IsEntryOf views served event entry × IsTorn (reply_line entry) (audit_line (served + 1) entry) out audit))
 AnswersLine views served number line out audit (Err (stops.Refused n)) =
     (is_nil line ≡ false) × (ask_of line ≡ None) × (n ≡ number) × (out ≡ []) × (audit ≡ [])
 AnswersLine views served number line out audit (Err stops.Memory) = (out ≡ []) × (audit ≡ [])

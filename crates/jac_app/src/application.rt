@@ -19,7 +19,9 @@ pub struct Texts {
 
 impl Model for Texts {
     ghost use Rattle.std.specs.Prelude.{List, ℕ};
+
     ghost Value = { List (List ℕ) };
+
     ghost view = { λ t. t.items.items };
 }
 
@@ -47,7 +49,9 @@ pub struct Views {
 impl Model for Views {
     ghost use Rattle.std.specs.Prelude.{List};
     ghost use Rattle.jac_app.specs.declared.application.View.{View as Item};
+
     ghost Value = { List Item };
+
     ghost view = { λ v. v.items.items };
 }
 
@@ -126,7 +130,11 @@ fn put_of_items(items: &Trees) -> Option<&Txt>
     match items {
         Trees::More(word, rest) => match &**rest {
             Trees::More(text, end) => match (&**text, &**end) {
-                (Tree::Text(text), Trees::End) => if is_word(word, b"put") { Some(text) } else { None },
+                (Tree::Text(text), Trees::End) => if is_word(word, b"put") {
+                    Some(text)
+                } else {
+                    None
+                },
                 _ => None,
             },
             Trees::End => None,
@@ -202,7 +210,11 @@ fn view_of_items(alloc: Global, items: &Trees) -> Result<Option<View>, Memory>
     let Trees::More(params, puts) = &**rest else {
         return Ok(None);
     };
-    if is_word(word, b"view") && is_word(method, b"get") && is_path(path.as_bytes()) && is_params(params) {
+    if is_word(word, b"view")
+        && is_word(method, b"get")
+        && is_path(path.as_bytes())
+        && is_params(params)
+    {
         let view = make_view(alloc, path, puts)?;
         Ok(view)
     } else {

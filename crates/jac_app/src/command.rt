@@ -86,7 +86,12 @@ fn limit(role: Role) -> usize
     }
 }
 
-fn read_file<F: Files>(alloc: Global, files: &mut F, name: &Txt, role: Role) -> Result<Bytes, Ending>
+fn read_file<F: Files>(
+    alloc: Global,
+    files: &mut F,
+    name: &Txt,
+    role: Role,
+) -> Result<Bytes, Ending>
     ensures tells { F.tells files.new ≡ F.tells files.old }
     ensures kept { F.file files.new ≡ F.file files.old }
     ensures later { F.faults files.old ≤ F.faults files.new }
@@ -158,7 +163,7 @@ fn replay<F: Files, O: Sink, U: AuditSink>(
     ensures ends { (o : List ℕ) × (a : List ℕ) × Took (O.tells out.old) (O.held out.old) (O.held out.new) o
         × Took (U.tells audit.old) (U.held audit.old) (U.held audit.new) a
         × Ends (sight (F.tells files.old) (F.file files.old) (F.faults files.old) (F.faults files.new)
-            (O.faults out.old) (O.faults out.new) (U.faults audit.old) (U.faults audit.new)) (replay_of app_name.now events_name.now) o a result }
+        (O.faults out.old) (O.faults out.new) (U.faults audit.old) (U.faults audit.new)) (replay_of app_name.now events_name.now) o a result }
 {
     let app = match read_file(alloc, files, app_name, Role::App) {
         Ok(app) => app,
@@ -194,15 +199,30 @@ fn limit_bytes(role: Role) -> &'static [u8]
 }
 
 // Puts the line that tells why a replay ended; it takes no memory.
-fn put_fault<O: Sink>(out: &mut O, app_name: &Txt, events_name: &Txt, ending: Ending) -> Result<(), Failed>
+fn put_fault<O: Sink>(
+    out: &mut O,
+    app_name: &Txt,
+    events_name: &Txt,
+    ending: Ending,
+) -> Result<(), Failed>
     ensures lasts { Lasts (O.tells out.old) (O.tells out.new) (O.aimed out.old) (O.aimed out.new) (O.faults out.old) (O.faults out.new) }
     ensures put { (put : List ℕ) × Took (O.tells out.old) (O.held out.old) (O.held out.new) put
         × Put (fault_line (replay_of app_name.now events_name.now) ending) put result }
     ensures cause { OnErr result (Rose (O.faults out.old) (O.faults out.new)) }
 {
     match ending {
-        Ending::ReadFault(role) => put_three(out, b"read fault: ", name_bytes(role, app_name, events_name), b"\n"),
-        Ending::TooLong(role) => put_three(out, b"too long: ", name_bytes(role, app_name, events_name), limit_bytes(role)),
+        Ending::ReadFault(role) => put_three(
+            out,
+            b"read fault: ",
+            name_bytes(role, app_name, events_name),
+            b"\n",
+        ),
+        Ending::TooLong(role) => put_three(
+            out,
+            b"too long: ",
+            name_bytes(role, app_name, events_name),
+            limit_bytes(role),
+        ),
         Ending::AppRefused => put(out, b"app: refused\n"),
         Ending::LineRefused(line) => put_line_fault(out, line),
         Ending::WriteFault => put(out, b"write fault\n"),
@@ -235,7 +255,12 @@ fn status_of(ending: Ending) -> Status
 }
 
 // Puts the last line, where the replay ended early.
-fn finish<O: Sink>(out: &mut O, app_name: &Txt, events_name: &Txt, ended: Result<(), Ending>) -> Status
+fn finish<O: Sink>(
+    out: &mut O,
+    app_name: &Txt,
+    events_name: &Txt,
+    ended: Result<(), Ending>,
+) -> Status
     ensures lasts { Lasts (O.tells out.old) (O.tells out.new) (O.aimed out.old) (O.aimed out.new) (O.faults out.old) (O.faults out.new) }
     ensures finished { (put : List ℕ) × Took (O.tells out.old) (O.held out.old) (O.held out.new) put
         × Finishes (Rose (O.faults out.old) (O.faults out.new)) (replay_of app_name.now events_name.now) ended put result }
@@ -249,7 +274,8 @@ fn finish<O: Sink>(out: &mut O, app_name: &Txt, events_name: &Txt, ended: Result
     }
 }
 
-const USAGE: &[u8] = b"usage: jac check APP, replay APP EVENTS, serve APP PORT COUNT, demo N, dump APP LABELS; options --db FILE --sessions FILE --audit FILE\n";
+const USAGE: &[u8] =
+    b"usage: jac check APP, replay APP EVENTS, serve APP PORT COUNT, demo N, dump APP LABELS; options --db FILE --sessions FILE --audit FILE\n";
 
 fn refuse_words<O: Sink>(out: &mut O) -> Status
     ensures lasts { Lasts (O.tells out.old) (O.tells out.new) (O.aimed out.old) (O.aimed out.new) (O.faults out.old) (O.faults out.new) }
@@ -274,7 +300,7 @@ fn run_words<F: Files, O: Sink, U: AuditSink>(
     ensures runs { (o : List ℕ) × (a : List ℕ) × Took (O.tells out.old) (O.held out.old) (O.held out.new) o
         × Took (U.tells audit.old) (U.held audit.old) (U.held audit.new) a
         × Runs (sight (F.tells files.old) (F.file files.old) (F.faults files.old) (F.faults files.new)
-            (O.faults out.old) (O.faults out.new) (U.faults audit.old) (U.faults audit.new)) words.now o a result }
+        (O.faults out.old) (O.faults out.new) (U.faults audit.old) (U.faults audit.new)) words.now o a result }
 {
     match command_of(words) {
         Some(command) => {
@@ -302,7 +328,7 @@ pub fn run<F: Files, O: Sink, U: AuditSink>(
     ensures runs { (o : List ℕ) × (a : List ℕ) × Took (O.tells out.old) (O.held out.old) (O.held out.new) o
         × Took (U.tells audit.old) (U.held audit.old) (U.held audit.new) a
         × Runs (sight (F.tells files.old) (F.file files.old) (F.faults files.old) (F.faults files.new)
-            (O.faults out.old) (O.faults out.new) (U.faults audit.old) (U.faults audit.new)) words.now o a result }
+        (O.faults out.old) (O.faults out.new) (U.faults audit.old) (U.faults audit.new)) words.now o a result }
 
     // Each status comes for its cause alone.
     ensures cause { HasCause (sight (F.tells files.old) (F.file files.old) (F.faults files.old) (F.faults files.new)

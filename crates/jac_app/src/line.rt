@@ -55,7 +55,11 @@ pub fn read_ask(alloc: Global, line: &[u8]) -> Result<Option<Ask>, Memory>
     let Some(viewer) = viewer_number(viewer) else {
         return Ok(None);
     };
-    if first != b"ask".as_slice() || !is_method(method) || !is_target(target.as_slice()) || !rest.is_empty() {
+    if first != b"ask".as_slice()
+        || !is_method(method)
+        || !is_target(target.as_slice())
+        || !rest.is_empty()
+    {
         return Ok(None);
     }
     let ask = make_ask(alloc, viewer, method, target.as_slice(), body)?;

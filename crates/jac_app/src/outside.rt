@@ -32,7 +32,12 @@ pub fn put_two<S: Sink>(sink: &mut S, first: &[u8], second: &[u8]) -> Result<(),
 }
 
 /// Puts three pieces, as one.
-pub fn put_three<S: Sink>(sink: &mut S, first: &[u8], second: &[u8], third: &[u8]) -> Result<(), Failed>
+pub fn put_three<S: Sink>(
+    sink: &mut S,
+    first: &[u8],
+    second: &[u8],
+    third: &[u8],
+) -> Result<(), Failed>
     ensures lasts { Lasts (S.tells sink.old) (S.tells sink.new) (S.aimed sink.old) (S.aimed sink.new) (S.faults sink.old) (S.faults sink.new) }
     ensures put { (put : List ℕ) × Took (S.tells sink.old) (S.held sink.old) (S.held sink.new) put × Put (first.now ++ second.now ++ third.now) put result }
     ensures cause { OnErr result (Rose (S.faults sink.old) (S.faults sink.new)) }

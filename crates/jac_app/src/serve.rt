@@ -38,7 +38,12 @@ fn make_lines(alloc: Global, views: &[View], k: u64, ask: &Ask) -> Result<Lines,
 }
 
 // The audit's line first, and then the reply.
-fn put_lines<O: Sink, U: AuditSink>(out: &mut O, audit: &mut U, reply: &[u8], line: &[u8]) -> Result<(), Failed>
+fn put_lines<O: Sink, U: AuditSink>(
+    out: &mut O,
+    audit: &mut U,
+    reply: &[u8],
+    line: &[u8],
+) -> Result<(), Failed>
     ensures out { Lasts (O.tells out.old) (O.tells out.new) (O.aimed out.old) (O.aimed out.new) (O.faults out.old) (O.faults out.new) }
     ensures audit { Lasts (U.tells audit.old) (U.tells audit.new) (U.aimed audit.old) (U.aimed audit.new) (U.faults audit.old) (U.faults audit.new) }
     ensures put { (o : List ℕ) × (a : List ℕ) × Took (O.tells out.old) (O.held out.old) (O.held out.new) o
@@ -58,18 +63,18 @@ fn put_lines<O: Sink, U: AuditSink>(out: &mut O, audit: &mut U, reply: &[u8], li
 fn put_pieces<O: Sink, U: AuditSink>(
     out: &mut O,
     audit: &mut U,
-    reply: &[u8],
+    fixed: &[u8],
     first: &[u8],
     second: &[u8],
 ) -> Result<(), Failed>
     ensures out { Lasts (O.tells out.old) (O.tells out.new) (O.aimed out.old) (O.aimed out.new) (O.faults out.old) (O.faults out.new) }
     ensures audit { Lasts (U.tells audit.old) (U.tells audit.new) (U.aimed audit.old) (U.aimed audit.new) (U.faults audit.old) (U.faults audit.new) }
     ensures put { (o : List ℕ) × (a : List ℕ) × Took (O.tells out.old) (O.held out.old) (O.held out.new) o
-        × Took (U.tells audit.old) (U.held audit.old) (U.held audit.new) a × PutBoth reply.now (first.now ++ second.now) o a result }
+        × Took (U.tells audit.old) (U.held audit.old) (U.held audit.new) a × PutBoth fixed.now (first.now ++ second.now) o a result }
     ensures cause { OnErr result (Rose (O.faults out.old) (O.faults out.new) ⊎ Rose (U.faults audit.old) (U.faults audit.new)) }
 {
     match put_two(audit, first, second) {
-        Ok(()) => match put(out, reply) {
+        Ok(()) => match put(out, fixed) {
             Ok(()) => Ok(()),
             Err(Failed) => Err(Failed),
         },
@@ -78,7 +83,12 @@ fn put_pieces<O: Sink, U: AuditSink>(
 }
 
 // The lines of a request that met want of memory; they take none.
-fn put_lacking<O: Sink, U: AuditSink>(out: &mut O, audit: &mut U, k: u64, method: &[u8]) -> Result<(), Failed>
+fn put_lacking<O: Sink, U: AuditSink>(
+    out: &mut O,
+    audit: &mut U,
+    k: u64,
+    method: &[u8],
+) -> Result<(), Failed>
     ensures out { Lasts (O.tells out.old) (O.tells out.new) (O.aimed out.old) (O.aimed out.new) (O.faults out.old) (O.faults out.new) }
     ensures audit { Lasts (U.tells audit.old) (U.tells audit.new) (U.aimed audit.old) (U.aimed audit.new) (U.faults audit.old) (U.faults audit.new) }
     ensures put { (o : List ℕ) × (a : List ℕ) × Took (O.tells out.old) (O.held out.old) (O.held out.new) o
@@ -106,7 +116,14 @@ fn lacking_reply(method: &[u8]) -> &'static [u8]
 }
 
 // Answers one request, of which `served` were answered before.
-fn serve_ask<O: Sink, U: AuditSink>(alloc: Global, views: &[View], served: u64, ask: &Ask, out: &mut O, audit: &mut U) -> Result<(), Failed>
+fn serve_ask<O: Sink, U: AuditSink>(
+    alloc: Global,
+    views: &[View],
+    served: u64,
+    ask: &Ask,
+    out: &mut O,
+    audit: &mut U,
+) -> Result<(), Failed>
     requires { served < 2 ^ 64 - 1 }
     ensures out { Lasts (O.tells out.old) (O.tells out.new) (O.aimed out.old) (O.aimed out.new) (O.faults out.old) (O.faults out.new) }
     ensures audit { Lasts (U.tells audit.old) (U.tells audit.new) (U.aimed audit.old) (U.aimed audit.new) (U.faults audit.old) (U.faults audit.new) }

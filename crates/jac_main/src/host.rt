@@ -42,7 +42,12 @@ impl Files for HostFiles<'_> {
     }
 }
 
-fn read_file(rt: &HostRuntime, alloc: Global, name: &str, limit: usize) -> Result<Vec<u8>, FileFault>
+fn read_file(
+    rt: &HostRuntime,
+    alloc: Global,
+    name: &str,
+    limit: usize,
+) -> Result<Vec<u8>, FileFault>
     ensures { IfOk result (λ v. vec_len v ≤ limit) }
 {
     let mut bytes = Vec::new(alloc);

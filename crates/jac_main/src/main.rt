@@ -2,13 +2,14 @@
 #![tactic(auto)]
 
 mod host;
+#[cfg(test)]
+mod tests;
 
 use host::{HostFiles, NoAudit, Stdout};
 use jac_app::{Status, run};
 use jac_value::{Memory, Txt};
-use std::env;
-use std::io;
 use std::process::ExitCode;
+use std::{env, io};
 
 fn main(rt: HostRuntime) -> ExitCode {
     let status = match words_of(&rt) {
@@ -16,7 +17,13 @@ fn main(rt: HostRuntime) -> ExitCode {
             let mut files = HostFiles::new(&rt);
             let mut out = Stdout::new(&rt);
             let mut audit = NoAudit::new();
-            run(rt.alloc(), words.as_slice(), &mut files, &mut out, &mut audit)
+            run(
+                rt.alloc(),
+                words.as_slice(),
+                &mut files,
+                &mut out,
+                &mut audit,
+            )
         }
         Err(Memory) => Status::Memory,
     };

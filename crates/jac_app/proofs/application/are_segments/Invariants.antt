@@ -1,4 +1,4 @@
-use Rattle.std.proofs.Common.{◌≡◌, ◌==◌, ◌+◌, length, Option, Some, None, List, ℕ}
+use Rattle.std.proofs.Common.{◌≡◌, ◌==◌}
 use Rattle.std.specs.List.{list_all, slice_split}
 use Rattle.jac_app.specs.Application.{is_segment}
 use Rattle.jac_app.specs.Parts.{parts_left, option_now, length_left}

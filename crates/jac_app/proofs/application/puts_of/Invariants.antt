@@ -1,5 +1,4 @@
 use Rattle.std.proofs.Common.{◌≡◌}
-use Rattle.std.specs.Option.{option_map}
 use Rattle.jac_tree.specs.Mirror.{plain_all}
 use Rattle.jac_app.specs.Application.{puts_of}
 use Rattle.jac_app.specs.Made.{made_before}

@@ -1,5 +1,4 @@
-use Rattle.std.proofs.Common.{◌≡◌, ◌∙◌, sym, refl, inl, Some, None, Option, List}
-use Rattle.jac_app.specs.declared.application.View.{View}
+use Rattle.std.proofs.Common.{◌∙◌, sym, refl, inl}
 use Rattle.jac_app.proofs.command.read_views.Goals as goal
 
 pub returns-in-Ok-None-clause-unopened : goal.returns-in-Ok-None-clause-unopened

@@ -9,8 +9,8 @@ returns-clause-cause g c =
     let U = g.U.Sink in
     let old = c.args.files.now in
     let seen =
-            sight (F.tells old) (F.file old) (F.faults old) (F.faults c.run_words.new.files) (O.faults c.args.out.now) (O.faults c.run_words.new.out)
-            (U.faults c.args.audit.now) (U.faults c.run_words.new.audit) in
+    sight (F.tells old) (F.file old) (F.faults old) (F.faults c.run_words.new.files) (O.faults c.args.out.now) (O.faults c.run_words.new.out)
+    (U.faults c.args.audit.now) (U.faults c.run_words.new.audit) in
     let runs = c.run_words.ensures.runs in
     has_cause seen c.args.words.now runs.0 runs.1 c.run_words.result runs.4
 
@@ -21,7 +21,7 @@ returns-clause-complete g c =
     let U = g.U.Sink in
     let old = c.args.files.now in
     let seen =
-            sight (F.tells old) (F.file old) (F.faults old) (F.faults c.run_words.new.files) (O.faults c.args.out.now) (O.faults c.run_words.new.out)
-            (U.faults c.args.audit.now) (U.faults c.run_words.new.audit) in
+    sight (F.tells old) (F.file old) (F.faults old) (F.faults c.run_words.new.files) (O.faults c.args.out.now) (O.faults c.run_words.new.out)
+    (U.faults c.args.audit.now) (U.faults c.run_words.new.audit) in
     let runs = c.run_words.ensures.runs in
     is_served seen c.args.words.now runs.0 runs.1 c.run_words.result runs.4

@@ -1,4 +1,4 @@
-use Rattle.std.proofs.Common.{◌≡◌, ◌<◌, ◌^◌, Option, Some, None, Bool, true, false, List, ℕ, Err, if◌then◌else◌, refl, arith, rules, length, nat_lt, subst, sym}
+use Rattle.std.proofs.Common.{◌≡◌, ◌<◌, ◌^◌, Option, None, Bool, true, false, List, ℕ, Err, if◌then◌else◌, refl, rules, length, nat_lt}
 use borrow.Author.Tests.{ltb-true}
 use Rattle.std.specs.List.{list_all}
 use Rattle.std.specs.Char.{is_ascii_digit}

@@ -11,7 +11,8 @@ pub returns-in-Err-put-clause-put : goal.returns-in-Err-put-clause-put
 returns-in-Err-put-clause-put g c =
     let whole = c.in-Ok.ensures.put in
     let torn = c.in-Err-put.ensures.put in
-    let front = append-IsFront whole.0 torn.0 c.args.third.now torn.2 in
-    ( whole.0 ++ torn.0,
+    let front = append-IsFront whole.0 torn.0 c.args.third.now torn.2 in (
+      whole.0 ++ torn.0,
       Took-then _ _ _ _ _ _ _ whole.1 c.in-Ok.ensures.lasts.same_telling torn.1,
-      (front.0, ap (λ (b : List ℕ). b ++ c.args.third.now) (sym whole.2) ∙ front.1) )
+      (front.0, ap (λ (b : List ℕ). b ++ c.args.third.now) (sym whole.2) ∙ front.1),
+    )

@@ -1,6 +1,6 @@
-use Rattle.std.proofs.Common.{◌≡◌, ◌∙◌, ap, sym, refl, ℕ, suc, ◌+◌, ◌-◌, ◌<◌, ◌≤◌, ◌==◌, not, cond, Bool, true, false, nat_lt, Option, Some, None, List, [], ◌∷◌, length, take, drop, arith}
+use Rattle.std.proofs.Common.{◌≡◌, ◌∙◌, ap, sym, refl, ℕ, suc, ◌+◌, ◌-◌, ◌==◌, not, cond, Bool, true, false, nat_lt, Some, None, List, [], ◌∷◌, length, take, drop, arith}
 use borrow.Author.Tests.{ltb-true}
-use Rattle.std.specs.List.{slice_split, onto_first, position, position_or_len, prefix_len, before_first, after_first}
+use Rattle.std.specs.List.{slice_split, onto_first, position, position_or_len, prefix_len}
 use Rattle.std.proofs.lemmas.List.Splits.{slice_split_first}
 use Rattle.std.proofs.lemmas.List.Sums.{prefix_len-le-length}
 use Rattle.std.proofs.lemmas.Bool.Decides.{nat_tests}
@@ -12,7 +12,7 @@ whole : (p : ℕ → Bool) (xs : List ℕ) → prefix_len (λ x. not (p x)) xs �
 whole p [] h = refl
 whole p (x ∷ xs) h =
     elim (p x) as (λ b. cond (not b) (1 + prefix_len (λ y. not (p y)) xs) 0 ≡ suc (length xs) → cond b ([] ∷ slice_split p xs) (onto_first x (slice_split p xs)) ≡ (x ∷ xs) ∷ [])
-        [ true ↦ λ e. absurd (omega (arith, e)) | false ↦ λ e. ap (onto_first x) (whole p xs (omega (arith, e))) ] h
+    [ true ↦ λ e. absurd (omega (arith, e)) | false ↦ λ e. ap (onto_first x) (whole p xs (omega (arith, e))) ] h
 
 place_found : (b : Bool) (n i : ℕ) → cond b (Some n) None ≡ Some i → (b ≡ true) × (n ≡ i)
 place_found true n i h = (refl, cc)

@@ -1,4 +1,4 @@
-use Rattle.std.proofs.Common.{◌≡◌, ◌∙◌, ap, sym, refl, ℕ, List, [], ◌++◌, append-nil, arith, Option}
+use Rattle.std.proofs.Common.{◌∙◌, ap, sym, refl, ℕ, List, [], ◌++◌, append-nil, arith, Option}
 use denote.Ref.{Bor}
 use Rattle.jac_app.specs.Parts.{parts_left, option_now, length_left}
 use Rattle.jac_app.proofs.LineLemmas.{go_on, stop_at, shorter_left}
@@ -20,11 +20,13 @@ pub returns-in-Err-clause-served : goal.returns-in-Err-clause-served
 returns-in-Err-clause-served g c =
     let taken = c.lines.invariant.taken in
     let line = c.in-Err.ensures.answered in
-    let parts = ap (λ (o : Option (Bor (List ℕ))). parts_left 10 (option_now o)) c.in-Some.is ∙ c.first_part.ensures.parts in
-    ( taken.0 ++ line.0, taken.1 ++ line.1,
+    let parts = ap (λ (o : Option (Bor (List ℕ))). parts_left 10 (option_now o)) c.in-Some.is ∙ c.first_part.ensures.parts in (
+      taken.0 ++ line.0,
+      taken.1 ++ line.1,
       Took-then _ _ _ _ _ _ _ taken.2 c.lines.invariant.out.same_telling line.2,
       Took-then _ _ _ _ _ _ _ taken.3 c.lines.invariant.audit.same_telling line.3,
-      stop_at _ _ _ (option_now c.first_part.result.1) _ _ _ _ _ _ _ taken.4 parts c.in-Err.stopped line.4 )
+      stop_at _ _ _ (option_now c.first_part.result.1) _ _ _ _ _ _ _ taken.4 parts c.in-Err.stopped line.4,
+    )
 
 pub lines-preserved : goal.lines-preserved
 lines-preserved g c =
@@ -39,9 +41,11 @@ lines-preserved g c =
       fewer = omega (arith, before.fewer, c.in-Ok.ensures.count);
       out = Lasts-then before.out c.in-Ok.ensures.out;
       audit = Lasts-then before.audit c.in-Ok.ensures.audit;
-      taken =
-        ( taken.0 ++ line.0, taken.1 ++ line.1,
-          Took-then _ _ _ _ _ _ _ taken.2 before.out.same_telling line.2,
-          Took-then _ _ _ _ _ _ _ taken.3 before.audit.same_telling line.3,
-          go_on _ _ _ (option_now c.first_part.result.1) _ _ _ _ _ _ _ _ taken.4 parts line.4 );
+      taken = (
+        taken.0 ++ line.0,
+        taken.1 ++ line.1,
+        Took-then _ _ _ _ _ _ _ taken.2 before.out.same_telling line.2,
+        Took-then _ _ _ _ _ _ _ taken.3 before.audit.same_telling line.3,
+        go_on _ _ _ (option_now c.first_part.result.1) _ _ _ _ _ _ _ _ taken.4 parts line.4,
+      );
     }

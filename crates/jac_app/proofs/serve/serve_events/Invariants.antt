@@ -1,4 +1,4 @@
-use Rattle.std.proofs.Common.{◌≡◌, ◌+◌, ◌≤◌, ◌<◌, ◌^◌, length, List, ℕ}
+use Rattle.std.proofs.Common.{◌+◌, ◌≤◌, ◌<◌, ◌^◌, length, List, ℕ}
 use Rattle.jac_app.specs.Outside.{Took, Lasts}
 use Rattle.jac_app.specs.Parts.{option_now, length_left}
 use Rattle.jac_app.proofs.ProgressLemmas.{Progress}

@@ -1,0 +1,90 @@
+#!/usr/bin/env python3
+"""Runs the built program against the host: its examples, files that are missing, wrong or too long, and a
+standard output that takes nothing. Words: the program. Prints each case that fails, and ends with a count."""
+import os
+import subprocess
+import sys
+import tempfile
+
+TOP = os.path.dirname(os.path.dirname(os.path.abspath(__file__)))
+PROGRAM = os.path.abspath(sys.argv[1])
+HELLO = b'(app (view get "/" (params) (put "hello")))'
+ASK = b'ask - GET "/" ""\n'
+PAGE = b'reply 200 "" "hello"\n'
+
+
+def run(words, folder, **options):
+    return subprocess.run([PROGRAM] + words, cwd=folder, stdin=subprocess.DEVNULL, timeout=120, **options)
+
+
+def case(name, files, words, status, out):
+    """A run over these files, compared with its status and output."""
+    with tempfile.TemporaryDirectory() as folder:
+        for file, data in files.items():
+            with open(os.path.join(folder, file), 'wb') as handle:
+                handle.write(data)
+        done = run(words, folder, stdout=subprocess.PIPE)
+        if (done.returncode, done.stdout) == (status, out):
+            return None
+        return '%s: status %r, out %r' % (name, done.returncode, done.stdout[-200:])
+
+
+def replay(name, app, events, status, out):
+    return case(name, {'a': app, 'e': events}, ['replay', 'a', 'e'], status, out)
+
+
+def example(name):
+    """An example of the repository, whose output stands beside it."""
+    folder = os.path.join(TOP, 'examples')
+    with open(os.path.join(folder, name + '.out'), 'rb') as handle:
+        want = handle.read()
+    done = run(['replay', name + '.app', name + '.events'], folder, stdout=subprocess.PIPE)
+    return None if (done.returncode, done.stdout) == (0, want) else '%s: %r' % (name, done.stdout[-200:])
+
+
+def closed_output():
+    with tempfile.TemporaryDirectory() as folder:
+        for file, data in (('a', HELLO), ('e', ASK)):
+            with open(os.path.join(folder, file), 'wb') as handle:
+                handle.write(data)
+        closed = run(['replay', 'a', 'e'], folder, preexec_fn=lambda: os.close(1)).returncode
+        with open('/dev/full', 'wb') as full:
+            filled = run(['replay', 'a', 'e'], folder, stdout=full).returncode
+        return None if (closed, filled) == (5, 5) else 'outputs that take nothing: %r, %r' % (closed, filled)
+
+
+def directory():
+    with tempfile.TemporaryDirectory() as folder:
+        os.mkdir(os.path.join(folder, 'a'))
+        done = run(['replay', 'a', 'e'], folder, stdout=subprocess.PIPE)
+        return None if (done.returncode, done.stdout) == (4, b'read fault: a\n') else 'a directory: %r' % (done,)
+
+
+def main():
+    padded = HELLO + b' ' * (1048576 - len(HELLO))
+    lines = b'\n' * (16777216 - len(ASK)) + ASK
+    line = b'events: line 1: no form\n'
+    results = [example(name[:-4]) for name in sorted(os.listdir(os.path.join(TOP, 'examples'))) if name.endswith('.app')]
+    results += [
+        case('a missing application', {}, ['replay', 'a', 'e'], 4, b'read fault: a\n'),
+        case('missing events', {'a': HELLO}, ['replay', 'a', 'e'], 4, b'read fault: e\n'),
+        directory(),
+        replay('an application of the limit', padded, ASK, 0, PAGE),
+        replay('an application of a byte more', padded + b' ', ASK, 10, b'too long: a, limit 1048576\n'),
+        replay('events of the limit', HELLO, lines, 0, PAGE),
+        replay('events of a byte more', HELLO, b'\n' + lines, 10, b'too long: e, limit 16777216\n'),
+        replay('no line feed at the end', HELLO, ASK[:-1], 0, PAGE),
+        replay('carriage returns', HELLO, ASK[:-1] + b'\r\n', 3, line),
+        replay('a NUL', HELLO, b'ask - GET "/\0" ""\n', 0, b'reply 404 "" "404 Not Found\\n"\n'),
+        replay('a target that is not UTF-8', HELLO, b'ask - GET "/\xff" ""\n', 3, line),
+        replay('an application that is not UTF-8', HELLO + b'\xff', ASK, 2, b'app: refused\n'),
+        closed_output(),
+    ]
+    for wrong in filter(None, results):
+        print('FAILED ' + wrong)
+    failed = sum(1 for wrong in results if wrong)
+    print('%d passed, %d failed' % (len(results) - failed, failed))
+    sys.exit(1 if failed else 0)
+
+
+main()
