@@ -1,5 +1,5 @@
 -- One step of a loop that copies a list, item by item.
-use Rattle.std.proofs.Common.{◌≡◌, ℕ, ◌+◌, ◌<◌, List, [], ◌∷◌, ◌++◌, length, drop, get_or, refl, sym, ◌∙◌, ap, append_assoc, add-one, drop-cons, suc}
+use Rattle.std.proofs.Common.{◌≡◌, ℕ, ◌+◌, ◌<◌, List, [], ◌∷◌, ◌++◌, length, drop, get_or, sym, ◌∙◌, ap, append_assoc, add-one, drop-cons, suc}
 
 module _ {A B : Type 0} (g : A → B) (f : List A → List B) (none : f [] ≡ []) (more : (x : A) (xs : List A) → f (x ∷ xs) ≡ g x ∷ f xs) where
   seen-append : (xs ys : List A) → f (xs ++ ys) ≡ f xs ++ f ys

@@ -1,5 +1,5 @@
 -- A place in a list of the program's items is the place in the list of what they stand for.
-use Rattle.std.proofs.Common.{◌≡◌, ℕ, ◌+◌, ◌<◌, Bool, true, false, not, nat_lt, cond, zero, suc, List, [], ◌∷◌, length, refl, sym, ◌∙◌, ap, Option, Some, None}
+use Rattle.std.proofs.Common.{◌≡◌, ℕ, ◌+◌, Bool, not, nat_lt, cond, zero, suc, List, [], ◌∷◌, length, refl, sym, ◌∙◌, ap, Some, None}
 use Rattle.std.specs.Prelude.{position, slice_get}
 use Rattle.std.specs.List.{prefix_len, position_or_len}
 use Rattle.jac_lang.specs.declared.schema.Group.{Group}

@@ -1,5 +1,5 @@
 -- From the types of the program to the plain data that they stand for.
-use Rattle.std.specs.Prelude.{ℕ, List, [], ◌∷◌}
+use Rattle.std.specs.Prelude.{List, [], ◌∷◌}
 use Rattle.jac_lang.specs.declared.application.App.{App}
 use Rattle.jac_lang.specs.declared.assigned.Public.{Public}
 use Rattle.jac_lang.specs.declared.assigned.Publics.{Publics}

@@ -46,7 +46,7 @@ impl Public {
 
 impl Publics {
     /// These fields turned round, before the others. It takes no memory.
-    fn before(self, others: Publics) -> Publics
+    pub fn before(self, others: Publics) -> Publics
         ensures { assigned_of result ≡ turned (assigned_of self) (assigned_of others) }
     {
         let mut out = others;

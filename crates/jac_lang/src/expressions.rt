@@ -137,7 +137,7 @@ impl Query {
 
 impl Exprs {
     /// These parts turned round, before the others. It takes no memory.
-    fn before(self, others: Exprs) -> Exprs
+    pub fn before(self, others: Exprs) -> Exprs
         ensures { expressions_of result ≡ onto (expressions_of self) (expressions_of others) }
     {
         let mut out = others;

@@ -7,7 +7,8 @@ use jac_value::{Kind, Txt};
 
 /// The number of the model of this name.
 pub fn model_of(app: &App, name: &Txt) -> Option<u8>
-    ensures { result ≡ model_place (application_of app.now).models name.now }
+    ensures place { result ≡ model_place (application_of app.now).models name.now }
+    ensures within { IfSome result (λ m. m < length app.now.models) }
 {
     place_of(&app.models, name)
 }
@@ -15,7 +16,8 @@ pub fn model_of(app: &App, name: &Txt) -> Option<u8>
 /// The number of the field of this name in the model.
 pub fn field_of(app: &App, model: u8, name: &Txt) -> Option<u8>
     requires { model < length app.now.models }
-    ensures { result ≡ field_place (fields_at (application_of app.now).models model) name.now }
+    ensures place { result ≡ field_place (fields_at (application_of app.now).models model) name.now }
+    ensures within { IfSome result (λ f. f < length (fields_at (application_of app.now).models model)) }
 {
     let fields = fields_of(&app.models, model);
     match field_index(fields, name) {
@@ -32,8 +34,7 @@ pub fn kind_of(app: &App, model: u8, field: u8) -> Kind
     ensures { let models = (application_of app.now).models in result ≡ kind_at models (fields_at models model) field }
 {
     let field = field_at(&app.models, model, field);
-    let kind = kind_by_name(&app.models, &field.kind);
-    kind
+    kind_by_name(&app.models, &field.kind)
 }
 
 /// The number of the group of the model that guards the field.
@@ -43,8 +44,7 @@ pub fn group_of(app: &App, model: u8, field: u8) -> Option<u8>
     ensures { let models = (application_of app.now).models in result ≡ group_in (groups_at models model) (fields_at models model) field }
 {
     let field = field_at(&app.models, model, field);
-    let place = group_for_name(&app.models, model, &field.name);
-    place
+    group_for_name(&app.models, model, &field.name)
 }
 
 fn group_for_name(models: &Models, model: u8, name: &Txt) -> Option<u8>

@@ -55,7 +55,7 @@ impl Binder {
 
 impl Binders {
     /// These binders turned round, before the others. It takes no memory.
-    fn before(self, others: Binders) -> Binders
+    pub fn before(self, others: Binders) -> Binders
         ensures { binders_of result ≡ turned (binders_of self) (binders_of others) }
     {
         let mut out = others;

@@ -120,7 +120,7 @@ impl Stmt {
 
 impl Stmts {
     /// These statements turned round, before the others. It takes no memory.
-    fn before(self, others: Stmts) -> Stmts
+    pub fn before(self, others: Stmts) -> Stmts
         ensures { statements_of result ≡ body_onto (statements_of self) (statements_of others) }
     {
         let mut out = others;

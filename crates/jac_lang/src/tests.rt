@@ -1,3 +1,5 @@
+ghost use Rattle.std.specs.Prelude.{◌≤◌, length, IfOk};
+
 use crate::{
     App, Binder, Binders, Binding, Expr, Exprs, Field, Fields, Group, Groups, KindName, ModelDef,
     Models, Op, Order, PlainEnv, Public, Publics, Query, Stmt, Stmts, Verb, View, Views, field_of,
@@ -12,7 +14,9 @@ fn field(alloc: Global, name: &str, kind: KindName) -> Result<Field, Memory> {
     Ok(Field { name, kind })
 }
 
-fn fields(alloc: Global, owner: &str) -> Result<Fields, Memory> {
+fn fields(alloc: Global, owner: &str) -> Result<Fields, Memory>
+    ensures { IfOk result (λ f. length f ≤ 32) }
+{
     let kind = KindName::Ref(Txt::from_str(alloc, owner)?);
     let title = field(alloc, "title", KindName::Text)?;
     let owner = field(alloc, "owner", kind)?;
