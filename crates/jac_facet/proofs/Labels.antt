@@ -1,6 +1,6 @@
-use Rattle.std.proofs.Common.{◌≡◌, ℕ, ◌<◌, ◌==◌, ◌||◌, ◌&&◌, Bool, true, false, List, [], ◌∷◌, refl, arith}
+use Rattle.std.proofs.Common.{◌≡◌, ℕ, ◌<◌, ◌==◌, ◌||◌, Bool, true, false, List, [], ◌∷◌, refl, arith}
 use Rattle.std.proofs.lemmas.Bool.Decides.{nat_tests}
-use Rattle.jac_world.specs.World.{has_pair, IsRising, StartsAbove, StartsAboveBy, IsRisingBy}
+use Rattle.jac_world.specs.World.{has_pair, IsRising, StartsAbove}
 use Rattle.jac_facet.specs.Shape.{Shape, one, fork, Above, IsOrdered, has_label}
 
 no_one : (a b c : Bool) → a ≡ false → b ≡ false → c ≡ false → (a || b || c) ≡ false

@@ -12,7 +12,12 @@ use std::sync::ledger::Ledger;
 
 impl<T: Leaf> Facet<T> {
     /// Under each assignment what the function answers at the value there.
-    pub fn map<U: Leaf, F: Fn(&T) -> Result<U, Memory>, L: Ledger>(&self, alloc: Global, f: F, splits: &mut Steps<L>) -> Result<Facet<U>, Memory>
+    pub fn map<U: Leaf, F: Fn(&T) -> Result<U, Memory>, L: Ledger>(
+        &self,
+        alloc: Global,
+        f: F,
+        splits: &mut Steps<L>,
+    ) -> Result<Facet<U>, Memory>
         requires { F.IsAlwaysCallable f }
         ensures { IfOk result (λ r. (w : ℕ → Bool) → FnReturnsAt F.Fn f (at w self.now) (Ok (at w r))) }
     {
@@ -21,7 +26,13 @@ impl<T: Leaf> Facet<T> {
     }
 
     /// Under each assignment what the function answers at the two values there.
-    pub fn combine<U: Leaf, V: Leaf, F: Fn(&T, &U) -> Result<V, Memory>, L: Ledger>(&self, alloc: Global, other: &Facet<U>, f: F, splits: &mut Steps<L>) -> Result<Facet<V>, Memory>
+    pub fn combine<U: Leaf, V: Leaf, F: Fn(&T, &U) -> Result<V, Memory>, L: Ledger>(
+        &self,
+        alloc: Global,
+        other: &Facet<U>,
+        f: F,
+        splits: &mut Steps<L>,
+    ) -> Result<Facet<V>, Memory>
         requires { F.IsAlwaysCallable f }
         ensures { IfOk result (λ r. (w : ℕ → Bool) → Answers F.Fn f (at w self.now) (at w other.now) (Ok (at w r))) }
     {
@@ -29,7 +40,12 @@ impl<T: Leaf> Facet<T> {
         Ok(combined)
     }
 
-    fn map_by<U: Leaf, F: Fn(&T) -> Result<U, Memory>, L: Ledger>(&self, alloc: Global, f: &F, splits: &mut Steps<L>) -> Result<Facet<U>, Memory>
+    fn map_by<U: Leaf, F: Fn(&T) -> Result<U, Memory>, L: Ledger>(
+        &self,
+        alloc: Global,
+        f: &F,
+        splits: &mut Steps<L>,
+    ) -> Result<Facet<U>, Memory>
         requires { F.IsAlwaysCallable f.now }
         ensures at { IfOk result (λ r. (w : ℕ → Bool) → FnReturnsAt F.Fn f.now (at w self.now) (Ok (at w r))) }
         ensures above { IfOk result (λ r. (k : ℕ) → Above k self.now → Above k r) }
@@ -48,7 +64,13 @@ impl<T: Leaf> Facet<T> {
         }
     }
 
-    fn combine_by<U: Leaf, V: Leaf, F: Fn(&T, &U) -> Result<V, Memory>, L: Ledger>(&self, alloc: Global, other: &Facet<U>, f: &F, splits: &mut Steps<L>) -> Result<Facet<V>, Memory>
+    fn combine_by<U: Leaf, V: Leaf, F: Fn(&T, &U) -> Result<V, Memory>, L: Ledger>(
+        &self,
+        alloc: Global,
+        other: &Facet<U>,
+        f: &F,
+        splits: &mut Steps<L>,
+    ) -> Result<Facet<V>, Memory>
         requires { F.IsAlwaysCallable f.now }
         ensures at { IfOk result (λ r. (w : ℕ → Bool) → Answers F.Fn f.now (at w self.now) (at w other.now) (Ok (at w r))) }
         ensures above { IfOk result (λ r. (k : ℕ) → Above k self.now → Above k other.now → Above k r) }
@@ -59,8 +81,12 @@ impl<T: Leaf> Facet<T> {
                 Ok(Facet::leaf(value))
             }
             Some(label) => {
-                let high = self.side(label, true).combine_by(alloc, other.side(label, true), f, splits)?;
-                let low = self.side(label, false).combine_by(alloc, other.side(label, false), f, splits)?;
+                let high = self
+                    .side(label, true)
+                    .combine_by(alloc, other.side(label, true), f, splits)?;
+                let low = self
+                    .side(label, false)
+                    .combine_by(alloc, other.side(label, false), f, splits)?;
                 let both = Facet::split(alloc, label, high, low, splits)?;
                 Ok(both)
             }
@@ -73,13 +99,7 @@ pub(crate) fn first_label<T: Leaf, U: Leaf>(first: &Facet<T>, second: &Facet<U>)
     ensures { IsLeast (top first.now) (top second.now) result }
 {
     match (first.top(), second.top()) {
-        (Some(x), Some(y)) => {
-            if x < y {
-                Some(x)
-            } else {
-                Some(y)
-            }
-        }
+        (Some(x), Some(y)) => { if x < y { Some(x) } else { Some(y) } }
         (Some(x), None) => Some(x),
         (None, y) => y,
     }

@@ -55,7 +55,13 @@ impl<T: Leaf> Facet<T> {
     }
 
     /// High where the label is shown, else low. Equal sides give that side.
-    pub fn split<L: Ledger>(alloc: Global, label: Label, high: Facet<T>, low: Facet<T>, splits: &mut Steps<L>) -> Result<Facet<T>, Memory>
+    pub fn split<L: Ledger>(
+        alloc: Global,
+        label: Label,
+        high: Facet<T>,
+        low: Facet<T>,
+        splits: &mut Steps<L>,
+    ) -> Result<Facet<T>, Memory>
         requires high { Above label high }
         requires low { Above label low }
         ensures at { IfOk result (λ f. (w : ℕ → Bool) → at w f ≡ (if w label then at w high else at w low)) }
@@ -109,7 +115,7 @@ impl<T: Leaf> Facet<T> {
         }
     }
 
-    fn same(&self, other: &Facet<T>) -> bool
+    pub(crate) fn same(&self, other: &Facet<T>) -> bool
         ensures { IsTrue result ↔ (self.now ≡ other.now) }
     {
         match (&self.node, &other.node) {
@@ -152,13 +158,7 @@ impl<T: Leaf> Facet<T> {
         ensures less { top self.now ≡ Some label → depth result.now < depth self.now }
     {
         match &self.node {
-            Node::Split(first, high, low) if *first == label => {
-                if shown {
-                    high
-                } else {
-                    low
-                }
-            }
+            Node::Split(first, high, low) if *first == label => { if shown { high } else { low } }
             _ => self,
         }
     }

@@ -24,7 +24,12 @@ impl<T: Leaf> Facet<T> {
     }
 
     #[cycle(leaves)]
-    fn add_leaves(&self, alloc: Global, guard: &Guard, out: &mut Vec<(Guard, T)>) -> Result<(), Memory>
+    fn add_leaves(
+        &self,
+        alloc: Global,
+        guard: &Guard,
+        out: &mut Vec<(Guard, T)>,
+    ) -> Result<(), Memory>
         ensures seen { OnOk result ((w : ℕ → Bool) → seen w out.new.items ≡ seen w out.old.items ++ (if holds w guard.now then at w self.now ∷ [] else [])) }
         ensures meets { OnOk result ((w : ℕ → Bool) → meets w out.new.items ≡ (meets w out.old.items || holds w guard.now)) }
         ensures order { OnOk result ((v w : ℕ → Bool) → before v w out.new.items ≡ order_after (meets v out.old.items) (meets w out.old.items) (holds v guard.now) (holds w guard.now) (before v w out.old.items) (higher v w self.now)) }
@@ -44,7 +49,14 @@ impl<T: Leaf> Facet<T> {
 
     // The leaves under the guard where the label has this sign.
     #[cycle(leaves)]
-    fn add_leaves_where(&self, alloc: Global, guard: &Guard, label: Label, sign: bool, out: &mut Vec<(Guard, T)>) -> Result<(), Memory>
+    fn add_leaves_where(
+        &self,
+        alloc: Global,
+        guard: &Guard,
+        label: Label,
+        sign: bool,
+        out: &mut Vec<(Guard, T)>,
+    ) -> Result<(), Memory>
         ensures seen { OnOk result ((w : ℕ → Bool) → seen w out.new.items ≡ seen w out.old.items ++ (if holds w guard.now && beq sign (w label) then at w self.now ∷ [] else [])) }
         ensures meets { OnOk result ((w : ℕ → Bool) → meets w out.new.items ≡ (meets w out.old.items || (holds w guard.now && beq sign (w label)))) }
         ensures order { OnOk result ((v w : ℕ → Bool) → before v w out.new.items ≡ order_after (meets v out.old.items) (meets w out.old.items) (holds v guard.now && beq sign (v label)) (holds w guard.now && beq sign (w label)) (before v w out.old.items) (higher v w self.now)) }
@@ -60,7 +72,12 @@ impl<T: Leaf> Facet<T> {
 }
 
 // The guard that holds where this one does and the label has the sign.
-fn guard_where(alloc: Global, guard: &Guard, label: Label, sign: bool) -> Result<Option<Guard>, Memory>
+fn guard_where(
+    alloc: Global,
+    guard: &Guard,
+    label: Label,
+    sign: bool,
+) -> Result<Option<Guard>, Memory>
     ensures { IfOk result (IsWhere guard.now label sign) }
 {
     let one = from_world(Guard::one(alloc, label, sign))?;
@@ -68,7 +85,12 @@ fn guard_where(alloc: Global, guard: &Guard, label: Label, sign: bool) -> Result
     Ok(both)
 }
 
-fn push_leaf<T: Leaf>(alloc: Global, guard: &Guard, value: &T, out: &mut Vec<(Guard, T)>) -> Result<(), Memory>
+fn push_leaf<T: Leaf>(
+    alloc: Global,
+    guard: &Guard,
+    value: &T,
+    out: &mut Vec<(Guard, T)>,
+) -> Result<(), Memory>
     ensures { OnOk result (out.new.items ≡ out.old.items ++ (guard.now, value.now) ∷ []) }
 {
     let guard = from_world(guard.copy(alloc))?;

@@ -13,7 +13,13 @@ use std::sync::ledger::Ledger;
 
 impl<T: Leaf> Facet<T> {
     /// The new facet where the guard holds, else the old one.
-    pub fn under<L: Ledger>(alloc: Global, guard: &Guard, new: &Facet<T>, old: &Facet<T>, splits: &mut Steps<L>) -> Result<Facet<T>, Memory>
+    pub fn under<L: Ledger>(
+        alloc: Global,
+        guard: &Guard,
+        new: &Facet<T>,
+        old: &Facet<T>,
+        splits: &mut Steps<L>,
+    ) -> Result<Facet<T>, Memory>
         ensures { IfOk result (λ r. (w : ℕ → Bool) → at w r ≡ (if holds w guard.now then at w new.now else at w old.now)) }
     {
         let facet = Facet::under_pairs(alloc, guard.pairs(), new, old, splits)?;
@@ -21,7 +27,12 @@ impl<T: Leaf> Facet<T> {
     }
 
     /// The same under every assignment that meets the cut, without the cut's labels.
-    pub fn prune<L: Ledger>(&self, alloc: Global, cut: &Guard, splits: &mut Steps<L>) -> Result<Facet<T>, Memory>
+    pub fn prune<L: Ledger>(
+        &self,
+        alloc: Global,
+        cut: &Guard,
+        splits: &mut Steps<L>,
+    ) -> Result<Facet<T>, Memory>
         ensures at { IfOk result (λ r. (w : ℕ → Bool) → holds w cut.now ≡ true → at w r ≡ at w self.now) }
         ensures pruned { IfOk result (λ r. (k : ℕ) (b : Bool) → has_pair cut.now k b ≡ true → has_label k r ≡ false) }
     {
@@ -29,7 +40,13 @@ impl<T: Leaf> Facet<T> {
         Ok(facet)
     }
 
-    fn under_pairs<L: Ledger>(alloc: Global, pairs: &[(Label, bool)], new: &Facet<T>, old: &Facet<T>, splits: &mut Steps<L>) -> Result<Facet<T>, Memory>
+    fn under_pairs<L: Ledger>(
+        alloc: Global,
+        pairs: &[(Label, bool)],
+        new: &Facet<T>,
+        old: &Facet<T>,
+        splits: &mut Steps<L>,
+    ) -> Result<Facet<T>, Memory>
         requires { IsRising pairs.now }
         ensures at { IfOk result (λ r. (w : ℕ → Bool) → at w r ≡ (if holds w pairs.now then at w new.now else at w old.now)) }
         ensures above { IfOk result (λ r. (k : ℕ) → StartsAbove k pairs.now → Above k new.now → Above k old.now → Above k r) }
@@ -41,13 +58,31 @@ impl<T: Leaf> Facet<T> {
             }
             Some((pair, rest)) => match label_before(new, old, pair.0) {
                 Some(label) => {
-                    let high = Facet::under_pairs(alloc, pairs, new.side(label, true), old.side(label, true), splits)?;
-                    let low = Facet::under_pairs(alloc, pairs, new.side(label, false), old.side(label, false), splits)?;
+                    let high = Facet::under_pairs(
+                        alloc,
+                        pairs,
+                        new.side(label, true),
+                        old.side(label, true),
+                        splits,
+                    )?;
+                    let low = Facet::under_pairs(
+                        alloc,
+                        pairs,
+                        new.side(label, false),
+                        old.side(label, false),
+                        splits,
+                    )?;
                     let facet = Facet::split(alloc, label, high, low, splits)?;
                     Ok(facet)
                 }
                 None => {
-                    let inner = Facet::under_pairs(alloc, rest, new.side(pair.0, pair.1), old.side(pair.0, pair.1), splits)?;
+                    let inner = Facet::under_pairs(
+                        alloc,
+                        rest,
+                        new.side(pair.0, pair.1),
+                        old.side(pair.0, pair.1),
+                        splits,
+                    )?;
                     let outer = old.side(pair.0, !pair.1).copy(alloc)?;
                     let facet = Facet::split_by_sign(alloc, pair.0, pair.1, inner, outer, splits)?;
                     Ok(facet)
@@ -57,7 +92,14 @@ impl<T: Leaf> Facet<T> {
     }
 
     // The first facet where the label has this sign, else the second.
-    fn split_by_sign<L: Ledger>(alloc: Global, label: Label, sign: bool, met: Facet<T>, unmet: Facet<T>, splits: &mut Steps<L>) -> Result<Facet<T>, Memory>
+    fn split_by_sign<L: Ledger>(
+        alloc: Global,
+        label: Label,
+        sign: bool,
+        met: Facet<T>,
+        unmet: Facet<T>,
+        splits: &mut Steps<L>,
+    ) -> Result<Facet<T>, Memory>
         requires met { Above label met }
         requires unmet { Above label unmet }
         ensures at { IfOk result (λ f. (w : ℕ → Bool) → at w f ≡ (if beq sign (w label) then at w met else at w unmet)) }
@@ -72,7 +114,12 @@ impl<T: Leaf> Facet<T> {
         }
     }
 
-    fn prune_pairs<L: Ledger>(&self, alloc: Global, pairs: &[(Label, bool)], splits: &mut Steps<L>) -> Result<Facet<T>, Memory>
+    fn prune_pairs<L: Ledger>(
+        &self,
+        alloc: Global,
+        pairs: &[(Label, bool)],
+        splits: &mut Steps<L>,
+    ) -> Result<Facet<T>, Memory>
         requires { IsRising pairs.now }
         ensures at { IfOk result (λ r. (w : ℕ → Bool) → holds w pairs.now ≡ true → at w r ≡ at w self.now) }
         ensures pruned { IfOk result (λ r. (k : ℕ) (b : Bool) → has_pair pairs.now k b ≡ true → has_label k r ≡ false) }
@@ -102,7 +149,11 @@ impl<T: Leaf> Facet<T> {
 }
 
 // The smaller of the first labels, if it is below the limit.
-fn label_before<T: Leaf, U: Leaf>(first: &Facet<T>, second: &Facet<U>, limit: Label) -> Option<Label>
+fn label_before<T: Leaf, U: Leaf>(
+    first: &Facet<T>,
+    second: &Facet<U>,
+    limit: Label,
+) -> Option<Label>
     ensures { IsBefore (top first.now) (top second.now) limit result }
 {
     match first_label(first, second) {

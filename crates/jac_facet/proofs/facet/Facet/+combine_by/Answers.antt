@@ -1,4 +1,4 @@
-use Rattle.std.proofs.Common.{◌≡◌, ap, sym, ◌∙◌, Ok}
+use Rattle.std.proofs.Common.{◌≡◌, ap, sym, Ok}
 use Rattle.jac_facet.specs.Answers.{Answers}
 use Rattle.jac_facet.specs.Shape.{at}
 use Rattle.jac_facet.proofs.Joining.{joined}
@@ -21,6 +21,9 @@ returns-in_ok-both-in-Some-clause-at g t c w =
 pub returns-in_ok-value-in-None-clause-at : goal.returns-in_ok-value-in-None-clause-at
 returns-in_ok-value-in-None-clause-at g t c w =
     let v : at w c.leaf.result ≡ c.in_ok-value-in-None.value = ap (at w) c.leaf.ensures in
-    rw v (record { first = c.first.result; second = c.first-in-None.result;
+    rw v (record {
+      first = c.first.result;
+      second = c.first-in-None.result;
       shows = (sym (c.first.ensures c.in-None.ensures.0 w), sym (c.first-in-None.ensures c.in-None.ensures.1 w));
-      met = c.in_ok-value-in-None.ensures; })
+      met = c.in_ok-value-in-None.ensures;
+    })

@@ -18,4 +18,4 @@ returns-in_ok-both-in-Some-clause-at g t c w =
 pub returns-in_ok-value-in-None-clause-at : goal.returns-in_ok-value-in-None-clause-at
 returns-in_ok-value-in-None-clause-at g t c w =
     let v : at w c.leaf.result ≡ c.in_ok-value-in-None.value = ap (at w) c.leaf.ensures in
-    rw v (record { shown = c.first.result; shows = sym (c.first.ensures (sym c.top.ensures.top ∙ c.in-None.is) w); says = record { met = c.in_ok-value-in-None.ensures }; })
+    rw v (record { shown = c.first.result; shows = sym (c.first.ensures (sym c.top.ensures.top ∙ c.in-None.is) w); says = record { met = c.in_ok-value-in-None.ensures } })

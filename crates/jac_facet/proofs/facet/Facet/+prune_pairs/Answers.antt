@@ -1,5 +1,5 @@
-use Rattle.std.proofs.Common.{rules, ◌≡◌, ◌∷◌, true, sym}
-use Rattle.jac_world.specs.World.{holds, has_pair}
+use Rattle.std.proofs.Common.{rules, ◌≡◌, ◌∷◌, true}
+use Rattle.jac_world.specs.World.{holds}
 use Rattle.jac_facet.proofs.Labels.{starts_at, not_below}
 use Rattle.jac_facet.proofs.Joining.{prune_step}
 use Rattle.jac_facet.proofs.facet.Facet.+prune_pairs.Goals as goal

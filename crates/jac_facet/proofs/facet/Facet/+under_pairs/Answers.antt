@@ -1,5 +1,4 @@
-use Rattle.std.proofs.Common.{rules, ◌≡◌, ◌<◌, ◌∷◌, ◌&&◌, Bool, if◌then◌else◌, ap}
-use mathlib.Core.Bool.{beq}
+use Rattle.std.proofs.Common.{rules, ◌≡◌, ◌∷◌, ap}
 use Rattle.jac_world.specs.World.{holds, IsRising}
 use Rattle.jac_facet.specs.Shape.{at}
 use Rattle.jac_facet.proofs.Labels.{starts_at}
@@ -36,9 +35,9 @@ returns-in_ok-facet-in-None-label_before-clause-at g t c w =
     let p : c.args.pairs.now ≡ c.in-Some.pair.now ∷ c.in-Some.rest.now = search rules in
     rw p
     (under_step c.in-Some.pair.now.1 (w c.in-Some.pair.now.0) (holds w c.in-Some.rest.now) _ _ _ _ _ _ _ _
-      (c.in_ok-facet-in-None-label_before.ensures.at w)
-      (c.in_ok-inner-in-None-label_before.ensures.at w)
-      (ap (at w) c.in_ok-outer-in-None-label_before.ensures)
-      (c.side-in-None-label_before.ensures.at w)
-      (c.side-in-None-label_before-2.ensures.at w)
-      (c.side-in-None-label_before-3.ensures.at w))
+    (c.in_ok-facet-in-None-label_before.ensures.at w)
+    (c.in_ok-inner-in-None-label_before.ensures.at w)
+    (ap (at w) c.in_ok-outer-in-None-label_before.ensures)
+    (c.side-in-None-label_before.ensures.at w)
+    (c.side-in-None-label_before-2.ensures.at w)
+    (c.side-in-None-label_before-3.ensures.at w))

@@ -1,4 +1,3 @@
-use Rattle.std.proofs.Common.{◌≡◌, rules}
 use Rattle.jac_facet.specs.Shape.{IsOrdered}
 use Rattle.jac_facet.proofs.Labels.{above_absent}
 use Rattle.jac_facet.proofs.facet.Facet.side_without.Goals as goal
