@@ -1,13 +1,17 @@
-// A library with one function.
+//! Rows with guards, the states that they make up, and what one assignment shows of a state.
 #![tactic(auto)]
 
-ghost use Rattle.std.specs.Prelude.{◌≡◌};
-ghost use Rattle.jac_rows.specs.Echo.{echo_of};
+mod laws;
+mod memory;
+mod plain;
+mod projection;
+mod row;
+mod state;
+mod table;
 
-// The `ensures` clause is the contract: what `echo` returns is `echo_of` of its argument, a definition
-// in `specs/Echo.antt`, which a caller's clause can cite too.
-pub fn echo(x: usize) -> usize
-    ensures { result ≡ echo_of x }
-{
-    x
-}
+pub use laws::good_by_guards;
+pub use plain::{PlainRow, PlainState, PlainTable, PlainTables};
+pub use projection::project;
+pub use row::{Row, Rows};
+pub use state::State;
+pub use table::{Table, Tables};
