@@ -1,9 +1,9 @@
-use Rattle.std.proofs.Common.{◌≡◌, ℕ, ◌+◌, ◌<◌, ◌≤◌, ◌⊎◌, Bool, true, false, ◌&&◌, if◌then◌else◌, List, [], ◌∷◌, map, inl, inr, refl, arith}
+use Rattle.std.proofs.Common.{◌≡◌, ℕ, ◌+◌, ◌<◌, ◌≤◌, Bool, true, false, ◌&&◌, if◌then◌else◌, List, [], ◌∷◌, map, refl, arith}
 use Rattle.std.specs.List.{AllByRecursion}
 use Rattle.jac_value.specs.declared.value.Kind.{Kind}
-use Rattle.jac_world.specs.World.{holds, both, IsApart, IsRisingBy, StartsAboveBy}
+use Rattle.jac_world.specs.World.{holds, IsRisingBy, StartsAboveBy}
 use Rattle.jac_rows.specs.Apart.{IsBefore, IsTable}
-use Rattle.jac_rows.specs.Project.{rows_at, project_at}
+use Rattle.jac_rows.specs.Project.{rows_at}
 use Rattle.jac_rows.specs.Good.{IsRecord, ArePlain, AreGuarded, IsGood, IsGoodByGuards}
 use Rattle.jac_rows.specs.declared.row.Row.{Row}
 use Rattle.jac_rows.specs.declared.plain.PlainRow.{PlainRow}

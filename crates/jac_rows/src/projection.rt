@@ -18,7 +18,11 @@ pub fn project(alloc: Global, state: &State, assignment: &Assignment) -> Result<
     })
 }
 
-fn project_tables(alloc: Global, tables: &Tables, assignment: &Assignment) -> Result<PlainTables, Memory>
+fn project_tables(
+    alloc: Global,
+    tables: &Tables,
+    assignment: &Assignment,
+) -> Result<PlainTables, Memory>
     ensures { IfOk result (λ t. t ≡ map (rows_at (shown assignment.now)) tables.now) }
 {
     let tables = tables.as_slice();

@@ -3,8 +3,8 @@ ghost use Rattle.jac_rows.specs.Apart.{IsTable};
 ghost use Rattle.jac_rows.specs.Tables.{rows_of};
 ghost use Rattle.jac_rows.specs.declared.row.Row.{Row as Item};
 
-use crate::row::copy_rows;
 use crate::Row;
+use crate::row::copy_rows;
 use jac_value::Memory;
 use std::alloc::Global;
 use std::marker::Model;
