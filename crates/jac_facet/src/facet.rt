@@ -1,6 +1,6 @@
 ghost use Rattle.std.specs.Prelude.{◌≡◌, ◌≢◌, ℕ, ◌+◌, ◌<◌, ◌≤◌, Bool, false, if◌then◌else◌, Some, None, IfOk, IfSome, IsTrue, ◌↔◌};
 ghost use Rattle.jac_world.specs.World.{shown};
-ghost use Rattle.jac_facet.specs.Shape.{Shape, one, at, top, depth, Above, has_label};
+ghost use Rattle.jac_facet.specs.Shape.{Shape, one, at, top, depth, Above, IsOrdered, has_label};
 ghost use Rattle.jac_facet.specs.Tops.{UpTo};
 
 use crate::Leaf;
@@ -113,6 +113,13 @@ impl<T: Leaf> Facet<T> {
                 })
             }
         }
+    }
+
+    /// A law: labels rise strictly on every path, and the sides of a split differ.
+    pub fn is_ordered(&self)
+        ensures { IsOrdered self.now }
+    {
+        let _ = &self.node;
     }
 
     pub(crate) fn same(&self, other: &Facet<T>) -> bool
