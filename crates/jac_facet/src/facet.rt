@@ -116,7 +116,7 @@ impl<T: Leaf> Facet<T> {
     }
 
     /// A law: labels rise strictly on every path, and the sides of a split differ.
-    pub fn is_ordered(&self)
+    pub fn keeps_order(&self)
         ensures { IsOrdered self.now }
     {
         let _ = &self.node;
