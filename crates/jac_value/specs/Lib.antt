@@ -1,0 +1,4 @@
+pub mod Ids
+pub mod Quoted
+pub mod SameValue
+pub mod Values

@@ -1,12 +1,18 @@
 ghost use Rattle.std.specs.Prelude.{◌≡◌, ℕ, [], IfOk, IsErrOf};
 ghost use Rattle.std.specs.String.{string_bytes};
 ghost use Rattle.std.specs.Str.{IsUtf8, IsValidUpTo};
+ghost use Rattle.std.proofs.Common.{rules};
+ghost use Rattle.std.specs.Prelude.{◌==◌};
+ghost use Rattle.std.specs.Cmp.Lexicographic.{pointwise, slice_cmp};
+ghost use Rattle.std.specs.Cmp.Rules.{comparing};
+ghost use Rattle.std.specs.Ordering.{nat_cmp, as_partial_cmp};
 
 use crate::Memory;
 use std::alloc::Global;
+use std::cmp::Ordering;
 use std::marker::Model;
 
-/// Text in UTF-8 (RFC 3629).
+/// Text in UTF-8 (RFC 3629), ordered by its bytes.
 #[derive(Debug, Drop)]
 pub struct Txt {
     text: String,
@@ -89,5 +95,43 @@ impl Txt {
             Ok(text) => Ok(Txt { text }),
             Err(_) => Err(TxtFault::Memory),
         }
+    }
+}
+
+impl PartialEq for Txt {
+    ghost eq = { pointwise ◌==◌ };
+
+    ghost laws = { Prim.search (comparing, rules) };
+
+    fn eq(&self, other: &Txt) -> bool {
+        self.as_bytes() == other.as_bytes()
+    }
+}
+
+impl Eq for Txt {
+    ghost laws = { Prim.search (comparing, rules) };
+}
+
+impl PartialOrd for Txt {
+    ghost partial_cmp = { as_partial_cmp (slice_cmp nat_cmp) };
+
+    ghost laws = { Prim.search (comparing, rules) };
+
+    fn partial_cmp(&self, other: &Txt) -> Option<Ordering> {
+        Some(self.cmp(other))
+    }
+}
+
+impl Ord for Txt {
+    ghost cmp = { slice_cmp nat_cmp };
+
+    ghost total = { Prim.search (comparing, rules) };
+
+    ghost matches_partial_cmp = { Prim.search (comparing, rules) };
+
+    ghost matches_eq = { Prim.search (comparing, rules) };
+
+    fn cmp(&self, other: &Txt) -> Ordering {
+        self.as_bytes().cmp(&other.as_bytes())
     }
 }

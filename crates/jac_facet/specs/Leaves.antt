@@ -1,0 +1,29 @@
+use Rattle.std.specs.Prelude.{◌≡◌, ℕ, ◌&&◌, Option, Some, None, Bool, true, false, not, ◌||◌, if◌then◌else◌, List, [], ◌∷◌}
+use Rattle.std.specs.List.{list_any}
+use mathlib.Core.Bool.{beq}
+use Rattle.jac_world.specs.World.{holds}
+
+-- the guard that holds where g does and the label has the sign, or none where that can't be
+abbrev pub IsWhere : List (ℕ × Bool) → ℕ → Bool → Option (List (ℕ × Bool)) → Type 0
+IsWhere g k b None = (w : ℕ → Bool) → (holds w g && beq b (w k)) ≡ false
+IsWhere g k b (Some m) = (w : ℕ → Bool) → holds w m ≡ (holds w g && beq b (w k))
+
+module _ {T : Type 0} where
+  -- the values whose guards hold, in order
+  abbrev pub seen : (ℕ → Bool) → List (List (ℕ × Bool) × T) → List T
+  seen w [] = []
+  seen w (p ∷ ps) = if holds w p.0 then p.1 ∷ seen w ps else seen w ps
+
+  -- a guard of the list holds
+  abbrev pub meets : (ℕ → Bool) → List (List (ℕ × Bool) × T) → Bool
+  meets w ps = list_any (λ p. holds w p.0) ps
+
+  -- the first guard that holds under v stands before the first that holds under w
+  abbrev pub before : (ℕ → Bool) → (ℕ → Bool) → List (List (ℕ × Bool) × T) → Bool
+  before v w [] = false
+  before v w (p ∷ ps) = if holds v p.0 then not (holds w p.0) else (if holds w p.0 then false else before v w ps)
+
+-- whether v's guard stands before w's once more guards were added: as before where an old guard holds under
+-- either; else by the new guards, where they hold under both
+abbrev pub order_after : Bool → Bool → Bool → Bool → Bool → Bool → Bool
+order_after old_v old_w v w old new = if old_v || old_w then old else (if v then (if w then new else true) else false)

@@ -1,0 +1,179 @@
+ghost use Rattle.std.specs.Prelude.{◌≡◌, ◌≢◌, ℕ, ◌+◌, ◌<◌, ◌≤◌, Bool, false, if◌then◌else◌, Some, None, IfOk, IfSome, IsTrue, ◌↔◌};
+ghost use Rattle.jac_world.specs.World.{shown};
+ghost use Rattle.jac_facet.specs.Shape.{Shape, one, at, top, depth, Above, has_label};
+ghost use Rattle.jac_facet.specs.Tops.{UpTo};
+
+use crate::Leaf;
+use jac_value::Memory;
+use jac_world::{Assignment, Label, Steps};
+use std::alloc::Global;
+use std::marker::Model;
+use std::sync::ledger::Ledger;
+
+/// A faceted value (Austin and Flanagan, POPL 2012): one value, or a label with the value where it is shown
+/// and the value where it is hidden.
+#[cycle(facet)]
+#[derive(Drop)]
+pub struct Facet<T> {
+    pub(crate) node: Node<T>,
+}
+
+#[cycle(facet)]
+#[derive(Drop)]
+pub(crate) enum Node<T> {
+    Leaf(T),
+    Split(Label, Box<Facet<T>>, Box<Facet<T>>),
+}
+
+impl<T> Model for Facet<T> {
+    ghost use Rattle.jac_facet.specs.Shape.{Shape, shape_code, depth, IsOrdered};
+
+    ghost Value = { Shape T };
+
+    ghost coded = { shape_code T.code };
+
+    ghost use Rattle.jac_facet.specs.Node.{shape_of};
+
+    ghost view = { λ f. shape_of f.node };
+
+    ghost invariant = { λ f. IsOrdered (shape_of f.node) };
+
+    ghost size = { depth };
+
+    ghost use Rattle.jac_facet.specs.NodeFalls.{deep_le-depth};
+
+    ghost size_decreases = { λ a h. deep_le-depth a.node };
+}
+
+impl<T: Leaf> Facet<T> {
+    pub fn leaf(value: T) -> Facet<T>
+        ensures { result ≡ one value }
+    {
+        Facet {
+            node: Node::Leaf(value),
+        }
+    }
+
+    /// High where the label is shown, else low. Equal sides give that side.
+    pub fn split<L: Ledger>(
+        alloc: Global,
+        label: Label,
+        high: Facet<T>,
+        low: Facet<T>,
+        splits: &mut Steps<L>,
+    ) -> Result<Facet<T>, Memory>
+        requires high { Above label high }
+        requires low { Above label low }
+        ensures at { IfOk result (λ f. (w : ℕ → Bool) → at w f ≡ (if w label then at w high else at w low)) }
+        ensures above { IfOk result (λ f. (k : ℕ) → k < label → Above k f) }
+        ensures labels { IfOk result (λ f. (k : ℕ) → k ≢ label → has_label k high ≡ false → has_label k low ≡ false → has_label k f ≡ false) }
+        ensures ticks { splits.new ≡ splits.old + 1 }
+    {
+        splits.tick();
+        if high.same(&low) {
+            return Ok(high);
+        }
+        let high = Box::new(alloc, high)?;
+        let low = Box::new(alloc, low)?;
+        Ok(Facet {
+            node: Node::Split(label, high, low),
+        })
+    }
+
+    pub fn at(&self, assignment: &Assignment) -> &T
+        ensures { result.now ≡ at (shown assignment.now) self.now }
+    {
+        match &self.node {
+            Node::Leaf(value) => value,
+            Node::Split(label, high, low) => {
+                if assignment.shows(*label) {
+                    high.at(assignment)
+                } else {
+                    low.at(assignment)
+                }
+            }
+        }
+    }
+
+    pub fn copy(&self, alloc: Global) -> Result<Facet<T>, Memory>
+        ensures { IfOk result (λ f. f ≡ self.now) }
+    {
+        match &self.node {
+            Node::Leaf(value) => {
+                let value = value.copy(alloc)?;
+                Ok(Facet {
+                    node: Node::Leaf(value),
+                })
+            }
+            Node::Split(label, high, low) => {
+                let high = Box::new(alloc, high.copy(alloc)?)?;
+                let low = Box::new(alloc, low.copy(alloc)?)?;
+                Ok(Facet {
+                    node: Node::Split(*label, high, low),
+                })
+            }
+        }
+    }
+
+    pub(crate) fn same(&self, other: &Facet<T>) -> bool
+        ensures { IsTrue result ↔ (self.now ≡ other.now) }
+    {
+        match (&self.node, &other.node) {
+            (Node::Leaf(x), Node::Leaf(y)) => x == y,
+            (Node::Split(first, high, low), Node::Split(second, other_high, other_low)) => {
+                first == second && high.same(other_high) && low.same(other_low)
+            }
+            _ => false,
+        }
+    }
+
+    // The first label.
+    pub(crate) fn top(&self) -> Option<Label>
+        ensures top { result ≡ top self.now }
+        ensures first { IfSome result (λ k. UpTo k (top self.now)) }
+    {
+        match &self.node {
+            Node::Leaf(_) => None,
+            Node::Split(label, _, _) => Some(*label),
+        }
+    }
+
+    // The leftmost value.
+    pub(crate) fn first(&self) -> &T
+        ensures { top self.now ≡ None → (w : ℕ → Bool) → at w self.now ≡ result.now }
+    {
+        match &self.node {
+            Node::Leaf(value) => value,
+            Node::Split(_, high, _) => high.first(),
+        }
+    }
+
+    // A side where the label is the first, else the facet itself.
+    pub(crate) fn side(&self, label: Label, shown: bool) -> &Facet<T>
+        ensures at { (w : ℕ → Bool) → w label ≡ shown → at w result.now ≡ at w self.now }
+        ensures past { UpTo label (top self.now) → Above label result.now }
+        ensures above { (k : ℕ) → Above k self.now → Above k result.now }
+        ensures labels { (k : ℕ) → has_label k self.now ≡ false → has_label k result.now ≡ false }
+        ensures depth { depth result.now ≤ depth self.now }
+        ensures less { top self.now ≡ Some label → depth result.now < depth self.now }
+    {
+        match &self.node {
+            Node::Split(first, high, low) if *first == label => { if shown { high } else { low } }
+            _ => self,
+        }
+    }
+
+    // A side of a facet whose labels aren't below this one, which has the label no more.
+    pub(crate) fn side_without(&self, label: Label, shown: bool) -> &Facet<T>
+        requires { UpTo label (top self.now) }
+        ensures at { (w : ℕ → Bool) → w label ≡ shown → at w result.now ≡ at w self.now }
+        ensures gone { has_label label result.now ≡ false }
+        ensures above { (k : ℕ) → Above k self.now → Above k result.now }
+        ensures labels { (k : ℕ) → has_label k self.now ≡ false → has_label k result.now ≡ false }
+        ensures depth { depth result.now ≤ depth self.now }
+    {
+        let side = self.side(label, shown);
+        let _ = &side.node;
+        side
+    }
+}

@@ -1,0 +1,100 @@
+ghost use Rattle.std.specs.Prelude.{◌≡◌, ℕ, Bool, true, ◌&&◌, ◌||◌, ◌++◌, [], ◌∷◌, if◌then◌else◌, IfOk, OnOk};
+ghost use mathlib.Core.Bool.{beq};
+ghost use Rattle.jac_world.specs.World.{holds};
+ghost use Rattle.jac_facet.specs.Shape.{at, higher};
+ghost use Rattle.jac_facet.specs.Leaves.{seen, meets, before, order_after, IsWhere};
+
+use crate::facet::Node;
+use crate::memory::from_world;
+use crate::{Facet, Leaf, Leaves};
+use jac_value::Memory;
+use jac_world::{Guard, Label};
+use std::alloc::Global;
+
+impl<T: Leaf> Facet<T> {
+    /// The values that the facet can have where the guard holds, each with the guard under which it has it:
+    /// under each assignment at most one. High sides come first.
+    pub fn leaves_under(&self, alloc: Global, guard: &Guard) -> Result<Leaves<T>, Memory>
+        ensures seen { IfOk result (λ ps. (w : ℕ → Bool) → seen w ps ≡ (if holds w guard.now then at w self.now ∷ [] else [])) }
+        ensures order { IfOk result (λ ps. (v w : ℕ → Bool) → holds v guard.now ≡ true → holds w guard.now ≡ true → before v w ps ≡ higher v w self.now) }
+    {
+        let mut out = Vec::new(alloc);
+        self.add_leaves(alloc, guard, &mut out)?;
+        Ok(Leaves::from_vec(out))
+    }
+
+    #[cycle(leaves)]
+    fn add_leaves(
+        &self,
+        alloc: Global,
+        guard: &Guard,
+        out: &mut Vec<(Guard, T)>,
+    ) -> Result<(), Memory>
+        ensures seen { OnOk result ((w : ℕ → Bool) → seen w out.new.items ≡ seen w out.old.items ++ (if holds w guard.now then at w self.now ∷ [] else [])) }
+        ensures meets { OnOk result ((w : ℕ → Bool) → meets w out.new.items ≡ (meets w out.old.items || holds w guard.now)) }
+        ensures order { OnOk result ((v w : ℕ → Bool) → before v w out.new.items ≡ order_after (meets v out.old.items) (meets w out.old.items) (holds v guard.now) (holds w guard.now) (before v w out.old.items) (higher v w self.now)) }
+    {
+        match &self.node {
+            Node::Leaf(value) => {
+                push_leaf(alloc, guard, value, out)?;
+                Ok(())
+            }
+            Node::Split(label, high, low) => {
+                high.add_leaves_where(alloc, guard, *label, true, out)?;
+                low.add_leaves_where(alloc, guard, *label, false, out)?;
+                Ok(())
+            }
+        }
+    }
+
+    // The leaves under the guard where the label has this sign.
+    #[cycle(leaves)]
+    fn add_leaves_where(
+        &self,
+        alloc: Global,
+        guard: &Guard,
+        label: Label,
+        sign: bool,
+        out: &mut Vec<(Guard, T)>,
+    ) -> Result<(), Memory>
+        ensures seen { OnOk result ((w : ℕ → Bool) → seen w out.new.items ≡ seen w out.old.items ++ (if holds w guard.now && beq sign (w label) then at w self.now ∷ [] else [])) }
+        ensures meets { OnOk result ((w : ℕ → Bool) → meets w out.new.items ≡ (meets w out.old.items || (holds w guard.now && beq sign (w label)))) }
+        ensures order { OnOk result ((v w : ℕ → Bool) → before v w out.new.items ≡ order_after (meets v out.old.items) (meets w out.old.items) (holds v guard.now && beq sign (v label)) (holds w guard.now && beq sign (w label)) (before v w out.old.items) (higher v w self.now)) }
+    {
+        match guard_where(alloc, guard, label, sign)? {
+            Some(both) => {
+                self.add_leaves(alloc, &both, out)?;
+                Ok(())
+            }
+            None => Ok(()),
+        }
+    }
+}
+
+// The guard that holds where this one does and the label has the sign.
+fn guard_where(
+    alloc: Global,
+    guard: &Guard,
+    label: Label,
+    sign: bool,
+) -> Result<Option<Guard>, Memory>
+    ensures { IfOk result (IsWhere guard.now label sign) }
+{
+    let one = from_world(Guard::one(alloc, label, sign))?;
+    let both = from_world(guard.meet(alloc, &one))?;
+    Ok(both)
+}
+
+fn push_leaf<T: Leaf>(
+    alloc: Global,
+    guard: &Guard,
+    value: &T,
+    out: &mut Vec<(Guard, T)>,
+) -> Result<(), Memory>
+    ensures { OnOk result (out.new.items ≡ out.old.items ++ (guard.now, value.now) ∷ []) }
+{
+    let guard = from_world(guard.copy(alloc))?;
+    let value = value.copy(alloc)?;
+    out.push((guard, value))?;
+    Ok(())
+}

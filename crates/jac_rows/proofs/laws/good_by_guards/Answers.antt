@@ -1,0 +1,5 @@
+use Rattle.jac_rows.proofs.Goodness.{good}
+use Rattle.jac_rows.proofs.laws.good_by_guards.Goals as goal
+
+pub returns : goal.returns
+returns c fields s g = good fields s g

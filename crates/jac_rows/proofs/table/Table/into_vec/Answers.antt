@@ -1,0 +1,4 @@
+use Rattle.jac_rows.proofs.table.Table.into_vec.Goals as goal
+
+pub returns-clause-apart : goal.returns-clause-apart
+returns-clause-apart c = rw (← c.self.view_is) c.self.invariant

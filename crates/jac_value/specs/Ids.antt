@@ -1,0 +1,29 @@
+-- The numbers of records and of labels.
+use Rattle.std.specs.Prelude.{ℕ, ◌+◌, ◌*◌, ◌/◌, ◌%◌, ◌^◌, Bool, ◌&&◌, ◌==◌, nat_lt, nat_le}
+
+-- the id that a creating statement gives: `n` numbers the accepted request, `s` the statement in its view, `m` the model
+abbrev pub record_id : ℕ → ℕ → ℕ → ℕ
+record_id n s m = (n * 64 + s) * 64 + m
+
+-- the model of a record
+abbrev pub model_of_id : ℕ → ℕ
+model_of_id id = id % 64
+
+-- the number of the request that made a record
+abbrev pub number_of_id : ℕ → ℕ
+number_of_id id = id / 4096
+
+-- the label of a group of guarded fields of a record
+abbrev pub label_of : ℕ → ℕ → ℕ
+label_of id group = id * 8 + group
+
+-- the record and the group of a label
+abbrev pub record_of_label : ℕ → ℕ
+record_of_label label = label / 8
+
+abbrev pub group_of_label : ℕ → ℕ
+group_of_label label = label % 8
+
+-- the numbers that are ids of a model
+abbrev pub is_id_of : ℕ → ℕ → Bool
+is_id_of number model = nat_le 4096 number && nat_lt number (2 ^ 52) && model_of_id number == model

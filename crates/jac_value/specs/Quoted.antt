@@ -1,0 +1,29 @@
+-- How bytes stand between quotes on a line of output.
+use Rattle.std.specs.Prelude.{ℕ, ◌+◌, ◌/◌, ◌%◌, ◌==◌, ◌&&◌, nat_lt, nat_le, if◌then◌else◌, List, [], ◌∷◌, ◌++◌, codes}
+
+-- a digit of base 16, in lower case
+abbrev pub hex_digit : ℕ → ℕ
+hex_digit n = if nat_lt n 10 then 48 + n else 87 + n
+
+-- `\xHH`
+abbrev pub hex_escape : ℕ → List ℕ
+hex_escape b = codes "\\x" ++ hex_digit (b / 16) ∷ (hex_digit (b % 16) ∷ [])
+
+-- LF, CR, backslash and quote have short escapes; what is neither visible ASCII nor a space is `\xHH`
+abbrev pub escaped : ℕ → List ℕ
+escaped b =
+    if b == 10 then codes "\\n" else
+    if b == 13 then codes "\\r" else
+    if b == 92 then codes "\\\\" else
+    if b == 34 then codes "\\\"" else
+    if nat_le 32 b && nat_le b 126 then b ∷ [] else
+    hex_escape b
+
+-- the bytes, one after another
+abbrev pub all_escaped : List ℕ → List ℕ
+all_escaped [] = []
+all_escaped (b ∷ bs) = escaped b ++ all_escaped bs
+
+-- the bytes in quotes
+abbrev pub quoted : List ℕ → List ℕ
+quoted bytes = codes "\"" ++ all_escaped bytes ++ codes "\""

@@ -1,0 +1,83 @@
+ghost use Rattle.std.specs.Prelude.{◌≡◌, ◌≢◌, IfOk};
+ghost use Rattle.jac_value.specs.Values.{default_value, value_text};
+
+use crate::{Id, Memory, Txt};
+use std::alloc::Global;
+
+/// What a field or a parameter holds. A reference names its model by its place in the application.
+#[derive(Clone, Copy, Debug, PartialEq, Eq)]
+pub enum Kind {
+    Int,
+    Text,
+    Bool,
+    Ref(u8),
+}
+
+/// A value of a field. Ints are ordered by number and texts by bytes; false comes before true, and none
+/// before every id.
+#[derive(Debug, Drop, PartialEq, Eq, PartialOrd, Ord)]
+pub enum Value {
+    Int(i64),
+    Text(Txt),
+    Bool(bool),
+    Ref(Option<Id>),
+}
+
+impl Value {
+    pub fn copy(&self, alloc: Global) -> Result<Value, Memory>
+        ensures { IfOk result (λ v. v ≡ self.now) }
+    {
+        match self {
+            Value::Int(number) => Ok(Value::Int(*number)),
+            Value::Text(text) => {
+                let text = text.copy(alloc)?;
+                Ok(Value::Text(text))
+            }
+            Value::Bool(truth) => Ok(Value::Bool(*truth)),
+            Value::Ref(id) => Ok(Value::Ref(*id)),
+        }
+    }
+}
+
+/// 0, empty text, false or none.
+pub fn default_of(alloc: Global, kind: &Kind) -> Value
+    ensures { result ≡ default_value kind.now }
+{
+    match kind {
+        Kind::Int => Value::Int(0),
+        Kind::Text => Value::Text(Txt::empty(alloc)),
+        Kind::Bool => Value::Bool(false),
+        Kind::Ref(_) => Value::Ref(None),
+    }
+}
+
+/// How a page shows the value: the decimal number, the text itself, `true` or `false`, the decimal id,
+/// or nothing for no reference.
+pub fn text_of(alloc: Global, value: &Value) -> Result<Txt, Memory>
+    ensures { IfOk result (λ t. t ≡ value_text value.now) }
+{
+    match value {
+        Value::Int(number) => {
+            let digits = format!(in alloc; "{number}")?;
+            Ok(Txt::from_string(digits))
+        }
+        Value::Text(text) => {
+            let text = text.copy(alloc)?;
+            Ok(text)
+        }
+        Value::Bool(true) => {
+            let word = Txt::from_str(alloc, "true")?;
+            Ok(word)
+        }
+        Value::Bool(false) => {
+            let word = Txt::from_str(alloc, "false")?;
+            Ok(word)
+        }
+        Value::Ref(None) => Ok(Txt::empty(alloc)),
+        Value::Ref(Some(id)) => {
+            let number = id.0;
+            let digits = format!(in alloc; "{number}")?;
+            Ok(Txt::from_string(digits))
+        }
+    }
+}

@@ -1,0 +1,4 @@
+pub mod Contradict
+pub mod Cutting
+pub mod Inserting
+pub mod Merging

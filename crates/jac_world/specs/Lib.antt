@@ -1,0 +1,3 @@
+pub mod CutOff
+pub mod Inserted
+pub mod World

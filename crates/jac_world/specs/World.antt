@@ -1,0 +1,85 @@
+use Rattle.std.specs.Prelude.{◌≡◌, ℕ, ◌<◌, Bool, true, false, not, ◌&&◌, ◌==◌, ◌+◌, if◌then◌else◌, Option, Some, None, List, [], ◌∷◌, ⊤}
+use Rattle.std.specs.List.{list_any, list_all, AllByRecursion}
+use mathlib.Core.Bool.{beq}
+
+-- An assignment is a test on labels: true where the label is shown. A guard is a list of labels with signs.
+
+-- what a list of shown labels shows
+abbrev pub shown : List ℕ → ℕ → Bool
+shown a k = list_any (λ x. x == k) a
+
+-- a guard holds where each of its labels is shown or hidden as its sign says
+abbrev pub holds : (ℕ → Bool) → List (ℕ × Bool) → Bool
+holds w g = list_all (λ p. beq p.1 (w p.0)) g
+
+abbrev pub both : (ℕ → Bool) → List (ℕ × Bool) → List (ℕ × Bool) → Bool
+both w g h = holds w g && holds w h
+
+-- how many of the guards hold
+abbrev pub holding : (ℕ → Bool) → List (List (ℕ × Bool)) → ℕ
+holding w [] = 0
+holding w (g ∷ gs) = (if holds w g then 1 else 0) + holding w gs
+
+-- the conjunction of two guards, which is none where they never hold together
+abbrev pub IsMeet : List (ℕ × Bool) → List (ℕ × Bool) → Option (List (ℕ × Bool)) → Type 0
+IsMeet g h None = (w : ℕ → Bool) → both w g h ≡ false
+IsMeet g h (Some m) = (w : ℕ → Bool) → holds w m ≡ both w g h
+
+-- the first key, if there is one, is above k
+abbrev pub StartsAboveBy : {X : Type 0} → (X → ℕ) → ℕ → List X → Type 0
+StartsAboveBy key k [] = ⊤
+StartsAboveBy key k (x ∷ xs) = k < key x
+
+-- the keys rise strictly
+abbrev pub IsRisingBy : {X : Type 0} → (X → ℕ) → List X → Type 0
+IsRisingBy key [] = ⊤
+IsRisingBy key (x ∷ xs) = StartsAboveBy key (key x) xs × IsRisingBy key xs
+
+-- the labels of a guard rise strictly
+abbrev pub IsRising : List (ℕ × Bool) → Type 0
+IsRising g = IsRisingBy (λ p. p.0) g
+
+abbrev pub StartsAbove : ℕ → List (ℕ × Bool) → Type 0
+StartsAbove k g = StartsAboveBy (λ p. p.0) k g
+
+-- the labels of an assignment rise strictly
+abbrev pub IsAscending : List ℕ → Type 0
+IsAscending a = IsRisingBy (λ x. x) a
+
+-- the guard has the label with this sign
+abbrev pub has_pair : List (ℕ × Bool) → ℕ → Bool → Bool
+has_pair g k b = list_any (λ p. (p.0 == k) && beq p.1 b) g
+
+-- the guard names the label
+abbrev pub names : List (ℕ × Bool) → ℕ → Bool
+names g k = list_any (λ p. p.0 == k) g
+
+-- two guards have one label with two signs
+abbrev pub contradict : List (ℕ × Bool) → List (ℕ × Bool) → Bool
+contradict g h = list_any (λ p. has_pair h p.0 (not p.1)) g
+
+-- two guards never hold together
+abbrev pub IsApart : List (ℕ × Bool) → List (ℕ × Bool) → Type 0
+IsApart g h = (w : ℕ → Bool) → both w g h ≡ false
+
+abbrev pub ArePairwiseApart : List (List (ℕ × Bool)) → Type 0
+ArePairwiseApart [] = ⊤
+ArePairwiseApart (g ∷ gs) = AllByRecursion (IsApart g) gs × ArePairwiseApart gs
+
+-- the assignment that shows what the guard wants shown, and no more
+abbrev pub wanted : List (ℕ × Bool) → ℕ → Bool
+wanted g k = has_pair g k true
+
+-- how many labels of a guard, from its first on, are as their signs say before one isn't
+abbrev pub kept : (ℕ → Bool) → List (ℕ × Bool) → ℕ
+kept w [] = 0
+kept w (p ∷ ps) = if beq p.1 (w p.0) then kept w ps + 1 else 0
+
+-- where the first guard holds, the cut is broken at an earlier label than where the second holds
+abbrev pub BreaksEarlier : List (ℕ × Bool) → List (ℕ × Bool) → List (ℕ × Bool) → Type 0
+BreaksEarlier cut g h = (v w : ℕ → Bool) → holds v g ≡ true → holds w h ≡ true → kept v cut < kept w cut
+
+-- the guards come in the order of the labels at which they break the cut
+abbrev pub FollowCut : List (ℕ × Bool) → List (List (ℕ × Bool)) → Type 0
+FollowCut cut [] = ⊤
+FollowCut cut (g ∷ gs) = AllByRecursion (BreaksEarlier cut g) gs × FollowCut cut gs

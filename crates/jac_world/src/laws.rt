@@ -1,0 +1,17 @@
+ghost use Rattle.std.specs.Prelude.{◌≡◌, ℕ, Bool, List, true, IsTrue, ◌↔◌};
+ghost use Rattle.jac_world.specs.World.{holds, names, contradict, wanted, IsRising, IsApart};
+
+/// A law: whether a guard holds depends on the labels that it names alone.
+pub fn holds_by_names()
+    ensures { (g : List (ℕ × Bool)) (v w : ℕ → Bool) → ((k : ℕ) → IsTrue (names g k) → v k ≡ w k) → holds v g ≡ holds w g }
+{}
+
+/// A law: two guards contradict each other exactly where no assignment makes both hold.
+pub fn contradict_where_apart()
+    ensures { (g h : List (ℕ × Bool)) → IsRising g → IsRising h → (IsTrue (contradict g h) ↔ IsApart g h) }
+{}
+
+/// A law: a guard holds under the assignment that shows what it wants shown.
+pub fn holds_somewhere()
+    ensures { (g : List (ℕ × Bool)) → IsRising g → holds (wanted g) g ≡ true }
+{}

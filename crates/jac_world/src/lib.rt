@@ -1,0 +1,20 @@
+//! Labels, guards and assignments of faceted execution, and a counter of steps.
+#![tactic(auto)]
+
+mod assignment;
+mod guard;
+mod guards;
+mod label;
+mod laws;
+mod memory;
+mod steps;
+#[cfg(test)]
+mod tests;
+
+pub use assignment::Assignment;
+pub use guard::Guard;
+pub use guards::Guards;
+pub use label::Label;
+pub use laws::{contradict_where_apart, holds_by_names, holds_somewhere};
+pub use memory::Memory;
+pub use steps::Steps;
