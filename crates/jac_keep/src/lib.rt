@@ -1,0 +1,15 @@
+//! Keepers of a faceted state, and the work of one request over a keeper.
+#![tactic(auto)]
+
+mod alteration;
+mod keeper;
+mod memory_keeper;
+mod placing;
+mod stop;
+mod work;
+
+pub use alteration::{Alteration, Alterations, Change};
+pub use keeper::Keeper;
+pub use memory_keeper::MemoryKeeper;
+pub use stop::Stop;
+pub use work::{Overlay, Work, WorkOver};
