@@ -1,5 +1,5 @@
 -- alterations of records: one more of them, a record and a table after them
-use Rattle.std.proofs.Common.{◌≡◌, ◌≢◌, ℕ, ◌+◌, ◌<◌, ◌≤◌, Bool, true, false, ◌==◌, nat_lt, if◌then◌else◌, List, [], ◌∷◌, ◌++◌, All, Option, Some, None, zero, suc, length, get_or, set, take, drop, drop-cons, unwrap_or, slice_get, refl, sym, add-zero, zero-add, ◌⊎◌, inl, inr, ◌∙◌, ap, arith, rules}
+use Rattle.std.proofs.Common.{◌≡◌, ◌≢◌, ℕ, ◌+◌, ◌<◌, ◌≤◌, Bool, true, false, ◌==◌, if◌then◌else◌, List, [], ◌∷◌, ◌++◌, All, None, zero, suc, length, get_or, set, take, drop, drop-cons, unwrap_or, refl, sym, add-zero, zero-add, ◌⊎◌, inl, inr, ◌∙◌, ap, arith}
 use Rattle.std.proofs.lemmas.Bool.{cases_lt}
 use Rattle.std.proofs.lemmas.Option.{slice_get_past}
 use Rattle.std.proofs.lemmas.List.{set_split}

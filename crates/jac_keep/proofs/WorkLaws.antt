@@ -1,5 +1,5 @@
 -- what a work reads and writes, over the keeper's tables and the replaced records
-use Rattle.std.proofs.Common.{◌≡◌, ℕ, ◌+◌, ◌<◌, List, [], ◌∷◌, Option, Some, None, length, unwrap_or, refl, sym, ◌∙◌, ap}
+use Rattle.std.proofs.Common.{◌≡◌, ℕ, ◌+◌, List, [], ◌∷◌, Some, None, length, unwrap_or, refl, sym, ◌∙◌, ap}
 use Rattle.jac_value.specs.Ids.{model_of_id}
 use Rattle.jac_rows.specs.declared.row.Row.{Row}
 use Rattle.jac_keep.specs.declared.alteration.Alteration.{Alteration}

@@ -1,9 +1,8 @@
 -- records with all their new alternatives
-use Rattle.std.specs.Prelude.{◌≡◌, ℕ, ◌+◌, ◌<◌, Bool, false, ◌==◌, nat_lt, if◌then◌else◌, List, [], ◌∷◌, ⊤, Option, Some, None, length}
+use Rattle.std.specs.Prelude.{ℕ, ◌+◌, ◌<◌, ◌==◌, nat_lt, if◌then◌else◌, List, [], ◌∷◌, ⊤, Option, Some, None}
 use Rattle.jac_value.specs.Ids.{model_of_id}
 use Rattle.jac_world.specs.World.{IsRisingBy}
 use Rattle.jac_rows.specs.declared.row.Row.{Row}
-use Rattle.jac_rows.specs.declared.state.State.{State}
 use Rattle.jac_keep.specs.declared.alteration.Alteration.{Alteration}
 use Rattle.jac_keep.specs.Records.{placed, AreOf}
 

@@ -6,6 +6,7 @@ use Rattle.jac_rows.specs.Apart.{IsTable}
 use Rattle.jac_rows.specs.Good.{IsNext}
 use Rattle.jac_rows.specs.declared.row.Row.{Row}
 use Rattle.jac_rows.specs.declared.state.State.{State}
+use Rattle.jac_keep.specs.declared.alteration.Alteration.{Alteration}
 
 -- a record of the model, made by a request before the next number
 pub record IsMade (model next id : ℕ) : Type 0 where
@@ -31,3 +32,14 @@ AreSound next model (t ∷ ts) =
 pub record IsSound (s : State) : Type 0 where
   pub next : IsNext s.number
   pub tables : AreSound s.number 0 s.tables
+
+-- alternatives of a record that may stand in a sound state with this next number
+pub record MayStand (next id : ℕ) (new : List Row) : Type 0 where
+  pub own : AllByRecursion (λ (r : Row). r.id ≡ id) new
+  pub rising : AreRising new
+  pub made : AllByRecursion (λ (r : Row). IsMade (model_of_id id) next r.id) new
+
+-- the alternatives of each alteration may stand
+abbrev pub AllStand : ℕ → List Alteration → Type 0
+AllStand next [] = ⊤
+AllStand next (a ∷ rest) = MayStand next a.id a.rows × AllStand next rest

@@ -1,6 +1,5 @@
 -- a work as one state, and what its calls keep
-use Rattle.std.specs.Prelude.{◌≡◌, ℕ, Bool, IsTrue, List, length}
-use Rattle.jac_rows.specs.declared.row.Row.{Row}
+use Rattle.std.specs.Prelude.{◌≡◌, Bool, IsTrue, length}
 use Rattle.jac_rows.specs.declared.state.State.{State}
 use Rattle.jac_keep.specs.declared.alteration.Alterations.{Alterations}
 use Rattle.jac_keep.specs.declared.work.WorkOver.{WorkOver}

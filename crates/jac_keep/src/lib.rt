@@ -3,13 +3,17 @@
 
 mod alteration;
 mod keeper;
+mod laws;
 mod memory_keeper;
 mod placing;
 mod stop;
+#[cfg(test)]
+mod tests;
 mod work;
 
 pub use alteration::{Alteration, Alterations, Change};
 pub use keeper::Keeper;
+pub use laws::{sound_after_change, sound_if_good};
 pub use memory_keeper::MemoryKeeper;
 pub use stop::Stop;
 pub use work::{Overlay, Work, WorkOver};

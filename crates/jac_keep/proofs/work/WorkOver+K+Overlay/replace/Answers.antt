@@ -1,4 +1,4 @@
-use Rattle.std.proofs.Common.{◌≡◌, refl}
+use Rattle.std.proofs.Common.{refl}
 use Rattle.jac_keep.proofs.WorkLaws.{replaced}
 use Rattle.jac_keep.proofs.AlteringLaws.{placed-renamed, are_of}
 use Rattle.jac_keep.proofs.work.WorkOver+K+Overlay.replace.Goals as goal
