@@ -1,0 +1,4 @@
+pub mod PlacingLaws
+pub mod AlteringLaws
+pub mod WorkLaws
+pub mod SoundLaws

@@ -1,0 +1,9 @@
+use Rattle.std.proofs.Common.{◌≡◌, ap}
+use Rattle.jac_keep.specs.Kept.{applied}
+use Rattle.jac_keep.proofs.SoundLaws.{tables_of_sound}
+use Rattle.jac_keep.proofs.memory_keeper.MemoryKeeperKeeper.apply.Goals as goal
+
+pub altered_tables-requires : goal.altered_tables-requires
+altered_tables-requires c =
+    let same : c.self.inside.state ≡ c.args.self.now.state = ap (λ k. k.state) c.self.view_is in
+    tables_of_sound (applied c.args.change.now c.self.inside.state) (rw same c.requires)

@@ -1,0 +1,50 @@
+-- records with all their new alternatives
+use Rattle.std.specs.Prelude.{ℕ, ◌+◌, ◌<◌, ◌==◌, nat_lt, if◌then◌else◌, List, [], ◌∷◌, ⊤, Option, Some, None}
+use Rattle.jac_value.specs.Ids.{model_of_id}
+use Rattle.jac_world.specs.World.{IsRisingBy}
+use Rattle.jac_rows.specs.declared.row.Row.{Row}
+use Rattle.jac_keep.specs.declared.alteration.Alteration.{Alteration}
+use Rattle.jac_keep.specs.Records.{placed, AreOf}
+
+-- each alteration has rows of its own record alone
+abbrev pub AreOwn : List Alteration → Type 0
+AreOwn [] = ⊤
+AreOwn (a ∷ rest) = AreOf a.id a.rows × AreOwn rest
+
+-- one alteration for each record, by rising id
+pub record AreApart (rest : List Alteration) : Type 0 where
+  pub rising : IsRisingBy (λ (a : Alteration). a.id) rest
+  pub own : AreOwn rest
+
+-- the new alternatives of a record, where it is named
+abbrev pub named : ℕ → List Alteration → Option (List Row)
+named id [] = None
+named id (a ∷ rest) = if a.id == id then Some a.rows else named id rest
+
+-- the alterations after one more, which takes the place of an earlier one of its record
+abbrev pub renamed : ℕ → List Row → List Alteration → List Alteration
+renamed id rows [] = record { id = id; rows = rows } ∷ []
+renamed id rows (a ∷ rest) =
+    if nat_lt a.id id
+    then a ∷ renamed id rows rest
+    else (if a.id == id then record { id = id; rows = rows } ∷ rest else record { id = id; rows = rows } ∷ a ∷ rest)
+
+-- the rows of one model after the alterations of its records
+abbrev pub altered : ℕ → List Alteration → List Row → List Row
+altered model [] rows = rows
+altered model (a ∷ rest) rows =
+    altered model rest (if model_of_id a.id == model then placed a.id a.rows rows else rows)
+
+-- the tables after the alterations, from the table of a model on
+abbrev pub overlaid_from : ℕ → List Alteration → List (List Row) → List (List Row)
+overlaid_from model rest [] = []
+overlaid_from model rest (t ∷ ts) = altered model rest t ∷ overlaid_from (model + 1) rest ts
+
+-- the tables after the alterations
+abbrev pub overlaid : List Alteration → List (List Row) → List (List Row)
+overlaid rest tables = overlaid_from 0 rest tables
+
+-- each altered record has a table
+abbrev pub ArePlaced : List Alteration → ℕ → Type 0
+ArePlaced [] count = ⊤
+ArePlaced (a ∷ rest) count = (model_of_id a.id < count) × ArePlaced rest count

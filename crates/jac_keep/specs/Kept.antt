@@ -1,0 +1,14 @@
+-- states after a record or a change
+use Rattle.std.specs.Prelude.{ℕ, List, [], ◌∷◌}
+use Rattle.jac_rows.specs.declared.row.Row.{Row}
+use Rattle.jac_rows.specs.declared.state.State.{State}
+use Rattle.jac_keep.specs.declared.alteration.Change.{Change}
+use Rattle.jac_keep.specs.Alterations.{overlaid}
+
+-- the state with these rows in place of a record's alternatives
+abbrev pub state_with : ℕ → List Row → State → State
+state_with id rows s = record s { tables = overlaid (record { id = id; rows = rows } ∷ []) s.tables }
+
+-- the state after a change: the named records are replaced and the number is set
+abbrev pub applied : Change → State → State
+applied c s = record { tables = overlaid c.changed s.tables; number = c.number }

@@ -1,0 +1,7 @@
+pub mod Records
+pub mod Alterations
+pub mod Cause
+pub mod Kept
+pub mod Worked
+pub mod Sound
+pub mod KeeperState

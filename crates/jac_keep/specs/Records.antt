@@ -1,0 +1,28 @@
+-- the rows of a table by their ids
+use Rattle.std.specs.Prelude.{◌≡◌, ℕ, Bool, ◌==◌, nat_lt, if◌then◌else◌, List, [], ◌∷◌, ◌++◌, ⊤}
+use Rattle.jac_rows.specs.declared.row.Row.{Row}
+
+-- the rows whose ids pass the test, in their order
+abbrev pub with_id : (ℕ → Bool) → List Row → List Row
+with_id test [] = []
+with_id test (r ∷ rs) = if test r.id then r ∷ with_id test rs else with_id test rs
+
+-- the alternatives of a record
+abbrev pub alternatives : ℕ → List Row → List Row
+alternatives id rows = with_id (λ i. i == id) rows
+
+-- the rows before and behind a record's place
+abbrev pub before : ℕ → List Row → List Row
+before id rows = with_id (λ i. nat_lt i id) rows
+
+abbrev pub behind : ℕ → List Row → List Row
+behind id rows = with_id (λ i. nat_lt id i) rows
+
+-- the rows with these in place of the record's alternatives
+abbrev pub placed : ℕ → List Row → List Row → List Row
+placed id new rows = before id rows ++ new ++ behind id rows
+
+-- each of the rows is an alternative of the record
+abbrev pub AreOf : ℕ → List Row → Type 0
+AreOf id [] = ⊤
+AreOf id (r ∷ rs) = (r.id ≡ id) × AreOf id rs

@@ -1,0 +1,157 @@
+ghost use Rattle.std.specs.Prelude.{◌≡◌, ◌<◌, ◌≤◌, ℕ, List, [], length, All, insert, slice_set, IfOk, OnOk, OnErr, MatchResult};
+ghost use Rattle.std.specs.Option.{option_copied};
+ghost use Rattle.jac_rows.specs.declared.row.Row.{Row as Seen};
+ghost use Rattle.jac_keep.specs.Alterations.{AreApart, named, renamed, altered};
+
+use crate::placing::alter_rows;
+use jac_rows::Rows;
+use jac_value::{Id, Memory};
+use std::alloc::Global;
+use std::marker::Model;
+
+/// A record with all its new alternatives. With no rows the record is gone.
+#[derive(Debug, Drop)]
+pub struct Alteration {
+    pub id: Id,
+    pub rows: Rows,
+}
+
+impl Alteration {
+    pub fn copy(&self, alloc: Global) -> Result<Alteration, Memory>
+        ensures { IfOk result (λ a. a ≡ self.now) }
+    {
+        let rows = self.rows.copy(alloc)?;
+        Ok(Alteration { id: self.id, rows })
+    }
+}
+
+/// Alterations of records, one for each, by rising id.
+#[derive(Debug, Drop)]
+pub struct Alterations {
+    changed: Vec<Alteration>,
+}
+
+impl Model for Alterations {
+    ghost use Rattle.std.specs.Prelude.{List};
+    ghost use Rattle.jac_keep.specs.declared.alteration.Alteration.{Alteration as Item};
+
+    ghost Value = { List Item };
+
+    ghost use Rattle.jac_keep.specs.Alterations.{AreApart};
+
+    ghost view = { λ a. a.changed.items };
+
+    ghost invariant = { λ a. AreApart a.changed.items };
+}
+
+impl Alterations {
+    pub fn empty(alloc: Global) -> Alterations
+        ensures { result ≡ [] }
+    {
+        Alterations {
+            changed: Vec::new(alloc),
+        }
+    }
+
+    pub fn from_vec(changed: Vec<Alteration>) -> Alterations
+        requires { AreApart changed.items }
+        ensures { result ≡ changed.items }
+    {
+        Alterations { changed }
+    }
+
+    pub fn into_vec(self) -> Vec<Alteration>
+        ensures items { result.items ≡ self }
+        ensures apart { AreApart self }
+    {
+        self.changed
+    }
+
+    pub fn as_slice(&self) -> &[Alteration]
+        ensures items { result.now ≡ self.now }
+        ensures apart { AreApart self.now }
+    {
+        self.changed.as_slice()
+    }
+
+    pub fn copy(&self, alloc: Global) -> Result<Alterations, Memory>
+        ensures { IfOk result (λ a. a ≡ self.now) }
+    {
+        let items = self.changed.as_slice();
+        let mut changed = Vec::new(alloc);
+        'changed: for alteration in items {
+            let alteration = alteration.copy(alloc)?;
+            changed.push(alteration)?;
+        }
+        Ok(Alterations { changed })
+    }
+
+    /// The new alternatives of the record, if it is named.
+    pub fn find(&self, id: Id) -> Option<&Rows>
+        ensures found { option_copied result ≡ named id self.now }
+        ensures apart { AreApart self.now }
+    {
+        let items = self.changed.as_slice();
+        'changed: for alteration in items {
+            if alteration.id == id {
+                return Some(&alteration.rows);
+            }
+        }
+        None
+    }
+
+    /// Names the record, in place of its earlier alteration if there is one.
+    #[tactic(auto, using(crate::proofs::AlteringLaws::apart_put))]
+    pub fn put(&mut self, id: Id, rows: Rows) -> Result<(), Memory>
+        requires { All (λ (r : Seen). r.id ≡ id) rows }
+        ensures put { OnOk result (self.new ≡ renamed id rows self.old) }
+        ensures apart { AreApart self.old }
+    {
+        put_in(&mut self.changed, id, rows)?;
+        Ok(())
+    }
+
+    /// The rows of a model after the alterations of its records.
+    pub fn alter(&self, alloc: Global, model: usize, rows: Rows) -> Result<Rows, Memory>
+        ensures altered { IfOk result (λ r. r ≡ altered model self.now rows) }
+        ensures apart { AreApart self.now }
+    {
+        let rows = alter_rows(alloc, self.changed.as_slice(), model, rows.into_vec())?;
+        Ok(Rows::from_vec(rows))
+    }
+}
+
+// Names the record, in place of its earlier alteration if there is one.
+fn put_in(changed: &mut Vec<Alteration>, id: Id, rows: Rows) -> Result<(), Memory>
+    ensures ok { OnOk result (changed.new.items ≡ renamed id rows changed.old.items) }
+    ensures err { OnErr result (changed.new.items ≡ changed.old.items) }
+{
+    match place_of(changed.as_slice(), id) {
+        Ok(at) => changed[at] = Alteration { id, rows },
+        Err(at) => changed.insert(at, Alteration { id, rows })?,
+    }
+    Ok(())
+}
+
+// Where the record's alteration stands, or where it would.
+fn place_of(items: &[Alteration], id: Id) -> Result<usize, usize>
+    ensures within { MatchResult result (λ at. at < length items.now) (λ at. at ≤ length items.now) }
+    ensures place { MatchResult result (λ at. (rows : List Seen) → renamed id rows items.now ≡ slice_set items.now at (record { id = id; rows = rows })) (λ at. (rows : List Seen) → renamed id rows items.now ≡ insert items.now at (record { id = id; rows = rows })) }
+{
+    'items: for (at, alteration) in items.iter().enumerate() {
+        if alteration.id == id {
+            return Ok(at);
+        }
+        if id < alteration.id {
+            return Err(at);
+        }
+    }
+    Err(items.len())
+}
+
+/// What a request leaves: the records that it altered, and the next number.
+#[derive(Debug, Drop)]
+pub struct Change {
+    pub changed: Alterations,
+    pub number: u64,
+}

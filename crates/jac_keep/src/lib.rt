@@ -1,0 +1,19 @@
+//! Keepers of a faceted state, and the work of one request over a keeper.
+#![tactic(auto)]
+
+mod alteration;
+mod keeper;
+mod laws;
+mod memory_keeper;
+mod placing;
+mod stop;
+#[cfg(test)]
+mod tests;
+mod work;
+
+pub use alteration::{Alteration, Alterations, Change};
+pub use keeper::Keeper;
+pub use laws::{sound_after_change, sound_if_good};
+pub use memory_keeper::MemoryKeeper;
+pub use stop::Stop;
+pub use work::{Overlay, Work, WorkOver};

@@ -1,0 +1,201 @@
+ghost use Rattle.std.specs.Prelude.{◌≡◌, ◌≤◌, ◌^◌, ◌↔◌, ◌++◌, ◌∷◌, [], true, IfOk, OnOk, OnErr, IsTrue, IsErrOf};
+ghost use Rattle.jac_value.specs.Ids.{model_of_id};
+ghost use Rattle.jac_keep.specs.Sound.{IsSound, AreTables};
+ghost use Rattle.jac_rows.specs.Tables.{rows_of};
+ghost use Rattle.jac_keep.specs.Records.{alternatives};
+ghost use Rattle.jac_keep.specs.Alterations.{overlaid};
+ghost use Rattle.jac_keep.specs.Cause.{HasCause};
+ghost use Rattle.jac_keep.specs.Kept.{applied};
+
+use crate::{Alterations, Change, Keeper, Stop};
+use jac_io::Calls;
+use jac_rows::{Row, Rows, State, Table, Tables};
+use jac_value::{Id, Memory, id_model};
+use std::alloc::Global;
+use std::marker::Model;
+
+/// A keeper in memory, which tells its state. A call fails where it is a listed one. Reads are the calls of
+/// `number`, `rows` and `one`; they and the applies are counted apart, from 1.
+#[derive(Debug, Drop)]
+pub struct MemoryKeeper {
+    state: State,
+    fail_reads: Calls,
+    fail_applies: Calls,
+    reads: u64,
+    applies: u64,
+    faults: u64,
+}
+
+impl Model for MemoryKeeper {
+    ghost use Rattle.jac_keep.specs.Sound.{IsSound};
+    ghost use Rattle.jac_keep.specs.KeeperState.{KeeperState};
+
+    ghost Value = { KeeperState };
+
+    ghost view = { λ k. record { state = k.state; fail_reads = k.fail_reads; fail_applies = k.fail_applies; reads = k.reads; applies = k.applies; faults = k.faults } };
+
+    ghost invariant = { λ k. IsSound k.state };
+}
+
+impl MemoryKeeper {
+    pub fn new(state: State, fail_reads: Calls, fail_applies: Calls) -> MemoryKeeper
+        requires { IsSound state }
+        ensures { result ≡ record { state = state; fail_reads = fail_reads; fail_applies = fail_applies; reads = 0; applies = 0; faults = 0 } }
+    {
+        MemoryKeeper {
+            state,
+            fail_reads,
+            fail_applies,
+            reads: 0,
+            applies: 0,
+            faults: 0,
+        }
+    }
+
+    pub fn state(&self) -> &State
+        ensures state { result.now ≡ self.now.state }
+        ensures good { IsSound self.now.state }
+    {
+        &self.state
+    }
+}
+
+impl MemoryKeeper {
+    ghost use Rattle.jac_keep.specs.KeeperState.{read_fails, after_read};
+
+    // Counts a read, and stops it if it is listed.
+    fn count_read(&mut self) -> Result<(), Stop>
+        ensures left { self.new ≡ after_read self.old }
+        ensures stopped { IsErrOf result Stop.Keeper ↔ IsTrue (read_fails self.old) }
+        ensures good { IsSound self.new.state }
+        ensures cause { HasCause self.old.faults self.new.faults result }
+    {
+        self.reads = self.reads.saturating_add(1);
+        let listed = self.fail_reads.lists(self.reads);
+        if listed {
+            self.faults = self.faults.saturating_add(1);
+            return Err(Stop::Keeper);
+        }
+        Ok(())
+    }
+}
+
+impl Keeper for MemoryKeeper {
+    ghost use Rattle.jac_keep.specs.KeeperState.{read_fails, after_read, apply_fails, after_apply};
+
+    ghost tells = { λ _. true };
+
+    ghost state = { λ k. k.state };
+
+    ghost faults = { λ k. k.faults };
+
+    ghost attached = { λ _. true };
+
+    fn number(&mut self) -> Result<u64, Stop>
+        ensures left { self.new ≡ after_read self.old }
+        ensures stopped { IsErrOf result Stop.Keeper ↔ IsTrue (read_fails self.old) }
+        ensures exact { IfOk result (λ n. n ≡ self.old.state.number) }
+        ensures in_range { IfOk result (λ n. (1 ≤ n) × (n ≤ 2 ^ 40)) }
+        ensures good { IsSound self.new.state }
+        ensures cause { HasCause self.old.faults self.new.faults result }
+    {
+        self.count_read()?;
+        Ok(self.state.number)
+    }
+
+    fn rows(&mut self, alloc: Global, model: u8) -> Result<Rows, Stop>
+        ensures left { self.new ≡ after_read self.old }
+        ensures stopped { IsErrOf result Stop.Keeper ↔ IsTrue (read_fails self.old) }
+        ensures exact { IfOk result (λ rows. rows ≡ rows_of self.old.state.tables model) }
+        ensures good { IsSound self.new.state }
+        ensures cause { HasCause self.old.faults self.new.faults result }
+    {
+        self.count_read()?;
+        let rows = copy_rows(alloc, self.state.tables.rows(model))?;
+        Ok(rows)
+    }
+
+    fn one(&mut self, alloc: Global, id: Id) -> Result<Rows, Stop>
+        ensures left { self.new ≡ after_read self.old }
+        ensures stopped { IsErrOf result Stop.Keeper ↔ IsTrue (read_fails self.old) }
+        ensures exact { IfOk result (λ rows. rows ≡ alternatives id (rows_of self.old.state.tables (model_of_id id))) }
+        ensures good { IsSound self.new.state }
+        ensures cause { HasCause self.old.faults self.new.faults result }
+    {
+        self.count_read()?;
+        let rows = copy_of(alloc, self.state.tables.rows(id_model(id)), id)?;
+        Ok(rows)
+    }
+
+    fn apply(&mut self, alloc: Global, change: &Change) -> Result<(), Stop>
+        requires { IsSound (applied change.now self.old.state) }
+        ensures ok { OnOk result (self.new ≡ record (after_apply self.old) { state = applied change.now self.old.state }) }
+        ensures err { OnErr result (self.new ≡ after_apply self.old) }
+        ensures good { IsSound self.new.state }
+        ensures stopped { IsErrOf result Stop.Keeper ↔ IsTrue (apply_fails self.old) }
+        ensures cause { HasCause self.old.faults self.new.faults result }
+    {
+        self.applies = self.applies.saturating_add(1);
+        let listed = self.fail_applies.lists(self.applies);
+        if listed {
+            self.faults = self.faults.saturating_add(1);
+            return Err(Stop::Keeper);
+        }
+        let tables = altered_tables(alloc, &self.state.tables, &change.changed)?;
+        self.state = State {
+            tables,
+            number: change.number,
+        };
+        Ok(())
+    }
+}
+
+// Copies of the rows.
+fn copy_rows(alloc: Global, rows: &[Row]) -> Result<Rows, Memory>
+    ensures { IfOk result (λ r. r ≡ rows.now) }
+{
+    let mut copies = Vec::new(alloc);
+    'rows: for row in rows {
+        let row = row.copy(alloc)?;
+        copies.push(row)?;
+    }
+    Ok(Rows::from_vec(copies))
+}
+
+// Copies of the rows of the record.
+fn copy_of(alloc: Global, rows: &[Row], id: Id) -> Result<Rows, Memory>
+    ensures { IfOk result (λ r. r ≡ alternatives id rows.now) }
+{
+    let mut copies = Vec::new(alloc);
+    'rows: for row in rows {
+        add_if_of(alloc, &mut copies, row, id)?;
+    }
+    Ok(Rows::from_vec(copies))
+}
+
+// Adds a copy of the row if it is an alternative of the record.
+fn add_if_of(alloc: Global, copies: &mut Vec<Row>, row: &Row, id: Id) -> Result<(), Memory>
+    ensures { OnOk result (copies.new.items ≡ copies.old.items ++ alternatives id (row.now ∷ [])) }
+{
+    if row.id == id {
+        let row = row.copy(alloc)?;
+        copies.push(row)?;
+    }
+    Ok(())
+}
+
+// The tables after the alterations.
+fn altered_tables(alloc: Global, tables: &Tables, changed: &Alterations) -> Result<Tables, Memory>
+    requires { AreTables (overlaid changed.now tables.now) }
+    ensures { IfOk result (λ t. t ≡ overlaid changed.now tables.now) }
+{
+    let old = tables.as_slice();
+    let mut new = Vec::new(alloc);
+    'tables: for (model, table) in old.iter().enumerate() {
+        let rows = copy_rows(alloc, table.as_slice())?;
+        let rows = changed.alter(alloc, model, rows)?;
+        let table = Table::from_vec(rows.into_vec());
+        new.push(table)?;
+    }
+    Ok(Tables::from_vec(new))
+}

@@ -1,0 +1,108 @@
+//! The work of one request: a keeper, and the records that the request replaced.
+ghost use Rattle.std.specs.Prelude.{◌≡◌, ◌<◌, ◌≤◌, [], length, All, IfOk, IsOkAnd, OnOk, IsTrue};
+ghost use Rattle.jac_value.specs.Ids.{model_of_id};
+ghost use Rattle.jac_rows.specs.Tables.{rows_of};
+ghost use Rattle.jac_keep.specs.Records.{alternatives};
+ghost use Rattle.jac_rows.specs.declared.row.Row.{Row as Seen};
+ghost use Rattle.jac_keep.specs.Cause.{HasCause};
+ghost use Rattle.jac_keep.specs.Kept.{state_with, applied};
+ghost use Rattle.jac_keep.specs.Worked.{state_of, IsTold, LeavesKeeper, IsUntouched};
+
+use crate::{Alterations, Change, Keeper, Stop};
+use jac_rows::Rows;
+use jac_value::{Id, Memory};
+use std::alloc::Global;
+
+/// The records that a request replaced so far, each with all its alternatives.
+pub type Overlay = Alterations;
+
+/// A keeper with replaced records over it. It has a type parameter for these, so that whoever let it go
+/// knows the keeper afterwards; `Work` is the form to use.
+pub struct WorkOver<'k, K: Keeper, O> {
+    pub keeper: &'k mut K,
+    pub over: O,
+}
+
+/// One state: the keeper's, with the replaced records. The keeper's is never changed by it.
+pub type Work<'k, K> = WorkOver<'k, K, Overlay>;
+
+impl<K: Keeper, O: Drop> Drop for WorkOver<'_, K, O> {
+    fn drop(self)
+        ensures { self.exit.0.now ≡ self.entry.keeper.now }
+    {
+        let WorkOver { keeper: _, over: _ } = self;
+    }
+}
+
+impl<'k, K: Keeper> WorkOver<'k, K, Overlay> {
+    #[tactic(auto, using(crate::proofs::WorkLaws::overlaid_none))]
+    pub fn new(alloc: Global, keeper: &'k mut K) -> Work<'k, K>
+        ensures reference { result.keeper.ghost_name ≡ keeper.entry.ghost_name }
+        ensures keeper { result.keeper.now ≡ keeper.old }
+        ensures over { result.over ≡ [] }
+        ensures state { state_of K.state result ≡ K.state keeper.old }
+        ensures told { IsTrue (K.tells keeper.old) → IsTold K.tells K.state result }
+    {
+        WorkOver {
+            keeper,
+            over: Alterations::empty(alloc),
+        }
+    }
+
+    /// All rows of the model.
+    pub fn rows(&mut self, alloc: Global, model: u8) -> Result<Rows, Stop>
+        requires { IsTrue (K.attached self.old.keeper.now) }
+        ensures exact { IsTold K.tells K.state self.old → IfOk result (λ rows. rows ≡ rows_of (state_of K.state self.old).tables model) }
+        ensures cause { HasCause (K.faults self.old.keeper.now) (K.faults self.new.keeper.now) result }
+        ensures same { IsUntouched K.tells K.state K.attached self.old self.new }
+    {
+        let rows = self.keeper.rows(alloc, model)?;
+        let rows = self.over.alter(alloc, usize::from(model), rows)?;
+        Ok(rows)
+    }
+
+    /// The alternatives of one record.
+    pub fn one(&mut self, alloc: Global, id: Id) -> Result<Rows, Stop>
+        requires { IsTrue (K.attached self.old.keeper.now) }
+        ensures exact { IsTold K.tells K.state self.old → IfOk result (λ rows. rows ≡ alternatives id (rows_of (state_of K.state self.old).tables (model_of_id id))) }
+        ensures cause { HasCause (K.faults self.old.keeper.now) (K.faults self.new.keeper.now) result }
+        ensures same { IsUntouched K.tells K.state K.attached self.old self.new }
+    {
+        match self.over.find(id) {
+            Some(rows) => {
+                let rows = rows.copy(alloc)?;
+                Ok(rows)
+            }
+            None => {
+                let rows = self.keeper.one(alloc, id)?;
+                Ok(rows)
+            }
+        }
+    }
+
+    /// Puts these rows in place of the record's alternatives. With no rows the record is gone.
+    pub fn replace(&mut self, id: Id, rows: Rows) -> Result<(), Stop>
+        requires own { All (λ (r : Seen). r.id ≡ id) rows }
+        requires a_table { IsTrue (K.tells self.old.keeper.now) → model_of_id id < length (K.state self.old.keeper.now).tables }
+        ensures exact { OnOk result (state_of K.state self.new ≡ state_with id rows (state_of K.state self.old)) }
+        ensures told { IsTold K.tells K.state self.old → OnOk result (IsTold K.tells K.state self.new) }
+        ensures cause { HasCause (K.faults self.old.keeper.now) (K.faults self.new.keeper.now) result }
+        ensures same { LeavesKeeper K.tells K.state K.attached self.old self.new }
+    {
+        self.over.put(id, rows)?;
+        Ok(())
+    }
+
+    /// The replaced records, as a change that sets the number. It takes no memory.
+    pub fn into_change(self, number: u64) -> Result<Change, Memory>
+        ensures changed { IsOkAnd result (λ c. (c.changed ≡ self.entry.over) × (c.number ≡ number)) }
+        ensures applied { IsOkAnd result (λ c. applied c (K.state self.entry.keeper.now) ≡ record (state_of K.state self.entry) { number = number }) }
+        ensures keeper { self.exit.0.now ≡ self.entry.keeper.now }
+    {
+        let WorkOver { keeper: _, over } = self;
+        Ok(Change {
+            changed: over,
+            number,
+        })
+    }
+}
