@@ -1,0 +1,5 @@
+pub mod World
+pub mod Expressions
+pub mod Statements
+pub mod Requests
+pub mod Reading

@@ -1,0 +1,86 @@
+-- The page of a request, the state after it, and the worlds of a run.
+use Rattle.std.specs.Prelude.{ℕ, ◌+◌, ◌&&◌, nat_le, Bool, true, false, if◌then◌else◌, List, [], ◌∷◌, ◌++◌, slice_get, Option, Some, None}
+use Rattle.std.specs.List.{flat_map}
+use Rattle.percent_encoding.specs.Percent.{percent_encode_byte}
+use Rattle.jac_lang.specs.declared.bindings.Binding.{Binding}
+use Rattle.jac_lang.specs.declared.pages.Verb.{Verb}
+use Rattle.jac_lang.specs.declared.pages.Verb.TheVariants as verbs
+use Rattle.jac_lang.specs.Syntax.{Application, Page, Statements}
+use Rattle.jac_rows.specs.declared.plain.PlainState.{PlainState}
+use Rattle.jac_plain.specs.Statements.{Piece, Run, leaves_all}
+
+-- what a reader gets
+pub record Reply : Type 0 where
+  pub status : ℕ
+  pub location : Option (List ℕ)
+  pub body : List ℕ
+
+-- a location, with each byte that isn't visible ASCII escaped
+abbrev pub location : List ℕ → List ℕ
+location bytes = flat_map (λ b. if nat_le 0x21 b && nat_le b 0x7E then b ∷ [] else percent_encode_byte b) bytes
+
+abbrev pub body_of : List Piece → List ℕ
+body_of [] = []
+body_of (Piece.added bytes ∷ pieces) = bytes ++ body_of pieces
+body_of (Piece.missing ∷ pieces) = body_of pieces
+body_of (Piece.redirected to ∷ pieces) = body_of pieces
+
+abbrev pub is_missing : List Piece → Bool
+is_missing [] = false
+is_missing (Piece.added bytes ∷ pieces) = is_missing pieces
+is_missing (Piece.missing ∷ pieces) = true
+is_missing (Piece.redirected to ∷ pieces) = is_missing pieces
+
+-- the last redirect, or this one where there is none
+abbrev pub redirect_of : Option (List ℕ) → List Piece → Option (List ℕ)
+redirect_of to [] = to
+redirect_of to (Piece.added bytes ∷ pieces) = redirect_of to pieces
+redirect_of to (Piece.missing ∷ pieces) = redirect_of to pieces
+redirect_of to (Piece.redirected next ∷ pieces) = redirect_of (Some (location next)) pieces
+
+abbrev pub found_reply : Option (List ℕ) → List ℕ → Reply
+found_reply None body = record { status = 200; location = None; body = body }
+found_reply (Some to) body = record { status = 303; location = Some to; body = body }
+
+-- a page that ran `missing` has no location
+abbrev pub reply_of : List Piece → Reply
+reply_of pieces =
+    if is_missing pieces then record { status = 404; location = None; body = body_of pieces }
+    else found_reply (redirect_of None pieces) (body_of pieces)
+
+-- a request: the place of its view, its parameters and who asks
+pub record Visit : Type 0 where
+  pub view : ℕ
+  pub env : List Binding
+  pub viewer : Option ℕ
+
+abbrev pub body_in : Option Page → Statements
+body_in None = Statements.none
+body_in (Some v) = v.body
+
+abbrev pub method_in : Option Page → Verb
+method_in None = verbs.Get
+method_in (Some v) = v.method
+
+-- what the view's statements leave of a state
+abbrev pub run_of : Application → PlainState → Visit → Run
+run_of app t visit =
+    leaves_all (record { models = app.models; viewer = visit.viewer; number = t.number })
+    (body_in (slice_get app.views visit.view)) (record { tables = t.tables; env = visit.env; pieces = [] })
+
+-- the page of a request on a state
+abbrev pub page : Application → PlainState → Visit → Reply
+page app t visit = reply_of (run_of app t visit).pieces
+
+abbrev pub after_by : Verb → Application → PlainState → Visit → PlainState
+after_by verbs.Get app t visit = t
+after_by verbs.Post app t visit = record { tables = (run_of app t visit).tables; number = t.number + 1 }
+
+-- the state after a request that has a page: a GET leaves it, an accepted POST takes its number
+abbrev pub after : Application → PlainState → Visit → PlainState
+after app t visit = after_by (method_in (slice_get app.views visit.view)) app t visit
+
+-- the state after the requests that have a page, in order
+abbrev pub after_all : Application → PlainState → List Visit → PlainState
+after_all app t [] = t
+after_all app t (visit ∷ visits) = after_all app (after app t visit) visits
