@@ -3,15 +3,8 @@ use Rattle.std.proofs.Common.{◌≡◌, ℕ, zero, suc, ◌<◌, ◌&&◌, Bool
 use Rattle.std.specs.List.{list_all, slice_index}
 use Rattle.std.specs.Char.{is_ascii_digit, is_ascii_uppercase}
 use Rattle.std.specs.Str.{IsAscii}
+use Rattle.std.proofs.lemmas.Bool.{and_parts}
 use Rattle.std.proofs.lemmas.Bool.Decides.{nat_tests}
-
-pub left_true : (a b : Bool) → (a && b) ≡ true → a ≡ true
-left_true true b h = refl
-left_true false b h = cc
-
-pub right_true : (a b : Bool) → (a && b) ≡ true → b ≡ true
-right_true true b h = h
-right_true false b h = cc
 
 pub not_true : (b : Bool) → (b ≡ true → ⊥) → false ≡ b
 not_true true h = absurd (h refl)
@@ -20,8 +13,8 @@ not_true false h = refl
 -- bytes that all pass a test which only ASCII passes
 ascii_at : (p : ℕ → Bool) → ((c : ℕ) → p c ≡ true → c < 128) → (bytes : List ℕ) → list_all p bytes ≡ true → (i : ℕ) → slice_index bytes i < 128
 ascii_at p small [] h i = omega arith
-ascii_at p small (c ∷ cs) h zero = small c (left_true _ _ h)
-ascii_at p small (c ∷ cs) h (suc i) = ascii_at p small cs (right_true _ _ h) i
+ascii_at p small (c ∷ cs) h zero = small c (and_parts _ _ h).0
+ascii_at p small (c ∷ cs) h (suc i) = ascii_at p small cs (and_parts _ _ h).1 i
 
 small_upper_case : (c : ℕ) → is_ascii_uppercase c ≡ true → c < 128
 small_upper_case c h = grind (arith, nat_tests)

@@ -1,19 +1,12 @@
 -- What writes nothing leaves the tables.
 use Rattle.std.proofs.Common.{◌≡◌, ◌∙◌, refl, ℕ, Bool, true, false, ◌&&◌, List, [], ◌∷◌}
+use Rattle.std.proofs.lemmas.Bool.{and_parts}
 use Rattle.jac_lang.specs.declared.bindings.Binding.{Binding}
 use Rattle.jac_lang.specs.declared.queries.Binder.{Binder}
 use Rattle.jac_lang.specs.Syntax.{Statement, Statements}
 use Rattle.jac_plain.specs.Expressions.{answers, bound, is_true}
 use Rattle.jac_plain.specs.Reading.{is_reading, are_reading}
 use Rattle.jac_plain.specs.Statements.{Setting, Run, world_of, value_in, scoped, choose, for_each, leaves, leaves_all}
-
-left_true : (a b : Bool) → (a && b) ≡ true → a ≡ true
-left_true true b h = refl
-left_true false b h = cc
-
-right_true : (a b : Bool) → (a && b) ≡ true → b ≡ true
-right_true true b h = h
-right_true false b h = cc
 
 -- the step leaves the tables
 abbrev Keeps : (Run → Run) → Type 0
@@ -39,7 +32,7 @@ mutual
   keeps_one k (Statement.assign x e) h r = refl
   keeps_one k (Statement.branch c first second) h r =
       keeps_choose (is_true (value_in k c r)) (leaves_all k first) (leaves_all k second)
-      (keeps_all k first (left_true _ _ h)) (keeps_all k second (right_true (are_reading first) _ h)) r
+      (keeps_all k first (and_parts _ _ h).0) (keeps_all k second (and_parts (are_reading first) _ h).1) r
   keeps_one k (Statement.each q body) h r =
       keeps_each q.binders (leaves_all k body) (keeps_all k body h) (answers (world_of k r) q r.env) r
   keeps_one k (Statement.create x m site cells body) h r = cc
@@ -53,7 +46,7 @@ mutual
   pub keeps_all : (k : Setting) (s : Statements) → are_reading s ≡ true → Keeps (leaves_all k s)
   keeps_all k Statements.none h r = refl
   keeps_all k (Statements.more s rest) h r =
-      keeps_all k rest (right_true (is_reading s) _ h) (leaves k s r) ∙ keeps_one k s (left_true _ _ h) r
+      keeps_all k rest (and_parts (is_reading s) _ h).1 (leaves k s r) ∙ keeps_one k s (and_parts _ _ h).0 r
 
 pub reading_leaves_tables : (k : Setting) (s : Statements) (r : Run) → are_reading s ≡ true → (leaves_all k s r).tables ≡ r.tables
 reading_leaves_tables k s r h = keeps_all k s h r
