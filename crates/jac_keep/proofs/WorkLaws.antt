@@ -14,7 +14,7 @@ pub rows_read : (model : ℕ) (over : List Alteration) (tables : List (List Row)
 rows_read model over tables base rows placed is_base is_rows =
     is_rows ∙ ap (altered model over) is_base ∙ sym (rows_of-overlaid model over tables placed)
 
-one_read : (id : ℕ) (over : List Alteration) (tables : List (List Row)) → ArePlaced over (length tables) → AreApart over
+pub one_read : (id : ℕ) (over : List Alteration) (tables : List (List Row)) → ArePlaced over (length tables) → AreApart over
     → unwrap_or (named id over) (alternatives id (rows_of tables (model_of_id id))) ≡ alternatives id (rows_of (overlaid over tables) (model_of_id id))
 one_read id over tables placed apart =
     sym (alternatives-altered id over (rows_of tables (model_of_id id)) apart.rising apart.own)

@@ -1,8 +1,12 @@
-ghost use Rattle.std.specs.Prelude.{◌≤◌, ◌^◌, ℕ, List};
+ghost use Rattle.std.specs.Prelude.{◌≡◌, ◌≤◌, ◌^◌, ℕ, List, length, unwrap_or};
+ghost use Rattle.jac_value.specs.Ids.{model_of_id};
 ghost use Rattle.jac_value.specs.declared.value.Kind.{Kind};
 ghost use Rattle.jac_rows.specs.Good.{IsGoodByGuards};
+ghost use Rattle.jac_rows.specs.Tables.{rows_of};
 ghost use Rattle.jac_rows.specs.declared.state.State.{State};
 ghost use Rattle.jac_keep.specs.declared.alteration.Change.{Change as Changed};
+ghost use Rattle.jac_keep.specs.Records.{alternatives};
+ghost use Rattle.jac_keep.specs.Alterations.{AreApart, ArePlaced, named};
 ghost use Rattle.jac_keep.specs.Kept.{applied};
 ghost use Rattle.jac_keep.specs.Sound.{IsSound, AllStand};
 
@@ -14,4 +18,9 @@ pub fn sound_if_good()
 /// A law: a change leaves a sound state where its alternatives may stand and the number doesn't fall.
 pub fn sound_after_change()
     ensures { (c : Changed) (s : State) → IsSound s → s.number ≤ c.number → c.number ≤ 2 ^ 40 → AllStand c.number c.changed → IsSound (applied c s) }
+{}
+
+/// A law: after a change a record has its new alternatives if it is named, and else those that it had.
+pub fn record_after_change()
+    ensures { (c : Changed) (s : State) (id : ℕ) → AreApart c.changed → ArePlaced c.changed (length s.tables) → alternatives id (rows_of (applied c s).tables (model_of_id id)) ≡ unwrap_or (named id c.changed) (alternatives id (rows_of s.tables (model_of_id id))) }
 {}

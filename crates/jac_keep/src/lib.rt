@@ -13,7 +13,7 @@ mod work;
 
 pub use alteration::{Alteration, Alterations, Change};
 pub use keeper::Keeper;
-pub use laws::{sound_after_change, sound_if_good};
+pub use laws::{record_after_change, sound_after_change, sound_if_good};
 pub use memory_keeper::MemoryKeeper;
 pub use stop::Stop;
 pub use work::{Overlay, Work, WorkOver};
