@@ -18,7 +18,6 @@ pub record IsMade (model next id : ℕ) : Type 0 where
 abbrev pub AreRising : List Row → Type 0
 AreRising rows = IsTable (λ (r : Row). r.id) (λ r. r.guard) rows
 
--- each of the lists of rows is a table
 abbrev pub AreTables : List (List Row) → Type 0
 AreTables [] = ⊤
 AreTables (t ∷ ts) = AreRising t × AreTables ts
