@@ -1,0 +1,89 @@
+use Rattle.std.proofs.Common.{rules, ◌≡◌, Some, None, IfOk, IfErr, IsTrue, ℕ, ◌+◌, ◌-◌, ◌*◌, ◌<◌, ◌≤◌, length, ◌/◌, ◌%◌, Bool, true, false, nat_eq, nat_lt, List, [], ◌∷◌, ◌++◌, slice_index_or, slice_set, bit_and, bit_or, Fits, w8, w32, w64, Bor, MutBor}
+use Rattle.jac_lang.specs.Mirror.{expression_of, expressions_of, question_of}
+use Rattle.std.proofs.Common.{refl, sym, subst, ◌∙◌, Option}
+use Rattle.std.specs.Prelude.{codes}
+use Rattle.jac_lang.specs.Syntax.{Question}
+use Rattle.jac_forms.specs.Names.{is_word}
+use Rattle.jac_forms.proofs.QueryShape.{question-parts}
+use Rattle.jac_tree.specs.Mirror.{plain, plain_all}
+use Rattle.jac_forms.specs.Names.{integer_of}
+use Rattle.jac_forms.specs.Expressions.{atom_expression, number_or_name, none_of_trees, expression_of_tree, expression_of_form, operands_of, one_of_trees, two_of_trees, pick_of_trees, get_of_trees, expressions_of_trees, query_of_trees, sum_of_trees, question_of_tree, most_binders}
+use Rattle.jac_forms.specs.Refusal.{refuses}
+use Rattle.jac_forms.proofs.expressions.+read.Goals as goal
+
+pub read_asked-returns-in_err-query-clause-none : goal.read_asked-returns-in_err-query-clause-none
+read_asked-returns-in_err-query-clause-none t c = rw (c.in-More.is, ← c.deref.ensures, c.in-End.is, ← c.deref-2.ensures) (search rules)
+
+pub read_asked-returns-clause-value : goal.read_asked-returns-clause-value
+read_asked-returns-clause-value t c = rw (c.in-More.is, ← c.deref.ensures, c.in-End.is, ← c.deref-2.ensures) c.in_ok-query.ensures.value
+
+pub read_list-returns-in_err-e-in-Some-clause-none : goal.read_list-returns-in_err-e-in-Some-clause-none
+read_list-returns-in_err-e-in-Some-clause-none t c = rw (c.in-More.is, ← c.deref.ensures, ← c.deref-in-Some.ensures, ← c.form_of.ensures, c.in-Some.is) (search rules)
+
+pub read_list-returns-in_ok-e-in-Some-clause-value : goal.read_list-returns-in_ok-e-in-Some-clause-value
+read_list-returns-in_ok-e-in-Some-clause-value t c = rw (c.in-More.is, ← c.deref.ensures, ← c.deref-in-Some.ensures, ← c.form_of.ensures, c.in-Some.is) c.in_ok-e-in-Some.ensures.value
+
+pub read_get-returns-in_err-read_expr-clause-none :
+    goal.read_get-returns-in_err-read_expr-clause-none
+read_get-returns-in_err-read_expr-clause-none t c = rw (c.in-More.is, ← c.deref.ensures, c.in-More-deref.is, ← c.deref-2.ensures, c.in-More-deref-2.is, ← c.deref-3.ensures, c.in-End.is, ← c.deref-4.ensures, ← c.deref-5.ensures, ← c.deref-6.ensures, c.in_ok-model.ensures.value, c.in_ok-field.ensures.value) (search rules)
+
+pub read_get-returns-clause-value : goal.read_get-returns-clause-value
+read_get-returns-clause-value t c = rw (c.in-More.is, ← c.deref.ensures, c.in-More-deref.is, ← c.deref-2.ensures, c.in-More-deref-2.is, ← c.deref-3.ensures, c.in-End.is, ← c.deref-4.ensures, ← c.deref-5.ensures, ← c.deref-6.ensures, c.in_ok-model.ensures.value, c.in_ok-field.ensures.value, c.in_ok-read_expr.ensures.value) (search rules)
+
+pub read_one-returns-in_err-e-clause-none : goal.read_one-returns-in_err-e-clause-none
+read_one-returns-in_err-e-clause-none t c = rw (c.in-More.is, ← c.deref.ensures, c.in-End.is, ← c.deref-2.ensures) (search rules)
+
+pub read_one-returns-clause-value : goal.read_one-returns-clause-value
+read_one-returns-clause-value t c = rw (c.in-More.is, ← c.deref.ensures, c.in-End.is, ← c.deref-2.ensures) c.in_ok-e.ensures.value
+
+pub read_pick-returns-in_err-read_expr-clause-none :
+    goal.read_pick-returns-in_err-read_expr-clause-none
+read_pick-returns-in_err-read_expr-clause-none t c = rw (c.in-More.is, ← c.deref.ensures, c.in-More-deref.is, ← c.deref-2.ensures, c.in-More-deref-2.is, ← c.deref-3.ensures, c.in-End.is, ← c.deref-4.ensures) (search rules)
+
+pub read_pick-returns-in_err-read_expr-2-clause-none :
+    goal.read_pick-returns-in_err-read_expr-2-clause-none
+read_pick-returns-in_err-read_expr-2-clause-none t c = rw (c.in-More.is, ← c.deref.ensures, c.in-More-deref.is, ← c.deref-2.ensures, c.in-More-deref-2.is, ← c.deref-3.ensures, c.in-End.is, ← c.deref-4.ensures, ← c.deref-5.ensures, c.in_ok-read_expr.ensures.value) (search rules)
+
+pub read_pick-returns-in_err-read_expr-3-clause-none :
+    goal.read_pick-returns-in_err-read_expr-3-clause-none
+read_pick-returns-in_err-read_expr-3-clause-none t c = rw (c.in-More.is, ← c.deref.ensures, c.in-More-deref.is, ← c.deref-2.ensures, c.in-More-deref-2.is, ← c.deref-3.ensures, c.in-End.is, ← c.deref-4.ensures, ← c.deref-5.ensures, ← c.deref-6.ensures, c.in_ok-read_expr.ensures.value, c.in_ok-read_expr-2.ensures.value) (search rules)
+
+pub read_pick-returns-clause-value : goal.read_pick-returns-clause-value
+read_pick-returns-clause-value t c = rw (c.in-More.is, ← c.deref.ensures, c.in-More-deref.is, ← c.deref-2.ensures, c.in-More-deref-2.is, ← c.deref-3.ensures, c.in-End.is, ← c.deref-4.ensures, ← c.deref-5.ensures, ← c.deref-6.ensures, c.in_ok-read_expr.ensures.value, c.in_ok-read_expr-2.ensures.value, c.in_ok-read_expr-3.ensures.value) (search rules)
+
+pub read_query-returns-in_err-cond-clause-none : goal.read_query-returns-in_err-cond-clause-none
+read_query-returns-in_err-cond-clause-none t c =
+    let word : is_word (codes "from") (plain c.deref-5.result.now) ≡ true = search rules in
+    let step = question-parts (plain c.args.tree.now) (most_binders c.args.most) (plain c.deref-5.result.now) (plain c.deref-7.result.now) (plain c.deref-8.result.now) (plain c.in-More-deref-3.order.value)
+    (rw (c.in-List.is, c.in-More.is, ← c.deref.ensures, c.in-More-deref.is, ← c.deref-2.ensures, c.in-More-deref-2.is, ← c.deref-3.ensures, c.in-More-deref-3.is, ← c.deref-4.ensures, c.in-End.is, ← c.deref-5.ensures, ← c.deref-7.ensures, ← c.deref-8.ensures) refl) word in
+    subst (λ (q : Option Question). IfErr c.from_residual-in_err-cond.result (λ f. IsTrue (refuses f) → q ≡ None)) (sym step)
+    (rw c.in_ok-binders.ensures.value (search rules))
+
+pub read_query-returns-clause-value : goal.read_query-returns-clause-value
+read_query-returns-clause-value t c =
+    let word : is_word (codes "from") (plain c.deref-5.result.now) ≡ true = search rules in
+    let step = question-parts (plain c.args.tree.now) (most_binders c.args.most) (plain c.deref-5.result.now) (plain c.deref-7.result.now) (plain c.deref-8.result.now) (plain c.deref-9.result.now)
+    (rw (c.in-List.is, c.in-More.is, ← c.deref.ensures, c.in-More-deref.is, ← c.deref-2.ensures, c.in-More-deref-2.is, ← c.deref-3.ensures, c.in-More-deref-3.is, ← c.deref-4.ensures, c.in-End.is, ← c.deref-5.ensures, ← c.deref-7.ensures, ← c.deref-8.ensures, ← c.deref-9.ensures) refl) word in
+    step ∙ rw (c.in_ok-binders.ensures.value, c.in_ok-cond.ensures.value, c.in_ok-order.ensures.value) refl
+
+pub read_sum-returns-in_err-read_query-clause-none :
+    goal.read_sum-returns-in_err-read_query-clause-none
+read_sum-returns-in_err-read_query-clause-none t c = rw (c.in-More.is, ← c.deref.ensures, c.in-More-deref.is, ← c.deref-2.ensures, c.in-End.is, ← c.deref-3.ensures) (search rules)
+
+pub read_sum-returns-in_err-read_expr-clause-none :
+    goal.read_sum-returns-in_err-read_expr-clause-none
+read_sum-returns-in_err-read_expr-clause-none t c = rw (c.in-More.is, ← c.deref.ensures, c.in-More-deref.is, ← c.deref-2.ensures, c.in-End.is, ← c.deref-3.ensures, ← c.deref-4.ensures, c.in_ok-read_query.ensures.value) (search rules)
+
+pub read_sum-returns-clause-value : goal.read_sum-returns-clause-value
+read_sum-returns-clause-value t c = rw (c.in-More.is, ← c.deref.ensures, c.in-More-deref.is, ← c.deref-2.ensures, c.in-End.is, ← c.deref-3.ensures, ← c.deref-4.ensures, c.in_ok-read_query.ensures.value, c.in_ok-read_expr.ensures.value) (search rules)
+
+pub read_two-returns-in_err-read_expr-clause-none :
+    goal.read_two-returns-in_err-read_expr-clause-none
+read_two-returns-in_err-read_expr-clause-none t c = rw (c.in-More.is, ← c.deref.ensures, c.in-More-deref.is, ← c.deref-2.ensures, c.in-End.is, ← c.deref-3.ensures) (search rules)
+
+pub read_two-returns-in_err-read_expr-2-clause-none :
+    goal.read_two-returns-in_err-read_expr-2-clause-none
+read_two-returns-in_err-read_expr-2-clause-none t c = rw (c.in-More.is, ← c.deref.ensures, c.in-More-deref.is, ← c.deref-2.ensures, c.in-End.is, ← c.deref-3.ensures, ← c.deref-4.ensures, c.in_ok-read_expr.ensures.value) (search rules)
+
+pub read_two-returns-clause-value : goal.read_two-returns-clause-value
+read_two-returns-clause-value t c = rw (c.in-More.is, ← c.deref.ensures, c.in-More-deref.is, ← c.deref-2.ensures, c.in-End.is, ← c.deref-3.ensures, ← c.deref-4.ensures, c.in_ok-read_expr.ensures.value, c.in_ok-read_expr-2.ensures.value) (search rules)

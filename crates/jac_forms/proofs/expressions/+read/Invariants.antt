@@ -1,0 +1,15 @@
+use Rattle.std.proofs.Common.{◌≡◌, ◌≤◌}
+use Rattle.std.specs.Option.{option_map}
+use Rattle.jac_tree.specs.declared.tree.Trees.{size-Trees}
+use Rattle.jac_tree.specs.Mirror.{plain_all}
+use Rattle.jac_lang.specs.Mirror.{expressions_of}
+use Rattle.jac_lang.specs.Turned.{onto}
+use Rattle.jac_forms.specs.Expressions.{expressions_of_trees}
+use Rattle.jac_forms.proofs.expressions.+read.Given as goal
+
+-- the parts so far, before those of the rest, are those of all
+abbrev pub invariant-read_parts-parts : goal.invariant-read_parts-parts
+invariant-read_parts-parts l = record {
+  no_deeper : size-Trees l.left ≤ size-Trees l.operands;
+  made : option_map (onto (expressions_of l.back)) (expressions_of_trees (plain_all l.left)) ≡ expressions_of_trees (plain_all l.operands);
+}

@@ -1,0 +1,129 @@
+ghost use Rattle.std.specs.Prelude.{◌≡◌, [], IfOk};
+ghost use Rattle.jac_forms.specs.declared.fault.FormFault.TheVariants as faults;
+
+use jac_value::Memory;
+use std::alloc::{AllocError, AllocFailed, Global};
+use std::marker::Model;
+
+/// The place of a tree within another: child numbers from the root, where the head of a list is child 0.
+/// The root itself has the empty path.
+#[derive(Debug, Drop)]
+pub struct Path {
+    numbers: Vec<u32>,
+}
+
+impl Model for Path {
+    ghost use Rattle.std.specs.Prelude.{List, ℕ};
+
+    ghost Value = { List ℕ };
+
+    ghost view = { λ p. p.numbers.items };
+}
+
+impl Path {
+    pub fn empty(alloc: Global) -> Path
+        ensures { result ≡ [] }
+    {
+        Path {
+            numbers: Vec::new(alloc),
+        }
+    }
+
+    pub fn from_vec(numbers: Vec<u32>) -> Path
+        ensures { result ≡ numbers.items }
+    {
+        Path { numbers }
+    }
+
+    pub fn as_slice(&self) -> &[u32]
+        ensures { result.now ≡ self.now }
+    {
+        self.numbers.as_slice()
+    }
+
+    pub fn into_vec(self) -> Vec<u32>
+        ensures { result.items ≡ self }
+    {
+        self.numbers
+    }
+
+    pub fn copy(&self, alloc: Global) -> Result<Path, Memory>
+        ensures { IfOk result (λ p. p ≡ self.now) }
+    {
+        let mut numbers = Vec::new(alloc);
+        numbers.extend_from_slice(self.numbers.as_slice())?;
+        Ok(Path { numbers })
+    }
+}
+
+/// What should stand where a form is wrong.
+#[derive(Clone, Copy, Debug, PartialEq, Eq)]
+pub enum Want {
+    App,
+    Item,
+    Name,
+    Fields,
+    Field,
+    Kind,
+    Group,
+    Guard,
+    Policy,
+    Method,
+    Path,
+    Params,
+    Param,
+    Statement,
+    Set,
+    Cell,
+    Body,
+    Query,
+    Binder,
+    Order,
+    Expression,
+}
+
+/// What there is too much of: more than 64 models, 32 fields of a model, 8 groups of a model, 64 `create`
+/// statements of a view, or 3 binders of a query.
+#[derive(Clone, Copy, Debug, PartialEq, Eq)]
+pub enum What {
+    Models,
+    Fields,
+    Groups,
+    Sites,
+    Binders,
+}
+
+/// Why a tree is no such form: its first fault in reading order, where the head and the number of the
+/// trees of a list come first, then how many there may be, then each of them from the left.
+#[derive(Debug, Drop)]
+pub enum FormFault {
+    /// The tree at this path isn't what should stand there.
+    Form { path: Path, want: Want },
+    /// The tree at this path has `have` of these.
+    TooMany { path: Path, what: What, have: u64 },
+    Memory,
+}
+
+impl From<Memory> for FormFault {
+    ghost from_gives = { λ _ f. f ≡ faults.Memory };
+
+    fn from(_: Memory) -> FormFault {
+        FormFault::Memory
+    }
+}
+
+impl From<AllocError> for FormFault {
+    ghost from_gives = { λ _ f. f ≡ faults.Memory };
+
+    fn from(_: AllocError) -> FormFault {
+        FormFault::Memory
+    }
+}
+
+impl<T: Drop> From<AllocFailed<T>> for FormFault {
+    ghost from_gives = { λ _ f. f ≡ faults.Memory };
+
+    fn from(_: AllocFailed<T>) -> FormFault {
+        FormFault::Memory
+    }
+}
