@@ -3,6 +3,7 @@ use Rattle.std.specs.Prelude.{ℕ, Option, Some, None, List, [], ◌∷◌, slic
 use Rattle.jac_value.specs.declared.value.Value.{Value}
 use Rattle.jac_rows.specs.declared.plain.PlainRow.{PlainRow}
 
+-- the value, if there is one
 abbrev pub value_or : Value → Option Value → Value
 value_or absent None = absent
 value_or absent (Some v) = v

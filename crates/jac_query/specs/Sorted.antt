@@ -23,6 +23,7 @@ abbrev pub value_less : Bool → Value → Value → Bool
 value_less false x y = is_lt (ghosts.cmp x y)
 value_less true x y = is_lt (ghosts.cmp y x)
 
+-- by the key of a tuple
 abbrev pub key_less : Bool → List ℕ × Value → List ℕ × Value → Bool
 key_less down p q = value_less down p.1 q.1
 
