@@ -1,0 +1,52 @@
+-- The stable sort of tuples by a key.
+use Rattle.std.specs.Prelude.{ℕ, Bool, true, false, ◌&&◌, if◌then◌else◌, List, [], ◌∷◌, map}
+use Rattle.std.specs.Ordering.{is_lt}
+use Rattle.jac_value.specs.contracts.value.ValueOrd.TheImpl.{ghosts}
+use Rattle.jac_value.specs.declared.value.Value.{Value}
+use Rattle.jac_world.specs.World.{holds}
+use Rattle.jac_query.specs.declared.tuple.Tuple.{Tuple}
+use Rattle.jac_query.specs.declared.ordering.Keyed.{Keyed}
+
+module _ {X : Type 0} (lt : X → X → Bool) where
+  -- x before the first that isn't less
+  abbrev pub insert_by : X → List X → List X
+  insert_by x [] = x ∷ []
+  insert_by x (y ∷ ys) = if lt y x then y ∷ insert_by x ys else x ∷ (y ∷ ys)
+
+  -- the stable sort
+  abbrev pub sorted_by : List X → List X
+  sorted_by [] = []
+  sorted_by (x ∷ xs) = insert_by x (sorted_by xs)
+
+-- the order of values, rising or falling
+abbrev pub value_less : Bool → Value → Value → Bool
+value_less false x y = is_lt (ghosts.cmp x y)
+value_less true x y = is_lt (ghosts.cmp y x)
+
+-- by the key of a tuple
+abbrev pub key_less : Bool → List ℕ × Value → List ℕ × Value → Bool
+key_less down p q = value_less down p.1 q.1
+
+-- tuples in the order of their keys; ties keep their order
+abbrev pub in_order : Bool → List (List ℕ × Value) → List (List ℕ)
+in_order down ps = map (λ p. p.0) (sorted_by (key_less down) ps)
+
+-- the ids and keys of those that hold
+abbrev pub keyed_at : (ℕ → Bool) → List Keyed → List (List ℕ × Value)
+keyed_at w [] = []
+keyed_at w (k ∷ ks) = if holds w k.guard then (k.ids, k.key) ∷ keyed_at w ks else keyed_at w ks
+
+-- the ids of each pass the test
+abbrev pub keyed_ids : (List ℕ → Bool) → List Keyed → Bool
+keyed_ids p [] = true
+keyed_ids p (k ∷ ks) = p k.ids && keyed_ids p ks
+
+-- the same without keys
+abbrev pub tuples_of : List Keyed → List Tuple
+tuples_of [] = []
+tuples_of (k ∷ ks) = record { guard = k.guard; ids = k.ids } ∷ tuples_of ks
+
+-- these ids with each key that is seen
+abbrev pub key_leaves : (ℕ → Bool) → List ℕ → List (List (ℕ × Bool) × Value) → List (List ℕ × Value)
+key_leaves w ids [] = []
+key_leaves w ids (p ∷ ps) = if holds w p.0 then (ids, p.1) ∷ key_leaves w ids ps else key_leaves w ids ps
