@@ -1,7 +1,6 @@
 -- A query of the shape that it should have.
-use Rattle.std.proofs.Common.{◌≡◌, ℕ, Bool, true, List, Option, Some, None, refl}
+use Rattle.std.proofs.Common.{◌≡◌, ℕ, true, refl}
 use Rattle.std.specs.Prelude.{codes}
-use Rattle.jac_lang.specs.Syntax.{Expression, Question}
 use Rattle.jac_tree.specs.Plain.{PlainTree, PlainTrees}
 use Rattle.jac_forms.specs.Names.{is_word}
 use Rattle.jac_forms.specs.Expressions.{question_of_tree, question_if, binders_of_tree, expression_of_tree, order_of_tree}

@@ -1,5 +1,5 @@
 -- Expressions and queries as trees write them.
-use Rattle.std.specs.Prelude.{ℕ, ℤ, Bool, true, false, nat_le, if◌then◌else◌, Option, Some, None, List, [], ◌∷◌, codes}
+use Rattle.std.specs.Prelude.{ℕ, ℤ, true, false, nat_le, if◌then◌else◌, Option, Some, None, List, [], ◌∷◌, codes}
 use Rattle.std.specs.Option.{option_map, option_and_then}
 use Rattle.std.specs.Str.{bytes_eq}
 use Rattle.jac_lang.specs.Syntax.{Expression, Expressions, Question}

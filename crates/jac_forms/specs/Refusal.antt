@@ -1,5 +1,5 @@
 -- What a refusal says.
-use Rattle.std.specs.Prelude.{Bool, true, false, ℕ}
+use Rattle.std.specs.Prelude.{Bool, true, false}
 use Rattle.jac_forms.specs.declared.fault.FormFault.{FormFault}
 use Rattle.jac_forms.specs.declared.fault.FormFault.TheVariants as faults
 

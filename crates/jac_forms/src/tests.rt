@@ -63,10 +63,10 @@ fn counts_binders(rt: HostRuntime) {
         rt.alloc(),
         b"(some (from ((a A) (b A) (c A) (d A)) true key))",
     );
-    let told = match four {
+    let told = match &four {
         Some(FormFault::TooMany { path, what, have }) => path.as_slice() == [1, 1].as_slice()
-            && what == What::Binders
-            && have == 4,
+            && *what == What::Binders
+            && *have == 4,
         _ => false,
     };
     assert!(rt; told);

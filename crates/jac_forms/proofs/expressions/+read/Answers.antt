@@ -1,13 +1,11 @@
-use Rattle.std.proofs.Common.{rules, ◌≡◌, Some, None, IfOk, IfErr, IsTrue, ℕ, ◌+◌, ◌-◌, ◌*◌, ◌<◌, ◌≤◌, length, ◌/◌, ◌%◌, Bool, true, false, nat_eq, nat_lt, List, [], ◌∷◌, ◌++◌, slice_index_or, slice_set, bit_and, bit_or, Fits, w8, w32, w64, Bor, MutBor}
-use Rattle.jac_lang.specs.Mirror.{expression_of, expressions_of, question_of}
+use Rattle.std.proofs.Common.{rules, ◌≡◌, None, IfErr, IsTrue, true}
 use Rattle.std.proofs.Common.{refl, sym, subst, ◌∙◌, Option}
 use Rattle.std.specs.Prelude.{codes}
 use Rattle.jac_lang.specs.Syntax.{Question}
 use Rattle.jac_forms.specs.Names.{is_word}
 use Rattle.jac_forms.proofs.QueryShape.{question-parts}
-use Rattle.jac_tree.specs.Mirror.{plain, plain_all}
-use Rattle.jac_forms.specs.Names.{integer_of}
-use Rattle.jac_forms.specs.Expressions.{atom_expression, number_or_name, none_of_trees, expression_of_tree, expression_of_form, operands_of, one_of_trees, two_of_trees, pick_of_trees, get_of_trees, expressions_of_trees, query_of_trees, sum_of_trees, question_of_tree, most_binders}
+use Rattle.jac_tree.specs.Mirror.{plain}
+use Rattle.jac_forms.specs.Expressions.{most_binders}
 use Rattle.jac_forms.specs.Refusal.{refuses}
 use Rattle.jac_forms.proofs.expressions.+read.Goals as goal
 
