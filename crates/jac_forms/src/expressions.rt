@@ -9,7 +9,6 @@ ghost use Rattle.jac_forms.specs.Refusal.{refuses};
 use crate::names::{integer_of, is_name, read_name};
 use crate::place::Place;
 use crate::queries::{Most, has_few, read_binders, read_order};
-use crate::turn::turn_parts;
 use crate::words::{Form, form_of, is_word};
 use crate::{FormFault, Want};
 use jac_lang::{Expr, Exprs, Op, Query};
@@ -280,7 +279,7 @@ fn read_parts(alloc: Global, place: &Place<'_>, operands: &Trees) -> Result<Expr
         number = number.saturating_add(1);
         left = rest;
     }
-    let parts = turn_parts(back);
+    let parts = back.before(Exprs::End);
     Ok(parts)
 }
 

@@ -9,7 +9,6 @@ mod place;
 mod queries;
 #[cfg(test)]
 mod tests;
-mod turn;
 mod words;
 
 pub use expressions::{expr_of, query_of};

@@ -6,7 +6,6 @@ ghost use Rattle.jac_forms.specs.Refusal.{refuses};
 
 use crate::names::{count, is_up_to, read_name};
 use crate::place::Place;
-use crate::turn::turn_binders;
 use crate::words::is_word;
 use crate::{FormFault, Want, What};
 use jac_lang::{Binder, Binders, Order};
@@ -93,7 +92,7 @@ fn read_each(alloc: Global, place: &Place<'_>, trees: &Trees) -> Result<Binders,
         number = number.saturating_add(1);
         left = rest;
     }
-    let binders = turn_binders(back);
+    let binders = back.before(Binders::End);
     Ok(binders)
 }
 
