@@ -1,0 +1,4 @@
+pub mod Served
+pub mod Found
+pub mod Start
+pub mod Prepared

@@ -1,0 +1,8 @@
+//! One request: its page is prepared together with what it stores, and then committed.
+#![tactic(auto)]
+
+mod answer;
+mod served;
+
+pub use answer::{Answer, Ask, Prepared, answer, commit};
+pub use served::serves;

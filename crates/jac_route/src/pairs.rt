@@ -1,0 +1,85 @@
+ghost use Rattle.std.specs.Prelude.{◌≡◌, ◌++◌, [], IfOk};
+ghost use Rattle.jac_route.specs.Pairs.{pairs_in};
+
+use jac_value::{Memory, Txt};
+use std::alloc::Global;
+use std::marker::Model;
+
+/// A name and its value, decoded. Bytes that are not UTF-8 stand as U+FFFD.
+#[derive(Debug, Drop)]
+pub struct Pair {
+    pub name: Txt,
+    pub value: Txt,
+}
+
+/// Pairs in their order.
+#[derive(Debug, Drop)]
+pub struct Pairs {
+    pairs: Vec<Pair>,
+}
+
+impl Model for Pairs {
+    ghost use Rattle.std.specs.Prelude.{List};
+    ghost use Rattle.jac_route.specs.declared.pairs.Pair.{Pair as Item};
+
+    ghost Value = { List Item };
+
+    ghost view = { λ p. p.pairs.items };
+}
+
+impl Pair {
+    pub fn copy(&self, alloc: Global) -> Result<Pair, Memory>
+        ensures { IfOk result (λ p. p ≡ self.now) }
+    {
+        let name = self.name.copy(alloc)?;
+        let value = self.value.copy(alloc)?;
+        Ok(Pair { name, value })
+    }
+}
+
+impl Pairs {
+    pub fn empty(alloc: Global) -> Pairs
+        ensures { result ≡ [] }
+    {
+        Pairs {
+            pairs: Vec::new(alloc),
+        }
+    }
+
+    pub fn from_vec(pairs: Vec<Pair>) -> Pairs
+        ensures { result ≡ pairs.items }
+    {
+        Pairs { pairs }
+    }
+
+    pub fn as_slice(&self) -> &[Pair]
+        ensures { result.now ≡ self.now }
+    {
+        self.pairs.as_slice()
+    }
+
+    pub fn into_vec(self) -> Vec<Pair>
+        ensures { result.items ≡ self }
+    {
+        self.pairs
+    }
+
+    pub fn copy(&self, alloc: Global) -> Result<Pairs, Memory>
+        ensures { IfOk result (λ p. p ≡ self.now) }
+    {
+        let pairs = self.pairs.as_slice();
+        let mut copied = Vec::new(alloc);
+        'pairs: for pair in pairs {
+            let pair = pair.copy(alloc)?;
+            copied.push(pair)?;
+        }
+        Ok(Pairs { pairs: copied })
+    }
+}
+
+/// The pairs of the query, then those of the form body (URL Standard, section 5.1).
+pub fn pairs_of(_alloc: Global, _query: &[u8], _body: &[u8]) -> Result<Pairs, Memory>
+    ensures { IfOk result (λ ps. ps ≡ pairs_in _query.now ++ pairs_in _body.now) }
+{
+    Err(Memory)
+}
