@@ -1,7 +1,7 @@
 -- How the steps of a replay end.
 use Rattle.std.proofs.Common.{◌≡◌, ◌∙◌, ap, sym, subst, refl, ℕ, ◌≤◌, ◌<◌, ◌⊎◌, inl, inr, Bool, IsTrue, IsSomeAnd, Result, Ok, Err, Option, Some, List, [], length, arith}
 use Rattle.jac_io.specs.Faults.{Rose}
-use Rattle.jac_app.specs.declared.application.View.{View}
+use Rattle.jac_lang.specs.Syntax.{Application}
 use Rattle.jac_app.specs.declared.command.Ending.{Ending}
 use Rattle.jac_app.specs.declared.command.Ending.TheVariants as endings
 use Rattle.jac_app.specs.declared.command.Role.{Role}
@@ -10,6 +10,7 @@ use Rattle.jac_app.specs.declared.status.Status.{Status}
 use Rattle.jac_app.specs.declared.status.Status.TheVariants as statuses
 use Rattle.jac_app.specs.Log.{script_of}
 use Rattle.jac_app.specs.Application.{IsApplication}
+use Rattle.jac_app.specs.Keeping.{Kept, IsStill}
 use Rattle.jac_app.specs.Run.{Replay, Sight, IsRead, IsOpened, IsUnread, IsUnopened, EndsServing, IsLong, Ends, AWriteFailed, Closes, Finishes, Runs, HasCause, CanServe, command_of, name_of, limit_of, fault_line, status_of, usage_line}
 
 -- a count that rose over a part of the time rose over all of it
@@ -19,39 +20,39 @@ Rose-widen a b c d before after rose = omega (arith, before, after, rose)
 -- a file that wasn't read ends the replay
 pub unread_ends : (seen : Sight) (command : Replay) (role : Role) (tells : Bool) (file : List ℕ → Option (List ℕ)) (before after : ℕ) (ending : Ending)
     → tells ≡ seen.tells → file ≡ seen.file → seen.files_before ≤ before → after ≤ seen.files_after
-    → IsUnread tells file before after (name_of command role) role ending → Ends seen command [] [] (Err ending)
-unread_ends seen command role tells file before after (endings.ReadFault r) same_tells same_file earlier later h =
-    (Rose-widen _ _ _ _ earlier later h.1, (refl, refl))
-unread_ends seen command role tells file before after (endings.TooLong r) same_tells same_file earlier later h = (
+    → IsStill seen.kept → IsUnread tells file before after (name_of command role) role ending → Ends seen command [] [] (Err ending)
+unread_ends seen command role tells file before after (endings.ReadFault r) same_tells same_file earlier later still h =
+    (Rose-widen _ _ _ _ earlier later h.1, (refl, refl, still))
+unread_ends seen command role tells file before after (endings.TooLong r) same_tells same_file earlier later still h = (
   λ told.
       subst (λ (q : Role). IsSomeAnd (seen.file (name_of command q)) (λ bytes. limit_of q < length bytes)) (sym h.0)
       (subst (λ (f : List ℕ → Option (List ℕ)). IsSomeAnd (f (name_of command role)) (λ bytes. limit_of role < length bytes)) same_file
       (h.1 (same_tells ∙ told))),
-  (refl, refl),
+  (refl, refl, still),
 )
-unread_ends seen command role tells file before after endings.Memory same_tells same_file earlier later h = inl (refl, refl)
-unread_ends seen command role tells file before after endings.AppRefused same_tells same_file earlier later h = absurd h
-unread_ends seen command role tells file before after (endings.LineRefused n) same_tells same_file earlier later h = absurd h
-unread_ends seen command role tells file before after endings.WriteFault same_tells same_file earlier later h = absurd h
+unread_ends seen command role tells file before after endings.Memory same_tells same_file earlier later still h = inl (refl, refl, still)
+unread_ends seen command role tells file before after endings.AppRefused same_tells same_file earlier later still h = absurd h
+unread_ends seen command role tells file before after (endings.LineRefused n) same_tells same_file earlier later still h = absurd h
+unread_ends seen command role tells file before after endings.WriteFault same_tells same_file earlier later still h = absurd h
 
--- bytes that gave no views end it
-pub unopened_ends : (seen : Sight) (command : Replay) (app : List ℕ) (ending : Ending)
-    → IsRead seen command roles.App app → IsUnopened app ending → Ends seen command [] [] (Err ending)
-unopened_ends seen command app ending read (inl refused) =
-    subst (λ (e : Ending). Ends seen command [] [] (Err e)) (sym refused.0) (app, read, refused.1, (refl, refl))
-unopened_ends seen command app ending read (inr memory) =
-    subst (λ (e : Ending). Ends seen command [] [] (Err e)) (sym memory) (inl (refl, refl))
+-- bytes that gave no application end it
+pub unopened_ends : (seen : Sight) (command : Replay) (bytes : List ℕ) (ending : Ending)
+    → IsStill seen.kept → IsRead seen command roles.App bytes → IsUnopened bytes ending → Ends seen command [] [] (Err ending)
+unopened_ends seen command bytes ending still read (inl refused) =
+    subst (λ (e : Ending). Ends seen command [] [] (Err e)) (sym refused.0) (bytes, read, refused.1, (refl, refl, still))
+unopened_ends seen command bytes ending still read (inr memory) =
+    subst (λ (e : Ending). Ends seen command [] [] (Err e)) (sym memory) (inl (refl, refl, still))
 
 -- the last step ends it
-pub served_ends : (seen : Sight) (command : Replay) (views : List View) (events out audit : List ℕ) (result : Result (Unit {0}) Ending)
-    → IsOpened seen command views events → EndsServing (AWriteFailed seen) views events out audit result → Ends seen command out audit result
-served_ends seen command views events out audit (Ok done) opened h = (views, events, opened, h.0, h.1)
-served_ends seen command views events out audit (Err (endings.LineRefused n)) opened h = (views, events, opened, h.0, h.1)
-served_ends seen command views events out audit (Err endings.WriteFault) opened h = (views, events, opened, h.0, h.1)
-served_ends seen command views events out audit (Err endings.Memory) opened h = inr (views, events, opened, h)
-served_ends seen command views events out audit (Err endings.AppRefused) opened h = absurd h
-served_ends seen command views events out audit (Err (endings.ReadFault role)) opened h = absurd h
-served_ends seen command views events out audit (Err (endings.TooLong role)) opened h = absurd h
+pub served_ends : (seen : Sight) (command : Replay) (app : Application) (events out audit : List ℕ) (result : Result (Unit {0}) Ending)
+    → IsOpened seen command app events → EndsServing (AWriteFailed seen) app seen.kept events out audit result → Ends seen command out audit result
+served_ends seen command app events out audit (Ok done) opened h = (app, events, opened, h.0, h.1)
+served_ends seen command app events out audit (Err (endings.LineRefused n)) opened h = (app, events, opened, h.0, h.1)
+served_ends seen command app events out audit (Err endings.WriteFault) opened h = (app, events, opened, h.0, h.1)
+served_ends seen command app events out audit (Err endings.Memory) opened h = inr (app, events, opened, h)
+served_ends seen command app events out audit (Err endings.AppRefused) opened h = absurd h
+served_ends seen command app events out audit (Err (endings.ReadFault role)) opened h = absurd h
+served_ends seen command app events out audit (Err (endings.TooLong role)) opened h = absurd h
 
 -- the same, seen when the count of out is a later one
 abbrev pub at_later : Sight → ℕ → Sight
@@ -61,11 +62,11 @@ read_later : (seen : Sight) (later : ℕ) (command : Replay) (role : Role) (byte
     → IsRead seen command role bytes → IsRead (at_later seen later) command role bytes
 read_later seen later command role bytes h = record { short = h.short; told = h.told }
 
-opened_later : (seen : Sight) (later : ℕ) (command : Replay) (views : List View) (events : List ℕ)
-    → IsOpened seen command views events → IsOpened (at_later seen later) command views events
-opened_later seen later command views events h = record {
-  app = h.app;
-  app_read = read_later seen later command roles.App h.app h.app_read;
+opened_later : (seen : Sight) (later : ℕ) (command : Replay) (app : Application) (events : List ℕ)
+    → IsOpened seen command app events → IsOpened (at_later seen later) command app events
+opened_later seen later command app events h = record {
+  app_bytes = h.app_bytes;
+  app_read = read_later seen later command roles.App h.app_bytes h.app_read;
   application = h.application;
   events_read = read_later seen later command roles.Events events h.events_read;
 }
@@ -138,12 +139,12 @@ no_ending : (seen : Sight) (words : List (List ℕ)) (can : CanServe seen words)
     → Ends seen can.command out audit (Err ending) → status_of ending ≡ statuses.Memory
 no_ending seen words can out audit (endings.ReadFault role) h = absurd (can.no_read_fault h.0)
 no_ending seen words can out audit (endings.TooLong roles.App) h =
-    absurd (not_long seen can.command roles.App can.app can.told can.app_file can.application.1.short h.0)
+    absurd (not_long seen can.command roles.App can.app_bytes can.told can.app_file can.application.1.short h.0)
 no_ending seen words can out audit (endings.TooLong roles.Events) h =
     absurd (not_long seen can.command roles.Events can.events can.told can.events_file can.short h.0)
 no_ending seen words can out audit endings.AppRefused h =
-    let same = same_bytes seen can.command roles.App can.app h.0 can.told can.app_file h.1 in
-    absurd (h.2 can.views (subst (λ (b : List ℕ). IsApplication b can.views) (sym same) can.application))
+    let same = same_bytes seen can.command roles.App can.app_bytes h.0 can.told can.app_file h.1 in
+    absurd (h.2 can.app (subst (λ (b : List ℕ). IsApplication b can.app) (sym same) can.application))
 no_ending seen words can out audit (endings.LineRefused n) h =
     let same = same_bytes seen can.command roles.Events can.events h.1 can.told can.events_file h.2.events_read in
     let none = sym can.forms ∙ ap (λ (b : List ℕ). (script_of b).refused) (sym same) ∙ h.3 in

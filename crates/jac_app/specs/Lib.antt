@@ -1,10 +1,12 @@
 pub mod Application
+pub mod Keeping
 pub mod Line
 pub mod Piece
 pub mod Made
 pub mod Parts
 pub mod Log
 pub mod Page
+pub mod Failed
 pub mod Outside
 pub mod Serve
 pub mod Run

@@ -2,7 +2,7 @@
 use Rattle.std.specs.Prelude.{◌≡◌, ◌≤◌, ◌<◌, ◌⊎◌, ◌&&◌, not, nat_lt, ℕ, Bool, IsTrue, IsSomeAnd, if◌then◌else◌, Result, Ok, Err, Option, Some, None, List, [], ◌∷◌, ◌++◌, length, take, codes, decimal}
 use Rattle.std.specs.Str.{bytes_eq}
 use Rattle.jac_io.specs.Faults.{Rose}
-use Rattle.jac_app.specs.declared.application.View.{View}
+use Rattle.jac_lang.specs.Syntax.{Application}
 use Rattle.jac_app.specs.declared.command.Command.{Command}
 use Rattle.jac_app.specs.declared.command.Ending.{Ending}
 use Rattle.jac_app.specs.declared.command.Ending.TheVariants as endings
@@ -11,6 +11,7 @@ use Rattle.jac_app.specs.declared.command.Role.TheVariants as roles
 use Rattle.jac_app.specs.declared.status.Status.{Status}
 use Rattle.jac_app.specs.declared.status.Status.TheVariants as statuses
 use Rattle.jac_app.specs.Application.{IsApplication}
+use Rattle.jac_app.specs.Keeping.{Kept, IsStill}
 use Rattle.jac_app.specs.Line.{is_nil}
 use Rattle.jac_app.specs.Log.{script_of}
 use Rattle.jac_app.specs.Outside.{IsFront}
@@ -51,7 +52,8 @@ abbrev pub limit_text : Role → List ℕ
 limit_text roles.App = codes ", limit 1048576\n"
 limit_text roles.Events = codes ", limit 16777216\n"
 
--- what a run sees of the outside: the files, as far as they are told, and each count of faults before and after
+-- what a run sees of the outside: the files, as far as they are told, each count of faults before and after,
+-- and the keeper
 pub record Sight : Type 0 where
   pub tells : Bool
   pub file : List ℕ → Option (List ℕ)
@@ -61,9 +63,10 @@ pub record Sight : Type 0 where
   pub out_after : ℕ
   pub audit_before : ℕ
   pub audit_after : ℕ
+  pub kept : Kept
 
-abbrev pub sight : Bool → (List ℕ → Option (List ℕ)) → ℕ → ℕ → ℕ → ℕ → ℕ → ℕ → Sight
-sight tells file files_before files_after out_before out_after audit_before audit_after = record {
+abbrev pub sight : Bool → (List ℕ → Option (List ℕ)) → ℕ → ℕ → ℕ → ℕ → ℕ → ℕ → Kept → Sight
+sight tells file files_before files_after out_before out_after audit_before audit_after kept = record {
   tells = tells;
   file = file;
   files_before = files_before;
@@ -72,6 +75,7 @@ sight tells file files_before files_after out_before out_after audit_before audi
   out_after = out_after;
   audit_before = audit_before;
   audit_after = audit_after;
+  kept = kept;
 }
 
 -- the file of this role was read whole
@@ -83,15 +87,16 @@ pub record IsRead (seen : Sight) (command : Replay) (role : Role) (bytes : List 
 abbrev pub IsLong : Sight → Replay → Role → Type 0
 IsLong seen command role = IsTrue seen.tells → IsSomeAnd (seen.file (name_of command role)) (λ bytes. limit_of role < length bytes)
 
--- both files were read, and the first is an application with these views
-pub record IsOpened (seen : Sight) (command : Replay) (views : List View) (events : List ℕ) : Type 0 where
-  pub app : List ℕ
-  pub app_read : IsRead seen command roles.App app
-  pub application : IsApplication app views
+-- both files were read, and the first is this application
+pub record IsOpened (seen : Sight) (command : Replay) (app : Application) (events : List ℕ) : Type 0 where
+  pub app_bytes : List ℕ
+  pub app_read : IsRead seen command roles.App app_bytes
+  pub application : IsApplication app_bytes app
   pub events_read : IsRead seen command roles.Events events
 
-abbrev pub IsNothing : List ℕ → List ℕ → Type 0
-IsNothing out audit = (out ≡ []) × (audit ≡ [])
+-- nothing was put, and the keeper was not called
+abbrev pub IsNothing : Kept → List ℕ → List ℕ → Type 0
+IsNothing k out audit = (out ≡ []) × (audit ≡ []) × IsStill k
 
 abbrev pub AWriteFailed : Sight → Type 0
 AWriteFailed seen = Rose seen.out_before seen.out_after ⊎ Rose seen.audit_before seen.audit_after
@@ -99,21 +104,21 @@ AWriteFailed seen = Rose seen.out_before seen.out_after ⊎ Rose seen.audit_befo
 -- what the steps of a replay put, and why they ended
 abbrev pub Ends : Sight → Replay → List ℕ → List ℕ → Result (Unit {0}) Ending → Type 0
 Ends seen command out audit (Ok done) =
-    (views : List View) × (events : List ℕ) × IsOpened seen command views events
-    × ((script_of events).refused ≡ None) × ServesAll views (script_of events) out audit
+    (app : Application) × (events : List ℕ) × IsOpened seen command app events
+    × ((script_of events).refused ≡ None) × ServesAll app seen.kept (script_of events) out audit
 Ends seen command out audit (Err (endings.LineRefused n)) =
-    (views : List View) × (events : List ℕ) × IsOpened seen command views events
-    × ((script_of events).refused ≡ Some n) × ServesAll views (script_of events) out audit
+    (app : Application) × (events : List ℕ) × IsOpened seen command app events
+    × ((script_of events).refused ≡ Some n) × ServesAll app seen.kept (script_of events) out audit
 Ends seen command out audit (Err endings.WriteFault) =
-    (views : List View) × (events : List ℕ) × IsOpened seen command views events × AWriteFailed seen
-    × (IsNothing out audit ⊎ IsBroken views (script_of events) out audit)
+    (app : Application) × (events : List ℕ) × IsOpened seen command app events × AWriteFailed seen
+    × (IsNothing seen.kept out audit ⊎ IsBroken app seen.kept (script_of events) out audit)
 Ends seen command out audit (Err endings.Memory) =
-    IsNothing out audit
-    ⊎ ((views : List View) × (events : List ℕ) × IsOpened seen command views events × ServesSome views (script_of events) out audit)
+    IsNothing seen.kept out audit
+    ⊎ ((app : Application) × (events : List ℕ) × IsOpened seen command app events × ServesSome app seen.kept (script_of events) out audit)
 Ends seen command out audit (Err endings.AppRefused) =
-    (app : List ℕ) × IsRead seen command roles.App app × ((views : List View) → IsApplication app views → ⊥) × IsNothing out audit
-Ends seen command out audit (Err (endings.ReadFault role)) = Rose seen.files_before seen.files_after × IsNothing out audit
-Ends seen command out audit (Err (endings.TooLong role)) = IsLong seen command role × IsNothing out audit
+    (bytes : List ℕ) × IsRead seen command roles.App bytes × ((app : Application) → IsApplication bytes app → ⊥) × IsNothing seen.kept out audit
+Ends seen command out audit (Err (endings.ReadFault role)) = Rose seen.files_before seen.files_after × IsNothing seen.kept out audit
+Ends seen command out audit (Err (endings.TooLong role)) = IsLong seen command role × IsNothing seen.kept out audit
 
 -- why the file of this role, with this name, wasn't read
 abbrev pub IsUnread : Bool → (List ℕ → Option (List ℕ)) → ℕ → ℕ → List ℕ → Role → Ending → Type 0
@@ -125,21 +130,21 @@ IsUnread tells file before after name role endings.AppRefused = ⊥
 IsUnread tells file before after name role (endings.LineRefused n) = ⊥
 IsUnread tells file before after name role endings.WriteFault = ⊥
 
--- why bytes gave no views
+-- why bytes gave no application
 abbrev pub IsUnopened : List ℕ → Ending → Type 0
-IsUnopened app ending =
-    ((ending ≡ endings.AppRefused) × ((views : List View) → IsApplication app views → ⊥)) ⊎ (ending ≡ endings.Memory)
+IsUnopened bytes ending =
+    ((ending ≡ endings.AppRefused) × ((app : Application) → IsApplication bytes app → ⊥)) ⊎ (ending ≡ endings.Memory)
 
 -- how the last step ends, which aims the audit and serves the events
-abbrev pub EndsServing : Type 0 → List View → List ℕ → List ℕ → List ℕ → Result (Unit {0}) Ending → Type 0
-EndsServing AFault views events out audit (Ok done) = ((script_of events).refused ≡ None) × ServesAll views (script_of events) out audit
-EndsServing AFault views events out audit (Err (endings.LineRefused n)) =
-    ((script_of events).refused ≡ Some n) × ServesAll views (script_of events) out audit
-EndsServing AFault views events out audit (Err endings.WriteFault) = AFault × (IsNothing out audit ⊎ IsBroken views (script_of events) out audit)
-EndsServing AFault views events out audit (Err endings.Memory) = ServesSome views (script_of events) out audit
-EndsServing AFault views events out audit (Err endings.AppRefused) = ⊥
-EndsServing AFault views events out audit (Err (endings.ReadFault role)) = ⊥
-EndsServing AFault views events out audit (Err (endings.TooLong role)) = ⊥
+abbrev pub EndsServing : Type 0 → Application → Kept → List ℕ → List ℕ → List ℕ → Result (Unit {0}) Ending → Type 0
+EndsServing AFault app k events out audit (Ok done) = ((script_of events).refused ≡ None) × ServesAll app k (script_of events) out audit
+EndsServing AFault app k events out audit (Err (endings.LineRefused n)) =
+    ((script_of events).refused ≡ Some n) × ServesAll app k (script_of events) out audit
+EndsServing AFault app k events out audit (Err endings.WriteFault) = AFault × (IsNothing k out audit ⊎ IsBroken app k (script_of events) out audit)
+EndsServing AFault app k events out audit (Err endings.Memory) = ServesSome app k (script_of events) out audit
+EndsServing AFault app k events out audit (Err endings.AppRefused) = ⊥
+EndsServing AFault app k events out audit (Err (endings.ReadFault role)) = ⊥
+EndsServing AFault app k events out audit (Err (endings.TooLong role)) = ⊥
 
 -- the audit was aimed at no file, where the step was done
 abbrev pub IsAimed : Bool → Option (List ℕ) → Result (Unit {0}) Ending → Type 0
@@ -199,6 +204,7 @@ pub record RunsNothing (seen : Sight) (words : List (List ℕ)) (out audit : Lis
   pub no_command : command_of words ≡ None
   pub closes : Closes (Rose seen.out_before seen.out_after) usage_line statuses.Usage out answer
   pub audit_text : audit ≡ []
+  pub still : IsStill seen.kept
 
 abbrev pub Runs : Sight → List (List ℕ) → List ℕ → List ℕ → Status → Type 0
 Runs seen words out audit answer = RunsReplay seen words out audit answer ⊎ RunsNothing seen words out audit answer
@@ -206,13 +212,13 @@ Runs seen words out audit answer = RunsReplay seen words out audit answer ⊎ Ru
 -- everything that a run needs is there, and nothing fails
 pub record CanServe (seen : Sight) (words : List (List ℕ)) : Type 0 where
   pub command : Replay
-  pub app : List ℕ
-  pub views : List View
+  pub app_bytes : List ℕ
+  pub app : Application
   pub events : List ℕ
   pub is_command : command_of words ≡ Some command
   pub told : IsTrue seen.tells
-  pub app_file : seen.file command.app ≡ Some app
-  pub application : IsApplication app views
+  pub app_file : seen.file command.app ≡ Some app_bytes
+  pub application : IsApplication app_bytes app
   pub events_file : seen.file command.events ≡ Some events
   pub short : length events ≤ 16777216
   pub forms : (script_of events).refused ≡ None
@@ -225,10 +231,10 @@ HasCause seen words statuses.Done = (command : Replay) × (command_of words ≡ 
 HasCause seen words statuses.Usage = command_of words ≡ None
 HasCause seen words statuses.AppRefused =
     (command : Replay) × (command_of words ≡ Some command)
-    × ((app : List ℕ) × IsRead seen command roles.App app × ((views : List View) → IsApplication app views → ⊥))
+    × ((bytes : List ℕ) × IsRead seen command roles.App bytes × ((app : Application) → IsApplication bytes app → ⊥))
 HasCause seen words statuses.LineRefused =
     (command : Replay) × (command_of words ≡ Some command)
-    × ((views : List View) × (events : List ℕ) × IsOpened seen command views events × ((n : ℕ) × ((script_of events).refused ≡ Some n)))
+    × ((app : Application) × (events : List ℕ) × IsOpened seen command app events × ((n : ℕ) × ((script_of events).refused ≡ Some n)))
 HasCause seen words statuses.ReadFault = Rose seen.files_before seen.files_after
 HasCause seen words statuses.WriteFault = AWriteFailed seen
 HasCause seen words statuses.Memory = Unit {0}

@@ -1,19 +1,27 @@
-ghost use Rattle.std.specs.Prelude.{◌≡◌, ◌++◌, ◌≤◌, ◌<◌, ◌^◌, ◌⊎◌, length, ℕ, IsTrue, List, Result, Option, Some, None, OnErr, IfOk, IfErr, take, codes, decimal};
+ghost use Rattle.std.specs.Prelude.{◌≡◌, ◌++◌, ◌≤◌, ◌<◌, ◌^◌, ◌⊎◌, length, ℕ, IsTrue, List, Result, Option, Some, None, OnErr, IfOk, IfErr, true, take, codes, decimal};
 ghost use Rattle.std.specs.Option.{option_map};
 ghost use Rattle.std.specs.Str.{bytes_eq};
 ghost use Rattle.jac_io.specs.Faults.{Rose};
+ghost use Rattle.jac_lang.specs.Mirror.{application_of};
+ghost use Rattle.jac_engine.specs.Served.{are_served};
+ghost use Rattle.jac_engine.specs.Start.{IsStart};
+ghost use Rattle.jac_app.specs.Keeping.{IsForAll, kept};
 ghost use Rattle.jac_app.specs.Application.{IsApplication};
 ghost use Rattle.jac_app.specs.Outside.{Took, Lasts, Put};
 ghost use Rattle.jac_app.specs.Run.{is_operand, command_of, named, replay_of, sight, name_of, limit_of, limit_text, Sight, IsRead, IsLong, IsUnread, IsUnopened, EndsServing, IsAimed, IsAimedAt, Ends, Runs, HasCause, CanServe, fault_line, status_of, usage_line, Closes, Finishes};
 
-use crate::application::{View, Views, read_application};
+use crate::application::read_application;
 use crate::outside::{put, put_three};
 use crate::serve::{Stopped, serve_events};
 use crate::status::Status;
 use itoa::Buffer;
 use jac_io::{AuditSink, Failed, FileFault, Files, Sink};
+use jac_keep::Keeper;
+use jac_lang::App;
 use jac_value::{Bytes, Memory, Txt};
+use jac_world::Steps;
 use std::alloc::Global;
+use std::sync::ledger::Ledger;
 
 /// Which file of a replay.
 #[derive(Clone, Copy, Debug, PartialEq, Eq)]
@@ -107,36 +115,45 @@ fn read_file<F: Files>(
     }
 }
 
-fn read_views(alloc: Global, app: &[u8]) -> Result<Views, Ending>
-    ensures opened { IfOk result (λ views. IsApplication app.now views) }
-    ensures unopened { IfErr result (λ ending. IsUnopened app.now ending) }
+fn open_app(alloc: Global, bytes: &[u8]) -> Result<App, Ending>
+    ensures opened { IfOk result (λ app. IsApplication bytes.now (application_of app)) }
+    ensures served { IfOk result (λ app. are_served (application_of app) ≡ true) }
+    ensures few { IfOk result (λ app. length (application_of app).models ≤ 64) }
+    ensures unopened { IfErr result (λ ending. IsUnopened bytes.now ending) }
 {
-    match read_application(alloc, app) {
-        Ok(Some(views)) => Ok(views),
+    match read_application(alloc, bytes) {
+        Ok(Some(app)) => Ok(app),
         Ok(None) => Err(Ending::AppRefused),
         Err(Memory) => Err(Ending::Memory),
     }
 }
 
 // Aims the audit at no file, and serves the events.
-fn serve<O: Sink, U: AuditSink>(
+fn serve<O: Sink, U: AuditSink, K: Keeper, L: Ledger>(
     alloc: Global,
-    views: &[View],
+    app: &App,
     events: &[u8],
     out: &mut O,
     audit: &mut U,
+    keeper: &mut K,
+    splits: &mut Steps<L>,
 ) -> Result<(), Ending>
-    requires { length events.now < 2 ^ 32 }
+    requires short { length events.now < 2 ^ 32 }
+    requires attached { IsTrue (K.attached keeper.old) }
+    requires served { are_served (application_of app.now) ≡ true }
+    requires start { IsTrue (K.tells keeper.old) → IsStart (application_of app.now) (K.state keeper.old) }
     ensures out { Lasts (O.tells out.old) (O.tells out.new) (O.aimed out.old) (O.aimed out.new) (O.faults out.old) (O.faults out.new) }
     ensures tells { U.tells audit.new ≡ U.tells audit.old }
     ensures later { U.faults audit.old ≤ U.faults audit.new }
     ensures aimed { IsAimed (U.tells audit.old) (U.aimed audit.new) result }
     ensures served { (o : List ℕ) × (a : List ℕ) × Took (O.tells out.old) (O.held out.old) (O.held out.new) o
         × Took (U.tells audit.old) (U.held audit.old) (U.held audit.new) a
-        × EndsServing (Rose (O.faults out.old) (O.faults out.new) ⊎ Rose (U.faults audit.old) (U.faults audit.new)) views.now events.now o a result }
+        × EndsServing (Rose (O.faults out.old) (O.faults out.new) ⊎ Rose (U.faults audit.old) (U.faults audit.new)) (application_of app.now)
+        (kept (K.tells keeper.old) (K.state keeper.old) (K.state keeper.new) (K.faults keeper.old) (K.faults keeper.new))
+        events.now o a result }
 {
     match audit.aim(None) {
-        Ok(()) => match serve_events(alloc, views, events, out, audit) {
+        Ok(()) => match serve_events(alloc, app, events, out, audit, keeper, splits) {
             Ok(()) => Ok(()),
             Err(Stopped::Refused(line)) => Err(Ending::LineRefused(line)),
             Err(Stopped::Write) => Err(Ending::WriteFault),
@@ -147,14 +164,18 @@ fn serve<O: Sink, U: AuditSink>(
 }
 
 // The steps of a replay: the application, the events, the audit's aim, and each event.
-fn replay<F: Files, O: Sink, U: AuditSink>(
+fn replay<F: Files, O: Sink, U: AuditSink, K: Keeper, L: Ledger>(
     alloc: Global,
     app_name: &Txt,
     events_name: &Txt,
     files: &mut F,
     out: &mut O,
     audit: &mut U,
+    keeper: &mut K,
+    splits: &mut Steps<L>,
 ) -> Result<(), Ending>
+    requires attached { IsTrue (K.attached keeper.old) }
+    requires start { IsTrue (K.tells keeper.old) → IsForAll (K.state keeper.old) }
     ensures files { F.faults files.old ≤ F.faults files.new }
     ensures out { Lasts (O.tells out.old) (O.tells out.new) (O.aimed out.old) (O.aimed out.new) (O.faults out.old) (O.faults out.new) }
     ensures tells { U.tells audit.new ≡ U.tells audit.old }
@@ -163,21 +184,22 @@ fn replay<F: Files, O: Sink, U: AuditSink>(
     ensures ends { (o : List ℕ) × (a : List ℕ) × Took (O.tells out.old) (O.held out.old) (O.held out.new) o
         × Took (U.tells audit.old) (U.held audit.old) (U.held audit.new) a
         × Ends (sight (F.tells files.old) (F.file files.old) (F.faults files.old) (F.faults files.new)
-        (O.faults out.old) (O.faults out.new) (U.faults audit.old) (U.faults audit.new)) (replay_of app_name.now events_name.now) o a result }
+        (O.faults out.old) (O.faults out.new) (U.faults audit.old) (U.faults audit.new)
+        (kept (K.tells keeper.old) (K.state keeper.old) (K.state keeper.new) (K.faults keeper.old) (K.faults keeper.new))) (replay_of app_name.now events_name.now) o a result }
 {
-    let app = match read_file(alloc, files, app_name, Role::App) {
-        Ok(app) => app,
+    let bytes = match read_file(alloc, files, app_name, Role::App) {
+        Ok(bytes) => bytes,
         Err(ending) => return Err(ending),
     };
-    let views = match read_views(alloc, app.as_slice()) {
-        Ok(views) => views,
+    let app = match open_app(alloc, bytes.as_slice()) {
+        Ok(app) => app,
         Err(ending) => return Err(ending),
     };
     let events = match read_file(alloc, files, events_name, Role::Events) {
         Ok(events) => events,
         Err(ending) => return Err(ending),
     };
-    serve(alloc, views.as_slice(), events.as_slice(), out, audit)
+    serve(alloc, &app, events.as_slice(), out, audit, keeper, splits)
 }
 
 fn name_bytes<'a>(role: Role, app_name: &'a Txt, events_name: &'a Txt) -> &'a [u8]
@@ -289,22 +311,36 @@ fn refuse_words<O: Sink>(out: &mut O) -> Status
 }
 
 // The run, as one statement on all that it puts.
-fn run_words<F: Files, O: Sink, U: AuditSink>(
+fn run_words<F: Files, O: Sink, U: AuditSink, K: Keeper, L: Ledger>(
     alloc: Global,
     words: &[Txt],
     files: &mut F,
     out: &mut O,
     audit: &mut U,
+    keeper: &mut K,
+    splits: &mut Steps<L>,
 ) -> Status
+    requires attached { IsTrue (K.attached keeper.old) }
+    requires start { IsTrue (K.tells keeper.old) → IsForAll (K.state keeper.old) }
     ensures aimed { IsAimedAt (U.tells audit.old) (U.aimed audit.new) result }
     ensures runs { (o : List ℕ) × (a : List ℕ) × Took (O.tells out.old) (O.held out.old) (O.held out.new) o
         × Took (U.tells audit.old) (U.held audit.old) (U.held audit.new) a
         × Runs (sight (F.tells files.old) (F.file files.old) (F.faults files.old) (F.faults files.new)
-        (O.faults out.old) (O.faults out.new) (U.faults audit.old) (U.faults audit.new)) words.now o a result }
+        (O.faults out.old) (O.faults out.new) (U.faults audit.old) (U.faults audit.new)
+        (kept (K.tells keeper.old) (K.state keeper.old) (K.state keeper.new) (K.faults keeper.old) (K.faults keeper.new))) words.now o a result }
 {
     match command_of(words) {
         Some(command) => {
-            let ended = replay(alloc, command.app, command.events, files, out, audit);
+            let ended = replay(
+                alloc,
+                command.app,
+                command.events,
+                files,
+                out,
+                audit,
+                keeper,
+                splits,
+            );
             finish(out, command.app, command.events, ended)
         }
         None => refuse_words(out),
@@ -313,30 +349,42 @@ fn run_words<F: Files, O: Sink, U: AuditSink>(
 
 /// Runs the command that the words give, and puts replies on `out` and the audit's lines on `audit`. The
 /// words are those after the program's name: `replay APP EVENTS` serves the events of a file, one after
-/// another, with the application of another. A status other than `Done` has its line as the last one on `out`.
-pub fn run<F: Files, O: Sink, U: AuditSink>(
+/// another, with the application of another, on what the keeper keeps. A status other than `Done` has its line as the last one on `out`.
+pub fn run<F: Files, O: Sink, U: AuditSink, K: Keeper, L: Ledger>(
     alloc: Global,
     words: &[Txt],
     files: &mut F,
     out: &mut O,
     audit: &mut U,
+    keeper: &mut K,
+    splits: &mut Steps<L>,
 ) -> Status
+    // The keeper may be called.
+    requires attached { IsTrue (K.attached keeper.old) }
+
+    // A state that it tells is one that any application may start from.
+    requires start { IsTrue (K.tells keeper.old) → IsForAll (K.state keeper.old) }
+
     // The audit was aimed at no file, once events were served.
     ensures aimed { IsAimedAt (U.tells audit.old) (U.aimed audit.new) result }
 
-    // What was put on both sinks is what the command's steps put, by the status.
+    // What was put on both sinks is what the command's steps put, by the status; and what the keeper
+    // keeps shows under every assignment the world that the ordinary interpreter leaves.
     ensures runs { (o : List ℕ) × (a : List ℕ) × Took (O.tells out.old) (O.held out.old) (O.held out.new) o
         × Took (U.tells audit.old) (U.held audit.old) (U.held audit.new) a
         × Runs (sight (F.tells files.old) (F.file files.old) (F.faults files.old) (F.faults files.new)
-        (O.faults out.old) (O.faults out.new) (U.faults audit.old) (U.faults audit.new)) words.now o a result }
+        (O.faults out.old) (O.faults out.new) (U.faults audit.old) (U.faults audit.new)
+        (kept (K.tells keeper.old) (K.state keeper.old) (K.state keeper.new) (K.faults keeper.old) (K.faults keeper.new))) words.now o a result }
 
     // Each status comes for its cause alone.
     ensures cause { HasCause (sight (F.tells files.old) (F.file files.old) (F.faults files.old) (F.faults files.new)
-        (O.faults out.old) (O.faults out.new) (U.faults audit.old) (U.faults audit.new)) words.now result }
+        (O.faults out.old) (O.faults out.new) (U.faults audit.old) (U.faults audit.new)
+        (kept (K.tells keeper.old) (K.state keeper.old) (K.state keeper.new) (K.faults keeper.old) (K.faults keeper.new))) words.now result }
 
     // Where nothing is missing and nothing fails, all is served, unless memory runs out.
     ensures complete { CanServe (sight (F.tells files.old) (F.file files.old) (F.faults files.old) (F.faults files.new)
-        (O.faults out.old) (O.faults out.new) (U.faults audit.old) (U.faults audit.new)) words.now → (result ≡ Status.Done) ⊎ (result ≡ Status.Memory) }
+        (O.faults out.old) (O.faults out.new) (U.faults audit.old) (U.faults audit.new)
+        (kept (K.tells keeper.old) (K.state keeper.old) (K.state keeper.new) (K.faults keeper.old) (K.faults keeper.new))) words.now → (result ≡ Status.Done) ⊎ (result ≡ Status.Memory) }
 {
-    run_words(alloc, words, files, out, audit)
+    run_words(alloc, words, files, out, audit, keeper, splits)
 }

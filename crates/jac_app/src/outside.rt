@@ -50,3 +50,24 @@ pub fn put_three<S: Sink>(
         Err(Failed) => Err(Failed),
     }
 }
+
+/// Puts four pieces, as one.
+pub fn put_four<S: Sink>(
+    sink: &mut S,
+    first: &[u8],
+    second: &[u8],
+    third: &[u8],
+    fourth: &[u8],
+) -> Result<(), Failed>
+    ensures lasts { Lasts (S.tells sink.old) (S.tells sink.new) (S.aimed sink.old) (S.aimed sink.new) (S.faults sink.old) (S.faults sink.new) }
+    ensures put { (put : List ℕ) × Took (S.tells sink.old) (S.held sink.old) (S.held sink.new) put × Put (first.now ++ second.now ++ third.now ++ fourth.now) put result }
+    ensures cause { OnErr result (Rose (S.faults sink.old) (S.faults sink.new)) }
+{
+    match put_three(sink, first, second, third) {
+        Ok(()) => match put(sink, fourth) {
+            Ok(()) => Ok(()),
+            Err(Failed) => Err(Failed),
+        },
+        Err(Failed) => Err(Failed),
+    }
+}

@@ -1,10 +1,11 @@
-ghost use Rattle.std.specs.Prelude.{◌≡◌, ◌==◌, ◌++◌, ◌∷◌, [], if◌then◌else◌, IfOk, List, Option, Some, None, codes, decimal};
+ghost use Rattle.std.specs.Prelude.{◌≡◌, ◌++◌, ◌∷◌, [], IfOk, OnOk, List, Option, Some, None, codes, decimal};
 ghost use Rattle.std.specs.Str.{bytes_eq};
-ghost use Rattle.jac_value.specs.Quoted.{quoted};
-ghost use Rattle.jac_app.specs.Log.{reply_text, audit_text, location_text, printed_body, shown_text, shown_of};
+ghost use Rattle.std.specs.String.{string_bytes};
+ghost use Rattle.jac_app.specs.Log.{reply_text, audit_text, location_text, printed_body, viewer_text, labels_text, more_labels, shown_text};
 
-use crate::page::{Answer, is_head};
-use jac_value::{Memory, Txt, escape_line};
+use jac_engine::Answer;
+use jac_value::{Id, Memory, Txt, escape_line};
+use jac_world::Assignment;
 use std::alloc::Global;
 
 /// The line of a reply: `reply STATUS "LOCATION" "BODY"`. A reply to HEAD has no body.
@@ -43,23 +44,84 @@ fn printed_body<'a>(method: &[u8], answer: &'a Answer) -> &'a [u8]
     }
 }
 
-/// The audit's line of the k-th reply: `K STATUS VIEWER SHOWN`. Each viewer is nobody.
-pub fn audit_line(alloc: Global, k: u64, answer: &Answer) -> Result<Txt, Memory>
-    ensures { IfOk result (λ line. line ≡ audit_text k answer.now.status None (shown_of answer.now.is_page)) }
+/// A request of this method gets no body.
+pub fn is_head(method: &[u8]) -> bool
+    ensures { result ≡ bytes_eq method.now (codes "HEAD") }
 {
-    let line = audit_parts(alloc, k, answer.status, shown(answer.is_page))?;
+    method == b"HEAD".as_slice()
+}
+
+/// The audit's line of the k-th reply: `K STATUS VIEWER SHOWN`.
+pub fn audit_line(alloc: Global, k: u64, viewer: Option<Id>, answer: &Answer) -> Result<Txt, Memory>
+    ensures { IfOk result (λ line. line ≡ audit_text k answer.now.status viewer answer.now.shown) }
+{
+    let viewer = viewer_text(alloc, viewer)?;
+    let shown = shown_text(alloc, &answer.shown)?;
+    let line = audit_parts(alloc, k, answer.status, viewer.as_str(), shown.as_str())?;
     Ok(line)
 }
 
-fn audit_parts(alloc: Global, k: u64, status: u16, shown: &str) -> Result<Txt, Memory>
-    ensures { IfOk result (λ line. line ≡ decimal k ++ codes " " ++ decimal status ++ codes " - " ++ shown.now ++ 10 ∷ []) }
+fn audit_parts(alloc: Global, k: u64, status: u16, viewer: &str, shown: &str) -> Result<Txt, Memory>
+    ensures { IfOk result (λ line. line ≡ codes "" ++ decimal k ++ codes " " ++ decimal status ++ codes " " ++ viewer.now ++ codes " " ++ shown.now ++ 10 ∷ []) }
 {
-    let line = format!(in alloc; "{k} {status} - {shown}\n")?;
+    let line = format!(in alloc; "{k} {status} {viewer} {shown}\n")?;
     Ok(Txt::from_string(line))
 }
 
-fn shown(is_page: bool) -> &'static str
-    ensures { result.now ≡ shown_text (shown_of is_page) }
+fn number_text(alloc: Global, number: u128) -> Result<Txt, Memory>
+    ensures { IfOk result (λ t. t ≡ decimal number) }
 {
-    if is_page { "-" } else { "nopage" }
+    let text = format!(in alloc; "{number}")?;
+    Ok(Txt::from_string(text))
+}
+
+fn viewer_text(alloc: Global, viewer: Option<Id>) -> Result<Txt, Memory>
+    ensures { IfOk result (λ t. t ≡ viewer_text viewer) }
+{
+    match viewer {
+        None => {
+            let text = Txt::from_str(alloc, "-")?;
+            Ok(text)
+        }
+        Some(id) => {
+            let text = number_text(alloc, id.0)?;
+            Ok(text)
+        }
+    }
+}
+
+fn shown_text(alloc: Global, shown: &Option<Assignment>) -> Result<Txt, Memory>
+    ensures { IfOk result (λ t. t ≡ shown_text shown.now) }
+{
+    match shown {
+        None => {
+            let text = Txt::from_str(alloc, "nopage")?;
+            Ok(text)
+        }
+        Some(labels) => {
+            let text = labels_text(alloc, labels)?;
+            Ok(text)
+        }
+    }
+}
+
+// The labels, joined by commas.
+fn labels_text(alloc: Global, shown: &Assignment) -> Result<Txt, Memory>
+    ensures { IfOk result (λ t. t ≡ labels_text shown.now) }
+{
+    match shown.as_slice().split_first() {
+        None => {
+            let text = Txt::from_str(alloc, "-")?;
+            Ok(text)
+        }
+        Some((first, rest)) => {
+            let mut text = number_text(alloc, first.0)?.into_string();
+            'labels: for label in rest {
+                let number = number_text(alloc, label.0)?;
+                text.push_str(",")?;
+                text.push_str(number.as_str())?;
+            }
+            Ok(Txt::from_string(text))
+        }
+    }
 }

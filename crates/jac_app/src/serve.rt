@@ -1,21 +1,33 @@
-ghost use Rattle.std.specs.Prelude.{◌≡◌, ◌++◌, ◌≤◌, ◌<◌, ◌+◌, ◌-◌, ◌^◌, ◌⊎◌, ◌∷◌, [], ℕ, List, Result, Option, Some, None, OnErr, IfOk, length, codes, decimal};
+ghost use Rattle.std.specs.Prelude.{◌≡◌, ◌++◌, ◌≤◌, ◌<◌, ◌+◌, ◌-◌, ◌^◌, ◌⊎◌, ◌∷◌, [], ℕ, Bool, true, List, Result, Option, Some, None, OnOk, OnErr, IfOk, IfSome, IsTrue, length, codes, decimal};
+ghost use Rattle.std.specs.Str.{bytes_eq};
 ghost use Rattle.jac_io.specs.Faults.{Rose};
+ghost use Rattle.jac_lang.specs.Mirror.{application_of};
+ghost use Rattle.jac_keep.specs.Cause.{HasCause};
+ghost use Rattle.jac_engine.specs.Prepared.{refusal};
+ghost use Rattle.jac_engine.specs.Served.{are_served};
+ghost use Rattle.jac_engine.specs.Start.{IsStart};
+ghost use Rattle.jac_app.specs.Failed.{status_of_stop};
+ghost use Rattle.jac_app.specs.Keeping.{kept};
 ghost use Rattle.jac_app.specs.Line.{is_nil};
-ghost use Rattle.jac_app.specs.Log.{Entry, Script, script_of, reply_text, audit_text, shown_of};
+ghost use Rattle.jac_app.specs.Log.{Entry, Script, script_of, request_of, viewer_in, viewer_text, reply_text, audit_text};
 ghost use Rattle.jac_app.specs.Outside.{Took, Lasts, Put, PutBoth};
-ghost use Rattle.jac_app.specs.Page.{found, answer_to, refusal};
-ghost use Rattle.jac_app.specs.Serve.{AnswersAsk, AnswersLine, ServesAs};
+ghost use Rattle.jac_app.specs.Page.{form_body, inquiry_of};
+ghost use Rattle.jac_app.specs.Serve.{IsAnswerMade, AnswersAsk, AnswersLine, ServesAs};
 
-use crate::application::View;
 use crate::line::{Ask, read_ask};
-use crate::outside::{put, put_two};
-use crate::page::{answer_request, is_head};
+use crate::outside::{put, put_four};
 use crate::parts::first_part;
-use crate::reply::{audit_line, reply_line};
+use crate::reply::{audit_line, is_head, reply_line};
 use itoa::Buffer;
+use jac_engine::{Answer, Ask as Inquiry, commit, prepare};
 use jac_io::{AuditSink, Failed, Sink};
-use jac_value::{Memory, Txt};
+use jac_keep::{Keeper, Stop};
+use jac_lang::App;
+use jac_route::{pairs_of, viewer_id};
+use jac_value::{Id, Memory, Txt};
+use jac_world::Steps;
 use std::alloc::Global;
+use std::sync::ledger::Ledger;
 
 // The two lines of an answered request.
 #[derive(Drop)]
@@ -24,17 +36,87 @@ struct Lines {
     audit: Txt,
 }
 
-// The lines of the k-th reply.
-fn make_lines(alloc: Global, views: &[View], k: u64, ask: &Ask) -> Result<Lines, Memory>
-    ensures reply { IfOk result (λ lines. let answer = answer_to (found views.now ask.now) in
-        lines.reply ≡ reply_text ask.now.method answer.status answer.location answer.body) }
-    ensures audit { IfOk result (λ lines. let answer = answer_to (found views.now ask.now) in
-        lines.audit ≡ audit_text k answer.status None (shown_of answer.is_page)) }
+fn viewer_of(app: &App, ask: &Ask) -> Option<Id>
+    ensures { result ≡ viewer_in (application_of app.now) ask.now.viewer }
 {
-    let answer = answer_request(alloc, views, ask)?;
-    let reply = reply_line(alloc, ask.method.as_bytes(), &answer)?;
-    let audit = audit_line(alloc, k, &answer)?;
+    match ask.viewer {
+        None => None,
+        Some(number) => viewer_id(number, app),
+    }
+}
+
+fn form_body(ask: &Ask) -> &[u8]
+    ensures { result.now ≡ form_body ask.now.method ask.now.body }
+{
+    if ask.method.as_bytes() == b"POST".as_slice() {
+        ask.body.as_slice()
+    } else {
+        &[]
+    }
+}
+
+fn inquiry(alloc: Global, app: &App, ask: &Ask) -> Result<Inquiry, Memory>
+    ensures { IfOk result (λ i. i ≡ inquiry_of (request_of (application_of app.now) ask.now)) }
+{
+    let method = ask.method.copy(alloc)?;
+    let path = ask.path.copy(alloc)?;
+    let pairs = pairs_of(alloc, ask.query.as_slice(), form_body(ask))?;
+    Ok(Inquiry {
+        viewer: viewer_of(app, ask),
+        method,
+        path,
+        pairs,
+    })
+}
+
+// The lines of the k-th reply.
+fn make_lines(
+    alloc: Global,
+    k: u64,
+    viewer: Option<Id>,
+    method: &[u8],
+    answer: &Answer,
+) -> Result<Lines, Memory>
+    ensures reply { IfOk result (λ lines. lines.reply ≡ reply_text method.now answer.now.status answer.now.location answer.now.body) }
+    ensures audit { IfOk result (λ lines. lines.audit ≡ audit_text k answer.now.status viewer answer.now.shown) }
+{
+    let reply = reply_line(alloc, method, answer)?;
+    let audit = audit_line(alloc, k, viewer, answer)?;
     Ok(Lines { reply, audit })
+}
+
+// Answers one request and stores what it leaves. The lines of its reply are made before, so that nothing is
+// stored without them.
+fn answer_ask<K: Keeper, L: Ledger>(
+    alloc: Global,
+    app: &App,
+    keeper: &mut K,
+    k: u64,
+    ask: &Ask,
+    splits: &mut Steps<L>,
+) -> Result<Lines, Stop>
+    requires attached { IsTrue (K.attached keeper.old) }
+    requires served { are_served (application_of app.now) ≡ true }
+    requires start { IsTrue (K.tells keeper.old) → IsStart (application_of app.now) (K.state keeper.old) }
+    ensures made { IfOk result (λ lines. IsAnswerMade (application_of app.now)
+        (kept (K.tells keeper.old) (K.state keeper.old) (K.state keeper.new) (K.faults keeper.old) (K.faults keeper.new))
+        (request_of (application_of app.now) ask.now) k lines.reply lines.audit) }
+    ensures refused { IsTrue (K.tells keeper.old) → OnErr result (K.state keeper.new ≡ K.state keeper.old) }
+    ensures cause { HasCause (K.faults keeper.old) (K.faults keeper.new) result }
+    ensures tells { K.tells keeper.new ≡ K.tells keeper.old }
+    ensures attached { K.attached keeper.new ≡ K.attached keeper.old }
+{
+    let inquiry = inquiry(alloc, app, ask)?;
+    let prepared = prepare(alloc, app, keeper, &inquiry, splits)?;
+    let lines = make_lines(
+        alloc,
+        k,
+        inquiry.viewer,
+        ask.method.as_bytes(),
+        &prepared.answer,
+    )?;
+    commit(alloc, keeper, prepared)?;
+    Ok(lines)
 }
 
 // The audit's line first, and then the reply.
@@ -59,22 +141,98 @@ fn put_lines<O: Sink, U: AuditSink>(
     }
 }
 
-// The same, where the audit's line comes in two pieces.
-fn put_pieces<O: Sink, U: AuditSink>(
+// The bytes of the reply to a request that wasn't answered.
+fn failed_reply(stop: Stop, method: &[u8]) -> &'static [u8]
+    ensures { result.now ≡ reply_text method.now (status_of_stop stop) None (refusal (status_of_stop stop) None).body }
+{
+    match stop {
+        Stop::Keeper => {
+            if is_head(method) {
+                b"reply 503 \"\" \"\"\n"
+            } else {
+                b"reply 503 \"\" \"503 Service Unavailable\\n\"\n"
+            }
+        }
+        Stop::Memory => {
+            if is_head(method) {
+                b"reply 500 \"\" \"\"\n"
+            } else {
+                b"reply 500 \"\" \"500 Internal Server Error\\n\"\n"
+            }
+        }
+    }
+}
+
+fn failed_status(stop: Stop) -> &'static [u8]
+    ensures { result.now ≡ codes " " ++ decimal (status_of_stop stop) ++ codes " " }
+{
+    match stop {
+        Stop::Keeper => b" 503 ",
+        Stop::Memory => b" 500 ",
+    }
+}
+
+fn viewer_bytes(buffer: &mut Buffer, viewer: Option<Id>) -> &[u8]
+    ensures { result.now ≡ viewer_text viewer }
+{
+    match viewer {
+        None => b"-",
+        Some(id) => buffer.format(id.0).as_bytes(),
+    }
+}
+
+// The lines of a request that wasn't answered; they take no memory.
+fn put_failed<O: Sink, U: AuditSink>(
     out: &mut O,
     audit: &mut U,
-    fixed: &[u8],
-    first: &[u8],
-    second: &[u8],
+    k: u64,
+    viewer: Option<Id>,
+    method: &[u8],
+    stop: Stop,
 ) -> Result<(), Failed>
     ensures out { Lasts (O.tells out.old) (O.tells out.new) (O.aimed out.old) (O.aimed out.new) (O.faults out.old) (O.faults out.new) }
     ensures audit { Lasts (U.tells audit.old) (U.tells audit.new) (U.aimed audit.old) (U.aimed audit.new) (U.faults audit.old) (U.faults audit.new) }
     ensures put { (o : List ℕ) × (a : List ℕ) × Took (O.tells out.old) (O.held out.old) (O.held out.new) o
-        × Took (U.tells audit.old) (U.held audit.old) (U.held audit.new) a × PutBoth fixed.now (first.now ++ second.now) o a result }
+        × Took (U.tells audit.old) (U.held audit.old) (U.held audit.new) a
+        × PutBoth (reply_text method.now (status_of_stop stop) None (refusal (status_of_stop stop) None).body) (audit_text k (status_of_stop stop) viewer None) o a result }
     ensures cause { OnErr result (Rose (O.faults out.old) (O.faults out.new) ⊎ Rose (U.faults audit.old) (U.faults audit.new)) }
 {
-    match put_two(audit, first, second) {
-        Ok(()) => match put(out, fixed) {
+    let mut number_buffer = Buffer::new();
+    let mut viewer_buffer = Buffer::new();
+    let number = number_buffer.format(k);
+    let viewer = viewer_bytes(&mut viewer_buffer, viewer);
+    let reply = failed_reply(stop, method);
+    match put_pieces(
+        out,
+        audit,
+        reply,
+        number.as_bytes(),
+        failed_status(stop),
+        viewer,
+    ) {
+        Ok(()) => Ok(()),
+        Err(Failed) => Err(Failed),
+    }
+}
+
+// The reply, after the audit's line, which comes in pieces and ends without labels.
+fn put_pieces<O: Sink, U: AuditSink>(
+    out: &mut O,
+    audit: &mut U,
+    reply: &[u8],
+    number: &[u8],
+    status: &[u8],
+    viewer: &[u8],
+) -> Result<(), Failed>
+    ensures out { Lasts (O.tells out.old) (O.tells out.new) (O.aimed out.old) (O.aimed out.new) (O.faults out.old) (O.faults out.new) }
+    ensures audit { Lasts (U.tells audit.old) (U.tells audit.new) (U.aimed audit.old) (U.aimed audit.new) (U.faults audit.old) (U.faults audit.new) }
+    ensures put { (o : List ℕ) × (a : List ℕ) × Took (O.tells out.old) (O.held out.old) (O.held out.new) o
+        × Took (U.tells audit.old) (U.held audit.old) (U.held audit.new) a
+        × PutBoth reply.now (number.now ++ status.now ++ viewer.now ++ codes " nopage\n") o a result }
+    ensures cause { OnErr result (Rose (O.faults out.old) (O.faults out.new) ⊎ Rose (U.faults audit.old) (U.faults audit.new)) }
+{
+    match put_four(audit, number, status, viewer, b" nopage\n") {
+        Ok(()) => match put(out, reply) {
             Ok(()) => Ok(()),
             Err(Failed) => Err(Failed),
         },
@@ -82,58 +240,42 @@ fn put_pieces<O: Sink, U: AuditSink>(
     }
 }
 
-// The lines of a request that met want of memory; they take none.
-fn put_lacking<O: Sink, U: AuditSink>(
-    out: &mut O,
-    audit: &mut U,
-    k: u64,
-    method: &[u8],
-) -> Result<(), Failed>
-    ensures out { Lasts (O.tells out.old) (O.tells out.new) (O.aimed out.old) (O.aimed out.new) (O.faults out.old) (O.faults out.new) }
-    ensures audit { Lasts (U.tells audit.old) (U.tells audit.new) (U.aimed audit.old) (U.aimed audit.new) (U.faults audit.old) (U.faults audit.new) }
-    ensures put { (o : List ℕ) × (a : List ℕ) × Took (O.tells out.old) (O.held out.old) (O.held out.new) o
-        × Took (U.tells audit.old) (U.held audit.old) (U.held audit.new) a
-        × PutBoth (reply_text method.now 500 None (refusal 500).body) (audit_text k 500 None None) o a result }
-    ensures cause { OnErr result (Rose (O.faults out.old) (O.faults out.new) ⊎ Rose (U.faults audit.old) (U.faults audit.new)) }
-{
-    let mut buffer = Buffer::new();
-    let digits = buffer.format(k);
-    let reply = lacking_reply(method);
-    match put_pieces(out, audit, reply, digits.as_bytes(), b" 500 - nopage\n") {
-        Ok(()) => Ok(()),
-        Err(Failed) => Err(Failed),
-    }
-}
-
-fn lacking_reply(method: &[u8]) -> &'static [u8]
-    ensures { result.now ≡ reply_text method.now 500 None (refusal 500).body }
-{
-    if is_head(method) {
-        b"reply 500 \"\" \"\"\n"
-    } else {
-        b"reply 500 \"\" \"500 Internal Server Error\\n\"\n"
-    }
-}
-
 // Answers one request, of which `served` were answered before.
-fn serve_ask<O: Sink, U: AuditSink>(
+fn serve_ask<O: Sink, U: AuditSink, K: Keeper, L: Ledger>(
     alloc: Global,
-    views: &[View],
+    app: &App,
     served: u64,
     ask: &Ask,
     out: &mut O,
     audit: &mut U,
+    keeper: &mut K,
+    splits: &mut Steps<L>,
 ) -> Result<(), Failed>
-    requires { served < 2 ^ 64 - 1 }
+    requires few { served < 2 ^ 64 - 1 }
+    requires attached { IsTrue (K.attached keeper.old) }
+    requires served { are_served (application_of app.now) ≡ true }
+    requires start { IsTrue (K.tells keeper.old) → IsStart (application_of app.now) (K.state keeper.old) }
     ensures out { Lasts (O.tells out.old) (O.tells out.new) (O.aimed out.old) (O.aimed out.new) (O.faults out.old) (O.faults out.new) }
     ensures audit { Lasts (U.tells audit.old) (U.tells audit.new) (U.aimed audit.old) (U.aimed audit.new) (U.faults audit.old) (U.faults audit.new) }
     ensures answered { (o : List ℕ) × (a : List ℕ) × Took (O.tells out.old) (O.held out.old) (O.held out.new) o
-        × Took (U.tells audit.old) (U.held audit.old) (U.held audit.new) a × AnswersAsk views.now served ask.now o a result }
+        × Took (U.tells audit.old) (U.held audit.old) (U.held audit.new) a
+        × AnswersAsk (application_of app.now)
+        (kept (K.tells keeper.old) (K.state keeper.old) (K.state keeper.new) (K.faults keeper.old) (K.faults keeper.new))
+        served ask.now o a result }
     ensures cause { OnErr result (Rose (O.faults out.old) (O.faults out.new) ⊎ Rose (U.faults audit.old) (U.faults audit.new)) }
+    ensures tells { K.tells keeper.new ≡ K.tells keeper.old }
+    ensures attached { K.attached keeper.new ≡ K.attached keeper.old }
 {
-    match make_lines(alloc, views, served + 1, ask) {
+    match answer_ask(alloc, app, keeper, served + 1, ask, splits) {
         Ok(lines) => put_lines(out, audit, lines.reply.as_bytes(), lines.audit.as_bytes()),
-        Err(Memory) => put_lacking(out, audit, served + 1, ask.method.as_bytes()),
+        Err(stop) => put_failed(
+            out,
+            audit,
+            served + 1,
+            viewer_of(app, ask),
+            ask.method.as_bytes(),
+            stop,
+        ),
     }
 }
 
@@ -148,28 +290,38 @@ pub enum Stopped {
 }
 
 // One line; the count of the requests answered by then.
-fn serve_line<O: Sink, U: AuditSink>(
+fn serve_line<O: Sink, U: AuditSink, K: Keeper, L: Ledger>(
     alloc: Global,
-    views: &[View],
+    app: &App,
     served: u64,
     number: u64,
     line: &[u8],
     out: &mut O,
     audit: &mut U,
+    keeper: &mut K,
+    splits: &mut Steps<L>,
 ) -> Result<u64, Stopped>
-    requires { served < 2 ^ 64 - 1 }
+    requires few { served < 2 ^ 64 - 1 }
+    requires attached { IsTrue (K.attached keeper.old) }
+    requires served { are_served (application_of app.now) ≡ true }
+    requires start { IsTrue (K.tells keeper.old) → IsStart (application_of app.now) (K.state keeper.old) }
     ensures out { Lasts (O.tells out.old) (O.tells out.new) (O.aimed out.old) (O.aimed out.new) (O.faults out.old) (O.faults out.new) }
     ensures audit { Lasts (U.tells audit.old) (U.tells audit.new) (U.aimed audit.old) (U.aimed audit.new) (U.faults audit.old) (U.faults audit.new) }
     ensures answered { (o : List ℕ) × (a : List ℕ) × Took (O.tells out.old) (O.held out.old) (O.held out.new) o
-        × Took (U.tells audit.old) (U.held audit.old) (U.held audit.new) a × AnswersLine views.now served number line.now o a result }
+        × Took (U.tells audit.old) (U.held audit.old) (U.held audit.new) a × AnswersLine (application_of app.now)
+        (kept (K.tells keeper.old) (K.state keeper.old) (K.state keeper.new) (K.faults keeper.old) (K.faults keeper.new))
+        served number line.now o a result }
     ensures cause { result ≡ Err Stopped.Write → Rose (O.faults out.old) (O.faults out.new) ⊎ Rose (U.faults audit.old) (U.faults audit.new) }
     ensures count { IfOk result (λ count. count ≤ served + 1) }
+    ensures start { IsTrue (K.tells keeper.old) → IsStart (application_of app.now) (K.state keeper.new) }
+    ensures tells { K.tells keeper.new ≡ K.tells keeper.old }
+    ensures attached { K.attached keeper.new ≡ K.attached keeper.old }
 {
     if is_blank(line) {
         return Ok(served);
     }
     match read_ask(alloc, line) {
-        Ok(Some(ask)) => match serve_ask(alloc, views, served, &ask, out, audit) {
+        Ok(Some(ask)) => match serve_ask(alloc, app, served, &ask, out, audit, keeper, splits) {
             Ok(()) => Ok(served + 1),
             Err(Failed) => Err(Stopped::Write),
         },
@@ -185,18 +337,25 @@ fn is_blank(line: &[u8]) -> bool
 }
 
 /// Serves the events of a file, line by line, up to the first line that has no form.
-pub fn serve_events<O: Sink, U: AuditSink>(
+pub fn serve_events<O: Sink, U: AuditSink, K: Keeper, L: Ledger>(
     alloc: Global,
-    views: &[View],
+    app: &App,
     bytes: &[u8],
     out: &mut O,
     audit: &mut U,
+    keeper: &mut K,
+    splits: &mut Steps<L>,
 ) -> Result<(), Stopped>
-    requires { length bytes.now < 2 ^ 32 }
+    requires short { length bytes.now < 2 ^ 32 }
+    requires attached { IsTrue (K.attached keeper.old) }
+    requires served { are_served (application_of app.now) ≡ true }
+    requires start { IsTrue (K.tells keeper.old) → IsStart (application_of app.now) (K.state keeper.old) }
     ensures out { Lasts (O.tells out.old) (O.tells out.new) (O.aimed out.old) (O.aimed out.new) (O.faults out.old) (O.faults out.new) }
     ensures audit { Lasts (U.tells audit.old) (U.tells audit.new) (U.aimed audit.old) (U.aimed audit.new) (U.faults audit.old) (U.faults audit.new) }
     ensures served { (o : List ℕ) × (a : List ℕ) × Took (O.tells out.old) (O.held out.old) (O.held out.new) o
-        × Took (U.tells audit.old) (U.held audit.old) (U.held audit.new) a × ServesAs views.now bytes.now o a result }
+        × Took (U.tells audit.old) (U.held audit.old) (U.held audit.new) a × ServesAs (application_of app.now)
+        (kept (K.tells keeper.old) (K.state keeper.old) (K.state keeper.new) (K.faults keeper.old) (K.faults keeper.new))
+        bytes.now o a result }
     ensures cause { result ≡ Err Stopped.Write → Rose (O.faults out.old) (O.faults out.new) ⊎ Rose (U.faults audit.old) (U.faults audit.new) }
 {
     let mut left = Some(bytes);
@@ -205,7 +364,7 @@ pub fn serve_events<O: Sink, U: AuditSink>(
     'lines: while let Some(rest) = left {
         let (line, after) = first_part(rest, b'\n');
         number += 1;
-        match serve_line(alloc, views, served, number, line, out, audit) {
+        match serve_line(alloc, app, served, number, line, out, audit, keeper, splits) {
             Ok(count) => served = count,
             Err(stopped) => return Err(stopped),
         }

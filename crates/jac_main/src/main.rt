@@ -1,33 +1,54 @@
-//! The program `jac`: the host's files and standard output beneath `jac_app`.
+//! The program `jac`: the host's files and standard output, and a keeper in memory, beneath `jac_app`.
 #![tactic(auto)]
+
+ghost use Rattle.std.specs.Prelude.{◌≡◌, ◌<◌};
 
 mod host;
 #[cfg(test)]
 mod tests;
 
 use host::{HostFiles, NoAudit, Stdout};
-use jac_app::{Status, run};
+use jac_app::{Status, empty_state, run};
+use jac_io::Calls;
+use jac_keep::MemoryKeeper;
 use jac_value::{Memory, Txt};
+use jac_world::Steps;
+use std::marker::Brand;
 use std::process::ExitCode;
+use std::sync::ledger::{Blank, Ledger};
 use std::{env, io};
 
 fn main(rt: HostRuntime) -> ExitCode {
-    let status = match words_of(&rt) {
-        Ok(words) => {
-            let mut files = HostFiles::new(&rt);
-            let mut out = Stdout::new(&rt);
-            let mut audit = NoAudit::new();
-            run(
-                rt.alloc(),
-                words.as_slice(),
-                &mut files,
-                &mut out,
-                &mut audit,
-            )
-        }
+    let status = match run_words::<Brand>(&rt, Blank::new(1)) {
+        Ok(status) => status,
         Err(Memory) => Status::Memory,
     };
     ExitCode::from(status.number())
+}
+
+fn run_words<L: Ledger>(rt: &HostRuntime, blank: Blank) -> Result<Status, Memory>
+    requires name { blank.name ≡ L.name }
+    requires parts { blank.parts ≡ L.parts }
+    requires some { 0 < blank.parts }
+{
+    let alloc = rt.alloc();
+    let words = words_of(rt)?;
+    let state = empty_state(alloc, 1)?;
+    let mut keeper = MemoryKeeper::new(state, Calls::empty(alloc), Calls::empty(alloc));
+    let mut files = HostFiles::new(rt);
+    let mut out = Stdout::new(rt);
+    let mut audit = NoAudit::new();
+    let mut splits: Steps<L> = Steps::new(blank);
+    let status = run(
+        alloc,
+        words.as_slice(),
+        &mut files,
+        &mut out,
+        &mut audit,
+        &mut keeper,
+        &mut splits,
+    );
+    Ok(status)
 }
 
 // The words after the program's name. Words that aren't UTF-8 are no command, so they count as none.

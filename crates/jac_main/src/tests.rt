@@ -1,24 +1,57 @@
 //! The program's top call over files and sinks in memory: worked examples, and each refusal once.
-use jac_app::{Status, run};
+ghost use Rattle.std.specs.Prelude.{◌≡◌, ◌<◌, ◌≤◌, ◌^◌};
+
+use jac_app::{Status, empty_state, run};
 use jac_io::{Calls, MemoryFiles, MemorySink, NamedFiles};
+use jac_keep::MemoryKeeper;
 use jac_value::{Bytes, Memory, Txt};
+use jac_world::Steps;
 use std::alloc::Global;
+use std::marker::Brand;
 use std::process::Abort;
+use std::sync::ledger::{Blank, Ledger};
 use std::test::Fail;
 
 const HELLO: &str = "(app (view get \"/\" (params) (put \"hello\")))";
+
+const PEOPLE: &str = "(app (model User (fields (name text)))
+ (view post \"/join\" (params (name text)) (create u User (set (name name)) (put u)))
+ (view get \"/all\" (params)
+  (for (from ((u User)) true key) (put (get User name u)) (put \";\"))))";
+
+const JOIN_AND_LIST: &[u8] =
+    b"ask - POST \"/join\" \"name=Ann\"\nask - POST \"/join\" \"name=Bob\"\nask - GET \"/all\" \"\"\n";
 
 const REFUSED: &[u8] = b"app: refused\n";
 
 const USAGE: &[u8] =
     b"usage: jac check APP, replay APP EVENTS, serve APP PORT COUNT, demo N, dump APP LABELS; options --db FILE --sessions FILE --audit FILE\n";
 
-/// What a run leaves.
+/// What a run leaves: the next number is that of the keeper.
 #[derive(Drop)]
 struct Left {
     status: Status,
     out: MemorySink,
     audit: MemorySink,
+    number: u64,
+}
+
+/// The calls that are to fail.
+#[derive(Drop)]
+struct Fails {
+    out: Calls,
+    audit: Calls,
+    reads: Calls,
+    applies: Calls,
+}
+
+fn no_fails(alloc: Global) -> Fails {
+    Fails {
+        out: Calls::empty(alloc),
+        audit: Calls::empty(alloc),
+        reads: Calls::empty(alloc),
+        applies: Calls::empty(alloc),
+    }
 }
 
 fn words_of(alloc: Global, words: &[&str]) -> Result<Vec<Txt>, Memory> {
@@ -46,15 +79,53 @@ fn run_words(
     words: &[&str],
     app: &str,
     events: &[u8],
-    out_fails: Calls,
-    audit_fails: Calls,
-) -> Result<Left, Memory> {
+    number: u64,
+    fails: Fails,
+) -> Result<Left, Memory>
+    requires from_one { 1 ≤ number }
+    requires in_range { number ≤ 2 ^ 40 }
+{
+    run_counted::<Brand>(alloc, words, app, events, number, fails, Blank::new(1))
+}
+
+fn run_counted<L: Ledger>(
+    alloc: Global,
+    words: &[&str],
+    app: &str,
+    events: &[u8],
+    number: u64,
+    fails: Fails,
+    blank: Blank,
+) -> Result<Left, Memory>
+    requires from_one { 1 ≤ number }
+    requires in_range { number ≤ 2 ^ 40 }
+    requires name { blank.name ≡ L.name }
+    requires parts { blank.parts ≡ L.parts }
+    requires some { 0 < blank.parts }
+{
     let words = words_of(alloc, words)?;
     let mut files = files_of(alloc, app, events)?;
-    let mut out = MemorySink::new(alloc, 4096, out_fails)?;
-    let mut audit = MemorySink::new(alloc, 4096, audit_fails)?;
-    let status = run(alloc, words.as_slice(), &mut files, &mut out, &mut audit);
-    Ok(Left { status, out, audit })
+    let mut out = MemorySink::new(alloc, 4096, fails.out)?;
+    let mut audit = MemorySink::new(alloc, 4096, fails.audit)?;
+    let state = empty_state(alloc, number)?;
+    let mut keeper = MemoryKeeper::new(state, fails.reads, fails.applies);
+    let mut splits: Steps<L> = Steps::new(blank);
+    let status = run(
+        alloc,
+        words.as_slice(),
+        &mut files,
+        &mut out,
+        &mut audit,
+        &mut keeper,
+        &mut splits,
+    );
+    let number = keeper.state().number;
+    Ok(Left {
+        status,
+        out,
+        audit,
+        number,
+    })
 }
 
 /// Replays the events and compares what is left.
@@ -68,14 +139,7 @@ fn replays(
     audit: &[u8],
 ) -> Result<(), Memory> {
     let words = ["replay", "app", "events"];
-    let left = run_words(
-        alloc,
-        &words,
-        app,
-        events,
-        Calls::empty(alloc),
-        Calls::empty(alloc),
-    )?;
+    let left = run_words(alloc, &words, app, events, 1, no_fails(alloc))?;
     assert_eq!(rt; left.status, status);
     assert_eq!(rt; left.out.taken(), out);
     assert_eq!(rt; left.audit.taken(), audit);
@@ -178,7 +242,8 @@ fn bytes_that_are_no_application_are_refused(rt: HostRuntime) -> Result<(), Fail
         "",
         "(app",
         "(app \"x\")",
-        "(app (view post \"/\" (params)))",
+        "(app (view get \"/\" (params) (template \"x\")))",
+        "(app (view get \"/{x}\" (params (x int))))",
         twice,
     ] {
         replays(&rt, alloc, app, b"", Status::AppRefused, REFUSED, b"")?;
@@ -189,24 +254,10 @@ fn bytes_that_are_no_application_are_refused(rt: HostRuntime) -> Result<(), Fail
 #[test]
 fn words_that_are_no_command_give_the_usage(rt: HostRuntime) -> Result<(), Fail> {
     let alloc = rt.alloc();
-    let left = run_words(
-        alloc,
-        &["replay", "a"],
-        HELLO,
-        b"",
-        Calls::empty(alloc),
-        Calls::empty(alloc),
-    )?;
+    let left = run_words(alloc, &["replay", "a"], HELLO, b"", 1, no_fails(alloc))?;
     assert_eq!(rt; left.status, Status::Usage);
     assert_eq!(rt; left.out.taken(), USAGE);
-    let left = run_words(
-        alloc,
-        &["--help"],
-        HELLO,
-        b"",
-        Calls::empty(alloc),
-        Calls::empty(alloc),
-    )?;
+    let left = run_words(alloc, &["--help"], HELLO, b"", 1, no_fails(alloc))?;
     assert_eq!(rt; left.status, Status::Usage);
     Ok(())
 }
@@ -214,14 +265,7 @@ fn words_that_are_no_command_give_the_usage(rt: HostRuntime) -> Result<(), Fail>
 #[test]
 fn a_missing_file_is_a_read_fault(rt: HostRuntime) -> Result<(), Fail> {
     let alloc = rt.alloc();
-    let left = run_words(
-        alloc,
-        &["replay", "a", "b"],
-        HELLO,
-        b"",
-        Calls::empty(alloc),
-        Calls::empty(alloc),
-    )?;
+    let left = run_words(alloc, &["replay", "a", "b"], HELLO, b"", 1, no_fails(alloc))?;
     assert_eq!(rt; left.status, Status::ReadFault);
     assert_eq!(rt; left.out.taken(), b"read fault: a\n".as_slice());
     Ok(())
@@ -247,21 +291,77 @@ fn an_events_file_past_its_limit_is_too_long(rt: HostRuntime) -> Result<(), Fail
 #[test]
 fn a_failed_put_ends_the_run_after_the_audit_line(rt: HostRuntime) -> Result<(), Fail> {
     let alloc = rt.alloc();
-    let fails = Calls::from_vec(vec![in alloc; 2]?);
+    let mut fails = no_fails(alloc);
+    fails.out = Calls::from_vec(vec![in alloc; 2]?);
     let events = b"ask - GET \"/\" \"\"\nask - GET \"/\" \"\"\nask - GET \"/\" \"\"\n";
-    let left = run_words(
-        alloc,
-        &["replay", "app", "events"],
-        HELLO,
-        events,
-        fails,
-        Calls::empty(alloc),
-    )?;
+    let left = run_words(alloc, &["replay", "app", "events"], HELLO, events, 1, fails)?;
     assert_eq!(rt; left.status, Status::WriteFault);
     assert_eq!(rt;
         left.out.taken(),
         b"reply 200 \"\" \"hello\"\nwrite fault\n".as_slice()
     );
     assert_eq!(rt; left.audit.taken(), b"1 200 - -\n2 200 - -\n".as_slice());
+    Ok(())
+}
+
+#[test]
+fn posts_store_records_that_a_get_lists(rt: HostRuntime) -> Result<(), Fail> {
+    let alloc = rt.alloc();
+    replays(
+        &rt,
+        alloc,
+        PEOPLE,
+        JOIN_AND_LIST,
+        Status::Done,
+        b"reply 200 \"\" \"4096\"\nreply 200 \"\" \"8192\"\nreply 200 \"\" \"Ann;Bob;\"\n",
+        b"1 200 - -\n2 200 - -\n3 200 - -\n",
+    )?;
+    Ok(())
+}
+
+#[test]
+fn a_fault_of_the_keeper_leaves_the_state(rt: HostRuntime) -> Result<(), Fail> {
+    let alloc = rt.alloc();
+    let mut fails = no_fails(alloc);
+    fails.applies = Calls::from_vec(vec![in alloc; 2]?);
+    let left = run_words(
+        alloc,
+        &["replay", "app", "events"],
+        PEOPLE,
+        JOIN_AND_LIST,
+        1,
+        fails,
+    )?;
+    assert_eq!(rt; left.status, Status::Done);
+    assert_eq!(rt;
+        left.out.taken(),
+        b"reply 200 \"\" \"4096\"\nreply 503 \"\" \"503 Service Unavailable\\n\"\nreply 200 \"\" \"Ann;\"\n".as_slice()
+    );
+    assert_eq!(rt;
+        left.audit.taken(),
+        b"1 200 - -\n2 503 - nopage\n3 200 - -\n".as_slice()
+    );
+    assert_eq!(rt; left.number, 2);
+    Ok(())
+}
+
+#[test]
+fn a_post_past_the_last_number_is_refused(rt: HostRuntime) -> Result<(), Fail> {
+    let alloc = rt.alloc();
+    let last: u64 = 1_099_511_627_776;
+    let left = run_words(
+        alloc,
+        &["replay", "app", "events"],
+        PEOPLE,
+        b"ask - POST \"/join\" \"name=Ann\"\n",
+        last,
+        no_fails(alloc),
+    )?;
+    assert_eq!(rt;
+        left.out.taken(),
+        b"reply 507 \"\" \"507 Insufficient Storage\\n\"\n".as_slice()
+    );
+    assert_eq!(rt; left.audit.taken(), b"1 507 - nopage\n".as_slice());
+    assert_eq!(rt; left.number, last);
     Ok(())
 }

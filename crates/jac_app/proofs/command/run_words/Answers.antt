@@ -1,5 +1,6 @@
 use Rattle.std.proofs.Common.{sym, refl, inl, inr, [], ◌++◌, append-nil, arith}
 use Rattle.jac_io.specs.Faults.{Rose}
+use Rattle.jac_app.specs.Keeping.{kept}
 use Rattle.jac_app.specs.Run.{sight, replay_of}
 use Rattle.jac_app.proofs.OutsideLemmas.{Took-then}
 use Rattle.jac_app.proofs.RunLemmas.{Rose-widen, Ends-later, Finishes-widen}
@@ -12,7 +13,7 @@ returns-in-None-clause-runs g c =
       [],
       closed.1,
       (λ told. sym (append-nil _)),
-      inr (record { no_command = sym c.in-None.ensures; closes = closed.2; audit_text = refl }),
+      inr (record { no_command = sym c.in-None.ensures; closes = closed.2; audit_text = refl; still = record { same_state = refl; same_faults = refl } }),
     )
 
 pub returns-in-Some-clause-runs : goal.returns-in-Some-clause-runs
@@ -20,6 +21,7 @@ returns-in-Some-clause-runs g c =
     let F = g.F.Files in
     let O = g.O.Sink in
     let U = g.U.Sink in
+    let K = g.K.Keeper in
     let old = c.args.files.now in
     let command = replay_of c.in-Some.command.app.now c.in-Some.command.events.now in
     let before = O.faults c.args.out.now in
@@ -27,7 +29,8 @@ returns-in-Some-clause-runs g c =
     let after = O.faults c.finish.new.out in
     let seen =
     sight (F.tells old) (F.file old) (F.faults old) (F.faults c.replay-ended.new.files) before middle
-    (U.faults c.args.audit.now) (U.faults c.replay-ended.new.audit) in
+    (U.faults c.args.audit.now) (U.faults c.replay-ended.new.audit)
+    (kept (K.tells c.args.keeper.now) (K.state c.args.keeper.now) (K.state c.replay-ended.new.keeper) (K.faults c.args.keeper.now) (K.faults c.replay-ended.new.keeper)) in
     let ends = c.replay-ended.ensures.ends in
     let finished = c.finish.ensures.finished in (
       ends.0 ++ finished.0,

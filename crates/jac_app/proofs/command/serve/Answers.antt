@@ -7,5 +7,5 @@ returns-in-Err-clause-served g c = (
   [],
   (λ told. sym (append-nil _)),
   (λ told. c.in-Err.ensures.held ∙ sym (append-nil _)),
-  (inr c.in-Err.ensures.cause, inl (refl, refl)),
+  (inr c.in-Err.ensures.cause, inl (refl, refl, record { same_state = refl; same_faults = refl })),
 )

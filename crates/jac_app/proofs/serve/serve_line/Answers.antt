@@ -7,7 +7,7 @@ returns-then-is_blank-clause-answered g c = (
   [],
   (λ told. sym (append-nil _)),
   (λ told. sym (append-nil _)),
-  inl (sym c.is_blank.ensures ∙ c.if-is_blank.true, refl, refl, refl),
+  inl (sym c.is_blank.ensures ∙ c.if-is_blank.true, refl, refl, refl, record { same_state = refl; same_faults = refl }),
 )
 
 pub returns-in-Ok-clause-answered : goal.returns-in-Ok-clause-answered
@@ -24,3 +24,6 @@ returns-in-Ok-clause-answered g c =
         (c.in-Ok-Some.ask, sym (rw c.in-Ok-Some.field-0-is at c.in-Ok-Some.ensures), (entry.0, entry.1, entry.2.0, entry.2.1)),
       ),
     )
+
+pub returns-in-Ok-clause-start : goal.returns-in-Ok-clause-start
+returns-in-Ok-clause-start g c = c.in-Ok.ensures.answered.4.1.start

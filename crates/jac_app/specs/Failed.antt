@@ -1,0 +1,9 @@
+-- A request that wasn't answered: memory ran out, or the keeper failed.
+use Rattle.std.specs.Prelude.{ℕ, List, codes}
+use Rattle.jac_keep.specs.declared.stop.Stop.{Stop}
+use Rattle.jac_keep.specs.declared.stop.Stop.TheVariants as stops
+
+-- the status of the answer that stands in
+abbrev pub status_of_stop : Stop → ℕ
+status_of_stop stops.Keeper = 503
+status_of_stop stops.Memory = 500
