@@ -5,15 +5,12 @@ use Rattle.percent_encoding.specs.Percent.{percent_encode_byte}
 use Rattle.jac_lang.specs.declared.bindings.Binding.{Binding}
 use Rattle.jac_lang.specs.declared.pages.Verb.{Verb}
 use Rattle.jac_lang.specs.declared.pages.Verb.TheVariants as verbs
-use Rattle.jac_lang.specs.Syntax.{Application, Page, Statements}
+use Rattle.jac_lang.specs.Syntax.{Application, Page as View, Statements}
 use Rattle.jac_rows.specs.declared.plain.PlainState.{PlainState}
-use Rattle.jac_plain.specs.Statements.{Piece, Run, leaves_all}
-
--- what a reader gets
-pub record Reply : Type 0 where
-  pub status : ℕ
-  pub location : Option (List ℕ)
-  pub body : List ℕ
+use Rattle.jac_plain.specs.Statements.{Run, leaves_all}
+use Rattle.jac_plain.specs.declared.page.Page.{Page}
+use Rattle.jac_plain.specs.declared.page.Piece.{Piece}
+use Rattle.jac_plain.specs.declared.page.Piece.TheVariants as piece
 
 -- a location, with each byte that isn't visible ASCII escaped
 abbrev pub location : List ℕ → List ℕ
@@ -21,32 +18,32 @@ location bytes = flat_map (λ b. if nat_le 0x21 b && nat_le b 0x7E then b ∷ []
 
 abbrev pub body_of : List Piece → List ℕ
 body_of [] = []
-body_of (Piece.added bytes ∷ pieces) = bytes ++ body_of pieces
-body_of (Piece.missing ∷ pieces) = body_of pieces
-body_of (Piece.redirected to ∷ pieces) = body_of pieces
+body_of (piece.Added bytes ∷ pieces) = bytes ++ body_of pieces
+body_of (piece.Missing ∷ pieces) = body_of pieces
+body_of (piece.Redirect to ∷ pieces) = body_of pieces
 
 abbrev pub is_missing : List Piece → Bool
 is_missing [] = false
-is_missing (Piece.added bytes ∷ pieces) = is_missing pieces
-is_missing (Piece.missing ∷ pieces) = true
-is_missing (Piece.redirected to ∷ pieces) = is_missing pieces
+is_missing (piece.Added bytes ∷ pieces) = is_missing pieces
+is_missing (piece.Missing ∷ pieces) = true
+is_missing (piece.Redirect to ∷ pieces) = is_missing pieces
 
 -- the last redirect, or this one where there is none
 abbrev pub redirect_of : Option (List ℕ) → List Piece → Option (List ℕ)
 redirect_of to [] = to
-redirect_of to (Piece.added bytes ∷ pieces) = redirect_of to pieces
-redirect_of to (Piece.missing ∷ pieces) = redirect_of to pieces
-redirect_of to (Piece.redirected next ∷ pieces) = redirect_of (Some (location next)) pieces
+redirect_of to (piece.Added bytes ∷ pieces) = redirect_of to pieces
+redirect_of to (piece.Missing ∷ pieces) = redirect_of to pieces
+redirect_of to (piece.Redirect next ∷ pieces) = redirect_of (Some (location next)) pieces
 
-abbrev pub found_reply : Option (List ℕ) → List ℕ → Reply
-found_reply None body = record { status = 200; location = None; body = body }
-found_reply (Some to) body = record { status = 303; location = Some to; body = body }
+abbrev pub found_page : Option (List ℕ) → List ℕ → Page
+found_page None body = record { status = 200; location = None; body = body }
+found_page (Some to) body = record { status = 303; location = Some to; body = body }
 
 -- a page that ran `missing` has no location
-abbrev pub reply_of : List Piece → Reply
-reply_of pieces =
+abbrev pub page_of : List Piece → Page
+page_of pieces =
     if is_missing pieces then record { status = 404; location = None; body = body_of pieces }
-    else found_reply (redirect_of None pieces) (body_of pieces)
+    else found_page (redirect_of None pieces) (body_of pieces)
 
 -- a request: the place of its view, its parameters and who asks
 pub record Visit : Type 0 where
@@ -54,11 +51,11 @@ pub record Visit : Type 0 where
   pub env : List Binding
   pub viewer : Option ℕ
 
-abbrev pub body_in : Option Page → Statements
+abbrev pub body_in : Option View → Statements
 body_in None = Statements.none
 body_in (Some v) = v.body
 
-abbrev pub method_in : Option Page → Verb
+abbrev pub method_in : Option View → Verb
 method_in None = verbs.Get
 method_in (Some v) = v.method
 
@@ -69,8 +66,8 @@ run_of app t visit =
     (body_in (slice_get app.views visit.view)) (record { tables = t.tables; env = visit.env; pieces = [] })
 
 -- the page of a request on a state
-abbrev pub page : Application → PlainState → Visit → Reply
-page app t visit = reply_of (run_of app t visit).pieces
+abbrev pub page : Application → PlainState → Visit → Page
+page app t visit = page_of (run_of app t visit).pieces
 
 abbrev pub after_by : Verb → Application → PlainState → Visit → PlainState
 after_by verbs.Get app t visit = t

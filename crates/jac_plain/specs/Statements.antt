@@ -14,13 +14,9 @@ use Rattle.jac_lang.specs.Syntax.{Entity, Expression, Assigned, Statement, State
 use Rattle.jac_rows.specs.declared.plain.PlainRow.{PlainRow}
 use Rattle.jac_rows.specs.Tables.{rows_of}
 use Rattle.jac_plain.specs.World.{World}
+use Rattle.jac_plain.specs.declared.page.Piece.{Piece}
+use Rattle.jac_plain.specs.declared.page.Piece.TheVariants as piece
 use Rattle.jac_plain.specs.Expressions.{mean, answers, bound, binding, bytes_of, is_true}
-
--- a piece of a page
-pub data Piece : Type 0 where
-  added : List ℕ → Piece
-  missing : Piece
-  redirected : List ℕ → Piece
 
 -- what stays the same through a run: the models, the viewer, and the number of the request
 pub record Setting : Type 0 where
@@ -112,10 +108,14 @@ default_cells models (f ∷ fields) = default_value (kind_named models f.kind) �
 abbrev pub plain_row : ℕ → List Value → PlainRow
 plain_row id cells = record { id = id; cells = cells }
 
--- the row in its place by the id
+-- the rows whose ids pass the test
+abbrev pub with_ids : (ℕ → Bool) → List PlainRow → List PlainRow
+with_ids test [] = []
+with_ids test (r ∷ rows) = if test r.id then r ∷ with_ids test rows else with_ids test rows
+
+-- the row in its place: behind the rows of lesser ids, before those of greater ones
 abbrev pub placed : PlainRow → List PlainRow → List PlainRow
-placed row [] = row ∷ []
-placed row (r ∷ rows) = if nat_lt row.id r.id then row ∷ (r ∷ rows) else r ∷ placed row rows
+placed row rows = with_ids (λ id. nat_lt id row.id) rows ++ row ∷ with_ids (λ id. nat_lt row.id id) rows
 
 abbrev pub with_record : ℕ → PlainRow → Run → Run
 with_record m row r = record r { tables = slice_set r.tables m (placed row (rows_of r.tables m)) }
@@ -150,8 +150,8 @@ updated k (Some m) target cells r =
 abbrev mutual
   -- what a statement leaves
   pub leaves : Setting → Statement → Run → Run
-  leaves k (Statement.put e) r = with_piece (Piece.added (value_text (value_in k e r))) r
-  leaves k (Statement.escape e) r = with_piece (Piece.added (html (value_text (value_in k e r)))) r
+  leaves k (Statement.put e) r = with_piece (piece.Added (value_text (value_in k e r))) r
+  leaves k (Statement.escape e) r = with_piece (piece.Added (html (value_text (value_in k e r)))) r
   leaves k (Statement.bind x e body) r = with_binding x (value_in k e r) (leaves_all k body) r
   leaves k (Statement.assign x e) r = record r { env = assigned x (value_in k e r) r.env }
   leaves k (Statement.branch c first second) r = choose (is_true (value_in k c r)) (leaves_all k first) (leaves_all k second) r
@@ -159,8 +159,8 @@ abbrev mutual
   leaves k (Statement.create x m site cells body) r = created k x (model_place k.models m) site cells (leaves_all k body) r
   leaves k (Statement.update m e cells) r = updated k (model_place k.models m) (value_in k e r) cells r
   leaves k (Statement.delete m e) r = rows_after (model_place k.models m) (value_in k e r) without r
-  leaves k Statement.missing r = with_piece Piece.missing r
-  leaves k (Statement.redirect e) r = with_piece (Piece.redirected (bytes_of (value_in k e r))) r
+  leaves k Statement.missing r = with_piece piece.Missing r
+  leaves k (Statement.redirect e) r = with_piece (piece.Redirect (bytes_of (value_in k e r))) r
   leaves k (Statement.template t) r = r
   leaves k (Statement.block body) r = leaves_all k body r
 

@@ -1,7 +1,11 @@
 //! The ordinary interpreter: what an application means in one world of plain lists. It is definitions and
-//! laws, for models without groups; no program runs it.
+//! laws, for models without groups, and the types that they share with the program, which runs none of them.
 #![tactic(auto)]
 
+mod context;
 mod laws;
+mod page;
 
+pub use context::Ctx;
 pub use laws::reading_leaves_tables;
+pub use page::{Page, Piece};
