@@ -1,11 +1,11 @@
 -- The items of an application, as a loop gathers them.
-use Rattle.std.proofs.Common.{◌≡◌, true, false, refl, sym, ◌∙◌, ap, Option, Some, None, List, [], ◌∷◌, ◌++◌, append_assoc, append-nil}
+use Rattle.std.proofs.Common.{◌≡◌, ℕ, ◌+◌, true, false, refl, sym, ◌∙◌, ap, Option, Some, None, List, [], ◌∷◌, ◌++◌, append_assoc, append-nil}
 use Rattle.std.specs.Prelude.{codes}
 use Rattle.std.specs.Option.{option_map}
 use Rattle.jac_lang.specs.Syntax.{Entity, Page}
 use Rattle.jac_tree.specs.Plain.{PlainTree, PlainTrees}
 use Rattle.jac_forms.specs.Names.{each_of_trees}
-use Rattle.jac_forms.specs.Applications.{Items, items, after_model, is_headed, items_of_trees, entity_of_tree, page_of_tree}
+use Rattle.jac_forms.specs.Applications.{Items, items, after_model, is_headed, headed, items_of_trees, entity_of_tree, page_of_tree}
 
 -- models, before those of the items
 abbrev pub models_before : List Entity → Items → Items
@@ -14,6 +14,9 @@ models_before ms is = items (ms ++ is.models) is.views
 -- the items of these trees, with the models so far before them
 abbrev pub gathered : List Entity → PlainTrees → Option Items
 gathered done ts = option_map (models_before done) (items_of_trees ts)
+
+pub headed-more : (word : List ℕ) (t : PlainTree) (ts : PlainTrees) → is_headed word t ≡ true → headed word (PlainTrees.more t ts) ≡ headed word ts + 1
+headed-more word t ts head = rw head refl
 
 pub gathered-nothing : (rest : Option Items) → option_map (models_before []) rest ≡ rest
 gathered-nothing None = refl
