@@ -1,16 +1,12 @@
 -- One step of a loop that reads the trees of a list.
-use Rattle.std.proofs.Common.{◌≡◌, refl, sym, ◌∙◌, ap, Option, Some, None, List, [], ◌∷◌, ◌++◌, append_assoc, append-nil}
+use Rattle.std.proofs.Common.{◌≡◌, refl, sym, ◌∙◌, ap, Option, Some, None, List, [], ◌∷◌, ◌++◌, append_assoc}
 use Rattle.std.specs.Option.{option_map, option_and_then}
 use Rattle.jac_tree.specs.Plain.{PlainTree, PlainTrees}
 use Rattle.jac_forms.specs.Names.{each_of_trees}
 
 -- what was made so far, before what is still to come
 abbrev pub made_before : {A : Type 0} → List A → Option (List A) → Option (List A)
-made_before made rest = option_map (λ as_. made ++ as_) rest
-
-pub made-nothing : {A : Type 0} (rest : Option (List A)) → made_before [] rest ≡ rest
-made-nothing None = refl
-made-nothing (Some as_) = refl
+made_before made rest = option_map (λ more. made ++ more) rest
 
 -- `f` takes a list of the code's items to what they stand for, one by one
 module _ {A B : Type 0} (g : A → B) (f : List A → List B) (none : f [] ≡ []) (more : (x : A) (xs : List A) → f (x ∷ xs) ≡ g x ∷ f xs) where
@@ -29,19 +25,9 @@ module _ {B : Type 0} (read : PlainTree → Option B) where
   made-more done new b t ts all pushed item before =
       ap (λ (s : List B). made_before s (each_of_trees read ts)) pushed
       ∙ step (each_of_trees read ts)
-      ∙ ap (λ (o : Option B). made_before done (option_and_then (λ a. option_map (λ as_. a ∷ as_) (each_of_trees read ts)) o)) (sym item)
+      ∙ ap (λ (o : Option B). made_before done (option_and_then (λ first. option_map (λ rest. first ∷ rest) (each_of_trees read ts)) o)) (sym item)
       ∙ before
     where
-      step : (rest : Option (List B)) → made_before (done ++ b ∷ []) rest ≡ made_before done (option_map (λ as_. b ∷ as_) rest)
+      step : (rest : Option (List B)) → made_before (done ++ b ∷ []) rest ≡ made_before done (option_map (λ more. b ∷ more) rest)
       step None = refl
       step (Some bs) = ap (λ (s : List B). Some s) (append_assoc done (b ∷ []) bs)
-
-  -- the tree `t` writes nothing
-  pub made-none : (done : List B) (t : PlainTree) (ts : PlainTrees) (all : Option (List B)) → read t ≡ None
-      → made_before done (each_of_trees read (PlainTrees.more t ts)) ≡ all → all ≡ None
-  made-none done t ts all item before =
-      sym before ∙ ap (λ (o : Option B). made_before done (option_and_then (λ a. option_map (λ as_. a ∷ as_) (each_of_trees read ts)) o)) item
-
--- nothing is left
-pub made-all : {B : Type 0} (done : List B) (all : Option (List B)) → made_before done (Some []) ≡ all → all ≡ Some done
-made-all done all before = sym before ∙ ap (λ s. Some s) (append-nil done)

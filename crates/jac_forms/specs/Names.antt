@@ -30,7 +30,7 @@ tail_of word (PlainTree.list (PlainTrees.more w ts)) = if is_word word w then So
 -- what is read of each tree
 abbrev pub each_of_trees : {A : Type 0} → (PlainTree → Option A) → PlainTrees → Option (List A)
 each_of_trees read PlainTrees.none = Some []
-each_of_trees read (PlainTrees.more t ts) = option_and_then (λ a. option_map (λ as_. a ∷ as_) (each_of_trees read ts)) (read t)
+each_of_trees read (PlainTrees.more t ts) = option_and_then (λ first. option_map (λ rest. first ∷ rest) (each_of_trees read ts)) (read t)
 
 -- what is read, where there are at most so many
 abbrev pub up_to : {A : Type 0} → ℕ → ℕ → Option A → Option A

@@ -65,7 +65,7 @@ assign_of_trees ts = None
 -- a model, a reference and a set
 abbrev pub update_of_trees : PlainTrees → Option Statement
 update_of_trees (PlainTrees.more m (PlainTrees.more e (PlainTrees.more s PlainTrees.none))) =
-    option_and_then (λ model. option_and_then (λ record_. option_map (Statement.update model record_) (set_of_tree s)) (expression_of_tree e)) (name_of_tree m)
+    option_and_then (λ model. option_and_then (λ target. option_map (Statement.update model target) (set_of_tree s)) (expression_of_tree e)) (name_of_tree m)
 update_of_trees ts = None
 
 -- a model and a reference
@@ -145,9 +145,8 @@ statement_of_step (Some steps.If) operands n = operands.branch n
 statement_of_step (Some steps.For) operands n = operands.each n
 statement_of_step (Some steps.Create) operands n = operands.create n
 
--- sites are counted from n in the order of the text
+-- a statement, and statements; their sites are counted from n in the order of the text
 abbrev mutual
-  -- a statement
   pub statement_of_tree : PlainTree → ℕ → Option Numbered
   statement_of_tree (PlainTree.atom a) n = None
   statement_of_tree (PlainTree.text x) n = None
@@ -161,7 +160,7 @@ abbrev mutual
         single = single_of_trees ts;
         bind = bind_of_trees ts;
         branch = branch_of_trees ts;
-        each = each_of_operands ts;
+        each = each_of_query ts;
         create = create_of_trees ts;
       }) n
 
@@ -174,13 +173,13 @@ abbrev mutual
   -- a condition and two lists of statements
   pub branch_of_trees : PlainTrees → ℕ → Option Numbered
   branch_of_trees (PlainTrees.more c (PlainTrees.more a (PlainTrees.more b PlainTrees.none))) n =
-      option_and_then (λ cond. option_and_then (λ then_. option_map (branch cond then_) (body_of_tree b then_.next)) (body_of_tree a n)) (expression_of_tree c)
+      option_and_then (λ cond. option_and_then (λ first. option_map (branch cond first) (body_of_tree b first.next)) (body_of_tree a n)) (expression_of_tree c)
   branch_of_trees ts n = None
 
   -- a query and statements
-  pub each_of_operands : PlainTrees → ℕ → Option Numbered
-  each_of_operands (PlainTrees.more q ss) n = option_and_then (λ asked. option_map (each asked) (statements_of_trees ss n)) (question_of_tree 3 q)
-  each_of_operands PlainTrees.none n = None
+  pub each_of_query : PlainTrees → ℕ → Option Numbered
+  each_of_query (PlainTrees.more q ss) n = option_and_then (λ asked. option_map (each asked) (statements_of_trees ss n)) (question_of_tree 3 q)
+  each_of_query PlainTrees.none n = None
 
   -- a name, a model, a set and statements; its own site comes before theirs
   pub create_of_trees : PlainTrees → ℕ → Option Numbered
@@ -204,6 +203,6 @@ operands_of ts = record {
   single = single_of_trees ts;
   bind = bind_of_trees ts;
   branch = branch_of_trees ts;
-  each = each_of_operands ts;
+  each = each_of_query ts;
   create = create_of_trees ts;
 }

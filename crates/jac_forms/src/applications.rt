@@ -73,11 +73,7 @@ fn is_headed(tree: &Tree, word: &[u8]) -> bool
     }
 }
 
-fn read_viewer_and_items(
-    alloc: Global,
-    place: &Place<'_>,
-    trees: &Trees,
-) -> Result<App, FormFault>
+fn read_viewer_and_items(alloc: Global, place: &Place<'_>, trees: &Trees) -> Result<App, FormFault>
     requires { headed (codes "model") (plain_all trees.now) ≤ 64 }
     ensures value { IfOk result (λ a. application_of_items (plain_all trees.now) ≡ Some (application_of a)) }
     ensures none { IfErr result (λ f. IsTrue (refuses f) → application_of_items (plain_all trees.now) ≡ None) }

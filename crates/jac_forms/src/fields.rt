@@ -77,12 +77,7 @@ fn read_each(
     Ok(Fields::from_vec(fields))
 }
 
-fn read_field(
-    alloc: Global,
-    place: &Place<'_>,
-    want: Want,
-    tree: &Tree,
-) -> Result<Field, FormFault>
+fn read_field(alloc: Global, place: &Place<'_>, want: Want, tree: &Tree) -> Result<Field, FormFault>
     ensures value { IfOk result (λ f. field_of_tree (plain tree.now) ≡ Some f) }
     ensures none { IfErr result (λ f. IsTrue (refuses f) → field_of_tree (plain tree.now) ≡ None) }
 {

@@ -1,7 +1,7 @@
 //! An application as a text, for the tests to compare, and its sites in the order of that text.
 use jac_lang::{
-    App, Binders, Expr, Exprs, Fields, Group, KindName, ModelDef, Op, Order, Publics, Query, Stmt, Stmts,
-    Verb, View,
+    App, Binders, Expr, Exprs, Fields, Group, KindName, ModelDef, Op, Order, Publics, Query, Stmt,
+    Stmts, Verb, View,
 };
 use jac_value::{Memory, Txt};
 use std::alloc::Global;
@@ -156,11 +156,10 @@ impl Shown {
 
     #[cycle(stmt)]
     fn stmts(&mut self, body: &Stmts) -> Result<(), Memory> {
-        let mut left = body;
-        'statements: while let Stmts::More(first, rest) = left {
+        if let Stmts::More(first, rest) = body {
             self.stmt(first)?;
             self.close()?;
-            left = rest;
+            self.stmts(rest)?;
         }
         Ok(())
     }
@@ -192,7 +191,13 @@ impl Shown {
                 self.query(query)?;
                 self.stmts(body)
             }
-            Stmt::Create { name, model, site, cells, body } => {
+            Stmt::Create {
+                name,
+                model,
+                site,
+                cells,
+                body,
+            } => {
                 self.sites.push(*site)?;
                 self.words("create", name, model)?;
                 self.assigned("set", cells)?;
@@ -332,10 +337,9 @@ impl Shown {
 
     #[cycle(expr)]
     fn parts(&mut self, parts: &Exprs) -> Result<(), Memory> {
-        let mut left = parts;
-        'parts: while let Exprs::More(first, rest) = left {
+        if let Exprs::More(first, rest) = parts {
             self.expr(first)?;
-            left = rest;
+            self.parts(rest)?;
         }
         Ok(())
     }

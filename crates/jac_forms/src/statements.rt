@@ -2,7 +2,7 @@ ghost use Rattle.std.specs.Prelude.{◌≡◌, Some, None, IfOk, IfErr, IsTrue};
 ghost use Rattle.jac_lang.specs.Mirror.{statement_of, statements_of};
 ghost use Rattle.jac_tree.specs.Mirror.{plain, plain_all};
 ghost use Rattle.jac_forms.specs.Refusal.{refuses};
-ghost use Rattle.jac_forms.specs.Statements.{single_of_trees, assign_of_trees, update_of_trees, delete_of_trees, missing_of_trees, template_of_trees, statement_of_tree, statement_of_list, statement_of_step, operands_of, bind_of_trees, branch_of_trees, each_of_operands, create_of_trees, body_of_tree, statements_of_trees, numbered, body, next_site};
+ghost use Rattle.jac_forms.specs.Statements.{single_of_trees, assign_of_trees, update_of_trees, delete_of_trees, missing_of_trees, template_of_trees, statement_of_tree, statement_of_list, statement_of_step, operands_of, bind_of_trees, branch_of_trees, each_of_query, create_of_trees, body_of_tree, statements_of_trees, numbered, body, next_site};
 
 use crate::assigned::read_set;
 use crate::expressions::{read_expr, read_only, read_query};
@@ -175,8 +175,8 @@ fn read_for(
     sites: &mut u8,
     operands: &Trees,
 ) -> Result<Stmt, FormFault>
-    ensures value { IfOk result (λ s. each_of_operands (plain_all operands.now) sites.old ≡ Some (numbered sites.new (statement_of s))) }
-    ensures none { IfErr result (λ f. IsTrue (refuses f) → each_of_operands (plain_all operands.now) sites.old ≡ None) }
+    ensures value { IfOk result (λ s. each_of_query (plain_all operands.now) sites.old ≡ Some (numbered sites.new (statement_of s))) }
+    ensures none { IfErr result (λ f. IsTrue (refuses f) → each_of_query (plain_all operands.now) sites.old ≡ None) }
 {
     let Trees::More(query, rest) = operands else {
         return Err(place.form(alloc, Want::Statement));

@@ -44,7 +44,8 @@ const PEOPLE: &str = "(app (model User (fields (name text))) \
     (view get \"/all\" (params) \
     (for (from ((u User)) true key) (put (get User name u)) (put \";\"))))";
 
-const LOCKED: &str = "(app (model Note (fields (body text)) (group (guards (body \"locked\")) (policy ";
+const LOCKED: &str =
+    "(app (model Note (fields (body text)) (group (guards (body \"locked\")) (policy ";
 
 const LOCKED_VIEWS: &str = "))) \
     (view post \"/new\" (params (body text)) (create n Note (set (body body)))) \
@@ -52,13 +53,114 @@ const LOCKED_VIEWS: &str = "))) \
     (for (from ((n Note)) true key) (put (get Note body n)) (put \";\"))))";
 
 // Every statement, and every form that stands nowhere above.
-const ALL_FORMS: &str = "(app (view get \"/\" (params)) (view post \"/~a/{b}/c.d\" (params (i int)) \
+const ALL_FORMS: &str =
+    "(app (view get \"/\" (params)) (view post \"/~a/{b}/c.d\" (params (i int)) \
     (let x (sub 1 -2) (assign x (mul x 3)) (create a A (set (f true) (g false)) (create b A (set)))) \
     (if (not (lt i 2)) ((create c A (set) (let y (str i)))) ((create d A (set)) (esc (pick true 1 2)))) \
     (for (from ((a A) (b A) (c C)) (and true false) (down a f)) \
     (put (sum (from ((z A)) true (up z f)) 1))) \
     (create e A (set (h (none A)))) (missing) (redirect (cat \"/x \" to \"\")) (template \"<p>{{ t }}</p>\") \
     (delete A (first (from ((a A)) true key)))))";
+
+// Each fault of an item once, with its place.
+const ITEM_FAULTS: [(&str, &[u32], Want); 17] = [
+    ("((app))", &[], Want::App),
+    ("(app 5)", &[1], Want::Item),
+    (
+        "(app (view get \"/\" (params)) (model M (fields)))",
+        &[2],
+        Want::Item,
+    ),
+    ("(app (model M (fields)) (viewer M))", &[2], Want::Item),
+    ("(app (viewer M N))", &[1], Want::Item),
+    ("(app (viewer this))", &[1, 1], Want::Name),
+    ("(app (model M))", &[1], Want::Item),
+    ("(app (model 5 (fields)))", &[1, 1], Want::Name),
+    ("(app (model M (params)))", &[1, 2], Want::Fields),
+    ("(app (model M (fields f)))", &[1, 2, 1], Want::Field),
+    (
+        "(app (model M (fields (5 int))))",
+        &[1, 2, 1, 0],
+        Want::Name,
+    ),
+    (
+        "(app (model M (fields (f ints))))",
+        &[1, 2, 1, 1],
+        Want::Kind,
+    ),
+    (
+        "(app (model M (fields (f (ref M M)))))",
+        &[1, 2, 1, 1],
+        Want::Kind,
+    ),
+    (
+        "(app (model M (fields) (group (guards))))",
+        &[1, 3],
+        Want::Group,
+    ),
+    (
+        "(app (model M (fields) (group (guards) (policy))))",
+        &[1, 3, 1],
+        Want::Guard,
+    ),
+    (
+        "(app (model M (fields) (group (guards (f)) (policy))))",
+        &[1, 3, 1, 1],
+        Want::Guard,
+    ),
+    (
+        "(app (model M (fields) (group (guards (f 1)) (policy))))",
+        &[1, 3, 2],
+        Want::Policy,
+    ),
+];
+
+// Each fault of a view once, with its place.
+const VIEW_FAULTS: [(&str, &[u32], Want); 19] = [
+    ("get \"/\"", &[1], Want::Item),
+    ("put \"/\" (params)", &[1, 1], Want::Method),
+    ("get path (params)", &[1, 2], Want::Path),
+    ("get \"/a/\" (params)", &[1, 2], Want::Path),
+    ("get \"/a{b}\" (params)", &[1, 2], Want::Path),
+    ("get \"/{viewer}\" (params)", &[1, 2], Want::Path),
+    ("get \"/\" (fields)", &[1, 3], Want::Params),
+    ("get \"/\" (params (a))", &[1, 3, 1], Want::Param),
+    ("get \"/\" (params) put", &[1, 4], Want::Statement),
+    ("get \"/\" (params) (putt 1)", &[1, 4], Want::Statement),
+    ("get \"/\" (params) (put 1 2)", &[1, 4], Want::Statement),
+    ("get \"/\" (params) (template t)", &[1, 4], Want::Statement),
+    (
+        "get \"/\" (params) (put (count (from ((a U) (b U)) true key)))",
+        &[1, 4, 1, 1],
+        Want::Query,
+    ),
+    (
+        "get \"/\" (params) (let x 1 (put 1) (put))",
+        &[1, 4, 4],
+        Want::Statement,
+    ),
+    ("get \"/\" (params) (if true () x)", &[1, 4, 3], Want::Body),
+    (
+        "get \"/\" (params) (if true ((missing 1)) x)",
+        &[1, 4, 2, 0],
+        Want::Statement,
+    ),
+    (
+        "get \"/\" (params) (create x M (sets))",
+        &[1, 4, 3],
+        Want::Set,
+    ),
+    (
+        "get \"/\" (params) (update M x (set (f 1 2)))",
+        &[1, 4, 3, 1],
+        Want::Cell,
+    ),
+    (
+        "get \"/\" (params) (for (from ((a M)) true (up a)) (put))",
+        &[1, 4, 1, 3],
+        Want::Order,
+    ),
+];
 
 fn expression(alloc: Global, bytes: &[u8]) -> Option<Expr> {
     let tree = read_tree(alloc, bytes).ok()?;
@@ -181,9 +283,15 @@ fn reads_calendars(rt: HostRuntime) -> Result<(), Fail> {
     let alloc = rt.alloc();
     let plain = joined(alloc, [CALENDAR, CALENDAR_VIEWS, ")"].as_slice())?;
     assert!(rt; is_read(alloc, plain.as_str(), [0, 0].as_slice()));
-    let noted = joined(alloc, [CALENDAR, NOTE, CALENDAR_VIEWS, NOTE_VIEWS, ")"].as_slice())?;
+    let noted = joined(
+        alloc,
+        [CALENDAR, NOTE, CALENDAR_VIEWS, NOTE_VIEWS, ")"].as_slice(),
+    )?;
     assert!(rt; is_read(alloc, noted.as_str(), [0, 0, 0].as_slice()));
-    let hidden = joined(alloc, [CALENDAR, CALENDAR_VIEWS, HIDDEN_VIEW, ")"].as_slice())?;
+    let hidden = joined(
+        alloc,
+        [CALENDAR, CALENDAR_VIEWS, HIDDEN_VIEW, ")"].as_slice(),
+    )?;
     assert!(rt; is_read(alloc, hidden.as_str(), [0, 0].as_slice()));
     Ok(())
 }
@@ -223,58 +331,20 @@ fn reads_every_form(rt: HostRuntime) {
 
 #[test]
 fn names_faults_of_items(rt: HostRuntime) {
-    let alloc = rt.alloc();
-    let faults = [
-        ("((app))", [].as_slice(), Want::App),
-        ("(app 5)", [1].as_slice(), Want::Item),
-        ("(app (view get \"/\" (params)) (model M (fields)))", [2].as_slice(), Want::Item),
-        ("(app (model M (fields)) (viewer M))", [2].as_slice(), Want::Item),
-        ("(app (viewer M N))", [1].as_slice(), Want::Item),
-        ("(app (viewer this))", [1, 1].as_slice(), Want::Name),
-        ("(app (model M))", [1].as_slice(), Want::Item),
-        ("(app (model 5 (fields)))", [1, 1].as_slice(), Want::Name),
-        ("(app (model M (params)))", [1, 2].as_slice(), Want::Fields),
-        ("(app (model M (fields f)))", [1, 2, 1].as_slice(), Want::Field),
-        ("(app (model M (fields (5 int))))", [1, 2, 1, 0].as_slice(), Want::Name),
-        ("(app (model M (fields (f ints))))", [1, 2, 1, 1].as_slice(), Want::Kind),
-        ("(app (model M (fields (f (ref M M)))))", [1, 2, 1, 1].as_slice(), Want::Kind),
-        ("(app (model M (fields) (group (guards))))", [1, 3].as_slice(), Want::Group),
-        ("(app (model M (fields) (group (guards) (policy))))", [1, 3, 1].as_slice(), Want::Guard),
-        ("(app (model M (fields) (group (guards (f)) (policy))))", [1, 3, 1, 1].as_slice(), Want::Guard),
-        ("(app (model M (fields) (group (guards (f 1)) (policy))))", [1, 3, 2].as_slice(), Want::Policy),
-    ];
-    'faults: for (text, at, want) in faults {
-        assert!(rt; is_form(app_fault(alloc, text), at, want), "at {text}");
+    'faults: for (text, at, want) in ITEM_FAULTS {
+        assert!(rt; is_form(app_fault(rt.alloc(), text), at, want), "at {text}");
     }
 }
 
 #[test]
 fn names_faults_of_views(rt: HostRuntime) -> Result<(), Fail> {
     let alloc = rt.alloc();
-    let faults = [
-        ("get \"/\"", [1].as_slice(), Want::Item),
-        ("put \"/\" (params)", [1, 1].as_slice(), Want::Method),
-        ("get path (params)", [1, 2].as_slice(), Want::Path),
-        ("get \"/a/\" (params)", [1, 2].as_slice(), Want::Path),
-        ("get \"/a{b}\" (params)", [1, 2].as_slice(), Want::Path),
-        ("get \"/{viewer}\" (params)", [1, 2].as_slice(), Want::Path),
-        ("get \"/\" (fields)", [1, 3].as_slice(), Want::Params),
-        ("get \"/\" (params (a))", [1, 3, 1].as_slice(), Want::Param),
-        ("get \"/\" (params) put", [1, 4].as_slice(), Want::Statement),
-        ("get \"/\" (params) (putt 1)", [1, 4].as_slice(), Want::Statement),
-        ("get \"/\" (params) (put 1 2)", [1, 4].as_slice(), Want::Statement),
-        ("get \"/\" (params) (template t)", [1, 4].as_slice(), Want::Statement),
-        ("get \"/\" (params) (put (count (from ((a U) (b U)) true key)))", [1, 4, 1, 1].as_slice(), Want::Query),
-        ("get \"/\" (params) (let x 1 (put 1) (put))", [1, 4, 4].as_slice(), Want::Statement),
-        ("get \"/\" (params) (if true () x)", [1, 4, 3].as_slice(), Want::Body),
-        ("get \"/\" (params) (if true ((missing 1)) x)", [1, 4, 2, 0].as_slice(), Want::Statement),
-        ("get \"/\" (params) (create x M (sets))", [1, 4, 3].as_slice(), Want::Set),
-        ("get \"/\" (params) (update M x (set (f 1 2)))", [1, 4, 3, 1].as_slice(), Want::Cell),
-        ("get \"/\" (params) (for (from ((a M)) true (up a)) (put))", [1, 4, 1, 3].as_slice(), Want::Order),
-    ];
-    'faults: for (view, at, want) in faults {
+    'faults: for (view, at, want) in VIEW_FAULTS {
         let text = joined(alloc, ["(app (view ", view, "))"].as_slice())?;
-        assert!(rt; is_form(app_fault(alloc, text.as_str()), at, want), "at {view}");
+        assert!(rt;
+            is_form(app_fault(alloc, text.as_str()), at, want),
+            "at {view}"
+        );
     }
     Ok(())
 }
@@ -283,18 +353,30 @@ fn names_faults_of_views(rt: HostRuntime) -> Result<(), Fail> {
 fn counts_items(rt: HostRuntime) -> Result<(), Fail> {
     let alloc = rt.alloc();
     let models = repeated(alloc, "(app 5", " (model)", 65, ")")?;
-    assert!(rt; is_too_many(app_fault(alloc, models.as_str()), [].as_slice(), What::Models, 65));
+    let fault = app_fault(alloc, models.as_str());
+    assert!(rt; is_too_many(fault, [].as_slice(), What::Models, 65));
     let fields = repeated(alloc, "(app (model M (fields", " 5", 33, ")))")?;
-    assert!(rt; is_too_many(app_fault(alloc, fields.as_str()), [1, 2].as_slice(), What::Fields, 33));
+    let fault = app_fault(alloc, fields.as_str());
+    assert!(rt; is_too_many(fault, [1, 2].as_slice(), What::Fields, 33));
     let groups = repeated(alloc, "(app (model 5 (fields)", " 5", 9, "))")?;
-    assert!(rt; is_too_many(app_fault(alloc, groups.as_str()), [1].as_slice(), What::Groups, 9));
+    let fault = app_fault(alloc, groups.as_str());
+    assert!(rt; is_too_many(fault, [1].as_slice(), What::Groups, 9));
+    Ok(())
+}
+
+#[test]
+fn counts_sites(rt: HostRuntime) -> Result<(), Fail> {
+    let alloc = rt.alloc();
     let view = "(app (view post \"/\" (params)";
-    let sites = repeated(alloc, view, " (create a A (set) (create b A (set)))", 35, "))")?;
-    assert!(rt; is_too_many(app_fault(alloc, sites.as_str()), [1].as_slice(), What::Sites, 70));
-    let fits = repeated(alloc, view, " (create a A (set))", 64, "))")?;
+    let pair = " (create a A (set) (create b A (set)))";
+    let many = repeated(alloc, view, pair, 35, "))")?;
+    let fault = app_fault(alloc, many.as_str());
+    assert!(rt; is_too_many(fault, [1].as_slice(), What::Sites, 70));
+    let fits = repeated(alloc, view, pair, 32, "))")?;
     assert!(rt; shown(alloc, fits.as_str()).is_some());
-    let late = repeated(alloc, view, " (create a A (set))", 65, " put))")?;
-    assert!(rt; is_form(app_fault(alloc, late.as_str()), [1, 69].as_slice(), Want::Statement));
+    let late = repeated(alloc, view, pair, 35, " put))")?;
+    let fault = app_fault(alloc, late.as_str());
+    assert!(rt; is_form(fault, [1, 39].as_slice(), Want::Statement));
     Ok(())
 }
 
@@ -304,7 +386,13 @@ fn reads_what_nests_to_64(rt: HostRuntime) -> Result<(), Fail> {
     let brackets = repeated(alloc, "", "(", 64, "")?;
     let text = repeated(alloc, brackets.as_str(), ")", 64, "")?;
     assert!(rt; is_form(app_fault(alloc, text.as_str()), [].as_slice(), Want::App));
-    let nots = repeated(alloc, "(app (view get \"/\" (params) (put ", "(not ", 61, "true")?;
+    let nots = repeated(
+        alloc,
+        "(app (view get \"/\" (params) (put ",
+        "(not ",
+        61,
+        "true",
+    )?;
     let text = repeated(alloc, nots.as_str(), ")", 64, "")?;
     assert!(rt; is_read(alloc, text.as_str(), [].as_slice()));
     Ok(())

@@ -10,7 +10,7 @@ use Rattle.jac_forms.proofs.applications.read_views.Goals as goal
 pub views-preserved : goal.views-preserved
 views-preserved c =
     let left : plain_all c.views.left.now ≡ PlainTrees.more (plain c.deref.result.now) (plain_all c.deref-left.result.now) =
-        rw (c.in-More.is, ← c.deref.ensures, ← c.deref-left.ensures) refl in
+    rw (c.in-More.is, ← c.deref.ensures, ← c.deref-left.ensures) refl in
     let all = each_of_trees page_of_tree (plain_all c.args.trees.now) in
     made-more page_of_tree (pages_of c.views.views.items) (pages_of c.push.new.self.items) (page_of c.in_ok-view.view)
     (plain c.deref.result.now) (plain_all c.deref-left.result.now) all

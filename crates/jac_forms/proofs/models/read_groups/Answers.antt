@@ -11,7 +11,7 @@ use Rattle.jac_forms.proofs.models.read_groups.Goals as goal
 pub groups-preserved : goal.groups-preserved
 groups-preserved c =
     let left : plain_all c.groups.left.now ≡ PlainTrees.more (plain c.deref.result.now) (plain_all c.deref-left.result.now) =
-        rw (c.in-More.is, ← c.deref.ensures, ← c.deref-left.ensures) refl in
+    rw (c.in-More.is, ← c.deref.ensures, ← c.deref-left.ensures) refl in
     let all = each_of_trees group_of_tree (plain_all c.args.trees.now) in
     let counted : count (plain_all c.groups.left.now) ≡ count (plain_all c.deref-left.result.now) + 1 = ap count left in
     record {

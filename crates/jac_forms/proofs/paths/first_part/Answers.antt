@@ -24,7 +24,7 @@ place_missing false n h = refl
 
 cut_at : (p : ℕ → Bool) (xs : List ℕ) (i : ℕ) → position p xs ≡ Some i → slice_split p xs ≡ take i xs ∷ slice_split p (take (length xs - (i + 1)) (drop (i + 1) xs))
 cut_at p xs i h =
-    let found = place_found _ _ _ h in
+    let found : (nat_lt (position_or_len p xs) (length xs) ≡ true) × (position_or_len p xs ≡ i) = place_found _ _ _ h in
     let all = take_all (length xs - (i + 1)) (drop (i + 1) xs) (simp length-drop (omega arith)) in
     slice_split_first p xs 0 (ltb-true _ _ found.0)
     ∙ ap (λ (n : ℕ). take n xs ∷ slice_split p (drop (n + 1) xs)) found.1
