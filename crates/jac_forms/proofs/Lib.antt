@@ -1,2 +1,5 @@
 pub mod Integers
 pub mod QueryShape
+pub mod Made
+pub mod Bodies
+pub mod Gathered

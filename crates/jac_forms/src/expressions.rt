@@ -34,6 +34,26 @@ pub fn query_of(alloc: Global, tree: &Tree) -> Result<Query, FormFault>
     Ok(q)
 }
 
+/// The one expression behind the head of a list; a list of anything else is a fault of `want`.
+pub fn read_only(
+    alloc: Global,
+    place: &Place<'_>,
+    want: Want,
+    trees: &Trees,
+) -> Result<Expr, FormFault>
+    ensures value { IfOk result (λ e. one_of_trees (plain_all trees.now) ≡ Some (expression_of e)) }
+    ensures none { IfErr result (λ f. IsTrue (refuses f) → one_of_trees (plain_all trees.now) ≡ None) }
+{
+    let Trees::More(only, rest) = trees else {
+        return Err(place.form(alloc, want));
+    };
+    let Trees::End = &**rest else {
+        return Err(place.form(alloc, want));
+    };
+    let e = read_expr(alloc, &place.child(1), only)?;
+    Ok(e)
+}
+
 #[cycle(read)]
 pub fn read_expr(alloc: Global, place: &Place<'_>, tree: &Tree) -> Result<Expr, FormFault>
     ensures value { IfOk result (λ e. expression_of_tree (plain tree.now) ≡ Some (expression_of e)) }

@@ -1,10 +1,11 @@
 ghost use Rattle.std.specs.Prelude.{◌≡◌};
-ghost use Rattle.jac_tree.specs.Mirror.{plain};
-ghost use Rattle.jac_forms.specs.Names.{is_word};
+ghost use Rattle.std.specs.Option.{option_map};
+ghost use Rattle.jac_tree.specs.Mirror.{plain, plain_all};
+ghost use Rattle.jac_forms.specs.Names.{is_word, tail_of};
 ghost use Rattle.jac_forms.specs.Expressions.{op_of, asking_of, plain_form_of, form_of_word, form_of};
 
 use jac_lang::Op;
-use jac_tree::Tree;
+use jac_tree::{Tree, Trees};
 
 /// The forms of an expression that is a list.
 #[derive(Clone, Copy, Debug, PartialEq, Eq)]
@@ -30,6 +31,20 @@ pub fn is_word(tree: &Tree, word: &[u8]) -> bool
         Tree::Atom(atom) => atom.as_bytes() == word,
         Tree::Text(_) => false,
         Tree::List(_) => false,
+    }
+}
+
+/// What stands behind the head of a list, where that is this word.
+pub fn tail_of<'t>(tree: &'t Tree, word: &[u8]) -> Option<&'t Trees>
+    ensures { option_map (λ ts. plain_all ts.now) result ≡ tail_of word.now (plain tree.now) }
+{
+    match tree {
+        Tree::List(Trees::More(head, rest)) => if is_word(head, word) {
+            Some(&**rest)
+        } else {
+            None
+        },
+        _ => None,
     }
 }
 

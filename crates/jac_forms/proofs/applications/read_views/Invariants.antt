@@ -1,0 +1,11 @@
+use Rattle.std.proofs.Common.{◌≡◌}
+use Rattle.jac_lang.specs.Mirror.{pages_of}
+use Rattle.jac_tree.specs.Mirror.{plain_all}
+use Rattle.jac_forms.specs.Applications.{page_of_tree}
+use Rattle.jac_forms.specs.Names.{each_of_trees}
+use Rattle.jac_forms.proofs.Made.{made_before}
+use Rattle.jac_forms.proofs.applications.read_views.Given as goal
+
+-- the views so far, before those of the rest, are those of all
+abbrev pub invariant-views : goal.invariant-views
+invariant-views l = made_before (pages_of l.views.items) (each_of_trees page_of_tree (plain_all l.left)) ≡ each_of_trees page_of_tree (plain_all l.trees)

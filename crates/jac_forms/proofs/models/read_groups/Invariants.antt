@@ -1,0 +1,14 @@
+use Rattle.std.proofs.Common.{◌≡◌, ◌+◌, vec_len}
+use Rattle.jac_lang.specs.Mirror.{groups_of}
+use Rattle.jac_tree.specs.Mirror.{plain_all}
+use Rattle.jac_forms.specs.Applications.{group_of_tree}
+use Rattle.jac_forms.specs.Names.{count, each_of_trees}
+use Rattle.jac_forms.proofs.Made.{made_before}
+use Rattle.jac_forms.proofs.models.read_groups.Given as goal
+
+-- the groups so far, before those of the rest, are those of all
+abbrev pub invariant-groups : goal.invariant-groups
+invariant-groups l = record {
+  count : vec_len l.groups + count (plain_all l.left) ≡ count (plain_all l.trees);
+  made : made_before (groups_of l.groups.items) (each_of_trees group_of_tree (plain_all l.left)) ≡ each_of_trees group_of_tree (plain_all l.trees);
+}

@@ -1,0 +1,149 @@
+ghost use Rattle.std.specs.Prelude.{◌≡◌, ◌≤◌, ◌++◌, ◌∷◌, [], Some, None, IfOk, IfErr, IsTrue, length, nat_le};
+ghost use Rattle.jac_tree.specs.Mirror.{plain, plain_all};
+ghost use Rattle.jac_forms.specs.Names.{count, each_of_trees};
+ghost use Rattle.jac_forms.specs.Refusal.{refuses};
+ghost use Rattle.jac_forms.specs.Applications.{plain_kind_of, one_name_of_trees, kind_of_tree, field_of_tree, few_fields, fields_of_tree, params_of_tree};
+
+use crate::names::{count, is_up_to, read_name};
+use crate::place::Place;
+use crate::words::tail_of;
+use crate::{FormFault, Want, What};
+use jac_lang::{Field, Fields, KindName};
+use jac_tree::{Tree, Trees};
+use jac_value::Txt;
+use std::alloc::Global;
+
+/// The fields of a model, at most 32.
+pub fn read_fields(alloc: Global, place: &Place<'_>, tree: &Tree) -> Result<Fields, FormFault>
+    ensures value { IfOk result (λ fs. fields_of_tree (plain tree.now) ≡ Some fs) }
+    ensures few { IfOk result (λ fs. length fs ≤ 32) }
+    ensures none { IfErr result (λ f. IsTrue (refuses f) → fields_of_tree (plain tree.now) ≡ None) }
+{
+    match tail_of(tree, b"fields") {
+        Some(trees) => {
+            let fields = read_few(alloc, place, trees)?;
+            Ok(fields)
+        }
+        None => Err(place.form(alloc, Want::Fields)),
+    }
+}
+
+/// The parameters of a view.
+pub fn read_params(alloc: Global, place: &Place<'_>, tree: &Tree) -> Result<Fields, FormFault>
+    ensures value { IfOk result (λ fs. params_of_tree (plain tree.now) ≡ Some fs) }
+    ensures none { IfErr result (λ f. IsTrue (refuses f) → params_of_tree (plain tree.now) ≡ None) }
+{
+    match tail_of(tree, b"params") {
+        Some(trees) => {
+            let params = read_each(alloc, place, Want::Param, trees)?;
+            Ok(params)
+        }
+        None => Err(place.form(alloc, Want::Params)),
+    }
+}
+
+fn read_few(alloc: Global, place: &Place<'_>, trees: &Trees) -> Result<Fields, FormFault>
+    ensures value { IfOk result (λ fs. few_fields (plain_all trees.now) ≡ Some fs) }
+    ensures few { IfOk result (λ fs. length fs ≤ 32) }
+    ensures none { IfErr result (λ f. IsTrue (refuses f) → few_fields (plain_all trees.now) ≡ None) }
+{
+    if is_up_to(trees, 32) {
+        let fields = read_each(alloc, place, Want::Field, trees)?;
+        Ok(fields)
+    } else {
+        Err(place.too_many(alloc, What::Fields, count(trees)))
+    }
+}
+
+fn read_each(
+    alloc: Global,
+    place: &Place<'_>,
+    want: Want,
+    trees: &Trees,
+) -> Result<Fields, FormFault>
+    ensures value { IfOk result (λ fs. each_of_trees field_of_tree (plain_all trees.now) ≡ Some fs) }
+    ensures count { IfOk result (λ fs. length fs ≡ count (plain_all trees.now)) }
+    ensures none { IfErr result (λ f. IsTrue (refuses f) → each_of_trees field_of_tree (plain_all trees.now) ≡ None) }
+{
+    let mut fields = Vec::new(alloc);
+    let mut number: u32 = 1;
+    let mut left = trees;
+    'fields: while let Trees::More(first, rest) = left {
+        let field = read_field(alloc, &place.child(number), want, first)?;
+        fields.push(field)?;
+        number = number.saturating_add(1);
+        left = rest;
+    }
+    Ok(Fields::from_vec(fields))
+}
+
+fn read_field(alloc: Global, place: &Place<'_>, want: Want, tree: &Tree) -> Result<Field, FormFault>
+    ensures value { IfOk result (λ f. field_of_tree (plain tree.now) ≡ Some f) }
+    ensures none { IfErr result (λ f. IsTrue (refuses f) → field_of_tree (plain tree.now) ≡ None) }
+{
+    let Tree::List(Trees::More(name, rest)) = tree else {
+        return Err(place.form(alloc, want));
+    };
+    let Trees::More(kind, rest) = &**rest else {
+        return Err(place.form(alloc, want));
+    };
+    let Trees::End = &**rest else {
+        return Err(place.form(alloc, want));
+    };
+    let name = read_name(alloc, &place.child(0), name)?;
+    let kind = read_kind(alloc, &place.child(1), kind)?;
+    Ok(Field { name, kind })
+}
+
+fn read_kind(alloc: Global, place: &Place<'_>, tree: &Tree) -> Result<KindName, FormFault>
+    ensures value { IfOk result (λ k. kind_of_tree (plain tree.now) ≡ Some k) }
+    ensures none { IfErr result (λ f. IsTrue (refuses f) → kind_of_tree (plain tree.now) ≡ None) }
+{
+    match tree {
+        Tree::Atom(word) => match plain_kind_of(word.as_str()) {
+            Some(kind) => Ok(kind),
+            None => Err(place.form(alloc, Want::Kind)),
+        },
+        _ => match tail_of(tree, b"ref") {
+            Some(model) => {
+                let model = read_only_name(alloc, place, Want::Kind, model)?;
+                Ok(KindName::Ref(model))
+            }
+            None => Err(place.form(alloc, Want::Kind)),
+        },
+    }
+}
+
+fn plain_kind_of(word: &str) -> Option<KindName>
+    ensures { result ≡ plain_kind_of word.now }
+{
+    if word == "int" {
+        Some(KindName::Int)
+    } else if word == "text" {
+        Some(KindName::Text)
+    } else if word == "bool" {
+        Some(KindName::Bool)
+    } else {
+        None
+    }
+}
+
+/// The one name behind the head of a list; a list of anything else is a fault of `want`.
+pub fn read_only_name(
+    alloc: Global,
+    place: &Place<'_>,
+    want: Want,
+    trees: &Trees,
+) -> Result<Txt, FormFault>
+    ensures value { IfOk result (λ name. one_name_of_trees (plain_all trees.now) ≡ Some name) }
+    ensures none { IfErr result (λ f. IsTrue (refuses f) → one_name_of_trees (plain_all trees.now) ≡ None) }
+{
+    let Trees::More(name, rest) = trees else {
+        return Err(place.form(alloc, want));
+    };
+    let Trees::End = &**rest else {
+        return Err(place.form(alloc, want));
+    };
+    let name = read_name(alloc, &place.child(1), name)?;
+    Ok(name)
+}

@@ -1,0 +1,140 @@
+ghost use Rattle.std.specs.Prelude.{◌≡◌, ◌++◌, ◌∷◌, [], Some, None, IfOk, IfErr, OnOk, IsTrue, nat_le};
+ghost use Rattle.jac_lang.specs.Mirror.{assigned_of, expression_of, field_group_of, groups_of, entity_of};
+ghost use Rattle.jac_tree.specs.Mirror.{plain, plain_all};
+ghost use Rattle.jac_forms.specs.Names.{count, each_of_trees};
+ghost use Rattle.jac_forms.specs.Refusal.{refuses};
+ghost use Rattle.jac_forms.specs.Applications.{some_guards, guards_of_tree, policy_of_tree, group_of_trees, group_of_tree, entity_of_trees, entity_of_tree};
+
+use crate::assigned::read_assigned;
+use crate::expressions::read_only;
+use crate::fields::read_fields;
+use crate::names::{count, is_up_to, read_name};
+use crate::place::Place;
+use crate::words::tail_of;
+use crate::{FormFault, Want, What};
+use jac_lang::{Expr, Group, Groups, ModelDef, Publics};
+use jac_tree::{Tree, Trees};
+use jac_value::Memory;
+use std::alloc::Global;
+
+pub fn read_model(alloc: Global, place: &Place<'_>, tree: &Tree) -> Result<ModelDef, FormFault>
+    ensures value { IfOk result (λ m. entity_of_tree (plain tree.now) ≡ Some (entity_of m)) }
+    ensures none { IfErr result (λ f. IsTrue (refuses f) → entity_of_tree (plain tree.now) ≡ None) }
+{
+    match tail_of(tree, b"model") {
+        Some(parts) => {
+            let model = read_parts(alloc, place, parts)?;
+            Ok(model)
+        }
+        None => Err(place.form(alloc, Want::Item)),
+    }
+}
+
+fn read_parts(alloc: Global, place: &Place<'_>, parts: &Trees) -> Result<ModelDef, FormFault>
+    ensures value { IfOk result (λ m. entity_of_trees (plain_all parts.now) ≡ Some (entity_of m)) }
+    ensures none { IfErr result (λ f. IsTrue (refuses f) → entity_of_trees (plain_all parts.now) ≡ None) }
+{
+    let Trees::More(name, rest) = parts else {
+        return Err(place.form(alloc, Want::Item));
+    };
+    let Trees::More(fields, groups) = &**rest else {
+        return Err(place.form(alloc, Want::Item));
+    };
+    if !is_up_to(groups, 8) {
+        return Err(place.too_many(alloc, What::Groups, count(groups)));
+    }
+    let name = read_name(alloc, &place.child(1), name)?;
+    let fields = read_fields(alloc, &place.child(2), fields)?;
+    let groups = read_groups(alloc, place, groups)?;
+    Ok(ModelDef {
+        name,
+        fields,
+        groups,
+    })
+}
+
+// The groups of a model begin with its child 3.
+fn read_groups(alloc: Global, place: &Place<'_>, trees: &Trees) -> Result<Groups, FormFault>
+    requires { IsTrue (nat_le (count (plain_all trees.now)) 8) }
+    ensures value { IfOk result (λ gs. each_of_trees group_of_tree (plain_all trees.now) ≡ Some (groups_of gs)) }
+    ensures none { IfErr result (λ f. IsTrue (refuses f) → each_of_trees group_of_tree (plain_all trees.now) ≡ None) }
+{
+    let mut groups = Vec::new(alloc);
+    let mut number: u32 = 3;
+    let mut left = trees;
+    'groups: while let Trees::More(first, rest) = left {
+        let group = read_group(alloc, &place.child(number), first)?;
+        groups.push(group)?;
+        number = number.saturating_add(1);
+        left = rest;
+    }
+    Ok(Groups::from_vec(groups))
+}
+
+fn read_group(alloc: Global, place: &Place<'_>, tree: &Tree) -> Result<Group, FormFault>
+    ensures value { IfOk result (λ g. group_of_tree (plain tree.now) ≡ Some (field_group_of g)) }
+    ensures none { IfErr result (λ f. IsTrue (refuses f) → group_of_tree (plain tree.now) ≡ None) }
+{
+    match tail_of(tree, b"group") {
+        Some(parts) => {
+            let group = read_group_parts(alloc, place, parts)?;
+            Ok(group)
+        }
+        None => Err(place.form(alloc, Want::Group)),
+    }
+}
+
+fn read_group_parts(alloc: Global, place: &Place<'_>, parts: &Trees) -> Result<Group, FormFault>
+    ensures value { IfOk result (λ g. group_of_trees (plain_all parts.now) ≡ Some (field_group_of g)) }
+    ensures none { IfErr result (λ f. IsTrue (refuses f) → group_of_trees (plain_all parts.now) ≡ None) }
+{
+    let Trees::More(guards, rest) = parts else {
+        return Err(place.form(alloc, Want::Group));
+    };
+    let Trees::More(policy, rest) = &**rest else {
+        return Err(place.form(alloc, Want::Group));
+    };
+    let Trees::End = &**rest else {
+        return Err(place.form(alloc, Want::Group));
+    };
+    let guards = read_guards(alloc, &place.child(1), guards)?;
+    let policy = read_policy(alloc, &place.child(2), policy)?;
+    Ok(Group { guards, policy })
+}
+
+fn read_guards(alloc: Global, place: &Place<'_>, tree: &Tree) -> Result<Publics, FormFault>
+    ensures value { IfOk result (λ ps. guards_of_tree (plain tree.now) ≡ Some (assigned_of ps)) }
+    ensures none { IfErr result (λ f. IsTrue (refuses f) → guards_of_tree (plain tree.now) ≡ None) }
+{
+    match tail_of(tree, b"guards") {
+        Some(trees) => {
+            let guards = read_some_guards(alloc, place, trees)?;
+            Ok(guards)
+        }
+        None => Err(place.form(alloc, Want::Guard)),
+    }
+}
+
+fn read_some_guards(alloc: Global, place: &Place<'_>, trees: &Trees) -> Result<Publics, FormFault>
+    ensures value { IfOk result (λ ps. some_guards (plain_all trees.now) ≡ Some (assigned_of ps)) }
+    ensures none { IfErr result (λ f. IsTrue (refuses f) → some_guards (plain_all trees.now) ≡ None) }
+{
+    if is_up_to(trees, 0) {
+        return Err(place.form(alloc, Want::Guard));
+    }
+    let guards = read_assigned(alloc, place, Want::Guard, trees)?;
+    Ok(guards)
+}
+
+fn read_policy(alloc: Global, place: &Place<'_>, tree: &Tree) -> Result<Expr, FormFault>
+    ensures value { IfOk result (λ e. policy_of_tree (plain tree.now) ≡ Some (expression_of e)) }
+    ensures none { IfErr result (λ f. IsTrue (refuses f) → policy_of_tree (plain tree.now) ≡ None) }
+{
+    match tail_of(tree, b"policy") {
+        Some(trees) => {
+            let policy = read_only(alloc, place, Want::Policy, trees)?;
+            Ok(policy)
+        }
+        None => Err(place.form(alloc, Want::Policy)),
+    }
+}
