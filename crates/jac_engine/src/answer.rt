@@ -44,7 +44,7 @@ pub struct Prepared {
 }
 
 /// Answers the request on what the keeper keeps, and changes nothing.
-pub fn answer<K: Keeper, L: Ledger>(
+pub fn prepare<K: Keeper, L: Ledger>(
     _alloc: Global,
     _app: &App,
     keeper: &mut K,

@@ -4,5 +4,5 @@
 mod answer;
 mod served;
 
-pub use answer::{Answer, Ask, Prepared, answer, commit};
+pub use answer::{Answer, Ask, Prepared, commit, prepare};
 pub use served::serves;
