@@ -83,7 +83,9 @@ fn read_text(alloc: Global, kind: &Kind, text: &Txt) -> Result<Value, Memory>
     }
 }
 
-fn kind_by_name(app: &App, kind: &KindName) -> Kind
+/// The kind of this name, where a reference has the number of its model. A model's name that no model has
+/// counts as the number of the models.
+pub fn kind_by_name(app: &App, kind: &KindName) -> Kind
     ensures { result ≡ kind_named (application_of app.now).models kind.now }
 {
     match kind {
