@@ -4,16 +4,21 @@ use Rattle.std.specs.List.{list_all, list_any}
 use Rattle.std.specs.Str.{bytes_eq}
 use Rattle.jac_lang.specs.declared.pages.Verb.{Verb}
 use Rattle.jac_lang.specs.declared.pages.Verb.TheVariants as verbs
+use Rattle.jac_lang.specs.declared.queries.Binder.{Binder}
 use Rattle.jac_lang.specs.declared.queries.Order.{Order}
 use Rattle.jac_lang.specs.declared.queries.Order.TheVariants as orders
 use Rattle.jac_lang.specs.Syntax.{Expression, Assigned, Question, Statement, Statements, FieldGroup, Entity, Page, Application}
 use Rattle.jac_plain.specs.Expressions.{is_single}
 
+abbrev pub is_name : Expression → Bool
+is_name (Expression.name x) = true
+is_name e = false
+
 -- a text, a name, or a field of the record that a name refers to
 abbrev pub is_served_value : Expression → Bool
 is_served_value (Expression.text t) = true
 is_served_value (Expression.name x) = true
-is_served_value (Expression.get m f (Expression.name x)) = true
+is_served_value (Expression.get m f e) = is_name e
 is_served_value e = false
 
 abbrev pub are_served_cells : List Assigned → Bool
@@ -27,6 +32,10 @@ is_always e = false
 abbrev pub is_by_id : Order → Bool
 is_by_id orders.Key = true
 is_by_id order = false
+
+abbrev pub has_none : List Binder → Bool
+has_none [] = true
+has_none (b ∷ bs) = false
 
 -- all records of one model
 abbrev pub is_served_query : Question → Bool

@@ -1,19 +1,27 @@
-ghost use Rattle.std.specs.Prelude.{◌≡◌, true, IfOk, OnOk, OnErr, IfSome, IsTrue};
-ghost use Rattle.jac_lang.specs.Mirror.{application_of};
+ghost use Rattle.std.specs.Prelude.{◌≡◌, ◌<◌, true, length, slice_get, IfOk, OnOk, OnErr, IfSome, IsTrue, Some, None};
+ghost use Rattle.jac_lang.specs.Mirror.{application_of, page_of, statements_of};
+ghost use Rattle.jac_lang.specs.declared.pages.Verb.TheVariants as verbs;
+ghost use Rattle.jac_plain.specs.Requests.{method_in};
 ghost use Rattle.jac_keep.specs.Cause.{HasCause};
 ghost use Rattle.jac_keep.specs.Kept.{applied};
 ghost use Rattle.jac_keep.specs.Sound.{IsSound};
-ghost use Rattle.jac_engine.specs.Prepared.{IsPrepared, applied_if};
-ghost use Rattle.jac_engine.specs.Served.{are_served};
+ghost use Rattle.jac_engine.specs.Prepared.{IsPrepared, IsPreparedBy, IsShown, visit_of, page_answer, applied_if};
+ghost use Rattle.jac_engine.specs.Served.{are_served, are_showing, are_making};
 ghost use Rattle.jac_engine.specs.Start.{IsStart};
 
-use jac_keep::{Change, Keeper, Stop};
-use jac_lang::App;
+use crate::finding::{has_at, place_of, view_at};
+use crate::refusal::{refuse, refuse_path};
+use crate::visiting::{shown_page, stored_page};
+use jac_keep::{Change, Keeper, Stop, sound_after_change};
+use jac_lang::{App, Verb, View};
+use jac_plain::Page;
 use jac_route::Pairs;
 use jac_value::{Bytes, Id, Txt};
 use jac_world::{Assignment, Steps};
 use std::alloc::Global;
 use std::sync::ledger::Ledger;
+
+const LAST_NUMBER: u64 = 1 << 40;
 
 /// A request: who looks, and what is asked. The pairs are those of the query and, for a POST, then those of
 /// the form body.
@@ -44,32 +52,144 @@ pub struct Prepared {
 }
 
 /// Answers the request on what the keeper keeps, and changes nothing.
-pub fn answer<K: Keeper, L: Ledger>(
-    _alloc: Global,
-    _app: &App,
+pub fn prepare<K: Keeper, L: Ledger>(
+    alloc: Global,
+    app: &App,
     keeper: &mut K,
-    _ask: &Ask,
+    ask: &Ask,
     _splits: &mut Steps<L>,
 ) -> Result<Prepared, Stop>
     requires attached { IsTrue (K.attached keeper.old) }
-    requires served { are_served (application_of _app.now) ≡ true }
-    requires start { IsTrue (K.tells keeper.old) → IsStart (application_of _app.now) (K.state keeper.old) }
-    ensures prepared { IfOk result (IsPrepared (K.tells keeper.old) (application_of _app.now) (K.state keeper.old) _ask.now) }
+    requires served { are_served (application_of app.now) ≡ true }
+    requires start { IsTrue (K.tells keeper.old) → IsStart (application_of app.now) (K.state keeper.old) }
+    ensures prepared { IfOk result (IsPrepared (K.tells keeper.old) (application_of app.now) (K.state keeper.old) ask.now) }
     ensures cause { HasCause (K.faults keeper.old) (K.faults keeper.new) result }
     ensures tells { K.tells keeper.new ≡ K.tells keeper.old }
     ensures state { K.state keeper.new ≡ K.state keeper.old }
     ensures attached { K.attached keeper.new ≡ K.attached keeper.old }
 {
-    Err(Stop::Memory)
+    let Some(place) = place_of(app, &ask.method, &ask.path) else {
+        let views = app.views.as_slice();
+        let get = has_at(views, Verb::Get, &ask.path);
+        let post = has_at(views, Verb::Post, &ask.path);
+        let prepared = refuse_path(alloc, get, post)?;
+        return Ok(prepared);
+    };
+    let prepared = answer_view(alloc, app, keeper, ask, place)?;
+    Ok(prepared)
+}
+
+fn answer_view<K: Keeper>(
+    alloc: Global,
+    app: &App,
+    keeper: &mut K,
+    ask: &Ask,
+    place: usize,
+) -> Result<Prepared, Stop>
+    requires attached { IsTrue (K.attached keeper.old) }
+    requires served { are_served (application_of app.now) ≡ true }
+    requires start { IsTrue (K.tells keeper.old) → IsStart (application_of app.now) (K.state keeper.old) }
+    requires within { place < length app.now.views }
+    ensures prepared { IfOk result (IsPreparedBy (method_in (slice_get (application_of app.now).views place)) (K.tells keeper.old) (application_of app.now) (K.state keeper.old) (visit_of (application_of app.now) ask.now place)) }
+    ensures cause { HasCause (K.faults keeper.old) (K.faults keeper.new) result }
+    ensures tells { K.tells keeper.new ≡ K.tells keeper.old }
+    ensures state { K.state keeper.new ≡ K.state keeper.old }
+    ensures attached { K.attached keeper.new ≡ K.attached keeper.old }
+{
+    let view = view_at(app, place);
+    match view.method {
+        Verb::Get => {
+            let prepared = show(alloc, app, keeper, ask, place, view)?;
+            Ok(prepared)
+        }
+        Verb::Post => {
+            let prepared = store(alloc, app, keeper, ask, place, view)?;
+            Ok(prepared)
+        }
+    }
+}
+
+// The page of a view that shows records.
+fn show<K: Keeper>(
+    alloc: Global,
+    app: &App,
+    keeper: &mut K,
+    ask: &Ask,
+    place: usize,
+    view: &View,
+) -> Result<Prepared, Stop>
+    requires attached { IsTrue (K.attached keeper.old) }
+    requires start { IsTrue (K.tells keeper.old) → IsStart (application_of app.now) (K.state keeper.old) }
+    requires view { slice_get (application_of app.now).views place ≡ Some (page_of view.now) }
+    requires served { are_showing (statements_of view.now.body) ≡ true }
+    ensures shown { IfOk result (IsShown (K.tells keeper.old) (application_of app.now) (K.state keeper.old) (visit_of (application_of app.now) ask.now place)) }
+    ensures cause { HasCause (K.faults keeper.old) (K.faults keeper.new) result }
+    ensures tells { K.tells keeper.new ≡ K.tells keeper.old }
+    ensures state { K.state keeper.new ≡ K.state keeper.old }
+    ensures attached { K.attached keeper.new ≡ K.attached keeper.old }
+{
+    let number = keeper.number()?;
+    let page = shown_page(alloc, app, keeper, ask, view, number)?;
+    Ok(Prepared {
+        answer: answer_of(alloc, page),
+        change: None,
+    })
+}
+
+// The page of a view that makes records, and these, while there are numbers.
+fn store<K: Keeper>(
+    alloc: Global,
+    app: &App,
+    keeper: &mut K,
+    ask: &Ask,
+    place: usize,
+    view: &View,
+) -> Result<Prepared, Stop>
+    requires attached { IsTrue (K.attached keeper.old) }
+    requires start { IsTrue (K.tells keeper.old) → IsStart (application_of app.now) (K.state keeper.old) }
+    requires view { slice_get (application_of app.now).views place ≡ Some (page_of view.now) }
+    requires method { view.now.method ≡ verbs.Post }
+    requires served { are_making (statements_of view.now.body) ≡ true }
+    ensures stored { IfOk result (λ p. IsPreparedBy verbs.Post (K.tells keeper.old) (application_of app.now) (K.state keeper.old) (visit_of (application_of app.now) ask.now place) p) }
+    ensures cause { HasCause (K.faults keeper.old) (K.faults keeper.new) result }
+    ensures tells { K.tells keeper.new ≡ K.tells keeper.old }
+    ensures state { K.state keeper.new ≡ K.state keeper.old }
+    ensures attached { K.attached keeper.new ≡ K.attached keeper.old }
+{
+    sound_after_change();
+    let number = keeper.number()?;
+    if number == LAST_NUMBER {
+        let prepared = refuse(alloc, 507, None)?;
+        return Ok(prepared);
+    }
+    let stored = stored_page(alloc, app, keeper, ask, view, number)?;
+    Ok(Prepared {
+        answer: answer_of(alloc, stored.page),
+        change: Some(stored.change),
+    })
+}
+
+// The answer with this page, which was made under no label.
+fn answer_of(alloc: Global, page: Page) -> Answer
+    ensures { result ≡ page_answer page }
+{
+    let Page {
+        status,
+        location,
+        body,
+    } = page;
+    Answer {
+        status,
+        location,
+        allow: None,
+        body,
+        shown: Some(Assignment::empty(alloc)),
+    }
 }
 
 /// Stores what was prepared, by one call of the keeper's `apply` where there is a change. It takes no memory
 /// of its own.
-pub fn commit<K: Keeper>(
-    alloc: Global,
-    keeper: &mut K,
-    prepared: Prepared,
-) -> Result<Answer, Stop>
+pub fn commit<K: Keeper>(alloc: Global, keeper: &mut K, prepared: Prepared) -> Result<Answer, Stop>
     requires attached { IsTrue (K.attached keeper.old) }
     requires good { IsTrue (K.tells keeper.old) → IfSome prepared.change (λ c. IsSound (applied c (K.state keeper.old))) }
     ensures answer { IfOk result (λ a. a ≡ prepared.answer) }

@@ -2,7 +2,14 @@
 #![tactic(auto)]
 
 mod answer;
+mod drafting;
+mod finding;
+mod page;
+mod reading;
+mod refusal;
+mod running;
 mod served;
+mod visiting;
 
-pub use answer::{Answer, Ask, Prepared, answer, commit};
+pub use answer::{Answer, Ask, Prepared, commit, prepare};
 pub use served::serves;

@@ -5,4 +5,4 @@ mod pairs;
 mod parameters;
 
 pub use pairs::{Pair, Pairs, pairs_of};
-pub use parameters::{bind, viewer_id};
+pub use parameters::{bind, kind_by_name, viewer_id};

@@ -1,6 +1,8 @@
-ghost use Rattle.std.specs.Prelude.{◌≡◌, ◌++◌, [], IfOk};
-ghost use Rattle.jac_route.specs.Pairs.{pairs_in};
+ghost use Rattle.std.specs.Prelude.{◌≡◌, ◌++◌, [], IfOk, OnOk};
+ghost use Rattle.std.specs.Option.{option_copied};
+ghost use Rattle.jac_route.specs.Pairs.{pairs_in, value_of_name};
 
+use form_urlencoded::parse;
 use jac_value::{Memory, Txt};
 use std::alloc::Global;
 use std::marker::Model;
@@ -78,8 +80,36 @@ impl Pairs {
 }
 
 /// The pairs of the query, then those of the form body (URL Standard, section 5.1).
-pub fn pairs_of(_alloc: Global, _query: &[u8], _body: &[u8]) -> Result<Pairs, Memory>
-    ensures { IfOk result (λ ps. ps ≡ pairs_in _query.now ++ pairs_in _body.now) }
+pub fn pairs_of(alloc: Global, query: &[u8], body: &[u8]) -> Result<Pairs, Memory>
+    ensures { IfOk result (λ ps. ps ≡ pairs_in query.now ++ pairs_in body.now) }
 {
-    Err(Memory)
+    let mut pairs = Vec::new(alloc);
+    add_pairs(alloc, query, &mut pairs)?;
+    add_pairs(alloc, body, &mut pairs)?;
+    Ok(Pairs { pairs })
+}
+
+// Adds the pairs that the bytes write.
+fn add_pairs(alloc: Global, bytes: &[u8], pairs: &mut Vec<Pair>) -> Result<(), Memory>
+    ensures { OnOk result (pairs.new.items ≡ pairs.old.items ++ pairs_in bytes.now) }
+{
+    'items: for item in parse(alloc, bytes) {
+        let (name, value) = item?;
+        let name = Txt::from_string(name.into_owned(alloc)?);
+        let value = Txt::from_string(value.into_owned(alloc)?);
+        pairs.push(Pair { name, value })?;
+    }
+    Ok(())
+}
+
+// The value of the first pair of this name.
+pub(crate) fn find_value<'p>(pairs: &'p [Pair], name: &Txt) -> Option<&'p Txt>
+    ensures { option_copied result ≡ value_of_name name.now pairs.now }
+{
+    'pairs: for pair in pairs {
+        if pair.name == *name {
+            return Some(&pair.value);
+        }
+    }
+    None
 }

@@ -1,0 +1,68 @@
+-- The cells of a new record.
+use Rattle.std.proofs.Common.{◌≡◌, ◌≤◌, Bool, refl, sym, ap, ◌∙◌, arith, zero, suc, ℕ, List, [], ◌∷◌, length, Option, Some, None}
+use Rattle.std.specs.Prelude.{slice_get, slice_set}
+use Rattle.jac_lang.specs.declared.field_kinds.Field.{Field}
+use Rattle.jac_lang.specs.declared.schema.ModelDef.{ModelDef}
+use Rattle.jac_lang.specs.Lookup.{fields_at, kind_in, kind_at}
+use Rattle.jac_lang.specs.Mirror.{entity_of, entities_of}
+use Rattle.jac_lang.specs.Syntax.{Entity}
+use Rattle.jac_plain.specs.Statements.{kind_of_field}
+use Rattle.jac_keep.specs.declared.alteration.Alterations.{Alterations}
+use Rattle.jac_keep.specs.declared.work.WorkOver.{WorkOver}
+use Rattle.jac_keep.specs.Worked.{IsTold, IsUntouched}
+use Rattle.jac_rows.specs.declared.state.State.{State}
+use Rattle.jac_engine.specs.Running.{Reads}
+
+entity_at : (ms : List ModelDef) (i : ℕ) (m : ModelDef) → slice_get ms i ≡ Some m → slice_get (entities_of ms) i ≡ Some (entity_of m)
+entity_at [] i m h = cc
+entity_at (x ∷ xs) zero m h = let same : x ≡ m = cc in ap (λ (y : ModelDef). Some (entity_of y)) same
+entity_at (x ∷ xs) (suc i) m h = entity_at xs i m h
+
+-- the fields of a model of the program
+pub fields_there : (ms : List ModelDef) (i : ℕ) (m : ModelDef) → slice_get ms i ≡ Some m → m.fields ≡ fields_at (entities_of ms) i
+fields_there ms i m h = rw (entity_at ms i m h) refl
+
+kind_seen : (models : List Entity) (f : Option Field) → kind_in models f ≡ kind_of_field models f
+kind_seen models None = refl
+kind_seen models (Some f) = refl
+
+pub kind_there : (models : List Entity) (fields : List Field) (f : ℕ) → kind_at models fields f ≡ kind_of_field models (slice_get fields f)
+kind_there models fields f = kind_seen models (slice_get fields f)
+
+-- a place past the end is none
+pub set_past : {X : Type 0} → (xs : List X) (i : ℕ) (x : X) → length xs ≤ i → xs ≡ slice_set xs i x
+set_past [] i x h = refl
+set_past (y ∷ ys) zero x h = absurd (omega (arith, h))
+set_past (y ∷ ys) (suc i) x h = ap (λ zs. y ∷ zs) (set_past ys i x (omega (arith, h)))
+
+-- a value was read, and set into a cell
+pub record Drafting {K : Type 0} (tells : K → Bool) (state : K → State) (attached : K → Bool) (faults : K → ℕ) (old new : WorkOver K Alterations) (served here : Type 0) : Type 0 where
+  pub reads : Reads tells state attached old new
+  pub later : faults old.keeper.now ≤ faults new.keeper.now
+  pub goes_on : served
+  pub step : IsTold tells state old → here
+
+untouched_then : {K : Type 0} (tells : K → Bool) (state : K → State) (attached : K → Bool) (old mid new : WorkOver K Alterations)
+    → IsUntouched tells state attached old mid → IsUntouched tells state attached mid new → IsUntouched tells state attached old new
+untouched_then tells state attached old mid new a b = record {
+  same_reference = b.same_reference ∙ a.same_reference;
+  same_over = b.same_over ∙ a.same_over;
+  same_tells = b.same_tells ∙ a.same_tells;
+  same_state = b.same_state ∙ a.same_state;
+  same_attached = b.same_attached ∙ a.same_attached;
+}
+
+pub reads_then : {K : Type 0} (tells : K → Bool) (state : K → State) (attached : K → Bool) (old mid new : WorkOver K Alterations)
+    → Reads tells state attached old mid → Reads tells state attached mid new → Reads tells state attached old new
+reads_then tells state attached old mid new a b = record {
+  same = untouched_then tells state attached old mid new a.same b.same;
+  states = b.states ∙ a.states;
+  told = λ told. b.told (a.told told);
+}
+
+pub reads_none : {K : Type 0} (tells : K → Bool) (state : K → State) (attached : K → Bool) (w : WorkOver K Alterations) → Reads tells state attached w w
+reads_none tells state attached w = record {
+  same = record { same_reference = refl; same_over = refl; same_tells = refl; same_state = refl; same_attached = refl };
+  states = refl;
+  told = λ told. told;
+}
