@@ -10,7 +10,7 @@ use Rattle.jac_lang.specs.declared.pages.Verb.{Verb}
 use Rattle.jac_lang.specs.declared.pages.Verb.TheVariants as verbs
 use Rattle.jac_tree.specs.Plain.{PlainTree, PlainTrees}
 use Rattle.jac_forms.specs.Names.{count, is_word, is_path, name_of_tree, tail_of, each_of_trees, up_to}
-use Rattle.jac_forms.specs.Expressions.{expression_of_tree, one_of_trees}
+use Rattle.jac_forms.specs.Expressions.{one_of_trees}
 use Rattle.jac_forms.specs.Statements.{Body, assigned_of_tree, statements_of_trees}
 
 -- `int`, `text` or `bool`

@@ -1,6 +1,5 @@
-use Rattle.std.proofs.Common.{◌≡◌, ◌+◌, refl, ap, subst, arith, Option, Some, List}
+use Rattle.std.proofs.Common.{◌≡◌, ◌+◌, refl, ap, subst, arith}
 use Rattle.jac_lang.specs.Mirror.{field_group_of, groups_of}
-use Rattle.jac_lang.specs.Syntax.{FieldGroup}
 use Rattle.jac_tree.specs.Plain.{PlainTrees}
 use Rattle.jac_tree.specs.Mirror.{plain, plain_all}
 use Rattle.jac_forms.specs.Names.{count, each_of_trees}
