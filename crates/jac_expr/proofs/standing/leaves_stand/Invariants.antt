@@ -13,6 +13,6 @@ abbrev pub invariant-leaves : goal.invariant-leaves
 invariant-leaves g l =
     let k = g.K.Keeper in
     LoopOver k.tells k.state k.attached k.faults l.fn.work l.work
-        ((w : ℕ → Bool) →
-            let stands = λ (v : Value). value.Bool (stands_in (project_at w (state_of k.state l.fn.work)).tables v) in
-            last_by stands (at w l.found) (seen w (drop l.leaf-index l.leaves)) ≡ last_by stands (value.Bool false) (seen w l.leaves))
+    ((w : ℕ → Bool) →
+    let stands = λ (v : Value). value.Bool (stands_in (project_at w (state_of k.state l.fn.work)).tables v) in
+    last_by stands (at w l.found) (seen w (drop l.leaf-index l.leaves)) ≡ last_by stands (value.Bool false) (seen w l.leaves))
