@@ -1,5 +1,5 @@
 -- What an assignment shows of the rows of one record.
-use Rattle.std.proofs.Common.{◌≡◌, refl, ap, sym, ◌∙◌, arith, ℕ, ◌==◌, Bool, true, false, List, [], ◌∷◌, ◌++◌, if◌then◌else◌, map, Option, Some, None, slice_get, unwrap_or}
+use Rattle.std.proofs.Common.{◌≡◌, refl, ap, sym, ◌∙◌, ℕ, ◌==◌, Bool, true, false, List, [], ◌∷◌, if◌then◌else◌, map, Option, Some, None, slice_get, unwrap_or}
 use Rattle.std.specs.List.{filter}
 use Rattle.std.proofs.lemmas.Option.{slice_get-map}
 use Rattle.jac_value.specs.declared.value.Value.{Value}
@@ -8,9 +8,8 @@ use Rattle.jac_world.specs.World.{holds}
 use Rattle.jac_rows.specs.declared.row.Row.{Row}
 use Rattle.jac_rows.specs.declared.plain.PlainRow.{PlainRow}
 use Rattle.jac_rows.specs.Project.{rows_at}
-use Rattle.jac_rows.specs.Pushed.{rows_at-append}
 use Rattle.jac_rows.specs.Tables.{rows_of, rows_or_none}
-use Rattle.jac_keep.specs.Records.{alternatives, with_id}
+use Rattle.jac_keep.specs.Records.{alternatives}
 use Rattle.jac_query.specs.Field.{field_of, value_or}
 use Rattle.jac_plain.specs.World.{World, record_with, cell_of}
 use Rattle.jac_plain.specs.Expressions.{is_live, stands}

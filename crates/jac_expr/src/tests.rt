@@ -19,29 +19,25 @@ use std::process::Abort;
 use std::sync::ledger::{Blank, Ledger};
 use std::test::Fail;
 
-const TITLE: Label = Label(32768);
-
-const NOTE: Id = Id(4096);
-
 fn label_guard(alloc: Global, sign: bool) -> Result<Guard, Memory>
-    ensures { IfOk result (λ g. g ≡ (TITLE, sign) ∷ []) }
+    ensures { IfOk result (λ g. g ≡ (32768, sign) ∷ []) }
 {
-    match Guard::one(alloc, TITLE, sign) {
+    match Guard::one(alloc, Label(32768), sign) {
         Ok(guard) => Ok(guard),
         Err(_) => Err(Memory),
     }
 }
 
 fn note(alloc: Global, sign: bool, title: &str) -> Result<Row, Memory>
-    ensures id { IfOk result (λ r. r.id ≡ NOTE) }
-    ensures guard { IfOk result (λ r. r.guard ≡ (TITLE, sign) ∷ []) }
+    ensures id { IfOk result (λ r. r.id ≡ 4096) }
+    ensures guard { IfOk result (λ r. r.guard ≡ (32768, sign) ∷ []) }
 {
     let guard = label_guard(alloc, sign)?;
     let title = Txt::from_str(alloc, title)?;
     let mut cells = Vec::new(alloc);
     cells.push(Value::Text(title))?;
     Ok(Row {
-        id: NOTE,
+        id: Id(4096),
         guard,
         cells: Cells::from_vec(cells),
     })
@@ -103,7 +99,7 @@ fn value_of<L: Ledger>(alloc: Global, e: &Expr, splits: &mut Steps<L>) -> Result
 {
     let app = app(alloc)?;
     let ctx = Ctx {
-        viewer: Some(NOTE),
+        viewer: Some(Id(4096)),
         this: None,
         number: 2,
         around: None,
@@ -193,7 +189,7 @@ fn shows(
     hidden: &Value,
 ) -> Result<bool, Memory> {
     let none = Assignment::empty(alloc);
-    match none.with(alloc, TITLE) {
+    match none.with(alloc, Label(32768)) {
         Ok(all) => Ok(facet.at(&all) == shown && facet.at(&none) == hidden),
         Err(_) => Err(Memory),
     }

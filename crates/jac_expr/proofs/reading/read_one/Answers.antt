@@ -1,5 +1,4 @@
 use Rattle.std.proofs.Common.{rules, ◌≡◌, ◌∙◌, ap, sym, Some}
-use Rattle.jac_value.specs.declared.value.Value.{Value}
 use Rattle.jac_value.specs.declared.value.Value.TheVariants as value
 use Rattle.jac_rows.specs.Project.{rows_at, project_at}
 use Rattle.jac_rows.specs.Tables.{rows_of}

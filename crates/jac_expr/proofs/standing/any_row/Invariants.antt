@@ -1,6 +1,6 @@
-use Rattle.std.proofs.Common.{◌≡◌, ℕ, Bool, true, false, drop}
+use Rattle.std.proofs.Common.{◌≡◌, ℕ, Bool, false, drop}
 use Rattle.jac_value.specs.declared.value.Value.TheVariants as value
-use Rattle.jac_facet.specs.Shape.{at, one}
+use Rattle.jac_facet.specs.Shape.{at}
 use Rattle.jac_rows.specs.Project.{rows_at}
 use Rattle.jac_expr.specs.Leafed.{stood_by}
 use Rattle.jac_expr.proofs.standing.any_row.Given as goal
