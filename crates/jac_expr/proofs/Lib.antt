@@ -1,0 +1,4 @@
+pub mod Joining
+pub mod Names
+pub mod Rows
+pub mod Working

@@ -1,0 +1,28 @@
+-- What an assignment shows of a state, of the names in scope and of a value.
+use Rattle.std.specs.Prelude.{◌≡◌, ℕ, Bool, true, List, [], ◌∷◌}
+use Rattle.jac_value.specs.declared.value.Value.{Value}
+use Rattle.jac_world.specs.World.{holds}
+use Rattle.jac_facet.specs.Shape.{Shape, at}
+use Rattle.jac_lang.specs.declared.application.App.{App}
+use Rattle.jac_lang.specs.declared.bindings.Binding.{Binding}
+use Rattle.jac_lang.specs.Mirror.{application_of}
+use Rattle.jac_lang.specs.Syntax.{Expression}
+use Rattle.jac_rows.specs.Project.{project_at}
+use Rattle.jac_rows.specs.declared.state.State.{State}
+use Rattle.jac_plain.specs.declared.context.Ctx.{Ctx}
+use Rattle.jac_plain.specs.Expressions.{binding, mean}
+use Rattle.jac_plain.specs.World.{World}
+
+-- the world that an assignment shows
+abbrev pub world_at : App → Ctx → State → (ℕ → Bool) → World
+world_at app ctx s w =
+    record { models = (application_of app).models; this = ctx.this; viewer = ctx.viewer; tables = (project_at w s).tables }
+
+-- the bindings that an assignment shows
+abbrev pub env_at : (ℕ → Bool) → List (List ℕ × Shape Value) → List Binding
+env_at w [] = []
+env_at w (b ∷ bs) = binding b.0 (at w b.1) ∷ env_at w bs
+
+-- wherever the path condition holds the facet shows the value of the expression
+abbrev pub Means : App → Ctx → State → List (List ℕ × Shape Value) → List (ℕ × Bool) → Expression → Shape Value → Type 0
+Means app ctx s env pc e f = (w : ℕ → Bool) → holds w pc ≡ true → at w f ≡ mean (world_at app ctx s w) e (env_at w env)
