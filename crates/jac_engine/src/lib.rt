@@ -4,6 +4,7 @@
 mod answer;
 mod drafting;
 mod finding;
+mod laws;
 mod page;
 mod reading;
 mod refusal;
@@ -12,4 +13,5 @@ mod served;
 mod visiting;
 
 pub use answer::{Answer, Ask, Prepared, commit, prepare};
+pub use laws::start_after_request;
 pub use served::serves;
