@@ -16,6 +16,7 @@ use Rattle.jac_keep.specs.declared.alteration.Change.{Change}
 use Rattle.jac_keep.specs.Alterations.{overlaid_from, overlaid}
 use Rattle.jac_keep.specs.Kept.{applied}
 use Rattle.jac_keep.specs.Sound.{IsSound}
+use Rattle.jac_keep.proofs.WorkLaws.{overlaid_none}
 use Rattle.jac_engine.specs.declared.answer.Ask.{Ask}
 use Rattle.jac_engine.specs.Prepared.{visit_of, page_answer, Stores}
 use Rattle.jac_engine.specs.Ran.{ran_by}
@@ -100,14 +101,10 @@ alike_tables v w (t ∷ ts) bare = rw (alike_rows v w t bare.0, alike_tables v w
 pub alike : (v w : ℕ → Bool) (s : State) → AreUnguarded s.tables → project_at v s ≡ project_at w s
 alike v w s bare = ap (λ (ts : List (List PlainRow)). record { tables = ts; number = s.number }) (alike_tables v w s.tables bare)
 
-overlaid_none : (k : ℕ) (ts : List (List Row)) → overlaid_from k [] ts ≡ ts
-overlaid_none k [] = refl
-overlaid_none k (t ∷ ts) = ap (λ us. t ∷ us) (overlaid_none (k + 1) ts)
-
 -- a start with a number left is fit for the next one
 pub fit_start : SoundLaw → (app : Application) (s : State) (n : ℕ) → IsStart app s → n ≡ s.number → n < 2 ^ 40 → IsFit (n + 1) s
 fit_start law app s n start e few = record {
-  sound = rw (overlaid_none 0 s.tables) at (law (record { changed = []; number = n + 1 }) s start.sound (omega (arith, e)) (omega (arith, few)) tt);
+  sound = rw (overlaid_none s.tables) at (law (record { changed = []; number = n + 1 }) s start.sound (omega (arith, e)) (omega (arith, few)) tt);
   unguarded = start.unguarded;
 }
 
@@ -122,7 +119,7 @@ ran_page app v ask place n s is_view is_number = rw (is_view, is_number) refl
 
 ran_after : (app : Application) (v : View) (ask : Ask) (place n : ℕ) (s : State) → slice_get app.views place ≡ Some v → v.method ≡ verbs.Post → n ≡ s.number
     → record { tables = (ran_by app v ask n s).tables; number = n + 1 } ≡ after app (project_at (shown []) s) (visit_of app ask place)
-ran_after app v ask place n s is_view is_post is_number = rw (is_view, is_post, is_number) refl
+ran_after app v ask place n s is_view is_post is_number = rw (is_view, is_post, is_view, is_number) refl
 
 -- the change of a run stores what the interpreter leaves, in every world
 pub ran_stores : (app : Application) (v : View) (ask : Ask) (place n : ℕ) (s : State) (change : Change) → slice_get app.views place ≡ Some v → v.method ≡ verbs.Post

@@ -13,27 +13,12 @@ use Rattle.jac_keep.specs.Worked.{IsTold, IsUntouched}
 use Rattle.jac_rows.specs.declared.state.State.{State}
 use Rattle.jac_engine.specs.Running.{Reads}
 
-entity_at : (ms : List ModelDef) (i : ℕ) (m : ModelDef) → slice_get ms i ≡ Some m → slice_get (entities_of ms) i ≡ Some (entity_of m)
-entity_at [] i m h = cc
-entity_at (x ∷ xs) zero m h = let same : x ≡ m = cc in ap (λ (y : ModelDef). Some (entity_of y)) same
-entity_at (x ∷ xs) (suc i) m h = entity_at xs i m h
-
--- the fields of a model of the program
-pub fields_there : (ms : List ModelDef) (i : ℕ) (m : ModelDef) → slice_get ms i ≡ Some m → m.fields ≡ fields_at (entities_of ms) i
-fields_there ms i m h = rw (entity_at ms i m h) refl
-
 kind_seen : (models : List Entity) (f : Option Field) → kind_in models f ≡ kind_of_field models f
 kind_seen models None = refl
 kind_seen models (Some f) = refl
 
 pub kind_there : (models : List Entity) (fields : List Field) (f : ℕ) → kind_at models fields f ≡ kind_of_field models (slice_get fields f)
 kind_there models fields f = kind_seen models (slice_get fields f)
-
--- a place past the end is none
-pub set_past : {X : Type 0} → (xs : List X) (i : ℕ) (x : X) → length xs ≤ i → xs ≡ slice_set xs i x
-set_past [] i x h = refl
-set_past (y ∷ ys) zero x h = absurd (omega (arith, h))
-set_past (y ∷ ys) (suc i) x h = ap (λ zs. y ∷ zs) (set_past ys i x (omega (arith, h)))
 
 -- a value was read, and set into a cell
 pub record Drafting {K : Type 0} (tells : K → Bool) (state : K → State) (attached : K → Bool) (faults : K → ℕ) (old new : WorkOver K Alterations) (served here : Type 0) : Type 0 where

@@ -88,7 +88,6 @@ fn set_cell(alloc: Global, app: &App, model: u8, field: &Txt, value: Value, cell
     }
 }
 
-#[tactic(auto, using(crate::proofs::DraftLaws::set_past))]
 fn set_at(cells: &mut Vec<Value>, at: usize, value: Value)
     ensures { cells.new.items ≡ slice_set cells.old.items at value }
 {

@@ -4,12 +4,16 @@
 mod answer;
 mod drafting;
 mod finding;
+mod laws;
 mod page;
 mod reading;
 mod refusal;
 mod running;
 mod served;
+#[cfg(test)]
+mod tests;
 mod visiting;
 
 pub use answer::{Answer, Ask, Prepared, commit, prepare};
+pub use laws::start_after_request;
 pub use served::serves;

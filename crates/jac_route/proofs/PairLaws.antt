@@ -1,8 +1,6 @@
--- The first pair of a name in two lists, and how many models there are.
-use Rattle.std.proofs.Common.{◌≡◌, refl, ap, suc, Bool, true, false, if◌then◌else◌, ℕ, List, [], ◌∷◌, ◌++◌, length, Option, Some, None}
+-- The first pair of a name in two lists.
+use Rattle.std.proofs.Common.{◌≡◌, refl, Bool, true, false, if◌then◌else◌, ℕ, List, [], ◌∷◌, ◌++◌, Option, Some, None}
 use Rattle.std.specs.Str.{bytes_eq}
-use Rattle.jac_lang.specs.declared.schema.ModelDef.{ModelDef}
-use Rattle.jac_lang.specs.Mirror.{entities_of}
 use Rattle.jac_route.specs.declared.pairs.Pair.{Pair}
 use Rattle.jac_route.specs.Pairs.{value_of_name}
 
@@ -19,7 +17,3 @@ pub value_in_both : (name : List ℕ) (path rest : List Pair) → value_of_name 
 value_in_both name [] rest = refl
 value_in_both name (p ∷ ps) rest =
     chosen (bytes_eq p.name name) p.value (value_of_name name ps) (value_of_name name rest) (value_of_name name (ps ++ rest)) (value_in_both name ps rest)
-
-pub length_entities : (ms : List ModelDef) → length (entities_of ms) ≡ length ms
-length_entities [] = refl
-length_entities (m ∷ ms) = ap suc (length_entities ms)

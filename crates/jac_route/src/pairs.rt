@@ -106,10 +106,12 @@ fn add_pairs(alloc: Global, bytes: &[u8], pairs: &mut Vec<Pair>) -> Result<(), M
 pub(crate) fn find_value<'p>(pairs: &'p [Pair], name: &Txt) -> Option<&'p Txt>
     ensures { option_copied result ≡ value_of_name name.now pairs.now }
 {
-    'pairs: for pair in pairs {
+    let mut rest = pairs;
+    'pairs: while let Some((pair, more)) = rest.split_first() {
         if pair.name == *name {
             return Some(&pair.value);
         }
+        rest = more;
     }
     None
 }

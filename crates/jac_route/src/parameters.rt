@@ -105,7 +105,6 @@ fn place_or_count(app: &App, name: &Txt) -> u8
     }
 }
 
-#[tactic(auto, using(crate::proofs::PairLaws::length_entities))]
 fn count(models: &Models) -> u8
     ensures { result ≡ length (entities_of models.now) }
 {
