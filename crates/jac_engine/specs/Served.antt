@@ -9,17 +9,11 @@ use Rattle.jac_lang.specs.declared.queries.Order.{Order}
 use Rattle.jac_lang.specs.declared.queries.Order.TheVariants as orders
 use Rattle.jac_lang.specs.Syntax.{Expression, Assigned, Question, Statement, Statements, FieldGroup, Entity, Page, Application}
 use Rattle.jac_plain.specs.Expressions.{is_single}
+use Rattle.jac_expr.specs.Asking.{has_no_query}
 
-abbrev pub is_name : Expression → Bool
-is_name (Expression.name x) = true
-is_name e = false
-
--- a text, a name, or a field of the record that a name refers to
+-- any expression without a query
 abbrev pub is_served_value : Expression → Bool
-is_served_value (Expression.text t) = true
-is_served_value (Expression.name x) = true
-is_served_value (Expression.get m f e) = is_name e
-is_served_value e = false
+is_served_value e = has_no_query e
 
 abbrev pub are_served_cells : List Assigned → Bool
 are_served_cells [] = true

@@ -57,7 +57,7 @@ pub fn prepare<K: Keeper, L: Ledger>(
     app: &App,
     keeper: &mut K,
     ask: &Ask,
-    _splits: &mut Steps<L>,
+    splits: &mut Steps<L>,
 ) -> Result<Prepared, Stop>
     requires attached { IsTrue (K.attached keeper.old) }
     requires served { are_served (application_of app.now) ≡ true }
@@ -75,16 +75,17 @@ pub fn prepare<K: Keeper, L: Ledger>(
         let prepared = refuse_path(alloc, get, post)?;
         return Ok(prepared);
     };
-    let prepared = answer_view(alloc, app, keeper, ask, place)?;
+    let prepared = answer_view(alloc, app, keeper, ask, place, splits)?;
     Ok(prepared)
 }
 
-fn answer_view<K: Keeper>(
+fn answer_view<K: Keeper, L: Ledger>(
     alloc: Global,
     app: &App,
     keeper: &mut K,
     ask: &Ask,
     place: usize,
+    splits: &mut Steps<L>,
 ) -> Result<Prepared, Stop>
     requires attached { IsTrue (K.attached keeper.old) }
     requires served { are_served (application_of app.now) ≡ true }
@@ -99,24 +100,25 @@ fn answer_view<K: Keeper>(
     let view = view_at(app, place);
     match view.method {
         Verb::Get => {
-            let prepared = show(alloc, app, keeper, ask, place, view)?;
+            let prepared = show(alloc, app, keeper, ask, place, view, splits)?;
             Ok(prepared)
         }
         Verb::Post => {
-            let prepared = store(alloc, app, keeper, ask, place, view)?;
+            let prepared = store(alloc, app, keeper, ask, place, view, splits)?;
             Ok(prepared)
         }
     }
 }
 
 // The page of a view that shows records.
-fn show<K: Keeper>(
+fn show<K: Keeper, L: Ledger>(
     alloc: Global,
     app: &App,
     keeper: &mut K,
     ask: &Ask,
     place: usize,
     view: &View,
+    splits: &mut Steps<L>,
 ) -> Result<Prepared, Stop>
     requires attached { IsTrue (K.attached keeper.old) }
     requires start { IsTrue (K.tells keeper.old) → IsStart (application_of app.now) (K.state keeper.old) }
@@ -129,7 +131,7 @@ fn show<K: Keeper>(
     ensures attached { K.attached keeper.new ≡ K.attached keeper.old }
 {
     let number = keeper.number()?;
-    let page = shown_page(alloc, app, keeper, ask, view, number)?;
+    let page = shown_page(alloc, app, keeper, ask, view, number, splits)?;
     Ok(Prepared {
         answer: answer_of(alloc, page),
         change: None,
@@ -137,13 +139,14 @@ fn show<K: Keeper>(
 }
 
 // The page of a view that makes records, and these, while there are numbers.
-fn store<K: Keeper>(
+fn store<K: Keeper, L: Ledger>(
     alloc: Global,
     app: &App,
     keeper: &mut K,
     ask: &Ask,
     place: usize,
     view: &View,
+    splits: &mut Steps<L>,
 ) -> Result<Prepared, Stop>
     requires attached { IsTrue (K.attached keeper.old) }
     requires start { IsTrue (K.tells keeper.old) → IsStart (application_of app.now) (K.state keeper.old) }
@@ -162,7 +165,7 @@ fn store<K: Keeper>(
         let prepared = refuse(alloc, 507, None)?;
         return Ok(prepared);
     }
-    let stored = stored_page(alloc, app, keeper, ask, view, number)?;
+    let stored = stored_page(alloc, app, keeper, ask, view, number, splits)?;
     Ok(Prepared {
         answer: answer_of(alloc, stored.page),
         change: Some(stored.change),

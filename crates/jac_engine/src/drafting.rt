@@ -17,12 +17,13 @@ use jac_lang::{App, Binding, Field, ModelDef, Publics, field_of, kind_of};
 use jac_plain::Ctx;
 use jac_route::kind_by_name;
 use jac_value::{Cells, Kind, Memory, Txt, Value, default_of, is_id};
-use jac_world::Assignment;
+use jac_world::{Assignment, Steps};
 use std::alloc::Global;
+use std::sync::ledger::Ledger;
 
 /// The cells of a new record of the model: the named ones as they are to be, and the others by default.
 #[tactic(auto, using(crate::proofs::DraftLaws::reads_then, crate::proofs::DraftLaws::reads_none))]
-pub(crate) fn draft<K: Keeper>(
+pub(crate) fn draft<K: Keeper, L: Ledger>(
     work: &mut Work<'_, K>,
     alloc: Global,
     app: &App,
@@ -31,6 +32,7 @@ pub(crate) fn draft<K: Keeper>(
     env: &[Binding],
     model: u8,
     cells: &Publics,
+    splits: &mut Steps<L>,
 ) -> Result<Cells, Stop>
     requires attached { IsTrue (K.attached work.old.keeper.now) }
     requires served { are_served_cells (assigned_of cells.now) ≡ true }
@@ -42,7 +44,7 @@ pub(crate) fn draft<K: Keeper>(
     let mut out = default_values(alloc, app, model)?;
     let mut left = cells;
     'cells: while let Publics::More(first, rest) = left {
-        let value = value_here(work, alloc, app, ctx, assignment, env, &first.value)?;
+        let value = value_here(work, alloc, app, ctx, assignment, env, &first.value, splits)?;
         set_cell(alloc, app, model, &first.field, value, &mut out);
         left = rest;
     }

@@ -2,9 +2,10 @@
 ghost use Rattle.std.specs.Prelude.{◌≡◌};
 ghost use Rattle.jac_lang.specs.Mirror.{application_of, entities_of, groups_of, pages_of, page_of, binders_of, expression_of, question_of, assigned_of, statement_of, statements_of};
 ghost use Rattle.jac_plain.specs.Expressions.{is_single};
-ghost use Rattle.jac_engine.specs.Served.{are_served, are_without_groups, is_none, are_served_views, is_served_view, is_served_body, have_own_routes, is_fixed, are_showing, is_showing, are_making, is_making, is_served_value, is_name, has_none, are_served_cells, is_served_query, is_always, is_by_id};
+ghost use Rattle.jac_engine.specs.Served.{are_served, are_without_groups, is_none, are_served_views, is_served_view, is_served_body, have_own_routes, is_fixed, are_showing, is_showing, are_making, is_making, is_served_value, has_none, are_served_cells, is_served_query, is_always, is_by_id};
 
 use crate::finding::has_at;
+use jac_expr::asks_nothing;
 use jac_lang::{
     App, Binders, Expr, Group, ModelDef, Order, Publics, Query, Stmt, Stmts, Verb, View,
 };
@@ -158,20 +159,7 @@ fn serves_cells(cells: &Publics) -> bool
 fn serves_value(e: &Expr) -> bool
     ensures { result ≡ is_served_value (expression_of e.now) }
 {
-    match e {
-        Expr::Text(_) | Expr::Name(_) => true,
-        Expr::Get(_, _, of) => is_a_name(of),
-        _ => false,
-    }
-}
-
-fn is_a_name(e: &Expr) -> bool
-    ensures { result ≡ is_name (expression_of e.now) }
-{
-    match e {
-        Expr::Name(_) => true,
-        _ => false,
-    }
+    asks_nothing(e)
 }
 
 fn serves_query(query: &Query) -> bool

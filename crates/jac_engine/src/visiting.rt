@@ -17,8 +17,9 @@ use jac_keep::{Change, Keeper, Stop, Work};
 use jac_lang::{App, View};
 use jac_plain::{Ctx, Page};
 use jac_route::{Pairs, bind};
-use jac_world::Assignment;
+use jac_world::{Assignment, Steps};
 use std::alloc::Global;
+use std::sync::ledger::Ledger;
 
 /// A page, and what is to be stored with it.
 #[derive(Drop)]
@@ -28,13 +29,14 @@ pub(crate) struct Stored {
 }
 
 /// The page of the view.
-pub(crate) fn shown_page<K: Keeper>(
+pub(crate) fn shown_page<K: Keeper, L: Ledger>(
     alloc: Global,
     app: &App,
     keeper: &mut K,
     ask: &Ask,
     view: &View,
     number: u64,
+    splits: &mut Steps<L>,
 ) -> Result<Page, Stop>
     requires attached { IsTrue (K.attached keeper.old) }
     requires tables { IsTrue (K.tells keeper.old) → length app.now.models ≤ length (K.state keeper.old).tables }
@@ -47,18 +49,19 @@ pub(crate) fn shown_page<K: Keeper>(
     ensures attached { K.attached keeper.new ≡ K.attached keeper.old }
 {
     let mut work = Work::new(alloc, keeper);
-    let page = run_view(&mut work, alloc, app, ask, view, number)?;
+    let page = run_view(&mut work, alloc, app, ask, view, number, splits)?;
     Ok(page)
 }
 
 /// The page of the view, and what its run stores.
-pub(crate) fn stored_page<K: Keeper>(
+pub(crate) fn stored_page<K: Keeper, L: Ledger>(
     alloc: Global,
     app: &App,
     keeper: &mut K,
     ask: &Ask,
     view: &View,
     number: u64,
+    splits: &mut Steps<L>,
 ) -> Result<Stored, Stop>
     requires attached { IsTrue (K.attached keeper.old) }
     requires tables { IsTrue (K.tells keeper.old) → length app.now.models ≤ length (K.state keeper.old).tables }
@@ -75,19 +78,20 @@ pub(crate) fn stored_page<K: Keeper>(
     ensures attached { K.attached keeper.new ≡ K.attached keeper.old }
 {
     let mut work = Work::new(alloc, keeper);
-    let page = run_view(&mut work, alloc, app, ask, view, number)?;
+    let page = run_view(&mut work, alloc, app, ask, view, number, splits)?;
     let change = work.into_change(number + 1)?;
     Ok(Stored { page, change })
 }
 
 // Runs the statements of the view.
-fn run_view<K: Keeper>(
+fn run_view<K: Keeper, L: Ledger>(
     work: &mut Work<'_, K>,
     alloc: Global,
     app: &App,
     ask: &Ask,
     view: &View,
     number: u64,
+    splits: &mut Steps<L>,
 ) -> Result<Page, Stop>
     requires attached { IsTrue (K.attached work.old.keeper.now) }
     requires tables { IsTrue (K.tells work.old.keeper.now) → length app.now.models ≤ length (K.state work.old.keeper.now).tables }
@@ -110,7 +114,7 @@ fn run_view<K: Keeper>(
     };
     let nobody = Assignment::empty(alloc);
     exec(
-        work, alloc, app, &ctx, &nobody, &mut env, &mut out, &view.body,
+        work, alloc, app, &ctx, &nobody, &mut env, &mut out, &view.body, splits,
     )?;
     let page = make_page(alloc, out.as_slice())?;
     Ok(page)

@@ -8,7 +8,7 @@ use Rattle.jac_lang.specs.Lookup.{same_text}
 use Rattle.jac_plain.specs.Expressions.{look, look_from, binding}
 use Rattle.jac_expr.specs.Seen.{env_at}
 
-env_at-append : (w : ℕ → Bool) (bs cs : List (List ℕ × Shape Value)) → env_at w (bs ++ cs) ≡ env_at w bs ++ env_at w cs
+pub env_at-append : (w : ℕ → Bool) (bs cs : List (List ℕ × Shape Value)) → env_at w (bs ++ cs) ≡ env_at w bs ++ env_at w cs
 env_at-append w [] cs = refl
 env_at-append w (b ∷ bs) cs = ap (λ e. binding b.0 (at w b.1) ∷ e) (env_at-append w bs cs)
 
