@@ -10,8 +10,6 @@ mod reading;
 mod refusal;
 mod running;
 mod served;
-#[cfg(test)]
-mod tests;
 mod visiting;
 
 pub use answer::{Answer, Ask, Prepared, commit, prepare};
