@@ -1,9 +1,9 @@
 -- From the run of a view to the answer of a request.
-use Rattle.std.proofs.Common.{◌≡◌, ◌<◌, ◌≤◌, ◌+◌, ◌^◌, refl, sym, ap, ◌∙◌, arith, zero, suc, ℕ, Bool, true, false, ◌&&◌, nat_lt, List, [], ◌∷◌, length, map, Some, None}
+use Rattle.std.proofs.Common.{◌≡◌, ◌<◌, ◌+◌, ◌^◌, refl, ap, ◌∙◌, arith, zero, suc, ℕ, Bool, true, ◌&&◌, nat_lt, List, [], ◌∷◌, length, map, Some}
 use Rattle.std.proofs.lemmas.Bool.{and_parts}
 use Rattle.std.specs.List.{AllByRecursion}
 use Rattle.std.specs.Prelude.{slice_get}
-use Rattle.jac_lang.specs.Syntax.{Expression, Question, Assigned, Statement, Statements, Page as View, Application}
+use Rattle.jac_lang.specs.Syntax.{Statement, Statements, Page as View, Application}
 use Rattle.jac_lang.specs.declared.pages.Verb.TheVariants as verbs
 use Rattle.jac_world.specs.World.{shown}
 use Rattle.jac_rows.specs.Project.{rows_at, project_at}
@@ -13,15 +13,14 @@ use Rattle.jac_rows.specs.declared.state.State.{State}
 use Rattle.jac_plain.specs.Requests.{page, page_of, after}
 use Rattle.jac_keep.specs.declared.alteration.Alteration.{Alteration}
 use Rattle.jac_keep.specs.declared.alteration.Change.{Change}
-use Rattle.jac_keep.specs.Alterations.{overlaid_from, overlaid}
+use Rattle.jac_keep.specs.Alterations.{overlaid_from}
 use Rattle.jac_keep.specs.Kept.{applied}
-use Rattle.jac_keep.specs.Sound.{IsSound}
 use Rattle.jac_keep.proofs.WorkLaws.{overlaid_none}
 use Rattle.jac_engine.specs.declared.answer.Ask.{Ask}
 use Rattle.jac_engine.specs.Prepared.{visit_of, page_answer, Stores}
 use Rattle.jac_engine.specs.Ran.{ran_by}
 use Rattle.jac_engine.specs.Running.{IsRunnable, AreRunnable, IsFit}
-use Rattle.jac_engine.specs.Served.{is_served_value, are_served_cells, is_served_query, is_showing, are_showing, is_making, are_making, is_fixed, is_served_body, is_served_view, are_served_views, are_without_groups, have_own_routes, are_served}
+use Rattle.jac_engine.specs.Served.{are_served_cells, is_served_query, is_showing, are_showing, is_making, are_making, is_fixed, is_served_body, is_served_view, are_served_views, are_without_groups, have_own_routes, are_served}
 use Rattle.jac_engine.specs.Start.{AreUnguarded, IsStart}
 use Rattle.jac_engine.proofs.RecordLaws.{SoundLaw, IsBare}
 

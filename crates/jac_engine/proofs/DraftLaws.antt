@@ -1,10 +1,8 @@
 -- The cells of a new record.
-use Rattle.std.proofs.Common.{◌≡◌, ◌≤◌, Bool, refl, sym, ap, ◌∙◌, arith, zero, suc, ℕ, List, [], ◌∷◌, length, Option, Some, None}
-use Rattle.std.specs.Prelude.{slice_get, slice_set}
+use Rattle.std.proofs.Common.{◌≡◌, ◌≤◌, Bool, refl, ◌∙◌, ℕ, List, Option, Some, None}
+use Rattle.std.specs.Prelude.{slice_get}
 use Rattle.jac_lang.specs.declared.field_kinds.Field.{Field}
-use Rattle.jac_lang.specs.declared.schema.ModelDef.{ModelDef}
-use Rattle.jac_lang.specs.Lookup.{fields_at, kind_in, kind_at}
-use Rattle.jac_lang.specs.Mirror.{entity_of, entities_of}
+use Rattle.jac_lang.specs.Lookup.{kind_in, kind_at}
 use Rattle.jac_lang.specs.Syntax.{Entity}
 use Rattle.jac_plain.specs.Statements.{kind_of_field}
 use Rattle.jac_keep.specs.declared.alteration.Alterations.{Alterations}

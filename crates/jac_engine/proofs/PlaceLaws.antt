@@ -1,5 +1,5 @@
 -- A place among the views of the program is the place among what they stand for.
-use Rattle.std.proofs.Common.{◌≡◌, ℕ, ◌+◌, ◌≤◌, arith, false, Bool, not, nat_lt, cond, zero, suc, List, [], ◌∷◌, length, refl, sym, ◌∙◌, ap, Some, None}
+use Rattle.std.proofs.Common.{◌≡◌, ℕ, ◌≤◌, arith, false, Bool, zero, suc, List, [], ◌∷◌, length, refl, ap, Some}
 use Rattle.std.specs.Prelude.{position, slice_get}
 use Rattle.jac_lang.specs.Mirror.{page_of, pages_of, groups_of}
 use Rattle.jac_lang.proofs.Places.{position-seen}

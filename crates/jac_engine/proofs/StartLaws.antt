@@ -1,5 +1,5 @@
 -- What a prepared request leaves.
-use Rattle.std.proofs.Common.{◌≡◌, ℕ, Bool, IsTrue, ◌⊎◌, inl, inr, Option, Some, None}
+use Rattle.std.proofs.Common.{Bool, IsTrue, inl, inr, Option, Some, None}
 use Rattle.std.specs.Prelude.{IfSome, slice_get}
 use Rattle.jac_lang.specs.Syntax.{Application}
 use Rattle.jac_lang.specs.declared.pages.Verb.{Verb}

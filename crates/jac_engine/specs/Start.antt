@@ -1,5 +1,5 @@
 -- The states that requests are answered on.
-use Rattle.std.specs.Prelude.{◌≡◌, ℕ, ◌≤◌, List, [], ◌∷◌, ⊤, length}
+use Rattle.std.specs.Prelude.{◌≡◌, ◌≤◌, List, [], ◌∷◌, ⊤, length}
 use Rattle.std.specs.List.{AllByRecursion}
 use Rattle.jac_lang.specs.Syntax.{Application}
 use Rattle.jac_rows.specs.declared.row.Row.{Row}

@@ -1,4 +1,4 @@
-use Rattle.std.proofs.Common.{◌≡◌, ◌<◌, ◌+◌, ◌^◌, ◌∙◌, sym, ap, refl, inr, arith}
+use Rattle.std.proofs.Common.{◌<◌, ◌+◌, ◌^◌, ◌∙◌, sym, ap, refl, inr, arith}
 use Rattle.jac_lang.specs.Mirror.{application_of, page_of}
 use Rattle.jac_lang.proofs.Places.{length-entities}
 use Rattle.jac_engine.specs.Prepared.{page_answer}

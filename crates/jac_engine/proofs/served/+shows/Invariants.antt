@@ -1,4 +1,4 @@
-use Rattle.std.proofs.Common.{◌≡◌, ◌≤◌, ◌*◌}
+use Rattle.std.proofs.Common.{◌≡◌, ◌≤◌}
 use Rattle.jac_lang.specs.declared.statements.Stmt.{size-Stmt}
 use Rattle.jac_lang.specs.declared.statements.Stmts.{size-Stmts}
 use Rattle.jac_lang.specs.Mirror.{statements_of}
