@@ -5,8 +5,8 @@ ghost use Rattle.jac_tree.specs.Mirror.{plain};
 ghost use Rattle.jac_engine.specs.Served.{are_served};
 ghost use Rattle.jac_app.specs.Application.{served_application, IsApplication};
 
-use jac_forms::{FormFault, app_of};
 use jac_engine::serves;
+use jac_forms::{FormFault, app_of};
 use jac_lang::App;
 use jac_tree::{Tree, TreeFault, read_tree};
 use jac_value::Memory;
