@@ -85,14 +85,15 @@ fn run_words(
     requires from_one { 1 ≤ number }
     requires in_range { number ≤ 2 ^ 40 }
 {
-    run_counted::<Brand>(alloc, words, app, events, number, fails, Blank::new(1))
+    let words = words_of(alloc, words)?;
+    let files = files_of(alloc, app, events)?;
+    run_counted::<Brand>(alloc, words.as_slice(), files, number, fails, Blank::new(1))
 }
 
 fn run_counted<L: Ledger>(
     alloc: Global,
-    words: &[&str],
-    app: &str,
-    events: &[u8],
+    words: &[Txt],
+    files: MemoryFiles,
     number: u64,
     fails: Fails,
     blank: Blank,
@@ -103,8 +104,7 @@ fn run_counted<L: Ledger>(
     requires parts { blank.parts ≡ L.parts }
     requires some { 0 < blank.parts }
 {
-    let words = words_of(alloc, words)?;
-    let mut files = files_of(alloc, app, events)?;
+    let mut files = files;
     let mut out = MemorySink::new(alloc, 4096, fails.out)?;
     let mut audit = MemorySink::new(alloc, 4096, fails.audit)?;
     let state = empty_state(alloc, number)?;
@@ -112,7 +112,7 @@ fn run_counted<L: Ledger>(
     let mut splits: Steps<L> = Steps::new(blank);
     let status = run(
         alloc,
-        words.as_slice(),
+        words,
         &mut files,
         &mut out,
         &mut audit,
