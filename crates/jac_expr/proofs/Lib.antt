@@ -1,4 +1,7 @@
+pub mod AtTuples
+pub mod Bound
 pub mod Joining
 pub mod Names
 pub mod Rows
+pub mod Widths
 pub mod Working

@@ -1,3 +1,3 @@
-pub mod Asking
 pub mod Leafed
 pub mod Seen
+pub mod Tupled

@@ -1,19 +1,21 @@
-//! The values of expressions over faceted rows, for all assignments at once.
+//! The values of expressions and the answers of queries over faceted rows, for all assignments at once.
 #![tactic(auto)]
 
-mod asking;
+mod binding;
 mod choosing;
 mod env;
 mod evaluation;
+mod marking;
 mod naming;
 mod operations;
+mod product;
 mod reading;
+mod sorting;
 mod standing;
 #[cfg(test)]
 mod tests;
 mod texts;
 
-pub use asking::asks_nothing;
 pub use env::Env;
-pub use evaluation::eval;
+pub use evaluation::{eval, tuples};
 pub use jac_plain::Ctx;

@@ -2,8 +2,6 @@ ghost use Rattle.std.specs.Prelude.{◌≡◌, ◌≤◌, ◌<◌, ◌∷◌, []
 ghost use Rattle.std.specs.List.{AllByRecursion};
 ghost use Rattle.jac_rows.specs.declared.row.Row.{Row as Seen};
 ghost use Rattle.jac_keep.specs.Sound.{IsSound, IsMade};
-ghost use Rattle.jac_lang.specs.Mirror.{expression_of, expressions_of};
-ghost use Rattle.jac_expr.specs.Asking.{has_no_query, have_no_query};
 
 use crate::{Ctx, Env, eval};
 use jac_facet::Facet;
@@ -94,9 +92,11 @@ fn app(alloc: Global) -> Result<App, Memory> {
     })
 }
 
-fn value_of<L: Ledger>(alloc: Global, e: &Expr, splits: &mut Steps<L>) -> Result<Facet<Value>, Stop>
-    requires { has_no_query (expression_of e.now) ≡ true }
-{
+fn value_of<L: Ledger>(
+    alloc: Global,
+    e: &Expr,
+    splits: &mut Steps<L>,
+) -> Result<Facet<Value>, Stop> {
     let app = app(alloc)?;
     let ctx = Ctx {
         viewer: Some(Id(4096)),
@@ -114,37 +114,25 @@ fn value_of<L: Ledger>(alloc: Global, e: &Expr, splits: &mut Steps<L>) -> Result
     Ok(value)
 }
 
-fn two(alloc: Global, op: Op, a: Expr, b: Expr) -> Result<Expr, Memory>
-    requires a { has_no_query (expression_of a) ≡ true }
-    requires b { has_no_query (expression_of b) ≡ true }
-    ensures { IfOk result (λ e. has_no_query (expression_of e) ≡ true) }
-{
+fn two(alloc: Global, op: Op, a: Expr, b: Expr) -> Result<Expr, Memory> {
     let a = Box::new(alloc, a)?;
     let b = Box::new(alloc, b)?;
     Ok(Expr::Two(op, a, b))
 }
 
-fn text(alloc: Global, text: &str) -> Result<Expr, Memory>
-    ensures { IfOk result (λ e. has_no_query (expression_of e) ≡ true) }
-{
+fn text(alloc: Global, text: &str) -> Result<Expr, Memory> {
     let text = Txt::from_str(alloc, text)?;
     Ok(Expr::Text(text))
 }
 
-fn more(alloc: Global, part: Expr, rest: Exprs) -> Result<Exprs, Memory>
-    requires part { has_no_query (expression_of part) ≡ true }
-    requires rest { have_no_query (expressions_of rest) ≡ true }
-    ensures { IfOk result (λ es. have_no_query (expressions_of es) ≡ true) }
-{
+fn more(alloc: Global, part: Expr, rest: Exprs) -> Result<Exprs, Memory> {
     let part = Box::new(alloc, part)?;
     let rest = Box::new(alloc, rest)?;
     Ok(Exprs::More(part, rest))
 }
 
 // The choice between two letters by their order.
-fn choice(alloc: Global) -> Result<Expr, Memory>
-    ensures { IfOk result (λ e. has_no_query (expression_of e) ≡ true) }
-{
+fn choice(alloc: Global) -> Result<Expr, Memory> {
     let less = two(alloc, Op::Lt, text(alloc, "a")?, text(alloc, "b")?)?;
     let less = Box::new(alloc, less)?;
     let first = Box::new(alloc, text(alloc, "y")?)?;
@@ -152,9 +140,7 @@ fn choice(alloc: Global) -> Result<Expr, Memory>
     Ok(Expr::Pick(less, first, second))
 }
 
-fn joined(alloc: Global) -> Result<Expr, Memory>
-    ensures { IfOk result (λ e. has_no_query (expression_of e) ≡ true) }
-{
+fn joined(alloc: Global) -> Result<Expr, Memory> {
     let difference = two(alloc, Op::Sub, Expr::Int(2), Expr::Int(5))?;
     let number = Expr::Str(Box::new(alloc, difference)?);
     let parts = more(alloc, choice(alloc)?, Exprs::End)?;
@@ -162,17 +148,13 @@ fn joined(alloc: Global) -> Result<Expr, Memory>
     Ok(Expr::Cat(parts))
 }
 
-fn title(alloc: Global) -> Result<Expr, Memory>
-    ensures { IfOk result (λ e. has_no_query (expression_of e) ≡ true) }
-{
+fn title(alloc: Global) -> Result<Expr, Memory> {
     let model = Txt::from_str(alloc, "Note")?;
     let field = Txt::from_str(alloc, "title")?;
     Ok(Expr::Get(model, field, Box::new(alloc, Expr::Viewer)?))
 }
 
-fn named(alloc: Global) -> Result<Expr, Memory>
-    ensures { IfOk result (λ e. has_no_query (expression_of e) ≡ true) }
-{
+fn named(alloc: Global) -> Result<Expr, Memory> {
     let live = Expr::Live(Box::new(alloc, Expr::Viewer)?);
     let name = Expr::Name(Txt::from_str(alloc, "x")?);
     let condition = Box::new(alloc, Expr::Not(Box::new(alloc, live)?))?;

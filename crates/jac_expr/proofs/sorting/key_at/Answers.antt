@@ -1,0 +1,10 @@
+use Rattle.std.proofs.Common.{ap, ◌∙◌}
+use Rattle.jac_keep.specs.Worked.{state_of}
+use Rattle.jac_plain.specs.World.{got}
+use Rattle.jac_expr.specs.Seen.{world_at}
+use Rattle.jac_expr.proofs.sorting.key_at.Goals as goal
+
+pub returns-clause-key : goal.returns-clause-key
+returns-clause-key g c told ctx w held =
+    c.in_ok-key.ensures.value told ctx w held
+    ∙ ap (got (world_at c.args.app.now ctx (state_of g.K.Keeper.state c.args.work.now) w) c.args.model.now c.args.field.now) (c.in_ok-record.ensures w)

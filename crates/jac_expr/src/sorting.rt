@@ -1,0 +1,157 @@
+//! Tuples in the order of a field.
+ghost use Rattle.std.specs.Prelude.{◌≡◌, ℕ, Bool, true, List, [], length, IfOk, IsTrue};
+ghost use Rattle.jac_facet.specs.Shape.{at};
+ghost use Rattle.jac_lang.specs.Mirror.{binders_of};
+ghost use Rattle.jac_keep.specs.Cause.{HasCause};
+ghost use Rattle.jac_keep.specs.Worked.{state_of, IsTold, IsUntouched};
+ghost use Rattle.jac_world.specs.World.{holds};
+ghost use Rattle.jac_plain.specs.Expressions.{bound, look, key_of, ordered, sorted};
+ghost use Rattle.jac_plain.specs.World.{got};
+ghost use Rattle.jac_plain.specs.declared.context.Ctx.{Ctx as Context};
+ghost use Rattle.jac_query.specs.Live.{live, all_ids};
+ghost use Rattle.jac_query.specs.Marked.{marked};
+ghost use Rattle.jac_query.specs.Sorted.{value_less};
+ghost use Rattle.jac_expr.specs.Seen.{world_at};
+ghost use Rattle.jac_expr.specs.Tupled.{each_with};
+
+use crate::Env;
+use crate::binding::{bind_tuple, binder_model};
+use crate::naming::look_up;
+use crate::reading::get;
+use jac_facet::{Facet, Facets};
+use jac_keep::{Keeper, Stop, Work};
+use jac_lang::{App, Binders, Order};
+use jac_query::{Tuple, Tuples, order};
+use jac_value::{Memory, Txt, Value};
+use jac_world::Steps;
+use std::alloc::Global;
+use std::sync::ledger::Ledger;
+
+/// The tuples in the order that the query asks for.
+pub(crate) fn sort<K: Keeper, L: Ledger>(
+    alloc: Global,
+    work: &mut Work<'_, K>,
+    app: &App,
+    binders: &Binders,
+    by: &Order,
+    tuples: Tuples,
+    splits: &mut Steps<L>,
+) -> Result<Tuples, Stop>
+    requires { IsTrue (K.attached work.old.keeper.now) }
+    ensures sorted { IsTold K.tells K.state work.old → IfOk result (λ ts. (ctx : Context) (w : ℕ → Bool) → live w ts ≡ ordered (world_at app.now ctx (state_of K.state work.old) w) (binders_of binders.now) by.now (live w tuples)) }
+    ensures ids { IfOk result (λ ts. (p : List ℕ → Bool) → all_ids p tuples ≡ true → all_ids p ts ≡ true) }
+    ensures cause { HasCause (K.faults work.old.keeper.now) (K.faults work.new.keeper.now) result }
+    ensures same { IsUntouched K.tells K.state K.attached work.old work.new }
+{
+    match by {
+        Order::Key => Ok(tuples),
+        Order::Up(name, field) => {
+            sort_by(
+                alloc, work, app, binders, name, field, false, &tuples, splits,
+            )
+        }
+        Order::Down(name, field) => {
+            sort_by(
+                alloc, work, app, binders, name, field, true, &tuples, splits,
+            )
+        }
+    }
+}
+
+// The tuples in the order of the field of this binder's records.
+fn sort_by<K: Keeper, L: Ledger>(
+    alloc: Global,
+    work: &mut Work<'_, K>,
+    app: &App,
+    binders: &Binders,
+    name: &Txt,
+    field: &Txt,
+    down: bool,
+    tuples: &Tuples,
+    splits: &mut Steps<L>,
+) -> Result<Tuples, Stop>
+    requires { IsTrue (K.attached work.old.keeper.now) }
+    ensures sorted { IsTold K.tells K.state work.old → IfOk result (λ ts. (ctx : Context) (w : ℕ → Bool) → live w ts ≡ sorted (value_less down) (key_of (world_at app.now ctx (state_of K.state work.old) w) (binders_of binders.now) name.now field.now) (live w tuples.now)) }
+    ensures ids { IfOk result (λ ts. (p : List ℕ → Bool) → all_ids p tuples.now ≡ true → all_ids p ts ≡ true) }
+    ensures cause { HasCause (K.faults work.old.keeper.now) (K.faults work.new.keeper.now) result }
+    ensures same { IsUntouched K.tells K.state K.attached work.old work.new }
+{
+    let all = tuples.as_slice();
+    let keys = keys_of(alloc, work, app, binders, name, field, all, splits)?;
+    let sorted = order(alloc, tuples, &keys, down, splits)?;
+    Ok(sorted)
+}
+
+// The field of this binder's record, of each tuple.
+fn keys_of<K: Keeper, L: Ledger>(
+    alloc: Global,
+    work: &mut Work<'_, K>,
+    app: &App,
+    binders: &Binders,
+    name: &Txt,
+    field: &Txt,
+    tuples: &[Tuple],
+    splits: &mut Steps<L>,
+) -> Result<Facets<Value>, Stop>
+    requires { IsTrue (K.attached work.old.keeper.now) }
+    ensures keys { IsTold K.tells K.state work.old → IfOk result (λ ks. (ctx : Context) (w : ℕ → Bool) → marked w tuples.now ks ≡ each_with (key_of (world_at app.now ctx (state_of K.state work.old) w) (binders_of binders.now) name.now field.now) (live w tuples.now)) }
+    ensures length { IfOk result (λ ks. length tuples.now ≡ length ks) }
+    ensures cause { HasCause (K.faults work.old.keeper.now) (K.faults work.new.keeper.now) result }
+    ensures same { IsUntouched K.tells K.state K.attached work.old work.new }
+{
+    let model = binder_model(alloc, binders, name)?;
+    let mut keys = Vec::new(alloc);
+    'tuples: for tuple in tuples {
+        let key = key_at(
+            alloc, work, app, binders, &model, name, field, tuple, splits,
+        )?;
+        keys.push(key)?;
+    }
+    Ok(Facets::from_vec(keys))
+}
+
+// The field of this binder's record, wherever the tuple holds.
+fn key_at<K: Keeper, L: Ledger>(
+    alloc: Global,
+    work: &mut Work<'_, K>,
+    app: &App,
+    binders: &Binders,
+    model: &Txt,
+    name: &Txt,
+    field: &Txt,
+    tuple: &Tuple,
+    splits: &mut Steps<L>,
+) -> Result<Facet<Value>, Stop>
+    requires { IsTrue (K.attached work.old.keeper.now) }
+    ensures key { IsTold K.tells K.state work.old → IfOk result (λ f. (ctx : Context) (w : ℕ → Bool) → holds w tuple.now.guard ≡ true → at w f ≡ got (world_at app.now ctx (state_of K.state work.old) w) model.now field.now (look (bound (binders_of binders.now) tuple.now.ids []) name.now)) }
+    ensures cause { HasCause (K.faults work.old.keeper.now) (K.faults work.new.keeper.now) result }
+    ensures same { IsUntouched K.tells K.state K.attached work.old work.new }
+{
+    let record = bound_name(alloc, binders, tuple, name)?;
+    let key = get(
+        alloc,
+        work,
+        app,
+        &tuple.guard,
+        model,
+        field,
+        &record,
+        splits,
+    )?;
+    Ok(key)
+}
+
+// The record of the binder of this name.
+fn bound_name(
+    alloc: Global,
+    binders: &Binders,
+    tuple: &Tuple,
+    name: &Txt,
+) -> Result<Facet<Value>, Memory>
+    ensures { IfOk result (λ f. (w : ℕ → Bool) → at w f ≡ look (bound (binders_of binders.now) tuple.now.ids []) name.now) }
+{
+    let mut env = Env::empty(alloc);
+    bind_tuple(alloc, &mut env, binders, &tuple.ids)?;
+    let record = look_up(alloc, &env, name)?;
+    Ok(record)
+}
