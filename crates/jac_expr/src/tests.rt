@@ -3,11 +3,15 @@ ghost use Rattle.std.specs.List.{AllByRecursion};
 ghost use Rattle.jac_rows.specs.declared.row.Row.{Row as Seen};
 ghost use Rattle.jac_keep.specs.Sound.{IsSound, IsMade};
 
-use crate::{Ctx, Env, eval};
+use crate::{Ctx, Env, eval, tuples};
 use jac_facet::Facet;
 use jac_io::Calls;
 use jac_keep::{MemoryKeeper, Stop, Work};
-use jac_lang::{App, Expr, Exprs, Field, Fields, Groups, KindName, ModelDef, Models, Op, Views};
+use jac_lang::{
+    App, Binder, Binders, Expr, Exprs, Field, Fields, Groups, KindName, ModelDef, Models, Op,
+    Order, Query, Views,
+};
+use jac_query::Tuples;
 use jac_rows::{Row, State, Table, Tables};
 use jac_value::{Cells, Id, Memory, Txt, Value};
 use jac_world::{Assignment, Guard, Label, Steps};
@@ -92,26 +96,44 @@ fn app(alloc: Global) -> Result<App, Memory> {
     })
 }
 
+fn context() -> Ctx {
+    Ctx {
+        viewer: Some(Id(4096)),
+        this: None,
+        number: 2,
+        around: None,
+    }
+}
+
+fn names(alloc: Global) -> Result<Env, Memory> {
+    let mut env = Env::empty(alloc);
+    env.push(Txt::from_str(alloc, "x")?, Facet::leaf(Value::Int(1)))?;
+    env.push(Txt::from_str(alloc, "x")?, Facet::leaf(Value::Int(2)))?;
+    Ok(env)
+}
+
 fn value_of<L: Ledger>(
     alloc: Global,
     e: &Expr,
     splits: &mut Steps<L>,
 ) -> Result<Facet<Value>, Stop> {
     let app = app(alloc)?;
-    let ctx = Ctx {
-        viewer: Some(Id(4096)),
-        this: None,
-        number: 2,
-        around: None,
-    };
-    let mut env = Env::empty(alloc);
-    env.push(Txt::from_str(alloc, "x")?, Facet::leaf(Value::Int(1)))?;
-    env.push(Txt::from_str(alloc, "x")?, Facet::leaf(Value::Int(2)))?;
+    let env = names(alloc)?;
     let pc = Guard::empty(alloc);
     let mut keeper = MemoryKeeper::new(state(alloc)?, Calls::empty(alloc), Calls::empty(alloc));
     let mut work = Work::new(alloc, &mut keeper);
-    let value = eval(alloc, &mut work, &app, &ctx, &env, &pc, e, splits)?;
+    let value = eval(alloc, &mut work, &app, &context(), &env, &pc, e, splits)?;
     Ok(value)
+}
+
+fn answers_of<L: Ledger>(alloc: Global, q: &Query, splits: &mut Steps<L>) -> Result<Tuples, Stop> {
+    let app = app(alloc)?;
+    let env = names(alloc)?;
+    let pc = Guard::empty(alloc);
+    let mut keeper = MemoryKeeper::new(state(alloc)?, Calls::empty(alloc), Calls::empty(alloc));
+    let mut work = Work::new(alloc, &mut keeper);
+    let answers = tuples(alloc, &mut work, &app, &context(), &env, &pc, q, splits)?;
+    Ok(answers)
 }
 
 fn two(alloc: Global, op: Op, a: Expr, b: Expr) -> Result<Expr, Memory> {
@@ -148,10 +170,36 @@ fn joined(alloc: Global) -> Result<Expr, Memory> {
     Ok(Expr::Cat(parts))
 }
 
-fn title(alloc: Global) -> Result<Expr, Memory> {
+fn title(alloc: Global, of: Expr) -> Result<Expr, Memory> {
     let model = Txt::from_str(alloc, "Note")?;
     let field = Txt::from_str(alloc, "title")?;
-    Ok(Expr::Get(model, field, Box::new(alloc, Expr::Viewer)?))
+    Ok(Expr::Get(model, field, Box::new(alloc, of)?))
+}
+
+fn binder(alloc: Global, name: &str, rest: Binders) -> Result<Binders, Memory> {
+    let binder = Binder {
+        name: Txt::from_str(alloc, name)?,
+        model: Txt::from_str(alloc, "Note")?,
+    };
+    Ok(Binders::More(binder, Box::new(alloc, rest)?))
+}
+
+// The notes of the secret title, the last title first.
+fn secret_notes(alloc: Global, binders: Binders) -> Result<Query, Memory> {
+    let note = Expr::Name(Txt::from_str(alloc, "n")?);
+    let cond = two(alloc, Op::Eq, title(alloc, note)?, text(alloc, "secret")?)?;
+    let name = Txt::from_str(alloc, "n")?;
+    let field = Txt::from_str(alloc, "title")?;
+    Ok(Query {
+        binders,
+        cond,
+        order: Order::Down(name, field),
+    })
+}
+
+fn one_secret(alloc: Global) -> Result<Box<Query>, Memory> {
+    let query = secret_notes(alloc, binder(alloc, "n", Binders::End)?)?;
+    Ok(Box::new(alloc, query)?)
 }
 
 fn named(alloc: Global) -> Result<Expr, Memory> {
@@ -199,12 +247,46 @@ fn run_records<L: Ledger>(rt: &impl Abort, alloc: Global, blank: Blank) -> Resul
     requires some { 0 < blank.parts }
 {
     let mut steps: Steps<L> = Steps::new(blank);
-    let title = value_of(alloc, &title(alloc)?, &mut steps)?;
+    let title = value_of(alloc, &title(alloc, Expr::Viewer)?, &mut steps)?;
     let secret = Value::Text(Txt::from_str(alloc, "secret")?);
     let public = Value::Text(Txt::from_str(alloc, "public")?);
     assert!(rt; shows(alloc, &title, &secret, &public)?);
     let named = value_of(alloc, &named(alloc)?, &mut steps)?;
     assert!(rt; shows(alloc, &named, &Value::Int(2), &Value::Int(2))?);
+    Ok(())
+}
+
+fn run_queries<L: Ledger>(rt: &impl Abort, alloc: Global, blank: Blank) -> Result<(), Fail>
+    requires name { blank.name ≡ L.name }
+    requires parts { blank.parts ≡ L.parts }
+    requires some { 0 < blank.parts }
+{
+    let mut steps: Steps<L> = Steps::new(blank);
+    let count = value_of(alloc, &Expr::Count(one_secret(alloc)?), &mut steps)?;
+    assert!(rt; shows(alloc, &count, &Value::Int(1), &Value::Int(0))?);
+    let seven = Box::new(alloc, Expr::Int(7))?;
+    let sum = value_of(alloc, &Expr::Sum(one_secret(alloc)?, seven), &mut steps)?;
+    assert!(rt; shows(alloc, &sum, &Value::Int(7), &Value::Int(0))?);
+    let found = value_of(alloc, &Expr::AnyOf(one_secret(alloc)?), &mut steps)?;
+    assert!(rt; shows(alloc, &found, &Value::Bool(true), &Value::Bool(false))?);
+    let note = value_of(alloc, &Expr::First(one_secret(alloc)?), &mut steps)?;
+    assert!(rt; shows(alloc, &note, &Value::Ref(Some(Id(4096))), &Value::Ref(None))?);
+    Ok(())
+}
+
+fn run_pairs<L: Ledger>(rt: &impl Abort, alloc: Global, blank: Blank) -> Result<(), Fail>
+    requires name { blank.name ≡ L.name }
+    requires parts { blank.parts ≡ L.parts }
+    requires some { 0 < blank.parts }
+{
+    let mut steps: Steps<L> = Steps::new(blank);
+    let binders = binder(alloc, "n", binder(alloc, "m", Binders::End)?)?;
+    let query = secret_notes(alloc, binders)?;
+    let answers = answers_of(alloc, &query, &mut steps)?;
+    let pairs = answers.as_slice();
+    assert_eq!(rt; pairs.len(), 1);
+    assert_eq!(rt; pairs[0].ids.as_slice().len(), 2);
+    assert!(rt; !pairs[0].guard.holds(&Assignment::empty(alloc)));
     Ok(())
 }
 
@@ -216,6 +298,16 @@ fn values_are_computed(rt: HostRuntime) -> Result<(), Fail> {
 #[test]
 fn a_secret_title_splits(rt: HostRuntime) -> Result<(), Fail> {
     run_records::<Brand>(&rt, rt.alloc(), Blank::new(1))
+}
+
+#[test]
+fn a_secret_title_is_counted(rt: HostRuntime) -> Result<(), Fail> {
+    run_queries::<Brand>(&rt, rt.alloc(), Blank::new(1))
+}
+
+#[test]
+fn pairs_hold_where_their_records_do(rt: HostRuntime) -> Result<(), Fail> {
+    run_pairs::<Brand>(&rt, rt.alloc(), Blank::new(1))
 }
 
 #[test]
