@@ -20,20 +20,19 @@ use Rattle.jac_engine.specs.declared.answer.Ask.{Ask}
 use Rattle.jac_engine.specs.Prepared.{visit_of, page_answer, Stores}
 use Rattle.jac_engine.specs.Ran.{ran_by}
 use Rattle.jac_engine.specs.Running.{IsRunnable, AreRunnable, IsFit}
-use Rattle.jac_engine.specs.Served.{are_served_cells, is_served_query, is_showing, are_showing, is_making, are_making, is_fixed, is_served_body, is_served_view, are_served_views, are_without_groups, have_own_routes, are_served}
+use Rattle.jac_engine.specs.Served.{is_showing, are_showing, is_making, are_making, is_fixed, is_served_body, is_served_view, are_served_views, are_without_groups, have_own_routes, are_served}
 use Rattle.jac_engine.specs.Start.{AreUnguarded, IsStart}
 use Rattle.jac_engine.proofs.RecordLaws.{SoundLaw, IsBare}
 
 mutual
   -- what shows records runs, whatever the number
   showing_runs : (n : ℕ) (s : Statement) → is_showing s ≡ true → IsRunnable n s
-  showing_runs n (Statement.put e) h = h
+  showing_runs n (Statement.put e) h = tt
   showing_runs n (Statement.escape e) h = h
   showing_runs n (Statement.bind x e body) h = h
   showing_runs n (Statement.assign x e) h = h
   showing_runs n (Statement.branch c first second) h = h
-  showing_runs n (Statement.each q body) h =
-      ((and_parts (is_served_query q) (are_showing body) h).0, all_showing_run n body (and_parts (is_served_query q) (are_showing body) h).1)
+  showing_runs n (Statement.each q body) h = all_showing_run n body h
   showing_runs n (Statement.create x m site cells body) h = cc
   showing_runs n (Statement.update m e cells) h = h
   showing_runs n (Statement.delete m e) h = h
@@ -53,16 +52,15 @@ lt_of_test a b e = grind (arith, e)
 mutual
   -- what makes records runs while there are numbers
   making_runs : (n : ℕ) (s : Statement) → n < 2 ^ 40 → is_making s ≡ true → IsRunnable n s
-  making_runs n (Statement.put e) few h = h
+  making_runs n (Statement.put e) few h = tt
   making_runs n (Statement.escape e) few h = h
   making_runs n (Statement.bind x e body) few h = h
   making_runs n (Statement.assign x e) few h = h
   making_runs n (Statement.branch c first second) few h = h
   making_runs n (Statement.each q body) few h = cc
   making_runs n (Statement.create x m site cells body) few h =
-      let parts = and_parts (nat_lt site 64 && are_served_cells cells) (are_making body) h in
-      let firsts = and_parts (nat_lt site 64) (are_served_cells cells) parts.0 in
-      (few, lt_of_test site 64 firsts.0, firsts.1, all_making_run n body few parts.1)
+      let parts = and_parts (nat_lt site 64) (are_making body) h in
+      (few, lt_of_test site 64 parts.0, all_making_run n body few parts.1)
   making_runs n (Statement.update m e cells) few h = h
   making_runs n (Statement.delete m e) few h = h
   making_runs n Statement.missing few h = h

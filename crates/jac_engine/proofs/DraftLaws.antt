@@ -19,10 +19,9 @@ pub kind_there : (models : List Entity) (fields : List Field) (f : ℕ) → kind
 kind_there models fields f = kind_seen models (slice_get fields f)
 
 -- a value was read, and set into a cell
-pub record Drafting {K : Type 0} (tells : K → Bool) (state : K → State) (attached : K → Bool) (faults : K → ℕ) (old new : WorkOver K Alterations) (served here : Type 0) : Type 0 where
+pub record Drafting {K : Type 0} (tells : K → Bool) (state : K → State) (attached : K → Bool) (faults : K → ℕ) (old new : WorkOver K Alterations) (here : Type 0) : Type 0 where
   pub reads : Reads tells state attached old new
   pub later : faults old.keeper.now ≤ faults new.keeper.now
-  pub goes_on : served
   pub step : IsTold tells state old → here
 
 untouched_then : {K : Type 0} (tells : K → Bool) (state : K → State) (attached : K → Bool) (old mid new : WorkOver K Alterations)

@@ -13,7 +13,6 @@ use Rattle.jac_keep.specs.declared.alteration.Alterations.{Alterations}
 use Rattle.jac_keep.specs.declared.work.WorkOver.{WorkOver}
 use Rattle.jac_keep.specs.Sound.{IsSound}
 use Rattle.jac_keep.specs.Worked.{state_of, IsTold, IsUntouched}
-use Rattle.jac_engine.specs.Served.{is_served_value, are_served_cells, is_served_query}
 use Rattle.jac_engine.specs.Start.{AreUnguarded}
 
 -- the world that the assignment shows of a state
@@ -30,10 +29,9 @@ run_at w s env pieces = record { tables = map (rows_at w) s.tables; env = env; p
 abbrev mutual
   -- a statement of the forms that run, where the number of the request has ids if it makes records
   pub IsRunnable : ℕ → Statement → Type 0
-  IsRunnable number (Statement.put e) = is_served_value e ≡ true
-  IsRunnable number (Statement.each q body) = (is_served_query q ≡ true) × AreRunnable number body
-  IsRunnable number (Statement.create x m site cells body) =
-      (number < 2 ^ 40) × (site < 64) × (are_served_cells cells ≡ true) × AreRunnable number body
+  IsRunnable number (Statement.put e) = ⊤
+  IsRunnable number (Statement.each q body) = AreRunnable number body
+  IsRunnable number (Statement.create x m site cells body) = (number < 2 ^ 40) × (site < 64) × AreRunnable number body
   IsRunnable number s = false ≡ true
 
   pub AreRunnable : ℕ → Statements → Type 0

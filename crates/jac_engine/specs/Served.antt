@@ -4,42 +4,13 @@ use Rattle.std.specs.List.{list_all, list_any}
 use Rattle.std.specs.Str.{bytes_eq}
 use Rattle.jac_lang.specs.declared.pages.Verb.{Verb}
 use Rattle.jac_lang.specs.declared.pages.Verb.TheVariants as verbs
-use Rattle.jac_lang.specs.declared.queries.Binder.{Binder}
-use Rattle.jac_lang.specs.declared.queries.Order.{Order}
-use Rattle.jac_lang.specs.declared.queries.Order.TheVariants as orders
-use Rattle.jac_lang.specs.Syntax.{Expression, Assigned, Question, Statement, Statements, FieldGroup, Entity, Page, Application}
-use Rattle.jac_plain.specs.Expressions.{is_single}
-use Rattle.jac_expr.specs.Asking.{has_no_query}
-
--- any expression without a query
-abbrev pub is_served_value : Expression → Bool
-is_served_value e = has_no_query e
-
-abbrev pub are_served_cells : List Assigned → Bool
-are_served_cells [] = true
-are_served_cells (a ∷ rest) = is_served_value a.value && are_served_cells rest
-
-abbrev pub is_always : Expression → Bool
-is_always (Expression.bool b) = b
-is_always e = false
-
-abbrev pub is_by_id : Order → Bool
-is_by_id orders.Key = true
-is_by_id order = false
-
-abbrev pub has_none : List Binder → Bool
-has_none [] = true
-has_none (b ∷ bs) = false
-
--- all records of one model
-abbrev pub is_served_query : Question → Bool
-is_served_query q = is_single q.binders && is_always q.cond && is_by_id q.order
+use Rattle.jac_lang.specs.Syntax.{Statement, Statements, FieldGroup, Entity, Page, Application}
 
 abbrev mutual
-  -- a statement that shows records
+  -- a statement that shows values: any expression, once or for each answer of any query
   pub is_showing : Statement → Bool
-  is_showing (Statement.put e) = is_served_value e
-  is_showing (Statement.each q body) = is_served_query q && are_showing body
+  is_showing (Statement.put e) = true
+  is_showing (Statement.each q body) = are_showing body
   is_showing s = false
 
   pub are_showing : Statements → Bool
@@ -47,10 +18,10 @@ abbrev mutual
   are_showing (Statements.more s rest) = is_showing s && are_showing rest
 
 abbrev mutual
-  -- a statement that makes records
+  -- a statement that makes records, whose cells are any expressions, at one of 64 sites, or shows a value
   pub is_making : Statement → Bool
-  is_making (Statement.put e) = is_served_value e
-  is_making (Statement.create x m site cells body) = nat_lt site 64 && are_served_cells cells && are_making body
+  is_making (Statement.put e) = true
+  is_making (Statement.create x m site cells body) = nat_lt site 64 && are_making body
   is_making s = false
 
   pub are_making : Statements → Bool
@@ -94,6 +65,6 @@ abbrev pub are_without_groups : List Entity → Bool
 are_without_groups [] = true
 are_without_groups (m ∷ ms) = is_none m.groups && are_without_groups ms
 
--- models without groups; views of GET that show records, views of POST that make them
+-- models without groups; views of GET that show values, views of POST that make records
 abbrev pub are_served : Application → Bool
 are_served app = are_without_groups app.models && are_served_views app.views && have_own_routes app.views

@@ -1,5 +1,5 @@
 //! The cells of a new record.
-ghost use Rattle.std.specs.Prelude.{◌≡◌, ◌<◌, true, length, slice_get, slice_set, Some, IfOk, IsTrue};
+ghost use Rattle.std.specs.Prelude.{◌≡◌, ◌<◌, length, slice_get, slice_set, Some, IfOk, IsTrue};
 ghost use Rattle.jac_value.specs.Values.{has_kind};
 ghost use Rattle.jac_lang.specs.Lookup.{fields_at, field_place};
 ghost use Rattle.jac_lang.specs.Mirror.{application_of, assigned_of};
@@ -9,7 +9,6 @@ ghost use Rattle.jac_plain.specs.Statements.{fitting, cell_set, drafted, default
 ghost use Rattle.jac_keep.specs.Cause.{HasCause};
 ghost use Rattle.jac_keep.specs.Worked.{state_of, IsTold};
 ghost use Rattle.jac_engine.specs.Running.{world_at, Reads};
-ghost use Rattle.jac_engine.specs.Served.{are_served_cells};
 
 use crate::reading::value_here;
 use jac_keep::{Keeper, Stop, Work};
@@ -35,7 +34,6 @@ pub(crate) fn draft<K: Keeper, L: Ledger>(
     splits: &mut Steps<L>,
 ) -> Result<Cells, Stop>
     requires attached { IsTrue (K.attached work.old.keeper.now) }
-    requires served { are_served_cells (assigned_of cells.now) ≡ true }
     requires model { model < length app.now.models }
     ensures drafted { IsTold K.tells K.state work.old → IfOk result (λ out. out ≡ drafted (application_of app.now).models (fields_at (application_of app.now).models model) (λ e. mean (world_at (application_of app.now) ctx.now.viewer (shown assignment.now) (state_of K.state work.old)) e env.now) (assigned_of cells.now) (default_cells (application_of app.now).models (fields_at (application_of app.now).models model))) }
     ensures cause { HasCause (K.faults work.old.keeper.now) (K.faults work.new.keeper.now) result }

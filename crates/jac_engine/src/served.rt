@@ -1,14 +1,10 @@
 //! Which applications are served.
 ghost use Rattle.std.specs.Prelude.{◌≡◌};
-ghost use Rattle.jac_lang.specs.Mirror.{application_of, entities_of, groups_of, pages_of, page_of, binders_of, expression_of, question_of, assigned_of, statement_of, statements_of};
-ghost use Rattle.jac_plain.specs.Expressions.{is_single};
-ghost use Rattle.jac_engine.specs.Served.{are_served, are_without_groups, is_none, are_served_views, is_served_view, is_served_body, have_own_routes, is_fixed, are_showing, is_showing, are_making, is_making, is_served_value, has_none, are_served_cells, is_served_query, is_always, is_by_id};
+ghost use Rattle.jac_lang.specs.Mirror.{application_of, entities_of, groups_of, pages_of, page_of, statement_of, statements_of};
+ghost use Rattle.jac_engine.specs.Served.{are_served, are_without_groups, is_none, are_served_views, is_served_view, is_served_body, have_own_routes, is_fixed, are_showing, is_showing, are_making, is_making};
 
 use crate::finding::has_at;
-use jac_expr::asks_nothing;
-use jac_lang::{
-    App, Binders, Expr, Group, ModelDef, Order, Publics, Query, Stmt, Stmts, Verb, View,
-};
+use jac_lang::{App, Group, ModelDef, Stmt, Stmts, Verb, View};
 use jac_value::Txt;
 
 /// Whether the application is of the forms that are served.
@@ -106,8 +102,8 @@ fn shows(stmt: &Stmt) -> bool
     ensures { result ≡ is_showing (statement_of stmt.now) }
 {
     match stmt {
-        Stmt::Put(e) => serves_value(e),
-        Stmt::For(query, body) => serves_query(query) && shows_all(body),
+        Stmt::Put(_) => true,
+        Stmt::For(_, body) => shows_all(body),
         _ => false,
     }
 }
@@ -131,75 +127,14 @@ fn makes(stmt: &Stmt) -> bool
     ensures { result ≡ is_making (statement_of stmt.now) }
 {
     match stmt {
-        Stmt::Put(e) => serves_value(e),
+        Stmt::Put(_) => true,
         Stmt::Create {
             name: _,
             model: _,
             site,
-            cells,
+            cells: _,
             body,
-        } => *site < 64 && serves_cells(cells) && makes_all(body),
+        } => *site < 64 && makes_all(body),
         _ => false,
-    }
-}
-
-fn serves_cells(cells: &Publics) -> bool
-    ensures { result ≡ are_served_cells (assigned_of cells.now) }
-{
-    let mut left = cells;
-    'cells: while let Publics::More(first, rest) = left {
-        if !serves_value(&first.value) {
-            return false;
-        }
-        left = rest;
-    }
-    true
-}
-
-fn serves_value(e: &Expr) -> bool
-    ensures { result ≡ is_served_value (expression_of e.now) }
-{
-    asks_nothing(e)
-}
-
-fn serves_query(query: &Query) -> bool
-    ensures { result ≡ is_served_query (question_of query.now) }
-{
-    has_one(&query.binders) && always_holds(&query.cond) && is_unordered(&query.order)
-}
-
-fn has_one(binders: &Binders) -> bool
-    ensures { result ≡ is_single (binders_of binders.now) }
-{
-    match binders {
-        Binders::End => false,
-        Binders::More(_, rest) => has_no_more(rest),
-    }
-}
-
-fn has_no_more(binders: &Binders) -> bool
-    ensures { result ≡ has_none (binders_of binders.now) }
-{
-    match binders {
-        Binders::End => true,
-        Binders::More(_, _) => false,
-    }
-}
-
-fn always_holds(cond: &Expr) -> bool
-    ensures { result ≡ is_always (expression_of cond.now) }
-{
-    match cond {
-        Expr::Bool(truth) => *truth,
-        _ => false,
-    }
-}
-
-fn is_unordered(order: &Order) -> bool
-    ensures { result ≡ is_by_id order.now }
-{
-    match order {
-        Order::Key => true,
-        Order::Up(_, _) | Order::Down(_, _) => false,
     }
 }

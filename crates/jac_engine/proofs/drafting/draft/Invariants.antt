@@ -1,4 +1,4 @@
-use Rattle.std.proofs.Common.{◌≡◌, true}
+use Rattle.std.proofs.Common.{◌≡◌}
 use Rattle.jac_lang.specs.Lookup.{fields_at}
 use Rattle.jac_lang.specs.Mirror.{application_of, assigned_of}
 use Rattle.jac_world.specs.World.{shown}
@@ -6,7 +6,6 @@ use Rattle.jac_plain.specs.Expressions.{mean}
 use Rattle.jac_plain.specs.Statements.{drafted, default_cells}
 use Rattle.jac_keep.specs.Worked.{state_of}
 use Rattle.jac_engine.specs.Running.{world_at}
-use Rattle.jac_engine.specs.Served.{are_served_cells}
 use Rattle.jac_engine.proofs.DraftLaws.{Drafting}
 use Rattle.jac_engine.proofs.drafting.draft.Given as goal
 
@@ -16,6 +15,6 @@ invariant-cells g l =
     let app = application_of l.app in
     let fields = fields_at app.models l.model in
     let w = world_at app l.ctx.viewer (shown l.assignment) (state_of k.state l.fn.work) in
-    Drafting k.tells k.state k.attached k.faults l.fn.work l.work (are_served_cells (assigned_of l.left) ≡ true)
+    Drafting k.tells k.state k.attached k.faults l.fn.work l.work
     (drafted app.models fields (λ e. mean w e l.env) (assigned_of l.left) l.out.items
     ≡ drafted app.models fields (λ e. mean w e l.env) (assigned_of l.cells) (default_cells app.models fields))
