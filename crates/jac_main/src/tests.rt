@@ -19,6 +19,11 @@ const PEOPLE: &str = "(app (model User (fields (name text)))
  (view get \"/all\" (params)
   (for (from ((u User)) true key) (put (get User name u)) (put \";\"))))";
 
+const ASKED_PEOPLE: &str = "(app (model User (fields (name text)))
+ (view post \"/join\" (params (name text)) (create u User (set (name name)) (put u)))
+ (view get \"/early\" (params) (put (count (from ((u User)) (lt (get User name u) \"B\") key))))
+ (view get \"/last\" (params) (put (get User name (first (from ((u User)) true (down u name)))))))";
+
 const JOIN_AND_LIST: &[u8] =
     b"ask - POST \"/join\" \"name=Ann\"\nask - POST \"/join\" \"name=Bob\"\nask - GET \"/all\" \"\"\n";
 
@@ -315,6 +320,22 @@ fn posts_store_records_that_a_get_lists(rt: HostRuntime) -> Result<(), Fail> {
         Status::Done,
         b"reply 200 \"\" \"4096\"\nreply 200 \"\" \"8192\"\nreply 200 \"\" \"Ann;Bob;\"\n",
         b"1 200 - -\n2 200 - -\n3 200 - -\n",
+    )?;
+    Ok(())
+}
+
+#[test]
+fn a_get_asks_the_stored_records(rt: HostRuntime) -> Result<(), Fail> {
+    let alloc = rt.alloc();
+    let events = b"ask - POST \"/join\" \"name=Ann\"\nask - POST \"/join\" \"name=Bob\"\nask - GET \"/early\" \"\"\nask - GET \"/last\" \"\"\n";
+    replays(
+        &rt,
+        alloc,
+        ASKED_PEOPLE,
+        events,
+        Status::Done,
+        b"reply 200 \"\" \"4096\"\nreply 200 \"\" \"8192\"\nreply 200 \"\" \"1\"\nreply 200 \"\" \"Bob\"\n",
+        b"1 200 - -\n2 200 - -\n3 200 - -\n4 200 - -\n",
     )?;
     Ok(())
 }
