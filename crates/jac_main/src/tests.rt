@@ -327,7 +327,8 @@ fn posts_store_records_that_a_get_lists(rt: HostRuntime) -> Result<(), Fail> {
 #[test]
 fn a_get_asks_the_stored_records(rt: HostRuntime) -> Result<(), Fail> {
     let alloc = rt.alloc();
-    let events = b"ask - POST \"/join\" \"name=Ann\"\nask - POST \"/join\" \"name=Bob\"\nask - GET \"/early\" \"\"\nask - GET \"/last\" \"\"\n";
+    let events =
+        b"ask - POST \"/join\" \"name=Ann\"\nask - POST \"/join\" \"name=Bob\"\nask - GET \"/early\" \"\"\nask - GET \"/last\" \"\"\n";
     replays(
         &rt,
         alloc,
