@@ -1,0 +1,36 @@
+(app
+ (model Student (fields (name text)))
+ (model Course (fields (title text) (seats int)))
+ (model Place (fields (course (ref Course)) (student (ref Student))))
+
+ (view post "/students" (params (name text))
+  (create s Student (set (name name)) (put s)))
+
+ (view post "/courses" (params (title text) (seats int))
+  (create c Course (set (title title) (seats seats)) (put c)))
+
+ (view post "/places" (params (course (ref Course)) (student (ref Student)))
+  (create p Place (set (course course) (student student))
+   (put (get Student name student)) (put " takes ") (put (get Course title course))))
+
+ (view get "/courses" (params)
+  (for (from ((c Course)) true (up c title))
+   (put (get Course title c)) (put ": ")
+   (put (sub (get Course seats c) (count (from ((p Place)) (eq (get Place course p) c) key))))
+   (put " left\n")))
+
+ (view get "/list" (params (course (ref Course)))
+  (put (get Course title course)) (put "\n")
+  (for (from ((s Student))
+        (some (from ((p Place)) (and (eq (get Place course p) course) (eq (get Place student p) s)) key))
+        (up s name))
+   (put " ") (put (get Student name s)) (put "\n")))
+
+ (view get "/together" (params)
+  (for (from ((p Place) (q Place))
+        (and (eq (get Place course p) (get Place course q))
+         (lt (get Student name (get Place student p)) (get Student name (get Place student q))))
+        key)
+   (put (get Student name (get Place student p))) (put " and ")
+   (put (get Student name (get Place student q))) (put ": ")
+   (put (get Course title (get Place course p))) (put "\n"))))
