@@ -1,4 +1,3 @@
-use Rattle.std.proofs.Common.{rules, sym}
 use Rattle.jac_expr.proofs.sorting.sort.Goals as goal
 
 pub returns-in-Up-clause-sorted : goal.returns-in-Up-clause-sorted
