@@ -6,7 +6,7 @@ use Rattle.jac_app.specs.declared.serve.Stopped.{Stopped}
 use Rattle.jac_app.specs.declared.serve.Stopped.TheVariants as stops
 use Rattle.jac_app.specs.Keeping.{Kept}
 use Rattle.jac_app.specs.Log.{script_of}
-use Rattle.jac_app.specs.Parts.{parts_left, option_now, length_left}
+use Rattle.jac_forms.specs.Parts.{parts_left, option_now, length_left}
 use Rattle.jac_app.specs.Serve.{AnswersLine, ServesAs, ServesAll, ServesSome}
 use Rattle.jac_app.proofs.ProgressLemmas.{Progress, Follows, over, pass_over, serve_one, finish_refused, finish_some, finish_torn}
 

@@ -18,7 +18,7 @@ use Rattle.jac_app.specs.Line.{ask_of, is_nil}
 use Rattle.jac_app.specs.Log.{Entry, Script, Serves, IsAnswered, AreAnswered, after_entry, after_log, faults_in, is_fault, worlds_of, script_from, script_of, script_step, with_event, request_of, heard_from, heard, subject, reply_line, audit_line, text, audited, audited_from}
 use Rattle.jac_app.specs.Outside.{IsTorn}
 use Rattle.jac_app.specs.Page.{Worlds, HasFailed, IsAnswerOf, IsAnswerTo, found_by, inquiry_of}
-use Rattle.jac_app.specs.Parts.{parts_left}
+use Rattle.jac_forms.specs.Parts.{parts_left}
 use Rattle.jac_app.specs.Serve.{IsEntryOf, ServesAll, ServesSome, IsBroken}
 
 -- events that were served, before those of the rest

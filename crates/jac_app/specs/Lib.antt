@@ -3,7 +3,6 @@ pub mod Keeping
 pub mod Line
 pub mod Piece
 pub mod Made
-pub mod Parts
 pub mod Log
 pub mod Page
 pub mod Failed

@@ -1,6 +1,6 @@
 ghost use Rattle.std.specs.Prelude.{◌≡◌, ◌==◌, ◌<◌, ◌∷◌, IfSome, length, position, ℕ};
 ghost use Rattle.std.specs.List.{slice_split};
-ghost use Rattle.jac_app.specs.Parts.{parts_left, option_now};
+ghost use Rattle.jac_forms.specs.Parts.{parts_left, option_now};
 
 /// The first of the parts that a byte separates, and what follows that byte, where there is one.
 pub fn first_part(bytes: &[u8], separator: u8) -> (&[u8], Option<&[u8]>)

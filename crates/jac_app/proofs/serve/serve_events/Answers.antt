@@ -2,7 +2,7 @@ use Rattle.std.proofs.Common.{◌∙◌, ap, sym, refl, ℕ, List, [], ◌++◌,
 use denote.Ref.{Bor}
 use Rattle.jac_lang.specs.Mirror.{application_of}
 use Rattle.jac_app.specs.Keeping.{kept}
-use Rattle.jac_app.specs.Parts.{parts_left, option_now, length_left}
+use Rattle.jac_forms.specs.Parts.{parts_left, option_now, length_left}
 use Rattle.jac_app.proofs.LineLemmas.{go_on, stop_at, shorter_left}
 use Rattle.jac_app.proofs.OutsideLemmas.{Took-then, Lasts-then}
 use Rattle.jac_app.proofs.ProgressLemmas.{start}

@@ -4,7 +4,7 @@ use Rattle.jac_engine.specs.Served.{are_served}
 use Rattle.jac_engine.specs.Start.{IsStart}
 use Rattle.jac_app.specs.Keeping.{kept}
 use Rattle.jac_app.specs.Outside.{Took, Lasts}
-use Rattle.jac_app.specs.Parts.{option_now, length_left}
+use Rattle.jac_forms.specs.Parts.{option_now, length_left}
 use Rattle.jac_app.proofs.ProgressLemmas.{Progress}
 use Rattle.jac_app.proofs.serve.serve_events.Given as goal
 
