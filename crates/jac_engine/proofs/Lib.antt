@@ -5,4 +5,4 @@ pub mod RunLaws
 pub mod PlaceLaws
 pub mod PageLaws
 pub mod AnswerLaws
-pub mod StartLaws
+pub mod PreparedLaws
