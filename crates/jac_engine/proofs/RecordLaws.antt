@@ -9,7 +9,7 @@ use Rattle.jac_value.specs.declared.value.Value.TheVariants as value
 use Rattle.jac_lang.specs.declared.bindings.Binding.{Binding}
 use Rattle.jac_world.specs.World.{holds}
 use Rattle.jac_rows.specs.Project.{rows_at}
-use Rattle.jac_rows.specs.Pushed.{rows_at-append}
+use Rattle.jac_rows.proofs.Pushed.{rows_at-append}
 use Rattle.jac_rows.specs.Tables.{rows_of}
 use Rattle.jac_rows.specs.declared.plain.PlainRow.{PlainRow}
 use Rattle.jac_rows.specs.declared.row.Row.{Row}
