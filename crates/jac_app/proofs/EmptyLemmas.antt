@@ -2,7 +2,7 @@
 use Rattle.std.proofs.Common.{◌≡◌, ◌∙◌, ap, refl, sym, subst, ℕ, ◌+◌, ◌≤◌, ◌^◌, zero, suc, arith, List, [], ◌∷◌, ◌++◌, length}
 use Rattle.jac_rows.specs.declared.row.Row.{Row}
 use Rattle.jac_rows.specs.declared.state.State.{State}
-use Rattle.jac_keep.specs.Sound.{AreSound}
+use Rattle.jac_rows.specs.Good.{AreSound}
 use Rattle.jac_engine.specs.Start.{AreUnguarded}
 use Rattle.jac_app.specs.Keeping.{IsForAll, empties}
 

@@ -127,3 +127,41 @@ Went-reply E out_before out_after audit_before audit_after reply line done (Err 
   audit_took = put_line.took;
   holds = inr (put_reply.is_put, put_line.is_put);
 }
+
+-- what follows of the bytes
+pub Went-on : (s : Sinks) (P Q : List ℕ → List ℕ → Type 0) → ((out audit : List ℕ) → P out audit → Q out audit) → Went s P → Went s Q
+Went-on s P Q f went = record {
+  out = went.out;
+  audit = went.audit;
+  out_lasts = went.out_lasts;
+  audit_lasts = went.audit_lasts;
+  out_took = went.out_took;
+  audit_took = went.audit_took;
+  holds = f went.out went.audit went.holds;
+}
+
+-- nothing was put
+pub Went-none : (out audit : SinkSeen) (P : List ℕ → List ℕ → Type 0) → P [] [] → Went (sinks out out audit audit) P
+Went-none out audit P h = record {
+  out = [];
+  audit = [];
+  out_lasts = Lasts-none out;
+  audit_lasts = Lasts-none audit;
+  out_took = Took-none out;
+  audit_took = Took-none audit;
+  holds = h;
+}
+
+-- two steps, of which the bytes are joined
+pub Went-then : (out_a out_b out_c audit_a audit_b audit_c : SinkSeen) (P Q R : List ℕ → List ℕ → Type 0)
+    → ((o a p b : List ℕ) → P o a → Q p b → R (o ++ p) (a ++ b))
+    → Went (sinks out_a out_b audit_a audit_b) P → Went (sinks out_b out_c audit_b audit_c) Q → Went (sinks out_a out_c audit_a audit_c) R
+Went-then out_a out_b out_c audit_a audit_b audit_c P Q R f one two = record {
+  out = one.out ++ two.out;
+  audit = one.audit ++ two.audit;
+  out_lasts = Lasts-then out_a out_b out_c one.out_lasts two.out_lasts;
+  audit_lasts = Lasts-then audit_a audit_b audit_c one.audit_lasts two.audit_lasts;
+  out_took = Took-then out_a out_b out_c one.out two.out two.out_lasts.told one.out_took two.out_took;
+  audit_took = Took-then audit_a audit_b audit_c one.audit two.audit two.audit_lasts.told one.audit_took two.audit_took;
+  holds = f one.out one.audit two.out two.audit one.holds two.holds;
+}

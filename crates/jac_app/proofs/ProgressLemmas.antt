@@ -131,6 +131,7 @@ served_whole early app a b events more all log serving parts whole =
     } in
     record {
       caused = record { subjects = subjects; formed = serving.formed; faults = serving.faults };
+      told = serving.told;
       serves = λ told. record { subjects = subjects; answered = serving.answered told; worlds = serving.worlds told; goes_on = serving.goes_on told };
     }
 

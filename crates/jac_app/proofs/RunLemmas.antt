@@ -1,7 +1,8 @@
 -- How the steps of a replay end.
-use Rattle.std.proofs.Common.{◌≡◌, ◌∙◌, ap, sym, subst, refl, ℕ, ◌≤◌, ◌<◌, ◌⊎◌, inl, inr, Bool, IsTrue, IsSomeAnd, Result, Ok, Err, Option, Some, None, List, [], length, arith}
+use Rattle.std.proofs.Common.{◌≡◌, ◌∙◌, ap, sym, subst, refl, ℕ, ◌≤◌, ◌<◌, ◌⊎◌, inl, inr, Bool, IsTrue, IsSomeAnd, Result, Ok, Err, Option, Some, None, List, [], ◌++◌, append-nil, length, arith}
 use Rattle.jac_io.specs.Faults.{Rose}
-use Rattle.jac_io.specs.Seen.{FilesSeen, SinkSeen}
+use Rattle.jac_io.specs.Seen.{FilesSeen, SinkSeen, Lasts, Aims}
+use Rattle.jac_io.specs.declared.sink.Failed.{Failed}
 use Rattle.jac_lang.specs.Syntax.{Application}
 use Rattle.jac_rows.specs.declared.state.State.{State}
 use Rattle.jac_keep.specs.KeeperSeen.{KeeperSeen}
@@ -9,13 +10,16 @@ use Rattle.jac_app.specs.declared.command.Ending.{Ending}
 use Rattle.jac_app.specs.declared.command.Ending.TheVariants as endings
 use Rattle.jac_app.specs.declared.command.Role.{Role}
 use Rattle.jac_app.specs.declared.command.Role.TheVariants as roles
+use Rattle.jac_app.specs.declared.serve.Stopped.{Stopped}
+use Rattle.jac_app.specs.declared.serve.Stopped.TheVariants as stops
 use Rattle.jac_app.specs.declared.status.Status.{Status}
 use Rattle.jac_app.specs.declared.status.Status.TheVariants as statuses
 use Rattle.jac_app.specs.Log.{script_of}
 use Rattle.jac_app.specs.Application.{IsApplication}
-use Rattle.jac_app.specs.Outside.{Span, span, Sinks, IsFront, AWriteFailed}
-use Rattle.jac_app.specs.Run.{Replay, Sight, sinks_of, IsRead, IsLong, HasApplication, IsOpened, IsReached, IsIdle, IsUnread, IsUnopened, EndsServing, Ends, Closes, Finishes, Runs, ComesFor, CanServe, command_of, name_of, limit_of, fault_line, status_of, usage_line}
-use Rattle.jac_app.proofs.OutsideLemmas.{Rose-widen, failed_later}
+use Rattle.jac_app.specs.Outside.{Span, span, Sinks, sinks, Took, Went, IsFront, AWriteFailed}
+use Rattle.jac_app.specs.Serve.{ServesAs}
+use Rattle.jac_app.specs.Run.{Replay, Sight, sinks_of, IsRead, IsLong, HasApplication, IsOpened, IsReached, IsAimed, IsIdle, WentAimed, ending_of, IsUnread, IsUnopened, EndsServing, Ends, Closes, Finishes, Runs, ComesFor, CanServe, command_of, name_of, limit_of, fault_line, status_of, usage_line}
+use Rattle.jac_app.proofs.OutsideLemmas.{Lasts-none, Took-none, Rose-widen, failed_later}
 
 -- what is seen of files between two moments of a run
 pub record IsWithin (files part : Span FilesSeen) : Type 0 where
@@ -64,6 +68,89 @@ served_ends seen start command app events out audit (Err endings.Memory) opened 
 served_ends seen start command app events out audit (Err endings.AppRefused) opened h = absurd h
 served_ends seen start command app events out audit (Err (endings.ReadFault role)) opened h = absurd h
 served_ends seen start command app events out audit (Err (endings.TooLong role)) opened h = absurd h
+
+-- the audit was aimed, and then only put on
+aimed_once : (a b c : SinkSeen) (done : Unit {0}) → Aims a b None (Ok done) → Lasts b c → IsAimed (span a c)
+aimed_once a b c done aims lasts = λ told. lasts.same_aims told ∙ aims.ok (lasts.told told)
+
+took_once : (a b c : SinkSeen) (done : Unit {0}) (bytes : List ℕ) → Aims a b None (Ok done) → Lasts b c → Took (span b c) bytes → Took (span a c) bytes
+took_once a b c done bytes aims lasts took = λ told. took told ∙ ap (λ (held : List ℕ). held ++ bytes) (aims.same_held (lasts.told told))
+
+-- the events were served behind the aim
+module _ (out_before out_after audit_before audit_aimed audit_after : SinkSeen) (done : Unit {0}) (aims : Aims audit_before audit_aimed None (Ok done))
+    (app : Application) (k : Span KeeperSeen) (start : State) (events : List ℕ) where
+  went_aimed : (P Q : List ℕ → List ℕ → Type 0) → ((o a : List ℕ) → P o a → Q o a)
+      → Went (sinks out_before out_after audit_aimed audit_after) P → WentAimed (sinks out_before out_after audit_before audit_after) Q
+  went_aimed P Q f went = record {
+    out = went.out;
+    audit = went.audit;
+    out_lasts = went.out_lasts;
+    audit_later = omega (arith, aims.later, went.audit_lasts.later);
+    out_took = went.out_took;
+    audit_took = took_once audit_before audit_aimed audit_after done went.audit aims went.audit_lasts went.audit_took;
+    holds = f went.out went.audit went.holds;
+  }
+
+  pub serve_whole : (served : Unit {0}) → Went (sinks out_before out_after audit_aimed audit_after) (ServesAs app k start events (Ok served))
+      → WentAimed (sinks out_before out_after audit_before audit_after) (EndsServing (sinks out_before out_after audit_before audit_after) app k start events (Ok served))
+  serve_whole served went =
+      went_aimed _ _ (λ o a h. (aimed_once audit_before audit_aimed audit_after done aims went.audit_lasts, h.0, h.1)) went
+
+  pub serve_stopped : (stopped : Stopped) → Went (sinks out_before out_after audit_aimed audit_after) (ServesAs app k start events (Err stopped))
+      → (stopped ≡ stops.Write → AWriteFailed (sinks out_before out_after audit_aimed audit_after))
+      → WentAimed (sinks out_before out_after audit_before audit_after) (EndsServing (sinks out_before out_after audit_before audit_after) app k start events (Err (ending_of stopped)))
+  serve_stopped (stops.Refused n) went failed =
+      went_aimed _ _ (λ o a h. (aimed_once audit_before audit_aimed audit_after done aims went.audit_lasts, h.0, h.1)) went
+  serve_stopped stops.Memory went failed =
+      went_aimed _ _ (λ o a h. (aimed_once audit_before audit_aimed audit_after done aims went.audit_lasts, h)) went
+  serve_stopped stops.Write went failed =
+      went_aimed _ _
+      (λ o a h. (
+        failed_later (sinks out_before out_after audit_before audit_after) (sinks out_before out_after audit_aimed audit_after)
+            (omega arith) aims.later (omega arith) (omega arith) (failed refl),
+        inr (aimed_once audit_before audit_aimed audit_after done aims went.audit_lasts, h),
+      ))
+      went
+
+-- the aim failed
+pub aim_failed : (out audit_before audit_after : SinkSeen) (failed : Failed) (app : Application) (k : KeeperSeen) (start : State) (events : List ℕ)
+    → Aims audit_before audit_after None (Err failed)
+    → WentAimed (sinks out out audit_before audit_after) (EndsServing (sinks out out audit_before audit_after) app (span k k) start events (Err endings.WriteFault))
+aim_failed out audit_before audit_after failed app k start events aims = record {
+  out = [];
+  audit = [];
+  out_lasts = Lasts-none out;
+  audit_later = aims.later;
+  out_took = Took-none out;
+  audit_took = λ told. aims.same_held told ∙ sym (append-nil audit_before.held);
+  holds = (inr aims.rose, inl (record { no_out = refl; no_audit = refl; unaimed = aims.err; still = refl }));
+}
+
+-- the steps ended before the aim
+pub idle_ends : (out audit : SinkSeen) (P : List ℕ → List ℕ → Type 0) → P [] [] → WentAimed (sinks out out audit audit) P
+idle_ends out audit P h = record {
+  out = [];
+  audit = [];
+  out_lasts = Lasts-none out;
+  audit_later = omega arith;
+  out_took = Took-none out;
+  audit_took = Took-none audit;
+  holds = h;
+}
+
+pub still_idle : (audit : SinkSeen) (k : KeeperSeen) → IsIdle (span audit audit) (span k k) [] []
+still_idle audit k = record { no_out = refl; no_audit = refl; unaimed = λ told. refl; still = refl }
+
+pub WentAimed-on : (s : Sinks) (P Q : List ℕ → List ℕ → Type 0) → ((o a : List ℕ) → P o a → Q o a) → WentAimed s P → WentAimed s Q
+WentAimed-on s P Q f went = record {
+  out = went.out;
+  audit = went.audit;
+  out_lasts = went.out_lasts;
+  audit_later = went.audit_later;
+  out_took = went.out_took;
+  audit_took = went.audit_took;
+  holds = f went.out went.audit went.holds;
+}
 
 -- the same, seen when out is a later one
 abbrev pub at_later : Sight → SinkSeen → Sight

@@ -1,5 +1,5 @@
 -- What a run sees of its keeper.
-use Rattle.std.specs.Prelude.{◌≡◌, ℕ, ◌+◌, ◌-◌, ◌^◌, ◌≤◌, min, zero, suc, length, IsTrue, List, [], ◌∷◌}
+use Rattle.std.specs.Prelude.{◌≡◌, ℕ, ◌+◌, ◌-◌, ◌^◌, ◌≤◌, min, zero, suc, length, List, [], ◌∷◌}
 use Rattle.jac_rows.specs.declared.row.Row.{Row}
 use Rattle.jac_rows.specs.declared.state.State.{State}
 use Rattle.jac_rows.specs.Good.{IsSound}
@@ -10,11 +10,6 @@ use Rattle.jac_app.specs.Outside.{Span}
 -- the keeper was not called
 abbrev pub IsStill : Span KeeperSeen → Type 0
 IsStill k = k.after ≡ k.before
-
--- where the keeper tells its state at the end, it told this one at the start
-pub record IsStarted (k : Span KeeperSeen) (start : State) : Type 0 where
-  pub told : IsTrue k.after.tells → IsTrue k.before.tells
-  pub start : IsTrue k.after.tells → start ≡ k.before.state
 
 -- a count grew by so much, or stands at its end
 abbrev pub Grew : ℕ → ℕ → ℕ → Type 0

@@ -5,7 +5,7 @@ use Rattle.std.specs.List.{slice_split, list_all, before_first, after_first}
 use Rattle.std.specs.Char.{is_ascii_digit, is_ascii_uppercase}
 use Rattle.std.specs.Str.{bytes_eq, is_utf8}
 use Rattle.std.specs.Str.Parse.{digits_value}
-use Rattle.jac_app.specs.declared.line.Ask.{Ask}
+use Rattle.jac_app.specs.declared.line.Event.{Event}
 
 -- the lines, each without its LF; the last may lack one
 abbrev pub lines_of : List ℕ → List (List ℕ)
@@ -87,7 +87,7 @@ is_nil [] = true
 is_nil (b ∷ bytes) = false
 
 -- the request of these parts: the path is what stands before the target's first `?`, the query what follows it
-abbrev pub asked : Option ℕ → List ℕ → List ℕ → List ℕ → Ask
+abbrev pub asked : Option ℕ → List ℕ → List ℕ → List ℕ → Event
 asked viewer method target body = record {
   viewer = viewer;
   method = method;
@@ -97,7 +97,7 @@ asked viewer method target body = record {
 }
 
 -- `ask VIEWER METHOD "TARGET" "BODY"`, with one space between two parts
-abbrev pub ask_of : List ℕ → Option Ask
+abbrev pub ask_of : List ℕ → Option Event
 ask_of line =
     option_and_then (λ first.
     option_and_then (λ viewer.

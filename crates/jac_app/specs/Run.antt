@@ -11,10 +11,12 @@ use Rattle.jac_app.specs.declared.command.Ending.{Ending}
 use Rattle.jac_app.specs.declared.command.Ending.TheVariants as endings
 use Rattle.jac_app.specs.declared.command.Role.{Role}
 use Rattle.jac_app.specs.declared.command.Role.TheVariants as roles
+use Rattle.jac_app.specs.declared.serve.Stopped.{Stopped}
+use Rattle.jac_app.specs.declared.serve.Stopped.TheVariants as stops
 use Rattle.jac_app.specs.declared.status.Status.{Status}
 use Rattle.jac_app.specs.declared.status.Status.TheVariants as statuses
 use Rattle.jac_app.specs.Application.{IsApplication}
-use Rattle.jac_app.specs.Keeping.{IsStill, IsStarted}
+use Rattle.jac_app.specs.Keeping.{IsStill}
 use Rattle.jac_app.specs.Line.{is_nil}
 use Rattle.jac_app.specs.Log.{script_of}
 use Rattle.jac_app.specs.Outside.{Span, span, Sinks, Took, IsFront, AWriteFailed}
@@ -131,6 +133,12 @@ Ends seen start command (Err (endings.ReadFault role)) out audit =
 Ends seen start command (Err (endings.TooLong role)) out audit =
     IsReached seen command role × IsLong seen command role × IsIdle seen.audit seen.keeper out audit
 
+-- why serving that stopped ends the run
+abbrev pub ending_of : Stopped → Ending
+ending_of (stops.Refused n) = endings.LineRefused n
+ending_of stops.Write = endings.WriteFault
+ending_of stops.Memory = endings.Memory
+
 -- why the file of this role, with this name, wasn't read
 abbrev pub IsUnread : Span FilesSeen → List ℕ → Role → Ending → Type 0
 IsUnread files name role (endings.ReadFault r) = (r ≡ role) × Rose files.before.faults files.after.faults
@@ -214,7 +222,7 @@ pub record RunsReplay (seen : Sight) (words : List (List ℕ)) (status : Status)
   pub served : List ℕ
   pub last : List ℕ
   pub is_command : command_of words ≡ Some command
-  pub started : IsStarted seen.keeper start
+  pub started : start ≡ seen.keeper.before.state
   pub ends : Ends seen start command ended served audit
   pub finishes : Finishes seen.out command ended last status
   pub out_text : out ≡ served ++ last

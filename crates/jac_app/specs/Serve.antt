@@ -58,6 +58,7 @@ AnswersLine app k served number line (Err stops.Memory) out audit = (out ≡ [])
 -- these events were served from this start on, or, where it may stop early, the first of them
 pub record IsServed (early : Bool) (app : Application) (k : Span KeeperSeen) (start : State) (events : List Event) (log : List Entry) : Type 0 where
   pub caused : IsCaused early app events log k.before.faults k.after.faults
+  pub told : IsTrue k.after.tells → IsTrue k.before.tells
   pub serves : IsTrue k.after.tells → Serves early app start events log k.after.state
 
 -- and their lines were put whole

@@ -8,7 +8,7 @@ ghost use Rattle.jac_engine.specs.Start.{IsStart};
 ghost use Rattle.jac_app.specs.Keeping.{IsForAll};
 ghost use Rattle.jac_app.specs.Application.{IsApplication};
 ghost use Rattle.jac_app.specs.Outside.{IsPut, span, sinks};
-ghost use Rattle.jac_app.specs.Run.{is_operand, command_of, named, replay_of, sight, sinks_of, name_of, limit_of, limit_text, IsUnread, IsUnopened, EndsServing, Ends, Runs, IsRun, fault_line, status_of, usage_line, Closed, Closes, Finishes, WentAimed};
+ghost use Rattle.jac_app.specs.Run.{is_operand, command_of, named, replay_of, sight, sinks_of, name_of, limit_of, limit_text, ending_of, IsUnread, IsUnopened, EndsServing, Ends, Runs, IsRun, fault_line, status_of, usage_line, Closed, Closes, Finishes, WentAimed};
 
 use crate::application::read_application;
 use crate::outside::{put, put_three};
@@ -146,11 +146,19 @@ fn serve<O: Sink, U: AuditSink, K: Keeper, L: Ledger>(
     match audit.aim(None) {
         Ok(()) => match serve_events(alloc, app, events, out, audit, keeper, splits) {
             Ok(()) => Ok(()),
-            Err(Stopped::Refused(line)) => Err(Ending::LineRefused(line)),
-            Err(Stopped::Write) => Err(Ending::WriteFault),
-            Err(Stopped::Memory) => Err(Ending::Memory),
+            Err(stopped) => Err(ending_of(stopped)),
         },
         Err(Failed) => Err(Ending::WriteFault),
+    }
+}
+
+fn ending_of(stopped: Stopped) -> Ending
+    ensures { result ≡ ending_of stopped }
+{
+    match stopped {
+        Stopped::Refused(line) => Ending::LineRefused(line),
+        Stopped::Write => Ending::WriteFault,
+        Stopped::Memory => Ending::Memory,
     }
 }
 
@@ -167,8 +175,7 @@ fn replay<F: Files, O: Sink, U: AuditSink, K: Keeper, L: Ledger>(
 ) -> Result<(), Ending>
     requires attached { IsTrue (K.seen keeper.old).attached }
     requires start { IsTrue (K.seen keeper.old).tells → IsForAll (K.seen keeper.old).state }
-    ensures told { IsTrue (K.seen keeper.new).tells → IsTrue (K.seen keeper.old).tells }
-    ensures ends { WentAimed (sinks (O.seen out.old) (O.seen out.new) (U.seen audit.old) (U.seen audit.new))
+    ensures { WentAimed (sinks (O.seen out.old) (O.seen out.new) (U.seen audit.old) (U.seen audit.new))
         (Ends (sight (F.seen files.old) (F.seen files.new) (O.seen out.old) (O.seen out.new) (U.seen audit.old) (U.seen audit.new) (K.seen keeper.old) (K.seen keeper.new))
         (K.seen keeper.old).state (replay_of app_name.now events_name.now) result) }
 {

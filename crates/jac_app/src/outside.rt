@@ -35,8 +35,8 @@ pub fn put_three<S: Sink>(
 ) -> Result<(), Failed>
     ensures { IsPut (span (S.seen sink.old) (S.seen sink.new)) (first.now ++ second.now ++ third.now) result }
 {
-    match put(sink, first) {
-        Ok(()) => match put_two(sink, second, third) {
+    match put_two(sink, first, second) {
+        Ok(()) => match put(sink, third) {
             Ok(()) => Ok(()),
             Err(Failed) => Err(Failed),
         },
@@ -54,8 +54,8 @@ pub fn put_four<S: Sink>(
 ) -> Result<(), Failed>
     ensures { IsPut (span (S.seen sink.old) (S.seen sink.new)) (first.now ++ second.now ++ third.now ++ fourth.now) result }
 {
-    match put(sink, first) {
-        Ok(()) => match put_three(sink, second, third, fourth) {
+    match put_three(sink, first, second, third) {
+        Ok(()) => match put(sink, fourth) {
             Ok(()) => Ok(()),
             Err(Failed) => Err(Failed),
         },
