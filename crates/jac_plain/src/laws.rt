@@ -1,9 +1,17 @@
-ghost use Rattle.std.specs.Prelude.{◌≡◌, true};
-ghost use Rattle.jac_lang.specs.Syntax.{Statements};
+ghost use Rattle.std.specs.Prelude.{◌≡◌, ℕ, Bool, true};
+ghost use Rattle.jac_lang.specs.Syntax.{Application, Statements};
+ghost use Rattle.jac_plain.specs.Models.{are_without_groups};
 ghost use Rattle.jac_plain.specs.Reading.{are_reading};
+ghost use Rattle.jac_plain.specs.Requests.{Visit, run_of};
 ghost use Rattle.jac_plain.specs.Statements.{Setting, Run, leaves_all};
+ghost use Rattle.jac_rows.specs.declared.plain.PlainState.{PlainState};
 
 /// A law: statements without a create, an update or a delete leave the tables.
 pub fn reading_leaves_tables()
     ensures { (k : Setting) (s : Statements) (r : Run) → are_reading s ≡ true → (leaves_all k s r).tables ≡ r.tables }
+{}
+
+/// A law: where no field is guarded, a run is the same under all assignments.
+pub fn same_run_without_groups()
+    ensures { (app : Application) (t : PlainState) (visit : Visit) (w v : ℕ → Bool) → are_without_groups app.models ≡ true → run_of w app t visit ≡ run_of v app t visit }
 {}
