@@ -49,7 +49,7 @@ alike_created k v name None site cells f g h same r = refl
 alike_created k v name (Some m) site cells f g h same r =
     let id = record_id k.number site m in
     let stored : created_cells k m id cells r ≡ created_cells (under v k) m id cells r =
-        same_shielded k v m id every_field (drafted k.models (fields_at k.models m) (λ e. value_in k e r) cells (default_cells k.models (fields_at k.models m))) h in
+    same_shielded k v m id every_field (drafted k.models (fields_at k.models m) (λ e. value_in k e r) cells (default_cells k.models (fields_at k.models m))) h in
     ap (λ c. with_binding name (value.Ref (Some id)) f (with_record m (plain_row id c) r)) stored
     ∙ alike_scoped _ f g same (with_record m (plain_row id (created_cells (under v k) m id cells r)) r)
 
