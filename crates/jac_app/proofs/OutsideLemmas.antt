@@ -1,5 +1,5 @@
 -- Puts, one after another.
-use Rattle.std.proofs.Common.{◌≡◌, ◌∙◌, ap, sym, subst, refl, inl, inr, ℕ, Bool, true, false, IsTrue, OnErr, Result, Ok, Err, arith, List, [], ◌++◌, append_assoc, append-nil}
+use Rattle.std.proofs.Common.{◌≡◌, ◌≤◌, ◌∙◌, ap, sym, subst, refl, inl, inr, ℕ, Bool, true, false, IsTrue, OnErr, Result, Ok, Err, arith, List, [], ◌++◌, append_assoc, append-nil}
 use Rattle.jac_io.specs.Faults.{Rose}
 use Rattle.jac_io.specs.Put.{AddsPrefix}
 use Rattle.jac_io.specs.Seen.{SinkSeen, Lasts}

@@ -1,4 +1,3 @@
-pub mod ReadingLaws
 pub mod DraftLaws
 pub mod RecordLaws
 pub mod RunLaws

@@ -20,7 +20,8 @@ use Rattle.jac_keep.specs.declared.alteration.Alteration.{Alteration}
 use Rattle.jac_keep.specs.Alterations.{altered, overlaid_from}
 use Rattle.jac_keep.specs.Kept.{state_with, applied}
 use Rattle.jac_keep.specs.Records.{with_id, before, behind, placed as put}
-use Rattle.jac_keep.specs.Sound.{IsSound, MayStand, AllStand}
+use Rattle.jac_rows.specs.Good.{IsSound}
+use Rattle.jac_keep.specs.Sound.{MayStand, AllStand}
 use Rattle.jac_keep.specs.declared.alteration.Change.{Change}
 use Rattle.jac_engine.specs.Running.{run_at, new_row, IsFit}
 use Rattle.jac_engine.specs.Start.{AreUnguarded}

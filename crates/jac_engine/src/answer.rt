@@ -5,7 +5,7 @@ ghost use Rattle.jac_plain.specs.Requests.{method_in};
 ghost use Rattle.jac_keep.specs.Cause.{HasCause};
 ghost use Rattle.jac_keep.specs.KeeperSeen.{Reads};
 ghost use Rattle.jac_keep.specs.Kept.{applied};
-ghost use Rattle.jac_keep.specs.Sound.{IsSound};
+ghost use Rattle.jac_rows.specs.Good.{IsSound};
 ghost use Rattle.jac_engine.specs.Answers.{visit_of, page_answer};
 ghost use Rattle.jac_engine.specs.Found.{found};
 ghost use Rattle.jac_engine.specs.Prepared.{IsPrepared, applied_if};

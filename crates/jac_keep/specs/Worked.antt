@@ -35,3 +35,9 @@ pub record IsUntouched {K : Type 0} (seen : K → KeeperSeen) (old new : WorkOve
 pub record ReadsWork {T K : Type 0} (seen : K → KeeperSeen) (old new : WorkOver K Alterations) (result : Result T Stop) : Type 0 where
   pub same : IsUntouched seen old new
   pub rose : IsErrOf result Keeper → Rose (seen old.keeper.now).faults (seen new.keeper.now).faults
+
+-- what a call that also writes keeps: the keeper as a reading call leaves it
+pub record WritesWork {T K : Type 0} (seen : K → KeeperSeen) (old new : WorkOver K Alterations) (result : Result T Stop) : Type 0 where
+  pub same_reference : new.keeper.ghost_name ≡ old.keeper.ghost_name
+  pub keeper : IsLeft (seen old.keeper.now) (seen new.keeper.now)
+  pub rose : IsErrOf result Keeper → Rose (seen old.keeper.now).faults (seen new.keeper.now).faults

@@ -84,6 +84,7 @@ impl<'k, K: Keeper> WorkOver<'k, K, Overlay> {
         requires a_table { IsTrue (K.seen self.old.keeper.now).tells → model_of_id id < length (K.seen self.old.keeper.now).state.tables }
         ensures exact { OnOk result (state_of K.seen self.new ≡ state_with id rows (state_of K.seen self.old)) }
         ensures told { IsTold K.seen self.old → OnOk result (IsTold K.seen self.new) }
+        ensures back { OnOk result (IsTold K.seen self.new → IsTold K.seen self.old) }
         ensures cause { HasCause (K.seen self.old.keeper.now).faults (K.seen self.new.keeper.now).faults result }
         ensures same { LeavesKeeper K.seen self.old self.new }
     {

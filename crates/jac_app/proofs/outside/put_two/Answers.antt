@@ -2,3 +2,11 @@ use Rattle.jac_io.specs.declared.sink.Failed.{Failed}
 use Rattle.jac_app.specs.Outside.{span}
 use Rattle.jac_app.proofs.OutsideLemmas.{IsPut-then, IsPut-torn}
 use Rattle.jac_app.proofs.outside.put_two.Goals as goal
+
+pub returns-in-Ok : goal.returns-in-Ok
+returns-in-Ok g c =
+    let seen = g.S.Sink.seen in
+    IsPut-then Failed (seen c.args.sink.now) (seen c.put.new.sink) (seen c.put-2.new.sink) c.args.first.now c.args.second.now _ _ c.in-Ok.ensures c.in-Ok-put-2.ensures
+
+pub returns-in-Err : goal.returns-in-Err
+returns-in-Err g c = IsPut-torn Failed (span (g.S.Sink.seen c.args.sink.now) (g.S.Sink.seen c.put.new.sink)) c.args.first.now c.args.second.now _ c.in-Err.ensures
