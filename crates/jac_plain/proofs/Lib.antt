@@ -1,2 +1,4 @@
 pub mod ReadingLaws
+pub mod GroupLaws
 pub mod ShownLaws
+pub mod GoodLaws

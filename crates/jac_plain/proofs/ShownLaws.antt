@@ -1,59 +1,112 @@
--- What the shown labels change of a run: nothing, where no model has groups.
-use Rattle.std.proofs.Common.{◌≡◌, ◌∙◌, ap, refl, ℕ, Bool, true, false, List, [], ◌∷◌, slice_get, Option, Some, None}
+-- Where no model has a group, nothing depends on the labels that are shown.
+use Rattle.std.proofs.Common.{◌≡◌, ◌∙◌, sym, refl, ap, ℕ, ◌==◌, Bool, true, false, if◌then◌else◌, List, [], ◌∷◌, ◌++◌, length, Option, Some, None}
+use Rattle.std.specs.Prelude.{slice_get, slice_set}
+use Rattle.jac_value.specs.Ids.{record_id}
 use Rattle.jac_value.specs.declared.value.Value.{Value}
-use Rattle.jac_lang.specs.Lookup.{model_place}
-use Rattle.jac_lang.specs.Syntax.{Application, Assigned, Statement, Statements}
+use Rattle.jac_value.specs.declared.value.Value.TheVariants as value
+use Rattle.jac_lang.specs.declared.bindings.Binding.{Binding}
+use Rattle.jac_lang.specs.declared.queries.Binder.{Binder}
+use Rattle.jac_lang.specs.Lookup.{fields_at, model_place}
+use Rattle.jac_lang.specs.Syntax.{Assigned, Statement, Statements, Application}
+use Rattle.jac_rows.specs.declared.plain.PlainRow.{PlainRow}
 use Rattle.jac_rows.specs.declared.plain.PlainState.{PlainState}
-use Rattle.jac_plain.specs.Expressions.{answers, is_true}
-use Rattle.jac_plain.specs.Requests.{Visit, run_of, body_in}
-use Rattle.jac_plain.specs.Statements.{Setting, Run, world_of, value_in, with_binding, choose, for_each, created, updated, leaves, leaves_all}
+use Rattle.jac_rows.specs.Tables.{rows_of}
+use Rattle.jac_plain.specs.Expressions.{answers, bound, binding, is_true}
+use Rattle.jac_plain.specs.Models.{are_without_groups}
+use Rattle.jac_plain.specs.Records.{drafted, default_cells, plain_row, shielded, every_field, is_set, changed, tables_after}
+use Rattle.jac_plain.specs.Requests.{Visit, body_in, run_of, setting_of}
+use Rattle.jac_plain.specs.Statements.{Setting, Run, world_of, value_in, cut_to, scoped, with_binding, choose, for_each, with_record, created_cells, created, updated_cells, updated, leaves, leaves_all}
+use Rattle.jac_plain.proofs.GroupLaws.{groups_none, shielded_groupless}
 
--- the setting with these labels shown
-abbrev showing : (ℕ → Bool) → Setting → Setting
-showing v k = record { models = k.models; viewer = k.viewer; number = k.number; shown = v }
+abbrev under : (ℕ → Bool) → Setting → Setting
+under v k = record k { shown = v }
 
-abbrev AreSame : (Run → Run) → (Run → Run) → Type 0
-AreSame one two = (r : Run) → one r ≡ two r
+-- two steps leave the same
+abbrev Alike : (Run → Run) → (Run → Run) → Type 0
+Alike f g = (r : Run) → f r ≡ g r
 
-same_choose : (c : Bool) (a b x y : Run → Run) → AreSame a x → AreSame b y → AreSame (choose c a b) (choose c x y)
-same_choose true a b x y one two r = one r
-same_choose false a b x y one two r = two r
+alike_scoped : (env : List Binding) (f g : Run → Run) → Alike f g → Alike (scoped env f) (scoped env g)
+alike_scoped env f g same r = ap (cut_to (length r.env)) (same (record r { env = env }))
 
-module _ (v w : ℕ → Bool) where
-  same_created : (k : Setting) (m : Option ℕ) (x : List ℕ) (site : ℕ) (cells : List Assigned) (body rest : Run → Run) → AreSame body rest
-      → AreSame (created (showing v k) x m site cells body) (created (showing w k) x m site cells rest)
-  same_created k None x site cells body rest same r = refl
-  same_created k (Some m) x site cells body rest same r = ap (λ (f : Run → Run). created (showing v k) x (Some m) site cells f r) (λ i q. same q i)
+alike_choose : (c : Bool) (f f2 g g2 : Run → Run) → Alike f f2 → Alike g g2 → Alike (choose c f g) (choose c f2 g2)
+alike_choose true f f2 g g2 one two r = one r
+alike_choose false f f2 g g2 one two r = two r
 
-  same_updated : (k : Setting) (m : Option ℕ) (target : Value) (cells : List Assigned) → AreSame (updated (showing v k) m target cells) (updated (showing w k) m target cells)
-  same_updated k None target cells r = refl
-  same_updated k (Some m) target cells r = refl
+alike_each : (bs : List Binder) (f g : Run → Run) → Alike f g → (tuples : List (List ℕ)) → Alike (for_each bs f tuples) (for_each bs g tuples)
+alike_each bs f g same [] r = refl
+alike_each bs f g same (ids ∷ tuples) r =
+    ap (for_each bs f tuples) (alike_scoped (bound bs ids r.env) f g same r) ∙ alike_each bs f g same tuples (scoped (bound bs ids r.env) g r)
 
-  mutual
-    same_one : (k : Setting) (s : Statement) → AreSame (leaves (showing v k) s) (leaves (showing w k) s)
-    same_one k (Statement.put e) r = refl
-    same_one k (Statement.escape e) r = refl
-    same_one k (Statement.bind x e body) r = ap (λ (f : Run → Run). with_binding x (value_in k e r) f r) (λ i q. same_all k body q i)
-    same_one k (Statement.assign x e) r = refl
-    same_one k (Statement.branch c first second) r =
-        same_choose (is_true (value_in k c r)) (leaves_all (showing v k) first) (leaves_all (showing v k) second) (leaves_all (showing w k) first) (leaves_all (showing w k) second)
-        (same_all k first) (same_all k second) r
-    same_one k (Statement.each q body) r = ap (λ (f : Run → Run). for_each q.binders f (answers (world_of k r) q r.env) r) (λ i q. same_all k body q i)
-    same_one k (Statement.create x m site cells body) r =
-        same_created k (model_place k.models m) x site cells (leaves_all (showing v k) body) (leaves_all (showing w k) body) (same_all k body) r
-    same_one k (Statement.update m e cells) r = same_updated k (model_place k.models m) (value_in k e r) cells r
-    same_one k (Statement.delete m e) r = refl
-    same_one k Statement.missing r = refl
-    same_one k (Statement.redirect e) r = refl
-    same_one k (Statement.template t) r = refl
-    same_one k (Statement.block body) r = same_all k body r
+same_shielded : (k : Setting) (v : ℕ → Bool) (m id : ℕ) (named : ℕ → Bool) (draft : List Value) → are_without_groups k.models ≡ true
+    → shielded k.models k.shown m id named draft ≡ shielded k.models v m id named draft
+same_shielded k v m id named draft h =
+    shielded_groupless k.models k.shown m id named draft (groups_none k.models m h)
+    ∙ sym (shielded_groupless k.models v m id named draft (groups_none k.models m h))
 
-    pub same_all : (k : Setting) (s : Statements) → AreSame (leaves_all (showing v k) s) (leaves_all (showing w k) s)
-    same_all k Statements.none r = refl
-    same_all k (Statements.more s rest) r = same_all k rest (leaves (showing v k) s r) ∙ ap (leaves_all (showing w k) rest) (same_one k s r)
+alike_created : (k : Setting) (v : ℕ → Bool) (name : List ℕ) (m : Option ℕ) (site : ℕ) (cells : List Assigned) (f g : Run → Run) → are_without_groups k.models ≡ true
+    → Alike f g → Alike (created k name m site cells f) (created (under v k) name m site cells g)
+alike_created k v name None site cells f g h same r = refl
+alike_created k v name (Some m) site cells f g h same r =
+    let id = record_id k.number site m in
+    let stored : created_cells k m id cells r ≡ created_cells (under v k) m id cells r =
+    same_shielded k v m id every_field (drafted k.models (fields_at k.models m) (λ e. value_in k e r) cells (default_cells k.models (fields_at k.models m))) h in
+    ap (λ c. with_binding name (value.Ref (Some id)) f (with_record m (plain_row id c) r)) stored
+    ∙ alike_scoped _ f g same (with_record m (plain_row id (created_cells (under v k) m id cells r)) r)
 
--- a run is the same, whichever labels are shown
-pub runs_alike : (v w : ℕ → Bool) (app : Application) (t : PlainState) (visit : Visit) → run_of v app t visit ≡ run_of w app t visit
-runs_alike v w app t visit =
-    same_all v w (record { models = app.models; viewer = visit.viewer; number = t.number; shown = v }) (body_in (slice_get app.views visit.view))
-    (record { tables = t.tables; env = visit.env; pieces = [] })
+changed_if : (b : Bool) (x y : PlainRow) (rows more rest : List PlainRow) → x ≡ y → more ≡ rest → (if b then x ∷ rows else more) ≡ (if b then y ∷ rows else rest)
+changed_if true x y rows more rest e i = ap (λ z. z ∷ rows) e
+changed_if false x y rows more rest e i = i
+
+same_changed : (id : ℕ) (f g : List Value → List Value) → ((cells : List Value) → f cells ≡ g cells) → (rows : List PlainRow) → changed id f rows ≡ changed id g rows
+same_changed id f g same [] = refl
+same_changed id f g same (r ∷ rows) =
+    changed_if (r.id == id) (plain_row r.id (f r.cells)) (plain_row r.id (g r.cells)) rows (r ∷ changed id f rows) (r ∷ changed id g rows)
+    (ap (plain_row r.id) (same r.cells)) (ap (λ rest. r ∷ rest) (same_changed id f g same rows))
+
+same_after : (m : ℕ) (target : Value) (f g : ℕ → List PlainRow → List PlainRow) → ((id : ℕ) (rows : List PlainRow) → f id rows ≡ g id rows) → (tables : List (List PlainRow))
+    → tables_after m target f tables ≡ tables_after m target g tables
+same_after m (value.Ref (Some id)) f g same tables = ap (slice_set tables m) (same id (rows_of tables m))
+same_after m (value.Ref None) f g same tables = refl
+same_after m (value.Int i) f g same tables = refl
+same_after m (value.Text t) f g same tables = refl
+same_after m (value.Bool b) f g same tables = refl
+
+alike_updated : (k : Setting) (v : ℕ → Bool) (m : Option ℕ) (target : Value) (cells : List Assigned) → are_without_groups k.models ≡ true
+    → Alike (updated k m target cells) (updated (under v k) m target cells)
+alike_updated k v None target cells h r = refl
+alike_updated k v (Some m) target cells h r =
+    ap (λ ts. record r { tables = ts })
+    (same_after m target (λ id rows. changed id (updated_cells k m id cells r) rows) (λ id rows. changed id (updated_cells (under v k) m id cells r) rows)
+    (λ id rows. same_changed id (updated_cells k m id cells r) (updated_cells (under v k) m id cells r)
+    (λ old. same_shielded k v m id (is_set (fields_at k.models m) cells) (drafted k.models (fields_at k.models m) (λ e. value_in k e r) cells old) h) rows) r.tables)
+
+mutual
+  alike_one : (k : Setting) (v : ℕ → Bool) (s : Statement) → are_without_groups k.models ≡ true → Alike (leaves k s) (leaves (under v k) s)
+  alike_one k v (Statement.put e) h r = refl
+  alike_one k v (Statement.escape e) h r = refl
+  alike_one k v (Statement.bind x e body) h r =
+      alike_scoped (r.env ++ binding x (value_in k e r) ∷ []) (leaves_all k body) (leaves_all (under v k) body) (alike_all k v body h) r
+  alike_one k v (Statement.assign x e) h r = refl
+  alike_one k v (Statement.branch c first second) h r =
+      alike_choose (is_true (value_in k c r)) (leaves_all k first) (leaves_all (under v k) first) (leaves_all k second) (leaves_all (under v k) second)
+      (alike_all k v first h) (alike_all k v second h) r
+  alike_one k v (Statement.each q body) h r =
+      alike_each q.binders (leaves_all k body) (leaves_all (under v k) body) (alike_all k v body h) (answers (world_of k r) q r.env) r
+  alike_one k v (Statement.create x m site cells body) h r =
+      alike_created k v x (model_place k.models m) site cells (leaves_all k body) (leaves_all (under v k) body) h (alike_all k v body h) r
+  alike_one k v (Statement.update m e cells) h r = alike_updated k v (model_place k.models m) (value_in k e r) cells h r
+  alike_one k v (Statement.delete m e) h r = refl
+  alike_one k v Statement.missing h r = refl
+  alike_one k v (Statement.redirect e) h r = refl
+  alike_one k v (Statement.template t) h r = refl
+  alike_one k v (Statement.block body) h r = alike_all k v body h r
+
+  alike_all : (k : Setting) (v : ℕ → Bool) (s : Statements) → are_without_groups k.models ≡ true → Alike (leaves_all k s) (leaves_all (under v k) s)
+  alike_all k v Statements.none h r = refl
+  alike_all k v (Statements.more s rest) h r =
+      ap (leaves_all k rest) (alike_one k v s h r) ∙ alike_all k v rest h (leaves (under v k) s r)
+
+pub same_run : (app : Application) (t : PlainState) (visit : Visit) (w v : ℕ → Bool) → are_without_groups app.models ≡ true
+    → run_of w app t visit ≡ run_of v app t visit
+same_run app t visit w v h =
+    alike_all (setting_of w app t visit) v (body_in (slice_get app.views visit.view)) h (record { tables = t.tables; env = visit.env; pieces = [] })

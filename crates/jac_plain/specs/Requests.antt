@@ -7,7 +7,7 @@ use Rattle.jac_lang.specs.declared.pages.Verb.{Verb}
 use Rattle.jac_lang.specs.declared.pages.Verb.TheVariants as verbs
 use Rattle.jac_lang.specs.Syntax.{Application, Page as View, Statements}
 use Rattle.jac_rows.specs.declared.plain.PlainState.{PlainState}
-use Rattle.jac_plain.specs.Statements.{Run, leaves_all}
+use Rattle.jac_plain.specs.Statements.{Setting, Run, leaves_all}
 use Rattle.jac_plain.specs.declared.page.Page.{Page}
 use Rattle.jac_plain.specs.declared.page.Piece.{Piece}
 use Rattle.jac_plain.specs.declared.page.Piece.TheVariants as piece
@@ -59,17 +59,15 @@ abbrev pub method_in : Option View → Verb
 method_in None = verbs.Get
 method_in (Some v) = v.method
 
--- a world for each assignment
-abbrev pub Worlds : Type 0
-Worlds = (ℕ → Bool) → PlainState
+abbrev pub setting_of : (ℕ → Bool) → Application → PlainState → Visit → Setting
+setting_of w app t visit = record { models = app.models; shown = w; viewer = visit.viewer; number = t.number }
 
--- what the view's statements leave of the state that an assignment shows
+-- what the view's statements leave of a state, under the labels that are shown
 abbrev pub run_of : (ℕ → Bool) → Application → PlainState → Visit → Run
 run_of w app t visit =
-    leaves_all (record { models = app.models; viewer = visit.viewer; number = t.number; shown = w })
-    (body_in (slice_get app.views visit.view)) (record { tables = t.tables; env = visit.env; pieces = [] })
+    leaves_all (setting_of w app t visit) (body_in (slice_get app.views visit.view)) (record { tables = t.tables; env = visit.env; pieces = [] })
 
--- the page of a request on it
+-- the page of a request on a state
 abbrev pub page : (ℕ → Bool) → Application → PlainState → Visit → Page
 page w app t visit = page_of (run_of w app t visit).pieces
 
@@ -80,3 +78,7 @@ after_by verbs.Post w app t visit = record { tables = (run_of w app t visit).tab
 -- the state after a request that has a page: a GET leaves it, an accepted POST takes its number
 abbrev pub after : (ℕ → Bool) → Application → PlainState → Visit → PlainState
 after w app t visit = after_by (method_in (slice_get app.views visit.view)) w app t visit
+
+-- a state for each assignment
+abbrev pub Worlds : Type 0
+Worlds = (ℕ → Bool) → PlainState

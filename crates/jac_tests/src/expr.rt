@@ -1,9 +1,11 @@
+//! Expressions and queries over a note whose title is secret.
 ghost use Rattle.std.specs.Prelude.{◌≡◌, ◌≤◌, ◌<◌, ◌∷◌, [], true, length, IfOk};
 ghost use Rattle.std.specs.List.{AllByRecursion};
 ghost use Rattle.jac_rows.specs.declared.row.Row.{Row as Seen};
-ghost use Rattle.jac_keep.specs.Sound.{IsSound, IsMade};
+ghost use Rattle.jac_rows.specs.Good.{IsSound, IsMade};
 
-use crate::{Ctx, Env, eval, tuples};
+use crate::rows::guard_of;
+use jac_expr::{Ctx, Env, eval, tuples};
 use jac_facet::Facet;
 use jac_io::Calls;
 use jac_keep::{MemoryKeeper, Stop, Work};
@@ -21,20 +23,11 @@ use std::process::Abort;
 use std::sync::ledger::{Blank, Ledger};
 use std::test::Fail;
 
-fn label_guard(alloc: Global, sign: bool) -> Result<Guard, Memory>
-    ensures { IfOk result (λ g. g ≡ (32768, sign) ∷ []) }
-{
-    match Guard::one(alloc, Label(32768), sign) {
-        Ok(guard) => Ok(guard),
-        Err(_) => Err(Memory),
-    }
-}
-
 fn note(alloc: Global, sign: bool, title: &str) -> Result<Row, Memory>
     ensures id { IfOk result (λ r. r.id ≡ 4096) }
     ensures guard { IfOk result (λ r. r.guard ≡ (32768, sign) ∷ []) }
 {
-    let guard = label_guard(alloc, sign)?;
+    let guard = guard_of(alloc, 32768, sign)?;
     let title = Txt::from_str(alloc, title)?;
     let mut cells = Vec::new(alloc);
     cells.push(Value::Text(title))?;

@@ -1,33 +1,39 @@
-//! A work over a keeper in memory and over one that tells nothing.
-ghost use Rattle.std.specs.Prelude.{◌≡◌, ◌≤◌, ◌<◌, ◌^◌, ◌∷◌, [], false, true, length, IfOk, OnOk, IsTrue, IsErrOf};
+//! A work over a keeper in memory, and over one that tells nothing or stops telling.
+ghost use Rattle.std.specs.Prelude.{◌≡◌, ◌≤◌, ◌<◌, ◌^◌, ◌∷◌, [], true, length, IfOk, OnOk, IsTrue, IsErrOf};
 ghost use Rattle.jac_value.specs.Ids.{model_of_id};
-ghost use Rattle.jac_keep.specs.Sound.{IsSound, IsMade};
+ghost use Rattle.jac_rows.specs.Good.{IsSound, IsMade};
 ghost use Rattle.std.specs.List.{AllByRecursion};
 ghost use Rattle.jac_rows.specs.declared.row.Row.{Row as Seen};
 ghost use Rattle.jac_rows.specs.Tables.{rows_of};
+ghost use Rattle.jac_io.specs.Faults.{Rose};
 ghost use Rattle.jac_keep.specs.Cause.{HasCause};
+ghost use Rattle.jac_keep.specs.KeeperSeen.{IsLeft};
 ghost use Rattle.jac_keep.specs.Kept.{state_with, applied};
 
-use crate::{Alterations, Change, Keeper, MemoryKeeper, Stop, Work};
+use crate::rows::guard_of;
 use jac_io::Calls;
+use jac_keep::{Alterations, Change, Keeper, MemoryKeeper, Stop, Work};
 use jac_rows::{Row, Rows, State, Table, Tables};
 use jac_value::{Cells, Id, Memory, Txt, Value};
-use jac_world::{Guard, Label};
+use jac_world::Guard;
 use std::alloc::Global;
 use std::test::Fail;
 
-/// A keeper that tells nothing: it has no rows, and fails where it is broken.
+/// A keeper without rows. It tells so at most until it fails or takes a change, and fails where it is broken.
 #[derive(Drop)]
-struct SilentKeeper {
+struct ShyKeeper {
+    tells: bool,
     broken: bool,
     faults: u64,
 }
 
-impl SilentKeeper {
+impl ShyKeeper {
     fn answer(&mut self) -> Result<(), Stop>
         ensures cause { HasCause self.old.faults self.new.faults result }
+        ensures told { IsTrue self.new.tells → IsTrue self.old.tells }
     {
         if self.broken {
+            self.tells = false;
             self.faults = self.faults.saturating_add(1);
             return Err(Stop::Keeper);
         }
@@ -35,14 +41,8 @@ impl SilentKeeper {
     }
 }
 
-impl Keeper for SilentKeeper {
-    ghost tells = { λ _. false };
-
-    ghost state = { λ _. record { tables = []; number = 1 } };
-
-    ghost faults = { λ k. k.faults };
-
-    ghost attached = { λ _. true };
+impl Keeper for ShyKeeper {
+    ghost seen = { λ k. record { tells = k.tells; state = record { tables = []; number = 1 }; faults = k.faults; attached = true } };
 
     fn number(&mut self) -> Result<u64, Stop> {
         self.answer()?;
@@ -60,6 +60,7 @@ impl Keeper for SilentKeeper {
     }
 
     fn apply(&mut self, _alloc: Global, _change: &Change) -> Result<(), Stop> {
+        self.tells = false;
         self.answer()?;
         Ok(())
     }
@@ -74,12 +75,11 @@ struct Counts {
 }
 
 fn counts_without<K: Keeper>(keeper: &mut K, alloc: Global, id: Id) -> Result<Counts, Stop>
-    requires attached { IsTrue (K.attached keeper.old) }
-    requires a_table { IsTrue (K.tells keeper.old) → model_of_id id < length (K.state keeper.old).tables }
-    ensures left { IsTrue (K.tells keeper.old) → IfOk result (λ c. c.left ≡ length (rows_of (state_with id [] (K.state keeper.old)).tables (model_of_id id))) }
-    ensures cause { HasCause (K.faults keeper.old) (K.faults keeper.new) result }
-    ensures tells { K.tells keeper.new ≡ K.tells keeper.old }
-    ensures state { K.state keeper.new ≡ K.state keeper.old }
+    requires attached { IsTrue (K.seen keeper.old).attached }
+    requires a_table { IsTrue (K.seen keeper.old).tells → model_of_id id < length (K.seen keeper.old).state.tables }
+    ensures left { IsTrue (K.seen keeper.new).tells → IfOk result (λ c. c.left ≡ length (rows_of (state_with id [] (K.seen keeper.old).state).tables (model_of_id id))) }
+    ensures keeper { IsLeft (K.seen keeper.old) (K.seen keeper.new) }
+    ensures rose { IsErrOf result Stop.Keeper → Rose (K.seen keeper.old).faults (K.seen keeper.new).faults }
 {
     let model = jac_value::id_model(id);
     let mut work = Work::new(alloc, keeper);
@@ -96,11 +96,9 @@ fn counts_without<K: Keeper>(keeper: &mut K, alloc: Global, id: Id) -> Result<Co
 
 /// The change that deletes the record, as the request of this number.
 fn deletion<K: Keeper>(keeper: &mut K, alloc: Global, id: Id, number: u64) -> Result<Change, Stop>
-    requires { IsTrue (K.tells keeper.old) → model_of_id id < length (K.state keeper.old).tables }
-    ensures applied { IfOk result (λ c. applied c (K.state keeper.old) ≡ record (state_with id [] (K.state keeper.old)) { number = number }) }
-    ensures tells { K.tells keeper.new ≡ K.tells keeper.old }
-    ensures state { K.state keeper.new ≡ K.state keeper.old }
-    ensures attached { K.attached keeper.new ≡ K.attached keeper.old }
+    requires { IsTrue (K.seen keeper.old).tells → model_of_id id < length (K.seen keeper.old).state.tables }
+    ensures applied { IfOk result (λ c. applied c (K.seen keeper.old).state ≡ record (state_with id [] (K.seen keeper.old).state) { number = number }) }
+    ensures same { K.seen keeper.new ≡ K.seen keeper.old }
 {
     let mut work = Work::new(alloc, keeper);
     work.replace(id, Rows::empty(alloc))?;
@@ -110,10 +108,10 @@ fn deletion<K: Keeper>(keeper: &mut K, alloc: Global, id: Id, number: u64) -> Re
 
 /// Deletes the record for good, as the request of this number.
 fn delete<K: Keeper>(keeper: &mut K, alloc: Global, id: Id, number: u64) -> Result<(), Stop>
-    requires attached { IsTrue (K.attached keeper.old) }
-    requires a_table { IsTrue (K.tells keeper.old) → model_of_id id < length (K.state keeper.old).tables }
-    requires good { IsTrue (K.tells keeper.old) → IsSound (record (state_with id [] (K.state keeper.old)) { number = number }) }
-    ensures deleted { IsTrue (K.tells keeper.old) → OnOk result (K.state keeper.new ≡ record (state_with id [] (K.state keeper.old)) { number = number }) }
+    requires attached { IsTrue (K.seen keeper.old).attached }
+    requires a_table { IsTrue (K.seen keeper.old).tells → model_of_id id < length (K.seen keeper.old).state.tables }
+    requires good { IsTrue (K.seen keeper.old).tells → IsSound (record (state_with id [] (K.seen keeper.old).state) { number = number }) }
+    ensures deleted { IsTrue (K.seen keeper.new).tells → OnOk result ((K.seen keeper.new).state ≡ record (state_with id [] (K.seen keeper.old).state) { number = number }) }
 {
     let change = deletion(keeper, alloc, id, number)?;
     keeper.apply(alloc, &change)?;
@@ -133,15 +131,6 @@ fn text_row(alloc: Global, id: Id, guard: Guard, text: &str) -> Result<Row, Memo
         guard,
         cells: Cells::from_vec(cells),
     })
-}
-
-fn guard_of(alloc: Global, label: u128, sign: bool) -> Result<Guard, Memory>
-    ensures { IfOk result (λ g. g ≡ (label, sign) ∷ []) }
-{
-    match Guard::one(alloc, Label(label), sign) {
-        Ok(guard) => Ok(guard),
-        Err(_) => Err(Memory),
-    }
 }
 
 /// Two users.
@@ -207,7 +196,7 @@ fn listed(alloc: Global, call: u64) -> Result<Calls, Memory> {
 }
 
 #[test]
-#[tactic(auto, using(crate::proofs::SoundLaws::sound_without))]
+#[tactic(auto, using(jac_keep::proofs::SoundLaws::sound_without))]
 fn an_apply_replaces(rt: HostRuntime) -> Result<(), Fail> {
     let alloc = rt.alloc();
     let state = small_state(alloc)?;
@@ -220,7 +209,7 @@ fn an_apply_replaces(rt: HostRuntime) -> Result<(), Fail> {
 }
 
 #[test]
-#[tactic(auto, using(crate::proofs::SoundLaws::sound_without))]
+#[tactic(auto, using(jac_keep::proofs::SoundLaws::sound_without))]
 fn listed_calls_stop(rt: HostRuntime) -> Result<(), Fail> {
     let alloc = rt.alloc();
     let state = small_state(alloc)?;
@@ -235,7 +224,8 @@ fn listed_calls_stop(rt: HostRuntime) -> Result<(), Fail> {
 #[test]
 fn silence_is_allowed(rt: HostRuntime) -> Result<(), Fail> {
     let alloc = rt.alloc();
-    let mut keeper = SilentKeeper {
+    let mut keeper = ShyKeeper {
+        tells: false,
         broken: false,
         faults: 0,
     };
@@ -243,6 +233,21 @@ fn silence_is_allowed(rt: HostRuntime) -> Result<(), Fail> {
     assert_eq!(rt; delete(&mut keeper, alloc, Id(12289), 5), Ok(()));
     keeper.broken = true;
     assert_eq!(rt; delete(&mut keeper, alloc, Id(12289), 5), Err(Stop::Keeper));
+    Ok(())
+}
+
+#[test]
+fn telling_may_end(rt: HostRuntime) -> Result<(), Fail> {
+    let alloc = rt.alloc();
+    let mut keeper = ShyKeeper {
+        tells: true,
+        broken: false,
+        faults: 0,
+    };
+    assert_eq!(rt; keeper.rows(alloc, 1)?.as_slice().len(), 0);
+    keeper.broken = true;
+    assert_eq!(rt; keeper.number(), Err(Stop::Keeper));
+    assert!(rt; !keeper.tells);
     Ok(())
 }
 

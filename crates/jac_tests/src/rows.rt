@@ -1,7 +1,8 @@
+//! Rows, states, and what two assignments show of one.
 ghost use Rattle.std.specs.Prelude.{◌≡◌, [], ◌∷◌, true, false, IfOk};
 ghost use Rattle.jac_rows.specs.declared.row.Row.{Row};
 
-use crate::{
+use jac_rows::{
     PlainRow, PlainState, PlainTable, PlainTables, Row, Rows, State, Table, Tables, project,
 };
 use jac_value::{Cells, Id, Memory, Value};
@@ -15,10 +16,19 @@ fn cells(alloc: Global, number: i64) -> Result<Cells, Memory> {
     Ok(Cells::from_vec(cells))
 }
 
+pub(crate) fn guard_of(alloc: Global, label: u128, sign: bool) -> Result<Guard, Memory>
+    ensures { IfOk result (λ g. g ≡ (label, sign) ∷ []) }
+{
+    match Guard::one(alloc, Label(label), sign) {
+        Ok(guard) => Ok(guard),
+        Err(_) => Err(Memory),
+    }
+}
+
 fn row(alloc: Global, id: u128, sign: bool, number: i64) -> Result<Row, Memory>
     ensures { IfOk result (λ (r : Row). (r.id ≡ id) × (r.guard ≡ (98312, sign) ∷ [])) }
 {
-    let guard = crate::memory::from_world(Guard::one(alloc, Label(98312), sign))?;
+    let guard = guard_of(alloc, 98312, sign)?;
     let cells = cells(alloc, number)?;
     Ok(Row {
         id: Id(id),
