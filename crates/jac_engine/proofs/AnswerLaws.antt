@@ -14,7 +14,8 @@ use Rattle.jac_plain.specs.Statements.{Run}
 use Rattle.jac_rows.specs.declared.row.Row.{Row}
 use Rattle.jac_rows.specs.declared.state.State.{State}
 use Rattle.jac_plain.specs.Requests.{Visit, method_in, run_of, page, page_of, after, after_by}
-use Rattle.jac_plain.proofs.ShownLaws.{runs_alike}
+use Rattle.jac_plain.specs.Models.{are_without_groups}
+use Rattle.jac_plain.proofs.ShownLaws.{same_run}
 use Rattle.jac_keep.specs.declared.alteration.Alteration.{Alteration}
 use Rattle.jac_keep.specs.declared.alteration.Change.{Change}
 use Rattle.jac_keep.specs.Alterations.{overlaid_from}
@@ -25,7 +26,7 @@ use Rattle.jac_engine.specs.Answers.{visit_of, page_answer}
 use Rattle.jac_engine.specs.Viewed.{Stores}
 use Rattle.jac_engine.specs.Ran.{ran_by}
 use Rattle.jac_engine.specs.Running.{IsRunnable, AreRunnable, IsFit}
-use Rattle.jac_engine.specs.Served.{is_showing, are_showing, is_making, are_making, is_fixed, is_served_body, is_served_view, are_served_views, are_without_groups, have_own_routes, are_served}
+use Rattle.jac_engine.specs.Served.{is_showing, are_showing, is_making, are_making, is_fixed, is_served_body, is_served_view, are_served_views, have_own_routes, are_served}
 use Rattle.jac_engine.specs.Start.{AreUnguarded, IsStart}
 use Rattle.jac_engine.proofs.RecordLaws.{SoundLaw, IsBare}
 
@@ -91,6 +92,10 @@ served_body app n v h e =
     let parts = and_parts (are_without_groups app.models && are_served_views app.views) (have_own_routes app.views) h in
     body_among app.views n v (and_parts (are_without_groups app.models) (are_served_views app.views) parts.0).1 e
 
+-- the models of a served application have no groups
+pub served_groupless : (app : Application) → are_served app ≡ true → are_without_groups app.models ≡ true
+served_groupless app h = (and_parts (are_without_groups app.models) (are_served_views app.views) (and_parts (are_without_groups app.models && are_served_views app.views) (have_own_routes app.views) h).0).0
+
 -- rows that everybody sees show alike
 alike_rows : (v w : ℕ → Bool) (rows : List Row) → AllByRecursion IsBare rows → rows_at v rows ≡ rows_at w rows
 alike_rows v w [] bare = refl
@@ -123,24 +128,24 @@ ran_after : (app : Application) (v : View) (ask : Ask) (place n : ℕ) (s : Stat
     → record { tables = (ran_by app v ask n s).tables; number = n + 1 } ≡ after (shown []) app (project_at (shown []) s) (visit_of app ask place)
 ran_after app v ask place n s is_view is_post is_number = rw (is_view, is_post, is_view, is_number) refl
 
-after_by_alike : (verb : Verb) (v w : ℕ → Bool) (app : Application) (t : PlainState) (visit : Visit) → after_by verb v app t visit ≡ after_by verb w app t visit
-after_by_alike verbs.Get v w app t visit = refl
-after_by_alike verbs.Post v w app t visit = ap (λ (r : Run). record { tables = r.tables; number = t.number + 1 }) (runs_alike v w app t visit)
+after_by_alike : (verb : Verb) (v w : ℕ → Bool) (app : Application) (t : PlainState) (visit : Visit) → are_without_groups app.models ≡ true → after_by verb v app t visit ≡ after_by verb w app t visit
+after_by_alike verbs.Get v w app t visit groupless = refl
+after_by_alike verbs.Post v w app t visit groupless = ap (λ (r : Run). record { tables = r.tables; number = t.number + 1 }) (same_run app t visit v w groupless)
 
-after_alike : (v w : ℕ → Bool) (app : Application) (t : PlainState) (visit : Visit) → after v app t visit ≡ after w app t visit
-after_alike v w app t visit = after_by_alike (method_in (slice_get app.views visit.view)) v w app t visit
+after_alike : (v w : ℕ → Bool) (app : Application) (t : PlainState) (visit : Visit) → are_without_groups app.models ≡ true → after v app t visit ≡ after w app t visit
+after_alike v w app t visit groupless = after_by_alike (method_in (slice_get app.views visit.view)) v w app t visit groupless
 
 -- the change of a run stores what the interpreter leaves, in every world
 pub ran_stores : (app : Application) (v : View) (ask : Ask) (place n : ℕ) (s : State) (change : Change) → slice_get app.views place ≡ Some v → v.method ≡ verbs.Post
-    → n ≡ s.number → n < 2 ^ 40 → IsStart app s
+    → n ≡ s.number → n < 2 ^ 40 → are_without_groups app.models ≡ true → IsStart app s
     → project_at (shown []) (applied change s) ≡ record { tables = (ran_by app v ask n s).tables; number = n + 1 }
     → IsFit (n + 1) (applied change s) → change.number ≡ n + 1 → Stores app s (visit_of app ask place) change
-ran_stores app v ask place n s change is_view is_post is_number few start world fit next = record {
+ran_stores app v ask place n s change is_view is_post is_number few groupless start world fit next = record {
   room = omega (arith, is_number, few);
   worlds = λ w.
       alike w (shown []) (applied change s) fit.unguarded ∙ world ∙ ran_after app v ask place n s is_view is_post is_number
       ∙ ap (λ t. after (shown []) app t (visit_of app ask place)) (alike (shown []) w s start.unguarded)
-      ∙ after_alike (shown []) w app (project_at w s) (visit_of app ask place);
+      ∙ after_alike (shown []) w app (project_at w s) (visit_of app ask place) groupless;
   start = record {
     sound = rw next fit.sound;
     tables = rw (length_overlaid 0 change.changed s.tables) start.tables;

@@ -6,7 +6,7 @@ use Rattle.jac_lang.proofs.Places.{position-seen}
 use Rattle.jac_lang.specs.Syntax.{Page}
 use Rattle.jac_lang.specs.declared.pages.View.{View}
 use Rattle.jac_lang.specs.declared.schema.Group.{Group}
-use Rattle.jac_engine.specs.Served.{is_none}
+use Rattle.jac_plain.specs.Models.{is_none}
 
 pub position_seen : (p : Page → Bool) (vs : List View) → position (λ v. p (page_of v)) vs ≡ position p (pages_of vs)
 position_seen p vs = position-seen page_of pages_of refl (λ _ _. refl) p vs

@@ -15,7 +15,8 @@ use Rattle.jac_rows.specs.declared.plain.PlainRow.{PlainRow}
 use Rattle.jac_rows.specs.declared.row.Row.{Row}
 use Rattle.jac_rows.specs.declared.state.State.{State}
 use Rattle.jac_plain.specs.declared.page.Piece.{Piece}
-use Rattle.jac_plain.specs.Statements.{Run, plain_row, with_ids, placed, with_record, with_binding}
+use Rattle.jac_plain.specs.Records.{plain_row, with_ids, with_row}
+use Rattle.jac_plain.specs.Statements.{Run, with_record, with_binding}
 use Rattle.jac_keep.specs.declared.alteration.Alteration.{Alteration}
 use Rattle.jac_keep.specs.Alterations.{altered, overlaid_from}
 use Rattle.jac_keep.specs.Kept.{state_with, applied}
@@ -43,14 +44,14 @@ with_ids_at w test [] = refl
 with_ids_at w test (r ∷ rows) = passing_if w test r rows (test r.id) (holds w r.guard) refl refl (with_ids_at w test rows)
 
 -- the new row in its place
-placed_at : (w : ℕ → Bool) (id : ℕ) (cells : List Value) (rows : List Row) → rows_at w (put id (new_row id cells ∷ []) rows) ≡ placed (plain_row id cells) (rows_at w rows)
+placed_at : (w : ℕ → Bool) (id : ℕ) (cells : List Value) (rows : List Row) → rows_at w (put id (new_row id cells ∷ []) rows) ≡ with_row (plain_row id cells) (rows_at w rows)
 placed_at w id cells rows =
     ap (rows_at w) (append_assoc (before id rows) (new_row id cells ∷ []) (behind id rows))
     ∙ rows_at-append w (before id rows) (new_row id cells ∷ behind id rows)
     ∙ rw (with_ids_at w (λ i. nat_lt i id) rows, with_ids_at w (λ i. nat_lt id i) rows) refl
 
 altered_at : (w : ℕ → Bool) (id model : ℕ) (cells : List Value) (t : List Row) (same : Bool) → (model_of_id id == model) ≡ same
-    → rows_at w (altered model (one id cells) t) ≡ (if same then placed (plain_row id cells) (rows_at w t) else rows_at w t)
+    → rows_at w (altered model (one id cells) t) ≡ (if same then with_row (plain_row id cells) (rows_at w t) else rows_at w t)
 altered_at w id model cells t true s = rw s (placed_at w id cells t)
 altered_at w id model cells t false s = rw s refl
 
@@ -61,7 +62,7 @@ past w id k cells (t ∷ ts) h =
     rw (altered_at w id k cells t false other, past w id (k + 1) cells ts (omega (arith, h))) refl
 
 set_at : (w : ℕ → Bool) (id k j : ℕ) (cells : List Value) (ts : List (List Row)) → model_of_id id ≡ k + j
-    → map (rows_at w) (overlaid_from k (one id cells) ts) ≡ slice_set (map (rows_at w) ts) j (placed (plain_row id cells) (rows_of (map (rows_at w) ts) j))
+    → map (rows_at w) (overlaid_from k (one id cells) ts) ≡ slice_set (map (rows_at w) ts) j (with_row (plain_row id cells) (rows_of (map (rows_at w) ts) j))
 set_at w id k j cells [] h = refl
 set_at w id k zero cells (t ∷ ts) h =
     let here : (model_of_id id == k) ≡ true = grind (arith, h) in

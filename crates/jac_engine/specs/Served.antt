@@ -4,7 +4,8 @@ use Rattle.std.specs.List.{list_all, list_any}
 use Rattle.std.specs.Str.{bytes_eq}
 use Rattle.jac_lang.specs.declared.pages.Verb.{Verb}
 use Rattle.jac_lang.specs.declared.pages.Verb.TheVariants as verbs
-use Rattle.jac_lang.specs.Syntax.{Statement, Statements, FieldGroup, Entity, Page, Application}
+use Rattle.jac_lang.specs.Syntax.{Statement, Statements, Page, Application}
+use Rattle.jac_plain.specs.Models.{are_without_groups}
 
 abbrev mutual
   -- a statement that shows values: any expression, once or for each answer of any query
@@ -56,14 +57,6 @@ is_served_view v = is_fixed v.path && is_served_body v.method v.body
 abbrev pub are_served_views : List Page → Bool
 are_served_views [] = true
 are_served_views (v ∷ vs) = is_served_view v && are_served_views vs
-
-abbrev pub is_none : List FieldGroup → Bool
-is_none [] = true
-is_none (g ∷ gs) = false
-
-abbrev pub are_without_groups : List Entity → Bool
-are_without_groups [] = true
-are_without_groups (m ∷ ms) = is_none m.groups && are_without_groups ms
 
 -- models without groups; views of GET that show values, views of POST that make records
 abbrev pub are_served : Application → Bool

@@ -1,6 +1,7 @@
 ghost use Rattle.std.specs.Prelude.{◌≡◌, ◌<◌, true, length, slice_get, IfOk, OnOk, OnErr, IfSome, IsTrue, Some, []};
 ghost use Rattle.jac_lang.specs.Mirror.{application_of, page_of, statements_of};
 ghost use Rattle.jac_lang.specs.declared.pages.Verb.TheVariants as verbs;
+ghost use Rattle.jac_plain.specs.Models.{are_without_groups};
 ghost use Rattle.jac_plain.specs.Requests.{method_in};
 ghost use Rattle.jac_keep.specs.Cause.{HasCause};
 ghost use Rattle.jac_keep.specs.KeeperSeen.{Reads};
@@ -139,6 +140,7 @@ fn show<K: Keeper, L: Ledger>(
     requires attached { IsTrue (K.seen keeper.old).attached }
     requires start { IsTrue (K.seen keeper.old).tells → IsStart (application_of app.now) (K.seen keeper.old).state }
     requires view { slice_get (application_of app.now).views place ≡ Some (page_of view.now) }
+    requires groupless { are_without_groups (application_of app.now).models ≡ true }
     requires served { are_showing (statements_of view.now.body) ≡ true }
     ensures shown { IfOk result (IsShown (K.seen keeper.new).tells (application_of app.now) (K.seen keeper.old).state (visit_of (application_of app.now) ask.now place)) }
     ensures reads { Reads (K.seen keeper.old) (K.seen keeper.new) result }
@@ -165,6 +167,7 @@ fn store<K: Keeper, L: Ledger>(
     requires start { IsTrue (K.seen keeper.old).tells → IsStart (application_of app.now) (K.seen keeper.old).state }
     requires view { slice_get (application_of app.now).views place ≡ Some (page_of view.now) }
     requires method { view.now.method ≡ verbs.Post }
+    requires groupless { are_without_groups (application_of app.now).models ≡ true }
     requires served { are_making (statements_of view.now.body) ≡ true }
     ensures stored { IfOk result (λ p. IsPreparedBy verbs.Post (K.seen keeper.new).tells (application_of app.now) (K.seen keeper.old).state (visit_of (application_of app.now) ask.now place) p) }
     ensures reads { Reads (K.seen keeper.old) (K.seen keeper.new) result }

@@ -5,7 +5,7 @@ ghost use Rattle.jac_lang.specs.Lookup.{fields_at, field_place};
 ghost use Rattle.jac_lang.specs.Mirror.{application_of, assigned_of};
 ghost use Rattle.jac_world.specs.World.{shown};
 ghost use Rattle.jac_plain.specs.Expressions.{mean};
-ghost use Rattle.jac_plain.specs.Statements.{fitting, cell_set, drafted, default_cells};
+ghost use Rattle.jac_plain.specs.Records.{fitting, cell_set, drafted, default_cells};
 ghost use Rattle.jac_keep.specs.Worked.{state_of, IsTold, ReadsWork};
 ghost use Rattle.jac_engine.specs.Running.{world_at};
 
@@ -74,7 +74,6 @@ fn model_at(models: &[ModelDef], place: u8) -> &ModelDef
 }
 
 // Sets the cell of the field of this name. A value of another kind counts as the default of the field's.
-#[tactic(auto, using(crate::proofs::DraftLaws::kind_there))]
 fn set_cell(alloc: Global, app: &App, model: u8, field: &Txt, value: Value, cells: &mut Vec<Value>)
     requires { model < length app.now.models }
     ensures { let models = (application_of app.now).models in cells.new.items ≡ cell_set models (fields_at models model) (field_place (fields_at models model) field.now) value cells.old.items }

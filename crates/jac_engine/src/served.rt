@@ -1,7 +1,8 @@
 //! Which applications are served.
 ghost use Rattle.std.specs.Prelude.{◌≡◌};
 ghost use Rattle.jac_lang.specs.Mirror.{application_of, entities_of, groups_of, pages_of, page_of, statement_of, statements_of};
-ghost use Rattle.jac_engine.specs.Served.{are_served, are_without_groups, is_none, are_served_views, is_served_view, is_served_body, have_own_routes, is_fixed, are_showing, is_showing, are_making, is_making};
+ghost use Rattle.jac_plain.specs.Models.{are_without_groups, is_none};
+ghost use Rattle.jac_engine.specs.Served.{are_served, are_served_views, is_served_view, is_served_body, have_own_routes, is_fixed, are_showing, is_showing, are_making, is_making};
 
 use crate::finding::has_at;
 use jac_lang::{App, Group, ModelDef, Stmt, Stmts, Verb, View};

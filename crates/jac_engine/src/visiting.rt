@@ -1,8 +1,9 @@
 //! One run of a view over a keeper.
-ghost use Rattle.std.specs.Prelude.{◌≡◌, ◌<◌, ◌≤◌, ◌+◌, ◌^◌, [], length, IfOk, OnOk, IsErrOf, IsTrue};
+ghost use Rattle.std.specs.Prelude.{◌≡◌, ◌<◌, ◌≤◌, ◌+◌, ◌^◌, [], true, length, IfOk, OnOk, IsErrOf, IsTrue};
 ghost use Rattle.jac_lang.specs.Mirror.{application_of, page_of, statements_of};
 ghost use Rattle.jac_world.specs.World.{shown};
 ghost use Rattle.jac_rows.specs.Project.{project_at};
+ghost use Rattle.jac_plain.specs.Models.{are_without_groups};
 ghost use Rattle.jac_plain.specs.Requests.{page_of as page_made};
 ghost use Rattle.jac_io.specs.Faults.{Rose};
 ghost use Rattle.jac_keep.specs.KeeperSeen.{IsLeft};
@@ -42,6 +43,7 @@ pub(crate) fn shown_page<K: Keeper, L: Ledger>(
     requires attached { IsTrue (K.seen keeper.old).attached }
     requires tables { IsTrue (K.seen keeper.old).tells → length app.now.models ≤ length (K.seen keeper.old).state.tables }
     requires numbered { 0 < number }
+    requires groupless { are_without_groups (application_of app.now).models ≡ true }
     requires served { AreRunnable number (statements_of view.now.body) }
     ensures some { IfOk result IsMade }
     ensures page { IsTrue (K.seen keeper.new).tells → IfOk result (λ p. p ≡ page_made (ran_by (application_of app.now) (page_of view.now) ask.now number (K.seen keeper.old).state).pieces) }
@@ -66,6 +68,7 @@ pub(crate) fn stored_page<K: Keeper, L: Ledger>(
     requires attached { IsTrue (K.seen keeper.old).attached }
     requires tables { IsTrue (K.seen keeper.old).tells → length app.now.models ≤ length (K.seen keeper.old).state.tables }
     requires numbered { 0 < number }
+    requires groupless { are_without_groups (application_of app.now).models ≡ true }
     requires few { number < 2 ^ 40 }
     requires served { AreRunnable number (statements_of view.now.body) }
     ensures some { IfOk result (λ x. IsMade x.page) }
@@ -95,6 +98,7 @@ fn run_view<K: Keeper, L: Ledger>(
     requires attached { IsTrue (K.seen work.old.keeper.now).attached }
     requires tables { IsTrue (K.seen work.old.keeper.now).tells → length app.now.models ≤ length (K.seen work.old.keeper.now).state.tables }
     requires numbered { 0 < number }
+    requires groupless { are_without_groups (application_of app.now).models ≡ true }
     requires served { AreRunnable number (statements_of view.now.body) }
     ensures some { IfOk result IsMade }
     ensures page { IsTold K.seen work.new → IfOk result (λ p. p ≡ page_made (ran_by (application_of app.now) (page_of view.now) ask.now number (state_of K.seen work.old)).pieces) }

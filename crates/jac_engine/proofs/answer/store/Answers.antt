@@ -45,7 +45,7 @@ returns-clause-stored g c =
           let start = c.requires.start (left.told before) in
           let is_number = c.in_ok-number.ensures.exact before in
           let fit_now : IsFit (n + 1) (K.seen c.number.new.self).state = rw (left.same_state before) (fit_start c.sound_after_change.ensures app s n start is_number few) in
-          ran_stores app v c.args.ask.now c.args.place n s c.in_ok-stored.stored.change c.requires.view c.requires.method is_number few start
+          ran_stores app v c.args.ask.now c.args.place n s c.in_ok-stored.stored.change c.requires.view c.requires.method is_number few c.requires.groupless start
           (rw (left.same_state before) at (c.in_ok-stored.ensures.world told))
           (rw (left.same_state before) at (c.in_ok-stored.ensures.fit told fit_now))
           c.in_ok-stored.ensures.number;

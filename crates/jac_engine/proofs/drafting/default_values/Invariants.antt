@@ -1,6 +1,6 @@
 use Rattle.std.proofs.Common.{◌≡◌, ◌++◌, drop}
 use Rattle.jac_lang.specs.Mirror.{application_of}
-use Rattle.jac_plain.specs.Statements.{default_cells}
+use Rattle.jac_plain.specs.Records.{default_cells}
 use Rattle.jac_engine.proofs.drafting.default_values.Given as goal
 
 abbrev pub invariant-fields : goal.invariant-fields

@@ -3,7 +3,7 @@ use Rattle.jac_lang.specs.Lookup.{fields_at}
 use Rattle.jac_lang.specs.Mirror.{application_of, assigned_of}
 use Rattle.jac_world.specs.World.{shown}
 use Rattle.jac_plain.specs.Expressions.{mean}
-use Rattle.jac_plain.specs.Statements.{drafted, default_cells}
+use Rattle.jac_plain.specs.Records.{drafted, default_cells}
 use Rattle.jac_keep.specs.Worked.{state_of}
 use Rattle.jac_engine.specs.Running.{world_at}
 use Rattle.jac_engine.proofs.DraftLaws.{Drafting}

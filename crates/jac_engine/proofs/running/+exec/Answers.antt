@@ -1,9 +1,12 @@
-use Rattle.std.proofs.Common.{◌≡◌}
+use Rattle.std.proofs.Common.{◌≡◌, ◌∙◌, sym}
 use Rattle.jac_lang.specs.Lookup.{fields_at}
 use Rattle.jac_lang.specs.Mirror.{application_of, assigned_of, statements_of}
 use Rattle.jac_world.specs.World.{shown}
 use Rattle.jac_plain.specs.Expressions.{mean}
-use Rattle.jac_plain.specs.Statements.{drafted, default_cells, leaves_all}
+use Rattle.jac_plain.specs.Records.{drafted, default_cells, shielded, every_field}
+use Rattle.jac_plain.specs.Statements.{leaves_all}
+use Rattle.jac_plain.proofs.GroupLaws.{groups_none, shielded_groupless}
+use Rattle.jac_value.specs.Ids.{record_id}
 use Rattle.jac_keep.specs.Worked.{state_of}
 use Rattle.jac_engine.specs.Running.{setting_of, world_at}
 use Rattle.jac_engine.proofs.RecordLaws.{created_law}
@@ -18,8 +21,13 @@ exec_record-returns-clause-left g t c = λ told.
     let k = setting_of w app c.args.ctx.now.viewer c.args.ctx.now.number in
     let s = state_of g.K.Keeper.seen c.args.work.now in
     let fields = fields_at app.models c.args.model in
-    let read = drafted app.models fields (λ e. mean (world_at app c.args.ctx.now.viewer w s) e c.args.env.now.items) (assigned_of c.args.cells.now) (default_cells app.models fields) in
-    let is_read : c.in_ok-cells.cells ≡ read = rw c.as_slice.ensures.value at (c.in_ok-cells.ensures.drafted told_draft) in
+    let models = app.models in
+    let m = c.args.model in
+    let id = record_id c.args.ctx.now.number c.args.site m in
+    let draft = drafted models fields (λ e. mean (world_at app c.args.ctx.now.viewer w s) e c.args.env.now.items) (assigned_of c.args.cells.now) (default_cells models fields) in
+    let read = shielded models w m id every_field draft in
+    let is_draft : c.in_ok-cells.cells ≡ draft = rw c.as_slice.ensures.value at (c.in_ok-cells.ensures.drafted told_draft) in
+    let is_read : c.in_ok-cells.cells ≡ read = is_draft ∙ sym (shielded_groupless models w m id every_field draft (groups_none models m c.requires.groupless)) in
     created_law w c.args.name.now (leaves_all k (statements_of c.args.body.now)) c.args.ctx.now.number c.args.site c.args.model _ c.in_ok-cells.cells read
     s (state_of g.K.Keeper.seen c.draft.new.work) _ c.args.env.now.items c.args.out.now.items _
     c.requires.few c.in_ok-id.ensures.id is_read (c.in_ok-cells.ensures.reads.same.same_state told_draft) c.in_ok-id.ensures.record

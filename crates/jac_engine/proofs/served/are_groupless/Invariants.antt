@@ -1,6 +1,6 @@
 use Rattle.std.proofs.Common.{◌≡◌, drop}
 use Rattle.jac_lang.specs.Mirror.{entities_of}
-use Rattle.jac_engine.specs.Served.{are_without_groups}
+use Rattle.jac_plain.specs.Models.{are_without_groups}
 use Rattle.jac_engine.proofs.served.are_groupless.Given as goal
 
 abbrev pub invariant-models : goal.invariant-models
