@@ -4,7 +4,7 @@ use Rattle.std.specs.Fmt.{decimal, digits}
 use Rattle.std.specs.Str.{bytes_eq}
 use Rattle.jac_keep.specs.declared.stop.Stop.{Stop}
 use Rattle.jac_keep.specs.declared.stop.Stop.TheVariants as stops
-use Rattle.jac_engine.specs.Prepared.{refusal}
+use Rattle.jac_engine.specs.Answers.{refusal}
 use Rattle.jac_app.specs.Failed.{status_of_stop}
 use Rattle.jac_app.specs.Log.{reply_text, audit_text, viewer_text}
 

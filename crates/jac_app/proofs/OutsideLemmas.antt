@@ -1,43 +1,129 @@
 -- Puts, one after another.
-use Rattle.std.proofs.Common.{◌≡◌, ◌∙◌, ap, sym, subst, refl, ℕ, Bool, true, false, IsTrue, Option, Result, arith, List, [], ◌++◌, append_assoc}
+use Rattle.std.proofs.Common.{◌≡◌, ◌≤◌, ◌∙◌, ap, sym, subst, refl, inl, inr, ℕ, Bool, true, false, IsTrue, OnErr, Result, Ok, Err, arith, List, [], ◌++◌, append_assoc, append-nil}
+use Rattle.jac_io.specs.Faults.{Rose}
 use Rattle.jac_io.specs.Put.{AddsPrefix}
-use Rattle.jac_app.specs.Outside.{Took, Lasts, IsFront, IsTorn, PutBoth}
+use Rattle.jac_io.specs.Seen.{SinkSeen, Lasts}
+use Rattle.jac_app.specs.Outside.{Span, span, Took, IsFront, Put, IsPut, PutBoth, Sinks, sinks, Went, AWriteFailed}
 
 -- a put that failed left the front of its bytes
-pub torn_put : (tells : Bool) (before after bytes : List ℕ) → (IsTrue tells → AddsPrefix before after bytes) → (put : List ℕ) × Took tells before after put × IsFront put bytes
+pub torn_put : (tells : Bool) (before after bytes : List ℕ) → (IsTrue tells → AddsPrefix before after bytes)
+    → (put : List ℕ) × (IsTrue tells → after ≡ before ++ put) × IsFront put bytes
 torn_put true before after bytes h = let adds = h refl in (adds.appended, λ told. adds.now, (adds.left, adds.parts))
 torn_put false before after bytes h = ([], λ told. absurd cc, (bytes, refl))
 
--- what was taken in two steps
-pub Took-then : (tells tells_now : Bool) (before between after first second : List ℕ)
-    → Took tells before between first → tells_now ≡ tells → Took tells_now between after second → Took tells before after (first ++ second)
-Took-then tells tells_now before between after first second one same two told =
-    two (same ∙ told) ∙ ap (λ (held : List ℕ). held ++ second) (one told) ∙ append_assoc before first second
+-- no step of a sink, and two of them
+pub Lasts-none : (a : SinkSeen) → Lasts a a
+Lasts-none a = record { later = omega arith; told = λ told. told; same_aims = λ told. refl }
 
-pub IsFront-append : (front bytes more : List ℕ) → IsFront front bytes → IsFront front (bytes ++ more)
+pub Lasts-then : (a b c : SinkSeen) → Lasts a b → Lasts b c → Lasts a c
+Lasts-then a b c one two = record {
+  later = omega (arith, one.later, two.later);
+  told = λ told. one.told (two.told told);
+  same_aims = λ told. two.same_aims told ∙ one.same_aims (two.told told);
+}
+
+pub Took-none : (a : SinkSeen) → Took (span a a) []
+Took-none a = λ told. sym (append-nil a.held)
+
+pub Took-then : (a b c : SinkSeen) (first second : List ℕ) → (IsTrue c.tells → IsTrue b.tells) → Took (span a b) first → Took (span b c) second → Took (span a c) (first ++ second)
+Took-then a b c first second back one two = λ told.
+    two told ∙ ap (λ (held : List ℕ). held ++ second) (one (back told)) ∙ append_assoc a.held first second
+
+pub Rose-widen : (a b c d : ℕ) → a ≤ b → c ≤ d → Rose b c → Rose a d
+Rose-widen a b c d before after rose = omega (arith, before, after, rose)
+
+IsFront-append : (front bytes more : List ℕ) → IsFront front bytes → IsFront front (bytes ++ more)
 IsFront-append front bytes more h = (h.0 ++ more, ap (λ (b : List ℕ). b ++ more) h.1 ∙ append_assoc front h.0 more)
 
-pub append-IsFront : (done front bytes : List ℕ) → IsFront front bytes → IsFront (done ++ front) (done ++ bytes)
+append-IsFront : (done front bytes : List ℕ) → IsFront front bytes → IsFront (done ++ front) (done ++ bytes)
 append-IsFront done front bytes h = (h.0, ap (λ (b : List ℕ). done ++ b) h.1 ∙ sym (append_assoc done front h.0))
 
+Put-then : (E : Type 0) (first second one two : List ℕ) (result : Result (Unit {0}) E) → one ≡ first → Put second two result → Put (first ++ second) (one ++ two) result
+Put-then E first second one two (Ok done) whole h = ap (λ (b : List ℕ). b ++ two) whole ∙ ap (λ (b : List ℕ). first ++ b) h
+Put-then E first second one two (Err e) whole h =
+    subst (λ (b : List ℕ). IsFront (b ++ two) (first ++ second)) (sym whole) (append-IsFront first two second h)
+
+rose_later : (E : Type 0) (a b c : ℕ) (result : Result (Unit {0}) E) → a ≤ b → OnErr result (Rose b c) → OnErr result (Rose a c)
+rose_later E a b c (Ok done) later h = tt
+rose_later E a b c (Err e) later h = Rose-widen a b c c later (omega arith) h
+
+-- a whole put, and then another
+pub IsPut-then : (E : Type 0) (a b c : SinkSeen) (first second : List ℕ) (done : Unit {0}) (result : Result (Unit {0}) E)
+    → IsPut {E = E} (span a b) first (Ok done) → IsPut (span b c) second result → IsPut (span a c) (first ++ second) result
+IsPut-then E a b c first second done result one two = record {
+  put = one.put ++ two.put;
+  lasts = Lasts-then a b c one.lasts two.lasts;
+  took = Took-then a b c one.put two.put two.lasts.told one.took two.took;
+  is_put = Put-then E first second one.put two.put result one.is_put two.is_put;
+  rose = rose_later E a.faults b.faults c.faults result one.lasts.later two.rose;
+}
+
+-- a torn one, behind which nothing is put
+pub IsPut-torn : (E : Type 0) (sink : Span SinkSeen) (first second : List ℕ) (failed : E) → IsPut {E = E} sink first (Err failed) → IsPut {E = E} sink (first ++ second) (Err failed)
+IsPut-torn E sink first second failed one = record {
+  put = one.put;
+  lasts = one.lasts;
+  took = one.took;
+  is_put = IsFront-append one.put first second one.is_put;
+  rose = one.rose;
+}
+
+pub failed_later : (one two : Sinks) → one.out.before.faults ≤ two.out.before.faults → one.audit.before.faults ≤ two.audit.before.faults
+    → two.out.after.faults ≤ one.out.after.faults → two.audit.after.faults ≤ one.audit.after.faults → AWriteFailed two → AWriteFailed one
+failed_later one two out_before audit_before out_after audit_after (inl rose) = inl (Rose-widen _ _ _ _ out_before out_after rose)
+failed_later one two out_before audit_before out_after audit_after (inr rose) = inr (Rose-widen _ _ _ _ audit_before audit_after rose)
+
 -- the same of equal lines
-pub IsTorn-same : (reply reply_now line line_now out audit : List ℕ)
-    → reply ≡ reply_now → line ≡ line_now → IsTorn reply line out audit → IsTorn reply_now line_now out audit
-IsTorn-same reply reply_now line line_now out audit same_reply same_line h =
-    subst (λ (r : List ℕ). IsTorn r line_now out audit) same_reply
-    (subst (λ (l : List ℕ). IsTorn reply l out audit) same_line h)
-
 pub PutBoth-same : (E : Type 0) (reply reply_now line line_now out audit : List ℕ) (result : Result (Unit {0}) E)
-    → reply ≡ reply_now → line ≡ line_now → PutBoth reply line out audit result → PutBoth reply_now line_now out audit result
+    → reply ≡ reply_now → line ≡ line_now → PutBoth reply line result out audit → PutBoth reply_now line_now result out audit
 PutBoth-same E reply reply_now line line_now out audit result same_reply same_line h =
-    subst (λ (r : List ℕ). PutBoth {E = E} r line_now out audit result) same_reply
-    (subst (λ (l : List ℕ). PutBoth {E = E} reply l out audit result) same_line h)
+    subst (λ (r : List ℕ). PutBoth {E = E} r line_now result out audit) same_reply
+    (subst (λ (l : List ℕ). PutBoth {E = E} reply l result out audit) same_line h)
 
--- two steps of a sink
-pub Lasts-then : {told between tells : Bool} {aim middle aimed : Option (List ℕ)} {before during faults : ℕ}
-    → Lasts told between aim middle before during → Lasts between tells middle aimed during faults → Lasts told tells aim aimed before faults
-Lasts-then one two = record {
-  same_telling = two.same_telling ∙ one.same_telling;
-  same_aim = two.same_aim ∙ one.same_aim;
-  later = omega (arith, one.later, two.later);
+pub Went-same : (E : Type 0) (s : Sinks) (reply reply_now line line_now : List ℕ) (result : Result (Unit {0}) E)
+    → reply ≡ reply_now → line ≡ line_now → Went s (PutBoth reply line result) → Went s (PutBoth reply_now line_now result)
+Went-same E s reply reply_now line line_now result same_reply same_line went = record {
+  out = went.out;
+  audit = went.audit;
+  out_lasts = went.out_lasts;
+  audit_lasts = went.audit_lasts;
+  out_took = went.out_took;
+  audit_took = went.audit_took;
+  holds = PutBoth-same E reply reply_now line line_now went.out went.audit result same_reply same_line went.holds;
+}
+
+-- the audit's line failed, and nothing was put on out
+pub Went-line : (E : Type 0) (out audit_before audit_after : SinkSeen) (reply line : List ℕ) (failed : E)
+    → IsPut {E = E} (span audit_before audit_after) line (Err failed) → Went (sinks out out audit_before audit_after) (PutBoth {E = E} reply line (Err failed))
+Went-line E out audit_before audit_after reply line failed put = record {
+  out = [];
+  audit = put.put;
+  out_lasts = Lasts-none out;
+  audit_lasts = put.lasts;
+  out_took = Took-none out;
+  audit_took = put.took;
+  holds = inl (refl, put.is_put);
+}
+
+-- the audit's line was put, and then the reply
+pub Went-reply : (E : Type 0) (out_before out_after audit_before audit_after : SinkSeen) (reply line : List ℕ) (done : Unit {0}) (result : Result (Unit {0}) E)
+    → IsPut {E = E} (span audit_before audit_after) line (Ok done) → IsPut (span out_before out_after) reply result
+    → Went (sinks out_before out_after audit_before audit_after) (PutBoth reply line result)
+Went-reply E out_before out_after audit_before audit_after reply line done (Ok _) put_line put_reply = record {
+  out = put_reply.put;
+  audit = put_line.put;
+  out_lasts = put_reply.lasts;
+  audit_lasts = put_line.lasts;
+  out_took = put_reply.took;
+  audit_took = put_line.took;
+  holds = (put_reply.is_put, put_line.is_put);
+}
+Went-reply E out_before out_after audit_before audit_after reply line done (Err _) put_line put_reply = record {
+  out = put_reply.put;
+  audit = put_line.put;
+  out_lasts = put_reply.lasts;
+  audit_lasts = put_line.lasts;
+  out_took = put_reply.took;
+  audit_took = put_line.took;
+  holds = inr (put_reply.is_put, put_line.is_put);
 }

@@ -1,31 +1,20 @@
 -- What a run sees of its keeper.
-use Rattle.std.specs.Prelude.{◌≡◌, ℕ, ◌+◌, ◌-◌, ◌^◌, ◌≤◌, min, zero, suc, length, Bool, List, [], ◌∷◌}
+use Rattle.std.specs.Prelude.{◌≡◌, ℕ, ◌+◌, ◌-◌, ◌^◌, ◌≤◌, min, zero, suc, length, IsTrue, List, [], ◌∷◌}
 use Rattle.jac_rows.specs.declared.row.Row.{Row}
 use Rattle.jac_rows.specs.declared.state.State.{State}
-use Rattle.jac_keep.specs.Sound.{IsSound}
+use Rattle.jac_rows.specs.Good.{IsSound}
+use Rattle.jac_keep.specs.KeeperSeen.{KeeperSeen}
 use Rattle.jac_engine.specs.Start.{AreUnguarded}
-
--- whether it tells its state, and the state and the count of faults before and after some calls
-pub record Kept : Type 0 where
-  pub tells : Bool
-  pub start : State
-  pub finish : State
-  pub faults_before : ℕ
-  pub faults_after : ℕ
-
-abbrev pub kept : Bool → State → State → ℕ → ℕ → Kept
-kept tells start finish faults_before faults_after = record {
-  tells = tells;
-  start = start;
-  finish = finish;
-  faults_before = faults_before;
-  faults_after = faults_after;
-}
+use Rattle.jac_app.specs.Outside.{Span}
 
 -- the keeper was not called
-pub record IsStill (k : Kept) : Type 0 where
-  pub same_state : k.finish ≡ k.start
-  pub same_faults : k.faults_after ≡ k.faults_before
+abbrev pub IsStill : Span KeeperSeen → Type 0
+IsStill k = k.after ≡ k.before
+
+-- where the keeper tells its state at the end, it told this one at the start
+pub record IsStarted (k : Span KeeperSeen) (start : State) : Type 0 where
+  pub told : IsTrue k.after.tells → IsTrue k.before.tells
+  pub start : IsTrue k.after.tells → start ≡ k.before.state
 
 -- a count grew by so much, or stands at its end
 abbrev pub Grew : ℕ → ℕ → ℕ → Type 0

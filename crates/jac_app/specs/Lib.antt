@@ -4,7 +4,7 @@ pub mod Line
 pub mod Piece
 pub mod Made
 pub mod Log
-pub mod Page
+pub mod Asked
 pub mod Failed
 pub mod Outside
 pub mod Serve

@@ -1,30 +1,63 @@
--- What a run puts on a sink, and what a put that fails may leave.
-use Rattle.std.specs.Prelude.{◌≡◌, ◌≤◌, ◌⊎◌, ℕ, Bool, IsTrue, Option, Result, Ok, Err, List, [], ◌++◌}
+-- What calls see of an object before and after, and what they put on sinks.
+use Rattle.std.specs.Prelude.{◌≡◌, ◌⊎◌, ℕ, IsTrue, OnErr, Result, Ok, Err, List, [], ◌++◌}
+use Rattle.jac_io.specs.Faults.{Rose}
+use Rattle.jac_io.specs.Seen.{SinkSeen, Lasts}
 
--- a sink that tells holds these bytes more
-abbrev pub Took : Bool → List ℕ → List ℕ → List ℕ → Type 0
-Took tells before after bytes = IsTrue tells → after ≡ before ++ bytes
+-- what is seen of an object before and after some calls
+pub record Span (X : Type 0) : Type 0 where
+  pub before : X
+  pub after : X
+
+abbrev pub span : {X : Type 0} → X → X → Span X
+span before after = record { before = before; after = after }
+
+-- a sink that still tells holds these bytes more
+abbrev pub Took : Span SinkSeen → List ℕ → Type 0
+Took sink bytes = IsTrue sink.after.tells → sink.after.held ≡ sink.before.held ++ bytes
 
 -- the front of the bytes
 abbrev pub IsFront : List ℕ → List ℕ → Type 0
 IsFront front bytes = (rest : List ℕ) × (bytes ≡ front ++ rest)
-
--- a sink after calls that aim it nowhere else
-pub record Lasts (told tells : Bool) (aim aimed : Option (List ℕ)) (before faults : ℕ) : Type 0 where
-  pub same_telling : tells ≡ told
-  pub same_aim : aimed ≡ aim
-  pub later : before ≤ faults
 
 -- these bytes were put where all of `bytes` was to be
 abbrev pub Put : {E : Type 0} → List ℕ → List ℕ → Result (Unit {0}) E → Type 0
 Put bytes put (Ok done) = put ≡ bytes
 Put bytes put (Err failed) = IsFront put bytes
 
+-- bytes that were to be put, whether or not the sink tells; a put fails only where the count rose
+pub record IsPut {E : Type 0} (sink : Span SinkSeen) (bytes : List ℕ) (result : Result (Unit {0}) E) : Type 0 where
+  pub put : List ℕ
+  pub lasts : Lasts sink.before sink.after
+  pub took : Took sink put
+  pub is_put : Put bytes put result
+  pub rose : OnErr result (Rose sink.before.faults sink.after.faults)
+
+-- the sinks of replies and of the audit's lines
+pub record Sinks : Type 0 where
+  pub out : Span SinkSeen
+  pub audit : Span SinkSeen
+
+abbrev pub sinks : SinkSeen → SinkSeen → SinkSeen → SinkSeen → Sinks
+sinks out_before out_after audit_before audit_after = record { out = span out_before out_after; audit = span audit_before audit_after }
+
+abbrev pub AWriteFailed : Sinks → Type 0
+AWriteFailed s = Rose s.out.before.faults s.out.after.faults ⊎ Rose s.audit.before.faults s.audit.after.faults
+
+-- some bytes went to the one sink and some to the other, and of these it holds; neither is aimed anew
+pub record Went (s : Sinks) (Holds : List ℕ → List ℕ → Type 0) : Type 0 where
+  pub out : List ℕ
+  pub audit : List ℕ
+  pub out_lasts : Lasts s.out.before s.out.after
+  pub audit_lasts : Lasts s.audit.before s.audit.after
+  pub out_took : Took s.out out
+  pub audit_took : Took s.audit audit
+  pub holds : Holds out audit
+
 -- the audit's line was torn, or it was whole and the reply's was torn
 abbrev pub IsTorn : List ℕ → List ℕ → List ℕ → List ℕ → Type 0
 IsTorn reply line out audit = ((out ≡ []) × IsFront audit line) ⊎ (IsFront out reply × (audit ≡ line))
 
 -- a reply goes to one sink, after its audit line has gone to the other
-abbrev pub PutBoth : {E : Type 0} → List ℕ → List ℕ → List ℕ → List ℕ → Result (Unit {0}) E → Type 0
-PutBoth reply line out audit (Ok done) = (out ≡ reply) × (audit ≡ line)
-PutBoth reply line out audit (Err failed) = IsTorn reply line out audit
+abbrev pub PutBoth : {E : Type 0} → List ℕ → List ℕ → Result (Unit {0}) E → List ℕ → List ℕ → Type 0
+PutBoth reply line (Ok done) out audit = (out ≡ reply) × (audit ≡ line)
+PutBoth reply line (Err failed) out audit = IsTorn reply line out audit

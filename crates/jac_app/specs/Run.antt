@@ -1,8 +1,11 @@
 -- The command that the words give, the steps of a run and how it ends.
-use Rattle.std.specs.Prelude.{◌≡◌, ◌≤◌, ◌<◌, ◌⊎◌, ◌&&◌, not, nat_lt, ℕ, Bool, IsTrue, IsSomeAnd, if◌then◌else◌, Result, Ok, Err, Option, Some, None, List, [], ◌∷◌, ◌++◌, length, take, codes, decimal}
+use Rattle.std.specs.Prelude.{◌≡◌, ◌≤◌, ◌<◌, ◌⊎◌, ◌&&◌, ⊤, not, nat_lt, ℕ, Bool, true, false, IsTrue, IsSomeAnd, if◌then◌else◌, Result, Ok, Err, Option, Some, None, List, [], ◌∷◌, ◌++◌, length, take, codes, decimal}
 use Rattle.std.specs.Str.{bytes_eq}
 use Rattle.jac_io.specs.Faults.{Rose}
+use Rattle.jac_io.specs.Seen.{FilesSeen, SinkSeen, Lasts}
 use Rattle.jac_lang.specs.Syntax.{Application}
+use Rattle.jac_rows.specs.declared.state.State.{State}
+use Rattle.jac_keep.specs.KeeperSeen.{KeeperSeen}
 use Rattle.jac_app.specs.declared.command.Command.{Command}
 use Rattle.jac_app.specs.declared.command.Ending.{Ending}
 use Rattle.jac_app.specs.declared.command.Ending.TheVariants as endings
@@ -11,11 +14,11 @@ use Rattle.jac_app.specs.declared.command.Role.TheVariants as roles
 use Rattle.jac_app.specs.declared.status.Status.{Status}
 use Rattle.jac_app.specs.declared.status.Status.TheVariants as statuses
 use Rattle.jac_app.specs.Application.{IsApplication}
-use Rattle.jac_app.specs.Keeping.{Kept, IsStill}
+use Rattle.jac_app.specs.Keeping.{IsStill, IsStarted}
 use Rattle.jac_app.specs.Line.{is_nil}
 use Rattle.jac_app.specs.Log.{script_of}
-use Rattle.jac_app.specs.Outside.{IsFront}
-use Rattle.jac_app.specs.Serve.{ServesAll, ServesSome, IsBroken}
+use Rattle.jac_app.specs.Outside.{Span, span, Sinks, Took, IsFront, AWriteFailed}
+use Rattle.jac_app.specs.Serve.{PutsServed, PutsTorn}
 
 -- the files of a replay, by their names
 pub record Replay : Type 0 where
@@ -52,111 +55,119 @@ abbrev pub limit_text : Role → List ℕ
 limit_text roles.App = codes ", limit 1048576\n"
 limit_text roles.Events = codes ", limit 16777216\n"
 
--- what a run sees of the outside: the files, as far as they are told, each count of faults before and after,
--- and the keeper
+-- what a run sees of the outside, before and after
 pub record Sight : Type 0 where
-  pub tells : Bool
-  pub file : List ℕ → Option (List ℕ)
-  pub files_before : ℕ
-  pub files_after : ℕ
-  pub out_before : ℕ
-  pub out_after : ℕ
-  pub audit_before : ℕ
-  pub audit_after : ℕ
-  pub kept : Kept
+  pub files : Span FilesSeen
+  pub out : Span SinkSeen
+  pub audit : Span SinkSeen
+  pub keeper : Span KeeperSeen
 
-abbrev pub sight : Bool → (List ℕ → Option (List ℕ)) → ℕ → ℕ → ℕ → ℕ → ℕ → ℕ → Kept → Sight
-sight tells file files_before files_after out_before out_after audit_before audit_after kept = record {
-  tells = tells;
-  file = file;
-  files_before = files_before;
-  files_after = files_after;
-  out_before = out_before;
-  out_after = out_after;
-  audit_before = audit_before;
-  audit_after = audit_after;
-  kept = kept;
+abbrev pub sight : FilesSeen → FilesSeen → SinkSeen → SinkSeen → SinkSeen → SinkSeen → KeeperSeen → KeeperSeen → Sight
+sight files_before files_after out_before out_after audit_before audit_after keeper_before keeper_after = record {
+  files = span files_before files_after;
+  out = span out_before out_after;
+  audit = span audit_before audit_after;
+  keeper = span keeper_before keeper_after;
 }
+
+abbrev pub sinks_of : Sight → Sinks
+sinks_of seen = record { out = seen.out; audit = seen.audit }
 
 -- the file of this role was read whole
 pub record IsRead (seen : Sight) (command : Replay) (role : Role) (bytes : List ℕ) : Type 0 where
   pub short : length bytes ≤ limit_of role
-  pub told : IsTrue seen.tells → seen.file (name_of command role) ≡ Some bytes
+  pub told : IsTrue seen.files.after.tells → seen.files.before.file (name_of command role) ≡ Some bytes
 
--- the file of this role holds more than its limit
+-- it holds more than its limit
 abbrev pub IsLong : Sight → Replay → Role → Type 0
-IsLong seen command role = IsTrue seen.tells → IsSomeAnd (seen.file (name_of command role)) (λ bytes. limit_of role < length bytes)
+IsLong seen command role = IsTrue seen.files.after.tells → IsSomeAnd (seen.files.before.file (name_of command role)) (λ bytes. limit_of role < length bytes)
 
--- both files were read, and the first is this application
+-- the application's file was read, and spells this application
+pub record HasApplication (seen : Sight) (command : Replay) (app : Application) : Type 0 where
+  pub bytes : List ℕ
+  pub read : IsRead seen command roles.App bytes
+  pub spelled : IsApplication bytes app
+
+-- and the events' file was read
 pub record IsOpened (seen : Sight) (command : Replay) (app : Application) (events : List ℕ) : Type 0 where
-  pub app_bytes : List ℕ
-  pub app_read : IsRead seen command roles.App app_bytes
-  pub application : IsApplication app_bytes app
+  pub application : HasApplication seen command app
   pub events_read : IsRead seen command roles.Events events
 
--- nothing was put, and the keeper was not called
-abbrev pub IsNothing : Kept → List ℕ → List ℕ → Type 0
-IsNothing k out audit = (out ≡ []) × (audit ≡ []) × IsStill k
+-- the steps before the file of this role is read
+abbrev pub IsReached : Sight → Replay → Role → Type 0
+IsReached seen command roles.App = ⊤
+IsReached seen command roles.Events = (app : Application) × HasApplication seen command app
 
-abbrev pub AWriteFailed : Sight → Type 0
-AWriteFailed seen = Rose seen.out_before seen.out_after ⊎ Rose seen.audit_before seen.audit_after
+-- the audit was aimed once, at no file, before anything was put on it
+abbrev pub IsAimed : Span SinkSeen → Type 0
+IsAimed audit = IsTrue audit.after.tells → audit.after.aims ≡ audit.before.aims ++ (None, length audit.before.held) ∷ []
+
+-- nothing was put, the audit was not aimed, and the keeper was not called
+pub record IsIdle (audit : Span SinkSeen) (keeper : Span KeeperSeen) (out_bytes audit_bytes : List ℕ) : Type 0 where
+  pub no_out : out_bytes ≡ []
+  pub no_audit : audit_bytes ≡ []
+  pub unaimed : IsTrue audit.after.tells → audit.after.aims ≡ audit.before.aims
+  pub still : IsStill keeper
 
 -- what the steps of a replay put, and why they ended
-abbrev pub Ends : Sight → Replay → List ℕ → List ℕ → Result (Unit {0}) Ending → Type 0
-Ends seen command out audit (Ok done) =
-    (app : Application) × (events : List ℕ) × IsOpened seen command app events
-    × ((script_of events).refused ≡ None) × ServesAll app seen.kept (script_of events) out audit
-Ends seen command out audit (Err (endings.LineRefused n)) =
-    (app : Application) × (events : List ℕ) × IsOpened seen command app events
-    × ((script_of events).refused ≡ Some n) × ServesAll app seen.kept (script_of events) out audit
-Ends seen command out audit (Err endings.WriteFault) =
-    (app : Application) × (events : List ℕ) × IsOpened seen command app events × AWriteFailed seen
-    × (IsNothing seen.kept out audit ⊎ IsBroken app seen.kept (script_of events) out audit)
-Ends seen command out audit (Err endings.Memory) =
-    IsNothing seen.kept out audit
-    ⊎ ((app : Application) × (events : List ℕ) × IsOpened seen command app events × ServesSome app seen.kept (script_of events) out audit)
-Ends seen command out audit (Err endings.AppRefused) =
-    (bytes : List ℕ) × IsRead seen command roles.App bytes × ((app : Application) → IsApplication bytes app → ⊥) × IsNothing seen.kept out audit
-Ends seen command out audit (Err (endings.ReadFault role)) = Rose seen.files_before seen.files_after × IsNothing seen.kept out audit
-Ends seen command out audit (Err (endings.TooLong role)) = IsLong seen command role × IsNothing seen.kept out audit
+abbrev pub Ends : Sight → State → Replay → Result (Unit {0}) Ending → List ℕ → List ℕ → Type 0
+Ends seen start command (Ok done) out audit =
+    (app : Application) × (events : List ℕ) × IsOpened seen command app events × IsAimed seen.audit
+    × ((script_of events).refused ≡ None) × PutsServed false app seen.keeper start (script_of events) out audit
+Ends seen start command (Err (endings.LineRefused n)) out audit =
+    (app : Application) × (events : List ℕ) × IsOpened seen command app events × IsAimed seen.audit
+    × ((script_of events).refused ≡ Some n) × PutsServed false app seen.keeper start (script_of events) out audit
+Ends seen start command (Err endings.WriteFault) out audit =
+    (app : Application) × (events : List ℕ) × IsOpened seen command app events × AWriteFailed (sinks_of seen)
+    × (IsIdle seen.audit seen.keeper out audit ⊎ (IsAimed seen.audit × PutsTorn app seen.keeper start (script_of events) out audit))
+Ends seen start command (Err endings.Memory) out audit =
+    IsIdle seen.audit seen.keeper out audit
+    ⊎ ((app : Application) × (events : List ℕ) × IsOpened seen command app events × IsAimed seen.audit
+    × PutsServed true app seen.keeper start (script_of events) out audit)
+Ends seen start command (Err endings.AppRefused) out audit =
+    (bytes : List ℕ) × IsRead seen command roles.App bytes × ((app : Application) → IsApplication bytes app → ⊥) × IsIdle seen.audit seen.keeper out audit
+Ends seen start command (Err (endings.ReadFault role)) out audit =
+    IsReached seen command role × Rose seen.files.before.faults seen.files.after.faults × IsIdle seen.audit seen.keeper out audit
+Ends seen start command (Err (endings.TooLong role)) out audit =
+    IsReached seen command role × IsLong seen command role × IsIdle seen.audit seen.keeper out audit
 
 -- why the file of this role, with this name, wasn't read
-abbrev pub IsUnread : Bool → (List ℕ → Option (List ℕ)) → ℕ → ℕ → List ℕ → Role → Ending → Type 0
-IsUnread tells file before after name role (endings.ReadFault r) = (r ≡ role) × Rose before after
-IsUnread tells file before after name role (endings.TooLong r) =
-    (r ≡ role) × (IsTrue tells → IsSomeAnd (file name) (λ bytes. limit_of role < length bytes))
-IsUnread tells file before after name role endings.Memory = Unit {0}
-IsUnread tells file before after name role endings.AppRefused = ⊥
-IsUnread tells file before after name role (endings.LineRefused n) = ⊥
-IsUnread tells file before after name role endings.WriteFault = ⊥
+abbrev pub IsUnread : Span FilesSeen → List ℕ → Role → Ending → Type 0
+IsUnread files name role (endings.ReadFault r) = (r ≡ role) × Rose files.before.faults files.after.faults
+IsUnread files name role (endings.TooLong r) =
+    (r ≡ role) × (IsTrue files.after.tells → IsSomeAnd (files.before.file name) (λ bytes. limit_of role < length bytes))
+IsUnread files name role endings.Memory = ⊤
+IsUnread files name role endings.AppRefused = ⊥
+IsUnread files name role (endings.LineRefused n) = ⊥
+IsUnread files name role endings.WriteFault = ⊥
 
 -- why bytes gave no application
 abbrev pub IsUnopened : List ℕ → Ending → Type 0
 IsUnopened bytes ending =
     ((ending ≡ endings.AppRefused) × ((app : Application) → IsApplication bytes app → ⊥)) ⊎ (ending ≡ endings.Memory)
 
+-- some bytes went to the one sink and some to the other, and of these it holds; the audit may have been aimed
+pub record WentAimed (s : Sinks) (Holds : List ℕ → List ℕ → Type 0) : Type 0 where
+  pub out : List ℕ
+  pub audit : List ℕ
+  pub out_lasts : Lasts s.out.before s.out.after
+  pub audit_later : s.audit.before.faults ≤ s.audit.after.faults
+  pub out_took : Took s.out out
+  pub audit_took : Took s.audit audit
+  pub holds : Holds out audit
+
 -- how the last step ends, which aims the audit and serves the events
-abbrev pub EndsServing : Type 0 → Application → Kept → List ℕ → List ℕ → List ℕ → Result (Unit {0}) Ending → Type 0
-EndsServing AFault app k events out audit (Ok done) = ((script_of events).refused ≡ None) × ServesAll app k (script_of events) out audit
-EndsServing AFault app k events out audit (Err (endings.LineRefused n)) =
-    ((script_of events).refused ≡ Some n) × ServesAll app k (script_of events) out audit
-EndsServing AFault app k events out audit (Err endings.WriteFault) = AFault × (IsNothing k out audit ⊎ IsBroken app k (script_of events) out audit)
-EndsServing AFault app k events out audit (Err endings.Memory) = ServesSome app k (script_of events) out audit
-EndsServing AFault app k events out audit (Err endings.AppRefused) = ⊥
-EndsServing AFault app k events out audit (Err (endings.ReadFault role)) = ⊥
-EndsServing AFault app k events out audit (Err (endings.TooLong role)) = ⊥
-
--- the audit was aimed at no file, where the step was done
-abbrev pub IsAimed : Bool → Option (List ℕ) → Result (Unit {0}) Ending → Type 0
-IsAimed tells aimed (Ok done) = IsTrue tells → aimed ≡ None
-IsAimed tells aimed (Err (endings.LineRefused n)) = IsTrue tells → aimed ≡ None
-IsAimed tells aimed (Err ending) = Unit {0}
-
--- the same, by the status
-abbrev pub IsAimedAt : Bool → Option (List ℕ) → Status → Type 0
-IsAimedAt tells aimed statuses.Done = IsTrue tells → aimed ≡ None
-IsAimedAt tells aimed statuses.LineRefused = IsTrue tells → aimed ≡ None
-IsAimedAt tells aimed status = Unit {0}
+abbrev pub EndsServing : Sinks → Application → Span KeeperSeen → State → List ℕ → Result (Unit {0}) Ending → List ℕ → List ℕ → Type 0
+EndsServing s app k start events (Ok done) out audit =
+    IsAimed s.audit × ((script_of events).refused ≡ None) × PutsServed false app k start (script_of events) out audit
+EndsServing s app k start events (Err (endings.LineRefused n)) out audit =
+    IsAimed s.audit × ((script_of events).refused ≡ Some n) × PutsServed false app k start (script_of events) out audit
+EndsServing s app k start events (Err endings.WriteFault) out audit =
+    AWriteFailed s × (IsIdle s.audit k out audit ⊎ (IsAimed s.audit × PutsTorn app k start (script_of events) out audit))
+EndsServing s app k start events (Err endings.Memory) out audit = IsAimed s.audit × PutsServed true app k start (script_of events) out audit
+EndsServing s app k start events (Err endings.AppRefused) out audit = ⊥
+EndsServing s app k start events (Err (endings.ReadFault role)) out audit = ⊥
+EndsServing s app k start events (Err (endings.TooLong role)) out audit = ⊥
 
 abbrev pub usage_line : List ℕ
 usage_line = codes "usage: jac check APP, replay APP EVENTS, serve APP PORT COUNT, demo N, dump APP LABELS; options --db FILE --sessions FILE --audit FILE\n"
@@ -179,35 +190,43 @@ status_of endings.WriteFault = statuses.WriteFault
 status_of endings.Memory = statuses.Memory
 
 -- the last line is put, or the front of it where that put fails
-abbrev pub Closes : Type 0 → List ℕ → Status → List ℕ → Status → Type 0
-Closes OutFault line status put answer =
-    ((put ≡ line) × (answer ≡ status)) ⊎ (IsFront put line × (answer ≡ statuses.WriteFault) × OutFault)
+abbrev pub Closes : Span SinkSeen → List ℕ → Status → List ℕ → Status → Type 0
+Closes out line status put answer =
+    ((put ≡ line) × (answer ≡ status)) ⊎ (IsFront put line × (answer ≡ statuses.WriteFault) × Rose out.before.faults out.after.faults)
 
 -- what follows the steps of a replay
-abbrev pub Finishes : Type 0 → Replay → Result (Unit {0}) Ending → List ℕ → Status → Type 0
-Finishes OutFault command (Ok done) put answer = (put ≡ []) × (answer ≡ statuses.Done)
-Finishes OutFault command (Err ending) put answer = Closes OutFault (fault_line command ending) (status_of ending) put answer
+abbrev pub Finishes : Span SinkSeen → Replay → Result (Unit {0}) Ending → List ℕ → Status → Type 0
+Finishes out command (Ok done) put answer = (put ≡ []) × (answer ≡ statuses.Done)
+Finishes out command (Err ending) put answer = Closes out (fault_line command ending) (status_of ending) put answer
+
+-- a put on one sink, with what follows of it
+pub record Closed (out : Span SinkSeen) (Holds : List ℕ → Type 0) : Type 0 where
+  pub put : List ℕ
+  pub lasts : Lasts out.before out.after
+  pub took : Took out put
+  pub holds : Holds put
 
 -- the words are a command whose steps were run
-pub record RunsReplay (seen : Sight) (words : List (List ℕ)) (out audit : List ℕ) (answer : Status) : Type 0 where
+pub record RunsReplay (seen : Sight) (words : List (List ℕ)) (status : Status) (out audit : List ℕ) : Type 0 where
   pub command : Replay
+  pub start : State
   pub ended : Result (Unit {0}) Ending
   pub served : List ℕ
   pub last : List ℕ
   pub is_command : command_of words ≡ Some command
-  pub ends : Ends seen command served audit ended
-  pub finishes : Finishes (Rose seen.out_before seen.out_after) command ended last answer
+  pub started : IsStarted seen.keeper start
+  pub ends : Ends seen start command ended served audit
+  pub finishes : Finishes seen.out command ended last status
   pub out_text : out ≡ served ++ last
 
 -- the words are no command
-pub record RunsNothing (seen : Sight) (words : List (List ℕ)) (out audit : List ℕ) (answer : Status) : Type 0 where
+pub record RunsNothing (seen : Sight) (words : List (List ℕ)) (status : Status) (out audit : List ℕ) : Type 0 where
   pub no_command : command_of words ≡ None
-  pub closes : Closes (Rose seen.out_before seen.out_after) usage_line statuses.Usage out answer
-  pub audit_text : audit ≡ []
-  pub still : IsStill seen.kept
+  pub closes : Closes seen.out usage_line statuses.Usage out status
+  pub idle : IsIdle seen.audit seen.keeper [] audit
 
-abbrev pub Runs : Sight → List (List ℕ) → List ℕ → List ℕ → Status → Type 0
-Runs seen words out audit answer = RunsReplay seen words out audit answer ⊎ RunsNothing seen words out audit answer
+abbrev pub Runs : Sight → List (List ℕ) → Status → List ℕ → List ℕ → Type 0
+Runs seen words status out audit = RunsReplay seen words status out audit ⊎ RunsNothing seen words status out audit
 
 -- everything that a run needs is there, and nothing fails
 pub record CanServe (seen : Sight) (words : List (List ℕ)) : Type 0 where
@@ -216,26 +235,35 @@ pub record CanServe (seen : Sight) (words : List (List ℕ)) : Type 0 where
   pub app : Application
   pub events : List ℕ
   pub is_command : command_of words ≡ Some command
-  pub told : IsTrue seen.tells
-  pub app_file : seen.file command.app ≡ Some app_bytes
+  pub told : IsTrue seen.files.after.tells
+  pub app_file : seen.files.before.file command.app ≡ Some app_bytes
   pub application : IsApplication app_bytes app
-  pub events_file : seen.file command.events ≡ Some events
+  pub events_file : seen.files.before.file command.events ≡ Some events
   pub short : length events ≤ 16777216
   pub forms : (script_of events).refused ≡ None
-  pub no_read_fault : Rose seen.files_before seen.files_after → ⊥
-  pub no_write_fault : AWriteFailed seen → ⊥
+  pub no_read_fault : Rose seen.files.before.faults seen.files.after.faults → ⊥
+  pub no_write_fault : AWriteFailed (sinks_of seen) → ⊥
 
--- a status with its cause
-abbrev pub HasCause : Sight → List (List ℕ) → Status → Type 0
-HasCause seen words statuses.Done = (command : Replay) × (command_of words ≡ Some command)
-HasCause seen words statuses.Usage = command_of words ≡ None
-HasCause seen words statuses.AppRefused =
+-- each status comes for its cause alone
+abbrev pub ComesFor : Sight → List (List ℕ) → Status → Type 0
+ComesFor seen words statuses.Done = (command : Replay) × (command_of words ≡ Some command)
+ComesFor seen words statuses.Usage = command_of words ≡ None
+ComesFor seen words statuses.AppRefused =
     (command : Replay) × (command_of words ≡ Some command)
     × ((bytes : List ℕ) × IsRead seen command roles.App bytes × ((app : Application) → IsApplication bytes app → ⊥))
-HasCause seen words statuses.LineRefused =
+ComesFor seen words statuses.LineRefused =
     (command : Replay) × (command_of words ≡ Some command)
     × ((app : Application) × (events : List ℕ) × IsOpened seen command app events × ((n : ℕ) × ((script_of events).refused ≡ Some n)))
-HasCause seen words statuses.ReadFault = Rose seen.files_before seen.files_after
-HasCause seen words statuses.WriteFault = AWriteFailed seen
-HasCause seen words statuses.Memory = Unit {0}
-HasCause seen words statuses.TooLong = (command : Replay) × (command_of words ≡ Some command) × ((role : Role) × IsLong seen command role)
+ComesFor seen words statuses.ReadFault = Rose seen.files.before.faults seen.files.after.faults
+ComesFor seen words statuses.WriteFault = AWriteFailed (sinks_of seen)
+ComesFor seen words statuses.Memory = ⊤
+ComesFor seen words statuses.TooLong =
+    (command : Replay) × (command_of words ≡ Some command) × ((role : Role) × IsReached seen command role × IsLong seen command role)
+
+-- a run: what was put on both sinks is what the command's steps put, by the status, and what the keeper keeps
+-- at the end shows under every assignment the world that the ordinary interpreter leaves; the status has its
+-- cause; and where nothing is missing and nothing fails, all is served, unless memory runs out
+pub record IsRun (seen : Sight) (words : List (List ℕ)) (status : Status) : Type 0 where
+  pub ran : WentAimed (sinks_of seen) (Runs seen words status)
+  pub cause : ComesFor seen words status
+  pub complete : CanServe seen words → (status ≡ statuses.Done) ⊎ (status ≡ statuses.Memory)

@@ -1,14 +1,14 @@
-ghost use Rattle.std.specs.Prelude.{◌≡◌, ◌++◌, ◌≤◌, ◌<◌, ◌^◌, ◌⊎◌, length, ℕ, IsTrue, List, Result, Option, Some, None, OnErr, IfOk, IfErr, true, take, codes, decimal};
+ghost use Rattle.std.specs.Prelude.{◌≡◌, ◌++◌, ◌≤◌, ◌<◌, ◌^◌, length, ℕ, IsTrue, List, Result, Option, Some, None, IfOk, IfErr, true, take, codes, decimal};
 ghost use Rattle.std.specs.Option.{option_map};
 ghost use Rattle.std.specs.Str.{bytes_eq};
-ghost use Rattle.jac_io.specs.Faults.{Rose};
+ghost use Rattle.jac_io.specs.Seen.{FilesLast};
 ghost use Rattle.jac_lang.specs.Mirror.{application_of};
 ghost use Rattle.jac_engine.specs.Served.{are_served};
 ghost use Rattle.jac_engine.specs.Start.{IsStart};
-ghost use Rattle.jac_app.specs.Keeping.{IsForAll, kept};
+ghost use Rattle.jac_app.specs.Keeping.{IsForAll};
 ghost use Rattle.jac_app.specs.Application.{IsApplication};
-ghost use Rattle.jac_app.specs.Outside.{Took, Lasts, Put};
-ghost use Rattle.jac_app.specs.Run.{is_operand, command_of, named, replay_of, sight, name_of, limit_of, limit_text, Sight, IsRead, IsLong, IsUnread, IsUnopened, EndsServing, IsAimed, IsAimedAt, Ends, Runs, HasCause, CanServe, fault_line, status_of, usage_line, Closes, Finishes};
+ghost use Rattle.jac_app.specs.Outside.{IsPut, span, sinks};
+ghost use Rattle.jac_app.specs.Run.{is_operand, command_of, named, replay_of, sight, sinks_of, name_of, limit_of, limit_text, IsUnread, IsUnopened, EndsServing, Ends, Runs, IsRun, fault_line, status_of, usage_line, Closed, Closes, Finishes, WentAimed};
 
 use crate::application::read_application;
 use crate::outside::{put, put_three};
@@ -100,12 +100,10 @@ fn read_file<F: Files>(
     name: &Txt,
     role: Role,
 ) -> Result<Bytes, Ending>
-    ensures tells { F.tells files.new ≡ F.tells files.old }
-    ensures kept { F.file files.new ≡ F.file files.old }
-    ensures later { F.faults files.old ≤ F.faults files.new }
+    ensures lasts { FilesLast (F.seen files.old) (F.seen files.new) }
     ensures short { IfOk result (λ bytes. length bytes ≤ limit_of role) }
-    ensures told { IsTrue (F.tells files.old) → IfOk result (λ bytes. F.file files.old name.now ≡ Some bytes) }
-    ensures unread { IfErr result (λ ending. IsUnread (F.tells files.old) (F.file files.old) (F.faults files.old) (F.faults files.new) name.now role ending) }
+    ensures told { IsTrue (F.seen files.new).tells → IfOk result (λ bytes. (F.seen files.old).file name.now ≡ Some bytes) }
+    ensures unread { IfErr result (IsUnread (span (F.seen files.old) (F.seen files.new)) name.now role) }
 {
     match files.read_all(alloc, name, limit(role)) {
         Ok(bytes) => Ok(bytes),
@@ -139,18 +137,11 @@ fn serve<O: Sink, U: AuditSink, K: Keeper, L: Ledger>(
     splits: &mut Steps<L>,
 ) -> Result<(), Ending>
     requires short { length events.now < 2 ^ 32 }
-    requires attached { IsTrue (K.attached keeper.old) }
+    requires attached { IsTrue (K.seen keeper.old).attached }
     requires served { are_served (application_of app.now) ≡ true }
-    requires start { IsTrue (K.tells keeper.old) → IsStart (application_of app.now) (K.state keeper.old) }
-    ensures out { Lasts (O.tells out.old) (O.tells out.new) (O.aimed out.old) (O.aimed out.new) (O.faults out.old) (O.faults out.new) }
-    ensures tells { U.tells audit.new ≡ U.tells audit.old }
-    ensures later { U.faults audit.old ≤ U.faults audit.new }
-    ensures aimed { IsAimed (U.tells audit.old) (U.aimed audit.new) result }
-    ensures served { (o : List ℕ) × (a : List ℕ) × Took (O.tells out.old) (O.held out.old) (O.held out.new) o
-        × Took (U.tells audit.old) (U.held audit.old) (U.held audit.new) a
-        × EndsServing (Rose (O.faults out.old) (O.faults out.new) ⊎ Rose (U.faults audit.old) (U.faults audit.new)) (application_of app.now)
-        (kept (K.tells keeper.old) (K.state keeper.old) (K.state keeper.new) (K.faults keeper.old) (K.faults keeper.new))
-        events.now o a result }
+    requires start { IsTrue (K.seen keeper.old).tells → IsStart (application_of app.now) (K.seen keeper.old).state }
+    ensures { WentAimed (sinks (O.seen out.old) (O.seen out.new) (U.seen audit.old) (U.seen audit.new))
+        (EndsServing (sinks (O.seen out.old) (O.seen out.new) (U.seen audit.old) (U.seen audit.new)) (application_of app.now) (span (K.seen keeper.old) (K.seen keeper.new)) (K.seen keeper.old).state events.now result) }
 {
     match audit.aim(None) {
         Ok(()) => match serve_events(alloc, app, events, out, audit, keeper, splits) {
@@ -174,18 +165,12 @@ fn replay<F: Files, O: Sink, U: AuditSink, K: Keeper, L: Ledger>(
     keeper: &mut K,
     splits: &mut Steps<L>,
 ) -> Result<(), Ending>
-    requires attached { IsTrue (K.attached keeper.old) }
-    requires start { IsTrue (K.tells keeper.old) → IsForAll (K.state keeper.old) }
-    ensures files { F.faults files.old ≤ F.faults files.new }
-    ensures out { Lasts (O.tells out.old) (O.tells out.new) (O.aimed out.old) (O.aimed out.new) (O.faults out.old) (O.faults out.new) }
-    ensures tells { U.tells audit.new ≡ U.tells audit.old }
-    ensures later { U.faults audit.old ≤ U.faults audit.new }
-    ensures aimed { IsAimed (U.tells audit.old) (U.aimed audit.new) result }
-    ensures ends { (o : List ℕ) × (a : List ℕ) × Took (O.tells out.old) (O.held out.old) (O.held out.new) o
-        × Took (U.tells audit.old) (U.held audit.old) (U.held audit.new) a
-        × Ends (sight (F.tells files.old) (F.file files.old) (F.faults files.old) (F.faults files.new)
-        (O.faults out.old) (O.faults out.new) (U.faults audit.old) (U.faults audit.new)
-        (kept (K.tells keeper.old) (K.state keeper.old) (K.state keeper.new) (K.faults keeper.old) (K.faults keeper.new))) (replay_of app_name.now events_name.now) o a result }
+    requires attached { IsTrue (K.seen keeper.old).attached }
+    requires start { IsTrue (K.seen keeper.old).tells → IsForAll (K.seen keeper.old).state }
+    ensures told { IsTrue (K.seen keeper.new).tells → IsTrue (K.seen keeper.old).tells }
+    ensures ends { WentAimed (sinks (O.seen out.old) (O.seen out.new) (U.seen audit.old) (U.seen audit.new))
+        (Ends (sight (F.seen files.old) (F.seen files.new) (O.seen out.old) (O.seen out.new) (U.seen audit.old) (U.seen audit.new) (K.seen keeper.old) (K.seen keeper.new))
+        (K.seen keeper.old).state (replay_of app_name.now events_name.now) result) }
 {
     let bytes = match read_file(alloc, files, app_name, Role::App) {
         Ok(bytes) => bytes,
@@ -227,10 +212,7 @@ fn put_fault<O: Sink>(
     events_name: &Txt,
     ending: Ending,
 ) -> Result<(), Failed>
-    ensures lasts { Lasts (O.tells out.old) (O.tells out.new) (O.aimed out.old) (O.aimed out.new) (O.faults out.old) (O.faults out.new) }
-    ensures put { (put : List ℕ) × Took (O.tells out.old) (O.held out.old) (O.held out.new) put
-        × Put (fault_line (replay_of app_name.now events_name.now) ending) put result }
-    ensures cause { OnErr result (Rose (O.faults out.old) (O.faults out.new)) }
+    ensures { IsPut (span (O.seen out.old) (O.seen out.new)) (fault_line (replay_of app_name.now events_name.now) ending) result }
 {
     match ending {
         Ending::ReadFault(role) => put_three(
@@ -253,10 +235,7 @@ fn put_fault<O: Sink>(
 }
 
 fn put_line_fault<O: Sink>(out: &mut O, line: u64) -> Result<(), Failed>
-    ensures lasts { Lasts (O.tells out.old) (O.tells out.new) (O.aimed out.old) (O.aimed out.new) (O.faults out.old) (O.faults out.new) }
-    ensures put { (put : List ℕ) × Took (O.tells out.old) (O.held out.old) (O.held out.new) put
-        × Put (codes "events: line " ++ decimal line ++ codes ": no form\n") put result }
-    ensures cause { OnErr result (Rose (O.faults out.old) (O.faults out.new)) }
+    ensures { IsPut (span (O.seen out.old) (O.seen out.new)) (codes "events: line " ++ decimal line ++ codes ": no form\n") result }
 {
     let mut buffer = Buffer::new();
     let digits = buffer.format(line);
@@ -283,9 +262,7 @@ fn finish<O: Sink>(
     events_name: &Txt,
     ended: Result<(), Ending>,
 ) -> Status
-    ensures lasts { Lasts (O.tells out.old) (O.tells out.new) (O.aimed out.old) (O.aimed out.new) (O.faults out.old) (O.faults out.new) }
-    ensures finished { (put : List ℕ) × Took (O.tells out.old) (O.held out.old) (O.held out.new) put
-        × Finishes (Rose (O.faults out.old) (O.faults out.new)) (replay_of app_name.now events_name.now) ended put result }
+    ensures { Closed (span (O.seen out.old) (O.seen out.new)) (λ put. Finishes (span (O.seen out.old) (O.seen out.new)) (replay_of app_name.now events_name.now) ended put result) }
 {
     match ended {
         Ok(()) => Status::Done,
@@ -300,9 +277,7 @@ const USAGE: &[u8] =
     b"usage: jac check APP, replay APP EVENTS, serve APP PORT COUNT, demo N, dump APP LABELS; options --db FILE --sessions FILE --audit FILE\n";
 
 fn refuse_words<O: Sink>(out: &mut O) -> Status
-    ensures lasts { Lasts (O.tells out.old) (O.tells out.new) (O.aimed out.old) (O.aimed out.new) (O.faults out.old) (O.faults out.new) }
-    ensures closed { (put : List ℕ) × Took (O.tells out.old) (O.held out.old) (O.held out.new) put
-        × Closes (Rose (O.faults out.old) (O.faults out.new)) usage_line Status.Usage put result }
+    ensures { Closed (span (O.seen out.old) (O.seen out.new)) (λ put. Closes (span (O.seen out.old) (O.seen out.new)) usage_line Status.Usage put result) }
 {
     match put(out, USAGE) {
         Ok(()) => Status::Usage,
@@ -320,14 +295,10 @@ fn run_words<F: Files, O: Sink, U: AuditSink, K: Keeper, L: Ledger>(
     keeper: &mut K,
     splits: &mut Steps<L>,
 ) -> Status
-    requires attached { IsTrue (K.attached keeper.old) }
-    requires start { IsTrue (K.tells keeper.old) → IsForAll (K.state keeper.old) }
-    ensures aimed { IsAimedAt (U.tells audit.old) (U.aimed audit.new) result }
-    ensures runs { (o : List ℕ) × (a : List ℕ) × Took (O.tells out.old) (O.held out.old) (O.held out.new) o
-        × Took (U.tells audit.old) (U.held audit.old) (U.held audit.new) a
-        × Runs (sight (F.tells files.old) (F.file files.old) (F.faults files.old) (F.faults files.new)
-        (O.faults out.old) (O.faults out.new) (U.faults audit.old) (U.faults audit.new)
-        (kept (K.tells keeper.old) (K.state keeper.old) (K.state keeper.new) (K.faults keeper.old) (K.faults keeper.new))) words.now o a result }
+    requires attached { IsTrue (K.seen keeper.old).attached }
+    requires start { IsTrue (K.seen keeper.old).tells → IsForAll (K.seen keeper.old).state }
+    ensures { WentAimed (sinks (O.seen out.old) (O.seen out.new) (U.seen audit.old) (U.seen audit.new))
+        (Runs (sight (F.seen files.old) (F.seen files.new) (O.seen out.old) (O.seen out.new) (U.seen audit.old) (U.seen audit.new) (K.seen keeper.old) (K.seen keeper.new)) words.now result) }
 {
     match command_of(words) {
         Some(command) => {
@@ -359,32 +330,12 @@ pub fn run<F: Files, O: Sink, U: AuditSink, K: Keeper, L: Ledger>(
     keeper: &mut K,
     splits: &mut Steps<L>,
 ) -> Status
-    // The keeper may be called.
-    requires attached { IsTrue (K.attached keeper.old) }
+    // The keeper may be called, and a state that it tells is one that any application may start from.
+    requires attached { IsTrue (K.seen keeper.old).attached }
+    requires start { IsTrue (K.seen keeper.old).tells → IsForAll (K.seen keeper.old).state }
 
-    // A state that it tells is one that any application may start from.
-    requires start { IsTrue (K.tells keeper.old) → IsForAll (K.state keeper.old) }
-
-    // The audit was aimed at no file, once events were served.
-    ensures aimed { IsAimedAt (U.tells audit.old) (U.aimed audit.new) result }
-
-    // What was put on both sinks is what the command's steps put, by the status; and what the keeper
-    // keeps shows under every assignment the world that the ordinary interpreter leaves.
-    ensures runs { (o : List ℕ) × (a : List ℕ) × Took (O.tells out.old) (O.held out.old) (O.held out.new) o
-        × Took (U.tells audit.old) (U.held audit.old) (U.held audit.new) a
-        × Runs (sight (F.tells files.old) (F.file files.old) (F.faults files.old) (F.faults files.new)
-        (O.faults out.old) (O.faults out.new) (U.faults audit.old) (U.faults audit.new)
-        (kept (K.tells keeper.old) (K.state keeper.old) (K.state keeper.new) (K.faults keeper.old) (K.faults keeper.new))) words.now o a result }
-
-    // Each status comes for its cause alone.
-    ensures cause { HasCause (sight (F.tells files.old) (F.file files.old) (F.faults files.old) (F.faults files.new)
-        (O.faults out.old) (O.faults out.new) (U.faults audit.old) (U.faults audit.new)
-        (kept (K.tells keeper.old) (K.state keeper.old) (K.state keeper.new) (K.faults keeper.old) (K.faults keeper.new))) words.now result }
-
-    // Where nothing is missing and nothing fails, all is served, unless memory runs out.
-    ensures complete { CanServe (sight (F.tells files.old) (F.file files.old) (F.faults files.old) (F.faults files.new)
-        (O.faults out.old) (O.faults out.new) (U.faults audit.old) (U.faults audit.new)
-        (kept (K.tells keeper.old) (K.state keeper.old) (K.state keeper.new) (K.faults keeper.old) (K.faults keeper.new))) words.now → (result ≡ Status.Done) ⊎ (result ≡ Status.Memory) }
+    // Every byte that is put, every page and the state at the end, by the status; each status by its cause.
+    ensures { IsRun (sight (F.seen files.old) (F.seen files.new) (O.seen out.old) (O.seen out.new) (U.seen audit.old) (U.seen audit.new) (K.seen keeper.old) (K.seen keeper.new)) words.now result }
 {
     run_words(alloc, words, files, out, audit, keeper, splits)
 }

@@ -13,7 +13,7 @@ use std::str;
 
 /// A request that an `ask` line writes down.
 #[derive(Debug, Drop)]
-pub struct Ask {
+pub struct Event {
     /// The number of the record that asks, as the line has it.
     pub viewer: Option<u128>,
     pub method: Txt,
@@ -31,7 +31,7 @@ enum Piece<'a> {
 }
 
 /// The request of an `ask` line, or none where the line has not that form.
-pub fn read_ask(alloc: Global, line: &[u8]) -> Result<Option<Ask>, Memory>
+pub fn read_ask(alloc: Global, line: &[u8]) -> Result<Option<Event>, Memory>
     ensures { IfOk result (λ ask. ask ≡ ask_of line.now) }
 {
     let Some((first, rest)) = word(line) else {
@@ -256,7 +256,7 @@ fn make_ask(
     method: &[u8],
     target: &[u8],
     body: Bytes,
-) -> Result<Ask, Memory>
+) -> Result<Event, Memory>
     requires method { is_method method.now ≡ true }
     requires target { is_target target.now ≡ true }
     ensures { IfOk result (λ a. a ≡ asked viewer method.now target.now body) }
@@ -265,7 +265,7 @@ fn make_ask(
     let method = text(alloc, method)?;
     let path = text(alloc, path)?;
     let query = Bytes::from_slice(alloc, query)?;
-    Ok(Ask {
+    Ok(Event {
         viewer,
         method,
         path,

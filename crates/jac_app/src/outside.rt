@@ -1,14 +1,11 @@
-ghost use Rattle.std.specs.Prelude.{◌≡◌, ◌++◌, ◌≤◌, ◌⊎◌, ℕ, List, Result, Option, OnErr};
-ghost use Rattle.jac_io.specs.Faults.{Rose};
-ghost use Rattle.jac_app.specs.Outside.{Took, Lasts, Put, PutBoth};
+ghost use Rattle.std.specs.Prelude.{◌≡◌, ◌++◌, ℕ, List, Result};
+ghost use Rattle.jac_app.specs.Outside.{IsPut, span};
 
-use jac_io::{AuditSink, Failed, Sink};
+use jac_io::{Failed, Sink};
 
 /// One put, whose bytes are named also where the sink tells nothing.
 pub fn put<S: Sink>(sink: &mut S, bytes: &[u8]) -> Result<(), Failed>
-    ensures lasts { Lasts (S.tells sink.old) (S.tells sink.new) (S.aimed sink.old) (S.aimed sink.new) (S.faults sink.old) (S.faults sink.new) }
-    ensures put { (put : List ℕ) × Took (S.tells sink.old) (S.held sink.old) (S.held sink.new) put × Put bytes.now put result }
-    ensures cause { OnErr result (Rose (S.faults sink.old) (S.faults sink.new)) }
+    ensures { IsPut (span (S.seen sink.old) (S.seen sink.new)) bytes.now result }
 {
     match sink.put(bytes) {
         Ok(()) => Ok(()),
@@ -18,9 +15,7 @@ pub fn put<S: Sink>(sink: &mut S, bytes: &[u8]) -> Result<(), Failed>
 
 /// Puts two pieces, as one.
 pub fn put_two<S: Sink>(sink: &mut S, first: &[u8], second: &[u8]) -> Result<(), Failed>
-    ensures lasts { Lasts (S.tells sink.old) (S.tells sink.new) (S.aimed sink.old) (S.aimed sink.new) (S.faults sink.old) (S.faults sink.new) }
-    ensures put { (put : List ℕ) × Took (S.tells sink.old) (S.held sink.old) (S.held sink.new) put × Put (first.now ++ second.now) put result }
-    ensures cause { OnErr result (Rose (S.faults sink.old) (S.faults sink.new)) }
+    ensures { IsPut (span (S.seen sink.old) (S.seen sink.new)) (first.now ++ second.now) result }
 {
     match put(sink, first) {
         Ok(()) => match put(sink, second) {
@@ -38,12 +33,10 @@ pub fn put_three<S: Sink>(
     second: &[u8],
     third: &[u8],
 ) -> Result<(), Failed>
-    ensures lasts { Lasts (S.tells sink.old) (S.tells sink.new) (S.aimed sink.old) (S.aimed sink.new) (S.faults sink.old) (S.faults sink.new) }
-    ensures put { (put : List ℕ) × Took (S.tells sink.old) (S.held sink.old) (S.held sink.new) put × Put (first.now ++ second.now ++ third.now) put result }
-    ensures cause { OnErr result (Rose (S.faults sink.old) (S.faults sink.new)) }
+    ensures { IsPut (span (S.seen sink.old) (S.seen sink.new)) (first.now ++ second.now ++ third.now) result }
 {
-    match put_two(sink, first, second) {
-        Ok(()) => match put(sink, third) {
+    match put(sink, first) {
+        Ok(()) => match put_two(sink, second, third) {
             Ok(()) => Ok(()),
             Err(Failed) => Err(Failed),
         },
@@ -59,12 +52,10 @@ pub fn put_four<S: Sink>(
     third: &[u8],
     fourth: &[u8],
 ) -> Result<(), Failed>
-    ensures lasts { Lasts (S.tells sink.old) (S.tells sink.new) (S.aimed sink.old) (S.aimed sink.new) (S.faults sink.old) (S.faults sink.new) }
-    ensures put { (put : List ℕ) × Took (S.tells sink.old) (S.held sink.old) (S.held sink.new) put × Put (first.now ++ second.now ++ third.now ++ fourth.now) put result }
-    ensures cause { OnErr result (Rose (S.faults sink.old) (S.faults sink.new)) }
+    ensures { IsPut (span (S.seen sink.old) (S.seen sink.new)) (first.now ++ second.now ++ third.now ++ fourth.now) result }
 {
-    match put_three(sink, first, second, third) {
-        Ok(()) => match put(sink, fourth) {
+    match put(sink, first) {
+        Ok(()) => match put_three(sink, second, third, fourth) {
             Ok(()) => Ok(()),
             Err(Failed) => Err(Failed),
         },

@@ -1,25 +1,22 @@
-ghost use Rattle.std.specs.Prelude.{◌≡◌, ◌++◌, ◌≤◌, ◌<◌, ◌+◌, ◌-◌, ◌^◌, ◌⊎◌, ◌∷◌, [], ℕ, Bool, true, List, Result, Option, Some, None, OnOk, OnErr, IfOk, IfSome, IsTrue, length, codes, decimal};
-ghost use Rattle.std.specs.Str.{bytes_eq};
-ghost use Rattle.jac_io.specs.Faults.{Rose};
+ghost use Rattle.std.specs.Prelude.{◌≡◌, ◌++◌, ◌≤◌, ◌<◌, ◌+◌, ◌-◌, ◌^◌, ◌∷◌, [], ℕ, true, List, Result, Option, Some, None, OnErr, IfOk, IsTrue, length, codes, decimal};
 ghost use Rattle.jac_lang.specs.Mirror.{application_of};
 ghost use Rattle.jac_keep.specs.Cause.{HasCause};
-ghost use Rattle.jac_engine.specs.Prepared.{refusal};
+ghost use Rattle.jac_engine.specs.Answers.{refusal};
 ghost use Rattle.jac_engine.specs.Served.{are_served};
 ghost use Rattle.jac_engine.specs.Start.{IsStart};
+ghost use Rattle.jac_app.specs.Asked.{viewer_in, form_body, ask_in};
 ghost use Rattle.jac_app.specs.Failed.{status_of_stop};
-ghost use Rattle.jac_app.specs.Keeping.{kept};
 ghost use Rattle.jac_app.specs.Line.{is_nil};
-ghost use Rattle.jac_app.specs.Log.{Entry, Script, script_of, request_of, viewer_in, viewer_text, reply_text, audit_text};
-ghost use Rattle.jac_app.specs.Outside.{Took, Lasts, Put, PutBoth};
-ghost use Rattle.jac_app.specs.Page.{form_body, inquiry_of};
+ghost use Rattle.jac_app.specs.Log.{viewer_text, reply_text, audit_text};
+ghost use Rattle.jac_app.specs.Outside.{AWriteFailed, PutBoth, Went, sinks, span};
 ghost use Rattle.jac_app.specs.Serve.{IsAnswerMade, AnswersAsk, AnswersLine, ServesAs};
 
-use crate::line::{Ask, read_ask};
+use crate::line::{Event, read_ask};
 use crate::outside::{put, put_four};
 use crate::parts::first_part;
 use crate::reply::{audit_line, is_head, reply_line};
 use itoa::Buffer;
-use jac_engine::{Answer, Ask as Inquiry, commit, prepare};
+use jac_engine::{Answer, Ask, commit, prepare};
 use jac_io::{AuditSink, Failed, Sink};
 use jac_keep::{Keeper, Stop};
 use jac_lang::App;
@@ -36,33 +33,33 @@ struct Lines {
     audit: Txt,
 }
 
-fn viewer_of(app: &App, ask: &Ask) -> Option<Id>
-    ensures { result ≡ viewer_in (application_of app.now) ask.now.viewer }
+fn viewer_of(app: &App, event: &Event) -> Option<Id>
+    ensures { result ≡ viewer_in (application_of app.now) event.now.viewer }
 {
-    match ask.viewer {
+    match event.viewer {
         None => None,
         Some(number) => viewer_id(number, app),
     }
 }
 
-fn form_body(ask: &Ask) -> &[u8]
-    ensures { result.now ≡ form_body ask.now.method ask.now.body }
+fn form_body(event: &Event) -> &[u8]
+    ensures { result.now ≡ form_body event.now.method event.now.body }
 {
-    if ask.method.as_bytes() == b"POST".as_slice() {
-        ask.body.as_slice()
+    if event.method.as_bytes() == b"POST".as_slice() {
+        event.body.as_slice()
     } else {
         &[]
     }
 }
 
-fn inquiry(alloc: Global, app: &App, ask: &Ask) -> Result<Inquiry, Memory>
-    ensures { IfOk result (λ i. i ≡ inquiry_of (request_of (application_of app.now) ask.now)) }
+fn ask_in(alloc: Global, app: &App, event: &Event) -> Result<Ask, Memory>
+    ensures { IfOk result (λ ask. ask ≡ ask_in (application_of app.now) event.now) }
 {
-    let method = ask.method.copy(alloc)?;
-    let path = ask.path.copy(alloc)?;
-    let pairs = pairs_of(alloc, ask.query.as_slice(), form_body(ask))?;
-    Ok(Inquiry {
-        viewer: viewer_of(app, ask),
+    let method = event.method.copy(alloc)?;
+    let path = event.path.copy(alloc)?;
+    let pairs = pairs_of(alloc, event.query.as_slice(), form_body(event))?;
+    Ok(Ask {
+        viewer: viewer_of(app, event),
         method,
         path,
         pairs,
@@ -87,31 +84,30 @@ fn make_lines(
 
 // Answers one request and stores what it leaves. The lines of its reply are made before, so that nothing is
 // stored without them.
-fn answer_ask<K: Keeper, L: Ledger>(
+fn answer_event<K: Keeper, L: Ledger>(
     alloc: Global,
     app: &App,
     keeper: &mut K,
     k: u64,
-    ask: &Ask,
+    event: &Event,
     splits: &mut Steps<L>,
 ) -> Result<Lines, Stop>
-    requires attached { IsTrue (K.attached keeper.old) }
+    requires attached { IsTrue (K.seen keeper.old).attached }
     requires served { are_served (application_of app.now) ≡ true }
-    requires start { IsTrue (K.tells keeper.old) → IsStart (application_of app.now) (K.state keeper.old) }
-    ensures made { IfOk result (λ lines. IsAnswerMade (application_of app.now)
-        (kept (K.tells keeper.old) (K.state keeper.old) (K.state keeper.new) (K.faults keeper.old) (K.faults keeper.new))
-        (request_of (application_of app.now) ask.now) k lines.reply lines.audit) }
-    ensures refused { IsTrue (K.tells keeper.old) → OnErr result (K.state keeper.new ≡ K.state keeper.old) }
-    ensures cause { HasCause (K.faults keeper.old) (K.faults keeper.new) result }
-    ensures tells { K.tells keeper.new ≡ K.tells keeper.old }
-    ensures attached { K.attached keeper.new ≡ K.attached keeper.old }
+    requires start { IsTrue (K.seen keeper.old).tells → IsStart (application_of app.now) (K.seen keeper.old).state }
+    ensures made { IfOk result (λ lines. IsAnswerMade (application_of app.now) (span (K.seen keeper.old) (K.seen keeper.new))
+        (ask_in (application_of app.now) event.now) k lines.reply lines.audit) }
+    ensures refused { IsTrue (K.seen keeper.new).tells → OnErr result ((K.seen keeper.new).state ≡ (K.seen keeper.old).state) }
+    ensures told { IsTrue (K.seen keeper.new).tells → IsTrue (K.seen keeper.old).tells }
+    ensures cause { HasCause (K.seen keeper.old).faults (K.seen keeper.new).faults result }
+    ensures attached { (K.seen keeper.new).attached ≡ (K.seen keeper.old).attached }
 {
-    let inquiry = inquiry(alloc, app, ask)?;
-    let prepared = prepare(alloc, app, keeper, &inquiry, splits)?;
+    let ask = ask_in(alloc, app, event)?;
+    let prepared = prepare(alloc, app, keeper, &ask, splits)?;
     let lines = make_lines(
         alloc,
         k,
-        inquiry.viewer,
+        ask.viewer,
         ask.method.as_bytes(),
         &prepared.answer,
     )?;
@@ -126,11 +122,8 @@ fn put_lines<O: Sink, U: AuditSink>(
     reply: &[u8],
     line: &[u8],
 ) -> Result<(), Failed>
-    ensures out { Lasts (O.tells out.old) (O.tells out.new) (O.aimed out.old) (O.aimed out.new) (O.faults out.old) (O.faults out.new) }
-    ensures audit { Lasts (U.tells audit.old) (U.tells audit.new) (U.aimed audit.old) (U.aimed audit.new) (U.faults audit.old) (U.faults audit.new) }
-    ensures put { (o : List ℕ) × (a : List ℕ) × Took (O.tells out.old) (O.held out.old) (O.held out.new) o
-        × Took (U.tells audit.old) (U.held audit.old) (U.held audit.new) a × PutBoth reply.now line.now o a result }
-    ensures cause { OnErr result (Rose (O.faults out.old) (O.faults out.new) ⊎ Rose (U.faults audit.old) (U.faults audit.new)) }
+    ensures put { Went (sinks (O.seen out.old) (O.seen out.new) (U.seen audit.old) (U.seen audit.new)) (PutBoth reply.now line.now result) }
+    ensures cause { OnErr result (AWriteFailed (sinks (O.seen out.old) (O.seen out.new) (U.seen audit.old) (U.seen audit.new))) }
 {
     match put(audit, line) {
         Ok(()) => match put(out, reply) {
@@ -190,12 +183,8 @@ fn put_failed<O: Sink, U: AuditSink>(
     method: &[u8],
     stop: Stop,
 ) -> Result<(), Failed>
-    ensures out { Lasts (O.tells out.old) (O.tells out.new) (O.aimed out.old) (O.aimed out.new) (O.faults out.old) (O.faults out.new) }
-    ensures audit { Lasts (U.tells audit.old) (U.tells audit.new) (U.aimed audit.old) (U.aimed audit.new) (U.faults audit.old) (U.faults audit.new) }
-    ensures put { (o : List ℕ) × (a : List ℕ) × Took (O.tells out.old) (O.held out.old) (O.held out.new) o
-        × Took (U.tells audit.old) (U.held audit.old) (U.held audit.new) a
-        × PutBoth (reply_text method.now (status_of_stop stop) None (refusal (status_of_stop stop) None).body) (audit_text k (status_of_stop stop) viewer None) o a result }
-    ensures cause { OnErr result (Rose (O.faults out.old) (O.faults out.new) ⊎ Rose (U.faults audit.old) (U.faults audit.new)) }
+    ensures put { Went (sinks (O.seen out.old) (O.seen out.new) (U.seen audit.old) (U.seen audit.new)) (PutBoth (reply_text method.now (status_of_stop stop) None (refusal (status_of_stop stop) None).body) (audit_text k (status_of_stop stop) viewer None) result) }
+    ensures cause { OnErr result (AWriteFailed (sinks (O.seen out.old) (O.seen out.new) (U.seen audit.old) (U.seen audit.new))) }
 {
     let mut number_buffer = Buffer::new();
     let mut viewer_buffer = Buffer::new();
@@ -224,12 +213,8 @@ fn put_pieces<O: Sink, U: AuditSink>(
     status: &[u8],
     viewer: &[u8],
 ) -> Result<(), Failed>
-    ensures out { Lasts (O.tells out.old) (O.tells out.new) (O.aimed out.old) (O.aimed out.new) (O.faults out.old) (O.faults out.new) }
-    ensures audit { Lasts (U.tells audit.old) (U.tells audit.new) (U.aimed audit.old) (U.aimed audit.new) (U.faults audit.old) (U.faults audit.new) }
-    ensures put { (o : List ℕ) × (a : List ℕ) × Took (O.tells out.old) (O.held out.old) (O.held out.new) o
-        × Took (U.tells audit.old) (U.held audit.old) (U.held audit.new) a
-        × PutBoth reply.now (number.now ++ status.now ++ viewer.now ++ codes " nopage\n") o a result }
-    ensures cause { OnErr result (Rose (O.faults out.old) (O.faults out.new) ⊎ Rose (U.faults audit.old) (U.faults audit.new)) }
+    ensures put { Went (sinks (O.seen out.old) (O.seen out.new) (U.seen audit.old) (U.seen audit.new)) (PutBoth reply.now (number.now ++ status.now ++ viewer.now ++ codes " nopage\n") result) }
+    ensures cause { OnErr result (AWriteFailed (sinks (O.seen out.old) (O.seen out.new) (U.seen audit.old) (U.seen audit.new))) }
 {
     match put_four(audit, number, status, viewer, b" nopage\n") {
         Ok(()) => match put(out, reply) {
@@ -241,39 +226,32 @@ fn put_pieces<O: Sink, U: AuditSink>(
 }
 
 // Answers one request, of which `served` were answered before.
-fn serve_ask<O: Sink, U: AuditSink, K: Keeper, L: Ledger>(
+fn serve_event<O: Sink, U: AuditSink, K: Keeper, L: Ledger>(
     alloc: Global,
     app: &App,
     served: u64,
-    ask: &Ask,
+    event: &Event,
     out: &mut O,
     audit: &mut U,
     keeper: &mut K,
     splits: &mut Steps<L>,
 ) -> Result<(), Failed>
     requires few { served < 2 ^ 64 - 1 }
-    requires attached { IsTrue (K.attached keeper.old) }
+    requires attached { IsTrue (K.seen keeper.old).attached }
     requires served { are_served (application_of app.now) ≡ true }
-    requires start { IsTrue (K.tells keeper.old) → IsStart (application_of app.now) (K.state keeper.old) }
-    ensures out { Lasts (O.tells out.old) (O.tells out.new) (O.aimed out.old) (O.aimed out.new) (O.faults out.old) (O.faults out.new) }
-    ensures audit { Lasts (U.tells audit.old) (U.tells audit.new) (U.aimed audit.old) (U.aimed audit.new) (U.faults audit.old) (U.faults audit.new) }
-    ensures answered { (o : List ℕ) × (a : List ℕ) × Took (O.tells out.old) (O.held out.old) (O.held out.new) o
-        × Took (U.tells audit.old) (U.held audit.old) (U.held audit.new) a
-        × AnswersAsk (application_of app.now)
-        (kept (K.tells keeper.old) (K.state keeper.old) (K.state keeper.new) (K.faults keeper.old) (K.faults keeper.new))
-        served ask.now o a result }
-    ensures cause { OnErr result (Rose (O.faults out.old) (O.faults out.new) ⊎ Rose (U.faults audit.old) (U.faults audit.new)) }
-    ensures tells { K.tells keeper.new ≡ K.tells keeper.old }
-    ensures attached { K.attached keeper.new ≡ K.attached keeper.old }
+    requires start { IsTrue (K.seen keeper.old).tells → IsStart (application_of app.now) (K.seen keeper.old).state }
+    ensures answered { Went (sinks (O.seen out.old) (O.seen out.new) (U.seen audit.old) (U.seen audit.new)) (AnswersAsk (application_of app.now) (span (K.seen keeper.old) (K.seen keeper.new)) served event.now result) }
+    ensures cause { OnErr result (AWriteFailed (sinks (O.seen out.old) (O.seen out.new) (U.seen audit.old) (U.seen audit.new))) }
+    ensures attached { (K.seen keeper.new).attached ≡ (K.seen keeper.old).attached }
 {
-    match answer_ask(alloc, app, keeper, served + 1, ask, splits) {
+    match answer_event(alloc, app, keeper, served + 1, event, splits) {
         Ok(lines) => put_lines(out, audit, lines.reply.as_bytes(), lines.audit.as_bytes()),
         Err(stop) => put_failed(
             out,
             audit,
             served + 1,
-            viewer_of(app, ask),
-            ask.method.as_bytes(),
+            viewer_of(app, event),
+            event.method.as_bytes(),
             stop,
         ),
     }
@@ -302,26 +280,20 @@ fn serve_line<O: Sink, U: AuditSink, K: Keeper, L: Ledger>(
     splits: &mut Steps<L>,
 ) -> Result<u64, Stopped>
     requires few { served < 2 ^ 64 - 1 }
-    requires attached { IsTrue (K.attached keeper.old) }
+    requires attached { IsTrue (K.seen keeper.old).attached }
     requires served { are_served (application_of app.now) ≡ true }
-    requires start { IsTrue (K.tells keeper.old) → IsStart (application_of app.now) (K.state keeper.old) }
-    ensures out { Lasts (O.tells out.old) (O.tells out.new) (O.aimed out.old) (O.aimed out.new) (O.faults out.old) (O.faults out.new) }
-    ensures audit { Lasts (U.tells audit.old) (U.tells audit.new) (U.aimed audit.old) (U.aimed audit.new) (U.faults audit.old) (U.faults audit.new) }
-    ensures answered { (o : List ℕ) × (a : List ℕ) × Took (O.tells out.old) (O.held out.old) (O.held out.new) o
-        × Took (U.tells audit.old) (U.held audit.old) (U.held audit.new) a × AnswersLine (application_of app.now)
-        (kept (K.tells keeper.old) (K.state keeper.old) (K.state keeper.new) (K.faults keeper.old) (K.faults keeper.new))
-        served number line.now o a result }
-    ensures cause { result ≡ Err Stopped.Write → Rose (O.faults out.old) (O.faults out.new) ⊎ Rose (U.faults audit.old) (U.faults audit.new) }
+    requires start { IsTrue (K.seen keeper.old).tells → IsStart (application_of app.now) (K.seen keeper.old).state }
+    ensures answered { Went (sinks (O.seen out.old) (O.seen out.new) (U.seen audit.old) (U.seen audit.new)) (AnswersLine (application_of app.now) (span (K.seen keeper.old) (K.seen keeper.new)) served number line.now result) }
+    ensures cause { result ≡ Err Stopped.Write → AWriteFailed (sinks (O.seen out.old) (O.seen out.new) (U.seen audit.old) (U.seen audit.new)) }
     ensures count { IfOk result (λ count. count ≤ served + 1) }
-    ensures start { IsTrue (K.tells keeper.old) → IsStart (application_of app.now) (K.state keeper.new) }
-    ensures tells { K.tells keeper.new ≡ K.tells keeper.old }
-    ensures attached { K.attached keeper.new ≡ K.attached keeper.old }
+    ensures start { IsTrue (K.seen keeper.new).tells → IsStart (application_of app.now) (K.seen keeper.new).state }
+    ensures attached { (K.seen keeper.new).attached ≡ (K.seen keeper.old).attached }
 {
     if is_blank(line) {
         return Ok(served);
     }
     match read_ask(alloc, line) {
-        Ok(Some(ask)) => match serve_ask(alloc, app, served, &ask, out, audit, keeper, splits) {
+        Ok(Some(event)) => match serve_event(alloc, app, served, &event, out, audit, keeper, splits) {
             Ok(()) => Ok(served + 1),
             Err(Failed) => Err(Stopped::Write),
         },
@@ -347,16 +319,11 @@ pub fn serve_events<O: Sink, U: AuditSink, K: Keeper, L: Ledger>(
     splits: &mut Steps<L>,
 ) -> Result<(), Stopped>
     requires short { length bytes.now < 2 ^ 32 }
-    requires attached { IsTrue (K.attached keeper.old) }
+    requires attached { IsTrue (K.seen keeper.old).attached }
     requires served { are_served (application_of app.now) ≡ true }
-    requires start { IsTrue (K.tells keeper.old) → IsStart (application_of app.now) (K.state keeper.old) }
-    ensures out { Lasts (O.tells out.old) (O.tells out.new) (O.aimed out.old) (O.aimed out.new) (O.faults out.old) (O.faults out.new) }
-    ensures audit { Lasts (U.tells audit.old) (U.tells audit.new) (U.aimed audit.old) (U.aimed audit.new) (U.faults audit.old) (U.faults audit.new) }
-    ensures served { (o : List ℕ) × (a : List ℕ) × Took (O.tells out.old) (O.held out.old) (O.held out.new) o
-        × Took (U.tells audit.old) (U.held audit.old) (U.held audit.new) a × ServesAs (application_of app.now)
-        (kept (K.tells keeper.old) (K.state keeper.old) (K.state keeper.new) (K.faults keeper.old) (K.faults keeper.new))
-        bytes.now o a result }
-    ensures cause { result ≡ Err Stopped.Write → Rose (O.faults out.old) (O.faults out.new) ⊎ Rose (U.faults audit.old) (U.faults audit.new) }
+    requires start { IsTrue (K.seen keeper.old).tells → IsStart (application_of app.now) (K.seen keeper.old).state }
+    ensures served { Went (sinks (O.seen out.old) (O.seen out.new) (U.seen audit.old) (U.seen audit.new)) (ServesAs (application_of app.now) (span (K.seen keeper.old) (K.seen keeper.new)) (K.seen keeper.old).state bytes.now result) }
+    ensures cause { result ≡ Err Stopped.Write → AWriteFailed (sinks (O.seen out.old) (O.seen out.new) (U.seen audit.old) (U.seen audit.new)) }
 {
     let mut left = Some(bytes);
     let mut number: u64 = 0;

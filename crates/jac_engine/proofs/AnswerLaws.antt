@@ -4,20 +4,25 @@ use Rattle.std.proofs.lemmas.Bool.{and_parts}
 use Rattle.std.specs.List.{AllByRecursion}
 use Rattle.std.specs.Prelude.{slice_get}
 use Rattle.jac_lang.specs.Syntax.{Statement, Statements, Page as View, Application}
+use Rattle.jac_lang.specs.declared.pages.Verb.{Verb}
 use Rattle.jac_lang.specs.declared.pages.Verb.TheVariants as verbs
 use Rattle.jac_world.specs.World.{shown}
 use Rattle.jac_rows.specs.Project.{rows_at, project_at}
 use Rattle.jac_rows.specs.declared.plain.PlainRow.{PlainRow}
+use Rattle.jac_rows.specs.declared.plain.PlainState.{PlainState}
+use Rattle.jac_plain.specs.Statements.{Run}
 use Rattle.jac_rows.specs.declared.row.Row.{Row}
 use Rattle.jac_rows.specs.declared.state.State.{State}
-use Rattle.jac_plain.specs.Requests.{page, page_of, after}
+use Rattle.jac_plain.specs.Requests.{Visit, method_in, run_of, page, page_of, after, after_by}
+use Rattle.jac_plain.proofs.ShownLaws.{runs_alike}
 use Rattle.jac_keep.specs.declared.alteration.Alteration.{Alteration}
 use Rattle.jac_keep.specs.declared.alteration.Change.{Change}
 use Rattle.jac_keep.specs.Alterations.{overlaid_from}
 use Rattle.jac_keep.specs.Kept.{applied}
 use Rattle.jac_keep.proofs.WorkLaws.{overlaid_none}
 use Rattle.jac_engine.specs.declared.answer.Ask.{Ask}
-use Rattle.jac_engine.specs.Prepared.{visit_of, page_answer, Stores}
+use Rattle.jac_engine.specs.Answers.{visit_of, page_answer}
+use Rattle.jac_engine.specs.Viewed.{Stores}
 use Rattle.jac_engine.specs.Ran.{ran_by}
 use Rattle.jac_engine.specs.Running.{IsRunnable, AreRunnable, IsFit}
 use Rattle.jac_engine.specs.Served.{is_showing, are_showing, is_making, are_making, is_fixed, is_served_body, is_served_view, are_served_views, are_without_groups, have_own_routes, are_served}
@@ -111,12 +116,19 @@ length_overlaid k c (t ∷ ts) = ap suc (length_overlaid (k + 1) c ts)
 
 -- the page of the run is the interpreter's
 pub ran_page : (app : Application) (v : View) (ask : Ask) (place n : ℕ) (s : State) → slice_get app.views place ≡ Some v → n ≡ s.number
-    → page_answer (page_of (ran_by app v ask n s).pieces) ≡ page_answer (page app (project_at (shown []) s) (visit_of app ask place))
+    → page_answer [] (page_of (ran_by app v ask n s).pieces) ≡ page_answer [] (page (shown []) app (project_at (shown []) s) (visit_of app ask place))
 ran_page app v ask place n s is_view is_number = rw (is_view, is_number) refl
 
 ran_after : (app : Application) (v : View) (ask : Ask) (place n : ℕ) (s : State) → slice_get app.views place ≡ Some v → v.method ≡ verbs.Post → n ≡ s.number
-    → record { tables = (ran_by app v ask n s).tables; number = n + 1 } ≡ after app (project_at (shown []) s) (visit_of app ask place)
+    → record { tables = (ran_by app v ask n s).tables; number = n + 1 } ≡ after (shown []) app (project_at (shown []) s) (visit_of app ask place)
 ran_after app v ask place n s is_view is_post is_number = rw (is_view, is_post, is_view, is_number) refl
+
+after_by_alike : (verb : Verb) (v w : ℕ → Bool) (app : Application) (t : PlainState) (visit : Visit) → after_by verb v app t visit ≡ after_by verb w app t visit
+after_by_alike verbs.Get v w app t visit = refl
+after_by_alike verbs.Post v w app t visit = ap (λ (r : Run). record { tables = r.tables; number = t.number + 1 }) (runs_alike v w app t visit)
+
+after_alike : (v w : ℕ → Bool) (app : Application) (t : PlainState) (visit : Visit) → after v app t visit ≡ after w app t visit
+after_alike v w app t visit = after_by_alike (method_in (slice_get app.views visit.view)) v w app t visit
 
 -- the change of a run stores what the interpreter leaves, in every world
 pub ran_stores : (app : Application) (v : View) (ask : Ask) (place n : ℕ) (s : State) (change : Change) → slice_get app.views place ≡ Some v → v.method ≡ verbs.Post
@@ -127,7 +139,8 @@ ran_stores app v ask place n s change is_view is_post is_number few start world 
   room = omega (arith, is_number, few);
   worlds = λ w.
       alike w (shown []) (applied change s) fit.unguarded ∙ world ∙ ran_after app v ask place n s is_view is_post is_number
-      ∙ ap (λ t. after app t (visit_of app ask place)) (alike (shown []) w s start.unguarded);
+      ∙ ap (λ t. after (shown []) app t (visit_of app ask place)) (alike (shown []) w s start.unguarded)
+      ∙ after_alike (shown []) w app (project_at w s) (visit_of app ask place);
   start = record {
     sound = rw next fit.sound;
     tables = rw (length_overlaid 0 change.changed s.tables) start.tables;

@@ -1,8 +1,7 @@
-pub mod ReadingLaws
 pub mod DraftLaws
 pub mod RecordLaws
 pub mod RunLaws
 pub mod PlaceLaws
 pub mod PageLaws
 pub mod AnswerLaws
-pub mod StartLaws
+pub mod PreparedLaws

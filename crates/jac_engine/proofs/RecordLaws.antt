@@ -9,7 +9,7 @@ use Rattle.jac_value.specs.declared.value.Value.TheVariants as value
 use Rattle.jac_lang.specs.declared.bindings.Binding.{Binding}
 use Rattle.jac_world.specs.World.{holds}
 use Rattle.jac_rows.specs.Project.{rows_at}
-use Rattle.jac_rows.specs.Pushed.{rows_at-append}
+use Rattle.jac_rows.proofs.Pushed.{rows_at-append}
 use Rattle.jac_rows.specs.Tables.{rows_of}
 use Rattle.jac_rows.specs.declared.plain.PlainRow.{PlainRow}
 use Rattle.jac_rows.specs.declared.row.Row.{Row}
@@ -20,7 +20,8 @@ use Rattle.jac_keep.specs.declared.alteration.Alteration.{Alteration}
 use Rattle.jac_keep.specs.Alterations.{altered, overlaid_from}
 use Rattle.jac_keep.specs.Kept.{state_with, applied}
 use Rattle.jac_keep.specs.Records.{with_id, before, behind, placed as put}
-use Rattle.jac_keep.specs.Sound.{IsSound, MayStand, AllStand}
+use Rattle.jac_rows.specs.Good.{IsSound}
+use Rattle.jac_keep.specs.Sound.{MayStand, AllStand}
 use Rattle.jac_keep.specs.declared.alteration.Change.{Change}
 use Rattle.jac_engine.specs.Running.{run_at, new_row, IsFit}
 use Rattle.jac_engine.specs.Start.{AreUnguarded}

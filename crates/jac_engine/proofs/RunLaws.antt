@@ -1,23 +1,24 @@
 -- A run from one moment to a later one.
-use Rattle.std.proofs.Common.{◌≡◌, ◌≤◌, refl, arith, zero, suc, ℕ, Bool, List, [], ◌∷◌, length, drop}
+use Rattle.std.proofs.Common.{◌≡◌, ◌≤◌, refl, arith, zero, suc, ℕ, IsTrue, List, [], ◌∷◌, length, drop}
 use Rattle.jac_lang.specs.declared.bindings.Binding.{Binding}
 use Rattle.jac_lang.specs.declared.queries.Binder.{Binder}
-use Rattle.jac_rows.specs.declared.state.State.{State}
 use Rattle.jac_plain.specs.Expressions.{bound}
 use Rattle.jac_keep.specs.declared.alteration.Alterations.{Alterations}
 use Rattle.jac_keep.specs.declared.work.WorkOver.{WorkOver}
-use Rattle.jac_keep.specs.Worked.{state_of, IsTold, LeavesKeeper}
+use Rattle.jac_keep.specs.KeeperSeen.{KeeperSeen, IsLeft}
+use Rattle.jac_keep.specs.Worked.{state_of, IsTold}
 use Rattle.jac_engine.specs.Running.{IsFit}
 
 -- what stands between two rounds of a loop over a work
-pub record Runs {K : Type 0} (tells : K → Bool) (state : K → State) (attached : K → Bool) (faults : K → ℕ) (next : ℕ) (old new : WorkOver K Alterations) (no_deeper served here : Type 0) : Type 0 where
-  pub same : LeavesKeeper tells state attached old new
-  pub later : faults old.keeper.now ≤ faults new.keeper.now
-  pub told : IsTold tells state old → IsTold tells state new
-  pub fit : IsFit next (state_of state old) → IsFit next (state_of state new)
+pub record Runs {K : Type 0} (seen : K → KeeperSeen) (next : ℕ) (old new : WorkOver K Alterations) (no_deeper served here : Type 0) : Type 0 where
+  pub same_reference : new.keeper.ghost_name ≡ old.keeper.ghost_name
+  pub keeper : IsLeft (seen old.keeper.now) (seen new.keeper.now)
+  pub told : IsTold seen new → IsTold seen old
+  pub placed : IsTrue (seen new.keeper.now).tells → IsTold seen old → IsTold seen new
+  pub fit : IsTold seen new → IsFit next (state_of seen old) → IsFit next (state_of seen new)
   pub ends : no_deeper
   pub goes_on : served
-  pub left : IsTold tells state old → here
+  pub left : IsTold seen new → here
 
 bound_end : (bs : List Binder) (env : List Binding) → env ≡ bound bs [] env
 bound_end [] env = refl

@@ -4,4 +4,6 @@ pub mod Start
 pub mod Running
 pub mod Refused
 pub mod Ran
+pub mod Answers
 pub mod Prepared
+pub mod Viewed

@@ -1,7 +1,7 @@
 -- What answers a path without a view of the method.
 use Rattle.std.specs.Prelude.{Bool, true, false, Some, None}
 use Rattle.jac_engine.specs.Found.{allow_text}
-use Rattle.jac_engine.specs.Prepared.{refused}
+use Rattle.jac_engine.specs.Viewed.{refused}
 use Rattle.jac_engine.specs.declared.answer.Prepared.{Prepared}
 
 -- by whether the path has views of GET, and of POST

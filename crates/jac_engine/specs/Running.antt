@@ -9,18 +9,15 @@ use Rattle.jac_rows.specs.declared.state.State.{State}
 use Rattle.jac_plain.specs.declared.page.Piece.{Piece}
 use Rattle.jac_plain.specs.Statements.{Setting, Run}
 use Rattle.jac_plain.specs.World.{World}
-use Rattle.jac_keep.specs.declared.alteration.Alterations.{Alterations}
-use Rattle.jac_keep.specs.declared.work.WorkOver.{WorkOver}
-use Rattle.jac_keep.specs.Sound.{IsSound}
-use Rattle.jac_keep.specs.Worked.{state_of, IsTold, IsUntouched}
+use Rattle.jac_rows.specs.Good.{IsSound}
 use Rattle.jac_engine.specs.Start.{AreUnguarded}
 
 -- the world that the assignment shows of a state
 abbrev pub world_at : Application → Option ℕ → (ℕ → Bool) → State → World
 world_at app viewer w s = record { models = app.models; this = None; viewer = viewer; tables = map (rows_at w) s.tables }
 
-abbrev pub setting_of : Application → Option ℕ → ℕ → Setting
-setting_of app viewer number = record { models = app.models; viewer = viewer; number = number }
+abbrev pub setting_of : (ℕ → Bool) → Application → Option ℕ → ℕ → Setting
+setting_of w app viewer number = record { models = app.models; viewer = viewer; number = number; shown = w }
 
 -- a run in that world
 abbrev pub run_at : (ℕ → Bool) → State → List Binding → List Piece → Run
@@ -41,12 +38,6 @@ abbrev mutual
 -- a record that everybody sees
 abbrev pub new_row : ℕ → List Value → Row
 new_row id cells = record { id = id; guard = []; cells = cells }
-
--- a call that reads leaves the state of a work
-pub record Reads {K : Type 0} (tells : K → Bool) (state : K → State) (attached : K → Bool) (old new : WorkOver K Alterations) : Type 0 where
-  pub same : IsUntouched tells state attached old new
-  pub states : state_of state new ≡ state_of state old
-  pub told : IsTold tells state old → IsTold tells state new
 
 -- a state that is sound for this next number, and in which everybody sees every row
 pub record IsFit (next : ℕ) (s : State) : Type 0 where

@@ -4,7 +4,7 @@ use Rattle.std.specs.List.{AllByRecursion}
 use Rattle.jac_lang.specs.Syntax.{Application}
 use Rattle.jac_rows.specs.declared.row.Row.{Row}
 use Rattle.jac_rows.specs.declared.state.State.{State}
-use Rattle.jac_keep.specs.Sound.{IsSound}
+use Rattle.jac_rows.specs.Good.{IsSound}
 
 -- each row is shown under every assignment
 abbrev pub AreUnguarded : List (List Row) → Type 0

@@ -1,13 +1,17 @@
-ghost use Rattle.std.specs.Prelude.{◌≡◌, ◌<◌, true, length, slice_get, IfOk, OnOk, OnErr, IfSome, IsTrue, Some, None};
+ghost use Rattle.std.specs.Prelude.{◌≡◌, ◌<◌, true, length, slice_get, IfOk, OnOk, OnErr, IfSome, IsTrue, Some, []};
 ghost use Rattle.jac_lang.specs.Mirror.{application_of, page_of, statements_of};
 ghost use Rattle.jac_lang.specs.declared.pages.Verb.TheVariants as verbs;
 ghost use Rattle.jac_plain.specs.Requests.{method_in};
 ghost use Rattle.jac_keep.specs.Cause.{HasCause};
+ghost use Rattle.jac_keep.specs.KeeperSeen.{Reads};
 ghost use Rattle.jac_keep.specs.Kept.{applied};
-ghost use Rattle.jac_keep.specs.Sound.{IsSound};
-ghost use Rattle.jac_engine.specs.Prepared.{IsPrepared, IsPreparedBy, IsShown, visit_of, page_answer, applied_if};
+ghost use Rattle.jac_rows.specs.Good.{IsSound};
+ghost use Rattle.jac_engine.specs.Answers.{visit_of, page_answer};
+ghost use Rattle.jac_engine.specs.Found.{found};
+ghost use Rattle.jac_engine.specs.Prepared.{IsPrepared, applied_if};
 ghost use Rattle.jac_engine.specs.Served.{are_served, are_showing, are_making};
 ghost use Rattle.jac_engine.specs.Start.{IsStart};
+ghost use Rattle.jac_engine.specs.Viewed.{IsPreparedBy, IsPreparedFor, IsShown};
 
 use crate::finding::{has_at, place_of, view_at};
 use crate::refusal::{refuse, refuse_path};
@@ -59,14 +63,29 @@ pub fn prepare<K: Keeper, L: Ledger>(
     ask: &Ask,
     splits: &mut Steps<L>,
 ) -> Result<Prepared, Stop>
-    requires attached { IsTrue (K.attached keeper.old) }
+    requires attached { IsTrue (K.seen keeper.old).attached }
     requires served { are_served (application_of app.now) ≡ true }
-    requires start { IsTrue (K.tells keeper.old) → IsStart (application_of app.now) (K.state keeper.old) }
-    ensures prepared { IfOk result (IsPrepared (K.tells keeper.old) (application_of app.now) (K.state keeper.old) ask.now) }
-    ensures cause { HasCause (K.faults keeper.old) (K.faults keeper.new) result }
-    ensures tells { K.tells keeper.new ≡ K.tells keeper.old }
-    ensures state { K.state keeper.new ≡ K.state keeper.old }
-    ensures attached { K.attached keeper.new ≡ K.attached keeper.old }
+    requires start { IsTrue (K.seen keeper.old).tells → IsStart (application_of app.now) (K.seen keeper.old).state }
+    ensures prepared { IfOk result (IsPrepared (K.seen keeper.new).tells (application_of app.now) (K.seen keeper.old).state ask.now) }
+    ensures reads { Reads (K.seen keeper.old) (K.seen keeper.new) result }
+{
+    let prepared = prepare_found(alloc, app, keeper, ask, splits)?;
+    Ok(prepared)
+}
+
+// The same, by what the request finds.
+fn prepare_found<K: Keeper, L: Ledger>(
+    alloc: Global,
+    app: &App,
+    keeper: &mut K,
+    ask: &Ask,
+    splits: &mut Steps<L>,
+) -> Result<Prepared, Stop>
+    requires attached { IsTrue (K.seen keeper.old).attached }
+    requires served { are_served (application_of app.now) ≡ true }
+    requires start { IsTrue (K.seen keeper.old).tells → IsStart (application_of app.now) (K.seen keeper.old).state }
+    ensures prepared { IfOk result (IsPreparedFor (found (application_of app.now) ask.now.method ask.now.path) (K.seen keeper.new).tells (application_of app.now) (K.seen keeper.old).state ask.now) }
+    ensures reads { Reads (K.seen keeper.old) (K.seen keeper.new) result }
 {
     let Some(place) = place_of(app, &ask.method, &ask.path) else {
         let views = app.views.as_slice();
@@ -87,15 +106,12 @@ fn answer_view<K: Keeper, L: Ledger>(
     place: usize,
     splits: &mut Steps<L>,
 ) -> Result<Prepared, Stop>
-    requires attached { IsTrue (K.attached keeper.old) }
+    requires attached { IsTrue (K.seen keeper.old).attached }
     requires served { are_served (application_of app.now) ≡ true }
-    requires start { IsTrue (K.tells keeper.old) → IsStart (application_of app.now) (K.state keeper.old) }
+    requires start { IsTrue (K.seen keeper.old).tells → IsStart (application_of app.now) (K.seen keeper.old).state }
     requires within { place < length app.now.views }
-    ensures prepared { IfOk result (IsPreparedBy (method_in (slice_get (application_of app.now).views place)) (K.tells keeper.old) (application_of app.now) (K.state keeper.old) (visit_of (application_of app.now) ask.now place)) }
-    ensures cause { HasCause (K.faults keeper.old) (K.faults keeper.new) result }
-    ensures tells { K.tells keeper.new ≡ K.tells keeper.old }
-    ensures state { K.state keeper.new ≡ K.state keeper.old }
-    ensures attached { K.attached keeper.new ≡ K.attached keeper.old }
+    ensures prepared { IfOk result (IsPreparedBy (method_in (slice_get (application_of app.now).views place)) (K.seen keeper.new).tells (application_of app.now) (K.seen keeper.old).state (visit_of (application_of app.now) ask.now place)) }
+    ensures reads { Reads (K.seen keeper.old) (K.seen keeper.new) result }
 {
     let view = view_at(app, place);
     match view.method {
@@ -120,15 +136,12 @@ fn show<K: Keeper, L: Ledger>(
     view: &View,
     splits: &mut Steps<L>,
 ) -> Result<Prepared, Stop>
-    requires attached { IsTrue (K.attached keeper.old) }
-    requires start { IsTrue (K.tells keeper.old) → IsStart (application_of app.now) (K.state keeper.old) }
+    requires attached { IsTrue (K.seen keeper.old).attached }
+    requires start { IsTrue (K.seen keeper.old).tells → IsStart (application_of app.now) (K.seen keeper.old).state }
     requires view { slice_get (application_of app.now).views place ≡ Some (page_of view.now) }
     requires served { are_showing (statements_of view.now.body) ≡ true }
-    ensures shown { IfOk result (IsShown (K.tells keeper.old) (application_of app.now) (K.state keeper.old) (visit_of (application_of app.now) ask.now place)) }
-    ensures cause { HasCause (K.faults keeper.old) (K.faults keeper.new) result }
-    ensures tells { K.tells keeper.new ≡ K.tells keeper.old }
-    ensures state { K.state keeper.new ≡ K.state keeper.old }
-    ensures attached { K.attached keeper.new ≡ K.attached keeper.old }
+    ensures shown { IfOk result (IsShown (K.seen keeper.new).tells (application_of app.now) (K.seen keeper.old).state (visit_of (application_of app.now) ask.now place)) }
+    ensures reads { Reads (K.seen keeper.old) (K.seen keeper.new) result }
 {
     let number = keeper.number()?;
     let page = shown_page(alloc, app, keeper, ask, view, number, splits)?;
@@ -148,16 +161,13 @@ fn store<K: Keeper, L: Ledger>(
     view: &View,
     splits: &mut Steps<L>,
 ) -> Result<Prepared, Stop>
-    requires attached { IsTrue (K.attached keeper.old) }
-    requires start { IsTrue (K.tells keeper.old) → IsStart (application_of app.now) (K.state keeper.old) }
+    requires attached { IsTrue (K.seen keeper.old).attached }
+    requires start { IsTrue (K.seen keeper.old).tells → IsStart (application_of app.now) (K.seen keeper.old).state }
     requires view { slice_get (application_of app.now).views place ≡ Some (page_of view.now) }
     requires method { view.now.method ≡ verbs.Post }
     requires served { are_making (statements_of view.now.body) ≡ true }
-    ensures stored { IfOk result (λ p. IsPreparedBy verbs.Post (K.tells keeper.old) (application_of app.now) (K.state keeper.old) (visit_of (application_of app.now) ask.now place) p) }
-    ensures cause { HasCause (K.faults keeper.old) (K.faults keeper.new) result }
-    ensures tells { K.tells keeper.new ≡ K.tells keeper.old }
-    ensures state { K.state keeper.new ≡ K.state keeper.old }
-    ensures attached { K.attached keeper.new ≡ K.attached keeper.old }
+    ensures stored { IfOk result (λ p. IsPreparedBy verbs.Post (K.seen keeper.new).tells (application_of app.now) (K.seen keeper.old).state (visit_of (application_of app.now) ask.now place) p) }
+    ensures reads { Reads (K.seen keeper.old) (K.seen keeper.new) result }
 {
     sound_after_change();
     let number = keeper.number()?;
@@ -174,7 +184,7 @@ fn store<K: Keeper, L: Ledger>(
 
 // The answer with this page, which was made under no label.
 fn answer_of(alloc: Global, page: Page) -> Answer
-    ensures { result ≡ page_answer page }
+    ensures { result ≡ page_answer [] page }
 {
     let Page {
         status,
@@ -193,14 +203,14 @@ fn answer_of(alloc: Global, page: Page) -> Answer
 /// Stores what was prepared, by one call of the keeper's `apply` where there is a change. It takes no memory
 /// of its own.
 pub fn commit<K: Keeper>(alloc: Global, keeper: &mut K, prepared: Prepared) -> Result<Answer, Stop>
-    requires attached { IsTrue (K.attached keeper.old) }
-    requires good { IsTrue (K.tells keeper.old) → IfSome prepared.change (λ c. IsSound (applied c (K.state keeper.old))) }
+    requires attached { IsTrue (K.seen keeper.old).attached }
+    requires good { IsTrue (K.seen keeper.old).tells → IfSome prepared.change (λ c. IsSound (applied c (K.seen keeper.old).state)) }
     ensures answer { IfOk result (λ a. a ≡ prepared.answer) }
-    ensures applied { IsTrue (K.tells keeper.old) → OnOk result (K.state keeper.new ≡ applied_if prepared.change (K.state keeper.old)) }
-    ensures refused { IsTrue (K.tells keeper.old) → OnErr result (K.state keeper.new ≡ K.state keeper.old) }
-    ensures cause { HasCause (K.faults keeper.old) (K.faults keeper.new) result }
-    ensures tells { K.tells keeper.new ≡ K.tells keeper.old }
-    ensures attached { K.attached keeper.new ≡ K.attached keeper.old }
+    ensures applied { IsTrue (K.seen keeper.new).tells → OnOk result ((K.seen keeper.new).state ≡ applied_if prepared.change (K.seen keeper.old).state) }
+    ensures refused { IsTrue (K.seen keeper.new).tells → OnErr result ((K.seen keeper.new).state ≡ (K.seen keeper.old).state) }
+    ensures told { IsTrue (K.seen keeper.new).tells → IsTrue (K.seen keeper.old).tells }
+    ensures cause { HasCause (K.seen keeper.old).faults (K.seen keeper.new).faults result }
+    ensures attached { (K.seen keeper.new).attached ≡ (K.seen keeper.old).attached }
 {
     let Prepared { answer, change } = prepared;
     match change {

@@ -6,9 +6,8 @@ ghost use Rattle.jac_lang.specs.Mirror.{application_of, assigned_of};
 ghost use Rattle.jac_world.specs.World.{shown};
 ghost use Rattle.jac_plain.specs.Expressions.{mean};
 ghost use Rattle.jac_plain.specs.Statements.{fitting, cell_set, drafted, default_cells};
-ghost use Rattle.jac_keep.specs.Cause.{HasCause};
-ghost use Rattle.jac_keep.specs.Worked.{state_of, IsTold};
-ghost use Rattle.jac_engine.specs.Running.{world_at, Reads};
+ghost use Rattle.jac_keep.specs.Worked.{state_of, IsTold, ReadsWork};
+ghost use Rattle.jac_engine.specs.Running.{world_at};
 
 use crate::reading::value_here;
 use jac_keep::{Keeper, Stop, Work};
@@ -21,7 +20,6 @@ use std::alloc::Global;
 use std::sync::ledger::Ledger;
 
 /// The cells of a new record of the model: the named ones as they are to be, and the others by default.
-#[tactic(auto, using(crate::proofs::DraftLaws::reads_then, crate::proofs::DraftLaws::reads_none))]
 pub(crate) fn draft<K: Keeper, L: Ledger>(
     work: &mut Work<'_, K>,
     alloc: Global,
@@ -33,11 +31,10 @@ pub(crate) fn draft<K: Keeper, L: Ledger>(
     cells: &Publics,
     splits: &mut Steps<L>,
 ) -> Result<Cells, Stop>
-    requires attached { IsTrue (K.attached work.old.keeper.now) }
+    requires attached { IsTrue (K.seen work.old.keeper.now).attached }
     requires model { model < length app.now.models }
-    ensures drafted { IsTold K.tells K.state work.old → IfOk result (λ out. out ≡ drafted (application_of app.now).models (fields_at (application_of app.now).models model) (λ e. mean (world_at (application_of app.now) ctx.now.viewer (shown assignment.now) (state_of K.state work.old)) e env.now) (assigned_of cells.now) (default_cells (application_of app.now).models (fields_at (application_of app.now).models model))) }
-    ensures cause { HasCause (K.faults work.old.keeper.now) (K.faults work.new.keeper.now) result }
-    ensures reads { Reads K.tells K.state K.attached work.old work.new }
+    ensures drafted { IsTold K.seen work.new → IfOk result (λ out. out ≡ drafted (application_of app.now).models (fields_at (application_of app.now).models model) (λ e. mean (world_at (application_of app.now) ctx.now.viewer (shown assignment.now) (state_of K.seen work.old)) e env.now) (assigned_of cells.now) (default_cells (application_of app.now).models (fields_at (application_of app.now).models model))) }
+    ensures reads { ReadsWork K.seen work.old work.new result }
 {
     let mut out = default_values(alloc, app, model)?;
     let mut left = cells;

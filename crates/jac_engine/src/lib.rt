@@ -4,7 +4,6 @@
 mod answer;
 mod drafting;
 mod finding;
-mod laws;
 mod page;
 mod reading;
 mod refusal;
@@ -13,5 +12,4 @@ mod served;
 mod visiting;
 
 pub use answer::{Answer, Ask, Prepared, commit, prepare};
-pub use laws::start_after_request;
 pub use served::serves;

@@ -1,7 +1,8 @@
 //! Answers without a page.
 ghost use Rattle.std.specs.Prelude.{◌≡◌, Some, None, IfOk};
 ghost use Rattle.jac_engine.specs.Found.{allow_text};
-ghost use Rattle.jac_engine.specs.Prepared.{reason, fixed_body, refused};
+ghost use Rattle.jac_engine.specs.Answers.{reason, fixed_body};
+ghost use Rattle.jac_engine.specs.Viewed.{refused};
 ghost use Rattle.jac_engine.specs.Refused.{refused_path};
 
 use crate::{Answer, Prepared};

@@ -1,13 +1,14 @@
 //! One run of a view over a keeper.
-ghost use Rattle.std.specs.Prelude.{◌≡◌, ◌<◌, ◌≤◌, ◌+◌, ◌^◌, [], length, IfOk, OnOk, IsTrue};
+ghost use Rattle.std.specs.Prelude.{◌≡◌, ◌<◌, ◌≤◌, ◌+◌, ◌^◌, [], length, IfOk, OnOk, IsErrOf, IsTrue};
 ghost use Rattle.jac_lang.specs.Mirror.{application_of, page_of, statements_of};
 ghost use Rattle.jac_world.specs.World.{shown};
 ghost use Rattle.jac_rows.specs.Project.{project_at};
 ghost use Rattle.jac_plain.specs.Requests.{page_of as page_made};
-ghost use Rattle.jac_keep.specs.Cause.{HasCause};
+ghost use Rattle.jac_io.specs.Faults.{Rose};
+ghost use Rattle.jac_keep.specs.KeeperSeen.{IsLeft};
 ghost use Rattle.jac_keep.specs.Kept.{applied};
-ghost use Rattle.jac_keep.specs.Worked.{state_of, IsTold, LeavesKeeper};
-ghost use Rattle.jac_engine.specs.Ran.{ran_by, tables_at};
+ghost use Rattle.jac_keep.specs.Worked.{state_of, IsTold, WritesWork};
+ghost use Rattle.jac_engine.specs.Ran.{ran_by, tables_at, IsMade};
 ghost use Rattle.jac_engine.specs.Running.{AreRunnable, IsFit};
 
 use crate::Ask;
@@ -38,15 +39,14 @@ pub(crate) fn shown_page<K: Keeper, L: Ledger>(
     number: u64,
     splits: &mut Steps<L>,
 ) -> Result<Page, Stop>
-    requires attached { IsTrue (K.attached keeper.old) }
-    requires tables { IsTrue (K.tells keeper.old) → length app.now.models ≤ length (K.state keeper.old).tables }
+    requires attached { IsTrue (K.seen keeper.old).attached }
+    requires tables { IsTrue (K.seen keeper.old).tells → length app.now.models ≤ length (K.seen keeper.old).state.tables }
     requires numbered { 0 < number }
     requires served { AreRunnable number (statements_of view.now.body) }
-    ensures page { IsTrue (K.tells keeper.old) → IfOk result (λ p. p ≡ page_made (ran_by (application_of app.now) (page_of view.now) ask.now number (K.state keeper.old)).pieces) }
-    ensures cause { HasCause (K.faults keeper.old) (K.faults keeper.new) result }
-    ensures tells { K.tells keeper.new ≡ K.tells keeper.old }
-    ensures state { K.state keeper.new ≡ K.state keeper.old }
-    ensures attached { K.attached keeper.new ≡ K.attached keeper.old }
+    ensures some { IfOk result IsMade }
+    ensures page { IsTrue (K.seen keeper.new).tells → IfOk result (λ p. p ≡ page_made (ran_by (application_of app.now) (page_of view.now) ask.now number (K.seen keeper.old).state).pieces) }
+    ensures left { IsLeft (K.seen keeper.old) (K.seen keeper.new) }
+    ensures rose { IsErrOf result Stop.Keeper → Rose (K.seen keeper.old).faults (K.seen keeper.new).faults }
 {
     let mut work = Work::new(alloc, keeper);
     let page = run_view(&mut work, alloc, app, ask, view, number, splits)?;
@@ -63,19 +63,18 @@ pub(crate) fn stored_page<K: Keeper, L: Ledger>(
     number: u64,
     splits: &mut Steps<L>,
 ) -> Result<Stored, Stop>
-    requires attached { IsTrue (K.attached keeper.old) }
-    requires tables { IsTrue (K.tells keeper.old) → length app.now.models ≤ length (K.state keeper.old).tables }
+    requires attached { IsTrue (K.seen keeper.old).attached }
+    requires tables { IsTrue (K.seen keeper.old).tells → length app.now.models ≤ length (K.seen keeper.old).state.tables }
     requires numbered { 0 < number }
     requires few { number < 2 ^ 40 }
     requires served { AreRunnable number (statements_of view.now.body) }
-    ensures page { IsTrue (K.tells keeper.old) → IfOk result (λ x. x.page ≡ page_made (ran_by (application_of app.now) (page_of view.now) ask.now number (K.state keeper.old)).pieces) }
-    ensures world { IsTrue (K.tells keeper.old) → IfOk result (λ x. project_at (shown []) (applied x.change (K.state keeper.old)) ≡ record { tables = (ran_by (application_of app.now) (page_of view.now) ask.now number (K.state keeper.old)).tables; number = number + 1 }) }
-    ensures fit { IsTrue (K.tells keeper.old) → IsFit (number + 1) (K.state keeper.old) → IfOk result (λ x. IsFit (number + 1) (applied x.change (K.state keeper.old))) }
+    ensures some { IfOk result (λ x. IsMade x.page) }
+    ensures page { IsTrue (K.seen keeper.new).tells → IfOk result (λ x. x.page ≡ page_made (ran_by (application_of app.now) (page_of view.now) ask.now number (K.seen keeper.old).state).pieces) }
+    ensures world { IsTrue (K.seen keeper.new).tells → IfOk result (λ x. project_at (shown []) (applied x.change (K.seen keeper.old).state) ≡ record { tables = (ran_by (application_of app.now) (page_of view.now) ask.now number (K.seen keeper.old).state).tables; number = number + 1 }) }
+    ensures fit { IsTrue (K.seen keeper.new).tells → IsFit (number + 1) (K.seen keeper.old).state → IfOk result (λ x. IsFit (number + 1) (applied x.change (K.seen keeper.old).state)) }
     ensures number { IfOk result (λ x. x.change.number ≡ number + 1) }
-    ensures cause { HasCause (K.faults keeper.old) (K.faults keeper.new) result }
-    ensures tells { K.tells keeper.new ≡ K.tells keeper.old }
-    ensures state { K.state keeper.new ≡ K.state keeper.old }
-    ensures attached { K.attached keeper.new ≡ K.attached keeper.old }
+    ensures left { IsLeft (K.seen keeper.old) (K.seen keeper.new) }
+    ensures rose { IsErrOf result Stop.Keeper → Rose (K.seen keeper.old).faults (K.seen keeper.new).faults }
 {
     let mut work = Work::new(alloc, keeper);
     let page = run_view(&mut work, alloc, app, ask, view, number, splits)?;
@@ -93,15 +92,17 @@ fn run_view<K: Keeper, L: Ledger>(
     number: u64,
     splits: &mut Steps<L>,
 ) -> Result<Page, Stop>
-    requires attached { IsTrue (K.attached work.old.keeper.now) }
-    requires tables { IsTrue (K.tells work.old.keeper.now) → length app.now.models ≤ length (K.state work.old.keeper.now).tables }
+    requires attached { IsTrue (K.seen work.old.keeper.now).attached }
+    requires tables { IsTrue (K.seen work.old.keeper.now).tells → length app.now.models ≤ length (K.seen work.old.keeper.now).state.tables }
     requires numbered { 0 < number }
     requires served { AreRunnable number (statements_of view.now.body) }
-    ensures page { IsTold K.tells K.state work.old → IfOk result (λ p. p ≡ page_made (ran_by (application_of app.now) (page_of view.now) ask.now number (state_of K.state work.old)).pieces) }
-    ensures tables { IsTold K.tells K.state work.old → OnOk result (tables_at (shown []) (state_of K.state work.new) ≡ (ran_by (application_of app.now) (page_of view.now) ask.now number (state_of K.state work.old)).tables) }
-    ensures fit { IsFit (number + 1) (state_of K.state work.old) → OnOk result (IsFit (number + 1) (state_of K.state work.new)) }
-    ensures cause { HasCause (K.faults work.old.keeper.now) (K.faults work.new.keeper.now) result }
-    ensures same { LeavesKeeper K.tells K.state K.attached work.old work.new }
+    ensures some { IfOk result IsMade }
+    ensures page { IsTold K.seen work.new → IfOk result (λ p. p ≡ page_made (ran_by (application_of app.now) (page_of view.now) ask.now number (state_of K.seen work.old)).pieces) }
+    ensures tables { IsTold K.seen work.new → OnOk result (tables_at (shown []) (state_of K.seen work.new) ≡ (ran_by (application_of app.now) (page_of view.now) ask.now number (state_of K.seen work.old)).tables) }
+    ensures told { OnOk result (IsTold K.seen work.new → IsTold K.seen work.old) }
+    ensures placed { OnOk result (IsTrue (K.seen work.new.keeper.now).tells → IsTold K.seen work.old → IsTold K.seen work.new) }
+    ensures fit { OnOk result (IsTold K.seen work.new → IsFit (number + 1) (state_of K.seen work.old) → IsFit (number + 1) (state_of K.seen work.new)) }
+    ensures writes { WritesWork K.seen work.old work.new result }
 {
     let path = Pairs::empty(alloc);
     let mut env = bind(alloc, &view.params, app, &path, &ask.pairs)?.into_vec();

@@ -12,8 +12,6 @@ mod product;
 mod reading;
 mod sorting;
 mod standing;
-#[cfg(test)]
-mod tests;
 mod texts;
 
 pub use env::Env;

@@ -2,8 +2,7 @@
 ghost use Rattle.std.specs.Prelude.{◌≡◌, ℕ, Bool, true, List, [], length, IfOk, IsTrue};
 ghost use Rattle.jac_facet.specs.Shape.{at};
 ghost use Rattle.jac_lang.specs.Mirror.{binders_of};
-ghost use Rattle.jac_keep.specs.Cause.{HasCause};
-ghost use Rattle.jac_keep.specs.Worked.{state_of, IsTold, IsUntouched};
+ghost use Rattle.jac_keep.specs.Worked.{state_of, IsTold, ReadsWork};
 ghost use Rattle.jac_world.specs.World.{holds};
 ghost use Rattle.jac_plain.specs.Expressions.{bound, look, key_of, ordered, sorted};
 ghost use Rattle.jac_plain.specs.World.{got};
@@ -37,11 +36,10 @@ pub(crate) fn sort<K: Keeper, L: Ledger>(
     tuples: Tuples,
     splits: &mut Steps<L>,
 ) -> Result<Tuples, Stop>
-    requires { IsTrue (K.attached work.old.keeper.now) }
-    ensures sorted { IsTold K.tells K.state work.old → IfOk result (λ ts. (ctx : Context) (w : ℕ → Bool) → live w ts ≡ ordered (world_at app.now ctx (state_of K.state work.old) w) (binders_of binders.now) by.now (live w tuples)) }
+    requires { IsTrue (K.seen work.old.keeper.now).attached }
+    ensures sorted { IsTold K.seen work.new → IfOk result (λ ts. (ctx : Context) (w : ℕ → Bool) → live w ts ≡ ordered (world_at app.now ctx (state_of K.seen work.old) w) (binders_of binders.now) by.now (live w tuples)) }
     ensures ids { IfOk result (λ ts. (p : List ℕ → Bool) → all_ids p tuples ≡ true → all_ids p ts ≡ true) }
-    ensures cause { HasCause (K.faults work.old.keeper.now) (K.faults work.new.keeper.now) result }
-    ensures same { IsUntouched K.tells K.state K.attached work.old work.new }
+    ensures reads { ReadsWork K.seen work.old work.new result }
 {
     match by {
         Order::Key => Ok(tuples),
@@ -70,11 +68,10 @@ fn sort_by<K: Keeper, L: Ledger>(
     tuples: &Tuples,
     splits: &mut Steps<L>,
 ) -> Result<Tuples, Stop>
-    requires { IsTrue (K.attached work.old.keeper.now) }
-    ensures sorted { IsTold K.tells K.state work.old → IfOk result (λ ts. (ctx : Context) (w : ℕ → Bool) → live w ts ≡ sorted (value_less down) (key_of (world_at app.now ctx (state_of K.state work.old) w) (binders_of binders.now) name.now field.now) (live w tuples.now)) }
+    requires { IsTrue (K.seen work.old.keeper.now).attached }
+    ensures sorted { IsTold K.seen work.new → IfOk result (λ ts. (ctx : Context) (w : ℕ → Bool) → live w ts ≡ sorted (value_less down) (key_of (world_at app.now ctx (state_of K.seen work.old) w) (binders_of binders.now) name.now field.now) (live w tuples.now)) }
     ensures ids { IfOk result (λ ts. (p : List ℕ → Bool) → all_ids p tuples.now ≡ true → all_ids p ts ≡ true) }
-    ensures cause { HasCause (K.faults work.old.keeper.now) (K.faults work.new.keeper.now) result }
-    ensures same { IsUntouched K.tells K.state K.attached work.old work.new }
+    ensures reads { ReadsWork K.seen work.old work.new result }
 {
     let all = tuples.as_slice();
     let keys = keys_of(alloc, work, app, binders, name, field, all, splits)?;
@@ -93,11 +90,10 @@ fn keys_of<K: Keeper, L: Ledger>(
     tuples: &[Tuple],
     splits: &mut Steps<L>,
 ) -> Result<Facets<Value>, Stop>
-    requires { IsTrue (K.attached work.old.keeper.now) }
-    ensures keys { IsTold K.tells K.state work.old → IfOk result (λ ks. (ctx : Context) (w : ℕ → Bool) → marked w tuples.now ks ≡ each_with (key_of (world_at app.now ctx (state_of K.state work.old) w) (binders_of binders.now) name.now field.now) (live w tuples.now)) }
+    requires { IsTrue (K.seen work.old.keeper.now).attached }
+    ensures keys { IsTold K.seen work.new → IfOk result (λ ks. (ctx : Context) (w : ℕ → Bool) → marked w tuples.now ks ≡ each_with (key_of (world_at app.now ctx (state_of K.seen work.old) w) (binders_of binders.now) name.now field.now) (live w tuples.now)) }
     ensures length { IfOk result (λ ks. length tuples.now ≡ length ks) }
-    ensures cause { HasCause (K.faults work.old.keeper.now) (K.faults work.new.keeper.now) result }
-    ensures same { IsUntouched K.tells K.state K.attached work.old work.new }
+    ensures reads { ReadsWork K.seen work.old work.new result }
 {
     let model = binder_model(alloc, binders, name)?;
     let mut keys = Vec::new(alloc);
@@ -122,10 +118,9 @@ fn key_at<K: Keeper, L: Ledger>(
     tuple: &Tuple,
     splits: &mut Steps<L>,
 ) -> Result<Facet<Value>, Stop>
-    requires { IsTrue (K.attached work.old.keeper.now) }
-    ensures key { IsTold K.tells K.state work.old → IfOk result (λ f. (ctx : Context) (w : ℕ → Bool) → holds w tuple.now.guard ≡ true → at w f ≡ got (world_at app.now ctx (state_of K.state work.old) w) model.now field.now (look (bound (binders_of binders.now) tuple.now.ids []) name.now)) }
-    ensures cause { HasCause (K.faults work.old.keeper.now) (K.faults work.new.keeper.now) result }
-    ensures same { IsUntouched K.tells K.state K.attached work.old work.new }
+    requires { IsTrue (K.seen work.old.keeper.now).attached }
+    ensures key { IsTold K.seen work.new → IfOk result (λ f. (ctx : Context) (w : ℕ → Bool) → holds w tuple.now.guard ≡ true → at w f ≡ got (world_at app.now ctx (state_of K.seen work.old) w) model.now field.now (look (bound (binders_of binders.now) tuple.now.ids []) name.now)) }
+    ensures reads { ReadsWork K.seen work.old work.new result }
 {
     let record = bound_name(alloc, binders, tuple, name)?;
     let key = get(

@@ -5,8 +5,7 @@ ghost use Rattle.jac_world.specs.World.{holds};
 ghost use Rattle.jac_facet.specs.Shape.{at};
 ghost use Rattle.jac_facet.specs.Leaves.{seen};
 ghost use Rattle.jac_rows.specs.Project.{rows_at, project_at};
-ghost use Rattle.jac_keep.specs.Cause.{HasCause};
-ghost use Rattle.jac_keep.specs.Worked.{state_of, IsTold, IsUntouched};
+ghost use Rattle.jac_keep.specs.Worked.{state_of, IsTold, ReadsWork};
 ghost use Rattle.jac_lang.specs.declared.application.App.{App};
 ghost use Rattle.jac_plain.specs.Expressions.{is_live};
 ghost use Rattle.jac_plain.specs.declared.context.Ctx.{Ctx as Context};
@@ -29,10 +28,9 @@ pub(crate) fn stand<K: Keeper, L: Ledger>(
     value: &Facet<Value>,
     splits: &mut Steps<L>,
 ) -> Result<Facet<Value>, Stop>
-    requires { IsTrue (K.attached work.old.keeper.now) }
-    ensures value { IsTold K.tells K.state work.old → IfOk result (λ f. (app : App) (ctx : Context) (w : ℕ → Bool) → holds w pc.now ≡ true → at w f ≡ Truth (is_live (world_at app ctx (state_of K.state work.old) w) (at w value.now))) }
-    ensures cause { HasCause (K.faults work.old.keeper.now) (K.faults work.new.keeper.now) result }
-    ensures same { IsUntouched K.tells K.state K.attached work.old work.new }
+    requires { IsTrue (K.seen work.old.keeper.now).attached }
+    ensures value { IsTold K.seen work.new → IfOk result (λ f. (app : App) (ctx : Context) (w : ℕ → Bool) → holds w pc.now ≡ true → at w f ≡ Truth (is_live (world_at app ctx (state_of K.seen work.old) w) (at w value.now))) }
+    ensures reads { ReadsWork K.seen work.old work.new result }
 {
     let leaves = value.leaves_under(alloc, pc)?;
     let found = leaves_stand(alloc, work, leaves.as_slice(), splits)?;
@@ -45,10 +43,9 @@ fn leaves_stand<K: Keeper, L: Ledger>(
     leaves: &[(Guard, Value)],
     splits: &mut Steps<L>,
 ) -> Result<Facet<Value>, Stop>
-    requires { IsTrue (K.attached work.old.keeper.now) }
-    ensures value { IsTold K.tells K.state work.old → IfOk result (λ f. (w : ℕ → Bool) → at w f ≡ last_by (λ v. Truth (stands_in (project_at w (state_of K.state work.old)).tables v)) (Truth false) (seen w leaves.now)) }
-    ensures cause { HasCause (K.faults work.old.keeper.now) (K.faults work.new.keeper.now) result }
-    ensures same { IsUntouched K.tells K.state K.attached work.old work.new }
+    requires { IsTrue (K.seen work.old.keeper.now).attached }
+    ensures value { IsTold K.seen work.new → IfOk result (λ f. (w : ℕ → Bool) → at w f ≡ last_by (λ v. Truth (stands_in (project_at w (state_of K.seen work.old)).tables v)) (Truth false) (seen w leaves.now)) }
+    ensures reads { ReadsWork K.seen work.old work.new result }
 {
     let mut found = Facet::leaf(Value::Bool(false));
     'leaves: for leaf in leaves {
@@ -64,10 +61,9 @@ fn one_stands<K: Keeper, L: Ledger>(
     value: &Value,
     splits: &mut Steps<L>,
 ) -> Result<Facet<Value>, Stop>
-    requires { IsTrue (K.attached work.old.keeper.now) }
-    ensures value { IsTold K.tells K.state work.old → IfOk result (λ f. (w : ℕ → Bool) → at w f ≡ Truth (stands_in (project_at w (state_of K.state work.old)).tables value.now)) }
-    ensures cause { HasCause (K.faults work.old.keeper.now) (K.faults work.new.keeper.now) result }
-    ensures same { IsUntouched K.tells K.state K.attached work.old work.new }
+    requires { IsTrue (K.seen work.old.keeper.now).attached }
+    ensures value { IsTold K.seen work.new → IfOk result (λ f. (w : ℕ → Bool) → at w f ≡ Truth (stands_in (project_at w (state_of K.seen work.old)).tables value.now)) }
+    ensures reads { ReadsWork K.seen work.old work.new result }
 {
     match value {
         Value::Ref(Some(id)) => {

@@ -1,8 +1,9 @@
 -- files in memory, as contracts see them
-use Rattle.std.specs.Prelude.{ℕ, List, Bool, ◌||◌, if◌then◌else◌, is_none}
+use Rattle.std.specs.Prelude.{ℕ, List, Bool, true, ◌||◌, if◌then◌else◌, is_none}
 use Rattle.jac_io.specs.Faults.{risen}
 use Rattle.jac_io.specs.Calls.{listed}
 use Rattle.jac_io.specs.NamedFiles.{file_of}
+use Rattle.jac_io.specs.Seen.{FilesSeen}
 
 -- the files, the calls that are to fail, and how many calls there were and how many failed
 pub record FilesState : Type 0 where
@@ -21,3 +22,7 @@ after_read s name = record s {
   calls = risen s.calls;
   faults = if read_fails s name then risen s.faults else s.faults;
 }
+
+-- they tell what they hold
+abbrev pub seen_files : FilesState → FilesSeen
+seen_files s = record { tells = true; file = file_of s.files; faults = s.faults }

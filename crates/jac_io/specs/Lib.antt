@@ -4,3 +4,4 @@ pub mod Calls
 pub mod NamedFiles
 pub mod FilesState
 pub mod SinkState
+pub mod Seen

@@ -1,13 +1,14 @@
 -- a sink in memory, as contracts see it
-use Rattle.std.specs.Prelude.{ℕ, List, ◌++◌, length, ◌+◌, Bool, ◌||◌, Option, if◌then◌else◌, nat_lt}
+use Rattle.std.specs.Prelude.{ℕ, List, [], ◌∷◌, ◌++◌, length, ◌+◌, Bool, true, ◌||◌, Option, if◌then◌else◌, nat_lt, nat_le}
 use Rattle.jac_io.specs.Faults.{risen}
 use Rattle.jac_io.specs.Calls.{listed}
+use Rattle.jac_io.specs.Seen.{SinkSeen}
 
--- the bytes that were put, the file's name, the room for all bytes, the calls that are to fail, and how
--- many calls there were and how many failed
+-- the bytes that were put, each aim with how much was held by then, the room for all bytes and for aims, the
+-- calls that are to fail, and how many calls there were and how many failed
 pub record SinkState : Type 0 where
   pub held : List ℕ
-  pub aimed : Option (List ℕ)
+  pub aims : List (Option (List ℕ) × ℕ)
   pub room : ℕ
   pub fails : List ℕ
   pub calls : ℕ
@@ -30,6 +31,19 @@ abbrev pub after_put : SinkState → List ℕ → SinkState
 after_put s bytes =
     if put_fails s bytes then failed s else record s { calls = risen s.calls; held = s.held ++ bytes }
 
+-- how many aims a sink has room for
+abbrev pub aims_room : ℕ
+aims_room = 4
+
+-- whether the next aim fails: it is a listed call, or there were as many aims as there is room for
+abbrev pub aim_fails : SinkState → Bool
+aim_fails s = is_to_fail s || nat_le aims_room (length s.aims)
+
 -- what the next aim leaves
 abbrev pub after_aim : SinkState → Option (List ℕ) → SinkState
-after_aim s name = if is_to_fail s then failed s else record s { calls = risen s.calls; aimed = name }
+after_aim s name =
+    if aim_fails s then failed s else record s { calls = risen s.calls; aims = s.aims ++ (name, length s.held) ∷ [] }
+
+-- it tells what it holds
+abbrev pub seen_sink : SinkState → SinkSeen
+seen_sink s = record { tells = true; held = s.held; aims = s.aims; faults = s.faults }

@@ -171,6 +171,14 @@ placed-renamed id new (a ∷ rest) count placed h = elim (three a.id id) [
   | inr (inr more) ↦ rw (renamed-more id new a rest more) (h, placed)
 ]
 
+pub placed-before : (id : ℕ) (new : List Row) (rest : List Alteration) (count : ℕ) → ArePlaced (renamed id new rest) count → ArePlaced rest count
+placed-before id new [] count placed = tt
+placed-before id new (a ∷ rest) count placed = elim (three a.id id) [
+  | inl less ↦ let p = rw (renamed-less id new a rest less) at placed in (p.0, placed-before id new rest count p.1)
+  | inr (inl same) ↦ let p = rw (renamed-same id new a rest same) at placed in (rw same p.0, p.1)
+  | inr (inr more) ↦ let p = rw (renamed-more id new a rest more) at placed in p.1
+]
+
 -- the tables after one more alteration
 pub overlaid_from-renamed : (model id : ℕ) (new : List Row) (rest : List Alteration) (tables : List (List Row)) → Rises rest → AreOwn rest → AreOf id new
     → overlaid_from model (renamed id new rest) tables ≡ overlaid_from model (record { id = id; rows = new } ∷ []) (overlaid_from model rest tables)

@@ -7,12 +7,12 @@ use Rattle.jac_rows.specs.declared.row.Row.{Row}
 use Rattle.jac_rows.specs.declared.state.State.{State}
 use Rattle.jac_keep.specs.declared.alteration.Alteration.{Alteration}
 use Rattle.jac_keep.specs.Alterations.{altered, overlaid_from}
-use Rattle.jac_keep.specs.Sound.{IsMade, AreRising, AreTables, AreSound, IsSound, MayStand, AllStand}
+use Rattle.jac_keep.specs.Sound.{AreTables, MayStand, AllStand}
 use Rattle.jac_keep.specs.declared.alteration.Change.{Change}
 use Rattle.jac_keep.specs.Records.{with_id, before, behind, placed}
 use Rattle.jac_keep.specs.Kept.{applied, state_with}
 use Rattle.jac_value.specs.declared.value.Kind.{Kind}
-use Rattle.jac_rows.specs.Good.{IsRecord, AreGuarded, IsGoodByGuards}
+use Rattle.jac_rows.specs.Good.{IsMade, AreRising, AreSound, IsSound, IsRecord, AreGuarded, IsGoodByGuards}
 use Rattle.jac_keep.proofs.AlteringLaws.{placed_if}
 
 sound_tables : (next model : ℕ) (tables : List (List Row)) → AreSound next model tables → AreTables tables
@@ -173,14 +173,14 @@ pub sound_without : (id n : ℕ) (s : State) → IsSound s → s.number ≤ n �
 sound_without id n s sound h end =
     sound-applied (record { changed = record { id = id; rows = [] } ∷ []; number = n }) s sound h end (record { own = tt; rising = tt; made = tt }, tt)
 
-made_if_record : (fields : List Kind) (model next : ℕ) (rows : List Row) → AllByRecursion (λ (r : Row). IsRecord fields model next r.id r.cells) rows → AreMade model next rows
-made_if_record fields model next rows all =
-    all-mapped (λ (r : Row). IsRecord fields model next r.id r.cells) (λ (r : Row). IsMade model next r.id) rows (λ r is. record { of_model = is.of_model; numbered = is.numbered; made = is.made }) all
+made_if_record : (kinds : List (List Kind)) (model next : ℕ) (rows : List Row) → AllByRecursion (λ (r : Row). IsRecord kinds model next r.id r.cells) rows → AreMade model next rows
+made_if_record kinds model next rows all =
+    all-mapped (λ (r : Row). IsRecord kinds model next r.id r.cells) (λ (r : Row). IsMade model next r.id) rows (λ r is. is.made) all
 
-sound_if_guarded : (fields : ℕ → List Kind) (next model : ℕ) (tables : List (List Row)) → AreGuarded fields next model tables → AreSound next model tables
-sound_if_guarded fields next model [] good = tt
-sound_if_guarded fields next model (t ∷ tables) good = (good.0, made_if_record (fields model) model next t good.1, sound_if_guarded fields next (model + 1) tables good.2)
+sound_if_guarded : (kinds : List (List Kind)) (next model : ℕ) (tables : List (List Row)) → AreGuarded kinds next model tables → AreSound next model tables
+sound_if_guarded kinds next model [] good = tt
+sound_if_guarded kinds next model (t ∷ tables) good = (good.0, made_if_record kinds model next t good.1, sound_if_guarded kinds next (model + 1) tables good.2)
 
 -- a good state is sound
-pub sound_if_good : (fields : ℕ → List Kind) (s : State) → IsGoodByGuards fields s → IsSound s
-sound_if_good fields s good = record { next = good.0; tables = sound_if_guarded fields s.number 0 s.tables good.1 }
+pub sound_if_good : (kinds : List (List Kind)) (s : State) → IsGoodByGuards kinds s → IsSound s
+sound_if_good kinds s good = record { next = good.0; tables = sound_if_guarded kinds s.number 0 s.tables good.1 }

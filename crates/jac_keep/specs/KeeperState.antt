@@ -1,8 +1,9 @@
 -- a keeper in memory, as contracts see it
-use Rattle.std.specs.Prelude.{ℕ, List, Bool, if◌then◌else◌}
+use Rattle.std.specs.Prelude.{ℕ, List, Bool, true, if◌then◌else◌}
 use Rattle.jac_io.specs.Faults.{risen}
 use Rattle.jac_io.specs.Calls.{listed}
 use Rattle.jac_rows.specs.declared.state.State.{State}
+use Rattle.jac_keep.specs.KeeperSeen.{KeeperSeen}
 
 -- the state, the reads and the applies that are to fail, and how many of each there were and how many
 -- calls failed
@@ -34,3 +35,7 @@ after_apply k = record k {
   applies = risen k.applies;
   faults = if apply_fails k then risen k.faults else k.faults;
 }
+
+-- it tells its state, and may always be called
+abbrev pub seen_keeper : KeeperState → KeeperSeen
+seen_keeper k = record { tells = true; state = k.state; faults = k.faults; attached = true }

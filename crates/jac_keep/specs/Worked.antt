@@ -1,30 +1,43 @@
 -- a work as one state, and what its calls keep
-use Rattle.std.specs.Prelude.{◌≡◌, Bool, IsTrue, length}
+use Rattle.std.specs.Prelude.{◌≡◌, Bool, IsTrue, length, Result, IsErrOf}
+use Rattle.jac_io.specs.Faults.{Rose}
 use Rattle.jac_rows.specs.declared.state.State.{State}
 use Rattle.jac_keep.specs.declared.alteration.Alterations.{Alterations}
+use Rattle.jac_keep.specs.declared.stop.Stop.{Stop}
+use Rattle.jac_keep.specs.declared.stop.Stop.TheVariants.{Keeper}
 use Rattle.jac_keep.specs.declared.work.WorkOver.{WorkOver}
 use Rattle.jac_keep.specs.Alterations.{overlaid, ArePlaced}
+use Rattle.jac_keep.specs.KeeperSeen.{KeeperSeen, IsLeft}
 
 -- the state of a work: the keeper's, with the replaced records
-abbrev pub state_of : {K : Type 0} → (K → State) → WorkOver K Alterations → State
-state_of state w = record (state w.keeper.now) { tables = overlaid w.over (state w.keeper.now).tables }
+abbrev pub state_of : {K : Type 0} → (K → KeeperSeen) → WorkOver K Alterations → State
+state_of seen w = record (seen w.keeper.now).state { tables = overlaid w.over (seen w.keeper.now).state.tables }
 
 -- the keeper tells its state, and each replaced record has a table there
-pub record IsTold {K : Type 0} (tells : K → Bool) (state : K → State) (w : WorkOver K Alterations) : Type 0 where
-  pub told : IsTrue (tells w.keeper.now)
-  pub placed : ArePlaced w.over (length (state w.keeper.now).tables)
+pub record IsTold {K : Type 0} (seen : K → KeeperSeen) (w : WorkOver K Alterations) : Type 0 where
+  pub told : IsTrue (seen w.keeper.now).tells
+  pub placed : ArePlaced w.over (length (seen w.keeper.now).state.tables)
 
--- a call that writes leaves the keeper as it was to contracts, but for its count of faults
-pub record LeavesKeeper {K : Type 0} (tells : K → Bool) (state : K → State) (attached : K → Bool) (old new : WorkOver K Alterations) : Type 0 where
+-- a call that writes leaves the keeper as it was to contracts
+pub record LeavesKeeper {K : Type 0} (seen : K → KeeperSeen) (old new : WorkOver K Alterations) : Type 0 where
   pub same_reference : new.keeper.ghost_name ≡ old.keeper.ghost_name
-  pub same_tells : tells new.keeper.now ≡ tells old.keeper.now
-  pub same_state : state new.keeper.now ≡ state old.keeper.now
-  pub same_attached : attached new.keeper.now ≡ attached old.keeper.now
+  pub same_seen : seen new.keeper.now ≡ seen old.keeper.now
 
--- a call that reads leaves the replaced records too
-pub record IsUntouched {K : Type 0} (tells : K → Bool) (state : K → State) (attached : K → Bool) (old new : WorkOver K Alterations) : Type 0 where
+-- a call that reads leaves the replaced records too, and the state that it tells afterwards
+pub record IsUntouched {K : Type 0} (seen : K → KeeperSeen) (old new : WorkOver K Alterations) : Type 0 where
   pub same_reference : new.keeper.ghost_name ≡ old.keeper.ghost_name
   pub same_over : new.over ≡ old.over
-  pub same_tells : tells new.keeper.now ≡ tells old.keeper.now
-  pub same_state : state new.keeper.now ≡ state old.keeper.now
-  pub same_attached : attached new.keeper.now ≡ attached old.keeper.now
+  pub keeper : IsLeft (seen old.keeper.now) (seen new.keeper.now)
+  pub told : IsTold seen new → IsTold seen old
+  pub same_state : IsTold seen new → state_of seen new ≡ state_of seen old
+
+-- and the count of faults rose where the keeper stopped it
+pub record ReadsWork {T K : Type 0} (seen : K → KeeperSeen) (old new : WorkOver K Alterations) (result : Result T Stop) : Type 0 where
+  pub same : IsUntouched seen old new
+  pub rose : IsErrOf result Keeper → Rose (seen old.keeper.now).faults (seen new.keeper.now).faults
+
+-- what a call that also writes keeps: the keeper as a reading call leaves it
+pub record WritesWork {T K : Type 0} (seen : K → KeeperSeen) (old new : WorkOver K Alterations) (result : Result T Stop) : Type 0 where
+  pub same_reference : new.keeper.ghost_name ≡ old.keeper.ghost_name
+  pub keeper : IsLeft (seen old.keeper.now) (seen new.keeper.now)
+  pub rose : IsErrOf result Keeper → Rose (seen old.keeper.now).faults (seen new.keeper.now).faults

@@ -1,10 +1,10 @@
 ghost use Rattle.std.specs.Prelude.{◌≡◌, ◌≤◌, ◌^◌, ℕ, Bool, IfOk, OnOk, OnErr, IsTrue};
 ghost use Rattle.jac_value.specs.Ids.{model_of_id};
-ghost use Rattle.jac_keep.specs.Sound.{IsSound};
+ghost use Rattle.jac_rows.specs.Good.{IsSound};
 ghost use Rattle.jac_rows.specs.declared.state.State.{State};
 ghost use Rattle.jac_rows.specs.Tables.{rows_of};
 ghost use Rattle.jac_keep.specs.Records.{alternatives};
-ghost use Rattle.jac_keep.specs.Cause.{HasCause};
+ghost use Rattle.jac_keep.specs.KeeperSeen.{KeeperSeen, Keeps, Reads};
 ghost use Rattle.jac_keep.specs.Kept.{applied};
 
 use crate::{Change, Stop};
@@ -14,57 +14,34 @@ use std::alloc::Global;
 
 /// What keeps a faceted state.
 pub trait Keeper {
-    /// Whether it tells its state.
-    ghost tells: { Self → Bool };
-
-    /// Its state, which says nothing where it isn't told.
-    ghost state: { Self → State };
-
-    /// How often it failed. It never falls, and stands still at 2^64 - 1.
-    ghost faults: { Self → ℕ };
-
-    /// Whether it may be called.
-    ghost attached: { Self → Bool };
+    /// What contracts see of it. Its state says nothing where it isn't told, and its count of faults never
+    /// falls, and stands still at 2^64 - 1.
+    ghost seen: { Self → KeeperSeen };
 
     /// The number of the next accepted request.
     fn number(&mut self) -> Result<u64, Stop>
-        requires { IsTrue (attached self.old) }
-        ensures exact { IsTrue (tells self.old) → IfOk result (λ n. n ≡ (state self.old).number) }
+        requires { IsTrue (seen self.old).attached }
+        ensures exact { IsTrue (seen self.new).tells → IfOk result (λ n. n ≡ (seen self.old).state.number) }
         ensures in_range { IfOk result (λ n. (1 ≤ n) × (n ≤ 2 ^ 40)) }
-        ensures good { IsTrue (tells self.new) → IsSound (state self.new) }
-        ensures cause { HasCause (faults self.old) (faults self.new) result }
-        ensures tells { tells self.new ≡ tells self.old }
-        ensures state { state self.new ≡ state self.old }
-        ensures attached { attached self.new ≡ attached self.old };
+        ensures reads { Reads (seen self.old) (seen self.new) result };
 
     /// All rows of the model, by rising id.
     fn rows(&mut self, alloc: Global, model: u8) -> Result<Rows, Stop>
-        requires { IsTrue (attached self.old) }
-        ensures exact { IsTrue (tells self.old) → IfOk result (λ rows. rows ≡ rows_of (state self.old).tables model) }
-        ensures good { IsTrue (tells self.new) → IsSound (state self.new) }
-        ensures cause { HasCause (faults self.old) (faults self.new) result }
-        ensures tells { tells self.new ≡ tells self.old }
-        ensures state { state self.new ≡ state self.old }
-        ensures attached { attached self.new ≡ attached self.old };
+        requires { IsTrue (seen self.old).attached }
+        ensures exact { IsTrue (seen self.new).tells → IfOk result (λ rows. rows ≡ rows_of (seen self.old).state.tables model) }
+        ensures reads { Reads (seen self.old) (seen self.new) result };
 
     /// The alternatives of one record.
     fn one(&mut self, alloc: Global, id: Id) -> Result<Rows, Stop>
-        requires { IsTrue (attached self.old) }
-        ensures exact { IsTrue (tells self.old) → IfOk result (λ rows. rows ≡ alternatives id (rows_of (state self.old).tables (model_of_id id))) }
-        ensures good { IsTrue (tells self.new) → IsSound (state self.new) }
-        ensures cause { HasCause (faults self.old) (faults self.new) result }
-        ensures tells { tells self.new ≡ tells self.old }
-        ensures state { state self.new ≡ state self.old }
-        ensures attached { attached self.new ≡ attached self.old };
+        requires { IsTrue (seen self.old).attached }
+        ensures exact { IsTrue (seen self.new).tells → IfOk result (λ rows. rows ≡ alternatives id (rows_of (seen self.old).state.tables (model_of_id id))) }
+        ensures reads { Reads (seen self.old) (seen self.new) result };
 
     /// Replaces the named records and sets the number, all or nothing.
     fn apply(&mut self, alloc: Global, change: &Change) -> Result<(), Stop>
-        requires attached { IsTrue (attached self.old) }
-        requires good { IsTrue (tells self.old) → IsSound (applied change.now (state self.old)) }
-        ensures exact { IsTrue (tells self.old) → OnOk result (state self.new ≡ applied change.now (state self.old)) }
-        ensures good { IsTrue (tells self.new) → IsSound (state self.new) }
-        ensures refused { IsTrue (tells self.old) → OnErr result (state self.new ≡ state self.old) }
-        ensures cause { HasCause (faults self.old) (faults self.new) result }
-        ensures tells { tells self.new ≡ tells self.old }
-        ensures attached { attached self.new ≡ attached self.old };
+        requires attached { IsTrue (seen self.old).attached }
+        requires good { IsTrue (seen self.old).tells → IsSound (applied change.now (seen self.old).state) }
+        ensures exact { IsTrue (seen self.new).tells → OnOk result ((seen self.new).state ≡ applied change.now (seen self.old).state) }
+        ensures refused { IsTrue (seen self.new).tells → OnErr result ((seen self.new).state ≡ (seen self.old).state) }
+        ensures kept { Keeps (seen self.old) (seen self.new) result };
 }

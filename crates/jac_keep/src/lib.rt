@@ -7,8 +7,6 @@ mod laws;
 mod memory_keeper;
 mod placing;
 mod stop;
-#[cfg(test)]
-mod tests;
 mod work;
 
 pub use alteration::{Alteration, Alterations, Change};

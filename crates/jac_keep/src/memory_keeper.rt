@@ -1,10 +1,12 @@
 ghost use Rattle.std.specs.Prelude.{◌≡◌, ◌≤◌, ◌^◌, ◌↔◌, ◌++◌, ◌∷◌, [], true, IfOk, OnOk, OnErr, IsTrue, IsErrOf};
 ghost use Rattle.jac_value.specs.Ids.{model_of_id};
-ghost use Rattle.jac_keep.specs.Sound.{IsSound, AreTables};
+ghost use Rattle.jac_keep.specs.Sound.{AreTables};
+ghost use Rattle.jac_rows.specs.Good.{IsSound};
 ghost use Rattle.jac_rows.specs.Tables.{rows_of};
 ghost use Rattle.jac_keep.specs.Records.{alternatives};
 ghost use Rattle.jac_keep.specs.Alterations.{overlaid};
 ghost use Rattle.jac_keep.specs.Cause.{HasCause};
+ghost use Rattle.jac_keep.specs.KeeperSeen.{Keeps, Reads};
 ghost use Rattle.jac_keep.specs.Kept.{applied};
 
 use crate::{Alterations, Change, Keeper, Stop};
@@ -27,7 +29,7 @@ pub struct MemoryKeeper {
 }
 
 impl Model for MemoryKeeper {
-    ghost use Rattle.jac_keep.specs.Sound.{IsSound};
+    ghost use Rattle.jac_rows.specs.Good.{IsSound};
     ghost use Rattle.jac_keep.specs.KeeperState.{KeeperState};
 
     ghost Value = { KeeperState };
@@ -81,23 +83,16 @@ impl MemoryKeeper {
 }
 
 impl Keeper for MemoryKeeper {
-    ghost use Rattle.jac_keep.specs.KeeperState.{read_fails, after_read, apply_fails, after_apply};
+    ghost use Rattle.jac_keep.specs.KeeperState.{read_fails, after_read, apply_fails, after_apply, seen_keeper};
 
-    ghost tells = { λ _. true };
-
-    ghost state = { λ k. k.state };
-
-    ghost faults = { λ k. k.faults };
-
-    ghost attached = { λ _. true };
+    ghost seen = { seen_keeper };
 
     fn number(&mut self) -> Result<u64, Stop>
         ensures left { self.new ≡ after_read self.old }
         ensures stopped { IsErrOf result Stop.Keeper ↔ IsTrue (read_fails self.old) }
         ensures exact { IfOk result (λ n. n ≡ self.old.state.number) }
         ensures in_range { IfOk result (λ n. (1 ≤ n) × (n ≤ 2 ^ 40)) }
-        ensures good { IsSound self.new.state }
-        ensures cause { HasCause self.old.faults self.new.faults result }
+        ensures reads { Reads (seen_keeper self.old) (seen_keeper self.new) result }
     {
         self.count_read()?;
         Ok(self.state.number)
@@ -107,8 +102,7 @@ impl Keeper for MemoryKeeper {
         ensures left { self.new ≡ after_read self.old }
         ensures stopped { IsErrOf result Stop.Keeper ↔ IsTrue (read_fails self.old) }
         ensures exact { IfOk result (λ rows. rows ≡ rows_of self.old.state.tables model) }
-        ensures good { IsSound self.new.state }
-        ensures cause { HasCause self.old.faults self.new.faults result }
+        ensures reads { Reads (seen_keeper self.old) (seen_keeper self.new) result }
     {
         self.count_read()?;
         let rows = copy_rows(alloc, self.state.tables.rows(model))?;
@@ -119,8 +113,7 @@ impl Keeper for MemoryKeeper {
         ensures left { self.new ≡ after_read self.old }
         ensures stopped { IsErrOf result Stop.Keeper ↔ IsTrue (read_fails self.old) }
         ensures exact { IfOk result (λ rows. rows ≡ alternatives id (rows_of self.old.state.tables (model_of_id id))) }
-        ensures good { IsSound self.new.state }
-        ensures cause { HasCause self.old.faults self.new.faults result }
+        ensures reads { Reads (seen_keeper self.old) (seen_keeper self.new) result }
     {
         self.count_read()?;
         let rows = copy_of(alloc, self.state.tables.rows(id_model(id)), id)?;
@@ -131,9 +124,8 @@ impl Keeper for MemoryKeeper {
         requires { IsSound (applied change.now self.old.state) }
         ensures ok { OnOk result (self.new ≡ record (after_apply self.old) { state = applied change.now self.old.state }) }
         ensures err { OnErr result (self.new ≡ after_apply self.old) }
-        ensures good { IsSound self.new.state }
         ensures stopped { IsErrOf result Stop.Keeper ↔ IsTrue (apply_fails self.old) }
-        ensures cause { HasCause self.old.faults self.new.faults result }
+        ensures kept { Keeps (seen_keeper self.old) (seen_keeper self.new) result }
     {
         self.applies = self.applies.saturating_add(1);
         let listed = self.fail_applies.lists(self.applies);

@@ -6,7 +6,7 @@ ghost use Rattle.jac_keep.specs.Records.{alternatives};
 ghost use Rattle.jac_rows.specs.declared.row.Row.{Row as Seen};
 ghost use Rattle.jac_keep.specs.Cause.{HasCause};
 ghost use Rattle.jac_keep.specs.Kept.{state_with, applied};
-ghost use Rattle.jac_keep.specs.Worked.{state_of, IsTold, LeavesKeeper, IsUntouched};
+ghost use Rattle.jac_keep.specs.Worked.{state_of, IsTold, LeavesKeeper, ReadsWork};
 
 use crate::{Alterations, Change, Keeper, Stop};
 use jac_rows::Rows;
@@ -40,8 +40,8 @@ impl<'k, K: Keeper> WorkOver<'k, K, Overlay> {
         ensures reference { result.keeper.ghost_name ≡ keeper.entry.ghost_name }
         ensures keeper { result.keeper.now ≡ keeper.old }
         ensures over { result.over ≡ [] }
-        ensures state { state_of K.state result ≡ K.state keeper.old }
-        ensures told { IsTrue (K.tells keeper.old) → IsTold K.tells K.state result }
+        ensures state { state_of K.seen result ≡ (K.seen keeper.old).state }
+        ensures told { IsTrue (K.seen keeper.old).tells → IsTold K.seen result }
     {
         WorkOver {
             keeper,
@@ -51,10 +51,9 @@ impl<'k, K: Keeper> WorkOver<'k, K, Overlay> {
 
     /// All rows of the model.
     pub fn rows(&mut self, alloc: Global, model: u8) -> Result<Rows, Stop>
-        requires { IsTrue (K.attached self.old.keeper.now) }
-        ensures exact { IsTold K.tells K.state self.old → IfOk result (λ rows. rows ≡ rows_of (state_of K.state self.old).tables model) }
-        ensures cause { HasCause (K.faults self.old.keeper.now) (K.faults self.new.keeper.now) result }
-        ensures same { IsUntouched K.tells K.state K.attached self.old self.new }
+        requires { IsTrue (K.seen self.old.keeper.now).attached }
+        ensures exact { IsTold K.seen self.new → IfOk result (λ rows. rows ≡ rows_of (state_of K.seen self.old).tables model) }
+        ensures reads { ReadsWork K.seen self.old self.new result }
     {
         let rows = self.keeper.rows(alloc, model)?;
         let rows = self.over.alter(alloc, usize::from(model), rows)?;
@@ -63,10 +62,9 @@ impl<'k, K: Keeper> WorkOver<'k, K, Overlay> {
 
     /// The alternatives of one record.
     pub fn one(&mut self, alloc: Global, id: Id) -> Result<Rows, Stop>
-        requires { IsTrue (K.attached self.old.keeper.now) }
-        ensures exact { IsTold K.tells K.state self.old → IfOk result (λ rows. rows ≡ alternatives id (rows_of (state_of K.state self.old).tables (model_of_id id))) }
-        ensures cause { HasCause (K.faults self.old.keeper.now) (K.faults self.new.keeper.now) result }
-        ensures same { IsUntouched K.tells K.state K.attached self.old self.new }
+        requires { IsTrue (K.seen self.old.keeper.now).attached }
+        ensures exact { IsTold K.seen self.new → IfOk result (λ rows. rows ≡ alternatives id (rows_of (state_of K.seen self.old).tables (model_of_id id))) }
+        ensures reads { ReadsWork K.seen self.old self.new result }
     {
         match self.over.find(id) {
             Some(rows) => {
@@ -83,11 +81,12 @@ impl<'k, K: Keeper> WorkOver<'k, K, Overlay> {
     /// Puts these rows in place of the record's alternatives. With no rows the record is gone.
     pub fn replace(&mut self, id: Id, rows: Rows) -> Result<(), Stop>
         requires own { All (λ (r : Seen). r.id ≡ id) rows }
-        requires a_table { IsTrue (K.tells self.old.keeper.now) → model_of_id id < length (K.state self.old.keeper.now).tables }
-        ensures exact { OnOk result (state_of K.state self.new ≡ state_with id rows (state_of K.state self.old)) }
-        ensures told { IsTold K.tells K.state self.old → OnOk result (IsTold K.tells K.state self.new) }
-        ensures cause { HasCause (K.faults self.old.keeper.now) (K.faults self.new.keeper.now) result }
-        ensures same { LeavesKeeper K.tells K.state K.attached self.old self.new }
+        requires a_table { IsTrue (K.seen self.old.keeper.now).tells → model_of_id id < length (K.seen self.old.keeper.now).state.tables }
+        ensures exact { OnOk result (state_of K.seen self.new ≡ state_with id rows (state_of K.seen self.old)) }
+        ensures told { IsTold K.seen self.old → OnOk result (IsTold K.seen self.new) }
+        ensures back { OnOk result (IsTold K.seen self.new → IsTold K.seen self.old) }
+        ensures cause { HasCause (K.seen self.old.keeper.now).faults (K.seen self.new.keeper.now).faults result }
+        ensures same { LeavesKeeper K.seen self.old self.new }
     {
         self.over.put(id, rows)?;
         Ok(())
@@ -96,7 +95,7 @@ impl<'k, K: Keeper> WorkOver<'k, K, Overlay> {
     /// The replaced records, as a change that sets the number. It takes no memory.
     pub fn into_change(self, number: u64) -> Result<Change, Memory>
         ensures changed { IsOkAnd result (λ c. (c.changed ≡ self.entry.over) × (c.number ≡ number)) }
-        ensures applied { IsOkAnd result (λ c. applied c (K.state self.entry.keeper.now) ≡ record (state_of K.state self.entry) { number = number }) }
+        ensures applied { IsOkAnd result (λ c. applied c (K.seen self.entry.keeper.now).state ≡ record (state_of K.seen self.entry) { number = number }) }
         ensures keeper { self.exit.0.now ≡ self.entry.keeper.now }
     {
         let WorkOver { keeper: _, over } = self;

@@ -59,25 +59,24 @@ abbrev pub method_in : Option View → Verb
 method_in None = verbs.Get
 method_in (Some v) = v.method
 
--- what the view's statements leave of a state
-abbrev pub run_of : Application → PlainState → Visit → Run
-run_of app t visit =
-    leaves_all (record { models = app.models; viewer = visit.viewer; number = t.number })
+-- a world for each assignment
+abbrev pub Worlds : Type 0
+Worlds = (ℕ → Bool) → PlainState
+
+-- what the view's statements leave of the state that an assignment shows
+abbrev pub run_of : (ℕ → Bool) → Application → PlainState → Visit → Run
+run_of w app t visit =
+    leaves_all (record { models = app.models; viewer = visit.viewer; number = t.number; shown = w })
     (body_in (slice_get app.views visit.view)) (record { tables = t.tables; env = visit.env; pieces = [] })
 
--- the page of a request on a state
-abbrev pub page : Application → PlainState → Visit → Page
-page app t visit = page_of (run_of app t visit).pieces
+-- the page of a request on it
+abbrev pub page : (ℕ → Bool) → Application → PlainState → Visit → Page
+page w app t visit = page_of (run_of w app t visit).pieces
 
-abbrev pub after_by : Verb → Application → PlainState → Visit → PlainState
-after_by verbs.Get app t visit = t
-after_by verbs.Post app t visit = record { tables = (run_of app t visit).tables; number = t.number + 1 }
+abbrev pub after_by : Verb → (ℕ → Bool) → Application → PlainState → Visit → PlainState
+after_by verbs.Get w app t visit = t
+after_by verbs.Post w app t visit = record { tables = (run_of w app t visit).tables; number = t.number + 1 }
 
 -- the state after a request that has a page: a GET leaves it, an accepted POST takes its number
-abbrev pub after : Application → PlainState → Visit → PlainState
-after app t visit = after_by (method_in (slice_get app.views visit.view)) app t visit
-
--- the state after the requests that have a page, in order
-abbrev pub after_all : Application → PlainState → List Visit → PlainState
-after_all app t [] = t
-after_all app t (visit ∷ visits) = after_all app (after app t visit) visits
+abbrev pub after : (ℕ → Bool) → Application → PlainState → Visit → PlainState
+after w app t visit = after_by (method_in (slice_get app.views visit.view)) w app t visit

@@ -18,11 +18,13 @@ use Rattle.jac_plain.specs.declared.page.Piece.{Piece}
 use Rattle.jac_plain.specs.declared.page.Piece.TheVariants as piece
 use Rattle.jac_plain.specs.Expressions.{mean, answers, bound, binding, bytes_of, is_true}
 
--- what stays the same through a run: the models, the viewer, and the number of the request
+-- what stays the same through a run: the models, the viewer, the number of the request, and the shown labels,
+-- at which only writes look
 pub record Setting : Type 0 where
   pub models : List Entity
   pub viewer : Option ℕ
   pub number : ℕ
+  pub shown : ℕ → Bool
 
 -- what a run changes
 pub record Run : Type 0 where

@@ -1,1 +1,2 @@
 pub mod Goodness
+pub mod Pushed

@@ -8,8 +8,6 @@ mod projection;
 mod row;
 mod state;
 mod table;
-#[cfg(test)]
-mod tests;
 
 pub use laws::good_by_guards;
 pub use plain::{PlainRow, PlainState, PlainTable, PlainTables};

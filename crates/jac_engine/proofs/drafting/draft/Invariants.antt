@@ -14,7 +14,7 @@ invariant-cells g l =
     let k = g.K.Keeper in
     let app = application_of l.app in
     let fields = fields_at app.models l.model in
-    let w = world_at app l.ctx.viewer (shown l.assignment) (state_of k.state l.fn.work) in
-    Drafting k.tells k.state k.attached k.faults l.fn.work l.work
+    let w = world_at app l.ctx.viewer (shown l.assignment) (state_of k.seen l.fn.work) in
+    Drafting k.seen l.fn.work l.work
     (drafted app.models fields (λ e. mean w e l.env) (assigned_of l.left) l.out.items
     ≡ drafted app.models fields (λ e. mean w e l.env) (assigned_of l.cells) (default_cells app.models fields))

@@ -13,22 +13,22 @@ use Rattle.jac_engine.proofs.running.+exec.Given as goal
 abbrev pub invariant-exec-body : goal.invariant-exec-body
 invariant-exec-body g l =
     let k = g.K.Keeper in
-    let setting = setting_of (application_of l.app) l.ctx.viewer l.ctx.number in
+    let setting = setting_of (shown l.assignment) (application_of l.app) l.ctx.viewer l.ctx.number in
     let w = shown l.assignment in
-    Runs k.tells k.state k.attached k.faults (l.ctx.number + 1) l.fn.work l.work
+    Runs k.seen (l.ctx.number + 1) l.fn.work l.work
     (size-Stmts l.left ≤ size-Stmts l.stmts)
     (AreRunnable l.ctx.number (statements_of l.left))
-    (leaves_all setting (statements_of l.left) (run_at w (state_of k.state l.work) l.env.items l.out.items)
-    ≡ leaves_all setting (statements_of l.stmts) (run_at w (state_of k.state l.fn.work) l.fn.env.items l.fn.out.items))
+    (leaves_all setting (statements_of l.left) (run_at w (state_of k.seen l.work) l.env.items l.out.items)
+    ≡ leaves_all setting (statements_of l.stmts) (run_at w (state_of k.seen l.fn.work) l.fn.env.items l.fn.out.items))
 
 abbrev pub invariant-exec_for-tuples : goal.invariant-exec_for-tuples
 invariant-exec_for-tuples g l =
     let k = g.K.Keeper in
-    let setting = setting_of (application_of l.app) l.ctx.viewer l.ctx.number in
+    let setting = setting_of (shown l.assignment) (application_of l.app) l.ctx.viewer l.ctx.number in
     let w = shown l.assignment in
-    Runs k.tells k.state k.attached k.faults (l.ctx.number + 1) l.fn.work l.work (true ≡ true) (true ≡ true)
-    (for_each (binders_of l.query.binders) (leaves_all setting (statements_of l.body)) (drop l.ids-index l.ids-items) (run_at w (state_of k.state l.work) l.env.items l.out.items)
-    ≡ leaves setting (Statement.each (question_of l.query) (statements_of l.body)) (run_at w (state_of k.state l.fn.work) l.fn.env.items l.fn.out.items))
+    Runs k.seen (l.ctx.number + 1) l.fn.work l.work (true ≡ true) (true ≡ true)
+    (for_each (binders_of l.query.binders) (leaves_all setting (statements_of l.body)) (drop l.ids-index l.ids-items) (run_at w (state_of k.seen l.work) l.env.items l.out.items)
+    ≡ leaves setting (Statement.each (question_of l.query) (statements_of l.body)) (run_at w (state_of k.seen l.fn.work) l.fn.env.items l.fn.out.items))
 
 abbrev pub decreases-exec : goal.decreases-exec
 decreases-exec g l = 8 * size-Stmts l.stmts.now

@@ -13,7 +13,7 @@ use Rattle.jac_expr.proofs.reading.read_leaves.Given as goal
 abbrev pub invariant-leaves : goal.invariant-leaves
 invariant-leaves g l =
     let k = g.K.Keeper in
-    LoopOver k.tells k.state k.attached k.faults l.fn.work l.work
+    LoopOver k.seen l.fn.work l.work
     ((w : ℕ → Bool) →
-    let cell = λ (v : Value). cell_of (referred v (rows_of (project_at w (state_of k.state l.fn.work)).tables l.model)) l.field l.absent in
+    let cell = λ (v : Value). cell_of (referred v (rows_of (project_at w (state_of k.seen l.fn.work)).tables l.model)) l.field l.absent in
     last_by cell (at w l.read) (seen w (drop l.leaf-index l.leaves)) ≡ last_by cell l.absent (seen w l.leaves))

@@ -10,7 +10,7 @@ use Rattle.jac_expr.proofs.reading.read_one.Goals as goal
 
 pub returns-in_ok-cell-in-Ref-Some-clause-value : goal.returns-in_ok-cell-in-Ref-Some-clause-value
 returns-in_ok-cell-in-Ref-Some-clause-value g c told w =
-    let state = state_of g.K.Keeper.state c.args.work.now in
+    let state = state_of g.K.Keeper.seen c.args.work.now in
     let reference : c.args.value.now ≡ value.Ref (Some c.in-Ref-Some.id) = search rules in
     c.in_ok-cell-in-Ref-Some.ensures w
     ∙ ap (λ rows. field_of c.args.field c.args.absent.now (rows_at w rows)) c.as_slice.ensures

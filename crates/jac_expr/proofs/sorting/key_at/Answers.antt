@@ -7,4 +7,4 @@ use Rattle.jac_expr.proofs.sorting.key_at.Goals as goal
 pub returns-clause-key : goal.returns-clause-key
 returns-clause-key g c told ctx w held =
     c.in_ok-key.ensures.value told ctx w held
-    ∙ ap (got (world_at c.args.app.now ctx (state_of g.K.Keeper.state c.args.work.now) w) c.args.model.now c.args.field.now) (c.in_ok-record.ensures w)
+    ∙ ap (got (world_at c.args.app.now ctx (state_of g.K.Keeper.seen c.args.work.now) w) c.args.model.now c.args.field.now) (c.in_ok-record.ensures w)

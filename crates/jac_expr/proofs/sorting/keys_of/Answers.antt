@@ -5,7 +5,6 @@ use Rattle.jac_plain.specs.Expressions.{bound, look, key_of}
 use Rattle.jac_plain.specs.World.{got}
 use Rattle.jac_expr.specs.Seen.{world_at}
 use Rattle.jac_expr.proofs.AtTuples.{each-none, each-more, each-all, counted-more}
-use Rattle.jac_expr.proofs.Working.{told_later, state_later}
 use Rattle.jac_expr.proofs.sorting.keys_of.Goals as goal
 
 pub tuples-init : goal.tuples-init
@@ -15,9 +14,8 @@ tuples-init g c =
       counted = ap length c.new-keys.ensures.items;
       read = record {
         told = λ told ctx w.
-            each-none w (key_of (world_at c.args.app.now ctx (state_of k.state c.args.work.now) w) (binders_of c.args.binders.now) c.args.name.now c.args.field.now)
+            each-none w (key_of (world_at c.args.app.now ctx (state_of k.seen c.args.work.now) w) (binders_of c.args.binders.now) c.args.name.now c.args.field.now)
             c.args.tuples.now c.new-keys.result.items c.new-keys.ensures.items;
-        later = search rules;
         same = search rules;
       };
     }
@@ -31,23 +29,23 @@ tuples-preserved g c =
       read = record {
         told = λ told ctx w.
             let bs = binders_of c.args.binders.now in
-            let world = world_at c.args.app.now ctx (state_of k.state c.args.work.now) w in
+            let world = world_at c.args.app.now ctx (state_of k.seen c.args.work.now) w in
+            let before_told = c.in_ok-key.ensures.reads.same.told told in
             each-more w (key_of world bs c.args.name.now c.args.field.now)
             c.args.tuples.now c.tuple-item.result c.tuples.keys.items c.push.new.self.items c.in_ok-key.key c.tuples.tuple-index
             before.counted c.tuple-item.is (omega arith) c.in_ok-push.ensures.items
             (λ held.
-            c.in_ok-key.ensures.key (told_later k.tells k.state k.attached _ _ before.read.same told) ctx w held
+            c.in_ok-key.ensures.key told ctx w held
             ∙ ap (λ s. got (world_at c.args.app.now ctx s w) c.in_ok-model.model c.args.field.now (look (bound bs c.tuple-item.result.ids []) c.args.name.now))
-            (state_later k.tells k.state k.attached _ _ before.read.same)
+            (before.read.same.same_state before_told)
             ∙ ap (λ m. got world m c.args.field.now (look (bound bs c.tuple-item.result.ids []) c.args.name.now)) c.in_ok-model.ensures)
-            (before.read.told told ctx w);
-        later = search rules;
+            (before.read.told before_told ctx w);
         same = search rules;
       };
     }
 
 pub returns-clause-keys : goal.returns-clause-keys
 returns-clause-keys g c told ctx w =
-    each-all w (key_of (world_at c.args.app.now ctx (state_of g.K.Keeper.state c.args.work.now) w) (binders_of c.args.binders.now) c.args.name.now c.args.field.now)
+    each-all w (key_of (world_at c.args.app.now ctx (state_of g.K.Keeper.seen c.args.work.now) w) (binders_of c.args.binders.now) c.args.name.now c.args.field.now)
     c.args.tuples.now c.tuples.keys.items c.from_vec.result c.tuples.tuple-index c.from_vec.ensures c.tuples-test.false
     (c.tuples.invariant.read.told told ctx w)

@@ -12,7 +12,7 @@ use Rattle.jac_expr.proofs.standing.leaves_stand.Given as goal
 abbrev pub invariant-leaves : goal.invariant-leaves
 invariant-leaves g l =
     let k = g.K.Keeper in
-    LoopOver k.tells k.state k.attached k.faults l.fn.work l.work
+    LoopOver k.seen l.fn.work l.work
     ((w : ℕ → Bool) →
-    let stands = λ (v : Value). value.Bool (stands_in (project_at w (state_of k.state l.fn.work)).tables v) in
+    let stands = λ (v : Value). value.Bool (stands_in (project_at w (state_of k.seen l.fn.work)).tables v) in
     last_by stands (at w l.found) (seen w (drop l.leaf-index l.leaves)) ≡ last_by stands (value.Bool false) (seen w l.leaves))

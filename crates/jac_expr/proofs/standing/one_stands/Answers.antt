@@ -10,7 +10,7 @@ use Rattle.jac_expr.proofs.standing.one_stands.Goals as goal
 pub returns-in_ok-found-in-Ref-Some-clause-value : goal.returns-in_ok-found-in-Ref-Some-clause-value
 returns-in_ok-found-in-Ref-Some-clause-value g c told w =
     let id = c.in-Ref-Some.id in
-    let state = state_of g.K.Keeper.state c.args.work.now in
+    let state = state_of g.K.Keeper.seen c.args.work.now in
     let reference : c.args.value.now ≡ value.Ref (Some id) = search rules in
     c.in_ok-found-in-Ref-Some.ensures w
     ∙ ap (λ rows. stood_by (value.Bool false) (rows_at w rows)) c.as_slice.ensures

@@ -12,7 +12,7 @@ use Rattle.jac_expr.proofs.standing.stand.Goals as goal
 
 pub returns-clause-value : goal.returns-clause-value
 returns-clause-value g c told app ctx w held =
-    let state = state_of g.K.Keeper.state c.args.work.now in
+    let state = state_of g.K.Keeper.seen c.args.work.now in
     let read = λ (v : Value). value.Bool (stands_in (project_at w state).tables v) in
     let leaf : seen w c.in_ok-leaves.leaves ≡ at w c.args.value.now ∷ [] = rw held at (c.in_ok-leaves.ensures.seen w) in
     c.in_ok-found.ensures.value told w

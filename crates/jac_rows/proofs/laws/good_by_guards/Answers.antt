@@ -2,4 +2,4 @@ use Rattle.jac_rows.proofs.Goodness.{good}
 use Rattle.jac_rows.proofs.laws.good_by_guards.Goals as goal
 
 pub returns : goal.returns
-returns c fields s g = good fields s g
+returns c kinds s g = good kinds s g

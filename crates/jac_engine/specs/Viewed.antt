@@ -1,0 +1,53 @@
+-- What is prepared where the request finds a view, and where it finds none.
+use Rattle.std.specs.Prelude.{◌≡◌, ℕ, ◌<◌, ◌^◌, ◌⊎◌, Bool, IsTrue, Option, Some, None, List, slice_get}
+use Rattle.jac_lang.specs.declared.pages.Verb.{Verb}
+use Rattle.jac_lang.specs.declared.pages.Verb.TheVariants as verbs
+use Rattle.jac_lang.specs.Syntax.{Application}
+use Rattle.jac_rows.specs.Project.{project_at}
+use Rattle.jac_rows.specs.declared.state.State.{State}
+use Rattle.jac_plain.specs.Requests.{Visit, method_in, after}
+use Rattle.jac_keep.specs.declared.alteration.Change.{Change}
+use Rattle.jac_keep.specs.Kept.{applied}
+use Rattle.jac_engine.specs.Answers.{IsPage, IsSomePage, refusal, visit_of, worlds_after}
+use Rattle.jac_engine.specs.Found.{Found}
+use Rattle.jac_engine.specs.Prepared.{worlds_of}
+use Rattle.jac_engine.specs.Start.{IsStart}
+use Rattle.jac_engine.specs.declared.answer.Ask.{Ask}
+use Rattle.jac_engine.specs.declared.answer.Prepared.{Prepared}
+
+abbrev pub refused : ℕ → Option (List ℕ) → Prepared
+refused status allow = record { answer = refusal status allow; change = None }
+
+-- a GET changes nothing
+pub record IsShown (tells : Bool) (app : Application) (s : State) (visit : Visit) (p : Prepared) : Type 0 where
+  pub change : p.change ≡ None
+  pub form : IsSomePage p.answer
+  pub shows : IsTrue tells → IsPage app (worlds_of s) (worlds_of s) visit p.answer
+
+-- a POST without a page: the numbers are used up
+pub record IsFull (tells : Bool) (s : State) (p : Prepared) : Type 0 where
+  pub refusal : p ≡ refused 507 None
+  pub full : IsTrue tells → s.number ≡ 2 ^ 40
+
+-- what a POST's change leaves is, under every assignment, what the interpreter leaves
+pub record Stores (app : Application) (s : State) (visit : Visit) (change : Change) : Type 0 where
+  pub room : s.number < 2 ^ 40
+  pub worlds : (w : ℕ → Bool) → project_at w (applied change s) ≡ after w app (project_at w s) visit
+  pub start : IsStart app (applied change s)
+
+-- a POST with a page
+pub record IsStored (tells : Bool) (app : Application) (s : State) (visit : Visit) (p : Prepared) : Type 0 where
+  pub change : Change
+  pub changes : p.change ≡ Some change
+  pub form : IsSomePage p.answer
+  pub shows : IsTrue tells → IsPage app (worlds_of s) (worlds_after app (worlds_of s) visit) visit p.answer
+  pub stores : IsTrue tells → Stores app s visit change
+
+abbrev pub IsPreparedBy : Verb → Bool → Application → State → Visit → Prepared → Type 0
+IsPreparedBy verbs.Get tells app s visit p = IsShown tells app s visit p
+IsPreparedBy verbs.Post tells app s visit p = IsFull tells s p ⊎ IsStored tells app s visit p
+
+abbrev pub IsPreparedFor : Found → Bool → Application → State → Ask → Prepared → Type 0
+IsPreparedFor Found.no_route tells app s ask p = p ≡ refused 404 None
+IsPreparedFor (Found.wrong_method allow) tells app s ask p = p ≡ refused 405 (Some allow)
+IsPreparedFor (Found.view n) tells app s ask p = IsPreparedBy (method_in (slice_get app.views n)) tells app s (visit_of app ask n) p

@@ -1,0 +1,35 @@
+-- what contracts see of a keeper, and what its calls keep
+use Rattle.std.specs.Prelude.{◌≡◌, ◌≤◌, ℕ, Bool, IsTrue, Result, IsErrOf}
+use Rattle.jac_io.specs.Faults.{Rose}
+use Rattle.jac_rows.specs.declared.state.State.{State}
+use Rattle.jac_keep.specs.Cause.{HasCause}
+use Rattle.jac_rows.specs.Good.{IsSound}
+use Rattle.jac_keep.specs.declared.stop.Stop.{Stop}
+use Rattle.jac_keep.specs.declared.stop.Stop.TheVariants.{Keeper}
+
+-- whether it tells its state, its state, how often it failed, and whether it may be called
+pub record KeeperSeen : Type 0 where
+  pub tells : Bool
+  pub state : State
+  pub faults : ℕ
+  pub attached : Bool
+
+-- what each call keeps: where it tells afterwards it told before, and its state is sound
+pub record Keeps {T : Type 0} (old new : KeeperSeen) (result : Result T Stop) : Type 0 where
+  pub cause : HasCause old.faults new.faults result
+  pub told : IsTrue new.tells → IsTrue old.tells
+  pub good : IsTrue new.tells → IsSound new.state
+  pub same_attached : new.attached ≡ old.attached
+
+-- between two reads: the state that it tells afterwards it told before
+pub record IsLeft (old new : KeeperSeen) : Type 0 where
+  pub later : old.faults ≤ new.faults
+  pub told : IsTrue new.tells → IsTrue old.tells
+  pub same_state : IsTrue new.tells → new.state ≡ old.state
+  pub same_attached : new.attached ≡ old.attached
+
+-- what a call that reads keeps
+pub record Reads {T : Type 0} (old new : KeeperSeen) (result : Result T Stop) : Type 0 where
+  pub left : IsLeft old new
+  pub good : IsTrue new.tells → IsSound new.state
+  pub rose : IsErrOf result Keeper → Rose old.faults new.faults
