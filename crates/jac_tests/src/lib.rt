@@ -10,3 +10,5 @@ mod io;
 mod keep;
 #[cfg(test)]
 mod rows;
+#[cfg(test)]
+mod value;

@@ -1,5 +1,5 @@
 -- What std's `parse` reads, and what a parameter reads as.
-use Rattle.std.proofs.Common.{◌≡◌, ℕ, ◌<◌, ◌≤◌, ◌^◌, Bool, true, false, ◌&&◌, nat_lt, nat_le, List, [], ◌∷◌, length, drop, refl, sym, ◌∙◌, ap, subst, arith, Some, None, if◌then◌else◌, ℤ, pos, neg_ℤ}
+use Rattle.std.proofs.Common.{◌≡◌, ℕ, ◌<◌, ◌≤◌, ◌^◌, Bool, true, false, ◌&&◌, nat_lt, nat_le, List, [], ◌∷◌, length, drop, refl, sym, ◌∙◌, ap, subst, arith, Option, Some, None, if◌then◌else◌, ℤ, pos, neg_ℤ}
 use Rattle.std.proofs.lemmas.Grind.{common_steps}
 use Rattle.std.proofs.lemmas.Int.{ints}
 use Rattle.std.specs.Prelude.{FitsSigned}
@@ -8,7 +8,7 @@ use Rattle.std.specs.Char.{is_digit, digit_value}
 use Rattle.std.specs.List.{list_all}
 use Rattle.std.specs.Str.Parse.{AllDigits, IsNumeral, digits_value, without_leading_plus, starts_with_minus, without_leading_sign, signed_digits_value}
 use Rattle.jac_value.specs.Ids.{is_id_of}
-use Rattle.jac_value.specs.Values.{is_numeral, int_read, ref_read, starts_with_plus}
+use Rattle.jac_value.specs.Values.{is_numeral, integer_of, ref_read, starts_with_plus}
 
 both-parts : (a b : Bool) → (a && b) ≡ true → (a ≡ true) × (b ≡ true)
 both-parts true true h = (refl, refl)
@@ -73,10 +73,6 @@ ref-none m bs p refused = split (is_numeral bs) refl (nat_lt (digits_value 10 bs
     split true e false f = rw (e, wide-no_id m (digits_value 10 bs) (grind arith)) refl
     split true e true f = absurd (refused (subst (λ (ds : List ℕ). IsNumeral 10 ds × (digits_value 10 ds < 2 ^ 128)) (sym same) (numeral-from_test bs e, grind arith)))
 
-pub int-plus : (bs : List ℕ) → starts_with_plus bs ≡ true → pos 0 ≡ int_read bs
-int-plus [] h = refl
-int-plus (c ∷ cs) h = let e : c ≡ 43 = grind arith in rw e refl
-
 fits-below : (n : ℕ) → FitsSigned w64 (pos n) → nat_le n 0x7FFF_FFFF_FFFF_FFFF ≡ true
 fits-below n h = let l : n ≤ 0x7FFF_FFFF_FFFF_FFFF = omega (arith, ints) in grind arith
 
@@ -101,23 +97,30 @@ bare-digits bs p m = rw m (without_plus bs p)
 bare-value : (bs : List ℕ) → starts_with_plus bs ≡ false → starts_with_minus bs ≡ false → signed_digits_value 10 bs ≡ pos (digits_value 10 bs)
 bare-value bs p m = rw m (ap (λ (ds : List ℕ). pos (digits_value 10 ds)) (without_plus bs p))
 
-pub int-number : (bs : List ℕ) (z : ℤ) → starts_with_plus bs ≡ false → IsNumeral 10 (without_leading_sign bs) → FitsSigned w64 (signed_digits_value 10 bs) → z ≡ signed_digits_value 10 bs → z ≡ int_read bs
-int-number bs z p num fits e = split (starts_with_minus bs) refl
+abbrev some : ℤ → Option ℤ
+some z = Some z
+
+pub integer-plus : (bs : List ℕ) → starts_with_plus bs ≡ true → None ≡ integer_of bs
+integer-plus [] h = refl
+integer-plus (c ∷ cs) h = let e : c ≡ 43 = grind arith in rw e refl
+
+pub integer-number : (bs : List ℕ) (z : ℤ) → starts_with_plus bs ≡ false → IsNumeral 10 (without_leading_sign bs) → FitsSigned w64 (signed_digits_value 10 bs) → z ≡ signed_digits_value 10 bs → Some z ≡ integer_of bs
+integer-number bs z p num fits e = split (starts_with_minus bs) refl
   where
-    split : (b : Bool) → starts_with_minus bs ≡ b → z ≡ int_read bs
+    split : (b : Bool) → starts_with_minus bs ≡ b → Some z ≡ integer_of bs
     split true m =
         let digits : is_numeral (drop 1 bs) ≡ true = numeral-test _ (subst (λ (ds : List ℕ). IsNumeral 10 ds) (minus-digits bs m) num) in
         let small : nat_le (digits_value 10 (drop 1 bs)) 0x8000_0000_0000_0000 ≡ true = fits-above _ (subst (λ (v : ℤ). FitsSigned w64 v) (minus-value bs m) fits) in
-        rw (m, digits, small) (e ∙ minus-value bs m)
+        rw (m, digits, small) (ap some (e ∙ minus-value bs m))
     split false m =
         let digits : is_numeral bs ≡ true = numeral-test _ (subst (λ (ds : List ℕ). IsNumeral 10 ds) (bare-digits bs p m) num) in
         let small : nat_le (digits_value 10 bs) 0x7FFF_FFFF_FFFF_FFFF ≡ true = fits-below _ (subst (λ (v : ℤ). FitsSigned w64 v) (bare-value bs p m) fits) in
-        rw (m, digits, small) (e ∙ bare-value bs p m)
+        rw (m, digits, small) (ap some (e ∙ bare-value bs p m))
 
-pub int-none : (bs : List ℕ) → starts_with_plus bs ≡ false → ¬ (IsNumeral 10 (without_leading_sign bs) × FitsSigned w64 (signed_digits_value 10 bs)) → pos 0 ≡ int_read bs
-int-none bs p refused = split (starts_with_minus bs) refl
+pub integer-none : (bs : List ℕ) → starts_with_plus bs ≡ false → ¬ (IsNumeral 10 (without_leading_sign bs) × FitsSigned w64 (signed_digits_value 10 bs)) → None ≡ integer_of bs
+integer-none bs p refused = split (starts_with_minus bs) refl
   where
-    minus : (n s : Bool) → starts_with_minus bs ≡ true → is_numeral (drop 1 bs) ≡ n → nat_le (digits_value 10 (drop 1 bs)) 0x8000_0000_0000_0000 ≡ s → pos 0 ≡ int_read bs
+    minus : (n s : Bool) → starts_with_minus bs ≡ true → is_numeral (drop 1 bs) ≡ n → nat_le (digits_value 10 (drop 1 bs)) 0x8000_0000_0000_0000 ≡ s → None ≡ integer_of bs
     minus false s m e f = rw (m, e) refl
     minus true false m e f = rw (m, e, f) refl
     minus true true m e f = absurd (refused (
@@ -125,7 +128,7 @@ int-none bs p refused = split (starts_with_minus bs) refl
       subst (λ (v : ℤ). FitsSigned w64 v) (sym (minus-value bs m)) (above-fits _ f),
     ))
 
-    bare : (n s : Bool) → starts_with_minus bs ≡ false → is_numeral bs ≡ n → nat_le (digits_value 10 bs) 0x7FFF_FFFF_FFFF_FFFF ≡ s → pos 0 ≡ int_read bs
+    bare : (n s : Bool) → starts_with_minus bs ≡ false → is_numeral bs ≡ n → nat_le (digits_value 10 bs) 0x7FFF_FFFF_FFFF_FFFF ≡ s → None ≡ integer_of bs
     bare false s m e f = rw (m, e) refl
     bare true false m e f = rw (m, e, f) refl
     bare true true m e f = absurd (refused (
@@ -133,6 +136,6 @@ int-none bs p refused = split (starts_with_minus bs) refl
       subst (λ (v : ℤ). FitsSigned w64 v) (sym (bare-value bs p m)) (below-fits _ f),
     ))
 
-    split : (b : Bool) → starts_with_minus bs ≡ b → pos 0 ≡ int_read bs
+    split : (b : Bool) → starts_with_minus bs ≡ b → None ≡ integer_of bs
     split true m = minus _ _ m refl refl
     split false m = bare _ _ m refl refl

@@ -1,6 +1,7 @@
-pub mod IdLaws
 pub mod Ids
+pub mod Names
+pub mod Parts
+pub mod Paths
 pub mod Quoted
 pub mod SameValue
-pub mod ValueLaws
 pub mod Values

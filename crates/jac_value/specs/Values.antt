@@ -4,6 +4,7 @@ use Rattle.std.specs.Cmp.Lexicographic.{pointwise}
 use Rattle.std.specs.Char.{is_digit}
 use Rattle.std.specs.Fmt.{decimal, signed_decimal}
 use Rattle.std.specs.List.{list_all}
+use Rattle.std.specs.Option.{unwrap_or}
 use Rattle.std.specs.Str.Parse.{digits_value}
 use Rattle.jac_value.specs.Ids.{is_id_of}
 use Rattle.jac_value.specs.declared.value.Kind.{Kind}
@@ -48,12 +49,16 @@ is_numeral ds = list_all (λ c. is_digit c 10) ds && nat_lt 0 (length ds)
 abbrev pub is_number_to : ℕ → List ℕ → Bool
 is_number_to most ds = is_numeral ds && nat_le (digits_value 10 ds) most
 
--- an optional minus and digits that are a number of 64 bits; else 0
-abbrev pub int_read : List ℕ → ℤ
-int_read bs =
+-- an optional minus and digits that are a number of 64 bits
+abbrev pub integer_of : List ℕ → Option ℤ
+integer_of bs =
     if slice_index bs 0 == 45
-    then (if is_number_to 0x8000_0000_0000_0000 (drop 1 bs) then neg_ℤ (pos (digits_value 10 (drop 1 bs))) else pos 0)
-    else (if is_number_to 0x7FFF_FFFF_FFFF_FFFF bs then pos (digits_value 10 bs) else pos 0)
+    then (if is_number_to 0x8000_0000_0000_0000 (drop 1 bs) then Some (neg_ℤ (pos (digits_value 10 (drop 1 bs)))) else None)
+    else (if is_number_to 0x7FFF_FFFF_FFFF_FFFF bs then Some (pos (digits_value 10 bs)) else None)
+
+-- an integer; else 0
+abbrev pub int_read : List ℕ → ℤ
+int_read bs = unwrap_or (integer_of bs) (pos 0)
 
 -- three words are true
 abbrev pub bool_read : List ℕ → Bool

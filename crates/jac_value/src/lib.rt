@@ -6,9 +6,10 @@ mod escape;
 mod id;
 mod lists;
 mod memory;
+mod names;
+mod parts;
+mod paths;
 mod read;
-#[cfg(test)]
-mod tests;
 mod text;
 mod value;
 
@@ -17,6 +18,9 @@ pub use escape::escape_line;
 pub use id::{Id, id_model, id_of, is_id, label_number};
 pub use lists::{Cells, Ids, Kinds};
 pub use memory::Memory;
-pub use read::value_of;
+pub use names::{are_atom_bytes, is_name};
+pub use parts::first_part;
+pub use paths::{is_path, segment_name, segments_of};
+pub use read::{integer_of, value_of};
 pub use text::{Txt, TxtFault};
 pub use value::{Kind, Value, default_of, text_of};

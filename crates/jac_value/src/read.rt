@@ -1,6 +1,6 @@
 ghost use Rattle.std.specs.Prelude.{◌≡◌, ◌≢◌, if◌then◌else◌, Some, None};
 ghost use Rattle.jac_value.specs.Ids.{is_id_of};
-ghost use Rattle.jac_value.specs.Values.{starts_with_plus, value_read, int_read, bool_read, ref_read};
+ghost use Rattle.jac_value.specs.Values.{starts_with_plus, value_read, integer_of, int_read, bool_read, ref_read};
 
 use crate::{Id, Kind, Txt, Value, is_id};
 
@@ -19,15 +19,25 @@ pub fn value_of(kind: &Kind, text: &Txt) -> Value
     }
 }
 
+/// An optional minus and digits that are a number of 64 bits.
+pub fn integer_of(text: &Txt) -> Option<i64>
+    ensures { result ≡ integer_of text.now }
+{
+    if has_plus(text) {
+        return None;
+    }
+    match text.as_str().parse::<i64>() {
+        Ok(number) => Some(number),
+        Err(_) => None,
+    }
+}
+
 fn read_int(text: &Txt) -> i64
     ensures { result ≡ int_read text.now }
 {
-    if has_plus(text) {
-        return 0;
-    }
-    match text.as_str().parse::<i64>() {
-        Ok(number) => number,
-        Err(_) => 0,
+    match integer_of(text) {
+        Some(number) => number,
+        None => 0,
     }
 }
 

@@ -1,8 +1,9 @@
 ghost use Rattle.std.specs.Prelude.{◌≢◌};
 
-use crate::{
-    Bytes, Cells, Id, Ids, Kind, Kinds, Txt, TxtFault, Value, default_of, escape_line, id_model,
-    id_of, is_id, label_number, text_of, value_of,
+use jac_value::{
+    Bytes, Cells, Id, Ids, Kind, Kinds, Txt, TxtFault, Value, are_atom_bytes, default_of,
+    escape_line, first_part, id_model, id_of, integer_of, is_id, is_name, is_path, label_number,
+    segment_name, segments_of, text_of, value_of,
 };
 use std::alloc::Global;
 use std::process::Abort;
@@ -124,5 +125,34 @@ fn lists(rt: HostRuntime) -> Result<(), Fail> {
     let ids = Ids::from_vec(vec![in alloc; Id(4096)]?);
     let again = ids.copy(alloc)?.into_vec();
     assert_eq!(rt; again.as_slice(), ids.as_slice());
+    Ok(())
+}
+
+#[test]
+fn names(rt: HostRuntime) {
+    assert!(rt; is_name(b"a-b_9"));
+    assert!(rt; !is_name(b"this"));
+    assert!(rt; !is_name(b"9a"));
+    assert!(rt; !is_name(b"a.b"));
+    assert!(rt; are_atom_bytes(b"9-_z"));
+}
+
+#[test]
+fn paths(rt: HostRuntime) {
+    assert!(rt; is_path(b"/"));
+    assert!(rt; is_path(b"/a~/{b}"));
+    assert!(rt; !is_path(b"/a/"));
+    assert!(rt; !is_path(b"a"));
+    assert!(rt; !is_path(b"/{this}"));
+    assert_eq!(rt; segments_of(b"/a/{b}"), Some(b"a/{b}".as_slice()));
+    assert_eq!(rt; first_part(b"a/{b}", b'/'), (b"a".as_slice(), Some(b"{b}".as_slice())));
+    assert_eq!(rt; segment_name(b"{b}"), Some(b"b".as_slice()));
+    assert_eq!(rt; segment_name(b"b"), None);
+}
+
+#[test]
+fn integers(rt: HostRuntime) -> Result<(), Fail> {
+    assert_eq!(rt; integer_of(&Txt::from_str(rt.alloc(), "-07")?), Some(-7));
+    assert_eq!(rt; integer_of(&Txt::from_str(rt.alloc(), "--7")?), None);
     Ok(())
 }
