@@ -1,5 +1,6 @@
 pub mod Faults
 pub mod Put
+pub mod Seen
 pub mod Calls
 pub mod NamedFiles
 pub mod FilesState

@@ -1,17 +1,22 @@
 -- a sink in memory, as contracts see it
-use Rattle.std.specs.Prelude.{ℕ, List, ◌++◌, length, ◌+◌, Bool, ◌||◌, Option, if◌then◌else◌, nat_lt}
+use Rattle.std.specs.Prelude.{ℕ, List, [], ◌∷◌, ◌++◌, length, ◌+◌, Bool, true, ◌||◌, Option, if◌then◌else◌, nat_lt}
 use Rattle.jac_io.specs.Faults.{risen}
 use Rattle.jac_io.specs.Calls.{listed}
+use Rattle.jac_io.specs.Seen.{SinkSeen}
 
--- the bytes that were put, the file's name, the room for all bytes, the calls that are to fail, and how
--- many calls there were and how many failed
+-- the bytes that were put, each aim with how much was held by then, the room for all bytes, the calls that
+-- are to fail, and how many calls there were and how many failed
 pub record SinkState : Type 0 where
   pub held : List ℕ
-  pub aimed : Option (List ℕ)
+  pub aims : List (Option (List ℕ) × ℕ)
   pub room : ℕ
   pub fails : List ℕ
   pub calls : ℕ
   pub faults : ℕ
+
+-- what contracts see of it as of every sink
+abbrev pub told_by : SinkState → SinkSeen
+told_by s = record { tells = true; held = s.held; aims = s.aims; faults = s.faults }
 
 -- whether the next call is to fail
 abbrev pub is_to_fail : SinkState → Bool
@@ -20,6 +25,10 @@ is_to_fail s = listed (risen s.calls) s.fails
 -- whether the next put fails: it is a listed call, or the bytes are more than the rest of the room
 abbrev pub put_fails : SinkState → List ℕ → Bool
 put_fails s bytes = is_to_fail s || nat_lt s.room (length s.held + length bytes)
+
+-- whether the next aim fails: it is a listed call, or eight aims were made
+abbrev pub aim_fails : SinkState → Bool
+aim_fails s = is_to_fail s || nat_lt 7 (length s.aims)
 
 -- what a call leaves that fails
 abbrev pub failed : SinkState → SinkState
@@ -32,4 +41,5 @@ after_put s bytes =
 
 -- what the next aim leaves
 abbrev pub after_aim : SinkState → Option (List ℕ) → SinkState
-after_aim s name = if is_to_fail s then failed s else record s { calls = risen s.calls; aimed = name }
+after_aim s name =
+    if aim_fails s then failed s else record s { calls = risen s.calls; aims = s.aims ++ (name, length s.held) ∷ [] }

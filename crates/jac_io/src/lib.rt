@@ -7,8 +7,6 @@ mod memory_files;
 mod memory_sink;
 mod named_files;
 mod sink;
-#[cfg(test)]
-mod tests;
 
 pub use calls::Calls;
 pub use files::{FileFault, Files};

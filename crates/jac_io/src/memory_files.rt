@@ -1,6 +1,6 @@
-ghost use Rattle.std.specs.Prelude.{◌≡◌, ◌≤◌, ◌<◌, ◌↔◌, length, true, false, IfOk, OnOk, IsTrue, IsErrOf, IsSomeAnd};
-ghost use Rattle.jac_io.specs.Faults.{Rose};
+ghost use Rattle.std.specs.Prelude.{◌≡◌, ◌↔◌, IfOk, IsTrue, IsErrOf};
 ghost use Rattle.jac_io.specs.NamedFiles.{file_of};
+ghost use Rattle.jac_io.specs.Seen.{ReadsFile};
 
 use crate::{Calls, FileFault, Files, NamedFiles};
 use jac_value::{Bytes, Txt};
@@ -38,23 +38,15 @@ impl MemoryFiles {
 }
 
 impl Files for MemoryFiles {
-    ghost use Rattle.jac_io.specs.FilesState.{read_fails, after_read};
+    ghost use Rattle.jac_io.specs.FilesState.{told_by, read_fails, after_read};
 
-    ghost tells = { λ _. true };
-
-    ghost file = { λ m. file_of m.files };
-
-    ghost faults = { λ m. m.faults };
+    ghost seen = { told_by };
 
     fn read_all(&mut self, alloc: Global, name: &Txt, limit: usize) -> Result<Bytes, FileFault>
         ensures left { self.new ≡ after_read self.old name.now }
         ensures failed { IsErrOf result FileFault.Failed ↔ IsTrue (read_fails self.old name.now) }
         ensures read { IfOk result (λ b. file_of self.old.files name.now ≡ Some b) }
-        ensures within { IfOk result (λ b. length b ≤ limit) }
-        ensures kept { file_of self.new.files ≡ file_of self.old.files }
-        ensures later { self.old.faults ≤ self.new.faults }
-        ensures cause { IsErrOf result FileFault.Failed → Rose self.old.faults self.new.faults }
-        ensures too_long { IsErrOf result FileFault.TooLong → IsSomeAnd (file_of self.old.files name.now) (λ b. limit < length b) }
+        ensures reads { ReadsFile (told_by self.old) (told_by self.new) name.now limit result }
     {
         self.calls = self.calls.saturating_add(1);
         let listed = self.fails.lists(self.calls);

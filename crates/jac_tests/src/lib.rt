@@ -1,3 +1,6 @@
 //! Tests of the library crates, where no clause says what they say: each public call once on its happy path,
 //! with an answer that comes from outside. They stand here so that no crate below is proved twice.
 #![tactic(auto)]
+
+#[cfg(test)]
+mod io;

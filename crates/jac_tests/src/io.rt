@@ -1,8 +1,10 @@
-//! The memory versions on their happy paths and at each fault, and outsides that tell nothing.
-ghost use Rattle.std.specs.Prelude.{◌≡◌, ◌≤◌, ◌++◌, [], None, Bool, false, OnOk, OnErr, IfOk, IsTrue, IsErrOf};
+//! The memory versions on their happy paths and at each fault, and outsides that tell nothing, or no more.
+ghost use Rattle.std.specs.Prelude.{◌≡◌, ◌≤◌, ◌++◌, [], ◌∷◌, List, Option, Some, None, ℕ, Bool, false, OnOk, OnErr, IfOk, IsTrue, IsErrOf, length};
 ghost use Rattle.jac_io.specs.Faults.{Rose};
+ghost use Rattle.jac_io.specs.Seen.{SinkSeen, FilesSeen};
+ghost use Rattle.jac_io.specs.declared.files.FileFault.TheVariants as fault;
 
-use crate::{
+use jac_io::{
     AuditSink, Calls, Failed, FileFault, Files, MemoryFiles, MemorySink, NamedFiles, Sink,
 };
 use jac_value::{Bytes, Memory, Txt};
@@ -17,13 +19,7 @@ struct SilentSink {
 }
 
 impl Sink for SilentSink {
-    ghost tells = { λ _. false };
-
-    ghost held = { λ _. [] };
-
-    ghost aimed = { λ _. None };
-
-    ghost faults = { λ s. s.faults };
+    ghost seen = { λ s. record { tells = false; held = []; aims = []; faults = s.faults } };
 
     fn put(&mut self, _bytes: &[u8]) -> Result<(), Failed> {
         if self.broken {
@@ -40,6 +36,26 @@ impl AuditSink for SilentSink {
     }
 }
 
+/// A sink that keeps nothing, and tells until it fails: it takes no bytes, and fails at some.
+#[derive(Drop)]
+struct BreakingSink {
+    whole: bool,
+    faults: u64,
+}
+
+impl Sink for BreakingSink {
+    ghost seen = { λ s. record { tells = s.whole; held = []; aims = []; faults = s.faults } };
+
+    fn put(&mut self, bytes: &[u8]) -> Result<(), Failed> {
+        if bytes.is_empty() {
+            return Ok(());
+        }
+        self.whole = false;
+        self.faults = self.faults.saturating_add(1);
+        Err(Failed)
+    }
+}
+
 /// Files that tell nothing: each holds the same bytes, as far as the limit lets them be read.
 #[derive(Drop)]
 struct SilentFiles {
@@ -47,11 +63,7 @@ struct SilentFiles {
 }
 
 impl Files for SilentFiles {
-    ghost tells = { λ _. false };
-
-    ghost file = { λ _ _. None };
-
-    ghost faults = { λ f. f.faults };
+    ghost seen = { λ f. record { tells = false; file = λ _. None; faults = f.faults } };
 
     fn read_all(&mut self, alloc: Global, _name: &Txt, limit: usize) -> Result<Bytes, FileFault> {
         let bytes = b"same";
@@ -65,9 +77,9 @@ impl Files for SilentFiles {
 
 /// Names the file, and puts the bytes twice.
 fn put_twice<U: AuditSink>(sink: &mut U, name: Txt, bytes: &[u8]) -> Result<(), Failed>
-    ensures ok { IsTrue (U.tells sink.old) → OnOk result (U.held sink.new ≡ U.held sink.old ++ bytes.now ++ bytes.now) }
-    ensures later { U.faults sink.old ≤ U.faults sink.new }
-    ensures cause { OnErr result (Rose (U.faults sink.old) (U.faults sink.new)) }
+    ensures ok { IsTrue (U.seen sink.new).tells → OnOk result ((U.seen sink.new).held ≡ (U.seen sink.old).held ++ bytes.now ++ bytes.now) }
+    ensures aimed { IsTrue (U.seen sink.new).tells → OnOk result ((U.seen sink.new).aims ≡ (U.seen sink.old).aims ++ (Some name, length (U.seen sink.old).held) ∷ []) }
+    ensures rose { OnErr result (Rose (U.seen sink.old).faults (U.seen sink.new).faults) }
 {
     sink.aim(Some(name))?;
     sink.put(bytes)?;
@@ -77,8 +89,8 @@ fn put_twice<U: AuditSink>(sink: &mut U, name: Txt, bytes: &[u8]) -> Result<(), 
 
 /// Reads a file of at most four bytes.
 fn read_short<F: Files>(files: &mut F, alloc: Global, name: &Txt) -> Result<Bytes, FileFault>
-    ensures read { IsTrue (F.tells files.old) → IfOk result (λ b. F.file files.old name.now ≡ Some b) }
-    ensures cause { result ≡ Err FileFault.Failed → Rose (F.faults files.old) (F.faults files.new) }
+    ensures ok { IsTrue (F.seen files.new).tells → IfOk result (λ b. (F.seen files.old).file name.now ≡ Some b) }
+    ensures rose { IsErrOf result fault.Failed → Rose (F.seen files.old).faults (F.seen files.new).faults }
 {
     let bytes = files.read_all(alloc, name, 4)?;
     Ok(bytes)
@@ -160,6 +172,23 @@ fn listed_calls_fail(rt: HostRuntime) -> Result<(), Fail> {
 }
 
 #[test]
+fn aims_are_listed(rt: HostRuntime) -> Result<(), Fail> {
+    let alloc = rt.alloc();
+    let mut sink = MemorySink::new(alloc, 9, Calls::empty(alloc))?;
+    assert_eq!(rt; sink.put(b"abc"), Ok(()));
+    assert_eq!(rt; sink.aim(Some(Txt::from_str(alloc, "audit")?)), Ok(()));
+    for _ in 1..8u8 {
+        assert_eq!(rt; sink.aim(None), Ok(()));
+    }
+    assert_eq!(rt; sink.aim(None), Err(Failed));
+    assert_eq!(rt; sink.aims().len(), 8);
+    let first = &sink.aims()[0];
+    assert_eq!(rt; first.1, 3);
+    assert!(rt; first.0.is_some());
+    Ok(())
+}
+
+#[test]
 fn silence_is_allowed(rt: HostRuntime) -> Result<(), Fail> {
     let alloc = rt.alloc();
     let mut sink = SilentSink {
@@ -171,6 +200,12 @@ fn silence_is_allowed(rt: HostRuntime) -> Result<(), Fail> {
     sink.broken = true;
     let name = Txt::from_str(alloc, "audit")?;
     assert_eq!(rt; put_twice(&mut sink, name, b"ab"), Err(Failed));
+    let mut sink = BreakingSink {
+        whole: true,
+        faults: 0,
+    };
+    assert_eq!(rt; sink.put(b"ab"), Err(Failed));
+    assert!(rt; !sink.whole);
     let mut files = SilentFiles { faults: 0 };
     let name = Txt::from_str(alloc, "any")?;
     assert_eq!(rt;

@@ -1,0 +1,56 @@
+-- what contracts see of sinks and files, and what their calls leave
+use Rattle.std.specs.Prelude.{◌≡◌, ◌≤◌, ◌<◌, ◌++◌, ◌∷◌, [], ℕ, Bool, List, Option, Some, Result, length, IfOk, OnOk, OnErr, IsTrue, IsErrOf, IsSomeAnd}
+use Rattle.jac_io.specs.Faults.{Rose}
+use Rattle.jac_io.specs.Put.{AddsPrefix}
+use Rattle.jac_io.specs.declared.sink.Failed.{Failed}
+use Rattle.jac_io.specs.declared.files.FileFault.{FileFault}
+use Rattle.jac_io.specs.declared.files.FileFault.TheVariants as fault
+
+-- whether it tells, the bytes that were put, each aim with how much was held by then, and how often it failed
+pub record SinkSeen : Type 0 where
+  pub tells : Bool
+  pub held : List ℕ
+  pub aims : List (Option (List ℕ) × ℕ)
+  pub faults : ℕ
+
+-- calls that aim it nowhere: where it tells afterwards it told before, and its aims are as they were
+pub record Lasts (old new : SinkSeen) : Type 0 where
+  pub later : old.faults ≤ new.faults
+  pub told : IsTrue new.tells → IsTrue old.tells
+  pub same_aims : IsTrue new.tells → new.aims ≡ old.aims
+
+-- what a put leaves
+pub record Puts (old new : SinkSeen) (bytes : List ℕ) (result : Result (Unit {0}) Failed) : Type 0 where
+  pub lasts : Lasts old new
+  pub ok : IsTrue new.tells → OnOk result (new.held ≡ old.held ++ bytes)
+  pub err : IsTrue new.tells → OnErr result (AddsPrefix old.held new.held bytes)
+  pub rose : OnErr result (Rose old.faults new.faults)
+
+-- what an aim leaves: an Ok is the last of the aims, with how much was held by then; a refused one leaves them
+pub record Aims (old new : SinkSeen) (name : Option (List ℕ)) (result : Result (Unit {0}) Failed) : Type 0 where
+  pub later : old.faults ≤ new.faults
+  pub told : IsTrue new.tells → IsTrue old.tells
+  pub same_held : IsTrue new.tells → new.held ≡ old.held
+  pub ok : IsTrue new.tells → OnOk result (new.aims ≡ old.aims ++ (name, length old.held) ∷ [])
+  pub err : IsTrue new.tells → OnErr result (new.aims ≡ old.aims)
+  pub rose : OnErr result (Rose old.faults new.faults)
+
+-- whether they tell what they hold, the bytes of the file of a name, where there is one, and how often they failed
+pub record FilesSeen : Type 0 where
+  pub tells : Bool
+  pub file : List ℕ → Option (List ℕ)
+  pub faults : ℕ
+
+-- any reads: where they tell afterwards they told before, and hold what they held
+pub record FilesLast (old new : FilesSeen) : Type 0 where
+  pub later : old.faults ≤ new.faults
+  pub told : IsTrue new.tells → IsTrue old.tells
+  pub same_file : IsTrue new.tells → new.file ≡ old.file
+
+-- what a read of at most so many bytes leaves
+pub record ReadsFile (old new : FilesSeen) (name : List ℕ) (limit : ℕ) (result : Result (List ℕ) FileFault) : Type 0 where
+  pub lasts : FilesLast old new
+  pub within : IfOk result (λ bytes. length bytes ≤ limit)
+  pub ok : IsTrue new.tells → IfOk result (λ bytes. old.file name ≡ Some bytes)
+  pub too_long : IsTrue new.tells → IsErrOf result fault.TooLong → IsSomeAnd (old.file name) (λ bytes. limit < length bytes)
+  pub rose : IsErrOf result fault.Failed → Rose old.faults new.faults
