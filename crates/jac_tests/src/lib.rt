@@ -4,3 +4,5 @@
 
 #[cfg(test)]
 mod io;
+#[cfg(test)]
+mod world;

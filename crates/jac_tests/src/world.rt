@@ -1,6 +1,7 @@
+//! Guards that meet and are cut, labels that are shown, and the counter of steps.
 ghost use Rattle.std.specs.Prelude.{◌≡◌, ◌<◌};
 
-use crate::{Assignment, Guard, Guards, Label, Memory, Steps};
+use jac_world::{Assignment, Guard, Guards, Label, Memory, Steps};
 use std::alloc::Global;
 use std::marker::Brand;
 use std::process::Abort;
@@ -67,6 +68,19 @@ fn hidden_guards_are_cut(rt: HostRuntime) -> Result<(), Fail> {
     let again = left.copy(rt.alloc())?;
     assert!(rt; is_guard(again.as_slice().get(0), hides.copy(rt.alloc())?.pairs()));
     assert_eq!(rt; Guards::empty(rt.alloc()).as_slice().len(), 0);
+    Ok(())
+}
+
+#[test]
+fn guards_are_compared(rt: HostRuntime) -> Result<(), Fail> {
+    let mut pairs = Vec::new(rt.alloc());
+    pairs.push((Label(1), true))?;
+    pairs.push((Label(2), false))?;
+    let stored = Guard::from_pairs(pairs);
+    let shows = one(rt.alloc(), 1, true)?;
+    let both = met(rt.alloc(), &one(rt.alloc(), 2, false)?, &shows)?;
+    assert!(rt; both.is_same(&stored));
+    assert!(rt; !both.is_same(&shows));
     Ok(())
 }
 
