@@ -1,4 +1,4 @@
-use Rattle.jac_facet.proofs.tests.fork.Goals as goal
+use Rattle.jac_tests.proofs.facet.fork.Goals as goal
 
 pub split-requires-clause-high : goal.split-requires-clause-high
 split-requires-clause-high g c = c.int.ensures c.args.label
