@@ -1,4 +1,4 @@
-use Rattle.jac_query.proofs.tests.fork.Goals as goal
+use Rattle.jac_tests.proofs.query.fork.Goals as goal
 
 pub split-requires-clause-high : goal.split-requires-clause-high
 split-requires-clause-high g c = c.leaf.ensures 1
