@@ -1,7 +1,6 @@
-ghost use Rattle.std.specs.Prelude.{◌≤◌, length, IfOk};
-
-use crate::{Pair, Pairs, bind, kind_by_name, pairs_of, viewer_id};
+//! Pairs as the URL Standard writes them, parameters of each kind, and viewers.
 use jac_lang::{App, Field, Fields, Groups, KindName, ModelDef, Models, PlainEnv, Views};
+use jac_route::{Pair, Pairs, bind, kind_by_name, pairs_of, viewer_id};
 use jac_value::{Id, Kind, Memory, Txt, Value};
 use std::alloc::Global;
 use std::process::Abort;
