@@ -3,6 +3,12 @@
 #![tactic(auto)]
 
 #[cfg(test)]
+mod facet;
+#[cfg(test)]
 mod io;
+#[cfg(test)]
+mod query;
+#[cfg(test)]
+mod route;
 #[cfg(test)]
 mod world;
