@@ -7,8 +7,6 @@ mod leaf;
 mod leaves;
 mod lists;
 mod memory;
-#[cfg(test)]
-mod tests;
 mod under;
 
 pub use facet::Facet;

@@ -8,8 +8,6 @@ mod keeping;
 mod memory;
 mod ordering;
 mod sums;
-#[cfg(test)]
-mod tests;
 mod tuple;
 
 pub use choice::{first, fold_exists};

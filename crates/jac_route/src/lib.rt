@@ -3,8 +3,6 @@
 
 mod pairs;
 mod parameters;
-#[cfg(test)]
-mod tests;
 
 pub use pairs::{Pair, Pairs, pairs_of};
 pub use parameters::{bind, kind_by_name, viewer_id};

@@ -5,10 +5,18 @@
 #[cfg(test)]
 mod expr;
 #[cfg(test)]
+mod facet;
+#[cfg(test)]
 mod io;
 #[cfg(test)]
 mod keep;
 #[cfg(test)]
+mod query;
+#[cfg(test)]
+mod route;
+#[cfg(test)]
 mod rows;
 #[cfg(test)]
 mod value;
+#[cfg(test)]
+mod world;

@@ -5,10 +5,10 @@ use mathlib.Core.Bool.{beq}
 use Rattle.jac_world.specs.World.{holds, both, holding, has_pair, names, wanted, contradict, IsApart, ArePairwiseApart, IsRising, StartsAbove}
 use Rattle.jac_world.proofs.Merging.{absent, equals, no_clash}
 
-and_true : (a b : Bool) → a ≡ true → b ≡ true → (a && b) ≡ true
+pub and_true : (a b : Bool) → a ≡ true → b ≡ true → (a && b) ≡ true
 and_true a b p q = rw p q
 
-left_true : (a b : Bool) → (a && b) ≡ true → a ≡ true
+pub left_true : (a b : Bool) → (a && b) ≡ true → a ≡ true
 left_true true b p = refl
 left_true false b p = p
 
@@ -28,11 +28,11 @@ or_right : (a b : Bool) → b ≡ true → (a || b) ≡ true
 or_right true b p = refl
 or_right false b p = p
 
-same_sign : (b : Bool) → beq b b ≡ true
+pub same_sign : (b : Bool) → beq b b ≡ true
 same_sign true = refl
 same_sign false = refl
 
-sign_is : (a b : Bool) → beq a b ≡ true → b ≡ a
+pub sign_is : (a b : Bool) → beq a b ≡ true → b ≡ a
 sign_is true true p = refl
 sign_is true false p = cc
 sign_is false true p = cc
@@ -47,7 +47,7 @@ by_names (p ∷ g) v w h =
     rw (e, r) refl
 
 -- assignments that agree above k
-holds_past : (k : ℕ) (v w : ℕ → Bool) (g : List (ℕ × Bool)) → ((j : ℕ) → k < j → v j ≡ w j) → StartsAbove k g → IsRising g → holds v g ≡ holds w g
+pub holds_past : (k : ℕ) (v w : ℕ → Bool) (g : List (ℕ × Bool)) → ((j : ℕ) → k < j → v j ≡ w j) → StartsAbove k g → IsRising g → holds v g ≡ holds w g
 holds_past k v w [] h s r = refl
 holds_past k v w (q ∷ []) h s r = rw (h q.0 s) refl
 holds_past k v w (q ∷ (p ∷ g)) h s r =

@@ -1,3 +1,4 @@
+pub mod Alike
 pub mod Contradict
 pub mod Cutting
 pub mod Inserting

@@ -41,7 +41,7 @@ skip_right (p ∷ (q ∷ g)) ys y s r =
 pub skip_left : (g ys : List (ℕ × Bool)) (x : ℕ × Bool) → StartsAbove x.0 ys → IsRising ys → contradict (x ∷ g) ys ≡ contradict g ys
 skip_left g ys x s r = rw (absent x.0 (not x.1) ys s r) refl
 
-beq_not : (b : Bool) → beq b (not b) ≡ false
+pub beq_not : (b : Bool) → beq b (not b) ≡ false
 beq_not true = refl
 beq_not false = refl
 

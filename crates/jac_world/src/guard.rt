@@ -41,6 +41,14 @@ impl Guard {
         Ok(Guard { pairs })
     }
 
+    /// The guard of these labels with their signs.
+    pub fn from_pairs(pairs: Vec<(Label, bool)>) -> Guard
+        requires { IsRising pairs.items }
+        ensures { result ≡ pairs.items }
+    {
+        Guard { pairs }
+    }
+
     pub fn holds(&self, assignment: &Assignment) -> bool
         ensures { result ≡ holds (shown assignment.now) self.now }
     {
@@ -57,6 +65,14 @@ impl Guard {
         ensures can_be_met { holds (wanted self.now) self.now ≡ true }
     {
         self.pairs.as_slice()
+    }
+
+    /// Whether both hold under the same assignments.
+    pub fn is_same(&self, other: &Guard) -> bool
+        ensures equal { IsTrue result ↔ self.now ≡ other.now }
+        ensures alike { IsTrue result ↔ ((w : ℕ → Bool) → holds w self.now ≡ holds w other.now) }
+    {
+        self.pairs() == other.pairs()
     }
 
     /// The guard that holds where both hold, or none where they have one label with two signs.

@@ -15,3 +15,8 @@ pub fn contradict_where_apart()
 pub fn holds_somewhere()
     ensures { (g : List (ℕ × Bool)) → IsRising g → holds (wanted g) g ≡ true }
 {}
+
+/// A law: guards that hold under the same assignments are equal.
+pub fn same_where_alike()
+    ensures { (g h : List (ℕ × Bool)) → IsRising g → IsRising h → ((w : ℕ → Bool) → holds w g ≡ holds w h) → g ≡ h }
+{}

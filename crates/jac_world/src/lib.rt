@@ -8,13 +8,11 @@ mod label;
 mod laws;
 mod memory;
 mod steps;
-#[cfg(test)]
-mod tests;
 
 pub use assignment::Assignment;
 pub use guard::Guard;
 pub use guards::Guards;
 pub use label::Label;
-pub use laws::{contradict_where_apart, holds_by_names, holds_somewhere};
+pub use laws::{contradict_where_apart, holds_by_names, holds_somewhere, same_where_alike};
 pub use memory::Memory;
 pub use steps::Steps;

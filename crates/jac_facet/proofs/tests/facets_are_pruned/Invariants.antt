@@ -1,4 +1,0 @@
-use Rattle.jac_facet.proofs.tests.facets_are_pruned.Given as goal
-
-abbrev pub ghosts-run_prune : goal.ghosts-run_prune
-ghosts-run_prune g a = record { name = a.blank.name; parts = a.blank.parts }
