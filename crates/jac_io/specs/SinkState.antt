@@ -33,7 +33,7 @@ after_put s bytes =
 
 -- how many aims a sink has room for
 abbrev pub aims_room : ℕ
-aims_room = 4
+aims_room = 8
 
 -- whether the next aim fails: it is a listed call, or there were as many aims as there is room for
 abbrev pub aim_fails : SinkState → Bool

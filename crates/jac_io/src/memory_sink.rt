@@ -6,10 +6,10 @@ use jac_value::{Memory, Txt};
 use std::alloc::Global;
 use std::marker::Model;
 
-const AIMS: usize = 4;
+const AIMS: usize = 8;
 
 /// A sink in memory. A call fails where it is a listed one; a put fails also where its bytes are more than
-/// the rest of the room, and an aim where there were four already. Calls of `put` and `aim` are counted
+/// the rest of the room, and an aim where there were eight already. Calls of `put` and `aim` are counted
 /// together.
 #[derive(Debug, Drop)]
 pub struct MemorySink {
@@ -54,6 +54,13 @@ impl MemorySink {
         ensures { result.now ≡ self.now.held }
     {
         self.taken.as_slice()
+    }
+
+    /// Each aim that wasn't refused, with how many bytes had been put by then.
+    pub fn aims(&self) -> &[(Option<Txt>, usize)]
+        ensures { result.now ≡ self.now.aims }
+    {
+        self.aims.as_slice()
     }
 }
 

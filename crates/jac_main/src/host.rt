@@ -1,5 +1,4 @@
-ghost use Rattle.std.specs.Prelude.{◌≡◌, ◌≤◌, ◌++◌, false, None, [], length, IfOk, OnOk, OnErr, IsTrue, IsSomeAnd, vec_len};
-ghost use Rattle.jac_io.specs.Faults.{Rose};
+ghost use Rattle.std.specs.Prelude.{◌≡◌, ◌≤◌, false, None, [], IfOk, vec_len};
 
 use jac_io::{AuditSink, Failed, FileFault, Files, Sink};
 use jac_value::{Bytes, Txt};
@@ -24,11 +23,7 @@ impl<'r> HostFiles<'r> {
 }
 
 impl Files for HostFiles<'_> {
-    ghost tells = { λ _. false };
-
-    ghost file = { λ _ _. None };
-
-    ghost faults = { λ f. f.faults };
+    ghost seen = { λ f. record { tells = false; file = λ _. None; faults = f.faults } };
 
     fn read_all(&mut self, alloc: Global, name: &Txt, limit: usize) -> Result<Bytes, FileFault> {
         match read_file(self.rt, alloc, name.as_str(), limit) {
@@ -86,13 +81,7 @@ impl<'r> Stdout<'r> {
 }
 
 impl Sink for Stdout<'_> {
-    ghost tells = { λ _. false };
-
-    ghost held = { λ _. [] };
-
-    ghost aimed = { λ _. None };
-
-    ghost faults = { λ s. s.faults };
+    ghost seen = { λ s. record { tells = false; held = []; aims = []; faults = s.faults } };
 
     fn put(&mut self, bytes: &[u8]) -> Result<(), Failed> {
         match io::writer(self.rt).write_all(bytes) {
@@ -118,13 +107,7 @@ impl NoAudit {
 }
 
 impl Sink for NoAudit {
-    ghost tells = { λ _. false };
-
-    ghost held = { λ _. [] };
-
-    ghost aimed = { λ _. None };
-
-    ghost faults = { λ s. s.faults };
+    ghost seen = { λ s. record { tells = false; held = []; aims = []; faults = s.faults } };
 
     fn put(&mut self, _bytes: &[u8]) -> Result<(), Failed> {
         Ok(())
