@@ -4,7 +4,7 @@ use Rattle.jac_io.specs.Faults.{Rose}
 use Rattle.jac_lang.specs.declared.pages.Verb.{Verb}
 use Rattle.jac_lang.specs.declared.pages.Verb.TheVariants as verbs
 use Rattle.jac_lang.specs.Syntax.{Application}
-use Rattle.jac_rows.specs.Good.{IsSound}
+use Rattle.jac_rows.specs.Good.{IsGood, IsSound}
 use Rattle.jac_rows.specs.Project.{project_at}
 use Rattle.jac_rows.specs.declared.state.State.{State}
 use Rattle.jac_rows.specs.declared.plain.PlainState.{PlainState}
@@ -13,6 +13,7 @@ use Rattle.jac_keep.specs.declared.alteration.Change.{Change}
 use Rattle.jac_keep.specs.declared.stop.Stop.{Stop}
 use Rattle.jac_keep.specs.declared.stop.Stop.TheVariants as stops
 use Rattle.jac_keep.specs.KeeperSeen.{KeeperSeen}
+use Rattle.jac_plain.specs.Models.{kinds_of}
 use Rattle.jac_keep.specs.Kept.{applied}
 use Rattle.jac_engine.specs.Answers.{IsSomePage, HasFormOf, HasFormBy, HasForm, left_by, left, refusal}
 use Rattle.jac_engine.specs.Found.{Found, found}
@@ -67,6 +68,7 @@ is_made app k served number event reply audit made told later = record {
   answered = λ tells. inr (made.answered tells);
   worlds = made.worlds;
   goes_on = made.goes_on;
+  good = made.good;
   faults = grew_by_none _ _ _ (no_fault app (ask_in app event) made.answer made.form) later;
 }
 
@@ -98,5 +100,6 @@ is_failed app k served event stop same told start later rose = record {
       ap (λ (s : State). project_at w s) (same tells)
       ∙ sym (left_without (found app event.method event.path) w app (ask_in app event) (project_at w k.before.state));
   goes_on = λ tells. subst (λ (s : State). IsStart app s) (sym (same tells)) (start (told tells));
+  good = λ tells good. subst (λ (s : State). IsGood (kinds_of app) s) (sym (same tells)) good;
   faults = grew_if _ _ stop later rose;
 }

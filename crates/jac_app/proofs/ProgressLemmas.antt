@@ -1,10 +1,12 @@
 -- Serving line after line.
 use Rattle.std.proofs.Common.{◌≡◌, ◌∙◌, ap, sym, subst, refl, ℕ, ◌+◌, ◌≤◌, ◌-◌, ◌^◌, min, true, false, Bool, IsTrue, Option, Some, None, List, [], ◌∷◌, ◌++◌, length, map, append_assoc, append-nil, arith}
 use Rattle.jac_lang.specs.Syntax.{Application}
+use Rattle.jac_rows.specs.Good.{IsGood}
 use Rattle.jac_rows.specs.Project.{project_at}
 use Rattle.jac_rows.specs.declared.plain.PlainState.{PlainState}
 use Rattle.jac_rows.specs.declared.state.State.{State}
 use Rattle.jac_keep.specs.KeeperSeen.{KeeperSeen}
+use Rattle.jac_plain.specs.Models.{kinds_of}
 use Rattle.jac_plain.specs.Requests.{Worlds}
 use Rattle.jac_forms.specs.Parts.{parts_left}
 use Rattle.jac_engine.specs.Prepared.{worlds_of}
@@ -70,6 +72,7 @@ pub record IsServing (app : Application) (k : Span KeeperSeen) (events : List Ev
   pub answered : IsTrue k.after.tells → AreAnswered app (worlds_of k.before.state) log
   pub worlds : IsTrue k.after.tells → (w : ℕ → Bool) → project_at w k.after.state ≡ after_log w app log (project_at w k.before.state)
   pub goes_on : IsTrue k.after.tells → IsStart app k.after.state
+  pub good : IsTrue k.after.tells → IsGood (kinds_of app) k.before.state → IsGood (kinds_of app) k.after.state
 
 IsServing-none : (app : Application) (a : KeeperSeen) → (IsTrue a.tells → IsStart app a.state) → IsServing app (span a a) [] []
 IsServing-none app a start = record {
@@ -80,6 +83,7 @@ IsServing-none app a start = record {
   answered = λ told. tt;
   worlds = λ told w. refl;
   goes_on = start;
+  good = λ told good. good;
 }
 
 -- the keeper wasn't called
@@ -116,6 +120,7 @@ IsServing-push app a b c events log served event entry serving count is_entry = 
       ∙ ap (λ (t : PlainState). after_entry w app entry t) (serving.worlds (is_entry.told told) w)
       ∙ sym (after_log-append w app log entry (project_at w a.state));
   goes_on = is_entry.goes_on;
+  good = λ told good. is_entry.good told (serving.good (is_entry.told told) good);
 }
 
 -- all the events were served, or the first of them
@@ -132,7 +137,7 @@ served_whole early app a b events more all log serving parts whole =
     record {
       caused = record { subjects = subjects; formed = serving.formed; faults = serving.faults };
       told = serving.told;
-      serves = λ told. record { subjects = subjects; answered = serving.answered told; worlds = serving.worlds told; goes_on = serving.goes_on told };
+      serves = λ told. record { subjects = subjects; answered = serving.answered told; worlds = serving.worlds told; goes_on = serving.goes_on told; good = serving.good told };
     }
 
 -- events that were served, before those of the rest

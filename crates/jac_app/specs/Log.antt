@@ -4,9 +4,11 @@ use Rattle.std.specs.List.{flat_map}
 use Rattle.std.specs.Str.{bytes_eq}
 use Rattle.jac_value.specs.Quoted.{quoted}
 use Rattle.jac_lang.specs.Syntax.{Application}
+use Rattle.jac_rows.specs.Good.{IsGood}
 use Rattle.jac_rows.specs.Project.{project_at}
 use Rattle.jac_rows.specs.declared.plain.PlainState.{PlainState}
 use Rattle.jac_rows.specs.declared.state.State.{State}
+use Rattle.jac_plain.specs.Models.{kinds_of}
 use Rattle.jac_plain.specs.Requests.{Worlds}
 use Rattle.jac_engine.specs.Answers.{IsAnswerTo, HasForm, refusal, left}
 use Rattle.jac_engine.specs.Prepared.{worlds_of}
@@ -117,12 +119,13 @@ AreAnswered app worlds [] = ⊤
 AreAnswered app worlds (entry ∷ log) = IsAnswered app worlds entry × AreAnswered app (λ w. after_entry w app entry (worlds w)) log
 
 -- the log answers what the events bring, each in the worlds before it; and under every assignment the state at
--- the end shows the world that the log leaves of what the start shows
+-- the end shows the world that the log leaves of what the start shows; a good start stays good
 pub record Serves (early : Bool) (app : Application) (start : State) (events : List Event) (log : List Entry) (finish : State) : Type 0 where
   pub subjects : IsHeard early app events log
   pub answered : AreAnswered app (worlds_of start) log
   pub worlds : (w : ℕ → Bool) → project_at w finish ≡ after_log w app log (project_at w start)
   pub goes_on : IsStart app finish
+  pub good : IsGood (kinds_of app) start → IsGood (kinds_of app) finish
 
 -- where nothing is told of worlds: each refusal has its cause, and each page is one that a run made
 abbrev pub IsFormed : Application → Entry → Type 0

@@ -1,9 +1,11 @@
 -- What serving the lines of an events file puts on the two sinks.
 use Rattle.std.specs.Prelude.{◌≡◌, ℕ, ◌+◌, ◌⊎◌, Bool, IsTrue, length, true, false, Result, Ok, Err, Some, None, List, [], ◌∷◌, ◌++◌}
 use Rattle.jac_lang.specs.Syntax.{Application}
+use Rattle.jac_rows.specs.Good.{IsGood}
 use Rattle.jac_rows.specs.Project.{project_at}
 use Rattle.jac_rows.specs.declared.state.State.{State}
 use Rattle.jac_keep.specs.KeeperSeen.{KeeperSeen}
+use Rattle.jac_plain.specs.Models.{kinds_of}
 use Rattle.jac_engine.specs.Answers.{IsAnswerTo, HasForm, left}
 use Rattle.jac_engine.specs.Prepared.{worlds_of}
 use Rattle.jac_engine.specs.Start.{IsStart}
@@ -24,6 +26,7 @@ pub record IsAnswerMade (app : Application) (k : Span KeeperSeen) (ask : Ask) (n
   pub answered : IsTrue k.after.tells → IsAnswerTo app (worlds_of k.before.state) ask answer
   pub worlds : IsTrue k.after.tells → (w : ℕ → Bool) → project_at w k.after.state ≡ left w app ask answer (project_at w k.before.state)
   pub goes_on : IsTrue k.after.tells → IsStart app k.after.state
+  pub good : IsTrue k.after.tells → IsGood (kinds_of app) k.before.state → IsGood (kinds_of app) k.after.state
   pub reply_made : reply ≡ reply_text ask.method answer.status answer.location answer.body
   pub audit_made : audit ≡ audit_text number answer.status ask.viewer answer.shown
 
@@ -35,6 +38,7 @@ pub record IsEntryOf (app : Application) (k : Span KeeperSeen) (served : ℕ) (e
   pub answered : IsTrue k.after.tells → IsAnswered app (worlds_of k.before.state) entry
   pub worlds : IsTrue k.after.tells → (w : ℕ → Bool) → project_at w k.after.state ≡ after_entry w app entry (project_at w k.before.state)
   pub goes_on : IsTrue k.after.tells → IsStart app k.after.state
+  pub good : IsTrue k.after.tells → IsGood (kinds_of app) k.before.state → IsGood (kinds_of app) k.after.state
   pub faults : Grew k.before.faults (faults_in (entry ∷ [])) k.after.faults
 
 -- an event is answered, its audit line first

@@ -1,8 +1,10 @@
 -- What answers a request before anything is stored.
 use Rattle.std.specs.Prelude.{◌≡◌, ℕ, Bool, IsTrue, Option, Some, None, is_some}
 use Rattle.jac_lang.specs.Syntax.{Application}
+use Rattle.jac_rows.specs.Good.{IsGood}
 use Rattle.jac_rows.specs.Project.{project_at}
 use Rattle.jac_rows.specs.declared.state.State.{State}
+use Rattle.jac_plain.specs.Models.{kinds_of}
 use Rattle.jac_plain.specs.Requests.{Worlds}
 use Rattle.jac_keep.specs.declared.alteration.Change.{Change}
 use Rattle.jac_keep.specs.Kept.{applied}
@@ -21,10 +23,11 @@ abbrev pub worlds_of : State → Worlds
 worlds_of s w = project_at w s
 
 -- what answers a request on a state; where the state is told, the answer is the interpreter's in its worlds,
--- and what is to be stored shows under every assignment what the interpreter leaves
+-- and what is to be stored shows under every assignment what the interpreter leaves, and stays good
 pub record IsPrepared (tells : Bool) (app : Application) (s : State) (ask : Ask) (p : Prepared) : Type 0 where
   pub form : HasForm app ask p.answer
   pub stored : is_some p.change ≡ is_stored app ask p.answer
   pub answered : IsTrue tells → IsAnswerTo app (worlds_of s) ask p.answer
   pub worlds : IsTrue tells → (w : ℕ → Bool) → project_at w (applied_if p.change s) ≡ left w app ask p.answer (project_at w s)
   pub start : IsTrue tells → IsStart app (applied_if p.change s)
+  pub good : IsTrue tells → IsGood (kinds_of app) s → IsGood (kinds_of app) (applied_if p.change s)

@@ -70,6 +70,7 @@ pub fn prepare<K: Keeper, L: Ledger>(
     ensures prepared { IfOk result (IsPrepared (K.seen keeper.new).tells (application_of app.now) (K.seen keeper.old).state ask.now) }
     ensures reads { Reads (K.seen keeper.old) (K.seen keeper.new) result }
 {
+    let _models = app.models.as_slice();
     let prepared = prepare_found(alloc, app, keeper, ask, splits)?;
     Ok(prepared)
 }

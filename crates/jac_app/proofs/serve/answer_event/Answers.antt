@@ -26,6 +26,7 @@ returns-clause-made g c =
       answered = λ told. prepared.answered (c.in_ok-commit.ensures.told told);
       worlds = λ told w. ap (λ (x : State). project_at w x) (stored told) ∙ prepared.worlds (c.in_ok-commit.ensures.told told) w;
       goes_on = λ told. rw (stored told) (prepared.start (c.in_ok-commit.ensures.told told));
+      good = λ told good. rw (stored told) (prepared.good (c.in_ok-commit.ensures.told told) good);
       reply_made = rw (c.as_bytes.ensures, c.in_ok-ask.ensures) at c.in_ok-lines.ensures.reply;
       audit_made = rw c.in_ok-ask.ensures at c.in_ok-lines.ensures.audit;
     }
