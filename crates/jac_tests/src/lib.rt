@@ -3,4 +3,6 @@
 #![tactic(auto)]
 
 #[cfg(test)]
+mod lang;
+#[cfg(test)]
 mod value;
