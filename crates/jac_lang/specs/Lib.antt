@@ -2,3 +2,4 @@ pub mod Lookup
 pub mod Mirror
 pub mod Syntax
 pub mod Turned
+pub mod Written

@@ -1,10 +1,9 @@
-ghost use Rattle.std.specs.Prelude.{◌≡◌, IfOk};
-ghost use Rattle.jac_lang.specs.Mirror.{assigned_of, one_assigned_of};
+ghost use Rattle.std.specs.Prelude.{◌≡◌};
+ghost use Rattle.jac_lang.specs.Mirror.{assigned_of};
 ghost use Rattle.jac_lang.specs.Turned.{turned};
 
 use crate::Expr;
-use jac_value::{Memory, Txt};
-use std::alloc::Global;
+use jac_value::Txt;
 use std::mem;
 
 /// A field and an expression: what the public sees of a guarded field, or what a `set` gives it.
@@ -34,16 +33,6 @@ impl Drop for Publics {
     }
 }
 
-impl Public {
-    pub fn copy(&self, alloc: Global) -> Result<Public, Memory>
-        ensures { IfOk result (λ p. one_assigned_of p ≡ one_assigned_of self.now) }
-    {
-        let field = self.field.copy(alloc)?;
-        let value = self.value.copy(alloc)?;
-        Ok(Public { field, value })
-    }
-}
-
 impl Publics {
     /// These fields turned round, before the others. It takes no memory.
     pub fn before(self, others: Publics) -> Publics
@@ -59,19 +48,5 @@ impl Publics {
             out = left;
             left = next;
         }
-    }
-
-    pub fn copy(&self, alloc: Global) -> Result<Publics, Memory>
-        ensures { IfOk result (λ p. assigned_of p ≡ assigned_of self.now) }
-    {
-        let mut back = Publics::End;
-        let mut left = self;
-        'copying: while let Publics::More(first, rest) = left {
-            let first = first.copy(alloc)?;
-            back = Publics::More(first, Box::new(alloc, back)?);
-            left = rest;
-        }
-        let copied = back.before(Publics::End);
-        Ok(copied)
     }
 }

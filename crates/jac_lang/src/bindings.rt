@@ -1,6 +1,6 @@
-ghost use Rattle.std.specs.Prelude.{◌≡◌, [], IfOk};
+ghost use Rattle.std.specs.Prelude.{◌≡◌, []};
 
-use jac_value::{Memory, Txt, Value};
+use jac_value::{Txt, Value};
 use std::alloc::Global;
 use std::marker::Model;
 
@@ -24,16 +24,6 @@ impl Model for PlainEnv {
     ghost Value = { List Item };
 
     ghost view = { λ e. e.bindings.items };
-}
-
-impl Binding {
-    pub fn copy(&self, alloc: Global) -> Result<Binding, Memory>
-        ensures { IfOk result (λ b. b ≡ self.now) }
-    {
-        let name = self.name.copy(alloc)?;
-        let bound_to = self.bound_to.copy(alloc)?;
-        Ok(Binding { name, bound_to })
-    }
 }
 
 impl PlainEnv {
@@ -61,17 +51,5 @@ impl PlainEnv {
         ensures { result.items ≡ self }
     {
         self.bindings
-    }
-
-    pub fn copy(&self, alloc: Global) -> Result<PlainEnv, Memory>
-        ensures { IfOk result (λ e. e ≡ self.now) }
-    {
-        let bindings = self.bindings.as_slice();
-        let mut copied = Vec::new(alloc);
-        'bindings: for binding in bindings {
-            let binding = binding.copy(alloc)?;
-            copied.push(binding)?;
-        }
-        Ok(PlainEnv { bindings: copied })
     }
 }

@@ -1,6 +1,6 @@
-ghost use Rattle.std.specs.Prelude.{◌≡◌, [], IfOk};
+ghost use Rattle.std.specs.Prelude.{◌≡◌, []};
 
-use jac_value::{Memory, Txt};
+use jac_value::Txt;
 use std::alloc::Global;
 use std::marker::Model;
 
@@ -35,32 +35,6 @@ impl Model for Fields {
     ghost view = { λ f. f.fields.items };
 }
 
-impl KindName {
-    pub fn copy(&self, alloc: Global) -> Result<KindName, Memory>
-        ensures { IfOk result (λ k. k ≡ self.now) }
-    {
-        match self {
-            KindName::Int => Ok(KindName::Int),
-            KindName::Text => Ok(KindName::Text),
-            KindName::Bool => Ok(KindName::Bool),
-            KindName::Ref(model) => {
-                let model = model.copy(alloc)?;
-                Ok(KindName::Ref(model))
-            }
-        }
-    }
-}
-
-impl Field {
-    pub fn copy(&self, alloc: Global) -> Result<Field, Memory>
-        ensures { IfOk result (λ f. f ≡ self.now) }
-    {
-        let name = self.name.copy(alloc)?;
-        let kind = self.kind.copy(alloc)?;
-        Ok(Field { name, kind })
-    }
-}
-
 impl Fields {
     pub fn empty(alloc: Global) -> Fields
         ensures { result ≡ [] }
@@ -86,17 +60,5 @@ impl Fields {
         ensures { result.items ≡ self }
     {
         self.fields
-    }
-
-    pub fn copy(&self, alloc: Global) -> Result<Fields, Memory>
-        ensures { IfOk result (λ f. f ≡ self.now) }
-    {
-        let fields = self.fields.as_slice();
-        let mut copied = Vec::new(alloc);
-        'fields: for field in fields {
-            let field = field.copy(alloc)?;
-            copied.push(field)?;
-        }
-        Ok(Fields { fields: copied })
     }
 }

@@ -11,8 +11,6 @@ mod pages;
 mod queries;
 mod schema;
 mod statements;
-#[cfg(test)]
-mod tests;
 
 pub use application::App;
 pub use assigned::{Public, Publics};

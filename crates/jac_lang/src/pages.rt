@@ -1,8 +1,7 @@
-ghost use Rattle.std.specs.Prelude.{◌≡◌, [], IfOk};
-ghost use Rattle.jac_lang.specs.Mirror.{page_of, pages_of};
+ghost use Rattle.std.specs.Prelude.{◌≡◌, []};
 
 use crate::{Fields, Stmts};
-use jac_value::{Memory, Txt};
+use jac_value::Txt;
 use std::alloc::Global;
 use std::marker::Model;
 
@@ -41,22 +40,6 @@ impl Model for Views {
     ghost view = { λ v. v.views.items };
 }
 
-impl View {
-    pub fn copy(&self, alloc: Global) -> Result<View, Memory>
-        ensures { IfOk result (λ v. page_of v ≡ page_of self.now) }
-    {
-        let path = self.path.copy(alloc)?;
-        let params = self.params.copy(alloc)?;
-        let body = self.body.copy(alloc)?;
-        Ok(View {
-            method: self.method,
-            path,
-            params,
-            body,
-        })
-    }
-}
-
 impl Views {
     pub fn empty(alloc: Global) -> Views
         ensures { result ≡ [] }
@@ -82,17 +65,5 @@ impl Views {
         ensures { result.items ≡ self }
     {
         self.views
-    }
-
-    pub fn copy(&self, alloc: Global) -> Result<Views, Memory>
-        ensures { IfOk result (λ v. pages_of v ≡ pages_of self.now) }
-    {
-        let views = self.views.as_slice();
-        let mut copied = Vec::new(alloc);
-        'views: for view in views {
-            let view = view.copy(alloc)?;
-            copied.push(view)?;
-        }
-        Ok(Views { views: copied })
     }
 }

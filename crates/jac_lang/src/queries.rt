@@ -1,9 +1,8 @@
-ghost use Rattle.std.specs.Prelude.{◌≡◌, IfOk};
+ghost use Rattle.std.specs.Prelude.{◌≡◌};
 ghost use Rattle.jac_lang.specs.Mirror.{binders_of};
 ghost use Rattle.jac_lang.specs.Turned.{turned};
 
-use jac_value::{Memory, Txt};
-use std::alloc::Global;
+use jac_value::Txt;
 use std::mem;
 
 /// A name for each record of a model in turn.
@@ -43,16 +42,6 @@ impl Drop for Binders {
     }
 }
 
-impl Binder {
-    pub fn copy(&self, alloc: Global) -> Result<Binder, Memory>
-        ensures { IfOk result (λ b. b ≡ self.now) }
-    {
-        let name = self.name.copy(alloc)?;
-        let model = self.model.copy(alloc)?;
-        Ok(Binder { name, model })
-    }
-}
-
 impl Binders {
     /// These binders turned round, before the others. It takes no memory.
     pub fn before(self, others: Binders) -> Binders
@@ -67,40 +56,6 @@ impl Binders {
             };
             out = left;
             left = next;
-        }
-    }
-
-    pub fn copy(&self, alloc: Global) -> Result<Binders, Memory>
-        ensures { IfOk result (λ b. binders_of b ≡ binders_of self.now) }
-    {
-        let mut back = Binders::End;
-        let mut left = self;
-        'copying: while let Binders::More(first, rest) = left {
-            let first = first.copy(alloc)?;
-            back = Binders::More(first, Box::new(alloc, back)?);
-            left = rest;
-        }
-        let copied = back.before(Binders::End);
-        Ok(copied)
-    }
-}
-
-impl Order {
-    pub fn copy(&self, alloc: Global) -> Result<Order, Memory>
-        ensures { IfOk result (λ o. o ≡ self.now) }
-    {
-        match self {
-            Order::Key => Ok(Order::Key),
-            Order::Up(name, field) => {
-                let name = name.copy(alloc)?;
-                let field = field.copy(alloc)?;
-                Ok(Order::Up(name, field))
-            }
-            Order::Down(name, field) => {
-                let name = name.copy(alloc)?;
-                let field = field.copy(alloc)?;
-                Ok(Order::Down(name, field))
-            }
         }
     }
 }

@@ -1,7 +1,7 @@
 ghost use Rattle.std.specs.Prelude.{◌≤◌, length};
 
 use crate::{Expr, Fields, Publics};
-use jac_value::{Memory, Txt};
+use jac_value::Txt;
 use std::alloc::Global;
 use std::marker::Model;
 
@@ -63,22 +63,8 @@ impl Model for Models {
     ghost invariant = { λ m. length m.models.items ≤ 64 };
 }
 
-impl Group {
-    ghost use Rattle.std.specs.Prelude.{◌≡◌, IfOk};
-    ghost use Rattle.jac_lang.specs.Mirror.{field_group_of};
-
-    pub fn copy(&self, alloc: Global) -> Result<Group, Memory>
-        ensures { IfOk result (λ g. field_group_of g ≡ field_group_of self.now) }
-    {
-        let guards = self.guards.copy(alloc)?;
-        let policy = self.policy.copy(alloc)?;
-        Ok(Group { guards, policy })
-    }
-}
-
 impl Groups {
-    ghost use Rattle.std.specs.Prelude.{◌≡◌, ◌≤◌, [], length, vec_len, IfOk};
-    ghost use Rattle.jac_lang.specs.Mirror.{groups_of};
+    ghost use Rattle.std.specs.Prelude.{◌≡◌, ◌≤◌, [], length, vec_len};
 
     pub fn empty(alloc: Global) -> Groups
         ensures { result ≡ [] }
@@ -108,41 +94,10 @@ impl Groups {
     {
         self.groups
     }
-
-    pub fn copy(&self, alloc: Global) -> Result<Groups, Memory>
-        ensures { IfOk result (λ g. groups_of g ≡ groups_of self.now) }
-    {
-        let groups = self.as_slice();
-        let mut copied = Vec::new(alloc);
-        'groups: for group in groups {
-            let group = group.copy(alloc)?;
-            copied.push(group)?;
-        }
-        Ok(Groups { groups: copied })
-    }
-}
-
-impl ModelDef {
-    ghost use Rattle.std.specs.Prelude.{◌≡◌, IfOk};
-    ghost use Rattle.jac_lang.specs.Mirror.{entity_of};
-
-    pub fn copy(&self, alloc: Global) -> Result<ModelDef, Memory>
-        ensures { IfOk result (λ m. entity_of m ≡ entity_of self.now) }
-    {
-        let name = self.name.copy(alloc)?;
-        let fields = self.fields.copy(alloc)?;
-        let groups = self.groups.copy(alloc)?;
-        Ok(ModelDef {
-            name,
-            fields,
-            groups,
-        })
-    }
 }
 
 impl Models {
-    ghost use Rattle.std.specs.Prelude.{◌≡◌, ◌≤◌, [], length, vec_len, IfOk};
-    ghost use Rattle.jac_lang.specs.Mirror.{entities_of};
+    ghost use Rattle.std.specs.Prelude.{◌≡◌, ◌≤◌, [], length, vec_len};
 
     pub fn empty(alloc: Global) -> Models
         ensures { result ≡ [] }
@@ -171,17 +126,5 @@ impl Models {
         ensures few { length self ≤ 64 }
     {
         self.models
-    }
-
-    pub fn copy(&self, alloc: Global) -> Result<Models, Memory>
-        ensures { IfOk result (λ m. entities_of m ≡ entities_of self.now) }
-    {
-        let models = self.as_slice();
-        let mut copied = Vec::new(alloc);
-        'models: for model in models {
-            let model = model.copy(alloc)?;
-            copied.push(model)?;
-        }
-        Ok(Models { models: copied })
     }
 }

@@ -11,6 +11,8 @@ mod io;
 #[cfg(test)]
 mod keep;
 #[cfg(test)]
+mod lang;
+#[cfg(test)]
 mod query;
 #[cfg(test)]
 mod route;

@@ -145,7 +145,10 @@ fn paths(rt: HostRuntime) {
     assert!(rt; !is_path(b"a"));
     assert!(rt; !is_path(b"/{this}"));
     assert_eq!(rt; segments_of(b"/a/{b}"), Some(b"a/{b}".as_slice()));
-    assert_eq!(rt; first_part(b"a/{b}", b'/'), (b"a".as_slice(), Some(b"{b}".as_slice())));
+    assert_eq!(rt;
+        first_part(b"a/{b}", b'/'),
+        (b"a".as_slice(), Some(b"{b}".as_slice()))
+    );
     assert_eq!(rt; segment_name(b"{b}"), Some(b"b".as_slice()));
     assert_eq!(rt; segment_name(b"b"), None);
 }

@@ -1,9 +1,8 @@
 ghost use Rattle.std.specs.Prelude.{◌≤◌, length, IfOk};
 
-use crate::{
-    App, Binder, Binders, Binding, Expr, Exprs, Field, Fields, Group, Groups, KindName, ModelDef,
-    Models, Op, Order, PlainEnv, Public, Publics, Query, Stmt, Stmts, Verb, View, Views, field_of,
-    group_of, kind_of, model_of,
+use jac_lang::{
+    App, Binding, Expr, Field, Fields, Group, Groups, KindName, ModelDef, Models, PlainEnv, Public,
+    Publics, Views, field_of, group_of, kind_of, model_of,
 };
 use jac_value::{Kind, Memory, Txt, Value};
 use std::alloc::Global;
@@ -57,50 +56,19 @@ fn models(alloc: Global) -> Result<Models, Memory> {
     Ok(Models::from_vec(listed))
 }
 
-fn views(alloc: Global) -> Result<Views, Memory> {
-    let path = Txt::from_str(alloc, "/")?;
-    let view = View {
-        method: Verb::Get,
-        path,
-        params: Fields::empty(alloc),
-        body: Stmts::End,
-    };
-    let mut listed = Vec::new(alloc);
-    listed.push(view)?;
-    Ok(Views::from_vec(listed))
-}
-
 fn app(alloc: Global) -> Result<App, Memory> {
     let models = models(alloc)?;
-    let views = views(alloc)?;
     Ok(App {
         viewer: None,
         models,
-        views,
-    })
-}
-
-fn part(alloc: Global, number: i64, rest: Exprs) -> Result<Exprs, Memory> {
-    let first = Box::new(alloc, Expr::Int(number))?;
-    let rest = Box::new(alloc, rest)?;
-    Ok(Exprs::More(first, rest))
-}
-
-fn query(alloc: Global) -> Result<Query, Memory> {
-    let name = Txt::from_str(alloc, "n")?;
-    let model = Txt::from_str(alloc, "note")?;
-    let end = Box::new(alloc, Binders::End)?;
-    Ok(Query {
-        binders: Binders::More(Binder { name, model }, end),
-        cond: Expr::Bool(true),
-        order: Order::Key,
+        views: Views::empty(alloc),
     })
 }
 
 #[test]
 fn numbers_found(rt: HostRuntime) -> Result<(), Fail> {
     let alloc = rt.alloc();
-    let app = app(alloc)?.copy(alloc)?;
+    let app = app(alloc)?;
     let note = Txt::from_str(alloc, "note")?;
     let owner = Txt::from_str(alloc, "owner")?;
     assert_eq!(rt; model_of(&app, &note), Some(0));
@@ -126,31 +94,6 @@ fn kinds_found(rt: HostRuntime) -> Result<(), Fail> {
 }
 
 #[test]
-fn expressions_copied(rt: HostRuntime) -> Result<(), Fail> {
-    let alloc = rt.alloc();
-    let parts = part(alloc, 1, part(alloc, 2, Exprs::End)?)?;
-    let cat = Box::new(alloc, Expr::Cat(parts))?;
-    let count = Box::new(alloc, Expr::Count(Box::new(alloc, query(alloc)?)?))?;
-    let copied = Expr::Two(Op::Eq, cat, count).copy(alloc)?;
-    assert!(rt; matches!(&copied, Expr::Two(Op::Eq, _, _)));
-    Ok(())
-}
-
-#[test]
-fn statements_copied(rt: HostRuntime) -> Result<(), Fail> {
-    let alloc = rt.alloc();
-    let body = Stmts::More(
-        Box::new(alloc, Stmt::Missing)?,
-        Box::new(alloc, Stmts::End)?,
-    );
-    let each = Box::new(alloc, Stmt::For(query(alloc)?, body))?;
-    let all = Stmts::More(each, Box::new(alloc, Stmts::End)?);
-    let copied = all.copy(alloc)?;
-    assert!(rt; matches!(&copied, Stmts::More(_, _)));
-    Ok(())
-}
-
-#[test]
 fn names_bound(rt: HostRuntime) -> Result<(), Fail> {
     let alloc = rt.alloc();
     let mut listed = Vec::new(alloc);
@@ -159,7 +102,7 @@ fn names_bound(rt: HostRuntime) -> Result<(), Fail> {
         name,
         bound_to: Value::Int(3),
     })?;
-    let bindings = PlainEnv::from_vec(listed).copy(alloc)?.into_vec();
+    let bindings = PlainEnv::from_vec(listed).into_vec();
     assert_eq!(rt; bindings.len(), 1);
     assert_eq!(rt; bindings[0].bound_to, Value::Int(3));
     assert_eq!(rt; PlainEnv::empty(alloc).as_slice().len(), 0);
