@@ -293,7 +293,9 @@ fn serve_line<O: Sink, U: AuditSink, K: Keeper, L: Ledger>(
         return Ok(served);
     }
     match read_ask(alloc, line) {
-        Ok(Some(event)) => match serve_event(alloc, app, served, &event, out, audit, keeper, splits) {
+        Ok(Some(event)) => match serve_event(
+            alloc, app, served, &event, out, audit, keeper, splits,
+        ) {
             Ok(()) => Ok(served + 1),
             Err(Failed) => Err(Stopped::Write),
         },

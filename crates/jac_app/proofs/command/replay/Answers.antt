@@ -55,8 +55,7 @@ returns-in-Err-read_file g c =
     let later = F.seen c.read_file-2.new.files in
     let lasts = c.in-Err-read_file.ensures.lasts in
     idle_ends out audit _
-    (unread_ends (sight files later out out audit audit k k) k.state command roles.Events (span middle later) c.in-Err-read_file.ending
-    (
+    (unread_ends (sight files later out out audit audit k k) k.state command roles.Events (span middle later) c.in-Err-read_file.ending (
       application_of c.in-Ok-open_app.app,
       record {
         bytes = c.in-Ok.bytes;
