@@ -5,11 +5,6 @@ top=$(cd "$(dirname "$(readlink -f "$0")")" && pwd)
 program=$top/crates/jac_main/out/jac_main
 if [ ! -x "$program" ]; then
     echo "jac: proving and building the program, once" >&2
-    log=$(mktemp)
-    if ! (cd "$top/crates/jac_main" && rt run) >"$log" 2>&1 </dev/null && [ ! -x "$program" ]; then
-        cat "$log" >&2
-        exit 70
-    fi
-    rm -f "$log"
+    python3 "$top/tools/build.py" jac_main || exit 70
 fi
 exec "$program" "$@"
