@@ -1,5 +1,5 @@
 -- One more line, after those that were served.
-use Rattle.std.proofs.Common.{◌≡◌, ◌∙◌, ap, sym, subst, ℕ, ◌+◌, ◌<◌, ◌≤◌, inl, inr, Option, Some, None, IfSome, Ok, Err, List, [], ◌∷◌, ◌++◌, length, append-nil, arith, true, false}
+use Rattle.std.proofs.Common.{◌≡◌, ◌∙◌, ap, sym, subst, ℕ, ◌+◌, ◌<◌, ◌≤◌, inl, inr, Option, Some, None, IfSome, Ok, Err, List, [], ◌∷◌, ◌++◌, length, append-nil, refl, arith, true, false}
 use denote.Ref.{Bor}
 use Rattle.jac_lang.specs.Syntax.{Application}
 use Rattle.jac_keep.specs.KeeperSeen.{KeeperSeen}
@@ -9,7 +9,7 @@ use Rattle.jac_app.specs.Log.{script_of}
 use Rattle.jac_forms.specs.Parts.{parts_left, option_now, length_left}
 use Rattle.jac_app.specs.Outside.{span}
 use Rattle.jac_app.specs.Serve.{AnswersLine, ServesAs, PutsServed}
-use Rattle.jac_app.proofs.ProgressLemmas.{Progress, pass_over, serve_one, finish_refused, finish_early, finish_torn}
+use Rattle.jac_app.proofs.ProgressLemmas.{Progress, pass_over, serve_one, finish_all, finish_refused, finish_early, finish_torn}
 
 nothing_more : (bytes more : List ℕ) → more ≡ [] → bytes ≡ bytes ++ more
 nothing_more bytes more none = sym (append-nil bytes) ∙ ap (λ (m : List ℕ). bytes ++ m) (sym none)
@@ -47,6 +47,13 @@ stop_at app a b c bytes left after lines served out audit line out_more audit_mo
     let event = h.1 in
     let entry = event.2 in
     finish_torn app a b c bytes left after lines served out audit line out_more audit_more event.0 entry.0 p parts h.0 event.1 entry.1 entry.2
+
+-- no line is left
+pub finish_left : (app : Application) (a b : KeeperSeen) (bytes : List ℕ) (left : Option (Bor (List ℕ))) (lines served : ℕ) (out audit : List ℕ)
+    → ((rest : Bor (List ℕ)) → left ≡ Some rest → ⊥) → Progress app (span a b) bytes (option_now left) lines served out audit
+    → ServesAs app (span a b) a.state bytes (Ok tt) out audit
+finish_left app a b bytes None lines served out audit none p = finish_all app a b bytes lines served out audit p
+finish_left app a b bytes (Some rest) lines served out audit none p = absurd (none rest refl)
 
 pub shorter_left : (after : Option (Bor (List ℕ))) (n : ℕ) → IfSome after (λ rest. length rest.now < n) → length_left (option_now after) ≤ n
 shorter_left None n h = omega arith

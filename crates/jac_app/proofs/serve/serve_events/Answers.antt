@@ -2,9 +2,9 @@ use Rattle.std.proofs.Common.{◌∙◌, ap, List, ℕ, arith, Option}
 use denote.Ref.{Bor}
 use Rattle.jac_lang.specs.Mirror.{application_of}
 use Rattle.jac_forms.specs.Parts.{parts_left, option_now, length_left}
-use Rattle.jac_app.proofs.LineLemmas.{go_on, stop_at, shorter_left}
-use Rattle.jac_app.proofs.OutsideLemmas.{Went-none, Went-then, failed_later}
-use Rattle.jac_app.proofs.ProgressLemmas.{start, finish_all}
+use Rattle.jac_app.proofs.LineLemmas.{go_on, stop_at, finish_left, shorter_left}
+use Rattle.jac_app.proofs.OutsideLemmas.{Went-none, Went-on, Went-then}
+use Rattle.jac_app.proofs.ProgressLemmas.{start}
 use Rattle.jac_app.proofs.serve.serve_events.Goals as goal
 
 pub lines-init : goal.lines-init
@@ -54,3 +54,12 @@ lines-preserved g c =
           _ _ (option_now c.first_part.result.1) _ _ _ _ _ _ _ _ progress parts line)
           before.went c.in-Ok.ensures.answered;
     }
+
+pub returns-clause-served : goal.returns-clause-served
+returns-clause-served g c =
+    let K = g.K.Keeper in
+    Went-on _ _ _
+    (λ o a progress.
+    finish_left (application_of c.args.app.now) (K.seen c.args.keeper.now) (K.seen c.lines.keeper) c.args.bytes.now c.lines.left _ _ o a
+    c.in_default.not-Some progress)
+    c.lines.invariant.went
