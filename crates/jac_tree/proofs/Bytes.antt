@@ -3,7 +3,8 @@ use Rattle.std.proofs.Common.{◌≡◌, ◌≢◌, ◌⊎◌, inl, inr, ℕ, su
 use Rattle.std.proofs.lemmas.Bool.{cases_lt}
 use Rattle.std.proofs.lemmas.Bool.Decides.{nat_tests}
 use Rattle.std.proofs.lemmas.Str.{encode_ascii, inside_one, length-encode, len_utf8_bounds}
-use Rattle.jac_tree.specs.Grammar.{is_white, is_atom_byte, is_plain_byte, escaped}
+use Rattle.jac_tree.specs.Grammar.{is_white, is_plain_byte, escaped}
+use Rattle.jac_value.specs.Names.{is_atom_byte}
 use Rattle.jac_tree.proofs.Moves.{are_plain_bytes, both_true}
 
 pub white_small : (b : ℕ) → is_white b ≡ true → b < 128

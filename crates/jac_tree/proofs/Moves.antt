@@ -1,6 +1,7 @@
 -- What each byte makes of the ways to complete a document.
 use Rattle.std.proofs.Common.{◌≡◌, ◌≢◌, ◌↔◌, ◌⊎◌, inl, inr, ℕ, ◌+◌, ◌≤◌, Bool, true, false, ◌&&◌, List, [], ◌∷◌, ◌++◌, length, Some, None, refl, sym, ◌∙◌, ap, subst, arith, append_assoc, append-nil, length-append, if◌then◌else◌, max}
-use Rattle.jac_tree.specs.Grammar.{is_white, skip, is_atom_byte, are_atom_bytes, begins_with_atom_byte, is_plain_byte, escaped, PieceAt, PiecesAt, TreeAt, TreesAt}
+use Rattle.jac_tree.specs.Grammar.{is_white, skip, are_atom_bytes, begins_with_atom_byte, is_plain_byte, escaped, PieceAt, PiecesAt, TreeAt, TreesAt}
+use Rattle.jac_value.specs.Names.{is_atom_byte}
 use Rattle.jac_tree.specs.Plain.{PlainTree, PlainTrees, onto, nesting, nesting_all}
 use Rattle.jac_tree.specs.Plain.PlainTree.{atom, text, list}
 use Rattle.jac_tree.specs.Plain.PlainTrees.{none, more}

@@ -9,7 +9,8 @@ use Rattle.jac_tree.specs.declared.fault.TreeFault.{TreeFault}
 use Rattle.jac_tree.specs.declared.fault.TreeFault.TheVariants as faults
 use Rattle.jac_tree.specs.declared.tree.Tree.{Tree}
 use Rattle.jac_tree.specs.declared.tree.Trees.{Trees}
-use Rattle.jac_tree.specs.Grammar.{is_white, skip, is_atom_byte, begins_with_atom_byte, is_plain_byte, escaped, PieceAt, PiecesAt, TreeAt, TreesAt}
+use Rattle.jac_tree.specs.Grammar.{is_white, skip, begins_with_atom_byte, is_plain_byte, escaped, PieceAt, PiecesAt, TreeAt, TreesAt}
+use Rattle.jac_value.specs.Names.{is_atom_byte}
 use Rattle.jac_tree.specs.Mirror.{plain, plain_all}
 use Rattle.jac_tree.specs.Plain.{PlainTree, PlainTrees, onto, nesting, nesting_all}
 use Rattle.jac_tree.specs.Plain.PlainTree.{atom, text, list}

@@ -1,6 +1,7 @@
 -- A text spells at most one tree, and no list of it has more trees than the text has bytes.
 use Rattle.std.proofs.Common.{◌≡◌, inl, inr, ℕ, ◌+◌, ◌<◌, ◌≤◌, true, false, List, [], ◌∷◌, ◌++◌, length, Some, refl, sym, ◌∙◌, ap, subst, arith, length-append}
-use Rattle.jac_tree.specs.Grammar.{skip, is_white, is_atom_byte, are_atom_bytes, begins_with_atom_byte, is_plain_byte, escaped, PieceAt, PiecesAt, TreeAt, TreesAt, Spells}
+use Rattle.jac_tree.specs.Grammar.{skip, is_white, are_atom_bytes, begins_with_atom_byte, is_plain_byte, escaped, PieceAt, PiecesAt, TreeAt, TreesAt, Spells}
+use Rattle.jac_value.specs.Names.{is_atom_byte}
 use Rattle.jac_tree.specs.Plain.{PlainTree, PlainTrees, listed, widest, widest_all}
 use Rattle.jac_tree.specs.Plain.PlainTree.{atom, text, list}
 use Rattle.jac_tree.specs.Plain.PlainTrees.{none, more}

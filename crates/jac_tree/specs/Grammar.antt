@@ -1,6 +1,7 @@
 -- Which bytes spell which tree.
-use Rattle.std.specs.Prelude.{◌≡◌, ◌≢◌, ◌+◌, ◌<◌, ◌≤◌, ℕ, Bool, true, false, not, ◌&&◌, ◌||◌, ◌==◌, ◌⊎◌, List, [], ◌∷◌, ◌++◌, length, take, slice_index, Option, Some, None, if◌then◌else◌, IsUtf8}
-use Rattle.std.specs.Char.{is_ascii_alphanumeric}
+use Rattle.std.specs.Prelude.{◌≡◌, ◌≢◌, ◌+◌, ◌<◌, ◌≤◌, ℕ, Bool, true, false, not, ◌||◌, ◌==◌, ◌⊎◌, List, [], ◌∷◌, ◌++◌, length, take, slice_index, Option, Some, None, if◌then◌else◌, IsUtf8}
+use Rattle.std.specs.List.{list_all}
+use Rattle.jac_value.specs.Names.{is_atom_byte}
 use Rattle.jac_tree.specs.Plain.{PlainTree, PlainTrees, nesting}
 
 -- space, tab, line feed or carriage return
@@ -12,13 +13,8 @@ abbrev pub skip : List ℕ → List ℕ
 skip [] = []
 skip (b ∷ bs) = if is_white b then skip bs else b ∷ bs
 
--- an ASCII letter or digit, `_` or `-`
-abbrev pub is_atom_byte : ℕ → Bool
-is_atom_byte b = is_ascii_alphanumeric b || b == 95 || b == 45
-
 abbrev pub are_atom_bytes : List ℕ → Bool
-are_atom_bytes [] = true
-are_atom_bytes (b ∷ bs) = is_atom_byte b && are_atom_bytes bs
+are_atom_bytes a = list_all is_atom_byte a
 
 abbrev pub begins_with_atom_byte : List ℕ → Bool
 begins_with_atom_byte [] = false

@@ -8,6 +8,3 @@ mod tree;
 pub use fault::TreeFault;
 pub use read::{read_tree, spells_one_tree};
 pub use tree::{Tree, Trees};
-
-#[cfg(test)]
-mod tests;

@@ -2,10 +2,11 @@ ghost use Rattle.std.specs.Prelude.{◌≡◌, ◌≢◌, List, false, OnOk, ◌
 ghost use Rattle.std.specs.Str.{IsValidUpTo};
 ghost use Rattle.jac_tree.specs.declared.fault.TreeFault.{TreeFault as AnyFault};
 ghost use Rattle.jac_tree.specs.Faults.{IsFaultOf};
-ghost use Rattle.jac_tree.specs.Grammar.{Accepted, Spells, IsStrayAt, IsDeepAt, IsUnclosedAt, is_white, is_atom_byte, escaped};
-ghost use Rattle.jac_tree.specs.Mirror.{plain, plain_all};
+ghost use Rattle.jac_tree.specs.Grammar.{Accepted, Spells, IsStrayAt, IsDeepAt, IsUnclosedAt, is_white, escaped};
+ghost use Rattle.jac_value.specs.Names.{is_atom_byte};
+ghost use Rattle.jac_tree.specs.Mirror.{plain};
 ghost use Rattle.jac_tree.specs.Plain.{PlainTree, PlainTrees, nesting, widest};
-ghost use Rattle.jac_tree.specs.Reading.{open_lists, Completes, Steps, Goes, Settles, Finishes, Reads, AreShallow, IsShallowPlace, IsShallow};
+ghost use Rattle.jac_tree.specs.Reading.{open_lists, Steps, Goes, Settles, Finishes, Reads, AreShallow, IsShallowPlace, IsShallow};
 
 use crate::{Tree, TreeFault, Trees};
 use jac_value::{Memory, Txt};

@@ -1,9 +1,8 @@
-ghost use Rattle.std.specs.Prelude.{◌≡◌, IfOk};
-ghost use Rattle.jac_tree.specs.Mirror.{plain, plain_all};
+ghost use Rattle.std.specs.Prelude.{◌≡◌};
+ghost use Rattle.jac_tree.specs.Mirror.{plain_all};
 ghost use Rattle.jac_tree.specs.Plain.{onto};
 
-use jac_value::{Memory, Txt};
-use std::alloc::Global;
+use jac_value::Txt;
 use std::mem;
 
 /// A tree as its text spells it.
@@ -39,28 +38,6 @@ impl Drop for Trees {
     }
 }
 
-impl Tree {
-    #[cycle(copy)]
-    pub fn copy(&self, alloc: Global) -> Result<Tree, Memory>
-        ensures { IfOk result (λ t. plain t ≡ plain self.now) }
-    {
-        match self {
-            Tree::Atom(text) => {
-                let text = text.copy(alloc)?;
-                Ok(Tree::Atom(text))
-            }
-            Tree::Text(text) => {
-                let text = text.copy(alloc)?;
-                Ok(Tree::Text(text))
-            }
-            Tree::List(items) => {
-                let items = items.copy(alloc)?;
-                Ok(Tree::List(items))
-            }
-        }
-    }
-}
-
 impl Trees {
     /// These trees turned round, and then those of `over`; no memory is taken.
     pub fn before(self, over: Trees) -> Trees
@@ -76,20 +53,5 @@ impl Trees {
             out = left;
             left = next;
         }
-    }
-
-    #[cycle(copy)]
-    pub fn copy(&self, alloc: Global) -> Result<Trees, Memory>
-        ensures { IfOk result (λ ts. plain_all ts ≡ plain_all self.now) }
-    {
-        let mut back = Trees::End;
-        let mut left = self;
-        'copying: while let Trees::More(first, rest) = left {
-            let one = Box::new(alloc, first.copy(alloc)?)?;
-            back = Trees::More(one, Box::new(alloc, back)?);
-            left = rest;
-        }
-        let copied = back.before(Trees::End);
-        Ok(copied)
     }
 }

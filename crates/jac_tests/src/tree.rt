@@ -1,4 +1,4 @@
-use crate::{Tree, TreeFault, Trees, read_tree};
+use jac_tree::{Tree, TreeFault, Trees, read_tree};
 use std::alloc::{AllocError, Global};
 use std::test::Fail;
 
@@ -44,8 +44,6 @@ fn repeated(alloc: Global, piece: &[u8], times: usize) -> Result<Vec<u8>, AllocE
 fn reads_a_list(rt: HostRuntime) -> Result<(), Fail> {
     let tree = read_tree(rt.alloc(), b" (a  \"b\")")?;
     assert!(rt; is_pair(&tree));
-    let copied = tree.copy(rt.alloc()).ok();
-    assert!(rt; copied.as_ref().is_some_and(|t| is_pair(t)));
     Ok(())
 }
 
