@@ -6,7 +6,7 @@ use Rattle.jac_keep.specs.KeeperSeen.{KeeperSeen}
 use Rattle.jac_app.specs.declared.serve.Stopped.{Stopped}
 use Rattle.jac_app.specs.declared.serve.Stopped.TheVariants as stops
 use Rattle.jac_app.specs.Log.{script_of}
-use Rattle.jac_forms.specs.Parts.{parts_left, option_now, length_left}
+use Rattle.jac_value.specs.Parts.{parts_left, option_now, length_left}
 use Rattle.jac_app.specs.Outside.{span}
 use Rattle.jac_app.specs.Serve.{AnswersLine, ServesAs, PutsServed}
 use Rattle.jac_app.proofs.ProgressLemmas.{Progress, pass_over, serve_one, finish_all, finish_refused, finish_early, finish_torn}

@@ -8,7 +8,7 @@ use Rattle.jac_rows.specs.declared.state.State.{State}
 use Rattle.jac_keep.specs.KeeperSeen.{KeeperSeen}
 use Rattle.jac_plain.specs.Models.{kinds_of}
 use Rattle.jac_plain.specs.Requests.{Worlds}
-use Rattle.jac_forms.specs.Parts.{parts_left}
+use Rattle.jac_value.specs.Parts.{parts_left}
 use Rattle.jac_engine.specs.Prepared.{worlds_of}
 use Rattle.jac_engine.specs.Start.{IsStart}
 use Rattle.jac_app.specs.declared.line.Event.{Event}

@@ -6,7 +6,6 @@ mod application;
 mod command;
 mod line;
 mod outside;
-mod parts;
 mod reply;
 mod serve;
 mod start;

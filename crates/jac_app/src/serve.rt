@@ -13,7 +13,6 @@ ghost use Rattle.jac_app.specs.Serve.{IsAnswerMade, AnswersAsk, AnswersLine, Ser
 
 use crate::line::{Event, read_ask};
 use crate::outside::{put, put_four};
-use crate::parts::first_part;
 use crate::reply::{audit_line, is_head, reply_line};
 use itoa::Buffer;
 use jac_engine::{Answer, Ask, commit, prepare};
@@ -21,7 +20,7 @@ use jac_io::{AuditSink, Failed, Sink};
 use jac_keep::{Keeper, Stop};
 use jac_lang::App;
 use jac_route::{pairs_of, viewer_id};
-use jac_value::{Id, Memory, Txt};
+use jac_value::{Id, Memory, Txt, first_part};
 use jac_world::Steps;
 use std::alloc::Global;
 use std::sync::ledger::Ledger;

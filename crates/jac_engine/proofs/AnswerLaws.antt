@@ -13,7 +13,7 @@ use Rattle.jac_rows.specs.declared.plain.PlainState.{PlainState}
 use Rattle.jac_plain.specs.Statements.{Run}
 use Rattle.jac_rows.specs.declared.row.Row.{Row}
 use Rattle.jac_rows.specs.declared.state.State.{State}
-use Rattle.jac_plain.specs.Requests.{Visit, method_in, run_of, page, page_of, after, after_by}
+use Rattle.jac_plain.specs.Requests.{Visit, method_in, page, page_of, after, after_by}
 use Rattle.jac_plain.specs.Models.{are_without_groups}
 use Rattle.jac_plain.proofs.ShownLaws.{same_run}
 use Rattle.jac_keep.specs.declared.alteration.Alteration.{Alteration}

@@ -18,7 +18,7 @@ use Rattle.jac_engine.specs.Found.{Found, found}
 use Rattle.jac_engine.specs.Prepared.{IsPrepared, applied_if, worlds_of}
 use Rattle.jac_engine.specs.Served.{is_showing, are_showing, is_making, are_making, is_served_body, are_served}
 use Rattle.jac_engine.specs.Start.{IsStart}
-use Rattle.jac_engine.specs.Viewed.{IsPreparedBy, IsPreparedFor, refused}
+use Rattle.jac_engine.specs.Viewed.{IsPreparedBy, IsPreparedFor}
 use Rattle.jac_engine.proofs.AnswerLaws.{served_body}
 use Rattle.jac_engine.specs.declared.answer.Answer.{Answer}
 use Rattle.jac_engine.specs.declared.answer.Ask.{Ask}

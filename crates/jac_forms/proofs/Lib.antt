@@ -1,5 +1,9 @@
-pub mod Integers
 pub mod QueryShape
 pub mod Made
 pub mod Bodies
 pub mod Gathered
+pub mod Chains
+pub mod Spans
+pub mod WrittenExpressions
+pub mod WrittenStatements
+pub mod Written

@@ -9,7 +9,8 @@ use Rattle.jac_lang.specs.declared.field_kinds.KindName.TheVariants as kinds
 use Rattle.jac_lang.specs.declared.pages.Verb.{Verb}
 use Rattle.jac_lang.specs.declared.pages.Verb.TheVariants as verbs
 use Rattle.jac_tree.specs.Plain.{PlainTree, PlainTrees}
-use Rattle.jac_forms.specs.Names.{count, is_word, is_path, name_of_tree, tail_of, each_of_trees, up_to}
+use Rattle.jac_value.specs.Paths.{is_path}
+use Rattle.jac_forms.specs.Names.{count, is_word, name_of_tree, tail_of, each_of_trees, up_to}
 use Rattle.jac_forms.specs.Expressions.{one_of_trees}
 use Rattle.jac_forms.specs.Statements.{Body, assigned_of_tree, statements_of_trees}
 

@@ -9,7 +9,8 @@ use Rattle.jac_lang.specs.declared.queries.Binder.{Binder}
 use Rattle.jac_lang.specs.declared.queries.Order.{Order}
 use Rattle.jac_lang.specs.declared.queries.Order.TheVariants as orders
 use Rattle.jac_tree.specs.Plain.{PlainTree, PlainTrees}
-use Rattle.jac_forms.specs.Names.{count, is_word, name_of_tree, named, integer_of}
+use Rattle.jac_value.specs.Values.{integer_of}
+use Rattle.jac_forms.specs.Names.{count, is_word, name_of_tree, named}
 use Rattle.jac_forms.specs.declared.queries.Most.{Most}
 use Rattle.jac_forms.specs.declared.queries.Most.TheVariants as mosts
 use Rattle.jac_forms.specs.declared.words.Form.{Form}

@@ -1,6 +1,5 @@
 pub mod Names
 pub mod Refusal
 pub mod Expressions
-pub mod Parts
 pub mod Statements
 pub mod Applications

@@ -1,5 +1,6 @@
-ghost use Rattle.std.specs.Prelude.{◌≡◌, ◌≤◌, Some, None, IfOk, IfErr, IsTrue, min, codes};
+ghost use Rattle.std.specs.Prelude.{◌≡◌, ◌+◌, ◌<◌, ◌≤◌, ◌^◌, Some, None, IfOk, IfErr, IsTrue, length, min, codes};
 ghost use Rattle.jac_lang.specs.Mirror.{entities_of, pages_of, application_of};
+ghost use Rattle.jac_lang.specs.Written.{IsWritten};
 ghost use Rattle.jac_tree.specs.Mirror.{plain, plain_all};
 ghost use Rattle.jac_forms.specs.Names.{each_of_trees};
 ghost use Rattle.jac_forms.specs.Refusal.{refuses};
@@ -13,7 +14,7 @@ use crate::words::{is_word, tail_of};
 use crate::{FormFault, Want, What};
 use jac_lang::{App, Models, Views};
 use jac_tree::{Tree, Trees};
-use jac_value::Txt;
+use jac_value::{Memory, Txt};
 use std::alloc::Global;
 
 // The models and the views of an application.
@@ -23,9 +24,11 @@ struct Items {
     views: Views,
 }
 
-/// The application that a tree writes, or the tree's first fault.
+/// The application that a tree writes, or the tree's first fault. An application of 2^32 views or more is
+/// answered as want of memory.
 pub fn app_of(alloc: Global, tree: &Tree) -> Result<App, FormFault>
     ensures value { IfOk result (λ a. application_of_tree (plain tree.now) ≡ Some (application_of a)) }
+    ensures written { IfOk result (λ a. IsWritten (application_of a)) }
     ensures none { IfErr result (λ f. IsTrue (refuses f) → application_of_tree (plain tree.now) ≡ None) }
 {
     match tail_of(tree, b"app") {
@@ -39,6 +42,7 @@ pub fn app_of(alloc: Global, tree: &Tree) -> Result<App, FormFault>
 
 fn read_app(alloc: Global, place: &Place<'_>, trees: &Trees) -> Result<App, FormFault>
     ensures value { IfOk result (λ a. application_of_trees (plain_all trees.now) ≡ Some (application_of a)) }
+    ensures few { IfOk result (λ a. length a.views < 2 ^ 32) }
     ensures none { IfErr result (λ f. IsTrue (refuses f) → application_of_trees (plain_all trees.now) ≡ None) }
 {
     let models = count_models(trees);
@@ -76,6 +80,7 @@ fn is_headed(tree: &Tree, word: &[u8]) -> bool
 fn read_viewer_and_items(alloc: Global, place: &Place<'_>, trees: &Trees) -> Result<App, FormFault>
     requires { headed (codes "model") (plain_all trees.now) ≤ 64 }
     ensures value { IfOk result (λ a. application_of_items (plain_all trees.now) ≡ Some (application_of a)) }
+    ensures few { IfOk result (λ a. length a.views < 2 ^ 32) }
     ensures none { IfErr result (λ f. IsTrue (refuses f) → application_of_items (plain_all trees.now) ≡ None) }
 {
     if let Trees::More(first, rest) = trees {
@@ -119,6 +124,7 @@ fn read_items(
 ) -> Result<Items, FormFault>
     requires { headed (codes "model") (plain_all trees.now) ≤ 64 }
     ensures value { IfOk result (λ is. items_of_trees (plain_all trees.now) ≡ Some (items (entities_of is.models) (pages_of is.views))) }
+    ensures few { IfOk result (λ is. length is.views < 2 ^ 32) }
     ensures none { IfErr result (λ f. IsTrue (refuses f) → items_of_trees (plain_all trees.now) ≡ None) }
 {
     let mut models = Vec::new(alloc);
@@ -150,6 +156,7 @@ fn read_views(
     trees: &Trees,
 ) -> Result<Views, FormFault>
     ensures value { IfOk result (λ vs. each_of_trees page_of_tree (plain_all trees.now) ≡ Some (pages_of vs)) }
+    ensures few { IfOk result (λ vs. length vs < 2 ^ 32) }
     ensures none { IfErr result (λ f. IsTrue (refuses f) → each_of_trees page_of_tree (plain_all trees.now) ≡ None) }
 {
     let mut views = Vec::new(alloc);
@@ -158,8 +165,18 @@ fn read_views(
     'views: while let Trees::More(one, rest) = left {
         let view = read_view(alloc, &place.child(number), one)?;
         views.push(view)?;
-        number = number.saturating_add(1);
+        number = next_number(number)?;
         left = rest;
     }
     Ok(Views::from_vec(views))
+}
+
+// No tree is there for a number past the last of 32 bits.
+fn next_number(number: u32) -> Result<u32, Memory>
+    ensures { IfOk result (λ next. (next ≡ number + 1) × (next < 2 ^ 32)) }
+{
+    match number.checked_add(1) {
+        Some(next) => Ok(next),
+        None => Err(Memory),
+    }
 }

@@ -2,18 +2,18 @@ ghost use Rattle.std.specs.Prelude.{◌≡◌, Some, None, IfOk, IfErr, IsTrue};
 ghost use Rattle.jac_lang.specs.Mirror.{expression_of, expressions_of, question_of};
 ghost use Rattle.jac_lang.specs.Syntax.{Expression};
 ghost use Rattle.jac_tree.specs.Mirror.{plain, plain_all};
-ghost use Rattle.jac_forms.specs.Names.{integer_of};
+ghost use Rattle.jac_value.specs.Values.{integer_of};
 ghost use Rattle.jac_forms.specs.Expressions.{expression_of_list, atom_expression, number_or_name, none_of_trees, expression_of_tree, expression_of_form, operands_of, one_of_trees, two_of_trees, pick_of_trees, get_of_trees, expressions_of_trees, query_of_trees, sum_of_trees, question_of_tree, most_binders};
 ghost use Rattle.jac_forms.specs.Refusal.{refuses};
 
-use crate::names::{integer_of, is_name, read_name};
+use crate::names::read_name;
 use crate::place::Place;
 use crate::queries::{Most, has_few, read_binders, read_order};
 use crate::words::{Form, form_of, is_word};
 use crate::{FormFault, Want};
 use jac_lang::{Expr, Exprs, Op, Query};
 use jac_tree::{Tree, Trees};
-use jac_value::Txt;
+use jac_value::{Txt, integer_of, is_name};
 use std::alloc::Global;
 
 /// The expression that a tree writes, or the tree's first fault.

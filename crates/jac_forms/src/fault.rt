@@ -1,4 +1,4 @@
-ghost use Rattle.std.specs.Prelude.{◌≡◌, [], IfOk};
+ghost use Rattle.std.specs.Prelude.{◌≡◌, []};
 ghost use Rattle.jac_forms.specs.declared.fault.FormFault.TheVariants as faults;
 
 use jac_value::Memory;
@@ -45,14 +45,6 @@ impl Path {
         ensures { result.items ≡ self }
     {
         self.numbers
-    }
-
-    pub fn copy(&self, alloc: Global) -> Result<Path, Memory>
-        ensures { IfOk result (λ p. p ≡ self.now) }
-    {
-        let mut numbers = Vec::new(alloc);
-        numbers.extend_from_slice(self.numbers.as_slice())?;
-        Ok(Path { numbers })
     }
 }
 

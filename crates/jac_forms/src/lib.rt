@@ -9,16 +9,11 @@ mod fault;
 mod fields;
 mod models;
 mod names;
-mod paths;
 mod place;
 mod queries;
-#[cfg(test)]
-mod shown;
 mod sites;
 mod statements;
 mod steps;
-#[cfg(test)]
-mod tests;
 mod views;
 mod words;
 

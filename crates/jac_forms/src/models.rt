@@ -1,4 +1,4 @@
-ghost use Rattle.std.specs.Prelude.{◌≡◌, ◌++◌, ◌∷◌, [], Some, None, IfOk, IfErr, OnOk, IsTrue, nat_le};
+ghost use Rattle.std.specs.Prelude.{◌≡◌, Some, None, IfOk, IfErr, IsTrue, nat_le};
 ghost use Rattle.jac_lang.specs.Mirror.{assigned_of, expression_of, field_group_of, groups_of, entity_of};
 ghost use Rattle.jac_tree.specs.Mirror.{plain, plain_all};
 ghost use Rattle.jac_forms.specs.Names.{count, each_of_trees};
@@ -14,7 +14,6 @@ use crate::words::tail_of;
 use crate::{FormFault, Want, What};
 use jac_lang::{Expr, Group, Groups, ModelDef, Publics};
 use jac_tree::{Tree, Trees};
-use jac_value::Memory;
 use std::alloc::Global;
 
 pub fn read_model(alloc: Global, place: &Place<'_>, tree: &Tree) -> Result<ModelDef, FormFault>

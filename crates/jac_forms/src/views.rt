@@ -2,10 +2,9 @@ ghost use Rattle.std.specs.Prelude.{◌≡◌, Some, None, IfOk, IfErr, IsTrue};
 ghost use Rattle.jac_lang.specs.Mirror.{page_of};
 ghost use Rattle.jac_tree.specs.Mirror.{plain, plain_all};
 ghost use Rattle.jac_forms.specs.Refusal.{refuses};
-ghost use Rattle.jac_forms.specs.Applications.{method_of_tree, page_of_trees, page_of_tree};
+ghost use Rattle.jac_forms.specs.Applications.{method_of_tree, path_of_tree, page_of_trees, page_of_tree};
 
 use crate::fields::read_params;
-use crate::paths::read_path;
 use crate::place::Place;
 use crate::sites::count_sites;
 use crate::statements::read_stmts;
@@ -13,6 +12,7 @@ use crate::words::{is_word, tail_of};
 use crate::{FormFault, Want, What};
 use jac_lang::{Verb, View};
 use jac_tree::{Tree, Trees};
+use jac_value::{Txt, is_path};
 use std::alloc::Global;
 
 pub fn read_view(alloc: Global, place: &Place<'_>, tree: &Tree) -> Result<View, FormFault>
@@ -68,5 +68,22 @@ fn read_method(alloc: Global, place: &Place<'_>, tree: &Tree) -> Result<Verb, Fo
         Ok(Verb::Post)
     } else {
         Err(place.form(alloc, Want::Method))
+    }
+}
+
+fn read_path(alloc: Global, place: &Place<'_>, tree: &Tree) -> Result<Txt, FormFault>
+    ensures value { IfOk result (λ path. path_of_tree (plain tree.now) ≡ Some path) }
+    ensures none { IfErr result (λ f. IsTrue (refuses f) → path_of_tree (plain tree.now) ≡ None) }
+{
+    match tree {
+        Tree::Text(text) => {
+            if is_path(text.as_bytes()) {
+                let path = text.copy(alloc)?;
+                Ok(path)
+            } else {
+                Err(place.form(alloc, Want::Path))
+            }
+        }
+        _ => Err(place.form(alloc, Want::Path)),
     }
 }

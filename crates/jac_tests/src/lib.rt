@@ -7,6 +7,8 @@ mod expr;
 #[cfg(test)]
 mod facet;
 #[cfg(test)]
+mod forms;
+#[cfg(test)]
 mod io;
 #[cfg(test)]
 mod keep;
@@ -18,6 +20,8 @@ mod query;
 mod route;
 #[cfg(test)]
 mod rows;
+#[cfg(test)]
+mod tree;
 #[cfg(test)]
 mod value;
 #[cfg(test)]

@@ -1,7 +1,7 @@
 use Rattle.std.proofs.Common.{◌∙◌, ap, List, ℕ, arith, Option}
 use denote.Ref.{Bor}
 use Rattle.jac_lang.specs.Mirror.{application_of}
-use Rattle.jac_forms.specs.Parts.{parts_left, option_now, length_left}
+use Rattle.jac_value.specs.Parts.{parts_left, option_now, length_left}
 use Rattle.jac_app.proofs.LineLemmas.{go_on, stop_at, finish_left, shorter_left}
 use Rattle.jac_app.proofs.OutsideLemmas.{Went-none, Went-on, Went-then}
 use Rattle.jac_app.proofs.ProgressLemmas.{start}

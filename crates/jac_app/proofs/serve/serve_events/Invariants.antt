@@ -2,7 +2,7 @@ use Rattle.std.proofs.Common.{◌≡◌, ◌+◌, ◌≤◌, ◌<◌, ◌^◌, l
 use Rattle.jac_lang.specs.Mirror.{application_of}
 use Rattle.jac_engine.specs.Served.{are_served}
 use Rattle.jac_engine.specs.Start.{IsStart}
-use Rattle.jac_forms.specs.Parts.{option_now, length_left}
+use Rattle.jac_value.specs.Parts.{option_now, length_left}
 use Rattle.jac_app.specs.Outside.{Went, sinks, span}
 use Rattle.jac_app.proofs.ProgressLemmas.{Progress}
 use Rattle.jac_app.proofs.serve.serve_events.Given as goal

@@ -1,4 +1,4 @@
-use Rattle.std.proofs.Common.{◌≡◌, refl, subst}
+use Rattle.std.proofs.Common.{rules, ap, arith, length, ◌≡◌, refl, subst}
 use Rattle.jac_lang.specs.Mirror.{page_of, pages_of}
 use Rattle.jac_tree.specs.Plain.{PlainTrees}
 use Rattle.jac_tree.specs.Mirror.{plain, plain_all}
@@ -12,8 +12,15 @@ views-preserved c =
     let left : plain_all c.views.left.now ≡ PlainTrees.more (plain c.deref.result.now) (plain_all c.deref-left.result.now) =
     rw (c.in-More.is, ← c.deref.ensures, ← c.deref-left.ensures) refl in
     let all = each_of_trees page_of_tree (plain_all c.args.trees.now) in
-    made-more page_of_tree (pages_of c.views.views.items) (pages_of c.push.new.self.items) (page_of c.in_ok-view.view)
-    (plain c.deref.result.now) (plain_all c.deref-left.result.now) all
-    (seen-pushed page_of pages_of refl (λ _ _. refl) c.views.views.items c.push.new.self.items c.in_ok-view.view c.in_ok-push.ensures.items)
-    c.in_ok-view.ensures.value
-    (subst (λ (ts : PlainTrees). made_before (pages_of c.views.views.items) (each_of_trees page_of_tree ts) ≡ all) left c.views.invariant)
+    record {
+      few = search rules;
+      fits = search rules;
+      made = made-more page_of_tree (pages_of c.views.views.items) (pages_of c.push.new.self.items) (page_of c.in_ok-view.view)
+          (plain c.deref.result.now) (plain_all c.deref-left.result.now) all
+          (seen-pushed page_of pages_of refl (λ _ _. refl) c.views.views.items c.push.new.self.items c.in_ok-view.view c.in_ok-push.ensures.items)
+          c.in_ok-view.ensures.value
+          (subst (λ (ts : PlainTrees). made_before (pages_of c.views.views.items) (each_of_trees page_of_tree ts) ≡ all) left c.views.invariant.made);
+    }
+
+pub returns-clause-few : goal.returns-clause-few
+returns-clause-few c = let n = ap length c.from_vec.ensures in omega (arith, n, c.views.invariant.few, c.views.invariant.fits)

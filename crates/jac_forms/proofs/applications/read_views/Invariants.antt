@@ -1,4 +1,4 @@
-use Rattle.std.proofs.Common.{◌≡◌}
+use Rattle.std.proofs.Common.{◌≡◌, ◌<◌, ◌≤◌, ◌^◌, length}
 use Rattle.jac_lang.specs.Mirror.{pages_of}
 use Rattle.jac_tree.specs.Mirror.{plain_all}
 use Rattle.jac_forms.specs.Applications.{page_of_tree}
@@ -6,6 +6,10 @@ use Rattle.jac_forms.specs.Names.{each_of_trees}
 use Rattle.jac_forms.proofs.Made.{made_before}
 use Rattle.jac_forms.proofs.applications.read_views.Given as goal
 
--- the views so far, before those of the rest, are those of all
+-- the views so far, before those of the rest, are those of all; and there are fewer than the next has as its number
 abbrev pub invariant-views : goal.invariant-views
-invariant-views l = made_before (pages_of l.views.items) (each_of_trees page_of_tree (plain_all l.left)) ≡ each_of_trees page_of_tree (plain_all l.trees)
+invariant-views l = record {
+  few : length l.views.items ≤ l.number;
+  fits : l.number < 2 ^ 32;
+  made : made_before (pages_of l.views.items) (each_of_trees page_of_tree (plain_all l.left)) ≡ each_of_trees page_of_tree (plain_all l.trees);
+}
