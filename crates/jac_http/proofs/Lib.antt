@@ -1,0 +1,9 @@
+pub mod Blanks
+pub mod Lengths
+pub mod Numbers
+pub mod Places
+pub mod ReadingLaws
+pub mod Rooms
+pub mod Takes
+pub mod Texts
+pub mod Tokens

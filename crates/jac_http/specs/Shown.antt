@@ -1,0 +1,13 @@
+-- What a head shows, whose headers are places in its bytes.
+use Rattle.std.specs.Prelude.{map}
+use Rattle.httparse.specs.Spans.{header_bytes}
+use Rattle.jac_http.specs.declared.head.Head.{Head}
+use Rattle.jac_http.specs.Heads.{HeadParts}
+
+abbrev pub parts_shown : Head → HeadParts
+parts_shown head = record {
+  method = head.method.now;
+  target = head.target.now;
+  minor = head.minor;
+  headers = map (header_bytes head.bytes.now) head.headers.items;
+}

@@ -1,0 +1,199 @@
+ghost use Rattle.std.specs.Prelude.{◌≡◌, ◌++◌, [], false, true, None, if◌then◌else◌, IfOk, OnOk, IsSome, codes, decimal, length};
+ghost use Rattle.std.specs.Option.{option_copied};
+ghost use Rattle.jac_http.specs.Replies.{phrase_of, status_text, field_line, field_line_if, media_type, body_of, status_line, content_lines, further_lines, reply_bytes, status_of_fixed};
+
+use itoa::Buffer;
+use jac_value::{Bytes, Memory, Txt};
+use std::alloc::Global;
+
+/// A reply that stands ready, so that it takes no memory.
+#[derive(Clone, Copy, Debug, PartialEq, Eq)]
+pub enum Fixed {
+    /// A growth was refused.
+    Memory500,
+    /// The keeper had a fault.
+    Keeper503,
+}
+
+/// The bytes of a reply. Without a page the body is the status and its phrase, whatever `body` is. The reply
+/// to a request of the method HEAD has no body, and its length all the same.
+pub fn write_reply(
+    alloc: Global,
+    status: u16,
+    location: Option<&Txt>,
+    allow: Option<&Txt>,
+    body: &Bytes,
+    page: bool,
+    head: bool,
+    close: bool,
+) -> Result<Bytes, Memory>
+    requires { IsSome (phrase_of status) }
+    ensures { IfOk result (λ b. b ≡ reply_bytes status (option_copied location.entry) (option_copied allow.entry) body.now page head close) }
+{
+    let fixed = fixed_body(alloc, status)?;
+    let body = chosen(page, body.as_slice(), fixed.as_slice());
+    let mut reply = Vec::new(alloc);
+    put_status_line(status, &mut reply)?;
+    put_content(page, body.len(), &mut reply)?;
+    put_further(location, allow, close, &mut reply)?;
+    reply.extend_from_slice(b"\r\n")?;
+    put_body(head, body, &mut reply)?;
+    Ok(Bytes::from_vec(reply))
+}
+
+#[tactic(auto, unfolding(crate::specs::Replies::status_line))]
+fn put_status_line(status: u16, to: &mut Vec<u8>) -> Result<(), Memory>
+    requires { IsSome (phrase_of status) }
+    ensures { OnOk result (to.new.items ≡ to.old.items ++ status_line status) }
+{
+    to.extend_from_slice(b"HTTP/1.1 ")?;
+    put_status(status, to)?;
+    to.extend_from_slice(b"\r\n")?;
+    Ok(())
+}
+
+#[tactic(auto, unfolding(crate::specs::Replies::further_lines))]
+fn put_further(
+    location: Option<&Txt>,
+    allow: Option<&Txt>,
+    close: bool,
+    to: &mut Vec<u8>,
+) -> Result<(), Memory>
+    ensures { OnOk result (to.new.items ≡ to.old.items ++ further_lines (option_copied location.entry) (option_copied allow.entry) close) }
+{
+    put_field_if(b"Location", location, to)?;
+    put_field_if(b"Allow", allow, to)?;
+    put_close(close, to)?;
+    Ok(())
+}
+
+fn chosen<'b>(page: bool, body: &'b [u8], fixed: &'b [u8]) -> &'b [u8]
+    ensures { result.now ≡ (if page then body.now else fixed.now) }
+{
+    if page { body } else { fixed }
+}
+
+fn put_close(close: bool, to: &mut Vec<u8>) -> Result<(), Memory>
+    ensures { OnOk result (to.new.items ≡ to.old.items ++ (if close then field_line (codes "Connection") (codes "close") else [])) }
+{
+    if close {
+        put_field(b"Connection", b"close", to)
+    } else {
+        Ok(())
+    }
+}
+
+fn put_body(head: bool, body: &[u8], to: &mut Vec<u8>) -> Result<(), Memory>
+    ensures { OnOk result (to.new.items ≡ to.old.items ++ (if head then [] else body.now)) }
+{
+    if head {
+        return Ok(());
+    }
+    to.extend_from_slice(body)?;
+    Ok(())
+}
+
+fn fixed_body(alloc: Global, status: u16) -> Result<Vec<u8>, Memory>
+    requires { IsSome (phrase_of status) }
+    ensures { IfOk result (λ b. b.items ≡ status_text status ++ codes "\n") }
+{
+    let mut body = Vec::new(alloc);
+    put_status(status, &mut body)?;
+    body.extend_from_slice(b"\n")?;
+    Ok(body)
+}
+
+fn put_status(status: u16, to: &mut Vec<u8>) -> Result<(), Memory>
+    requires { IsSome (phrase_of status) }
+    ensures { OnOk result (to.new.items ≡ to.old.items ++ status_text status) }
+{
+    let phrase = phrase(status).unwrap();
+    let mut digits = Buffer::new();
+    to.extend_from_slice(digits.format(status).as_bytes())?;
+    to.extend_from_slice(b" ")?;
+    to.extend_from_slice(phrase.as_bytes())?;
+    Ok(())
+}
+
+#[tactic(auto, unfolding(crate::specs::Replies::phrase_of))]
+fn phrase(status: u16) -> Option<&'static str>
+    ensures { option_copied result ≡ phrase_of status }
+{
+    match status {
+        200 => Some("OK"),
+        303 => Some("See Other"),
+        400 => Some("Bad Request"),
+        404 => Some("Not Found"),
+        405 => Some("Method Not Allowed"),
+        413 => Some("Content Too Large"),
+        415 => Some("Unsupported Media Type"),
+        431 => Some("Request Header Fields Too Large"),
+        500 => Some("Internal Server Error"),
+        501 => Some("Not Implemented"),
+        503 => Some("Service Unavailable"),
+        507 => Some("Insufficient Storage"),
+        _ => None,
+    }
+}
+
+#[tactic(auto, unfolding(crate::specs::Replies::content_lines))]
+fn put_content(page: bool, length: usize, to: &mut Vec<u8>) -> Result<(), Memory>
+    ensures { OnOk result (to.new.items ≡ to.old.items ++ content_lines page length) }
+{
+    put_field(b"Content-Type", media_type(page), to)?;
+    let mut digits = Buffer::new();
+    put_field(b"Content-Length", digits.format(length).as_bytes(), to)
+}
+
+fn media_type(page: bool) -> &'static [u8]
+    ensures { result.now ≡ media_type page }
+{
+    if page {
+        b"text/html; charset=utf-8"
+    } else {
+        b"text/plain; charset=utf-8"
+    }
+}
+
+fn put_field_if(name: &[u8], value: Option<&Txt>, to: &mut Vec<u8>) -> Result<(), Memory>
+    ensures { OnOk result (to.new.items ≡ to.old.items ++ field_line_if name.now (option_copied value.entry)) }
+{
+    match value {
+        None => Ok(()),
+        Some(value) => put_field(name, value.as_bytes(), to),
+    }
+}
+
+fn put_field(name: &[u8], value: &[u8], to: &mut Vec<u8>) -> Result<(), Memory>
+    ensures { OnOk result (to.new.items ≡ to.old.items ++ field_line name.now value.now) }
+{
+    to.extend_from_slice(name)?;
+    to.extend_from_slice(b": ")?;
+    to.extend_from_slice(value)?;
+    to.extend_from_slice(b"\r\n")?;
+    Ok(())
+}
+
+/// A whole reply that closes its connection. Where it answers a request of the method HEAD it has no body.
+pub fn fixed_reply(status: Fixed, head: bool) -> &'static [u8]
+    ensures { result.now ≡ reply_bytes (status_of_fixed status) None None [] false head true }
+{
+    match (status, head) {
+        (Fixed::Memory500, true) => MEMORY_HEAD,
+        (Fixed::Memory500, false) => MEMORY,
+        (Fixed::Keeper503, true) => KEEPER_HEAD,
+        (Fixed::Keeper503, false) => KEEPER,
+    }
+}
+
+const MEMORY_HEAD: &[u8] =
+    b"HTTP/1.1 500 Internal Server Error\r\nContent-Type: text/plain; charset=utf-8\r\nContent-Length: 26\r\nConnection: close\r\n\r\n";
+
+const MEMORY: &[u8] =
+    b"HTTP/1.1 500 Internal Server Error\r\nContent-Type: text/plain; charset=utf-8\r\nContent-Length: 26\r\nConnection: close\r\n\r\n500 Internal Server Error\n";
+
+const KEEPER_HEAD: &[u8] =
+    b"HTTP/1.1 503 Service Unavailable\r\nContent-Type: text/plain; charset=utf-8\r\nContent-Length: 24\r\nConnection: close\r\n\r\n";
+
+const KEEPER: &[u8] =
+    b"HTTP/1.1 503 Service Unavailable\r\nContent-Type: text/plain; charset=utf-8\r\nContent-Length: 24\r\nConnection: close\r\n\r\n503 Service Unavailable\n";
