@@ -1,0 +1,11 @@
+use Rattle.std.proofs.Common.{drop}
+use Rattle.jac_keep.specs.Worked.{state_of}
+use Rattle.jac_plain.specs.Records.{tables_after, without}
+use Rattle.jac_write.proofs.LeavesLaws.{LoopWrites, IsWriting}
+use Rattle.jac_write.proofs.deletion.delete_leaves.Given as goal
+
+abbrev pub invariant-leaves : goal.invariant-leaves
+invariant-leaves g l =
+    let k = g.K.Keeper in
+    LoopWrites k.seen l.fn.work l.work l.model
+    (IsWriting (λ w v. tables_after l.model v without) l.leaves (drop l.leaf-index l.leaves) (state_of k.seen l.fn.work) (state_of k.seen l.work))

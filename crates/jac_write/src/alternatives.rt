@@ -1,0 +1,82 @@
+//! The alternatives of a record, parted by a guard.
+ghost use Rattle.std.specs.Prelude.{◌≡◌, ℕ, Bool, [], ◌∷◌, ◌++◌, if◌then◌else◌, All, IfOk, OnOk};
+ghost use Rattle.jac_rows.specs.declared.row.Row.{Row as Seen};
+ghost use Rattle.jac_world.specs.World.{holds};
+ghost use Rattle.jac_write.specs.Writes.{cells_at, each_holding};
+
+use crate::memory::from_world;
+use jac_rows::Row;
+use jac_value::{Cells, Id, Memory};
+use jac_world::Guard;
+use std::alloc::Global;
+
+/// The alternatives where the guard doesn't hold, as rows of the record.
+#[tactic(auto, using(crate::proofs::CellsLaws::outside_is))]
+pub(crate) fn outside(
+    alloc: Global,
+    guard: &Guard,
+    id: Id,
+    rows: &[Row],
+) -> Result<Vec<Row>, Memory>
+    ensures own { IfOk result (λ v. All (λ (r : Seen). r.id ≡ id) v.items) }
+    ensures shown { IfOk result (λ v. (w : ℕ → Bool) → cells_at w v.items ≡ (if holds w guard.now then [] else cells_at w rows.now)) }
+{
+    let mut out = Vec::new(alloc);
+    'rows: for row in rows {
+        add_outside(alloc, guard, id, row, &mut out)?;
+    }
+    Ok(out)
+}
+
+#[tactic(auto, using(crate::proofs::CellsLaws::each_parted))]
+fn add_outside(
+    alloc: Global,
+    guard: &Guard,
+    id: Id,
+    row: &Row,
+    out: &mut Vec<Row>,
+) -> Result<(), Memory>
+    requires { All (λ (r : Seen). r.id ≡ id) out.old.items }
+    ensures own { OnOk result (All (λ (r : Seen). r.id ≡ id) out.new.items) }
+    ensures shown { OnOk result ((w : ℕ → Bool) → cells_at w out.new.items ≡ cells_at w out.old.items ++ (if holds w guard.now then [] else cells_at w (row.now ∷ []))) }
+{
+    let parts = from_world(row.guard.less(alloc, guard))?;
+    add_parts(alloc, parts.into_vec(), id, &row.cells, out)?;
+    Ok(())
+}
+
+// Adds an alternative under each of the guards.
+fn add_parts(
+    alloc: Global,
+    guards: Vec<Guard>,
+    id: Id,
+    cells: &Cells,
+    out: &mut Vec<Row>,
+) -> Result<(), Memory>
+    requires { All (λ (r : Seen). r.id ≡ id) out.old.items }
+    ensures own { OnOk result (All (λ (r : Seen). r.id ≡ id) out.new.items) }
+    ensures shown { OnOk result ((w : ℕ → Bool) → cells_at w out.new.items ≡ cells_at w out.old.items ++ each_holding w guards.items cells.now) }
+{
+    'guards: for guard in guards {
+        add_row(alloc, guard, id, cells, out)?;
+    }
+    Ok(())
+}
+
+/// Adds an alternative of the record.
+#[tactic(auto, using(crate::proofs::CellsLaws::cells_pushed))]
+pub(crate) fn add_row(
+    alloc: Global,
+    guard: Guard,
+    id: Id,
+    cells: &Cells,
+    out: &mut Vec<Row>,
+) -> Result<(), Memory>
+    requires { All (λ (r : Seen). r.id ≡ id) out.old.items }
+    ensures own { OnOk result (All (λ (r : Seen). r.id ≡ id) out.new.items) }
+    ensures shown { OnOk result ((w : ℕ → Bool) → cells_at w out.new.items ≡ cells_at w out.old.items ++ (if holds w guard then cells.now ∷ [] else [])) }
+{
+    let cells = cells.copy(alloc)?;
+    out.push(Row { id, guard, cells })?;
+    Ok(())
+}

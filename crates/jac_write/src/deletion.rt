@@ -1,0 +1,121 @@
+//! Records taken away under a path condition.
+ghost use Rattle.std.specs.Prelude.{◌≡◌, ◌<◌, ℕ, Bool, length, slice_set, OnOk, IsTrue};
+ghost use Rattle.jac_value.specs.Ids.{model_of_id};
+ghost use Rattle.jac_facet.specs.Shape.{at};
+ghost use Rattle.jac_rows.specs.Tables.{rows_of};
+ghost use Rattle.jac_keep.specs.Worked.{state_of, IsTold, WritesWork};
+ghost use Rattle.jac_plain.specs.Records.{tables_after, without};
+ghost use Rattle.jac_write.specs.Writes.{Writes, WritesEach, StaysTold};
+
+use crate::alternatives::outside;
+use jac_facet::Facet;
+use jac_keep::{Keeper, Stop, Work, sound_after_change};
+use jac_rows::Rows;
+use jac_value::{Id, Value, id_model};
+use jac_world::Guard;
+use std::alloc::Global;
+
+// Takes the alternatives of a record away where the guard holds.
+fn delete_alternatives<K: Keeper>(
+    alloc: Global,
+    work: &mut Work<'_, K>,
+    guard: &Guard,
+    id: Id,
+) -> Result<(), Stop>
+    requires attached { IsTrue (K.seen work.old.keeper.now).attached }
+    requires a_table { IsTrue (K.seen work.old.keeper.now).tells → model_of_id id < length (K.seen work.old.keeper.now).state.tables }
+    ensures left { IsTold K.seen work.new → OnOk result (Writes (λ w ts. slice_set ts (model_of_id id) (without id (rows_of ts (model_of_id id)))) guard.now (state_of K.seen work.old) (state_of K.seen work.new)) }
+    ensures told { OnOk result (StaysTold K.seen work.old work.new) }
+    ensures keeps { WritesWork K.seen work.old work.new result }
+{
+    sound_after_change();
+    let rows = work.one(alloc, id)?;
+    if rows.as_slice().is_empty() {
+        return Ok(());
+    }
+    let kept = outside(alloc, guard, id, rows.as_slice())?;
+    work.replace(id, Rows::from_vec(kept))?;
+    Ok(())
+}
+
+// Takes the record away where the guard holds; nothing where it is none of the model.
+fn delete_record<K: Keeper>(
+    alloc: Global,
+    work: &mut Work<'_, K>,
+    guard: &Guard,
+    model: u8,
+    id: Id,
+) -> Result<(), Stop>
+    requires attached { IsTrue (K.seen work.old.keeper.now).attached }
+    requires a_table { IsTrue (K.seen work.old.keeper.now).tells → model < length (K.seen work.old.keeper.now).state.tables }
+    ensures left { IsTold K.seen work.new → OnOk result (Writes (λ w ts. slice_set ts model (without id (rows_of ts model))) guard.now (state_of K.seen work.old) (state_of K.seen work.new)) }
+    ensures told { OnOk result (StaysTold K.seen work.old work.new) }
+    ensures keeps { WritesWork K.seen work.old work.new result }
+{
+    if id_model(id) != model {
+        return Ok(());
+    }
+    delete_alternatives(alloc, work, guard, id)?;
+    Ok(())
+}
+
+// Takes the record that the value refers to away where the guard holds.
+fn delete_where<K: Keeper>(
+    alloc: Global,
+    work: &mut Work<'_, K>,
+    guard: &Guard,
+    model: u8,
+    target: &Value,
+) -> Result<(), Stop>
+    requires attached { IsTrue (K.seen work.old.keeper.now).attached }
+    requires a_table { IsTrue (K.seen work.old.keeper.now).tells → model < length (K.seen work.old.keeper.now).state.tables }
+    ensures left { IsTold K.seen work.new → OnOk result (Writes (λ w. tables_after model target.now without) guard.now (state_of K.seen work.old) (state_of K.seen work.new)) }
+    ensures told { OnOk result (StaysTold K.seen work.old work.new) }
+    ensures keeps { WritesWork K.seen work.old work.new result }
+{
+    match target {
+        Value::Ref(Some(id)) => {
+            delete_record(alloc, work, guard, model, *id)?;
+            Ok(())
+        }
+        _ => Ok(()),
+    }
+}
+
+fn delete_leaves<K: Keeper>(
+    alloc: Global,
+    work: &mut Work<'_, K>,
+    model: u8,
+    leaves: &[(Guard, Value)],
+) -> Result<(), Stop>
+    requires attached { IsTrue (K.seen work.old.keeper.now).attached }
+    requires a_table { IsTrue (K.seen work.old.keeper.now).tells → model < length (K.seen work.old.keeper.now).state.tables }
+    ensures left { IsTold K.seen work.new → OnOk result (WritesEach (λ w v. tables_after model v without) leaves.now (state_of K.seen work.old) (state_of K.seen work.new)) }
+    ensures told { OnOk result (StaysTold K.seen work.old work.new) }
+    ensures keeps { WritesWork K.seen work.old work.new result }
+{
+    'leaves: for leaf in leaves {
+        delete_where(alloc, work, &leaf.0, model, &leaf.1)?;
+    }
+    Ok(())
+}
+
+/// Takes the record that the target refers to away, wherever the path condition holds. Nothing happens where
+/// the target is no record of the model, or one that isn't there.
+pub fn delete<K: Keeper>(
+    alloc: Global,
+    work: &mut Work<'_, K>,
+    pc: &Guard,
+    model: u8,
+    target: &Facet<Value>,
+) -> Result<(), Stop>
+    requires attached { IsTrue (K.seen work.old.keeper.now).attached }
+    requires a_table { IsTrue (K.seen work.old.keeper.now).tells → model < length (K.seen work.old.keeper.now).state.tables }
+    ensures left { IsTold K.seen work.new → OnOk result (Writes (λ w. tables_after model (at w target.now) without) pc.now (state_of K.seen work.old) (state_of K.seen work.new)) }
+    ensures told { OnOk result (StaysTold K.seen work.old work.new) }
+    ensures keeps { WritesWork K.seen work.old work.new result }
+{
+    let leaves = target.leaves_under(alloc, pc)?;
+    delete_leaves(alloc, work, model, leaves.as_slice())?;
+    Ok(())
+}
