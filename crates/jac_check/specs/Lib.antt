@@ -1,0 +1,7 @@
+pub mod Verdict
+pub mod Scope
+pub mod Expressions
+pub mod Statements
+pub mod Applications
+pub mod Mirror
+pub mod Found
