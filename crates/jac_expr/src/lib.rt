@@ -14,6 +14,8 @@ mod sorting;
 mod standing;
 mod texts;
 
+pub use binding::bind_tuple;
 pub use env::Env;
 pub use evaluation::{eval, tuples};
 pub use jac_plain::Ctx;
+pub use operations::is_true;

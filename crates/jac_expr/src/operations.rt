@@ -58,7 +58,7 @@ fn int_of(value: &Value) -> i64
     }
 }
 
-pub(crate) fn is_true(value: &Value) -> bool
+pub fn is_true(value: &Value) -> bool
     ensures { result ≡ is_true value.now }
 {
     match value {

@@ -1,10 +1,19 @@
 -- What a write leaves, under every assignment.
-use Rattle.std.specs.Prelude.{◌≡◌, ℕ, Bool, if◌then◌else◌, IsTrue, List, [], ◌∷◌, ◌++◌, zero, suc}
+use Rattle.std.specs.Prelude.{◌≡◌, ℕ, ◌+◌, ◌<◌, ◌==◌, Bool, true, false, if◌then◌else◌, IsTrue, List, [], ◌∷◌, ◌++◌, zero, suc, slice_set}
 use Rattle.jac_value.specs.declared.value.Value.{Value}
+use Rattle.jac_value.specs.Ids.{model_of_id, number_of_id}
 use Rattle.jac_world.specs.World.{holds}
 use Rattle.jac_facet.specs.Leaves.{seen}
+use Rattle.jac_facet.specs.Shape.{Shape, at}
+use Rattle.jac_lang.specs.declared.field_kinds.Field.{Field}
+use Rattle.jac_lang.specs.Lookup.{fields_at, kind_at}
+use Rattle.jac_lang.specs.Syntax.{Entity}
+use Rattle.jac_plain.specs.Expressions.{stands}
+use Rattle.jac_plain.specs.Records.{fitting, plain_row, shielded, every_field, changed, tables_with, tables_after}
+use Rattle.jac_plain.specs.World.{record_with}
 use Rattle.jac_rows.specs.Good.{IsSound}
 use Rattle.jac_rows.specs.Project.{project_at}
+use Rattle.jac_rows.specs.Tables.{rows_of}
 use Rattle.jac_rows.specs.declared.plain.PlainRow.{PlainRow}
 use Rattle.jac_rows.specs.declared.row.Row.{Row}
 use Rattle.jac_rows.specs.declared.state.State.{State}
@@ -62,3 +71,47 @@ WritesEach step leaves old new = (n : ℕ) → IsSound (numbered n old) → Writ
 abbrev pub only : ℕ → Row → List (List Row)
 only zero row = (row ∷ []) ∷ []
 only (suc m) row = [] ∷ only m row
+
+-- cells in the order of their fields, from one field on, each as its field holds it
+abbrev pub fitted_from : List Entity → List Field → ℕ → List Value → List Value
+fitted_from models fields f [] = []
+fitted_from models fields f (v ∷ vs) = fitting (kind_at models fields f) v ∷ fitted_from models fields (f + 1) vs
+
+-- the cells of a new record, as they are stored
+abbrev pub made_cells : List Entity → (ℕ → Bool) → ℕ → ℕ → List Value → List Value
+made_cells models w m id cells = shielded models w m id every_field (fitted_from models (fields_at models m) 0 cells)
+
+-- the tables with a new record of these cells
+abbrev pub tables_made : List Entity → (ℕ → Bool) → ℕ → ℕ → List Value → PlainTables → PlainTables
+tables_made models w m id cells tables = tables_with m (plain_row id (made_cells models w m id cells)) tables
+
+-- what a create leaves of tables that are sound, where the record comes before the next number and none of its
+-- id stands wherever the path condition holds
+abbrev pub Creates : ℕ → ((ℕ → Bool) → PlainTables → PlainTables) → List (ℕ × Bool) → State → State → Type 0
+Creates id step pc old new =
+    (n : ℕ) → number_of_id id < n
+    → ((w : ℕ → Bool) → holds w pc ≡ true → stands (record_with id (rows_of (project_at w old).tables (model_of_id id))) ≡ false)
+    → IsSound (numbered n old) → Written n step pc old new
+
+-- what the facets of fields show, each with its field's place
+abbrev pub sets_at : (ℕ → Bool) → List (ℕ × Shape Value) → List (ℕ × Value)
+sets_at w [] = []
+sets_at w (s ∷ sets) = (s.0, at w s.1) ∷ sets_at w sets
+
+-- the cells with these put in their places, each as its field holds it
+abbrev pub put_in : List Entity → List Field → List (ℕ × Value) → List Value → List Value
+put_in models fields [] cells = cells
+put_in models fields (s ∷ sets) cells = put_in models fields sets (slice_set cells s.0 (fitting (kind_at models fields s.0) s.1))
+
+-- one of the sets is of the field at this place
+abbrev pub is_put : List (ℕ × Value) → ℕ → Bool
+is_put [] f = false
+is_put (s ∷ sets) f = if s.0 == f then true else is_put sets f
+
+-- the cells of a record that stands, as they are stored once these are put in
+abbrev pub remade_cells : List Entity → (ℕ → Bool) → ℕ → ℕ → List (ℕ × Value) → List Value → List Value
+remade_cells models w m id sets old = shielded models w m id (is_put sets) (put_in models (fields_at models m) sets old)
+
+-- the tables with these cells put into the record that the value refers to
+abbrev pub tables_remade : List Entity → (ℕ → Bool) → ℕ → Value → List (ℕ × Value) → PlainTables → PlainTables
+tables_remade models w m target sets tables = tables_after m target (λ id rows. changed id (remade_cells models w m id sets) rows) tables

@@ -2,11 +2,17 @@
 #![tactic(auto)]
 
 mod alternatives;
+mod creation;
 mod deletion;
 mod fit;
 mod memory;
 mod public_values;
 mod schema;
+mod sets;
+mod updating;
 
+pub use creation::create;
 pub use deletion::delete;
 pub use public_values::public_value;
+pub use sets::Sets;
+pub use updating::update;

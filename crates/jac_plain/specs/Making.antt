@@ -1,0 +1,61 @@
+-- What the creates of a run ask of it: each makes a record that is new.
+use Rattle.std.specs.Prelude.{◌≡◌, ℕ, ◌<◌, ◌++◌, Bool, true, false, ⊤, List, [], ◌∷◌, Option, Some, None}
+use Rattle.jac_value.specs.declared.value.Value.{Value}
+use Rattle.jac_value.specs.declared.value.Value.TheVariants as value
+use Rattle.jac_value.specs.Ids.{record_id}
+use Rattle.jac_lang.specs.declared.bindings.Binding.{Binding}
+use Rattle.jac_lang.specs.declared.queries.Binder.{Binder}
+use Rattle.jac_lang.specs.Lookup.{model_place}
+use Rattle.jac_lang.specs.Syntax.{Assigned, Statement, Statements}
+use Rattle.jac_rows.specs.declared.plain.PlainRow.{PlainRow}
+use Rattle.jac_rows.specs.Tables.{rows_of}
+use Rattle.jac_plain.specs.Expressions.{answers, bound, binding, is_true, stands}
+use Rattle.jac_plain.specs.Statements.{Setting, Run, world_of, value_in, scoped, for_each, with_record, plain_row, created_cells, leaves, leaves_all}
+use Rattle.jac_plain.specs.World.{record_with}
+
+-- a record of this request: the request comes before the next number, and no record of the id stands
+pub record IsNew (next number id : ℕ) (rows : List PlainRow) : Type 0 where
+  pub numbered : number < next
+  pub absent : stands (record_with id rows) ≡ false
+
+-- with these bindings
+abbrev pub with_env : List Binding → Run → Run
+with_env env r = record r { env = env }
+
+abbrev pub MayChoose : Bool → (Run → Type 0) → (Run → Type 0) → Run → Type 0
+MayChoose true First Second r = First r
+MayChoose false First Second r = Second r
+
+-- for each tuple, in the run that the ones before it leave
+abbrev pub MayEach : List Binder → (Run → Run) → (Run → Type 0) → List (List ℕ) → Run → Type 0
+MayEach bs body May [] r = ⊤
+MayEach bs body May (ids ∷ tuples) r = May (with_env (bound bs ids r.env) r) × MayEach bs body May tuples (scoped (bound bs ids r.env) body r)
+
+-- the record is new, and then what the body asks with its name bound
+abbrev pub MayCreate : ℕ → Setting → List ℕ → Option ℕ → ℕ → List Assigned → (Run → Type 0) → Run → Type 0
+MayCreate next k name None site cells May r = ⊤
+MayCreate next k name (Some m) site cells May r =
+    let id = record_id k.number site m in
+    let made = with_record m (plain_row id (created_cells k m id cells r)) r in
+    IsNew next k.number id (rows_of r.tables m) × May (with_env (made.env ++ binding name (value.Ref (Some id)) ∷ []) made)
+
+abbrev mutual
+  -- each create that the statement comes to makes a record that is new
+  pub MayRun : ℕ → Setting → Statement → Run → Type 0
+  MayRun next k (Statement.put e) r = ⊤
+  MayRun next k (Statement.escape e) r = ⊤
+  MayRun next k (Statement.bind x e body) r = MayRunAll next k body (with_env (r.env ++ binding x (value_in k e r) ∷ []) r)
+  MayRun next k (Statement.assign x e) r = ⊤
+  MayRun next k (Statement.branch c first second) r = MayChoose (is_true (value_in k c r)) (MayRunAll next k first) (MayRunAll next k second) r
+  MayRun next k (Statement.each q body) r = MayEach q.binders (leaves_all k body) (MayRunAll next k body) (answers (world_of k r) q r.env) r
+  MayRun next k (Statement.create x m site cells body) r = MayCreate next k x (model_place k.models m) site cells (MayRunAll next k body) r
+  MayRun next k (Statement.update m e cells) r = ⊤
+  MayRun next k (Statement.delete m e) r = ⊤
+  MayRun next k Statement.missing r = ⊤
+  MayRun next k (Statement.redirect e) r = ⊤
+  MayRun next k (Statement.template t) r = ⊤
+  MayRun next k (Statement.block body) r = MayRunAll next k body r
+
+  pub MayRunAll : ℕ → Setting → Statements → Run → Type 0
+  MayRunAll next k Statements.none r = ⊤
+  MayRunAll next k (Statements.more s rest) r = MayRun next k s r × MayRunAll next k rest (leaves k s r)

@@ -1,0 +1,4 @@
+pub mod Drafts
+pub mod Pages
+pub mod Runs
+pub mod Places

@@ -1,0 +1,124 @@
+-- What a statement leaves, under all assignments at once.
+use Rattle.std.specs.Prelude.{◌≡◌, ℕ, ◌<◌, ◌^◌, Bool, true, false, if◌then◌else◌, List, [], ◌∷◌, ◌++◌, ⊤}
+use Rattle.jac_value.specs.declared.value.Value.{Value}
+use Rattle.jac_world.specs.World.{holds}
+use Rattle.jac_facet.specs.Leaves.{seen}
+use Rattle.jac_facet.specs.Shape.{Shape}
+use Rattle.jac_lang.specs.declared.application.App.{App}
+use Rattle.jac_lang.specs.Mirror.{application_of}
+use Rattle.jac_lang.specs.Syntax.{Statement, Statements}
+use Rattle.jac_rows.specs.Good.{IsSound}
+use Rattle.jac_rows.specs.Project.{project_at}
+use Rattle.jac_rows.specs.declared.state.State.{State}
+use Rattle.jac_plain.specs.declared.context.Ctx.{Ctx}
+use Rattle.jac_plain.specs.declared.page.Piece.{Piece}
+use Rattle.jac_lang.specs.declared.queries.Binder.{Binder}
+use Rattle.jac_plain.specs.Expressions.{bound, binding, is_true}
+use Rattle.jac_plain.specs.Making.{MayRun, MayRunAll, MayChoose, with_env}
+use Rattle.jac_plain.specs.Statements.{Setting, Run, choose, scoped, with_binding, leaves, leaves_all}
+use Rattle.jac_query.specs.Live.{live}
+use Rattle.jac_query.specs.declared.tuple.Tuple.{Tuple}
+use Rattle.jac_expr.specs.Seen.{env_at}
+use Rattle.jac_write.specs.Writes.{numbered}
+
+-- a run under all assignments: the state of its work, the names in scope, and the pieces under their guards
+pub record Faceted : Type 0 where
+  pub state : State
+  pub env : List (List ℕ × Shape Value)
+  pub out : List (List (ℕ × Bool) × Piece)
+
+abbrev pub faceted : State → List (List ℕ × Shape Value) → List (List (ℕ × Bool) × Piece) → Faceted
+faceted s env out = record { state = s; env = env; out = out }
+
+-- the run that an assignment shows
+abbrev pub run_at : (ℕ → Bool) → Faceted → Run
+run_at w f = record { tables = (project_at w f.state).tables; env = env_at w f.env; pieces = seen w f.out }
+
+-- what stays the same through a run, under an assignment
+abbrev pub setting_at : App → Ctx → (ℕ → Bool) → Setting
+setting_at app ctx w = record { models = (application_of app).models; shown = w; viewer = ctx.viewer; number = ctx.number }
+
+-- where the test is true the run is what the step leaves, elsewhere it is as before; and tables that are sound
+-- with the next number n stay so
+pub record Ran (n : ℕ) (step : (ℕ → Bool) → Run → Run) (where_ : (ℕ → Bool) → Bool) (old new : Faceted) : Type 0 where
+  pub left : (w : ℕ → Bool) → run_at w new ≡ (if where_ w then step w (run_at w old) else run_at w old)
+  pub sound : IsSound (numbered n new.state)
+
+-- what a step leaves of tables that are sound, where what it makes is new wherever the test is true
+abbrev pub Runs : ((ℕ → Bool) → Run → Run) → (ℕ → (ℕ → Bool) → Run → Type 0) → ((ℕ → Bool) → Bool) → Faceted → Faceted → Type 0
+Runs step May where_ old new =
+    (n : ℕ) → IsSound (numbered n old.state) → ((w : ℕ → Bool) → where_ w ≡ true → May n w (run_at w old)) → Ran n step where_ old new
+
+-- what the interpreter's statement leaves, wherever the path condition holds
+abbrev pub Executes : App → Ctx → Statement → List (ℕ × Bool) → Faceted → Faceted → Type 0
+Executes app ctx s pc old new =
+    Runs (λ w. leaves (setting_at app ctx w) s) (λ n w. MayRun n (setting_at app ctx w) s) (λ w. holds w pc) old new
+
+abbrev pub ExecutesAll : App → Ctx → Statements → List (ℕ × Bool) → Faceted → Faceted → Type 0
+ExecutesAll app ctx ss pc old new =
+    Runs (λ w. leaves_all (setting_at app ctx w) ss) (λ n w. MayRunAll n (setting_at app ctx w) ss) (λ w. holds w pc) old new
+
+abbrev mutual
+  -- no template stands in the statement, and the ids that its creates give are ids
+  pub IsRunnable : ℕ → Statement → Type 0
+  IsRunnable number (Statement.put e) = ⊤
+  IsRunnable number (Statement.escape e) = ⊤
+  IsRunnable number (Statement.bind x e body) = AreRunnable number body
+  IsRunnable number (Statement.assign x e) = ⊤
+  IsRunnable number (Statement.branch c first second) = AreRunnable number first × AreRunnable number second
+  IsRunnable number (Statement.each q body) = AreRunnable number body
+  IsRunnable number (Statement.create x m site cells body) = (0 < number) × (number < 2 ^ 40) × (site < 64) × AreRunnable number body
+  IsRunnable number (Statement.update m e cells) = ⊤
+  IsRunnable number (Statement.delete m e) = ⊤
+  IsRunnable number Statement.missing = ⊤
+  IsRunnable number (Statement.redirect e) = ⊤
+  IsRunnable number (Statement.template t) = false ≡ true
+  IsRunnable number (Statement.block body) = AreRunnable number body
+
+  pub AreRunnable : ℕ → Statements → Type 0
+  AreRunnable number Statements.none = ⊤
+  AreRunnable number (Statements.more s rest) = IsRunnable number s × AreRunnable number rest
+
+-- a step for each of the values, one after another
+abbrev pub after_each : {X : Type 0} → (X → Run → Run) → List X → Run → Run
+after_each step [] r = r
+after_each step (x ∷ xs) r = after_each step xs (step x r)
+
+-- what each step asks, in the run that those before it leave
+abbrev pub MayAll : {X : Type 0} → (X → Run → Run) → (X → Run → Type 0) → List X → Run → Type 0
+MayAll step May [] r = ⊤
+MayAll step May (x ∷ xs) r = May x r × MayAll step May xs (step x r)
+
+-- the run is what a step for each of the values leaves that an assignment shows
+pub record RanEach {X : Type 0} (n : ℕ) (step : (ℕ → Bool) → X → Run → Run) (values : (ℕ → Bool) → List X) (old new : Faceted) : Type 0 where
+  pub left : (w : ℕ → Bool) → run_at w new ≡ after_each (step w) (values w) (run_at w old)
+  pub sound : IsSound (numbered n new.state)
+
+abbrev pub RunsEach : {X : Type 0} → ((ℕ → Bool) → X → Run → Run) → (ℕ → (ℕ → Bool) → X → Run → Type 0) → ((ℕ → Bool) → List X) → Faceted → Faceted → Type 0
+RunsEach step May values old new =
+    (n : ℕ) → IsSound (numbered n old.state) → ((w : ℕ → Bool) → MayAll (step w) (May n w) (values w) (run_at w old)) → RanEach n step values old new
+
+-- the one body or the other, by a value
+abbrev pub chosen_at : App → Ctx → Statements → Statements → (ℕ → Bool) → Value → Run → Run
+chosen_at app ctx first second w v = choose (is_true v) (leaves_all (setting_at app ctx w) first) (leaves_all (setting_at app ctx w) second)
+
+abbrev pub MayChooseAt : App → Ctx → Statements → Statements → ℕ → (ℕ → Bool) → Value → Run → Type 0
+MayChooseAt app ctx first second n w v = MayChoose (is_true v) (MayRunAll n (setting_at app ctx w) first) (MayRunAll n (setting_at app ctx w) second)
+
+-- the body with the binders bound to a tuple
+abbrev pub bound_at : App → Ctx → List Binder → Statements → (ℕ → Bool) → List ℕ → Run → Run
+bound_at app ctx bs body w ids r = scoped (bound bs ids r.env) (leaves_all (setting_at app ctx w) body) r
+
+abbrev pub MayBindAt : App → Ctx → List Binder → Statements → ℕ → (ℕ → Bool) → List ℕ → Run → Type 0
+MayBindAt app ctx bs body n w ids r = MayRunAll n (setting_at app ctx w) body (with_env (bound bs ids r.env) r)
+
+-- the body with a name bound to a value
+abbrev pub named_at : App → Ctx → List ℕ → ((ℕ → Bool) → Value) → Statements → (ℕ → Bool) → Run → Run
+named_at app ctx name value_at body w r = with_binding name (value_at w) (leaves_all (setting_at app ctx w) body) r
+
+abbrev pub MayNameAt : App → Ctx → List ℕ → ((ℕ → Bool) → Value) → Statements → ℕ → (ℕ → Bool) → Run → Type 0
+MayNameAt app ctx name value_at body n w r = MayRunAll n (setting_at app ctx w) body (with_env (r.env ++ binding name (value_at w) ∷ []) r)
+
+-- the tuples that hold, where the path condition does
+abbrev pub live_under : List (ℕ × Bool) → List Tuple → (ℕ → Bool) → List (List ℕ)
+live_under pc ts w = if holds w pc then live w ts else []

@@ -1,0 +1,66 @@
+//! Names that get another value under a path condition.
+ghost use Rattle.std.specs.Prelude.{◌≡◌, ◌<◌, ℕ, Bool, if◌then◌else◌, length, IfSome, OnOk};
+ghost use Rattle.jac_expr.specs.Seen.{env_at};
+ghost use Rattle.jac_facet.specs.Shape.{at};
+ghost use Rattle.jac_plain.specs.Statements.{assigned};
+ghost use Rattle.jac_world.specs.World.{holds};
+ghost use Rattle.jac_stmt.specs.Places.{last_place};
+
+use jac_expr::Env;
+use jac_facet::Facet;
+use jac_value::{Memory, Txt, Value};
+use jac_world::{Guard, Steps};
+use std::alloc::Global;
+use std::mem;
+use std::sync::ledger::Ledger;
+
+/// Changes the innermost binding of the name wherever the path condition holds; nothing where there is none.
+pub(crate) fn assign<L: Ledger>(
+    alloc: Global,
+    env: &mut Env,
+    pc: &Guard,
+    name: &Txt,
+    value: &Facet<Value>,
+    splits: &mut Steps<L>,
+) -> Result<(), Memory>
+    ensures { OnOk result ((w : ℕ → Bool) → env_at w env.new ≡ (if holds w pc.now then assigned name.now (at w value.now) (env_at w env.old) else env_at w env.old)) }
+{
+    let mut bindings = mem::replace(env, Env::empty(alloc)).into_vec();
+    assign_in(alloc, &mut bindings, pc, name, value, splits)?;
+    *env = Env::from_vec(bindings);
+    Ok(())
+}
+
+fn assign_in<L: Ledger>(
+    alloc: Global,
+    bindings: &mut Vec<(Txt, Facet<Value>)>,
+    pc: &Guard,
+    name: &Txt,
+    value: &Facet<Value>,
+    splits: &mut Steps<L>,
+) -> Result<(), Memory>
+    ensures { OnOk result ((w : ℕ → Bool) → env_at w bindings.new.items ≡ (if holds w pc.now then assigned name.now (at w value.now) (env_at w bindings.old.items) else env_at w bindings.old.items)) }
+{
+    let Some(place) = innermost(bindings.as_slice(), name) else {
+        return Ok(());
+    };
+    let changed = Facet::under(alloc, pc, value, &bindings[place].1, splits)?;
+    bindings[place].1 = changed;
+    Ok(())
+}
+
+// The place of the innermost binding of the name, which stands last.
+fn innermost(bindings: &[(Txt, Facet<Value>)], name: &Txt) -> Option<usize>
+    ensures place { result ≡ last_place name.now bindings.now }
+    ensures within { IfSome result (λ p. p < length bindings.now) }
+{
+    let mut last = None;
+    let mut place = 0;
+    'bindings: while place < bindings.len() {
+        if bindings[place].0 == *name {
+            last = Some(place);
+        }
+        place += 1;
+    }
+    last
+}

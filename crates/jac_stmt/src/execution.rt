@@ -1,0 +1,685 @@
+//! Statements, run under a path condition. `execute` only looks at the form; each form is a function of its own.
+ghost use Rattle.std.specs.Prelude.{◌≡◌, ◌<◌, ◌≤◌, ◌^◌, ◌&&◌, length, None, IfSome, OnOk, IsTrue, Some, ℕ, Bool, List};
+ghost use Rattle.jac_facet.specs.Leaves.{seen};
+ghost use Rattle.jac_facet.specs.Shape.{at};
+ghost use Rattle.jac_keep.specs.Worked.{state_of, IsTold, WritesWork};
+ghost use Rattle.jac_lang.specs.Lookup.{model_place};
+ghost use Rattle.jac_lang.specs.Mirror.{application_of, assigned_of, binders_of, expression_of, question_of, statement_of, statements_of};
+ghost use Rattle.jac_lang.specs.Syntax.{Statement};
+ghost use Rattle.jac_plain.specs.declared.page.Piece.{Piece};
+ghost use Rattle.jac_plain.specs.Making.{MayCreate, MayRunAll};
+ghost use Rattle.jac_plain.specs.Statements.{created, leaves_all};
+ghost use Rattle.jac_world.specs.World.{holds};
+ghost use Rattle.jac_write.specs.Writes.{StaysTold};
+ghost use Rattle.jac_stmt.specs.Runs.{faceted, setting_at, Executes, ExecutesAll, Runs, RunsEach, IsRunnable, AreRunnable, bound_at, MayBindAt, chosen_at, MayChooseAt, named_at, MayNameAt, live_under};
+
+use crate::Out;
+use crate::assigning::assign;
+use crate::drafts::{new_cells, read_sets};
+use crate::memory::from_world;
+use crate::pieces::{Form, add_missing, add_value};
+use jac_expr::{Ctx, Env, bind_tuple, eval, is_true, tuples};
+use jac_facet::Facet;
+use jac_keep::{Keeper, Stop, Work};
+use jac_lang::{App, Binders, Expr, Publics, Query, Stmt, Stmts, model_of};
+use jac_query::Tuple;
+use jac_value::{Ids, Txt, Value, id_of};
+use jac_world::{Guard, Steps};
+use jac_write::{create, delete, update};
+use std::alloc::Global;
+use std::sync::ledger::Ledger;
+
+/// Runs the statements, one after another, wherever the path condition holds. Elsewhere all stays as it was.
+/// `this` of the context isn't asked: a statement has none. After a refusal the names and the pieces may hold a part of
+/// what was run.
+pub fn exec<K: Keeper, L: Ledger>(
+    alloc: Global,
+    work: &mut Work<'_, K>,
+    app: &App,
+    ctx: &Ctx,
+    env: &mut Env,
+    out: &mut Out,
+    pc: &Guard,
+    stmts: &Stmts,
+    splits: &mut Steps<L>,
+) -> Result<(), Stop>
+    requires attached { IsTrue (K.seen work.old.keeper.now).attached }
+    requires tables { IsTrue (K.seen work.old.keeper.now).tells → length app.now.models ≤ length (K.seen work.old.keeper.now).state.tables }
+    requires runnable { AreRunnable ctx.now.number (statements_of stmts.now) }
+    ensures left { IsTold K.seen work.new → OnOk result (ExecutesAll app.now ctx.now (statements_of stmts.now) pc.now (faceted (state_of K.seen work.old) env.old out.old) (faceted (state_of K.seen work.new) env.new out.new)) }
+    ensures told { OnOk result (StaysTold K.seen work.old work.new) }
+    ensures keeps { WritesWork K.seen work.old work.new result }
+{
+    // A statement has no record whose policy is asked.
+    let ctx = Ctx { this: None, ..*ctx };
+    execute_all(alloc, work, app, &ctx, env, out, pc, stmts, splits)?;
+    Ok(())
+}
+
+// Runs the statements, one after another.
+#[cycle(exec)]
+fn execute_all<K: Keeper, L: Ledger>(
+    alloc: Global,
+    work: &mut Work<'_, K>,
+    app: &App,
+    ctx: &Ctx,
+    env: &mut Env,
+    out: &mut Out,
+    pc: &Guard,
+    stmts: &Stmts,
+    splits: &mut Steps<L>,
+) -> Result<(), Stop>
+    requires attached { IsTrue (K.seen work.old.keeper.now).attached }
+    requires tables { IsTrue (K.seen work.old.keeper.now).tells → length app.now.models ≤ length (K.seen work.old.keeper.now).state.tables }
+    requires no_record { ctx.now.this ≡ None }
+    requires runnable { AreRunnable ctx.now.number (statements_of stmts.now) }
+    ensures left { IsTold K.seen work.new → OnOk result (ExecutesAll app.now ctx.now (statements_of stmts.now) pc.now (faceted (state_of K.seen work.old) env.old out.old) (faceted (state_of K.seen work.new) env.new out.new)) }
+    ensures told { OnOk result (StaysTold K.seen work.old work.new) }
+    ensures keeps { WritesWork K.seen work.old work.new result }
+{
+    let mut left = stmts;
+    'body: while let Stmts::More(first, rest) = left {
+        execute(alloc, work, app, ctx, env, out, pc, first, splits)?;
+        left = rest;
+    }
+    Ok(())
+}
+
+// Runs a statement.
+#[cycle(exec)]
+fn execute<K: Keeper, L: Ledger>(
+    alloc: Global,
+    work: &mut Work<'_, K>,
+    app: &App,
+    ctx: &Ctx,
+    env: &mut Env,
+    out: &mut Out,
+    pc: &Guard,
+    stmt: &Stmt,
+    splits: &mut Steps<L>,
+) -> Result<(), Stop>
+    requires attached { IsTrue (K.seen work.old.keeper.now).attached }
+    requires tables { IsTrue (K.seen work.old.keeper.now).tells → length app.now.models ≤ length (K.seen work.old.keeper.now).state.tables }
+    requires no_record { ctx.now.this ≡ None }
+    requires runnable { IsRunnable ctx.now.number (statement_of stmt.now) }
+    ensures left { IsTold K.seen work.new → OnOk result (Executes app.now ctx.now (statement_of stmt.now) pc.now (faceted (state_of K.seen work.old) env.old out.old) (faceted (state_of K.seen work.new) env.new out.new)) }
+    ensures told { OnOk result (StaysTold K.seen work.old work.new) }
+    ensures keeps { WritesWork K.seen work.old work.new result }
+{
+    match stmt {
+        Stmt::Put(e) => execute_put(alloc, work, app, ctx, env, out, pc, e, splits),
+        Stmt::Esc(e) => execute_escape(alloc, work, app, ctx, env, out, pc, e, splits),
+        Stmt::Let(name, e, body) => {
+            execute_let(alloc, work, app, ctx, env, out, pc, name, e, body, splits)
+        }
+        Stmt::Assign(name, e) => {
+            execute_assign(alloc, work, app, ctx, env, out, pc, name, e, splits)
+        }
+        Stmt::If(c, first, second) => {
+            execute_if(
+                alloc, work, app, ctx, env, out, pc, c, first, second, splits,
+            )
+        }
+        Stmt::For(query, body) => {
+            execute_for(alloc, work, app, ctx, env, out, pc, query, body, splits)
+        }
+        Stmt::Create {
+            name,
+            model,
+            site,
+            cells,
+            body,
+        } => {
+            execute_create(
+                alloc, work, app, ctx, env, out, pc, name, model, *site, cells, body, splits,
+            )
+        }
+        Stmt::Update(model, e, cells) => {
+            execute_update(alloc, work, app, ctx, env, pc, model, e, cells, splits)
+        }
+        Stmt::Delete(model, e) => {
+            execute_delete(alloc, work, app, ctx, env, pc, model, e, splits)
+        }
+        Stmt::Missing => execute_missing(alloc, work, app, ctx, env, out, pc, splits),
+        Stmt::Redirect(e) => execute_redirect(alloc, work, app, ctx, env, out, pc, e, splits),
+        Stmt::Template(_) => unreachable!(),
+        Stmt::Block(body) => execute_all(alloc, work, app, ctx, env, out, pc, body, splits),
+    }
+}
+
+// Adds the text of the value to the page.
+fn execute_put<K: Keeper, L: Ledger>(
+    alloc: Global,
+    work: &mut Work<'_, K>,
+    app: &App,
+    ctx: &Ctx,
+    env: &Env,
+    out: &mut Out,
+    pc: &Guard,
+    e: &Expr,
+    splits: &mut Steps<L>,
+) -> Result<(), Stop>
+    requires attached { IsTrue (K.seen work.old.keeper.now).attached }
+    requires no_record { ctx.now.this ≡ None }
+    ensures left { IsTold K.seen work.new → OnOk result (Executes app.now ctx.now (Statement.put (expression_of e.now)) pc.now (faceted (state_of K.seen work.old) env.now out.old) (faceted (state_of K.seen work.new) env.now out.new)) }
+    ensures told { OnOk result (StaysTold K.seen work.old work.new) }
+    ensures keeps { WritesWork K.seen work.old work.new result }
+{
+    let value = eval(alloc, work, app, ctx, env, pc, e, splits)?;
+    add_value(alloc, out, pc, &value, Form::Text)?;
+    Ok(())
+}
+
+// Adds the HTML escape of the value's text.
+fn execute_escape<K: Keeper, L: Ledger>(
+    alloc: Global,
+    work: &mut Work<'_, K>,
+    app: &App,
+    ctx: &Ctx,
+    env: &Env,
+    out: &mut Out,
+    pc: &Guard,
+    e: &Expr,
+    splits: &mut Steps<L>,
+) -> Result<(), Stop>
+    requires attached { IsTrue (K.seen work.old.keeper.now).attached }
+    requires no_record { ctx.now.this ≡ None }
+    ensures left { IsTold K.seen work.new → OnOk result (Executes app.now ctx.now (Statement.escape (expression_of e.now)) pc.now (faceted (state_of K.seen work.old) env.now out.old) (faceted (state_of K.seen work.new) env.now out.new)) }
+    ensures told { OnOk result (StaysTold K.seen work.old work.new) }
+    ensures keeps { WritesWork K.seen work.old work.new result }
+{
+    let value = eval(alloc, work, app, ctx, env, pc, e, splits)?;
+    add_value(alloc, out, pc, &value, Form::Escaped)?;
+    Ok(())
+}
+
+// Leads to the value's text.
+fn execute_redirect<K: Keeper, L: Ledger>(
+    alloc: Global,
+    work: &mut Work<'_, K>,
+    app: &App,
+    ctx: &Ctx,
+    env: &Env,
+    out: &mut Out,
+    pc: &Guard,
+    e: &Expr,
+    splits: &mut Steps<L>,
+) -> Result<(), Stop>
+    requires attached { IsTrue (K.seen work.old.keeper.now).attached }
+    requires no_record { ctx.now.this ≡ None }
+    ensures left { IsTold K.seen work.new → OnOk result (Executes app.now ctx.now (Statement.redirect (expression_of e.now)) pc.now (faceted (state_of K.seen work.old) env.now out.old) (faceted (state_of K.seen work.new) env.now out.new)) }
+    ensures told { OnOk result (StaysTold K.seen work.old work.new) }
+    ensures keeps { WritesWork K.seen work.old work.new result }
+{
+    let value = eval(alloc, work, app, ctx, env, pc, e, splits)?;
+    add_value(alloc, out, pc, &value, Form::Location)?;
+    Ok(())
+}
+
+// Makes the page one that isn't there.
+fn execute_missing<K: Keeper, L: Ledger>(
+    alloc: Global,
+    work: &mut Work<'_, K>,
+    app: &App,
+    ctx: &Ctx,
+    env: &Env,
+    out: &mut Out,
+    pc: &Guard,
+    splits: &mut Steps<L>,
+) -> Result<(), Stop>
+    ensures left { IsTold K.seen work.new → OnOk result (Executes app.now ctx.now Statement.missing pc.now (faceted (state_of K.seen work.old) env.now out.old) (faceted (state_of K.seen work.new) env.now out.new)) }
+    ensures told { OnOk result (StaysTold K.seen work.old work.new) }
+    ensures keeps { WritesWork K.seen work.old work.new result }
+{
+    let _ = work;
+    add_missing(alloc, out, pc)?;
+    Ok(())
+}
+
+// Changes the innermost binding of the name.
+fn execute_assign<K: Keeper, L: Ledger>(
+    alloc: Global,
+    work: &mut Work<'_, K>,
+    app: &App,
+    ctx: &Ctx,
+    env: &mut Env,
+    out: &mut Out,
+    pc: &Guard,
+    name: &Txt,
+    e: &Expr,
+    splits: &mut Steps<L>,
+) -> Result<(), Stop>
+    requires attached { IsTrue (K.seen work.old.keeper.now).attached }
+    requires no_record { ctx.now.this ≡ None }
+    ensures left { IsTold K.seen work.new → OnOk result (Executes app.now ctx.now (Statement.assign name.now (expression_of e.now)) pc.now (faceted (state_of K.seen work.old) env.old out.old) (faceted (state_of K.seen work.new) env.new out.new)) }
+    ensures told { OnOk result (StaysTold K.seen work.old work.new) }
+    ensures keeps { WritesWork K.seen work.old work.new result }
+{
+    let value = eval(alloc, work, app, ctx, env, pc, e, splits)?;
+    assign(alloc, env, pc, name, &value, splits)?;
+    Ok(())
+}
+
+// The body with the name bound to the value.
+#[cycle(exec)]
+fn execute_let<K: Keeper, L: Ledger>(
+    alloc: Global,
+    work: &mut Work<'_, K>,
+    app: &App,
+    ctx: &Ctx,
+    env: &mut Env,
+    out: &mut Out,
+    pc: &Guard,
+    name: &Txt,
+    e: &Expr,
+    body: &Stmts,
+    splits: &mut Steps<L>,
+) -> Result<(), Stop>
+    requires attached { IsTrue (K.seen work.old.keeper.now).attached }
+    requires tables { IsTrue (K.seen work.old.keeper.now).tells → length app.now.models ≤ length (K.seen work.old.keeper.now).state.tables }
+    requires no_record { ctx.now.this ≡ None }
+    requires runnable { AreRunnable ctx.now.number (statements_of body.now) }
+    ensures left { IsTold K.seen work.new → OnOk result (Executes app.now ctx.now (Statement.bind name.now (expression_of e.now) (statements_of body.now)) pc.now (faceted (state_of K.seen work.old) env.old out.old) (faceted (state_of K.seen work.new) env.new out.new)) }
+    ensures told { OnOk result (StaysTold K.seen work.old work.new) }
+    ensures keeps { WritesWork K.seen work.old work.new result }
+{
+    let value = eval(alloc, work, app, ctx, env, pc, e, splits)?;
+    execute_named(
+        alloc, work, app, ctx, env, out, pc, name, value, body, splits,
+    )?;
+    Ok(())
+}
+
+// The body with the name bound to this.
+#[cycle(exec)]
+fn execute_named<K: Keeper, L: Ledger>(
+    alloc: Global,
+    work: &mut Work<'_, K>,
+    app: &App,
+    ctx: &Ctx,
+    env: &mut Env,
+    out: &mut Out,
+    pc: &Guard,
+    name: &Txt,
+    value: Facet<Value>,
+    body: &Stmts,
+    splits: &mut Steps<L>,
+) -> Result<(), Stop>
+    requires attached { IsTrue (K.seen work.old.keeper.now).attached }
+    requires tables { IsTrue (K.seen work.old.keeper.now).tells → length app.now.models ≤ length (K.seen work.old.keeper.now).state.tables }
+    requires no_record { ctx.now.this ≡ None }
+    requires runnable { AreRunnable ctx.now.number (statements_of body.now) }
+    ensures left { IsTold K.seen work.new → OnOk result (Runs (named_at app.now ctx.now name.now (λ w. at w value) (statements_of body.now)) (MayNameAt app.now ctx.now name.now (λ w. at w value) (statements_of body.now)) (λ w. holds w pc.now) (faceted (state_of K.seen work.old) env.old out.old) (faceted (state_of K.seen work.new) env.new out.new)) }
+    ensures told { OnOk result (StaysTold K.seen work.old work.new) }
+    ensures keeps { WritesWork K.seen work.old work.new result }
+{
+    let outer = env.as_slice().len();
+    let name = name.copy(alloc)?;
+    env.push(name, value)?;
+    execute_all(alloc, work, app, ctx, env, out, pc, body, splits)?;
+    env.cut(outer);
+    Ok(())
+}
+
+// The one body or the other, once for each value that the condition can have, under the guard of that value.
+#[cycle(exec)]
+fn execute_if<K: Keeper, L: Ledger>(
+    alloc: Global,
+    work: &mut Work<'_, K>,
+    app: &App,
+    ctx: &Ctx,
+    env: &mut Env,
+    out: &mut Out,
+    pc: &Guard,
+    c: &Expr,
+    first: &Stmts,
+    second: &Stmts,
+    splits: &mut Steps<L>,
+) -> Result<(), Stop>
+    requires attached { IsTrue (K.seen work.old.keeper.now).attached }
+    requires tables { IsTrue (K.seen work.old.keeper.now).tells → length app.now.models ≤ length (K.seen work.old.keeper.now).state.tables }
+    requires no_record { ctx.now.this ≡ None }
+    requires first { AreRunnable ctx.now.number (statements_of first.now) }
+    requires second { AreRunnable ctx.now.number (statements_of second.now) }
+    ensures left { IsTold K.seen work.new → OnOk result (Executes app.now ctx.now (Statement.branch (expression_of c.now) (statements_of first.now) (statements_of second.now)) pc.now (faceted (state_of K.seen work.old) env.old out.old) (faceted (state_of K.seen work.new) env.new out.new)) }
+    ensures told { OnOk result (StaysTold K.seen work.old work.new) }
+    ensures keeps { WritesWork K.seen work.old work.new result }
+{
+    let condition = eval(alloc, work, app, ctx, env, pc, c, splits)?;
+    let leaves = condition.leaves_under(alloc, pc)?;
+    let leaves = leaves.as_slice();
+    execute_leaves(
+        alloc, work, app, ctx, env, out, leaves, first, second, splits,
+    )?;
+    Ok(())
+}
+
+// A body for each of the values.
+#[cycle(exec)]
+fn execute_leaves<K: Keeper, L: Ledger>(
+    alloc: Global,
+    work: &mut Work<'_, K>,
+    app: &App,
+    ctx: &Ctx,
+    env: &mut Env,
+    out: &mut Out,
+    leaves: &[(Guard, Value)],
+    first: &Stmts,
+    second: &Stmts,
+    splits: &mut Steps<L>,
+) -> Result<(), Stop>
+    requires attached { IsTrue (K.seen work.old.keeper.now).attached }
+    requires tables { IsTrue (K.seen work.old.keeper.now).tells → length app.now.models ≤ length (K.seen work.old.keeper.now).state.tables }
+    requires no_record { ctx.now.this ≡ None }
+    requires first { AreRunnable ctx.now.number (statements_of first.now) }
+    requires second { AreRunnable ctx.now.number (statements_of second.now) }
+    ensures left { IsTold K.seen work.new → OnOk result (RunsEach (chosen_at app.now ctx.now (statements_of first.now) (statements_of second.now)) (MayChooseAt app.now ctx.now (statements_of first.now) (statements_of second.now)) (λ w. seen w leaves.now) (faceted (state_of K.seen work.old) env.old out.old) (faceted (state_of K.seen work.new) env.new out.new)) }
+    ensures told { OnOk result (StaysTold K.seen work.old work.new) }
+    ensures keeps { WritesWork K.seen work.old work.new result }
+{
+    'leaves: for leaf in leaves {
+        execute_leaf(
+            alloc, work, app, ctx, env, out, &leaf.0, &leaf.1, first, second, splits,
+        )?;
+    }
+    Ok(())
+}
+
+// The body for this value of the condition.
+#[cycle(exec)]
+fn execute_leaf<K: Keeper, L: Ledger>(
+    alloc: Global,
+    work: &mut Work<'_, K>,
+    app: &App,
+    ctx: &Ctx,
+    env: &mut Env,
+    out: &mut Out,
+    pc: &Guard,
+    value: &Value,
+    first: &Stmts,
+    second: &Stmts,
+    splits: &mut Steps<L>,
+) -> Result<(), Stop>
+    requires attached { IsTrue (K.seen work.old.keeper.now).attached }
+    requires tables { IsTrue (K.seen work.old.keeper.now).tells → length app.now.models ≤ length (K.seen work.old.keeper.now).state.tables }
+    requires no_record { ctx.now.this ≡ None }
+    requires first { AreRunnable ctx.now.number (statements_of first.now) }
+    requires second { AreRunnable ctx.now.number (statements_of second.now) }
+    ensures left { IsTold K.seen work.new → OnOk result (Runs (λ w. chosen_at app.now ctx.now (statements_of first.now) (statements_of second.now) w value.now) (λ n w. MayChooseAt app.now ctx.now (statements_of first.now) (statements_of second.now) n w value.now) (λ w. holds w pc.now) (faceted (state_of K.seen work.old) env.old out.old) (faceted (state_of K.seen work.new) env.new out.new)) }
+    ensures told { OnOk result (StaysTold K.seen work.old work.new) }
+    ensures keeps { WritesWork K.seen work.old work.new result }
+{
+    let body = if is_true(value) { first } else { second };
+    execute_all(alloc, work, app, ctx, env, out, pc, body, splits)?;
+    Ok(())
+}
+
+// The body for each answer of the query, which is asked once.
+#[cycle(exec)]
+fn execute_for<K: Keeper, L: Ledger>(
+    alloc: Global,
+    work: &mut Work<'_, K>,
+    app: &App,
+    ctx: &Ctx,
+    env: &mut Env,
+    out: &mut Out,
+    pc: &Guard,
+    query: &Query,
+    body: &Stmts,
+    splits: &mut Steps<L>,
+) -> Result<(), Stop>
+    requires attached { IsTrue (K.seen work.old.keeper.now).attached }
+    requires tables { IsTrue (K.seen work.old.keeper.now).tells → length app.now.models ≤ length (K.seen work.old.keeper.now).state.tables }
+    requires no_record { ctx.now.this ≡ None }
+    requires runnable { AreRunnable ctx.now.number (statements_of body.now) }
+    ensures left { IsTold K.seen work.new → OnOk result (Executes app.now ctx.now (Statement.each (question_of query.now) (statements_of body.now)) pc.now (faceted (state_of K.seen work.old) env.old out.old) (faceted (state_of K.seen work.new) env.new out.new)) }
+    ensures told { OnOk result (StaysTold K.seen work.old work.new) }
+    ensures keeps { WritesWork K.seen work.old work.new result }
+{
+    let answers = tuples(alloc, work, app, ctx, env, pc, query, splits)?;
+    let binders = &query.binders;
+    let answers = answers.as_slice();
+    execute_tuples(
+        alloc, work, app, ctx, env, out, pc, binders, answers, body, splits,
+    )?;
+    Ok(())
+}
+
+// The body for each of the tuples.
+#[cycle(exec)]
+fn execute_tuples<K: Keeper, L: Ledger>(
+    alloc: Global,
+    work: &mut Work<'_, K>,
+    app: &App,
+    ctx: &Ctx,
+    env: &mut Env,
+    out: &mut Out,
+    pc: &Guard,
+    binders: &Binders,
+    tuples: &[Tuple],
+    body: &Stmts,
+    splits: &mut Steps<L>,
+) -> Result<(), Stop>
+    requires attached { IsTrue (K.seen work.old.keeper.now).attached }
+    requires tables { IsTrue (K.seen work.old.keeper.now).tells → length app.now.models ≤ length (K.seen work.old.keeper.now).state.tables }
+    requires no_record { ctx.now.this ≡ None }
+    requires runnable { AreRunnable ctx.now.number (statements_of body.now) }
+    ensures left { IsTold K.seen work.new → OnOk result (RunsEach (bound_at app.now ctx.now (binders_of binders.now) (statements_of body.now)) (MayBindAt app.now ctx.now (binders_of binders.now) (statements_of body.now)) (live_under pc.now tuples.now) (faceted (state_of K.seen work.old) env.old out.old) (faceted (state_of K.seen work.new) env.new out.new)) }
+    ensures told { OnOk result (StaysTold K.seen work.old work.new) }
+    ensures keeps { WritesWork K.seen work.old work.new result }
+{
+    'tuples: for tuple in tuples {
+        execute_tuple(
+            alloc, work, app, ctx, env, out, pc, binders, tuple, body, splits,
+        )?;
+    }
+    Ok(())
+}
+
+// The body with the binders bound to the tuple, wherever that holds too.
+#[cycle(exec)]
+fn execute_tuple<K: Keeper, L: Ledger>(
+    alloc: Global,
+    work: &mut Work<'_, K>,
+    app: &App,
+    ctx: &Ctx,
+    env: &mut Env,
+    out: &mut Out,
+    pc: &Guard,
+    binders: &Binders,
+    tuple: &Tuple,
+    body: &Stmts,
+    splits: &mut Steps<L>,
+) -> Result<(), Stop>
+    requires attached { IsTrue (K.seen work.old.keeper.now).attached }
+    requires tables { IsTrue (K.seen work.old.keeper.now).tells → length app.now.models ≤ length (K.seen work.old.keeper.now).state.tables }
+    requires no_record { ctx.now.this ≡ None }
+    requires runnable { AreRunnable ctx.now.number (statements_of body.now) }
+    ensures left { IsTold K.seen work.new → OnOk result (Runs (λ w. bound_at app.now ctx.now (binders_of binders.now) (statements_of body.now) w tuple.now.ids) (λ n w. MayBindAt app.now ctx.now (binders_of binders.now) (statements_of body.now) n w tuple.now.ids) (λ w. holds w pc.now && holds w tuple.now.guard) (faceted (state_of K.seen work.old) env.old out.old) (faceted (state_of K.seen work.new) env.new out.new)) }
+    ensures told { OnOk result (StaysTold K.seen work.old work.new) }
+    ensures keeps { WritesWork K.seen work.old work.new result }
+{
+    match from_world(pc.meet(alloc, &tuple.guard))? {
+        None => Ok(()),
+        Some(within) => {
+            let ids = &tuple.ids;
+            execute_bound(
+                alloc, work, app, ctx, env, out, &within, binders, ids, body, splits,
+            )?;
+            Ok(())
+        }
+    }
+}
+
+// The body with the binders bound to these records.
+#[cycle(exec)]
+fn execute_bound<K: Keeper, L: Ledger>(
+    alloc: Global,
+    work: &mut Work<'_, K>,
+    app: &App,
+    ctx: &Ctx,
+    env: &mut Env,
+    out: &mut Out,
+    pc: &Guard,
+    binders: &Binders,
+    ids: &Ids,
+    body: &Stmts,
+    splits: &mut Steps<L>,
+) -> Result<(), Stop>
+    requires attached { IsTrue (K.seen work.old.keeper.now).attached }
+    requires tables { IsTrue (K.seen work.old.keeper.now).tells → length app.now.models ≤ length (K.seen work.old.keeper.now).state.tables }
+    requires no_record { ctx.now.this ≡ None }
+    requires runnable { AreRunnable ctx.now.number (statements_of body.now) }
+    ensures left { IsTold K.seen work.new → OnOk result (Runs (λ w. bound_at app.now ctx.now (binders_of binders.now) (statements_of body.now) w ids.now) (λ n w. MayBindAt app.now ctx.now (binders_of binders.now) (statements_of body.now) n w ids.now) (λ w. holds w pc.now) (faceted (state_of K.seen work.old) env.old out.old) (faceted (state_of K.seen work.new) env.new out.new)) }
+    ensures told { OnOk result (StaysTold K.seen work.old work.new) }
+    ensures keeps { WritesWork K.seen work.old work.new result }
+{
+    let outer = env.as_slice().len();
+    bind_tuple(alloc, env, binders, ids)?;
+    execute_all(alloc, work, app, ctx, env, out, pc, body, splits)?;
+    env.cut(outer);
+    Ok(())
+}
+
+// A new record, and the body with the name bound to it; nothing where no model has the name.
+#[cycle(exec)]
+fn execute_create<K: Keeper, L: Ledger>(
+    alloc: Global,
+    work: &mut Work<'_, K>,
+    app: &App,
+    ctx: &Ctx,
+    env: &mut Env,
+    out: &mut Out,
+    pc: &Guard,
+    name: &Txt,
+    model: &Txt,
+    site: u8,
+    cells: &Publics,
+    body: &Stmts,
+    splits: &mut Steps<L>,
+) -> Result<(), Stop>
+    requires attached { IsTrue (K.seen work.old.keeper.now).attached }
+    requires tables { IsTrue (K.seen work.old.keeper.now).tells → length app.now.models ≤ length (K.seen work.old.keeper.now).state.tables }
+    requires no_record { ctx.now.this ≡ None }
+    requires numbered { 0 < ctx.now.number }
+    requires in_range { ctx.now.number < 2 ^ 40 }
+    requires site { site < 64 }
+    requires runnable { AreRunnable ctx.now.number (statements_of body.now) }
+    ensures left { IsTold K.seen work.new → OnOk result (Executes app.now ctx.now (Statement.create name.now model.now site (assigned_of cells.now) (statements_of body.now)) pc.now (faceted (state_of K.seen work.old) env.old out.old) (faceted (state_of K.seen work.new) env.new out.new)) }
+    ensures told { OnOk result (StaysTold K.seen work.old work.new) }
+    ensures keeps { WritesWork K.seen work.old work.new result }
+{
+    let Some(model) = model_number(app, model) else {
+        return Ok(());
+    };
+    execute_made(
+        alloc, work, app, ctx, env, out, pc, name, model, site, cells, body, splits,
+    )?;
+    Ok(())
+}
+
+// A new record of this model, and the body with the name bound to it.
+#[cycle(exec)]
+fn execute_made<K: Keeper, L: Ledger>(
+    alloc: Global,
+    work: &mut Work<'_, K>,
+    app: &App,
+    ctx: &Ctx,
+    env: &mut Env,
+    out: &mut Out,
+    pc: &Guard,
+    name: &Txt,
+    model: u8,
+    site: u8,
+    cells: &Publics,
+    body: &Stmts,
+    splits: &mut Steps<L>,
+) -> Result<(), Stop>
+    requires attached { IsTrue (K.seen work.old.keeper.now).attached }
+    requires tables { IsTrue (K.seen work.old.keeper.now).tells → length app.now.models ≤ length (K.seen work.old.keeper.now).state.tables }
+    requires no_record { ctx.now.this ≡ None }
+    requires numbered { 0 < ctx.now.number }
+    requires in_range { ctx.now.number < 2 ^ 40 }
+    requires site { site < 64 }
+    requires model { model < length app.now.models }
+    requires few { model < 64 }
+    requires runnable { AreRunnable ctx.now.number (statements_of body.now) }
+    ensures left { IsTold K.seen work.new → OnOk result (Runs (λ w. created (setting_at app.now ctx.now w) name.now (Some model) site (assigned_of cells.now) (leaves_all (setting_at app.now ctx.now w) (statements_of body.now))) (λ n w. MayCreate n (setting_at app.now ctx.now w) name.now (Some model) site (assigned_of cells.now) (MayRunAll n (setting_at app.now ctx.now w) (statements_of body.now))) (λ w. holds w pc.now) (faceted (state_of K.seen work.old) env.old out.old) (faceted (state_of K.seen work.new) env.new out.new)) }
+    ensures told { OnOk result (StaysTold K.seen work.old work.new) }
+    ensures keeps { WritesWork K.seen work.old work.new result }
+{
+    let cells = new_cells(alloc, work, app, ctx, env, pc, model, cells, splits)?;
+    let id = id_of(ctx.number, site, model);
+    create(alloc, work, app, pc, id, &cells, splits)?;
+    let made = Facet::leaf(Value::Ref(Some(id)));
+    execute_named(
+        alloc, work, app, ctx, env, out, pc, name, made, body, splits,
+    )?;
+    Ok(())
+}
+
+// Changes the record that the value refers to; nothing where no model has the name.
+fn execute_update<K: Keeper, L: Ledger>(
+    alloc: Global,
+    work: &mut Work<'_, K>,
+    app: &App,
+    ctx: &Ctx,
+    env: &Env,
+    pc: &Guard,
+    model: &Txt,
+    e: &Expr,
+    cells: &Publics,
+    splits: &mut Steps<L>,
+) -> Result<(), Stop>
+    requires attached { IsTrue (K.seen work.old.keeper.now).attached }
+    requires tables { IsTrue (K.seen work.old.keeper.now).tells → length app.now.models ≤ length (K.seen work.old.keeper.now).state.tables }
+    requires no_record { ctx.now.this ≡ None }
+    ensures left { IsTold K.seen work.new → OnOk result ((out : List (List (ℕ × Bool) × Piece)) → Executes app.now ctx.now (Statement.update model.now (expression_of e.now) (assigned_of cells.now)) pc.now (faceted (state_of K.seen work.old) env.now out) (faceted (state_of K.seen work.new) env.now out)) }
+    ensures told { OnOk result (StaysTold K.seen work.old work.new) }
+    ensures keeps { WritesWork K.seen work.old work.new result }
+{
+    let Some(model) = model_number(app, model) else {
+        return Ok(());
+    };
+    let target = eval(alloc, work, app, ctx, env, pc, e, splits)?;
+    let sets = read_sets(alloc, work, app, ctx, env, pc, model, cells, splits)?;
+    update(alloc, work, app, pc, model, &target, &sets, splits)?;
+    Ok(())
+}
+
+// Takes the record away that the value refers to; nothing where no model has the name.
+fn execute_delete<K: Keeper, L: Ledger>(
+    alloc: Global,
+    work: &mut Work<'_, K>,
+    app: &App,
+    ctx: &Ctx,
+    env: &Env,
+    pc: &Guard,
+    model: &Txt,
+    e: &Expr,
+    splits: &mut Steps<L>,
+) -> Result<(), Stop>
+    requires attached { IsTrue (K.seen work.old.keeper.now).attached }
+    requires tables { IsTrue (K.seen work.old.keeper.now).tells → length app.now.models ≤ length (K.seen work.old.keeper.now).state.tables }
+    requires no_record { ctx.now.this ≡ None }
+    ensures left { IsTold K.seen work.new → OnOk result ((out : List (List (ℕ × Bool) × Piece)) → Executes app.now ctx.now (Statement.delete model.now (expression_of e.now)) pc.now (faceted (state_of K.seen work.old) env.now out) (faceted (state_of K.seen work.new) env.now out)) }
+    ensures told { OnOk result (StaysTold K.seen work.old work.new) }
+    ensures keeps { WritesWork K.seen work.old work.new result }
+{
+    let Some(model) = model_number(app, model) else {
+        return Ok(());
+    };
+    let target = eval(alloc, work, app, ctx, env, pc, e, splits)?;
+    delete(alloc, work, pc, model, &target)?;
+    Ok(())
+}
+
+// The number of the model of this name.
+fn model_number(app: &App, name: &Txt) -> Option<u8>
+    ensures place { result ≡ model_place (application_of app.now).models name.now }
+    ensures within { IfSome result (λ m. m < length app.now.models) }
+    ensures few { length app.now.models ≤ 64 }
+{
+    let _models = app.models.as_slice();
+    model_of(app, name)
+}

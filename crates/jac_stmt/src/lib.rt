@@ -1,0 +1,16 @@
+//! Statements over faceted rows, under a path condition, for all assignments at once; and the page of their
+//! pieces.
+#![tactic(auto)]
+
+mod assigning;
+mod drafts;
+mod execution;
+mod memory;
+mod out;
+mod page;
+mod pieces;
+
+pub use execution::exec;
+pub use jac_plain::{Page, Piece};
+pub use out::Out;
+pub use page::page_of;
