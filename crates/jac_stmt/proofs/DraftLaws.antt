@@ -1,13 +1,13 @@
 -- The cells that are set, and those of a new record.
-use Rattle.std.proofs.Common.{◌≡◌, ◌∙◌, refl, sym, ap, arith, ℕ, zero, suc, ◌+◌, ◌<◌, ◌==◌, Bool, true, false, if◌then◌else◌, List, [], ◌∷◌, ◌++◌, length, drop, append_assoc, append-nil, slice_get, slice_set, Option, Some, None}
+use Rattle.std.proofs.Common.{◌≡◌, ◌∙◌, refl, sym, ap, arith, ℕ, zero, suc, ◌+◌, ◌<◌, ◌==◌, Bool, true, if◌then◌else◌, List, [], ◌∷◌, ◌++◌, length, drop, append_assoc, append-nil, slice_set, Option, Some, None}
 use Rattle.std.proofs.lemmas.List.{length-append}
 use Rattle.jac_value.specs.declared.value.Kind.{Kind}
 use Rattle.jac_value.specs.declared.value.Kind.TheVariants as kind
 use Rattle.jac_value.specs.declared.value.Value.{Value}
-use Rattle.jac_value.specs.Values.{default_value, has_kind}
+use Rattle.jac_value.specs.Values.{default_value}
 use Rattle.jac_facet.specs.Shape.{Shape, at}
 use Rattle.jac_lang.specs.declared.field_kinds.Field.{Field}
-use Rattle.jac_lang.specs.Lookup.{field_place, kind_named, kind_in, kind_at}
+use Rattle.jac_lang.specs.Lookup.{field_place, kind_named, kind_at}
 use Rattle.jac_lang.specs.Syntax.{Entity, Expression, Assigned}
 use Rattle.jac_plain.specs.Records.{fitting, cell_set, drafted, default_cells, is_place, is_set}
 use Rattle.jac_expr.specs.Tupled.{all_at}

@@ -3,7 +3,7 @@ use Rattle.std.proofs.Common.{◌≡◌, ◌∙◌, refl, sym, ap, subst, ℕ, B
 use Rattle.jac_rows.specs.Good.{IsSound}
 use Rattle.jac_plain.specs.Statements.{Run}
 use Rattle.jac_write.specs.Writes.{numbered}
-use Rattle.jac_stmt.specs.Runs.{Faceted, run_at, Ran, Runs, RanEach, RunsEach, after_each, MayAll}
+use Rattle.jac_stmt.specs.Runs.{Faceted, run_at, Ran, Runs, RunsEach, after_each, MayAll}
 
 module _ {X : Type 0} (step : (ℕ → Bool) → X → Run → Run) (May : ℕ → (ℕ → Bool) → X → Run → Type 0) where
   -- the values that are left leave, from now on, what all of them leave from the start

@@ -1,5 +1,5 @@
 -- What `if` and `for` leave, by what their bodies leave.
-use Rattle.std.proofs.Common.{◌≡◌, ◌∙◌, refl, sym, ap, subst, ℕ, Bool, true, false, if◌then◌else◌, List, [], ◌∷◌, Option, Some, None}
+use Rattle.std.proofs.Common.{◌≡◌, ◌∙◌, refl, sym, ap, subst, ℕ, Bool, true, false, if◌then◌else◌, List, [], ◌∷◌, None}
 use Rattle.jac_value.specs.declared.value.Value.{Value}
 use Rattle.jac_world.specs.World.{holds}
 use Rattle.jac_facet.specs.Leaves.{seen}
@@ -8,19 +8,17 @@ use Rattle.jac_lang.specs.declared.application.App.{App}
 use Rattle.jac_lang.specs.declared.queries.Binder.{Binder}
 use Rattle.jac_lang.specs.Mirror.{application_of}
 use Rattle.jac_lang.specs.Syntax.{Expression, Question, Statement, Statements}
-use Rattle.jac_rows.specs.Good.{IsSound}
 use Rattle.jac_rows.specs.Project.{project_at}
 use Rattle.jac_rows.specs.declared.state.State.{State}
 use Rattle.jac_plain.specs.declared.context.Ctx.{Ctx}
 use Rattle.jac_plain.specs.declared.page.Piece.{Piece}
-use Rattle.jac_plain.specs.Expressions.{answers, bound, is_true}
-use Rattle.jac_plain.specs.Making.{MayRunAll, MayEach, MayChoose, with_env}
-use Rattle.jac_plain.specs.Statements.{Setting, Run, world_of, value_in, choose, for_each, scoped, leaves_all}
+use Rattle.jac_plain.specs.Expressions.{answers, is_true}
+use Rattle.jac_plain.specs.Making.{MayRunAll, MayEach}
+use Rattle.jac_plain.specs.Statements.{Setting, Run, world_of, value_in, choose, for_each, leaves_all}
 use Rattle.jac_query.specs.Live.{live}
 use Rattle.jac_query.specs.declared.tuple.Tuple.{Tuple}
 use Rattle.jac_expr.specs.Seen.{env_at, world_at, Means}
-use Rattle.jac_write.specs.Writes.{numbered}
-use Rattle.jac_stmt.specs.Runs.{Faceted, faceted, run_at, setting_at, Ran, Runs, Executes, RanEach, RunsEach, after_each, MayAll, chosen_at, MayChooseAt, bound_at, MayBindAt, live_under}
+use Rattle.jac_stmt.specs.Runs.{faceted, run_at, setting_at, Executes, RanEach, RunsEach, after_each, MayAll, chosen_at, MayChooseAt, bound_at, MayBindAt, live_under}
 use Rattle.jac_stmt.proofs.RunLaws.{value_here, sound_too}
 
 -- one value, where the path condition holds

@@ -1,5 +1,5 @@
 -- A loop that runs statements through a work.
-use Rattle.std.proofs.Common.{◌≡◌, ◌≤◌, ℕ, List, length, IsTrue}
+use Rattle.std.proofs.Common.{◌≡◌, ◌≤◌, ℕ, length, IsTrue}
 use Rattle.jac_keep.specs.KeeperSeen.{KeeperSeen, IsLeft}
 use Rattle.jac_keep.specs.Worked.{IsTold}
 use Rattle.jac_keep.specs.declared.alteration.Alterations.{Alterations}

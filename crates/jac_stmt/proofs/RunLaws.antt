@@ -1,6 +1,6 @@
 -- Runs under all assignments: what a step leaves, and how steps join.
 use Rattle.std.proofs.Math.Seq.{take-append_seam}
-use Rattle.std.proofs.Common.{◌≡◌, ◌∙◌, refl, sym, ap, subst, ℕ, ◌+◌, Bool, true, false, ◌&&◌, if◌then◌else◌, List, [], ◌∷◌, ◌++◌, length, take, append-nil, zero, suc, Option, Some, None}
+use Rattle.std.proofs.Common.{◌≡◌, ◌∙◌, refl, sym, ap, subst, ℕ, Bool, true, false, if◌then◌else◌, List, [], ◌∷◌, ◌++◌, length, take, append-nil, zero, suc, None}
 use Rattle.jac_value.specs.declared.value.Value.{Value}
 use Rattle.jac_world.specs.World.{holds}
 use Rattle.jac_facet.specs.Leaves.{seen}
@@ -8,7 +8,7 @@ use Rattle.jac_facet.specs.Shape.{Shape, at}
 use Rattle.jac_lang.specs.declared.application.App.{App}
 use Rattle.jac_lang.specs.declared.bindings.Binding.{Binding}
 use Rattle.jac_lang.specs.Mirror.{application_of}
-use Rattle.jac_lang.specs.Syntax.{Expression, Statement, Statements}
+use Rattle.jac_lang.specs.Syntax.{Expression, Statement}
 use Rattle.jac_rows.specs.Good.{IsSound}
 use Rattle.jac_rows.specs.Project.{project_at}
 use Rattle.jac_rows.specs.declared.state.State.{State}

@@ -1,5 +1,5 @@
 -- Statements that write: what they leave, by what the writes leave.
-use Rattle.std.proofs.Common.{◌≡◌, ◌∙◌, refl, sym, ap, subst, arith, ℕ, ◌+◌, ◌*◌, ◌<◌, ◌≤◌, ◌^◌, Bool, true, false, if◌then◌else◌, IsTrue, List, [], ◌∷◌, ◌++◌, length, Option, Some, None}
+use Rattle.std.proofs.Common.{◌≡◌, ◌∙◌, sym, ap, subst, arith, ℕ, ◌<◌, ◌^◌, Bool, true, false, List, Some, None}
 use Rattle.std.proofs.lemmas.Bool.Decides.{nat_tests}
 use Rattle.jac_value.specs.declared.value.Value.{Value}
 use Rattle.jac_value.specs.declared.value.Value.TheVariants as value
@@ -10,7 +10,6 @@ use Rattle.jac_lang.specs.declared.application.App.{App}
 use Rattle.jac_lang.specs.Lookup.{model_place, fields_at}
 use Rattle.jac_lang.specs.Mirror.{application_of}
 use Rattle.jac_lang.specs.Syntax.{Entity, Expression, Assigned, Statement, Statements}
-use Rattle.jac_rows.specs.Good.{IsSound}
 use Rattle.jac_rows.specs.Project.{project_at}
 use Rattle.jac_rows.specs.Tables.{rows_of}
 use Rattle.jac_rows.specs.declared.plain.PlainRow.{PlainRow}
@@ -20,13 +19,13 @@ use Rattle.jac_plain.specs.declared.page.Piece.{Piece}
 use Rattle.jac_plain.specs.Expressions.{mean, stands}
 use Rattle.jac_plain.specs.Making.{MayRun, MayRunAll, IsNew, MayCreate}
 use Rattle.jac_plain.specs.Records.{drafted, default_cells, plain_row, shielded, every_field, is_set, changed, without, tables_after}
-use Rattle.jac_plain.specs.Statements.{Run, value_in, with_record, with_binding, created_cells, created, updated_cells, updated, deleted, leaves, leaves_all}
+use Rattle.jac_plain.specs.Statements.{Run, value_in, with_record, created_cells, created, updated_cells, updated, deleted, leaves, leaves_all}
 use Rattle.jac_plain.specs.World.{record_with}
 use Rattle.jac_expr.specs.Seen.{env_at, world_at, Means}
 use Rattle.jac_expr.specs.Tupled.{all_at}
-use Rattle.jac_write.specs.Writes.{PlainTables, numbered, Written, Writes, Creates, fitted_from, made_cells, tables_made, sets_at, put_in, is_put, remade_cells, tables_remade}
+use Rattle.jac_write.specs.Writes.{Writes, Creates, fitted_from, tables_made, sets_at, remade_cells, tables_remade}
 use Rattle.jac_stmt.specs.Drafts.{placed_sets}
-use Rattle.jac_stmt.specs.Runs.{Faceted, faceted, run_at, setting_at, Ran, Runs, Executes, named_at, MayNameAt}
+use Rattle.jac_stmt.specs.Runs.{faceted, run_at, setting_at, Runs, Executes, named_at, MayNameAt}
 use Rattle.jac_stmt.proofs.DraftLaws.{drafted-placed, is_set-placed}
 use Rattle.jac_stmt.proofs.RunLaws.{value_here, nothing_runs, written_ran, sound_too, write_runs, then_runs}
 

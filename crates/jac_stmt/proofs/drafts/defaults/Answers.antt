@@ -1,5 +1,4 @@
-use Rattle.std.proofs.Common.{rules, ap}
-use Rattle.jac_facet.specs.Shape.{at}
+use Rattle.std.proofs.Common.{rules}
 use Rattle.jac_lang.specs.Lookup.{fields_at}
 use Rattle.jac_lang.specs.Mirror.{application_of}
 use Rattle.jac_stmt.proofs.DraftLaws.{default-next}

@@ -1,4 +1,4 @@
-use Rattle.std.proofs.Common.{◌≡◌, ◌≤◌, ◌++◌, ℕ, Bool, drop, length}
+use Rattle.std.proofs.Common.{◌≡◌, ◌++◌, ℕ, Bool, drop, length}
 use Rattle.jac_expr.specs.Tupled.{all_at}
 use Rattle.jac_lang.specs.Lookup.{fields_at}
 use Rattle.jac_lang.specs.Mirror.{application_of}

@@ -1,4 +1,4 @@
-use Rattle.std.proofs.Common.{rules, sym, ◌∙◌, ap, ◌<◌, ℕ, List, length, All, subst, ◌≡◌}
+use Rattle.std.proofs.Common.{sym, ◌∙◌, ap, ◌<◌, ℕ, List, length, All, subst}
 use Rattle.jac_expr.specs.Seen.{env_at, world_at}
 use Rattle.jac_expr.specs.Tupled.{all_at}
 use Rattle.jac_facet.specs.Shape.{Shape}

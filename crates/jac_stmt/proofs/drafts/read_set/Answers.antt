@@ -1,11 +1,11 @@
-use Rattle.std.proofs.Common.{rules, sym, ◌∙◌}
+use Rattle.std.proofs.Common.{sym, ◌∙◌}
 use Rattle.jac_expr.specs.Seen.{env_at, world_at}
 use Rattle.jac_keep.specs.Worked.{state_of}
 use Rattle.jac_lang.specs.Lookup.{fields_at}
 use Rattle.jac_lang.specs.Syntax.{Expression}
 use Rattle.jac_lang.specs.Mirror.{application_of, one_assigned_of}
 use Rattle.jac_plain.specs.Expressions.{mean}
-use Rattle.jac_stmt.proofs.DraftLaws.{sets-pushed, sets-passed}
+use Rattle.jac_stmt.proofs.DraftLaws.{sets-pushed}
 use Rattle.jac_stmt.proofs.drafts.read_set.Goals as goal
 
 pub returns-clause-sets : goal.returns-clause-sets

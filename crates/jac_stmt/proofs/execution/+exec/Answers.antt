@@ -1,4 +1,4 @@
-use Rattle.std.proofs.Common.{◌≡◌, ◌∙◌, refl, sym, ap, subst, ℕ, List, [], ◌∷◌, ◌++◌, length, Some}
+use Rattle.std.proofs.Common.{◌∙◌, refl, sym, ap, subst, ℕ, List, [], ◌∷◌, ◌++◌, length, Some}
 use Rattle.jac_value.specs.declared.value.Value.TheVariants as value
 use Rattle.jac_value.specs.Ids.{record_id, model_of_id}
 use Rattle.jac_world.specs.World.{holds}
@@ -9,13 +9,12 @@ use Rattle.jac_lang.specs.Mirror.{application_of, assigned_of, binders_of, expre
 use Rattle.jac_plain.specs.Expressions.{bound, binding}
 use Rattle.jac_plain.specs.Making.{MayRunAll}
 use Rattle.jac_plain.specs.Statements.{leaves_all}
-use Rattle.jac_expr.specs.Seen.{env_at}
 use Rattle.jac_expr.specs.Tupled.{all_at, bindings_of}
 use Rattle.jac_expr.proofs.Bound.{bound-shown}
 use Rattle.jac_expr.proofs.Names.{env_at-append}
 use Rattle.jac_query.specs.declared.tuple.Tuple.{Tuple}
 use Rattle.jac_write.specs.Writes.{Creates, tables_made}
-use Rattle.jac_stmt.specs.Runs.{faceted, setting_at, RunsEach, chosen_at, MayChooseAt, bound_at, MayBindAt, live_under}
+use Rattle.jac_stmt.specs.Runs.{faceted, setting_at, RunsEach, bound_at, MayBindAt, live_under}
 use Rattle.jac_stmt.proofs.FormLaws.{branches, repeats}
 use Rattle.jac_stmt.proofs.RunLaws.{scopes}
 use Rattle.jac_stmt.proofs.WriteLaws.{makes}

@@ -1,4 +1,4 @@
-use Rattle.std.proofs.Common.{◌≡◌, ◌≤◌, ◌+◌, ◌*◌, max, ℕ, Bool, length, drop}
+use Rattle.std.proofs.Common.{◌≤◌, ◌+◌, ◌*◌, max, length, drop}
 use Rattle.jac_facet.specs.Leaves.{seen}
 use Rattle.jac_keep.specs.Worked.{state_of}
 use Rattle.jac_lang.specs.declared.statements.Stmt.{size-Stmt}
