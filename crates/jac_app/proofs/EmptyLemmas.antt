@@ -3,7 +3,6 @@ use Rattle.std.proofs.Common.{◌≡◌, ◌∙◌, ap, refl, sym, subst, ℕ, �
 use Rattle.jac_rows.specs.declared.row.Row.{Row}
 use Rattle.jac_rows.specs.declared.state.State.{State}
 use Rattle.jac_rows.specs.Good.{AreSound}
-use Rattle.jac_engine.specs.Start.{AreUnguarded}
 use Rattle.jac_app.specs.Keeping.{IsForAll, empties}
 
 before-empties : (n : ℕ) → empties n ++ [] ∷ [] ≡ empties (suc n)
@@ -23,13 +22,8 @@ sound-empties : (n next model : ℕ) → AreSound next model (empties n)
 sound-empties zero next model = tt
 sound-empties (suc n) next model = (tt, tt, sound-empties n next (model + 1))
 
-unguarded-empties : (n : ℕ) → AreUnguarded (empties n)
-unguarded-empties zero = tt
-unguarded-empties (suc n) = (tt, unguarded-empties n)
-
 pub empty-start : (s : State) → s.tables ≡ empties 64 → 1 ≤ s.number → s.number ≤ 2 ^ 40 → IsForAll s
 empty-start s empty from to = record {
   sound = record { next = (from, to); tables = subst (λ (ts : List (List Row)). AreSound s.number 0 ts) (sym empty) (sound-empties 64 s.number 0) };
   tables = let e = ap length empty ∙ length-empties 64 in omega (arith, e);
-  unguarded = subst AreUnguarded (sym empty) (unguarded-empties 64);
 }

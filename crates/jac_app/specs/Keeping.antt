@@ -4,7 +4,6 @@ use Rattle.jac_rows.specs.declared.row.Row.{Row}
 use Rattle.jac_rows.specs.declared.state.State.{State}
 use Rattle.jac_rows.specs.Good.{IsSound}
 use Rattle.jac_keep.specs.KeeperSeen.{KeeperSeen}
-use Rattle.jac_engine.specs.Start.{AreUnguarded}
 use Rattle.jac_app.specs.Outside.{Span}
 
 -- the keeper was not called
@@ -15,12 +14,10 @@ IsStill k = k.after ≡ k.before
 abbrev pub Grew : ℕ → ℕ → ℕ → Type 0
 Grew before by now = min (before + by) (2 ^ 64 - 1) ≤ now
 
--- a state that any application may start from: sound, with a table for each model that one can have, and
--- shown whole to everybody
+-- a state that any application may start from: sound, with a table for each model that one can have
 pub record IsForAll (s : State) : Type 0 where
   pub sound : IsSound s
   pub tables : 64 ≤ length s.tables
-  pub unguarded : AreUnguarded s.tables
 
 -- so many empty tables
 abbrev pub empties : ℕ → List (List Row)

@@ -1,7 +1,6 @@
-pub mod DraftLaws
-pub mod RecordLaws
-pub mod RunLaws
 pub mod PlaceLaws
-pub mod PageLaws
+pub mod ServedLaws
+pub mod SiteLaws
+pub mod ViewLaws
 pub mod AnswerLaws
 pub mod PreparedLaws

@@ -1,32 +1,27 @@
 -- From what a view prepares to what answers a request.
-use Rattle.std.proofs.Common.{◌≡◌, ◌∙◌, ap, sym, subst, refl, inl, inr, ℕ, ◌≤◌, ◌&&◌, nat_lt, Bool, true, false, IsTrue, Option, Some, None, List, length, slice_get}
-use Rattle.std.proofs.lemmas.Bool.{and_parts}
+use Rattle.std.proofs.Common.{◌≡◌, ◌∙◌, ap, sym, subst, refl, inl, inr, ℕ, ◌≤◌, Bool, true, IsTrue, Option, Some, List, length, slice_get}
 use Rattle.std.specs.Prelude.{is_some}
 use Rattle.jac_lang.specs.declared.pages.Verb.{Verb}
 use Rattle.jac_lang.specs.declared.pages.Verb.TheVariants as verbs
-use Rattle.jac_lang.specs.Syntax.{Statement, Statements, Page as View, Application}
+use Rattle.jac_lang.specs.Syntax.{Application}
 use Rattle.jac_rows.specs.Good.{IsGood, IsGoodPlain}
 use Rattle.jac_rows.specs.Project.{project_at}
 use Rattle.jac_rows.specs.declared.plain.PlainState.{PlainState}
 use Rattle.jac_rows.specs.declared.state.State.{State}
-use Rattle.jac_plain.specs.Models.{kinds_of, is_sited, are_sited}
-use Rattle.jac_plain.specs.Requests.{Visit, method_in, body_in, after, after_by}
+use Rattle.jac_plain.specs.Models.{kinds_of}
+use Rattle.jac_plain.specs.Requests.{Visit, method_in, after, after_by}
 use Rattle.jac_plain.proofs.GoodLaws.{good_after}
 use Rattle.jac_keep.specs.declared.alteration.Change.{Change}
 use Rattle.jac_engine.specs.Answers.{IsSomePage, IsAnswerOf, IsAnswerBy, HasFormOf, HasFormBy, left_by, is_post, is_stored_by, visit_of}
 use Rattle.jac_engine.specs.Found.{Found, found}
 use Rattle.jac_engine.specs.Prepared.{IsPrepared, applied_if, worlds_of}
-use Rattle.jac_engine.specs.Served.{is_showing, are_showing, is_making, are_making, is_served_body, are_served}
+use Rattle.jac_engine.specs.Served.{are_served}
 use Rattle.jac_engine.specs.Start.{IsStart}
 use Rattle.jac_engine.specs.Viewed.{IsPreparedBy, IsPreparedFor}
-use Rattle.jac_engine.proofs.AnswerLaws.{served_body}
+use Rattle.jac_engine.proofs.ServedLaws.{sited_view}
 use Rattle.jac_engine.specs.declared.answer.Answer.{Answer}
 use Rattle.jac_engine.specs.declared.answer.Ask.{Ask}
 use Rattle.jac_engine.specs.declared.answer.Prepared.{Prepared}
-
-both_true : (a b : Bool) → a ≡ true → b ≡ true → (a && b) ≡ true
-both_true true b one two = two
-both_true false b one two = one
 
 shown_in : (answer : Answer) (page : IsSomePage answer) → answer.shown ≡ Some page.labels
 shown_in answer page = ap (λ (a : Answer). a.shown) page.made
@@ -112,58 +107,6 @@ start_for : (f : Found) (tells : Bool) (app : Application) (s : State) (ask : As
 start_for Found.no_route tells app s ask p h told start = rw h start
 start_for (Found.wrong_method allow) tells app s ask p h told start = rw h start
 start_for (Found.view n) tells app s ask p h told start = start_by (method_in (slice_get app.views n)) tells app s (visit_of app ask n) p h told start
-
-mutual
-  showing_sited : (s : Statement) → is_showing s ≡ true → is_sited s ≡ true
-  showing_sited (Statement.put e) h = refl
-  showing_sited (Statement.escape e) h = refl
-  showing_sited (Statement.bind x e body) h = cc
-  showing_sited (Statement.assign x e) h = refl
-  showing_sited (Statement.branch c first second) h = cc
-  showing_sited (Statement.each q body) h = all_showing_sited body h
-  showing_sited (Statement.create x m site cells body) h = cc
-  showing_sited (Statement.update m e cells) h = refl
-  showing_sited (Statement.delete m e) h = refl
-  showing_sited Statement.missing h = refl
-  showing_sited (Statement.redirect e) h = refl
-  showing_sited (Statement.template t) h = refl
-  showing_sited (Statement.block body) h = cc
-
-  all_showing_sited : (s : Statements) → are_showing s ≡ true → are_sited s ≡ true
-  all_showing_sited Statements.none h = refl
-  all_showing_sited (Statements.more s rest) h =
-      both_true (is_sited s) (are_sited rest) (showing_sited s (and_parts (is_showing s) (are_showing rest) h).0) (all_showing_sited rest (and_parts (is_showing s) (are_showing rest) h).1)
-
-mutual
-  making_sited : (s : Statement) → is_making s ≡ true → is_sited s ≡ true
-  making_sited (Statement.put e) h = refl
-  making_sited (Statement.escape e) h = refl
-  making_sited (Statement.bind x e body) h = cc
-  making_sited (Statement.assign x e) h = refl
-  making_sited (Statement.branch c first second) h = cc
-  making_sited (Statement.each q body) h = cc
-  making_sited (Statement.create x m site cells body) h =
-      let parts = and_parts (nat_lt site 64) (are_making body) h in
-      both_true (nat_lt site 64) (are_sited body) parts.0 (all_making_sited body parts.1)
-  making_sited (Statement.update m e cells) h = refl
-  making_sited (Statement.delete m e) h = refl
-  making_sited Statement.missing h = refl
-  making_sited (Statement.redirect e) h = refl
-  making_sited (Statement.template t) h = refl
-  making_sited (Statement.block body) h = cc
-
-  all_making_sited : (s : Statements) → are_making s ≡ true → are_sited s ≡ true
-  all_making_sited Statements.none h = refl
-  all_making_sited (Statements.more s rest) h =
-      both_true (is_sited s) (are_sited rest) (making_sited s (and_parts (is_making s) (are_making rest) h).0) (all_making_sited rest (and_parts (is_making s) (are_making rest) h).1)
-
-sited_body : (v : Verb) (body : Statements) → is_served_body v body ≡ true → are_sited body ≡ true
-sited_body verbs.Get body h = all_showing_sited body h
-sited_body verbs.Post body h = all_making_sited body h
-
-sited_view : (app : Application) (n : ℕ) (found : Option View) → are_served app ≡ true → slice_get app.views n ≡ found → are_sited (body_in found) ≡ true
-sited_view app n None h is = refl
-sited_view app n (Some v) h is = sited_body v.method v.body (served_body app n v h is)
 
 good_by : (v : Verb) (tells : Bool) (app : Application) (s : State) (ask : Ask) (n : ℕ) (p : Prepared) → are_served app ≡ true → length app.models ≤ 64
     → IsPreparedBy v tells app s (visit_of app ask n) p → IsTrue tells → IsGood (kinds_of app) s → IsGood (kinds_of app) (applied_if p.change s)

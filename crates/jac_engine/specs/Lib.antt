@@ -1,9 +1,9 @@
 pub mod Served
+pub mod Sites
 pub mod Found
 pub mod Start
-pub mod Running
+pub mod Views
 pub mod Refused
-pub mod Ran
 pub mod Answers
 pub mod Prepared
 pub mod Viewed

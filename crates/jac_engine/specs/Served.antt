@@ -1,37 +1,42 @@
 -- The applications that are served.
-use Rattle.std.specs.Prelude.{ℕ, ◌==◌, ◌&&◌, not, nat_lt, Bool, true, false, List, [], ◌∷◌}
+use Rattle.std.specs.Prelude.{ℕ, ◌+◌, ◌==◌, ◌&&◌, not, nat_le, nat_lt, Bool, true, false, if◌then◌else◌, List, [], ◌∷◌, Option, Some, None, is_some}
 use Rattle.std.specs.List.{list_all, list_any}
 use Rattle.std.specs.Str.{bytes_eq}
 use Rattle.jac_lang.specs.declared.pages.Verb.{Verb}
 use Rattle.jac_lang.specs.declared.pages.Verb.TheVariants as verbs
 use Rattle.jac_lang.specs.Syntax.{Statement, Statements, Page, Application}
-use Rattle.jac_plain.specs.Models.{are_without_groups}
+use Rattle.jac_lang.specs.Written.{sites}
+use Rattle.jac_plain.specs.Models.{are_unlooped}
+use Rattle.jac_plain.specs.Reading.{are_reading}
 
 abbrev mutual
-  -- a statement that shows values: any expression, once or for each answer of any query
-  pub is_showing : Statement → Bool
-  is_showing (Statement.put e) = true
-  is_showing (Statement.each q body) = are_showing body
-  is_showing s = false
+  -- no template stands in the statement
+  pub is_untemplated : Statement → Bool
+  is_untemplated (Statement.bind x e body) = are_untemplated body
+  is_untemplated (Statement.branch c first second) = are_untemplated first && are_untemplated second
+  is_untemplated (Statement.each q body) = are_untemplated body
+  is_untemplated (Statement.create x m site cells body) = are_untemplated body
+  is_untemplated (Statement.template t) = false
+  is_untemplated (Statement.block body) = are_untemplated body
+  is_untemplated s = true
 
-  pub are_showing : Statements → Bool
-  are_showing Statements.none = true
-  are_showing (Statements.more s rest) = is_showing s && are_showing rest
+  pub are_untemplated : Statements → Bool
+  are_untemplated Statements.none = true
+  are_untemplated (Statements.more s rest) = is_untemplated s && are_untemplated rest
 
-abbrev mutual
-  -- a statement that makes records, whose cells are any expressions, at one of 64 sites, or shows a value
-  pub is_making : Statement → Bool
-  is_making (Statement.put e) = true
-  is_making (Statement.create x m site cells body) = nat_lt site 64 && are_making body
-  is_making s = false
+-- the number behind the last site, where the sites rise from this one on and are below 64
+abbrev pub behind_sites : ℕ → List ℕ → Option ℕ
+behind_sites next [] = Some next
+behind_sites next (site ∷ rest) = if nat_le next site && nat_lt site 64 then behind_sites (site + 1) rest else None
 
-  pub are_making : Statements → Bool
-  are_making Statements.none = true
-  are_making (Statements.more s rest) = is_making s && are_making rest
+-- each create has a site of its own, one of 64, and none stands in a `for`
+abbrev pub have_own_sites : Statements → Bool
+have_own_sites body = is_some (behind_sites 0 (sites body)) && are_unlooped false body
 
+-- a GET writes nothing
 abbrev pub is_served_body : Verb → Statements → Bool
-is_served_body verbs.Get body = are_showing body
-is_served_body verbs.Post body = are_making body
+is_served_body verbs.Get body = are_untemplated body && are_reading body
+is_served_body verbs.Post body = are_untemplated body && have_own_sites body
 
 -- no part of the path is a name in braces
 abbrev pub is_fixed : List ℕ → Bool
@@ -58,6 +63,6 @@ abbrev pub are_served_views : List Page → Bool
 are_served_views [] = true
 are_served_views (v ∷ vs) = is_served_view v && are_served_views vs
 
--- models without groups; views of GET that show values, views of POST that make records
+-- fixed paths, and every statement but a template
 abbrev pub are_served : Application → Bool
-are_served app = are_without_groups app.models && are_served_views app.views && have_own_routes app.views
+are_served app = are_served_views app.views && have_own_routes app.views

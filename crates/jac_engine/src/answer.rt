@@ -1,7 +1,6 @@
 ghost use Rattle.std.specs.Prelude.{◌≡◌, ◌<◌, true, length, slice_get, IfOk, OnOk, OnErr, IfSome, IsTrue, Some, []};
 ghost use Rattle.jac_lang.specs.Mirror.{application_of, page_of, statements_of};
 ghost use Rattle.jac_lang.specs.declared.pages.Verb.TheVariants as verbs;
-ghost use Rattle.jac_plain.specs.Models.{are_without_groups};
 ghost use Rattle.jac_plain.specs.Requests.{method_in};
 ghost use Rattle.jac_keep.specs.Cause.{HasCause};
 ghost use Rattle.jac_keep.specs.KeeperSeen.{Reads};
@@ -10,14 +9,14 @@ ghost use Rattle.jac_rows.specs.Good.{IsSound};
 ghost use Rattle.jac_engine.specs.Answers.{visit_of, page_answer};
 ghost use Rattle.jac_engine.specs.Found.{found};
 ghost use Rattle.jac_engine.specs.Prepared.{IsPrepared, applied_if};
-ghost use Rattle.jac_engine.specs.Served.{are_served, are_showing, are_making};
+ghost use Rattle.jac_engine.specs.Served.{are_served, is_served_body};
 ghost use Rattle.jac_engine.specs.Start.{IsStart};
 ghost use Rattle.jac_engine.specs.Viewed.{IsPreparedBy, IsPreparedFor, IsShown};
 
-use crate::finding::{has_at, place_of, view_at};
+use crate::lookup::{has_at, place_of, view_at};
 use crate::refusal::{refuse, refuse_path};
-use crate::visiting::{shown_page, stored_page};
-use jac_keep::{Change, Keeper, Stop, sound_after_change};
+use crate::visit::{shown_page, stored_page};
+use jac_keep::{Change, Keeper, Stop};
 use jac_lang::{App, Verb, View};
 use jac_plain::Page;
 use jac_route::Pairs;
@@ -128,7 +127,7 @@ fn answer_view<K: Keeper, L: Ledger>(
     }
 }
 
-// The page of a view that shows records.
+// The page of a view that shows.
 fn show<K: Keeper, L: Ledger>(
     alloc: Global,
     app: &App,
@@ -141,8 +140,7 @@ fn show<K: Keeper, L: Ledger>(
     requires attached { IsTrue (K.seen keeper.old).attached }
     requires start { IsTrue (K.seen keeper.old).tells → IsStart (application_of app.now) (K.seen keeper.old).state }
     requires view { slice_get (application_of app.now).views place ≡ Some (page_of view.now) }
-    requires groupless { are_without_groups (application_of app.now).models ≡ true }
-    requires served { are_showing (statements_of view.now.body) ≡ true }
+    requires served { is_served_body verbs.Get (statements_of view.now.body) ≡ true }
     ensures shown { IfOk result (IsShown (K.seen keeper.new).tells (application_of app.now) (K.seen keeper.old).state (visit_of (application_of app.now) ask.now place)) }
     ensures reads { Reads (K.seen keeper.old) (K.seen keeper.new) result }
 {
@@ -154,7 +152,7 @@ fn show<K: Keeper, L: Ledger>(
     })
 }
 
-// The page of a view that makes records, and these, while there are numbers.
+// The page of a view that stores, and what it stores, while there are numbers.
 fn store<K: Keeper, L: Ledger>(
     alloc: Global,
     app: &App,
@@ -168,12 +166,10 @@ fn store<K: Keeper, L: Ledger>(
     requires start { IsTrue (K.seen keeper.old).tells → IsStart (application_of app.now) (K.seen keeper.old).state }
     requires view { slice_get (application_of app.now).views place ≡ Some (page_of view.now) }
     requires method { view.now.method ≡ verbs.Post }
-    requires groupless { are_without_groups (application_of app.now).models ≡ true }
-    requires served { are_making (statements_of view.now.body) ≡ true }
+    requires served { is_served_body verbs.Post (statements_of view.now.body) ≡ true }
     ensures stored { IfOk result (λ p. IsPreparedBy verbs.Post (K.seen keeper.new).tells (application_of app.now) (K.seen keeper.old).state (visit_of (application_of app.now) ask.now place) p) }
     ensures reads { Reads (K.seen keeper.old) (K.seen keeper.new) result }
 {
-    sound_after_change();
     let number = keeper.number()?;
     if number == LAST_NUMBER {
         let prepared = refuse(alloc, 507, None)?;

@@ -2,14 +2,11 @@
 #![tactic(auto)]
 
 mod answer;
-mod drafting;
-mod finding;
-mod page;
-mod reading;
+mod lookup;
+mod parameters;
 mod refusal;
-mod running;
 mod served;
-mod visiting;
+mod visit;
 
 pub use answer::{Answer, Ask, Prepared, commit, prepare};
 pub use served::serves;

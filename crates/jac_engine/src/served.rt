@@ -1,41 +1,21 @@
 //! Which applications are served.
-ghost use Rattle.std.specs.Prelude.{◌≡◌};
-ghost use Rattle.jac_lang.specs.Mirror.{application_of, entities_of, groups_of, pages_of, page_of, statement_of, statements_of};
-ghost use Rattle.jac_plain.specs.Models.{are_without_groups, is_none};
-ghost use Rattle.jac_engine.specs.Served.{are_served, are_served_views, is_served_view, is_served_body, have_own_routes, is_fixed, are_showing, is_showing, are_making, is_making};
+ghost use Rattle.std.specs.Prelude.{◌≡◌, false};
+ghost use Rattle.jac_lang.specs.Mirror.{application_of, pages_of, page_of, statement_of, statements_of};
+ghost use Rattle.jac_plain.specs.Models.{are_unlooped, is_unlooped};
+ghost use Rattle.jac_plain.specs.Reading.{are_reading, is_reading};
+ghost use Rattle.jac_engine.specs.Served.{are_served, are_served_views, is_served_view, is_served_body, have_own_routes, have_own_sites, is_fixed, are_untemplated, is_untemplated};
+ghost use Rattle.jac_engine.specs.Sites.{behind_all, behind_one};
 
-use crate::finding::has_at;
-use jac_lang::{App, Group, ModelDef, Stmt, Stmts, Verb, View};
+use crate::lookup::has_at;
+use jac_lang::{App, Stmt, Stmts, Verb, View};
 use jac_value::Txt;
 
 /// Whether the application is of the forms that are served.
 pub fn serves(app: &App) -> bool
     ensures { result ≡ are_served (application_of app.now) }
 {
-    let groupless = are_groupless(app.models.as_slice());
     let views = app.views.as_slice();
-    groupless && serves_views(views) && own_routes(views)
-}
-
-fn are_groupless(models: &[ModelDef]) -> bool
-    ensures { result ≡ are_without_groups (entities_of models.now) }
-{
-    'models: for model in models {
-        if !is_empty(model.groups.as_slice()) {
-            return false;
-        }
-    }
-    true
-}
-
-#[tactic(auto, using(crate::proofs::PlaceLaws::some_groups))]
-fn is_empty(groups: &[Group]) -> bool
-    ensures { result ≡ is_none (groups_of groups.now) }
-{
-    match groups {
-        [] => true,
-        [_, ..] => false,
-    }
+    serves_views(views) && own_routes(views)
 }
 
 fn serves_views(views: &[View]) -> bool
@@ -65,9 +45,16 @@ fn serves_body(method: Verb, body: &Stmts) -> bool
     ensures { result ≡ is_served_body method (statements_of body.now) }
 {
     match method {
-        Verb::Get => shows_all(body),
-        Verb::Post => makes_all(body),
+        Verb::Get => all_expanded(body) && all_read(body),
+        Verb::Post => all_expanded(body) && own_sites(body),
     }
+}
+
+#[tactic(auto, using(crate::proofs::SiteLaws::behind_list))]
+fn own_sites(body: &Stmts) -> bool
+    ensures { result ≡ have_own_sites (statements_of body.now) }
+{
+    last_site(body, 0).is_some() && none_looped(body, false)
 }
 
 // No two views have one method and path.
@@ -84,13 +71,14 @@ fn own_routes(views: &[View]) -> bool
     true
 }
 
-#[cycle(shows)]
-fn shows_all(body: &Stmts) -> bool
-    ensures { result ≡ are_showing (statements_of body.now) }
+// No template stands in the statements.
+#[cycle(expanded)]
+fn all_expanded(body: &Stmts) -> bool
+    ensures { result ≡ are_untemplated (statements_of body.now) }
 {
     let mut left = body;
     'body: while let Stmts::More(first, rest) = left {
-        if !shows(first) {
+        if !is_expanded(first) {
             return false;
         }
         left = rest;
@@ -98,24 +86,35 @@ fn shows_all(body: &Stmts) -> bool
     true
 }
 
-#[cycle(shows)]
-fn shows(stmt: &Stmt) -> bool
-    ensures { result ≡ is_showing (statement_of stmt.now) }
+#[cycle(expanded)]
+fn is_expanded(stmt: &Stmt) -> bool
+    ensures { result ≡ is_untemplated (statement_of stmt.now) }
 {
     match stmt {
-        Stmt::Put(_) => true,
-        Stmt::For(_, body) => shows_all(body),
-        _ => false,
+        Stmt::Let(_, _, body) => all_expanded(body),
+        Stmt::If(_, first, second) => all_expanded(first) && all_expanded(second),
+        Stmt::For(_, body) => all_expanded(body),
+        Stmt::Create {
+            name: _,
+            model: _,
+            site: _,
+            cells: _,
+            body,
+        } => all_expanded(body),
+        Stmt::Template(_) => false,
+        Stmt::Block(body) => all_expanded(body),
+        _ => true,
     }
 }
 
-#[cycle(makes)]
-fn makes_all(body: &Stmts) -> bool
-    ensures { result ≡ are_making (statements_of body.now) }
+// The statements write nothing.
+#[cycle(reads)]
+fn all_read(body: &Stmts) -> bool
+    ensures { result ≡ are_reading (statements_of body.now) }
 {
     let mut left = body;
     'body: while let Stmts::More(first, rest) = left {
-        if !makes(first) {
+        if !only_reads(first) {
             return false;
         }
         left = rest;
@@ -123,19 +122,100 @@ fn makes_all(body: &Stmts) -> bool
     true
 }
 
-#[cycle(makes)]
-fn makes(stmt: &Stmt) -> bool
-    ensures { result ≡ is_making (statement_of stmt.now) }
+#[cycle(reads)]
+fn only_reads(stmt: &Stmt) -> bool
+    ensures { result ≡ is_reading (statement_of stmt.now) }
 {
     match stmt {
-        Stmt::Put(_) => true,
+        Stmt::Let(_, _, body) => all_read(body),
+        Stmt::If(_, first, second) => all_read(first) && all_read(second),
+        Stmt::For(_, body) => all_read(body),
+        Stmt::Create { .. } => false,
+        Stmt::Update(_, _, _) => false,
+        Stmt::Delete(_, _) => false,
+        Stmt::Block(body) => all_read(body),
+        _ => true,
+    }
+}
+
+// No create stands in a `for`, in which the statements stand where `looped` says so.
+#[cycle(looped)]
+fn none_looped(body: &Stmts, looped: bool) -> bool
+    ensures { result ≡ are_unlooped looped (statements_of body.now) }
+{
+    let mut left = body;
+    'body: while let Stmts::More(first, rest) = left {
+        if !creates_once(first, looped) {
+            return false;
+        }
+        left = rest;
+    }
+    true
+}
+
+#[cycle(looped)]
+fn creates_once(stmt: &Stmt, looped: bool) -> bool
+    ensures { result ≡ is_unlooped looped (statement_of stmt.now) }
+{
+    match stmt {
+        Stmt::Let(_, _, body) => none_looped(body, looped),
+        Stmt::If(_, first, second) => none_looped(first, looped) && none_looped(second, looped),
+        Stmt::For(_, body) => none_looped(body, true),
+        Stmt::Create {
+            name: _,
+            model: _,
+            site: _,
+            cells: _,
+            body,
+        } => !looped && none_looped(body, looped),
+        Stmt::Block(body) => none_looped(body, looped),
+        _ => true,
+    }
+}
+
+// The number behind the last site, where the sites rise from the next one on and are below 64.
+#[cycle(sites)]
+fn last_site(body: &Stmts, next: u8) -> Option<u8>
+    ensures { result ≡ behind_all next (statements_of body.now) }
+{
+    let mut left = body;
+    let mut reached = next;
+    'body: while let Stmts::More(first, rest) = left {
+        let Some(behind) = last_site_in(first, reached) else {
+            return None;
+        };
+        reached = behind;
+        left = rest;
+    }
+    Some(reached)
+}
+
+#[cycle(sites)]
+fn last_site_in(stmt: &Stmt, next: u8) -> Option<u8>
+    ensures { result ≡ behind_one next (statement_of stmt.now) }
+{
+    match stmt {
+        Stmt::Let(_, _, body) => last_site(body, next),
+        Stmt::If(_, first, second) => {
+            let Some(behind) = last_site(first, next) else {
+                return None;
+            };
+            last_site(second, behind)
+        }
+        Stmt::For(_, body) => last_site(body, next),
         Stmt::Create {
             name: _,
             model: _,
             site,
             cells: _,
             body,
-        } => *site < 64 && makes_all(body),
-        _ => false,
+        } => {
+            if next <= *site && *site < 64 {
+                return last_site(body, *site + 1);
+            }
+            None
+        }
+        Stmt::Block(body) => last_site(body, next),
+        _ => Some(next),
     }
 }

@@ -1,5 +1,5 @@
 -- What the creates of a run ask of it: each makes a record that is new.
-use Rattle.std.specs.Prelude.{◌≡◌, ℕ, ◌<◌, ◌++◌, Bool, true, false, ⊤, List, [], ◌∷◌, Option, Some, None}
+use Rattle.std.specs.Prelude.{◌≡◌, ℕ, ◌<◌, ◌++◌, ◌==◌, ◌&&◌, ◌||◌, not, Bool, true, false, ⊤, List, [], ◌∷◌, Option, Some, None}
 use Rattle.jac_value.specs.declared.value.Value.{Value}
 use Rattle.jac_value.specs.declared.value.Value.TheVariants as value
 use Rattle.jac_value.specs.Ids.{record_id}
@@ -59,3 +59,20 @@ abbrev mutual
   pub MayRunAll : ℕ → Setting → Statements → Run → Type 0
   MayRunAll next k Statements.none r = ⊤
   MayRunAll next k (Statements.more s rest) r = MayRun next k s r × MayRunAll next k rest (leaves k s r)
+
+abbrev pub is_among : ℕ → List ℕ → Bool
+is_among site [] = false
+is_among site (x ∷ xs) = (x == site) || is_among site xs
+
+-- pairwise different
+abbrev pub are_apart : List ℕ → Bool
+are_apart [] = true
+are_apart (x ∷ xs) = not (is_among x xs) && are_apart xs
+
+-- no record of this id stands
+abbrev pub IsAbsent : ℕ → List PlainRow → Type 0
+IsAbsent id rows = stands (record_with id rows) ≡ false
+
+-- no record that the request of this number makes at one of the sites stands
+abbrev pub AreAbsent : ℕ → List ℕ → List (List PlainRow) → Type 0
+AreAbsent number sites tables = (site m : ℕ) → is_among site sites ≡ true → IsAbsent (record_id number site m) (rows_of tables m)

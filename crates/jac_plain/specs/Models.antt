@@ -1,5 +1,5 @@
 -- What the models of an application say of tables, and the applications that hide nothing.
-use Rattle.std.specs.Prelude.{◌&&◌, nat_lt, Bool, true, false, List, [], ◌∷◌}
+use Rattle.std.specs.Prelude.{◌&&◌, not, nat_lt, Bool, true, false, List, [], ◌∷◌}
 use Rattle.jac_value.specs.declared.value.Kind.{Kind}
 use Rattle.jac_lang.specs.declared.field_kinds.Field.{Field}
 use Rattle.jac_lang.specs.Lookup.{kind_named}
@@ -39,3 +39,17 @@ abbrev mutual
   pub are_sited : Statements → Bool
   are_sited Statements.none = true
   are_sited (Statements.more s rest) = is_sited s && are_sited rest
+
+abbrev mutual
+  -- no create stands in a `for`; the statement itself stands in one where the test is true
+  pub is_unlooped : Bool → Statement → Bool
+  is_unlooped looped (Statement.bind x e body) = are_unlooped looped body
+  is_unlooped looped (Statement.branch c first second) = are_unlooped looped first && are_unlooped looped second
+  is_unlooped looped (Statement.each q body) = are_unlooped true body
+  is_unlooped looped (Statement.create x m site cells body) = not looped && are_unlooped looped body
+  is_unlooped looped (Statement.block body) = are_unlooped looped body
+  is_unlooped looped s = true
+
+  pub are_unlooped : Bool → Statements → Bool
+  are_unlooped looped Statements.none = true
+  are_unlooped looped (Statements.more s rest) = is_unlooped looped s && are_unlooped looped rest

@@ -1,6 +1,8 @@
-ghost use Rattle.std.specs.Prelude.{◌≡◌, ◌<◌, ◌≤◌, ◌^◌, ℕ, Bool, true, length, slice_get};
+ghost use Rattle.std.specs.Prelude.{◌≡◌, ◌<◌, ◌≤◌, ◌^◌, ℕ, Bool, true, false, length, slice_get};
 ghost use Rattle.jac_lang.specs.Syntax.{Application, Statements};
-ghost use Rattle.jac_plain.specs.Models.{kinds_of, are_sited, are_without_groups};
+ghost use Rattle.jac_lang.specs.Written.{sites};
+ghost use Rattle.jac_plain.specs.Making.{are_apart, AreAbsent, MayRunAll};
+ghost use Rattle.jac_plain.specs.Models.{kinds_of, are_sited, are_unlooped, are_without_groups};
 ghost use Rattle.jac_plain.specs.Reading.{are_reading};
 ghost use Rattle.jac_plain.specs.Requests.{Visit, body_in, run_of, after};
 ghost use Rattle.jac_plain.specs.Statements.{Setting, Run, leaves_all};
@@ -21,4 +23,10 @@ pub fn same_run_without_groups()
 /// creates of its view stand at sites below 64.
 pub fn good_after_request()
     ensures { (w : ℕ → Bool) (app : Application) (t : PlainState) (visit : Visit) → IsGoodPlain (kinds_of app) t → t.number < 2 ^ 40 → length app.models ≤ 64 → are_sited (body_in (slice_get app.views visit.view)) ≡ true → IsGoodPlain (kinds_of app) (after w app t visit) }
+{}
+
+/// A law: what statements create is new where their sites are pairwise different, no create stands in a `for`, and
+/// no record that this request makes at one of the sites stands where the run begins.
+pub fn creates_are_new()
+    ensures { (next : ℕ) (k : Setting) (s : Statements) (r : Run) → k.number < next → are_apart (sites s) ≡ true → are_unlooped false s ≡ true → AreAbsent k.number (sites s) r.tables → MayRunAll next k s r }
 {}

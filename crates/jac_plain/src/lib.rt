@@ -7,5 +7,7 @@ mod laws;
 mod page;
 
 pub use context::Ctx;
-pub use laws::{good_after_request, reading_leaves_tables, same_run_without_groups};
+pub use laws::{
+    creates_are_new, good_after_request, reading_leaves_tables, same_run_without_groups,
+};
 pub use page::{Page, Piece};

@@ -1,5 +1,5 @@
 use Rattle.jac_lang.specs.Mirror.{application_of, page_of}
-use Rattle.jac_engine.proofs.AnswerLaws.{served_body, served_groupless}
+use Rattle.jac_engine.proofs.ServedLaws.{served_body}
 use Rattle.jac_engine.proofs.answer.answer_view.Goals as goal
 
 pub show-requires-clause-served : goal.show-requires-clause-served
@@ -9,9 +9,3 @@ show-requires-clause-served g c =
 pub store-requires-clause-served : goal.store-requires-clause-served
 store-requires-clause-served g c =
     rw c.in-Post.is at (served_body (application_of c.args.app.now) c.args.place (page_of c.view_at-view.result.now) c.requires.served c.view_at-view.ensures)
-
-pub show-requires-clause-groupless : goal.show-requires-clause-groupless
-show-requires-clause-groupless g c = served_groupless (application_of c.args.app.now) c.requires.served
-
-pub store-requires-clause-groupless : goal.store-requires-clause-groupless
-store-requires-clause-groupless g c = served_groupless (application_of c.args.app.now) c.requires.served

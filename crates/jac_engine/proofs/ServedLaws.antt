@@ -1,0 +1,198 @@
+-- What the views of a served application keep: what they ask of a run, and the sites of their creates.
+use Rattle.std.proofs.Common.{◌≡◌, refl, arith, zero, suc, ℕ, ◌<◌, ◌^◌, ◌&&◌, nat_lt, Bool, true, false, List, [], ◌∷◌, Option, Some, None}
+use Rattle.std.specs.Prelude.{slice_get, is_some}
+use Rattle.std.proofs.lemmas.Bool.{and_parts}
+use Rattle.jac_lang.specs.Syntax.{Statement, Statements, Page as View, Application}
+use Rattle.jac_lang.specs.Written.{sites_in, sites}
+use Rattle.jac_lang.specs.declared.pages.Verb.{Verb}
+use Rattle.jac_lang.specs.declared.pages.Verb.TheVariants as verbs
+use Rattle.jac_plain.specs.Models.{is_sited, are_sited, is_unlooped, are_unlooped}
+use Rattle.jac_plain.specs.Making.{are_apart}
+use Rattle.jac_plain.specs.Reading.{is_reading, are_reading}
+use Rattle.jac_plain.specs.Requests.{body_in}
+use Rattle.jac_stmt.specs.Runs.{IsRunnable, AreRunnable}
+use Rattle.jac_engine.specs.Served.{is_untemplated, are_untemplated, behind_sites, have_own_sites, is_fixed, is_served_body, is_served_view, are_served_views, have_own_routes, are_served}
+use Rattle.jac_engine.proofs.SiteLaws.{are_below, below, below_parts, apart}
+
+both_true : (a b : Bool) → a ≡ true → b ≡ true → (a && b) ≡ true
+both_true true b one two = two
+both_true false b one two = one
+
+mutual
+  -- what writes nothing runs, whatever the number
+  reading_runs : (n : ℕ) (s : Statement) → is_untemplated s ≡ true → is_reading s ≡ true → IsRunnable n s
+  reading_runs n (Statement.put e) t h = tt
+  reading_runs n (Statement.escape e) t h = tt
+  reading_runs n (Statement.bind x e body) t h = all_reading_run n body t h
+  reading_runs n (Statement.assign x e) t h = tt
+  reading_runs n (Statement.branch c first second) t h =
+      let free = and_parts (are_untemplated first) (are_untemplated second) t in
+      let read = and_parts (are_reading first) (are_reading second) h in
+      (all_reading_run n first free.0 read.0, all_reading_run n second free.1 read.1)
+  reading_runs n (Statement.each q body) t h = all_reading_run n body t h
+  reading_runs n (Statement.create x m site cells body) t h = cc
+  reading_runs n (Statement.update m e cells) t h = tt
+  reading_runs n (Statement.delete m e) t h = tt
+  reading_runs n Statement.missing t h = tt
+  reading_runs n (Statement.redirect e) t h = tt
+  reading_runs n (Statement.template b) t h = t
+  reading_runs n (Statement.block body) t h = all_reading_run n body t h
+
+  pub all_reading_run : (n : ℕ) (s : Statements) → are_untemplated s ≡ true → are_reading s ≡ true → AreRunnable n s
+  all_reading_run n Statements.none t h = tt
+  all_reading_run n (Statements.more s rest) t h =
+      let free = and_parts (is_untemplated s) (are_untemplated rest) t in
+      let read = and_parts (is_reading s) (are_reading rest) h in
+      (reading_runs n s free.0 read.0, all_reading_run n rest free.1 read.1)
+
+lt_of_test : (a b : ℕ) → nat_lt a b ≡ true → a < b
+lt_of_test a b e = grind (arith, e)
+
+mutual
+  -- what creates at one of 64 sites runs while there are numbers
+  writing_runs : (n : ℕ) (s : Statement) → 0 < n → n < 2 ^ 40 → is_untemplated s ≡ true → is_sited s ≡ true → IsRunnable n s
+  writing_runs n (Statement.put e) some few t h = tt
+  writing_runs n (Statement.escape e) some few t h = tt
+  writing_runs n (Statement.bind x e body) some few t h = all_writing_run n body some few t h
+  writing_runs n (Statement.assign x e) some few t h = tt
+  writing_runs n (Statement.branch c first second) some few t h =
+      let free = and_parts (are_untemplated first) (are_untemplated second) t in
+      let sited = and_parts (are_sited first) (are_sited second) h in
+      (all_writing_run n first some few free.0 sited.0, all_writing_run n second some few free.1 sited.1)
+  writing_runs n (Statement.each q body) some few t h = all_writing_run n body some few t h
+  writing_runs n (Statement.create x m site cells body) some few t h =
+      let sited = and_parts (nat_lt site 64) (are_sited body) h in
+      (some, few, lt_of_test site 64 sited.0, all_writing_run n body some few t sited.1)
+  writing_runs n (Statement.update m e cells) some few t h = tt
+  writing_runs n (Statement.delete m e) some few t h = tt
+  writing_runs n Statement.missing some few t h = tt
+  writing_runs n (Statement.redirect e) some few t h = tt
+  writing_runs n (Statement.template b) some few t h = t
+  writing_runs n (Statement.block body) some few t h = all_writing_run n body some few t h
+
+  pub all_writing_run : (n : ℕ) (s : Statements) → 0 < n → n < 2 ^ 40 → are_untemplated s ≡ true → are_sited s ≡ true → AreRunnable n s
+  all_writing_run n Statements.none some few t h = tt
+  all_writing_run n (Statements.more s rest) some few t h =
+      let free = and_parts (is_untemplated s) (are_untemplated rest) t in
+      let sited = and_parts (is_sited s) (are_sited rest) h in
+      (writing_runs n s some few free.0 sited.0, all_writing_run n rest some few free.1 sited.1)
+
+mutual
+  -- what creates nothing stands at no site
+  reading_sited : (s : Statement) → is_reading s ≡ true → is_sited s ≡ true
+  reading_sited (Statement.put e) h = refl
+  reading_sited (Statement.escape e) h = refl
+  reading_sited (Statement.bind x e body) h = all_reading_sited body h
+  reading_sited (Statement.assign x e) h = refl
+  reading_sited (Statement.branch c first second) h =
+      let parts = and_parts (are_reading first) (are_reading second) h in
+      both_true (are_sited first) (are_sited second) (all_reading_sited first parts.0) (all_reading_sited second parts.1)
+  reading_sited (Statement.each q body) h = all_reading_sited body h
+  reading_sited (Statement.create x m site cells body) h = cc
+  reading_sited (Statement.update m e cells) h = refl
+  reading_sited (Statement.delete m e) h = refl
+  reading_sited Statement.missing h = refl
+  reading_sited (Statement.redirect e) h = refl
+  reading_sited (Statement.template t) h = refl
+  reading_sited (Statement.block body) h = all_reading_sited body h
+
+  all_reading_sited : (s : Statements) → are_reading s ≡ true → are_sited s ≡ true
+  all_reading_sited Statements.none h = refl
+  all_reading_sited (Statements.more s rest) h =
+      let parts = and_parts (is_reading s) (are_reading rest) h in
+      both_true (is_sited s) (are_sited rest) (reading_sited s parts.0) (all_reading_sited rest parts.1)
+
+mutual
+  -- and so none of it stands in a `for`
+  reading_unlooped : (looped : Bool) (s : Statement) → is_reading s ≡ true → is_unlooped looped s ≡ true
+  reading_unlooped looped (Statement.put e) h = refl
+  reading_unlooped looped (Statement.escape e) h = refl
+  reading_unlooped looped (Statement.bind x e body) h = all_reading_unlooped looped body h
+  reading_unlooped looped (Statement.assign x e) h = refl
+  reading_unlooped looped (Statement.branch c first second) h =
+      let parts = and_parts (are_reading first) (are_reading second) h in
+      both_true (are_unlooped looped first) (are_unlooped looped second) (all_reading_unlooped looped first parts.0) (all_reading_unlooped looped second parts.1)
+  reading_unlooped looped (Statement.each q body) h = all_reading_unlooped true body h
+  reading_unlooped looped (Statement.create x m site cells body) h = cc
+  reading_unlooped looped (Statement.update m e cells) h = refl
+  reading_unlooped looped (Statement.delete m e) h = refl
+  reading_unlooped looped Statement.missing h = refl
+  reading_unlooped looped (Statement.redirect e) h = refl
+  reading_unlooped looped (Statement.template t) h = refl
+  reading_unlooped looped (Statement.block body) h = all_reading_unlooped looped body h
+
+  pub all_reading_unlooped : (looped : Bool) (s : Statements) → are_reading s ≡ true → are_unlooped looped s ≡ true
+  all_reading_unlooped looped Statements.none h = refl
+  all_reading_unlooped looped (Statements.more s rest) h =
+      let parts = and_parts (is_reading s) (are_reading rest) h in
+      both_true (is_unlooped looped s) (are_unlooped looped rest) (reading_unlooped looped s parts.0) (all_reading_unlooped looped rest parts.1)
+
+mutual
+  below_sited : (s : Statement) → are_below (sites_in s) ≡ true → is_sited s ≡ true
+  below_sited (Statement.put e) h = refl
+  below_sited (Statement.escape e) h = refl
+  below_sited (Statement.bind x e body) h = all_below_sited body h
+  below_sited (Statement.assign x e) h = refl
+  below_sited (Statement.branch c first second) h =
+      let parts = below_parts (sites first) (sites second) h in
+      both_true (are_sited first) (are_sited second) (all_below_sited first parts.0) (all_below_sited second parts.1)
+  below_sited (Statement.each q body) h = all_below_sited body h
+  below_sited (Statement.create x m site cells body) h =
+      let parts = and_parts (nat_lt site 64) (are_below (sites body)) h in
+      both_true (nat_lt site 64) (are_sited body) parts.0 (all_below_sited body parts.1)
+  below_sited (Statement.update m e cells) h = refl
+  below_sited (Statement.delete m e) h = refl
+  below_sited Statement.missing h = refl
+  below_sited (Statement.redirect e) h = refl
+  below_sited (Statement.template t) h = refl
+  below_sited (Statement.block body) h = all_below_sited body h
+
+  all_below_sited : (s : Statements) → are_below (sites s) ≡ true → are_sited s ≡ true
+  all_below_sited Statements.none h = refl
+  all_below_sited (Statements.more s rest) h =
+      let parts = below_parts (sites_in s) (sites rest) h in
+      both_true (is_sited s) (are_sited rest) (below_sited s parts.0) (all_below_sited rest parts.1)
+
+-- what a body of a POST keeps
+pub record IsStoring (body : Statements) : Type 0 where
+  pub expanded : are_untemplated body ≡ true
+  pub sited : are_sited body ≡ true
+  pub apart : are_apart (sites body) ≡ true
+  pub unlooped : are_unlooped false body ≡ true
+
+pub storing : (body : Statements) → is_served_body verbs.Post body ≡ true → IsStoring body
+storing body h =
+    let parts = and_parts (are_untemplated body) (have_own_sites body) h in
+    let own = and_parts (is_some (behind_sites 0 (sites body))) (are_unlooped false body) parts.1 in
+    record {
+      expanded = parts.0;
+      sited = all_below_sited body (below 0 (sites body) own.0);
+      apart = apart 0 (sites body) own.0;
+      unlooped = own.1;
+    }
+
+pub storing_runs : (n : ℕ) (body : Statements) → 0 < n → n < 2 ^ 40 → is_served_body verbs.Post body ≡ true → AreRunnable n body
+storing_runs n body some few h = let s = storing body h in all_writing_run n body some few s.expanded s.sited
+
+pub showing_runs : (n : ℕ) (body : Statements) → is_served_body verbs.Get body ≡ true → AreRunnable n body
+showing_runs n body h = let parts = and_parts (are_untemplated body) (are_reading body) h in all_reading_run n body parts.0 parts.1
+
+body_among : (vs : List View) (n : ℕ) (v : View) → are_served_views vs ≡ true → slice_get vs n ≡ Some v → is_served_body v.method v.body ≡ true
+body_among [] n v h e = cc
+body_among (x ∷ xs) zero v h e =
+    let same : x ≡ v = cc in
+    rw (← same) (and_parts (is_fixed x.path) (is_served_body x.method x.body) (and_parts (is_served_view x) (are_served_views xs) h).0).1
+body_among (x ∷ xs) (suc n) v h e = body_among xs n v (and_parts (is_served_view x) (are_served_views xs) h).1 e
+
+-- the body of a view of a served application
+pub served_body : (app : Application) (n : ℕ) (v : View) → are_served app ≡ true → slice_get app.views n ≡ Some v → is_served_body v.method v.body ≡ true
+served_body app n v h e = body_among app.views n v (and_parts (are_served_views app.views) (have_own_routes app.views) h).0 e
+
+sited_body : (v : Verb) (body : Statements) → is_served_body v body ≡ true → are_sited body ≡ true
+sited_body verbs.Get body h = all_reading_sited body (and_parts (are_untemplated body) (are_reading body) h).1
+sited_body verbs.Post body h = (storing body h).sited
+
+-- the creates of a view of a served application stand at sites below 64
+pub sited_view : (app : Application) (n : ℕ) (found : Option View) → are_served app ≡ true → slice_get app.views n ≡ found → are_sited (body_in found) ≡ true
+sited_view app n None h is = refl
+sited_view app n (Some v) h is = sited_body v.method v.body (served_body app n v h is)

@@ -1,8 +1,0 @@
-use Rattle.std.proofs.Common.{◌∙◌}
-use Rattle.jac_lang.proofs.Places.{fields-there}
-use Rattle.jac_engine.proofs.drafting.fields_of.Goals as goal
-
-pub returns : goal.returns
-returns c =
-    c.as_slice-2.ensures
-    ∙ fields-there c.args.app.now.models c.args.model c.model_at-model.result.now (rw c.as_slice.ensures.models at c.model_at-model.ensures)

@@ -1,0 +1,54 @@
+-- The run of a view, in the world of each assignment.
+use Rattle.std.specs.Prelude.{◌≡◌, ℕ, Bool, List, [], map}
+use Rattle.jac_facet.specs.Leaves.{seen}
+use Rattle.jac_lang.specs.Syntax.{Page as View, Application}
+use Rattle.jac_rows.specs.Good.{IsSound}
+use Rattle.jac_rows.specs.Project.{rows_at, project_at}
+use Rattle.jac_rows.specs.declared.row.Row.{Row}
+use Rattle.jac_rows.specs.declared.state.State.{State}
+use Rattle.jac_plain.specs.declared.page.Page.{Page}
+use Rattle.jac_plain.specs.declared.page.Piece.{Piece}
+use Rattle.jac_plain.specs.Making.{MayRunAll}
+use Rattle.jac_plain.specs.Requests.{page_of}
+use Rattle.jac_plain.specs.Statements.{Setting, Run, leaves_all}
+use Rattle.jac_route.specs.Parameters.{parameters}
+use Rattle.jac_write.specs.Writes.{numbered}
+use Rattle.jac_world.specs.World.{shown}
+use Rattle.jac_engine.specs.declared.answer.Ask.{Ask}
+
+-- what stays the same through the run in the request of this number
+abbrev pub setting_in : (ℕ → Bool) → Application → Ask → ℕ → Setting
+setting_in w app ask number = record { models = app.models; shown = w; viewer = ask.viewer; number = number }
+
+-- where the run begins: the tables that the assignment shows, and the parameters
+abbrev pub begun : (ℕ → Bool) → Application → View → Ask → State → Run
+begun w app v ask s = record { tables = (project_at w s).tables; env = parameters app.models v.params ask.pairs; pieces = [] }
+
+-- the interpreter's run of the view's statements
+abbrev pub ran_by : (ℕ → Bool) → Application → View → Ask → ℕ → State → Run
+ran_by w app v ask number s = leaves_all (setting_in w app ask number) v.body (begun w app v ask s)
+
+-- what the view creates is new, in each world
+abbrev pub MayRunView : ℕ → Application → View → Ask → ℕ → State → Type 0
+MayRunView next app v ask number s = (w : ℕ → Bool) → MayRunAll next (setting_in w app ask number) v.body (begun w app v ask s)
+
+-- each assignment shows of these tables what the interpreter leaves, and they are sound with this next number
+pub record RanTables (next : ℕ) (app : Application) (v : View) (ask : Ask) (number : ℕ) (old : State) (tables : List (List Row)) : Type 0 where
+  pub left : (w : ℕ → Bool) → map (rows_at w) tables ≡ (ran_by w app v ask number old).tables
+  pub sound : IsSound (record { tables = tables; number = next })
+
+-- the run leaves tables and pieces, where the state is sound and what the view creates is new
+pub record RunsView (app : Application) (v : View) (ask : Ask) (number : ℕ) (old : State) (left : List (List Row)) (out : List (List (ℕ × Bool) × Piece)) : Type 0 where
+  pub tables : (next : ℕ) → IsSound (numbered next old) → MayRunView next app v ask number old → RanTables next app v ask number old left
+  pub pieces : (next : ℕ) → IsSound (numbered next old) → MayRunView next app v ask number old → (w : ℕ → Bool) → seen w out ≡ (ran_by w app v ask number old).pieces
+
+pub record LeavesTables (app : Application) (v : View) (ask : Ask) (number : ℕ) (old : State) (tables : List (List Row)) : Type 0 where
+  pub ran : (next : ℕ) → IsSound (numbered next old) → MayRunView next app v ask number old → RanTables next app v ask number old tables
+
+-- the page without labels is the one of the interpreter's run
+pub record ShowsView (app : Application) (v : View) (ask : Ask) (number : ℕ) (old : State) (p : Page) : Type 0 where
+  pub page : (next : ℕ) → IsSound (numbered next old) → MayRunView next app v ask number old → p ≡ page_of (ran_by (shown []) app v ask number old).pieces
+
+-- the page of some pieces
+abbrev pub IsMade : Page → Type 0
+IsMade p = (pieces : List Piece) × (p ≡ page_of pieces)
