@@ -5,3 +5,4 @@ pub mod Models
 pub mod Statements
 pub mod Requests
 pub mod Reading
+pub mod Policies
