@@ -1,5 +1,5 @@
 -- The labels of the records that have rows are the live ones.
-use Rattle.std.proofs.Common.{◌≡◌, ◌<◌, ◌≤◌, ◌+◌, ◌^◌, ◌==◌, ◌&&◌, ◌||◌, ℕ, zero, suc, Bool, true, false, if◌then◌else◌, Option, Some, List, [], ◌∷◌, ◌++◌, length, get_or, slice_get, refl, ap, sym, subst, ◌∙◌, arith, add-one, All, inl, inr, ◌↔◌}
+use Rattle.std.proofs.Common.{◌≡◌, ◌<◌, ◌≤◌, ◌+◌, ◌^◌, ◌==◌, ◌&&◌, ◌||◌, ℕ, zero, suc, Bool, true, false, if◌then◌else◌, Option, Some, List, [], ◌∷◌, ◌++◌, length, get_or, slice_get, refl, ap, sym, subst, ◌∙◌, arith, add-one, All, inl, inr, ◌↔◌, append-nil}
 use Rattle.std.specs.Option.{option_map}
 use Rattle.std.specs.List.{list_any, AllByRecursion}
 use Rattle.std.proofs.lemmas.Bool.{cases_lt}
@@ -247,8 +247,17 @@ are_live app s collected labels sound collects same = record {
     only k is =
         let m : model_of_id (record_of_label k) ≡ is.model = model_is (record_of_label k) is.model sound.next (rows_of s.tables is.model) (sound_rows sound.next 0 s.tables is.model sound.sound.tables) is.among.row in
         live_if_among app s k
-        (subst (λ (j : ℕ). CanHold (rows_of s.tables j)) (sym m) (collects.guards is.model is.before))
+        (subst (λ (j : ℕ). CanHold (rows_of s.tables j)) (sym m) (collects.guards is.model is.before (let g = is.among.of_group in omega (arith, g))))
         (subst (λ (j : ℕ). IsAmong (length (groups_at app.models j)) (rows_of s.tables j) k) (sym m) is.among)
+
+-- a model without groups has no labels
+
+none_below : (rows : List Row) → labels_of_rows 0 rows ≡ []
+none_below [] = refl
+none_below (r ∷ rows) = none_below rows
+
+pub no_groups : (old : List ℕ) (groups : ℕ) (rows : List Row) → groups ≡ 0 → old ≡ old ++ labels_of_rows groups rows
+no_groups old groups rows none = sym (append-nil old) ∙ ap (λ ls. old ++ ls) (sym (none_below rows)) ∙ ap (λ (n : ℕ). old ++ labels_of_rows n rows) (sym none)
 
 -- one model more
 
@@ -262,12 +271,12 @@ count_there ms n m item below =
     sym (length-groups m.groups) ∙ ap (λ (e : Option Entity). length (groups_in e)) (sym there)
 
 pub collects_more : (models : List Entity) (tables : List (List Row)) (n groups : ℕ) (old new : List ℕ) → Collects models tables n old → new ≡ old ++ labels_of_rows groups (rows_of tables n) →
-    CanHold (rows_of tables n) → groups ≡ length (groups_at models n) → groups ≤ 8 → Collects models tables (n + 1) new
+    (0 < groups → CanHold (rows_of tables n)) → groups ≡ length (groups_at models n) → groups ≤ 8 → Collects models tables (n + 1) new
 collects_more models tables n groups old new before added can count few = record {
   are = added ∙ ap (λ ls. ls ++ labels_of_rows groups (rows_of tables n)) before.are ∙ ap (λ (c : ℕ). labels_before models tables n ++ labels_of_rows c (rows_of tables n)) count ∙ rw (add-one n) refl;
   guards = λ m lt. elim (cases_lt m n) [
     | inl less ↦ before.guards m less
-    | inr le ↦ (let same : n ≡ m = omega arith in subst (λ (j : ℕ). CanHold (rows_of tables j)) same can)
+    | inr le ↦ (let same : n ≡ m = omega arith in subst (λ (j : ℕ). 0 < length (groups_at models j) → CanHold (rows_of tables j)) same (λ some. can (omega (arith, count, some))))
   ];
   few = λ m lt. elim (cases_lt m n) [
     | inl less ↦ before.few m less

@@ -65,6 +65,14 @@ module _ (app : Application) (worlds : Worlds) (viewer : Option ℕ) where
       let refusing : ShowsForbidden app worlds viewer (shown more) = record { label = found.label; is_shown = found.is_shown; forbidden = found.fails } in
       subst (λ (w : ℕ → Bool). ShowsForbidden app worlds viewer w) same refusing
 
+  -- the label that was added isn't allowed itself
+  pub own_is_refused : (k : ℕ) (old more : List ℕ) → ((j : ℕ) → shown more j ≡ with_label k (shown old) j) → is_allowed app (worlds (shown more)) viewer k ≡ false →
+      ShowsForbidden app worlds viewer (with_label k (shown old))
+  own_is_refused k old more grown h =
+      let same : shown more ≡ with_label k (shown old) = λ i j. grown j i in
+      let refusing : ShowsForbidden app worlds viewer (shown more) = record { label = k; is_shown = grown k ∙ rw (itself k) refl; forbidden = h } in
+      subst (λ (w : ℕ → Bool). ShowsForbidden app worlds viewer w) same refusing
+
 -- fewer labels are hidden
 
 not_more_if : (a b : Bool) (m n : ℕ) → m ≤ n → (if (a || b) then 0 else 1) + m ≤ (if b then 0 else 1) + n

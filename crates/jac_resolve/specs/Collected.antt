@@ -27,10 +27,10 @@ labels_before models tables (suc m) = labels_before models tables m ++ labels_of
 abbrev pub CanHold : List Row → Type 0
 CanHold rows = All (λ (r : Row). holds (wanted r.guard) r.guard ≡ true) rows
 
--- the labels of the first models, whose rows' guards can hold
+-- the labels of the first models; where a model has groups, the guards of its rows can hold
 pub record Collects (models : List Entity) (tables : List (List Row)) (n : ℕ) (labels : List ℕ) : Type 0 where
   pub are : labels ≡ labels_before models tables n
-  pub guards : (m : ℕ) → m < n → CanHold (rows_of tables m)
+  pub guards : (m : ℕ) → m < n → 0 < length (groups_at models m) → CanHold (rows_of tables m)
   pub few : (m : ℕ) → m < n → length (groups_at models m) ≤ 8
 
 -- the record of the label has a row

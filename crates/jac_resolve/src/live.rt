@@ -73,9 +73,12 @@ fn add_model<K: Keeper>(
     requires attached { IsTrue (K.seen work.old.keeper.now).attached }
     requires few { groups ≤ 8 }
     ensures labels { IsTold K.seen work.new → All (λ (r : Alternative). r.id < 2 ^ 124) (rows_of (state_of K.seen work.old).tables model) → OnOk result (labels.new.items ≡ labels.old.items ++ labels_of_rows groups (rows_of (state_of K.seen work.old).tables model)) }
-    ensures guards { IsTold K.seen work.new → OnOk result (CanHold (rows_of (state_of K.seen work.old).tables model)) }
+    ensures guards { IsTold K.seen work.new → 0 < groups → OnOk result (CanHold (rows_of (state_of K.seen work.old).tables model)) }
     ensures reads { ReadsWork K.seen work.old work.new result }
 {
+    if groups == 0 {
+        return Ok(());
+    }
     let rows = work.rows(alloc, model)?;
     add_rows(labels, rows.as_slice(), groups)?;
     Ok(())

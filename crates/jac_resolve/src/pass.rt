@@ -3,7 +3,7 @@ ghost use Rattle.std.specs.Prelude.{◌≡◌, ◌≤◌, IfOk, IsTrue};
 ghost use Rattle.jac_world.specs.World.{shown};
 ghost use Rattle.jac_lang.specs.Mirror.{application_of};
 ghost use Rattle.jac_keep.specs.Worked.{state_of, IsTold, ReadsWork};
-ghost use Rattle.jac_plain.specs.Policies.{AreAllowed, IsSettled};
+ghost use Rattle.jac_plain.specs.Policies.{AreAllowed, IsSettled, is_allowed};
 ghost use Rattle.jac_resolve.specs.Rounds.{worlds_of, HasSoundTables, AreLive, all_allowed, MayAdd, Tries, Advances, Within, Fills};
 
 use crate::live::live_labels;
@@ -114,6 +114,11 @@ fn try_label<K: Keeper, M: Ledger>(
         return Ok(false);
     }
     let more = from_world(a.with(alloc, label))?;
+    // Most labels fail by their own policy, so it is asked first.
+    let own = ask(alloc, work, app, viewer, &more, label, evaluations)?;
+    if !own {
+        return Ok(false);
+    }
     let holds = all_are_allowed(alloc, work, app, viewer, &more, evaluations)?;
     if !holds {
         return Ok(false);
@@ -137,10 +142,29 @@ fn all_are_allowed<K: Keeper, M: Ledger>(
     ensures reads { ReadsWork K.seen work.old work.new result }
 {
     'labels: for label in a.as_slice() {
-        let (holds, _) = allowed(alloc, work, app, *viewer, a, *label, evaluations)?;
+        let holds = ask(alloc, work, app, viewer, a, *label, evaluations)?;
         if !holds {
             return Ok(false);
         }
     }
     Ok(true)
+}
+
+// Whether the label is allowed under the assignment. Each answer is asked of the policy anew.
+fn ask<K: Keeper, M: Ledger>(
+    alloc: Global,
+    work: &mut Work<'_, K>,
+    app: &App,
+    viewer: &Option<Id>,
+    a: &Assignment,
+    label: Label,
+    evaluations: &mut Steps<M>,
+) -> Result<bool, Stop>
+    requires { IsTrue (K.seen work.old.keeper.now).attached }
+    ensures value { IsTold K.seen work.new → IfOk result (λ b. b ≡ is_allowed (application_of app.now) (worlds_of (state_of K.seen work.old) (shown a.now)) viewer.now label) }
+    ensures later { evaluations.old ≤ evaluations.new }
+    ensures reads { ReadsWork K.seen work.old work.new result }
+{
+    let (holds, _) = allowed(alloc, work, app, *viewer, a, label, evaluations)?;
+    Ok(holds)
 }

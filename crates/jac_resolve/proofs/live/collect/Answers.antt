@@ -24,7 +24,7 @@ models-preserved g c =
           let range = in_range s place (c.requires.sound (same.told before)) in
           collects_more (entities_of c.args.models.now) s.tables place groups old new (c.models.invariant.told before)
           (subst (λ (t : State). All (λ (r : Row). r.id < 2 ^ 124) (rows_of t.tables place) → new ≡ old ++ labels_of_rows groups (rows_of t.tables place)) is (c.in_ok-add_model.ensures.labels told) range)
-          (subst (λ (t : State). CanHold (rows_of t.tables place)) is (c.in_ok-add_model.ensures.guards told))
+          (subst (λ (t : State). 0 < groups → CanHold (rows_of t.tables place)) is (c.in_ok-add_model.ensures.guards told))
           (c.group_count-groups.ensures.count ∙ count_there c.args.models.now place c.index-models-place.result c.index-models-place.is c.models-test.true)
           c.group_count-groups.ensures.few;
       same = search rules;
