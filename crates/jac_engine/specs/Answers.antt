@@ -1,6 +1,6 @@
 -- What answers a request: the ordinary interpreter's page in a world, or a refusal.
 use Rattle.std.specs.Prelude.{◌≡◌, ℕ, ◌<◌, ◌^◌, ◌⊎◌, ◌==◌, ◌++◌, Bool, true, false, if◌then◌else◌, Option, Some, None, List, [], ◌∷◌, codes, decimal, slice_get}
-use Rattle.jac_world.specs.World.{shown}
+use Rattle.jac_world.specs.World.{shown, IsAscending}
 use Rattle.jac_lang.specs.declared.field_kinds.Field.{Field}
 use Rattle.jac_lang.specs.declared.pages.Verb.{Verb}
 use Rattle.jac_lang.specs.declared.pages.Verb.TheVariants as verbs
@@ -8,6 +8,7 @@ use Rattle.jac_lang.specs.Syntax.{Page as View, Application}
 use Rattle.jac_rows.specs.declared.plain.PlainState.{PlainState}
 use Rattle.jac_plain.specs.declared.page.Page.{Page}
 use Rattle.jac_plain.specs.declared.page.Piece.{Piece}
+use Rattle.jac_plain.specs.Policies.{IsSettled}
 use Rattle.jac_plain.specs.Requests.{Visit, Worlds, method_in, page_of, page, after}
 use Rattle.jac_route.specs.Parameters.{parameters}
 use Rattle.jac_engine.specs.Found.{Found, found}
@@ -43,12 +44,12 @@ params_in (Some v) = v.params
 abbrev pub visit_of : Application → Ask → ℕ → Visit
 visit_of app ask n = record { view = n; env = parameters app.models (params_in (slice_get app.views n)) ask.pairs; viewer = ask.viewer }
 
--- a page under its labels: the interpreter's, in the world before the request that they show. Policies aren't
--- evaluated yet, so no label is shown, whatever the worlds after it are
+-- a page under its labels: the interpreter's, in the world before the request that they show; and the labels are
+-- settled for who asks, in the worlds after it
 pub record IsPage (app : Application) (before after : Worlds) (visit : Visit) (answer : Answer) : Type 0 where
   pub labels : List ℕ
   pub made : answer ≡ page_answer labels (page (shown labels) app (before (shown labels)) visit)
-  pub settled : labels ≡ []
+  pub settled : IsSettled app after visit.viewer labels
 
 abbrev pub worlds_after : Application → Worlds → Visit → Worlds
 worlds_after app worlds visit w = after w app (worlds w) visit
@@ -81,7 +82,7 @@ pub record IsSomePage (answer : Answer) : Type 0 where
   pub labels : List ℕ
   pub pieces : List Piece
   pub made : answer ≡ page_answer labels (page_of pieces)
-  pub settled : labels ≡ []
+  pub ascending : IsAscending labels
 
 abbrev pub HasFormOf : Verb → Answer → Type 0
 HasFormOf verbs.Get answer = IsSomePage answer

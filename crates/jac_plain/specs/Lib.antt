@@ -6,3 +6,4 @@ pub mod Statements
 pub mod Requests
 pub mod Reading
 pub mod Making
+pub mod Policies

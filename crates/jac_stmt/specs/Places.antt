@@ -1,13 +1,16 @@
 -- Where a name is bound.
-use Rattle.std.specs.Prelude.{ℕ, ◌+◌, Bool, true, false, if◌then◌else◌, List, [], ◌∷◌, Option, Some, None}
+use Rattle.std.specs.Prelude.{ℕ, suc, Bool, true, false, List, [], ◌∷◌, Option, Some, None}
 use Rattle.jac_value.specs.declared.value.Value.{Value}
 use Rattle.jac_facet.specs.Shape.{Shape}
 use Rattle.jac_lang.specs.Lookup.{same_text}
 
--- the place of the last binding of the name from one place on, or another one where there is none
-abbrev pub last_from : List ℕ → ℕ → Option ℕ → List (List ℕ × Shape Value) → Option ℕ
-last_from name i found [] = found
-last_from name i found (b ∷ bs) = last_from name (i + 1) (if same_text b.0 name then Some i else found) bs
+-- a place behind the first item, or the first where it is the one and there is none behind
+abbrev pub place_after : Bool → Option ℕ → Option ℕ
+place_after is_one (Some i) = Some (suc i)
+place_after true None = Some 0
+place_after false None = None
 
+-- the place of the innermost binding of the name, which stands last
 abbrev pub last_place : List ℕ → List (List ℕ × Shape Value) → Option ℕ
-last_place name bs = last_from name 0 None bs
+last_place name [] = None
+last_place name (b ∷ bs) = place_after (same_text b.0 name) (last_place name bs)

@@ -44,8 +44,9 @@ fn assign_in<L: Ledger>(
     let Some(place) = innermost(bindings.as_slice(), name) else {
         return Ok(());
     };
-    let changed = Facet::under(alloc, pc, value, &bindings[place].1, splits)?;
-    bindings[place].1 = changed;
+    let binding = &mut bindings[place];
+    let changed = Facet::under(alloc, pc, value, &binding.1, splits)?;
+    binding.1 = changed;
     Ok(())
 }
 
@@ -54,13 +55,12 @@ fn innermost(bindings: &[(Txt, Facet<Value>)], name: &Txt) -> Option<usize>
     ensures place { result ≡ last_place name.now bindings.now }
     ensures within { IfSome result (λ p. p < length bindings.now) }
 {
-    let mut last = None;
-    let mut place = 0;
-    'bindings: while place < bindings.len() {
-        if bindings[place].0 == *name {
-            last = Some(place);
+    let mut rest = bindings;
+    'bindings: while let Some((binding, outer)) = rest.split_last() {
+        if binding.0 == *name {
+            return Some(outer.len());
         }
-        place += 1;
+        rest = outer;
     }
-    last
+    None
 }

@@ -1,11 +1,11 @@
 //! The cells that a create or an update sets.
-ghost use Rattle.std.specs.Prelude.{◌≡◌, ◌<◌, ℕ, Bool, true, length, All, IfOk, IsTrue};
+ghost use Rattle.std.specs.Prelude.{◌≡◌, ◌<◌, ◌≤◌, [], ◌∷◌, ◌++◌, ℕ, Bool, true, length, slice_get, slice_set, Some, All, IfOk, OnOk, IsTrue};
 ghost use Rattle.jac_expr.specs.Seen.{env_at, world_at};
 ghost use Rattle.jac_expr.specs.Tupled.{all_at};
-ghost use Rattle.jac_facet.specs.Shape.{Shape};
+ghost use Rattle.jac_facet.specs.Shape.{Shape, at};
 ghost use Rattle.jac_keep.specs.Worked.{state_of, IsTold, ReadsWork};
 ghost use Rattle.jac_lang.specs.Lookup.{fields_at};
-ghost use Rattle.jac_lang.specs.Mirror.{application_of, assigned_of};
+ghost use Rattle.jac_lang.specs.Mirror.{application_of, assigned_of, one_assigned_of};
 ghost use Rattle.jac_plain.specs.Expressions.{mean};
 ghost use Rattle.jac_plain.specs.Records.{default_cells, drafted};
 ghost use Rattle.jac_value.specs.declared.value.Value.{Value as Plain};
@@ -16,7 +16,7 @@ ghost use Rattle.jac_stmt.specs.Drafts.{placed_sets, put_raw};
 use jac_expr::{Ctx, Env, eval};
 use jac_facet::{Facet, Facets};
 use jac_keep::{Keeper, Stop, Work};
-use jac_lang::{App, Publics, field_of, kind_of};
+use jac_lang::{App, ModelDef, Public, Publics, field_of, kind_of};
 use jac_value::{Memory, Value, default_of};
 use jac_world::{Guard, Steps};
 use jac_write::Sets;
@@ -44,13 +44,38 @@ pub(crate) fn read_sets<K: Keeper, L: Ledger>(
     let mut sets = Vec::new(alloc);
     let mut left = cells;
     'cells: while let Publics::More(first, rest) = left {
-        if let Some(field) = field_of(app, model, &first.field) {
-            let value = eval(alloc, work, app, ctx, env, pc, &first.value, splits)?;
-            sets.push((field, value))?;
-        }
+        read_set(alloc, work, app, ctx, env, pc, model, first, &mut sets, splits)?;
         left = rest;
     }
     Ok(Sets::from_vec(sets))
+}
+
+// Adds the value that is set, if the model has the field.
+fn read_set<K: Keeper, L: Ledger>(
+    alloc: Global,
+    work: &mut Work<'_, K>,
+    app: &App,
+    ctx: &Ctx,
+    env: &Env,
+    pc: &Guard,
+    model: u8,
+    set: &Public,
+    sets: &mut Vec<(u8, Facet<Value>)>,
+    splits: &mut Steps<L>,
+) -> Result<(), Stop>
+    requires attached { IsTrue (K.seen work.old.keeper.now).attached }
+    requires model { model < length app.now.models }
+    requires fields { All (λ (x : ℕ × Shape Plain). x.0 < length (fields_at (application_of app.now).models model)) sets.old.items }
+    ensures sets { IsTold K.seen work.new → OnOk result ((w : ℕ → Bool) → holds w pc.now ≡ true → sets_at w sets.new.items ≡ sets_at w sets.old.items ++ placed_sets (fields_at (application_of app.now).models model) (λ e. mean (world_at app.now ctx.now (state_of K.seen work.old) w) e (env_at w env.now)) (one_assigned_of set.now ∷ [])) }
+    ensures fields { OnOk result (All (λ (x : ℕ × Shape Plain). x.0 < length (fields_at (application_of app.now).models model)) sets.new.items) }
+    ensures reads { ReadsWork K.seen work.old work.new result }
+{
+    let Some(field) = field_of(app, model, &set.field) else {
+        return Ok(());
+    };
+    let value = eval(alloc, work, app, ctx, env, pc, &set.value, splits)?;
+    sets.push((field, value))?;
+    Ok(())
 }
 
 /// The cells of a new record: the values that are set, and defaults.
@@ -80,7 +105,8 @@ pub(crate) fn new_cells<K: Keeper, L: Ledger>(
 // A default for each field.
 fn defaults(alloc: Global, app: &App, model: u8) -> Result<Vec<Facet<Value>>, Memory>
     requires { model < length app.now.models }
-    ensures { let models = (application_of app.now).models in IfOk result (λ v. (w : ℕ → Bool) → all_at w v.items ≡ default_cells models (fields_at models model)) }
+    ensures cells { let models = (application_of app.now).models in IfOk result (λ v. (w : ℕ → Bool) → all_at w v.items ≡ default_cells models (fields_at models model)) }
+    ensures each_field { IfOk result (λ v. length v.items ≡ length (fields_at (application_of app.now).models model)) }
 {
     let count = field_count(app, model);
     let mut made = Vec::new(alloc);
@@ -96,8 +122,16 @@ fn field_count(app: &App, model: u8) -> u8
     ensures { result ≡ length (fields_at (application_of app.now).models model) }
 {
     let models = app.models.as_slice();
-    let model = &models[usize::from(model)];
+    let model = model_at(models, model);
     model.fields.as_slice().len() as u8
+}
+
+fn model_at(models: &[ModelDef], place: u8) -> &ModelDef
+    requires { place < length models.now }
+    ensures model { slice_get models.now place ≡ Some result.now }
+    ensures few { length result.now.fields ≤ 32 }
+{
+    &models[usize::from(place)]
 }
 
 // Puts each value in its place.
@@ -107,6 +141,15 @@ fn put_sets(cells: &mut Vec<Facet<Value>>, sets: Vec<(u8, Facet<Value>)>)
     ensures same_length { length cells.new.items ≡ length cells.old.items }
 {
     'sets: for (field, value) in sets {
-        cells[usize::from(field)] = value;
+        put_set(cells, field, value);
     }
+}
+
+#[tactic(auto, using(crate::proofs::DraftLaws::all_at_set))]
+fn put_set(cells: &mut Vec<Facet<Value>>, field: u8, value: Facet<Value>)
+    requires { field < length cells.old.items }
+    ensures put { (w : ℕ → Bool) → all_at w cells.new.items ≡ slice_set (all_at w cells.old.items) field (at w value) }
+    ensures same_length { length cells.new.items ≡ length cells.old.items }
+{
+    cells[usize::from(field)] = value;
 }

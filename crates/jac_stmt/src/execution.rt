@@ -135,10 +135,12 @@ fn execute<K: Keeper, L: Ledger>(
             )
         }
         Stmt::Update(model, e, cells) => {
-            execute_update(alloc, work, app, ctx, env, pc, model, e, cells, splits)
+            execute_update(alloc, work, app, ctx, env, pc, model, e, cells, splits)?;
+            Ok(())
         }
         Stmt::Delete(model, e) => {
-            execute_delete(alloc, work, app, ctx, env, pc, model, e, splits)
+            execute_delete(alloc, work, app, ctx, env, pc, model, e, splits)?;
+            Ok(())
         }
         Stmt::Missing => execute_missing(alloc, work, app, ctx, env, out, pc, splits),
         Stmt::Redirect(e) => execute_redirect(alloc, work, app, ctx, env, out, pc, e, splits),
@@ -409,8 +411,11 @@ fn execute_leaf<K: Keeper, L: Ledger>(
     ensures told { OnOk result (StaysTold K.seen work.old work.new) }
     ensures keeps { WritesWork K.seen work.old work.new result }
 {
-    let body = if is_true(value) { first } else { second };
-    execute_all(alloc, work, app, ctx, env, out, pc, body, splits)?;
+    if is_true(value) {
+        execute_all(alloc, work, app, ctx, env, out, pc, first, splits)?;
+        return Ok(());
+    }
+    execute_all(alloc, work, app, ctx, env, out, pc, second, splits)?;
     Ok(())
 }
 
@@ -608,6 +613,7 @@ fn execute_made<K: Keeper, L: Ledger>(
     ensures told { OnOk result (StaysTold K.seen work.old work.new) }
     ensures keeps { WritesWork K.seen work.old work.new result }
 {
+    let _pairs = pc.pairs();
     let cells = new_cells(alloc, work, app, ctx, env, pc, model, cells, splits)?;
     let id = id_of(ctx.number, site, model);
     create(alloc, work, app, pc, id, &cells, splits)?;

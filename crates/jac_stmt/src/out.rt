@@ -14,7 +14,6 @@ pub struct Out {
 
 impl Model for Out {
     ghost use Rattle.std.specs.Prelude.{List, ℕ, Bool};
-    ghost use Rattle.std.specs.Coded.{codes, coded_list, coded×, coded_ℕ, coded_Bool};
     ghost use Rattle.jac_plain.specs.declared.page.Piece.{Piece as Plain};
 
     ghost Value = { List (List (ℕ × Bool) × Plain) };

@@ -60,19 +60,23 @@ fn join_body(
     ensures { IfOk result (λ b. b ≡ body_of (seen (shown assignment.now) pieces.now)) }
 {
     let mut body = Vec::new(alloc);
-    'pieces: for (guard, piece) in pieces {
-        if guard.holds(assignment) {
-            add_bytes(&mut body, piece)?;
-        }
+    'pieces: for item in pieces {
+        add_bytes(&mut body, item, assignment)?;
     }
     Ok(Bytes::from_vec(body))
 }
 
-fn add_bytes(body: &mut Vec<u8>, piece: &Piece) -> Result<(), Memory>
-    ensures { OnOk result (body.new.items ≡ body.old.items ++ body_of (piece.now ∷ [])) }
+fn add_bytes(
+    body: &mut Vec<u8>,
+    item: &(Guard, Piece),
+    assignment: &Assignment,
+) -> Result<(), Memory>
+    ensures { OnOk result (body.new.items ≡ body.old.items ++ body_of (seen (shown assignment.now) (item.now ∷ []))) }
 {
-    if let Piece::Added(bytes) = piece {
-        body.extend_from_slice(bytes.as_slice())?;
+    if item.0.holds(assignment) {
+        if let Piece::Added(bytes) = &item.1 {
+            body.extend_from_slice(bytes.as_slice())?;
+        }
     }
     Ok(())
 }
@@ -80,28 +84,48 @@ fn add_bytes(body: &mut Vec<u8>, piece: &Piece) -> Result<(), Memory>
 fn has_missing(pieces: &[(Guard, Piece)], assignment: &Assignment) -> bool
     ensures { result ≡ is_missing (seen (shown assignment.now) pieces.now) }
 {
-    'pieces: for (guard, piece) in pieces {
-        if let Piece::Missing = piece {
-            if guard.holds(assignment) {
-                return true;
-            }
+    'pieces: for item in pieces {
+        if says_missing(item, assignment) {
+            return true;
         }
     }
     false
+}
+
+fn says_missing(item: &(Guard, Piece), assignment: &Assignment) -> bool
+    ensures { result ≡ is_missing (seen (shown assignment.now) (item.now ∷ [])) }
+{
+    match &item.1 {
+        Piece::Missing => item.0.holds(assignment),
+        _ => false,
+    }
 }
 
 fn last_redirect<'p>(pieces: &'p [(Guard, Piece)], assignment: &Assignment) -> Option<&'p Txt>
     ensures { option_map location (option_copied result) ≡ redirect_of None (seen (shown assignment.now) pieces.now) }
 {
     let mut last = None;
-    'pieces: for (guard, piece) in pieces {
-        if let Piece::Redirect(to) = piece {
-            if guard.holds(assignment) {
-                last = Some(to);
-            }
-        }
+    'pieces: for item in pieces {
+        last = redirect_after(last, item, assignment);
     }
     last
+}
+
+// The redirect of this piece, or the one before.
+fn redirect_after<'p>(
+    last: Option<&'p Txt>,
+    item: &'p (Guard, Piece),
+    assignment: &Assignment,
+) -> Option<&'p Txt>
+    ensures { option_map location (option_copied result) ≡ redirect_of (option_map location (option_copied last.entry)) (seen (shown assignment.now) (item.now ∷ [])) }
+{
+    if !item.0.holds(assignment) {
+        return last;
+    }
+    match &item.1 {
+        Piece::Redirect(to) => Some(to),
+        _ => last,
+    }
 }
 
 fn escape(alloc: Global, to: &[u8]) -> Result<Txt, Memory>

@@ -1,7 +1,7 @@
 -- What alternatives that were added show.
-use Rattle.std.proofs.Common.{◌≡◌, refl, ap, arith, ℕ, ◌+◌, ◌&&◌, not, Bool, true, false, if◌then◌else◌, List, [], ◌∷◌, ◌++◌}
+use Rattle.std.proofs.Common.{◌≡◌, ◌∙◌, refl, ap, arith, ℕ, ◌+◌, ◌&&◌, not, Bool, true, false, if◌then◌else◌, List, [], ◌∷◌, ◌++◌}
 use Rattle.jac_value.specs.declared.value.Value.{Value}
-use Rattle.jac_world.specs.World.{holds, holding}
+use Rattle.jac_world.specs.World.{holds, holding, both}
 use Rattle.jac_rows.specs.declared.row.Row.{Row}
 use Rattle.jac_write.specs.Writes.{cells_at, each_holding}
 
@@ -62,3 +62,52 @@ outside_if false false c rest cs e = e
 pub outside_is : (w : ℕ → Bool) (guard : List (ℕ × Bool)) (rows : List Row) → left_outside w guard rows ≡ (if holds w guard then [] else cells_at w rows)
 outside_is w guard [] = empty_if (holds w guard)
 outside_is w guard (r ∷ rows) = outside_if (holds w guard) (holds w r.guard) r.cells (left_outside w guard rows) (cells_at w rows) (outside_is w guard rows)
+
+-- rows one after another
+abbrev pub one_by_one : (ℕ → Bool) → List Row → List (List Value)
+one_by_one w [] = []
+one_by_one w (r ∷ rows) = (if holds w r.guard then r.cells ∷ [] else []) ++ one_by_one w rows
+
+one_more : (b : Bool) (c : List Value) (cs : List (List Value)) → (if b then c ∷ [] else []) ++ cs ≡ (if b then c ∷ cs else cs)
+one_more true c cs = refl
+one_more false c cs = refl
+
+pub one_by_one_is : (w : ℕ → Bool) (rows : List Row) → one_by_one w rows ≡ cells_at w rows
+one_by_one_is w [] = refl
+one_by_one_is w (r ∷ rows) = ap (λ cs. (if holds w r.guard then r.cells ∷ [] else []) ++ cs) (one_by_one_is w rows) ∙ one_more (holds w r.guard) r.cells (cells_at w rows)
+
+-- the alternatives where a guard holds too, one row after another
+abbrev pub left_within : (ℕ → Bool) → List (ℕ × Bool) → List Row → List (List Value)
+left_within w guard [] = []
+left_within w guard (r ∷ rows) = (if holds w guard then cells_at w (r ∷ []) else []) ++ left_within w guard rows
+
+within_if : (b a : Bool) (c : List Value) (rest cs : List (List Value)) → rest ≡ (if b then cs else [])
+    → (if b then (if a then c ∷ [] else []) else []) ++ rest ≡ (if b then (if a then c ∷ cs else cs) else [])
+within_if true true c rest cs e = ap (λ l. c ∷ l) e
+within_if true false c rest cs e = e
+within_if false a c rest cs e = e
+
+pub within_is : (w : ℕ → Bool) (guard : List (ℕ × Bool)) (rows : List Row) → left_within w guard rows ≡ (if holds w guard then cells_at w rows else [])
+within_is w guard [] = empty_if (holds w guard)
+within_is w guard (r ∷ rows) = within_if (holds w guard) (holds w r.guard) r.cells (left_within w guard rows) (cells_at w rows) (within_is w guard rows)
+
+met_if : (m a b : Bool) (c : List Value) → m ≡ (a && b) → (if m then c ∷ [] else []) ≡ (if b then (if a then c ∷ [] else []) else [])
+met_if true true true c e = refl
+met_if true true false c e = cc
+met_if true false b c e = cc
+met_if false true true c e = cc
+met_if false a false c e = refl
+met_if false false true c e = refl
+
+-- a guard that holds where two do, and two that never hold together
+pub met : (w : ℕ → Bool) (m g h : List (ℕ × Bool)) (c : List Value) → holds w m ≡ both w g h → (if holds w m then c ∷ [] else []) ≡ (if holds w h then (if holds w g then c ∷ [] else []) else [])
+met w m g h c e = met_if (holds w m) (holds w g) (holds w h) c e
+
+unmet_if : (a b : Bool) (c : List Value) → (a && b) ≡ false → (if b then (if a then c ∷ [] else []) else []) ≡ []
+unmet_if true true c e = cc
+unmet_if true false c e = refl
+unmet_if false true c e = refl
+unmet_if false false c e = refl
+
+pub unmet : (w : ℕ → Bool) (g h : List (ℕ × Bool)) (c : List Value) → both w g h ≡ false → (if holds w h then (if holds w g then c ∷ [] else []) else []) ≡ []
+unmet w g h c e = unmet_if (holds w g) (holds w h) c e

@@ -84,7 +84,7 @@ pub tables_with : (w : ℕ → Bool) (id m : ℕ) (new : List Row) (s : State) �
     → (project_at w (state_with id new s)).tables ≡ slice_set (project_at w s).tables m (spliced id (rows_at w new) (rows_of (project_at w s).tables m))
 tables_with w id m new s h = set_from w id 0 m new s.tables (omega (arith, h))
 
-shown_rows : (w : ℕ → Bool) (m : ℕ) (ts : List (List Row)) → rows_of (map (rows_at w) ts) m ≡ rows_at w (rows_of ts m)
+pub shown_rows : (w : ℕ → Bool) (m : ℕ) (ts : List (List Row)) → rows_of (map (rows_at w) ts) m ≡ rows_at w (rows_of ts m)
 shown_rows w m [] = refl
 shown_rows w zero (t ∷ ts) = refl
 shown_rows w (suc m) (t ∷ ts) = shown_rows w m ts
@@ -175,7 +175,7 @@ pub spliced_without : (id : ℕ) (rows : List PlainRow) → ArePlainRows rows �
 spliced_without id [] h = refl
 spliced_without id (r ∷ rows) h = left_case id r rows (nat_lt r.id id) (r.id == id) refl refl h (spliced_without id rows h.1)
 
-abbrev cells : PlainRow → List Value
+abbrev pub cells : PlainRow → List Value
 cells r = r.cells
 
 abbrev renewed : (List Value → List Value) → ℕ → List PlainRow → List PlainRow
@@ -251,7 +251,7 @@ cells-named id [] = refl
 cells-named id (c ∷ cs) = ap (λ xs. c ∷ xs) (cells-named id cs)
 
 -- the cells of a record's alternatives are those of its row
-cells_shown : (w : ℕ → Bool) (id : ℕ) (table : List Row) → cells_at w (alternatives id table) ≡ map cells (with_ids (λ i. i == id) (rows_at w table))
+pub cells_shown : (w : ℕ → Bool) (id : ℕ) (table : List Row) → cells_at w (alternatives id table) ≡ map cells (with_ids (λ i. i == id) (rows_at w table))
 cells_shown w id table =
     sym (cells-named id (cells_at w (alternatives id table)))
     ∙ ap (map cells) (sym (rows_named w id (alternatives id table) (of-alternatives id table)) ∙ with_ids_at w (λ i. i == id) table)

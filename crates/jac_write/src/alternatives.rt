@@ -64,7 +64,6 @@ fn add_parts(
 }
 
 /// Adds an alternative of the record.
-#[tactic(auto, using(crate::proofs::CellsLaws::cells_pushed))]
 pub(crate) fn add_row(
     alloc: Global,
     guard: Guard,
@@ -77,6 +76,69 @@ pub(crate) fn add_row(
     ensures shown { OnOk result ((w : ℕ → Bool) → cells_at w out.new.items ≡ cells_at w out.old.items ++ (if holds w guard then cells.now ∷ [] else [])) }
 {
     let cells = cells.copy(alloc)?;
+    put_row(id, guard, cells, out)?;
+    Ok(())
+}
+
+/// Puts an alternative of the record behind the others.
+#[tactic(auto, using(crate::proofs::CellsLaws::cells_pushed))]
+pub(crate) fn put_row(id: Id, guard: Guard, cells: Cells, out: &mut Vec<Row>) -> Result<(), Memory>
+    requires { All (λ (r : Seen). r.id ≡ id) out.old.items }
+    ensures own { OnOk result (All (λ (r : Seen). r.id ≡ id) out.new.items) }
+    ensures shown { OnOk result ((w : ℕ → Bool) → cells_at w out.new.items ≡ cells_at w out.old.items ++ (if holds w guard then cells ∷ [] else [])) }
+{
     out.push(Row { id, guard, cells })?;
     Ok(())
+}
+
+/// Puts these alternatives behind the others, as alternatives of the record.
+#[tactic(auto, using(crate::proofs::CellsLaws::one_by_one_is))]
+pub(crate) fn put_rows(id: Id, rows: Vec<Row>, out: &mut Vec<Row>) -> Result<(), Memory>
+    requires { All (λ (r : Seen). r.id ≡ id) out.old.items }
+    ensures own { OnOk result (All (λ (r : Seen). r.id ≡ id) out.new.items) }
+    ensures shown { OnOk result ((w : ℕ → Bool) → cells_at w out.new.items ≡ cells_at w out.old.items ++ cells_at w rows.items) }
+{
+    'rows: for row in rows {
+        let Row {
+            id: _,
+            guard,
+            cells,
+        } = row;
+        put_row(id, guard, cells, out)?;
+    }
+    Ok(())
+}
+
+/// The alternatives where the guard holds too, as rows of the record.
+#[tactic(auto, using(crate::proofs::CellsLaws::within_is))]
+pub(crate) fn within(alloc: Global, guard: &Guard, id: Id, rows: &[Row]) -> Result<Vec<Row>, Memory>
+    ensures own { IfOk result (λ v. All (λ (r : Seen). r.id ≡ id) v.items) }
+    ensures shown { IfOk result (λ v. (w : ℕ → Bool) → cells_at w v.items ≡ (if holds w guard.now then cells_at w rows.now else [])) }
+{
+    let mut out = Vec::new(alloc);
+    'rows: for row in rows {
+        add_within(alloc, guard, id, row, &mut out)?;
+    }
+    Ok(out)
+}
+
+#[tactic(auto, using(crate::proofs::CellsLaws::met, crate::proofs::CellsLaws::unmet))]
+fn add_within(
+    alloc: Global,
+    guard: &Guard,
+    id: Id,
+    row: &Row,
+    out: &mut Vec<Row>,
+) -> Result<(), Memory>
+    requires { All (λ (r : Seen). r.id ≡ id) out.old.items }
+    ensures own { OnOk result (All (λ (r : Seen). r.id ≡ id) out.new.items) }
+    ensures shown { OnOk result ((w : ℕ → Bool) → cells_at w out.new.items ≡ cells_at w out.old.items ++ (if holds w guard.now then cells_at w (row.now ∷ []) else [])) }
+{
+    match from_world(row.guard.meet(alloc, guard))? {
+        Some(both) => {
+            add_row(alloc, both, id, &row.cells, out)?;
+            Ok(())
+        }
+        None => Ok(()),
+    }
 }

@@ -1,19 +1,60 @@
 //! Records made under a path condition.
-ghost use Rattle.std.specs.Prelude.{◌≡◌, ◌<◌, ◌≤◌, true, length, OnOk, IsTrue};
+ghost use Rattle.std.specs.Prelude.{◌≡◌, ◌<◌, ◌≤◌, ◌++◌, ◌∷◌, [], ℕ, Bool, true, length, if◌then◌else◌, All, IfOk, OnOk, IsTrue};
 ghost use Rattle.jac_value.specs.Ids.{is_id_of, model_of_id};
 ghost use Rattle.jac_lang.specs.Lookup.{fields_at};
 ghost use Rattle.jac_lang.specs.Mirror.{application_of};
 ghost use Rattle.jac_expr.specs.Tupled.{all_at};
 ghost use Rattle.jac_keep.specs.Worked.{state_of, IsTold, WritesWork};
-ghost use Rattle.jac_write.specs.Writes.{Creates, StaysTold, tables_made};
+ghost use Rattle.jac_rows.specs.declared.row.Row.{Row as Seen};
+ghost use Rattle.jac_world.specs.World.{holds};
+ghost use Rattle.jac_write.specs.Writes.{Creates, StaysTold, cells_at, made_cells, tables_made};
 
-use jac_facet::Facets;
-use jac_keep::{Keeper, Stop, Work};
+use crate::alternatives::put_rows;
+use crate::drafts::new_drafts;
+use crate::named::Named;
+use crate::stored::add_stored;
+use jac_facet::{Facet, Facets};
+use jac_keep::{Keeper, Stop, Work, sound_after_change};
 use jac_lang::App;
-use jac_value::{Id, Value};
+use jac_rows::{Row, Rows};
+use jac_value::{Id, Memory, Value, id_model};
 use jac_world::{Guard, Steps};
 use std::alloc::Global;
 use std::sync::ledger::Ledger;
+
+// The alternatives of a new record, behind those that stand.
+fn with_new_record<L: Ledger>(
+    alloc: Global,
+    app: &App,
+    pc: &Guard,
+    model: u8,
+    id: Id,
+    cells: &[Facet<Value>],
+    standing: Vec<Row>,
+    splits: &mut Steps<L>,
+) -> Result<Vec<Row>, Memory>
+    requires model { model < length app.now.models }
+    requires id { is_id_of id model ≡ true }
+    requires each_field { length cells.now ≡ length (fields_at (application_of app.now).models model) }
+    ensures own { IfOk result (λ v. All (λ (r : Seen). r.id ≡ id) v.items) }
+    ensures shown { IfOk result (λ v. (w : ℕ → Bool) → cells_at w v.items ≡ cells_at w standing.items ++ (if holds w pc.now then made_cells (application_of app.now).models w model id (all_at w cells.now) ∷ [] else [])) }
+{
+    let drafts = new_drafts(alloc, app, pc, model, id, cells, splits)?;
+    let mut rows = Vec::new(alloc);
+    put_rows(id, standing, &mut rows)?;
+    let drafts = drafts.as_slice();
+    add_stored(
+        alloc,
+        app,
+        model,
+        id,
+        Named::Every,
+        drafts,
+        &mut rows,
+        splits,
+    )?;
+    Ok(rows)
+}
 
 /// Makes a record wherever the path condition holds, with one cell for each field of its model. A cell of
 /// another kind than its field's counts as the default of that kind.
@@ -35,5 +76,12 @@ pub fn create<K: Keeper, L: Ledger>(
     ensures told { OnOk result (StaysTold K.seen work.old work.new) }
     ensures keeps { WritesWork K.seen work.old work.new result }
 {
-    Err(Stop::Memory)
+    sound_after_change();
+    let model = id_model(id);
+    let standing = work.one(alloc, id)?;
+    let cells = cells.as_slice();
+    let standing = standing.into_vec();
+    let rows = with_new_record(alloc, app, pc, model, id, cells, standing, splits)?;
+    work.replace(id, Rows::from_vec(rows))?;
+    Ok(())
 }

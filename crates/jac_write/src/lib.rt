@@ -2,13 +2,17 @@
 #![tactic(auto)]
 
 mod alternatives;
+mod cells;
 mod creation;
 mod deletion;
+mod drafts;
 mod fit;
 mod memory;
+mod named;
 mod public_values;
 mod schema;
 mod sets;
+mod stored;
 mod updating;
 
 pub use creation::create;

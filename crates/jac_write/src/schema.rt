@@ -1,6 +1,6 @@
 //! The public expressions of fields, by number.
-ghost use Rattle.std.specs.Prelude.{◌≡◌, ◌<◌, length, option_copied, option_map, slice_get, Some};
-ghost use Rattle.jac_lang.specs.Lookup.{fields_at, groups_at};
+ghost use Rattle.std.specs.Prelude.{◌≡◌, ◌<◌, ◌≤◌, length, option_copied, option_map, slice_get, IfSome, Some};
+ghost use Rattle.jac_lang.specs.Lookup.{fields_at, group_in, groups_at};
 ghost use Rattle.jac_lang.specs.Mirror.{application_of, assigned_of, expression_of, groups_of};
 ghost use Rattle.jac_plain.specs.Records.{expression_for, guards_in, name_in, public_expression};
 
@@ -28,9 +28,30 @@ fn expression_in(app: &App, model: u8, place: u8, field: u8) -> Option<&Expr>
     expression_at(groups_of_model(app, model), place, &field.name)
 }
 
+/// How many fields the model has.
+pub(crate) fn field_count(app: &App, model: u8) -> u8
+    requires { model < length app.now.models }
+    ensures { result ≡ length (fields_at (application_of app.now).models model) }
+{
+    fields_of(app, model).len() as u8
+}
+
+/// The number of the group of the model that guards the field: one of at most 8.
+pub(crate) fn guarding_group(app: &App, model: u8, field: u8) -> Option<u8>
+    requires model { model < length app.now.models }
+    requires field { field < length (fields_at (application_of app.now).models model) }
+    ensures group { let models = (application_of app.now).models in result ≡ group_in (groups_at models model) (fields_at models model) field }
+    ensures few { IfSome result (λ g. g < 8) }
+{
+    // The list of the groups tells how many there can be.
+    let _ = groups_of_model(app, model);
+    group_of(app, model, field)
+}
+
 fn fields_of(app: &App, model: u8) -> &[Field]
     requires { model < length app.now.models }
-    ensures { result.now ≡ fields_at (application_of app.now).models model }
+    ensures fields { result.now ≡ fields_at (application_of app.now).models model }
+    ensures few { length result.now ≤ 32 }
 {
     let model = model_at(app.models.as_slice(), model);
     model.fields.as_slice()
@@ -38,7 +59,8 @@ fn fields_of(app: &App, model: u8) -> &[Field]
 
 fn groups_of_model(app: &App, model: u8) -> &[Group]
     requires { model < length app.now.models }
-    ensures { groups_of result.now ≡ groups_at (application_of app.now).models model }
+    ensures groups { groups_of result.now ≡ groups_at (application_of app.now).models model }
+    ensures few { length result.now ≤ 8 }
 {
     let model = model_at(app.models.as_slice(), model);
     model.groups.as_slice()
@@ -46,7 +68,8 @@ fn groups_of_model(app: &App, model: u8) -> &[Group]
 
 fn model_at(models: &[ModelDef], place: u8) -> &ModelDef
     requires { place < length models.now }
-    ensures { slice_get models.now place ≡ Some result.now }
+    ensures model { slice_get models.now place ≡ Some result.now }
+    ensures few { length result.now.fields ≤ 32 }
 {
     &models[usize::from(place)]
 }

@@ -1,0 +1,14 @@
+use Rattle.std.proofs.Common.{◌≡◌, drop}
+use Rattle.jac_world.specs.World.{shown}
+use Rattle.jac_rows.specs.Project.{rows_at}
+use Rattle.jac_plain.specs.World.{record_with}
+use Rattle.jac_pruned.specs.Consulted.{Grows}
+use Rattle.jac_pruned.proofs.reading.shown_row.Given as goal
+
+-- no row before those that are left is the record's
+abbrev pub invariant-rows : goal.invariant-rows
+invariant-rows l =
+    record {
+      grown : Grows l.fn.support l.support;
+      left : record_with l.id (rows_at (shown l.a) (drop l.row-index l.rows)) ≡ record_with l.id (rows_at (shown l.a) l.rows);
+    }

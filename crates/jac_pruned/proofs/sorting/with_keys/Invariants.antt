@@ -1,0 +1,24 @@
+use Rattle.std.proofs.Common.{◌≡◌, ◌++◌, List, ℕ, drop}
+use Rattle.jac_value.specs.declared.value.Value.{Value}
+use Rattle.jac_lang.specs.Mirror.{binders_of}
+use Rattle.jac_world.specs.World.{shown}
+use Rattle.jac_keep.specs.Worked.{state_of}
+use Rattle.jac_plain.specs.Expressions.{key_of}
+use Rattle.jac_plain.specs.declared.context.Ctx.{Ctx}
+use Rattle.jac_pruned.specs.Consulted.{Grows}
+use Rattle.jac_pruned.specs.Seen.{world_at}
+use Rattle.jac_pruned.specs.Tupled.{keyed_by}
+use Rattle.jac_pruned.proofs.Working.{LoopOver}
+use Rattle.jac_pruned.proofs.sorting.with_keys.Given as goal
+
+-- the keyed tuples so far, before those that are left, are all
+abbrev pub invariant-tuples : goal.invariant-tuples
+invariant-tuples g l =
+    let k = g.K.Keeper in
+    record {
+      grown : Grows l.fn.support l.support;
+      read : LoopOver k.seen l.fn.work l.work
+          ((ctx : Ctx) →
+          let key : List ℕ → Value = key_of (world_at l.app ctx (state_of k.seen l.fn.work) (shown l.a)) (binders_of l.binders) l.name l.field in
+          l.keyed.items ++ keyed_by key (drop l.ids-index l.tuples) ≡ keyed_by key l.tuples);
+    }

@@ -1,0 +1,12 @@
+use Rattle.std.proofs.Common.{◌≡◌, ℕ, true, ◌||◌, drop}
+use Rattle.jac_world.specs.World.{shown, names}
+use Rattle.jac_pruned.specs.Consulted.{Grows}
+use Rattle.jac_pruned.proofs.support.add_labels.Given as goal
+
+-- a label of the guard was consulted, or is left
+abbrev pub invariant-pairs : goal.invariant-pairs
+invariant-pairs l =
+    record {
+      grown : Grows l.fn.support l.support;
+      consulted : (k : ℕ) → names l.pairs k ≡ true → (shown l.support k || names (drop l.pair-index l.pairs) k) ≡ true;
+    }

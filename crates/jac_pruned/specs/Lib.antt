@@ -1,0 +1,3 @@
+pub mod Consulted
+pub mod Seen
+pub mod Tupled

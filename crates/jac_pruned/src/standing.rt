@@ -1,0 +1,74 @@
+//! Whether the record that a reference refers to is in the tables.
+ghost use Rattle.std.specs.Prelude.{◌≡◌, IfOk, IsTrue};
+ghost use Rattle.jac_world.specs.World.{shown};
+ghost use Rattle.jac_rows.specs.Project.{rows_at, project_at};
+ghost use Rattle.jac_keep.specs.Worked.{state_of, IsTold, ReadsWork};
+ghost use Rattle.jac_lang.specs.declared.application.App.{App};
+ghost use Rattle.jac_plain.specs.Expressions.{is_live, stands};
+ghost use Rattle.jac_plain.specs.Policies.{has_id};
+ghost use Rattle.jac_plain.specs.World.{record_with};
+ghost use Rattle.jac_plain.specs.declared.context.Ctx.{Ctx as Context};
+ghost use Rattle.jac_pruned.specs.Consulted.{Grows};
+ghost use Rattle.jac_pruned.specs.Seen.{world_at};
+
+use crate::Support;
+use crate::reading::shown_row;
+use jac_keep::{Keeper, Stop, Work};
+use jac_rows::Row;
+use jac_value::{Id, Memory, Value};
+use jac_world::Assignment;
+use std::alloc::Global;
+
+// Whether the record that the value refers to is in the tables.
+pub(crate) fn stand<K: Keeper>(
+    alloc: Global,
+    work: &mut Work<'_, K>,
+    a: &Assignment,
+    value: &Value,
+    support: &mut Support,
+) -> Result<bool, Stop>
+    requires { IsTrue (K.seen work.old.keeper.now).attached }
+    ensures value { IsTold K.seen work.new → IfOk result (λ b. (app : App) (ctx : Context) → b ≡ is_live (world_at app ctx (state_of K.seen work.old) (shown a.now)) value.now) }
+    ensures reads { ReadsWork K.seen work.old work.new result }
+    ensures grows { Grows support.old support.new }
+{
+    match value {
+        Value::Ref(Some(id)) => {
+            let found = record_stands(alloc, work, a, *id, support)?;
+            Ok(found)
+        }
+        _ => Ok(false),
+    }
+}
+
+/// Whether the assignment shows the record. The labels that were consulted are added to the support.
+pub fn record_stands<K: Keeper>(
+    alloc: Global,
+    work: &mut Work<'_, K>,
+    a: &Assignment,
+    id: Id,
+    support: &mut Support,
+) -> Result<bool, Stop>
+    requires attached { IsTrue (K.seen work.old.keeper.now).attached }
+    ensures value { IsTold K.seen work.new → IfOk result (λ b. b ≡ has_id (project_at (shown a.now) (state_of K.seen work.old)) id) }
+    ensures reads { ReadsWork K.seen work.old work.new result }
+    ensures grows { Grows support.old support.new }
+{
+    let rows = work.one(alloc, id)?;
+    let found = has_row(alloc, rows.as_slice(), a, id, support)?;
+    Ok(found)
+}
+
+fn has_row(
+    alloc: Global,
+    rows: &[Row],
+    a: &Assignment,
+    id: Id,
+    support: &mut Support,
+) -> Result<bool, Memory>
+    ensures value { IfOk result (λ b. b ≡ stands (record_with id (rows_at (shown a.now) rows.now))) }
+    ensures grows { Grows support.old support.new }
+{
+    let row = shown_row(alloc, rows, a, id, support)?;
+    Ok(row.is_some())
+}

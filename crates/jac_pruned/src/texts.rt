@@ -1,0 +1,41 @@
+//! Texts of values.
+ghost use Rattle.std.specs.Prelude.{◌≡◌, ◌++◌, IfOk, OnOk};
+ghost use Rattle.std.specs.String.{string_bytes};
+ghost use Rattle.jac_value.specs.declared.value.Value.TheVariants.{Text};
+ghost use Rattle.jac_value.specs.Values.{value_text};
+ghost use Rattle.jac_plain.specs.Expressions.{bytes_of};
+
+use jac_value::{Memory, Txt, Value, text_of};
+use std::alloc::Global;
+
+pub(crate) fn text_copy(alloc: Global, text: &Txt) -> Result<Value, Memory>
+    ensures { IfOk result (λ v. v ≡ Text text.now) }
+{
+    let text = text.copy(alloc)?;
+    Ok(Value::Text(text))
+}
+
+// The text that a page shows of the value.
+pub(crate) fn spell(alloc: Global, value: &Value) -> Result<Value, Memory>
+    ensures { IfOk result (λ v. v ≡ Text (value_text value.now)) }
+{
+    let text = text_of(alloc, value)?;
+    Ok(Value::Text(text))
+}
+
+// Adds the text behind those before it.
+pub(crate) fn push_text(joined: &mut String, value: &Value) -> Result<(), Memory>
+    ensures { OnOk result (string_bytes joined.new ≡ string_bytes joined.old ++ bytes_of value.now) }
+{
+    joined.push_str(str_of(value))?;
+    Ok(())
+}
+
+fn str_of(value: &Value) -> &str
+    ensures { result.now ≡ bytes_of value.now }
+{
+    match value {
+        Value::Text(text) => text.as_str(),
+        _ => "",
+    }
+}

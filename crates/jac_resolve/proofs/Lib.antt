@@ -1,0 +1,5 @@
+pub mod Alike
+pub mod Collecting
+pub mod Greedy
+pub mod Rising
+pub mod Standing

@@ -1,0 +1,18 @@
+use Rattle.std.proofs.Common.{[], ◌≤◌}
+use Rattle.jac_world.specs.World.{shown}
+use Rattle.jac_lang.specs.Mirror.{application_of}
+use Rattle.jac_keep.specs.Worked.{state_of}
+use Rattle.jac_plain.specs.Policies.{AreAllowed}
+use Rattle.jac_resolve.specs.Rounds.{worlds_of, Within, hidden_count}
+use Rattle.jac_pruned.proofs.Working.{LoopOver}
+use Rattle.jac_resolve.proofs.pass.settle.Given as goal
+
+abbrev pub invariant-rounds : goal.invariant-rounds
+invariant-rounds g l =
+    let k = g.K.Keeper in
+    Within l.labels [] l.assignment × (l.fn.evaluations ≤ l.evaluations) ×
+    LoopOver k.seen l.fn.work l.work
+    (AreAllowed (application_of l.app) (worlds_of (state_of k.seen l.fn.work)) l.viewer l.assignment)
+
+abbrev pub decreases-rounds : goal.decreases-rounds
+decreases-rounds g l = hidden_count (shown l.assignment) l.labels

@@ -1,0 +1,14 @@
+use Rattle.std.proofs.Common.{drop}
+use Rattle.jac_lang.specs.Mirror.{application_of}
+use Rattle.jac_keep.specs.Worked.{state_of}
+use Rattle.jac_resolve.specs.Rounds.{worlds_of}
+use Rattle.jac_pruned.proofs.Working.{LoopOver}
+use Rattle.jac_resolve.proofs.Greedy.{Round, InRound}
+use Rattle.jac_resolve.proofs.pass.try_labels.Given as goal
+
+abbrev pub invariant-labels : goal.invariant-labels
+invariant-labels g l =
+    let k = g.K.Keeper in
+    InRound l.labels l.fn.a l.a l.added l.fn.evaluations l.evaluations
+    (LoopOver k.seen l.fn.work l.work
+    (Round (application_of l.app) (worlds_of (state_of k.seen l.fn.work)) l.viewer l.labels (drop l.label-index l.labels) l.fn.a l.a l.added))

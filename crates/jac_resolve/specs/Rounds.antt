@@ -1,0 +1,58 @@
+-- What the steps of the greedy pass leave. The definition of a settled set knows none of it.
+use Rattle.std.specs.Prelude.{◌≡◌, ℕ, ◌+◌, ◌<◌, Bool, true, false, if◌then◌else◌, ◌||◌, List, [], ◌∷◌, Option, ⊤}
+use Rattle.std.specs.List.{list_all}
+use Rattle.jac_world.specs.World.{shown}
+use Rattle.jac_lang.specs.Syntax.{Application}
+use Rattle.jac_rows.specs.Project.{project_at}
+use Rattle.jac_rows.specs.declared.plain.PlainState.{PlainState}
+use Rattle.jac_plain.specs.Requests.{Worlds}
+use Rattle.jac_rows.specs.declared.state.State.{State}
+use Rattle.jac_rows.specs.Good.{IsSound}
+use Rattle.jac_plain.specs.Policies.{is_allowed, with_label, IsLiveLabel, ShowsForbidden, AreAllowed}
+
+-- the worlds of a faceted state
+abbrev pub worlds_of : State → Worlds
+worlds_of s w = project_at w s
+
+-- the tables are those of a sound state: of the state itself, or once a later number is set
+pub record HasSoundTables (s : State) : Type 0 where
+  pub next : ℕ
+  pub sound : IsSound (record s { number = next })
+
+-- the labels are the live ones
+pub record AreLive (app : Application) (worlds : Worlds) (labels : List ℕ) : Type 0 where
+  pub only : (k : ℕ) → shown labels k ≡ true → IsLiveLabel app worlds k
+  pub every : (k : ℕ) → IsLiveLabel app worlds k → shown labels k ≡ true
+
+-- whether each of the labels is allowed under an assignment
+abbrev pub all_allowed : Application → PlainState → Option ℕ → List ℕ → Bool
+all_allowed app t viewer labels = list_all (λ k. is_allowed app t viewer k) labels
+
+-- how many of the labels aren't shown
+abbrev pub hidden_count : (ℕ → Bool) → List ℕ → ℕ
+hidden_count w [] = 0
+hidden_count w (k ∷ ks) = (if w k then 0 else 1) + hidden_count w ks
+
+-- one label more is shown, or all is as it was
+abbrev pub MayAdd : ℕ → List ℕ → List ℕ → Bool → Type 0
+MayAdd k old new true = (shown old k ≡ false) × ((j : ℕ) → shown new j ≡ with_label k (shown old) j)
+MayAdd k old new false = new ≡ old
+
+-- the label was added, and all are allowed; or it can't be added
+abbrev pub Tries : Application → Worlds → Option ℕ → ℕ → List ℕ → List ℕ → Bool → Type 0
+Tries app worlds viewer k old new true = AreAllowed app worlds viewer new
+Tries app worlds viewer k old new false = shown old k ≡ false → ShowsForbidden app worlds viewer (with_label k (shown old))
+
+-- fewer of the labels are hidden, or all is as it was
+abbrev pub Advances : List ℕ → List ℕ → List ℕ → Bool → Type 0
+Advances labels old new true = hidden_count (shown new) labels < hidden_count (shown old) labels
+Advances labels old new false = new ≡ old
+
+-- what a round adds is among the labels
+abbrev pub Within : List ℕ → List ℕ → List ℕ → Type 0
+Within labels old new = (j : ℕ) → shown new j ≡ true → (shown old j || shown labels j) ≡ true
+
+-- after a round that added none, none of the labels can be added
+abbrev pub Fills : Application → Worlds → Option ℕ → List ℕ → List ℕ → Bool → Type 0
+Fills app worlds viewer labels new true = ⊤
+Fills app worlds viewer labels new false = (k : ℕ) → shown labels k ≡ true → shown new k ≡ false → ShowsForbidden app worlds viewer (with_label k (shown new))

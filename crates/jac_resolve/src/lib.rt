@@ -1,0 +1,15 @@
+//! Which labels a viewer is shown: whether a policy allows one, and a settled assignment.
+#![tactic(auto)]
+
+mod labels;
+mod laws;
+mod live;
+mod memory;
+mod pass;
+mod permission;
+
+pub use labels::Labels;
+pub use laws::{live_by_rows, settled_by_tables};
+pub use live::live_labels;
+pub use pass::resolve;
+pub use permission::allowed;

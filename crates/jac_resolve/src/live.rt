@@ -1,0 +1,122 @@
+//! The labels that may be shown at all.
+ghost use Rattle.std.specs.Prelude.{◌≡◌, ◌<◌, ◌≤◌, ◌^◌, ◌++◌, ◌&&◌, ℕ, true, All, length, IfOk, OnOk, IsTrue};
+ghost use Rattle.jac_world.specs.World.{shown, holds, wanted, IsAscending};
+ghost use Rattle.jac_lang.specs.Mirror.{application_of, entities_of};
+ghost use Rattle.jac_rows.specs.Tables.{rows_of};
+ghost use Rattle.jac_rows.specs.declared.row.Row.{Row as Alternative};
+ghost use Rattle.jac_keep.specs.Worked.{state_of, IsTold, ReadsWork};
+ghost use Rattle.jac_plain.specs.Policies.{has_group};
+ghost use Rattle.jac_resolve.specs.Rounds.{worlds_of, HasSoundTables, AreLive};
+ghost use Rattle.jac_resolve.specs.Collected.{labels_below, labels_of_rows, Collects, CanHold, has_row};
+
+use crate::Labels;
+use jac_keep::{Keeper, Stop, Work};
+use jac_lang::{App, ModelDef};
+use jac_rows::Row;
+use jac_value::{Id, Memory, label_number};
+use jac_world::Label;
+use std::alloc::Global;
+
+/// The labels of all groups of every record that has a row in the work, by rising number.
+pub fn live_labels<K: Keeper>(
+    alloc: Global,
+    work: &mut Work<'_, K>,
+    app: &App,
+) -> Result<Labels, Stop>
+    requires attached { IsTrue (K.seen work.old.keeper.now).attached }
+    requires sound { IsTold K.seen work.old → HasSoundTables (state_of K.seen work.old) }
+    ensures live { IsTold K.seen work.new → IfOk result (AreLive (application_of app.now) (worlds_of (state_of K.seen work.old))) }
+    ensures by_rows { IsTold K.seen work.new → IfOk result (λ ls. (k : ℕ) → shown ls k ≡ (has_group (application_of app.now) k && has_row (state_of K.seen work.old) k)) }
+    ensures ascending { IfOk result IsAscending }
+    ensures reads { ReadsWork K.seen work.old work.new result }
+{
+    let labels = collect(alloc, work, app.models.as_slice())?;
+    Ok(Labels::rising(labels))
+}
+
+// The labels of the records of all models, one model after another.
+fn collect<K: Keeper>(
+    alloc: Global,
+    work: &mut Work<'_, K>,
+    models: &[ModelDef],
+) -> Result<Vec<Label>, Stop>
+    requires attached { IsTrue (K.seen work.old.keeper.now).attached }
+    requires sound { IsTold K.seen work.old → HasSoundTables (state_of K.seen work.old) }
+    requires few { length models.now ≤ 64 }
+    ensures labels { IsTold K.seen work.new → IfOk result (λ v. Collects (entities_of models.now) (state_of K.seen work.old).tables (length models.now) v.items) }
+    ensures reads { ReadsWork K.seen work.old work.new result }
+{
+    let mut labels = Vec::new(alloc);
+    'models: for place in 0..models.len() {
+        let groups = group_count(&models[place]);
+        add_model(alloc, work, &mut labels, place as u8, groups)?;
+    }
+    Ok(labels)
+}
+
+// How many groups the model has.
+fn group_count(model: &ModelDef) -> u8
+    ensures count { result ≡ length model.now.groups }
+    ensures few { result ≤ 8 }
+{
+    model.groups.as_slice().len() as u8
+}
+
+// Adds the labels of the records of one model.
+fn add_model<K: Keeper>(
+    alloc: Global,
+    work: &mut Work<'_, K>,
+    labels: &mut Vec<Label>,
+    model: u8,
+    groups: u8,
+) -> Result<(), Stop>
+    requires attached { IsTrue (K.seen work.old.keeper.now).attached }
+    requires few { groups ≤ 8 }
+    ensures labels { IsTold K.seen work.new → All (λ (r : Alternative). r.id < 2 ^ 124) (rows_of (state_of K.seen work.old).tables model) → OnOk result (labels.new.items ≡ labels.old.items ++ labels_of_rows groups (rows_of (state_of K.seen work.old).tables model)) }
+    ensures guards { IsTold K.seen work.new → 0 < groups → OnOk result (CanHold (rows_of (state_of K.seen work.old).tables model)) }
+    ensures reads { ReadsWork K.seen work.old work.new result }
+{
+    if groups == 0 {
+        return Ok(());
+    }
+    let rows = work.rows(alloc, model)?;
+    add_rows(labels, rows.as_slice(), groups)?;
+    Ok(())
+}
+
+fn add_rows(labels: &mut Vec<Label>, rows: &[Row], groups: u8) -> Result<(), Memory>
+    requires few { groups ≤ 8 }
+    ensures labels { All (λ (r : Alternative). r.id < 2 ^ 124) rows.now → OnOk result (labels.new.items ≡ labels.old.items ++ labels_of_rows groups rows.now) }
+    ensures guards { OnOk result (CanHold rows.now) }
+{
+    'rows: for row in rows {
+        add_row(labels, row, groups)?;
+    }
+    Ok(())
+}
+
+fn add_row(labels: &mut Vec<Label>, row: &Row, groups: u8) -> Result<(), Memory>
+    requires few { groups ≤ 8 }
+    ensures labels { row.now.id < 2 ^ 124 → OnOk result (labels.new.items ≡ labels.old.items ++ labels_below row.now.id groups) }
+    ensures guard { holds (wanted row.now.guard) row.now.guard ≡ true }
+{
+    // A guard that is read never contradicts itself.
+    let _ = row.guard.pairs();
+    add_labels(labels, row.id, groups)
+}
+
+// An id past the end has no labels. No sound state has one.
+const IDS_END: u128 = 1 << 124;
+
+fn add_labels(labels: &mut Vec<Label>, id: Id, groups: u8) -> Result<(), Memory>
+    requires few { groups ≤ 8 }
+    ensures { id < 2 ^ 124 → OnOk result (labels.new.items ≡ labels.old.items ++ labels_below id groups) }
+{
+    if IDS_END <= id.0 {
+        return Ok(());
+    }
+    'groups: for group in 0..groups {
+        labels.push(Label(label_number(id, group)))?;
+    }
+    Ok(())
+}

@@ -1,0 +1,108 @@
+//! Whether a label may be shown under an assignment.
+ghost use Rattle.std.specs.Prelude.{◌≡◌, ◌≤◌, ◌+◌, ◌&&◌, [], if◌then◌else◌, slice_get, option_map, IfOk, OnOk, IsTrue};
+ghost use Rattle.jac_value.specs.Ids.{record_of_label};
+ghost use Rattle.jac_world.specs.World.{shown};
+ghost use Rattle.jac_lang.specs.Mirror.{application_of, entity_of, entities_of, field_group_of, groups_of, expression_of};
+ghost use Rattle.jac_keep.specs.Worked.{state_of, IsTold, ReadsWork};
+ghost use Rattle.jac_plain.specs.Expressions.{mean, is_true};
+ghost use Rattle.jac_plain.specs.Policies.{labelled_group, has_group, has_record, policy_world, is_allowed};
+ghost use Rattle.jac_resolve.specs.Rounds.{worlds_of};
+
+use jac_keep::{Keeper, Stop, Work};
+use jac_lang::{App, Expr, Group, ModelDef, Models, PlainEnv};
+use jac_plain::Ctx;
+use jac_pruned::{Support, eval_at, is_true, record_stands};
+use jac_value::{Id, id_model};
+use jac_world::{Assignment, Label, Steps};
+use std::alloc::Global;
+use std::sync::ledger::Ledger;
+
+/// Whether the record of the label stands under the assignment, and the policy of its group is true there;
+/// and the labels that were consulted for this answer.
+pub fn allowed<K: Keeper, M: Ledger>(
+    alloc: Global,
+    work: &mut Work<'_, K>,
+    app: &App,
+    viewer: Option<Id>,
+    a: &Assignment,
+    label: Label,
+    evaluations: &mut Steps<M>,
+) -> Result<(bool, Support), Stop>
+    requires attached { IsTrue (K.seen work.old.keeper.now).attached }
+    ensures value { IsTold K.seen work.new → IfOk result (λ r. r.0 ≡ is_allowed (application_of app.now) (worlds_of (state_of K.seen work.old) (shown a.now)) viewer label) }
+    ensures ticks { IsTold K.seen work.new → OnOk result (evaluations.new ≡ evaluations.old + (if has_group (application_of app.now) label && has_record (worlds_of (state_of K.seen work.old) (shown a.now)) label then 1 else 0)) }
+    ensures later { evaluations.old ≤ evaluations.new }
+    ensures once { evaluations.new ≤ evaluations.old + 1 }
+    ensures reads { ReadsWork K.seen work.old work.new result }
+{
+    let mut support = Support::empty(alloc);
+    match group_of_label(app, label) {
+        Some(group) => {
+            let id = record_of(label);
+            let stands = record_stands(alloc, work, a, id, &mut support)?;
+            if !stands {
+                return Ok((false, support));
+            }
+            evaluations.tick();
+            let policy = &group.policy;
+            let holds = policy_holds(alloc, work, app, viewer, a, id, policy, &mut support)?;
+            Ok((holds, support))
+        }
+        None => Ok((false, support)),
+    }
+}
+
+// Whether the policy is true of the record under the assignment.
+fn policy_holds<K: Keeper>(
+    alloc: Global,
+    work: &mut Work<'_, K>,
+    app: &App,
+    viewer: Option<Id>,
+    a: &Assignment,
+    id: Id,
+    policy: &Expr,
+    support: &mut Support,
+) -> Result<bool, Stop>
+    requires attached { IsTrue (K.seen work.old.keeper.now).attached }
+    ensures value { IsTold K.seen work.new → IfOk result (λ b. b ≡ is_true (mean (policy_world (application_of app.now) (worlds_of (state_of K.seen work.old) (shown a.now)) viewer id) (expression_of policy.now) [])) }
+    ensures reads { ReadsWork K.seen work.old work.new result }
+{
+    let ctx = Ctx {
+        viewer,
+        this: Some(id),
+        number: 0,
+        around: None,
+    };
+    let env = PlainEnv::empty(alloc);
+    let value = eval_at(alloc, work, app, &ctx, a, &env, policy, support)?;
+    Ok(is_true(&value))
+}
+
+// The record of the label.
+fn record_of(label: Label) -> Id
+    ensures { result ≡ record_of_label label }
+{
+    Id(label.0 / 8)
+}
+
+// The group of the label, if its model has it.
+fn group_of_label(app: &App, label: Label) -> Option<&Group>
+    ensures { option_map (λ g. field_group_of g.now) result ≡ labelled_group (application_of app.now) label }
+{
+    match model_at(&app.models, id_model(record_of(label))) {
+        Some(model) => group_at(model.groups.as_slice(), (label.0 % 8) as u8),
+        None => None,
+    }
+}
+
+fn model_at(models: &Models, place: u8) -> Option<&ModelDef>
+    ensures { option_map (λ m. entity_of m.now) result ≡ slice_get (entities_of models.now) place }
+{
+    models.as_slice().get(usize::from(place))
+}
+
+fn group_at(groups: &[Group], place: u8) -> Option<&Group>
+    ensures { option_map (λ g. field_group_of g.now) result ≡ slice_get (groups_of groups.now) place }
+{
+    groups.get(usize::from(place))
+}

@@ -1,0 +1,9 @@
+use Rattle.jac_keep.specs.Worked.{state_of}
+use Rattle.jac_lang.specs.Mirror.{expression_of}
+use Rattle.jac_stmt.proofs.RunLaws.{assigns}
+use Rattle.jac_stmt.proofs.execution.execute_assign.Goals as goal
+
+pub returns-clause-left : goal.returns-clause-left
+returns-clause-left g c told =
+    assigns c.args.app.now c.args.ctx.now c.args.name.now (expression_of c.args.e.now) c.args.pc.now (state_of g.K.Keeper.seen c.args.work.now) (state_of g.K.Keeper.seen c.eval.new.work)
+    c.args.env.now c.assign.new.env c.args.out.now c.in_ok-value.value c.requires.no_record (c.in_ok-value.ensures.reads.same.same_state told) (c.in_ok-value.ensures.value told) c.in_ok-assign.ensures

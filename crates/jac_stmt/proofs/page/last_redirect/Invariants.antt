@@ -1,0 +1,11 @@
+use Rattle.std.proofs.Common.{◌≡◌, None, drop}
+use Rattle.std.specs.Option.{option_copied, option_map}
+use Rattle.jac_facet.specs.Leaves.{seen}
+use Rattle.jac_plain.specs.Requests.{location, redirect_of}
+use Rattle.jac_world.specs.World.{shown}
+use Rattle.jac_stmt.proofs.page.last_redirect.Given as goal
+
+abbrev pub invariant-pieces : goal.invariant-pieces
+invariant-pieces l =
+    redirect_of (option_map location (option_copied l.last)) (seen (shown l.assignment) (drop l.item-index l.pieces))
+    ≡ redirect_of None (seen (shown l.assignment) l.pieces)

@@ -1,0 +1,35 @@
+-- Steps on the way to what a write leaves.
+use Rattle.std.specs.Prelude.{ℕ, ◌&&◌, Bool, false, not, if◌then◌else◌, List, [], ◌∷◌, ◌++◌, slice_set, Option, Some, None}
+use Rattle.jac_value.specs.declared.value.Value.{Value}
+use Rattle.jac_world.specs.World.{holds}
+use Rattle.jac_lang.specs.Syntax.{Entity}
+use Rattle.jac_plain.specs.Records.{every_field, is_hidden, public_cell}
+use Rattle.jac_write.specs.declared.cells.Spot.{Spot}
+use Rattle.jac_write.specs.declared.cells.Spot.TheVariants.{Behind, At}
+use Rattle.jac_write.specs.declared.named.Named.{Named}
+use Rattle.jac_write.specs.declared.named.Named.TheVariants.{Every, Set}
+use Rattle.jac_write.specs.Writes.{is_put, sets_at}
+
+-- the cells with the value in its spot
+abbrev pub with_cell : Spot → Value → List Value → List Value
+with_cell Behind v cells = cells ++ v ∷ []
+with_cell (At f) v cells = slice_set cells f v
+
+-- the cells with the value of each leaf that is seen
+abbrev pub with_each : (ℕ → Bool) → Spot → List Value → List (List (ℕ × Bool) × Value) → List (List Value)
+with_each w spot cells [] = []
+with_each w spot cells (p ∷ leaves) = (if holds w p.0 then with_cell spot p.1 cells ∷ [] else []) ++ with_each w spot cells leaves
+
+-- the fields that a write names
+abbrev pub named_by : (ℕ → Bool) → Named → ℕ → Bool
+named_by w Every = every_field
+named_by w (Set sets) = is_put (sets_at w sets.now)
+
+-- a label hides, where there is one
+abbrev pub hides : (ℕ → Bool) → Option ℕ → Bool
+hides w None = false
+hides w (Some label) = not (w label)
+
+-- what is stored of a cell of a draft
+abbrev pub stored_at : List Entity → (ℕ → Bool) → ℕ → ℕ → (ℕ → Bool) → List Value → ℕ → Value → Value
+stored_at models w m id named draft f cell = if named f && is_hidden models w m id f then public_cell models m id draft f cell else cell
