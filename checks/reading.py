@@ -255,23 +255,38 @@ def sentence(repository, seen, library):
             'stand beside them.' % (counts(repository, seen)[:2] + (len(library),) + counts(repository, seen)[2:]))
 
 
-def lost_notions(repository):
-    """What docs/DEFINITIONS.md names and no file of specs/ defines."""
-    wrong = []
+def notions(repository):
+    """Of each row of docs/DEFINITIONS.md its notion, and the place and the name of each definition that it cites; a
+    place or a name that doesn't exist is None."""
     for row in read(NOTIONS).split('\n'):
         cells = [cell.strip() for cell in row.split('|')]
         if len(cells) < 5 or '/specs/' not in cells[3]:
             continue
-        place = None
+        place, cited = None, []
         for word in re.findall(r'`([^`]*)`', cells[3]):
             if '/specs/' in word:
                 crate, module = word.split('/specs/')
                 place = repository.specs.get((crate, module[:-len('.antt')].replace('/', '.')))
-                if place is None:
-                    wrong.append('%s: there is no file %s' % (cells[1], word))
-            elif place is not None and word not in place.items and '/' not in word:
-                wrong.append('%s: %s does not define %s' % (cells[1], place.path, word))
-    return wrong
+                cited += [(word, None)] if place is None else []
+            elif place is not None and '/' not in word:
+                cited.append((word, place.items.get(word)))
+        yield cells[1], cited
+
+
+def lost_notions(repository):
+    """What docs/DEFINITIONS.md names and specs/ doesn't have."""
+    return ['docs/DEFINITIONS.md, %s: there is no %s' % (notion, word)
+            for notion, cited in notions(repository) for word, item in cited if item is None]
+
+
+def unreached_notions(repository, seen):
+    """The rows of docs/DEFINITIONS.md of which the promise reaches some definition not, with those."""
+    lines = []
+    for notion, cited in notions(repository):
+        beyond = [word for word, item in cited if item not in seen]
+        if beyond:
+            lines.append('| %s | %s |' % (notion, 'nothing' if len(beyond) == len(cited) else 'all but ' + names(beyond)))
+    return '\n'.join(['| Notion | Reached |', '|---|---|'] + lines)
 
 
 def main():
@@ -279,6 +294,7 @@ def main():
     start, seen, library = repository.walk()
     parts = tables(start, seen)
     parts['counts'] = sentence(repository, seen, library)
+    parts['notions'] = unreached_notions(repository, seen)
     wrong = lost_notions(repository) + differences(PAGE, parts, 'checks/reading.py', '--write' in sys.argv[1:])
     for line in wrong:
         print('FAILED ' + line)
