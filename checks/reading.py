@@ -4,8 +4,8 @@ and compares what it finds with docs/READING.md and docs/DEFINITIONS.md. Where a
 and its status is 1. With the word --write it writes the tables of docs/READING.md anew.
 
 A name is followed where it is defined in specs/ or is a type or a trait of the code; a library's word is counted.
-A variable that has the name of a definition in the same file counts as that definition, so a file may be said to
-carry one definition more than it does, and none less."""
+Variables aren't told from definitions: one that has the name of a definition that its file has or brings in counts as
+that definition. So a file may be said to carry a definition more than it does, and none less."""
 import os
 import re
 import sys
@@ -17,7 +17,7 @@ START = ('jac_app', 'command', 'run')
 PAGE = 'docs/READING.md'
 NOTIONS = 'docs/DEFINITIONS.md'
 
-WORD = re.compile(r"[^\W\d][\w'-]*(?:\.[^\W\d][\w'-]*)*|\.[\w'-]+|≢|.", re.S)
+WORD = re.compile(r"(\.?)([^\W\d][\w'-]*)")
 HEAD = re.compile(r"(?:(?:abbrev|unfoldable|opaque|pub)\s+)*(?:(record|data)\s+)?([^\W\d][\w'-]*)(\s.*)?$", re.S)
 
 
@@ -30,9 +30,6 @@ class Item:
 
     def __init__(self, place, name, text=''):
         self.place, self.name, self.text = place, name, text
-
-    def __repr__(self):
-        return '%s.%s' % (self.place.path, self.name)
 
 
 class Place:
@@ -130,19 +127,22 @@ class Repository:
     def __init__(self):
         self.specs, self.code, self.types = {}, {}, {}
         for crate in sorted(os.listdir(os.path.join(TOP, 'crates'))):
-            self.add_crate(crate)
-
-    def add_crate(self, crate):
-        for part, kind, places, end in (('specs', Specs, self.specs, '.antt'), ('src', Code, self.code, '.rt')):
-            for folder, _, files in os.walk(os.path.join(TOP, 'crates', crate, part)):
-                for file in sorted(files):
-                    path = os.path.relpath(os.path.join(folder, file), TOP)
-                    module = os.path.relpath(path, os.path.join('crates', crate, part))[:-len(end)].replace(os.sep, '.')
-                    if file.endswith(end) and module not in ('Lib', 'tests') and crate != 'jac_tests':
-                        places[crate, module] = kind(path, crate)
-        for (home, _), place in self.code.items():
+            if crate != 'jac_tests':
+                self.add_files(crate, 'specs', '.antt', Specs, self.specs)
+                self.add_files(crate, 'src', '.rt', Code, self.code)
+        for (crate, _), place in self.code.items():
             for name, item in place.items.items():
-                self.types.setdefault((home, name), item)
+                self.types.setdefault((crate, name), item)
+
+    @staticmethod
+    def add_files(crate, part, end, kind, places):
+        top = os.path.join(TOP, 'crates', crate, part)
+        for folder, _, files in os.walk(top):
+            for file in sorted(files):
+                path = os.path.join(folder, file)
+                module = os.path.relpath(path, top)[:-len(end)].replace(os.sep, '.')
+                if file.endswith(end) and module not in ('Lib', 'tests'):
+                    places[crate, module] = kind(os.path.relpath(path, TOP), crate)
 
     def item_of(self, place, name):
         """The item that a name in this place stands for; 'std' for a word of a library, None for anything else."""
@@ -171,27 +171,24 @@ class Repository:
 
     def cited(self, item):
         """The items that an item's text names, in their order, and the library's words."""
-        own, library, fields = [], set(), set(re.findall(r"([\w'-]+) =(?!=)", item.text))
-        for word in WORD.findall(item.text):
-            if word.startswith('.') or not (word[0].isalpha() or word[0] == '_'):
-                continue
-            name = word.split('.')[0]
-            found = self.item_of(item.place, name)
+        own, library = [], set()
+        for dot, name in WORD.findall(item.text):
+            found = None if dot else self.item_of(item.place, name)
             if found == 'std':
                 library.add(name)
-            elif found and found is not item and found not in own and not (name in fields and name[0].islower() and name != word):
+            elif found and found is not item and found not in own:
                 own.append(found)
         return own, library
 
     def walk(self):
+        """The top call, and for each item that it reaches those that this cites; and the library's words."""
         start = self.code[START[:2]].call(START[2])
-        seen, library, order = {}, set(), []
+        seen, library = {}, set()
 
         def visit(item):
-            own, words = self.cited(item)
+            seen[item], words = self.cited(item)
             library.update(words)
-            seen[item] = own
-            for other in reversed(own):
+            for other in reversed(seen[item]):
                 if other not in seen:
                     visit(other)
 
