@@ -224,19 +224,16 @@ def tables(start, seen):
     reached = {}
     for item in seen:
         reached.setdefault(item.place, set()).add(item.name)
-    number = 0
     for place in in_order(start, seen):
         path = place.path[len('crates/'):]
         if isinstance(place, Specs):
-            number += 1
             rest = [name for name in place.items if name not in reached[place]]
-            definitions.append('| %d | `%s` | %s | %d | %s |' % (
-                number, path, place.about, len(place.items) - len(rest), names(rest)))
+            definitions.append('| `%s` | %s | %d | %s |' % (path, place.about, len(place.items) - len(rest), names(rest)))
         else:
             own = [name for name in place.items if name in reached[place]]
             if own:
                 types.append('| `%s` | %s |' % (path, names(own)))
-    head = ['| | File | What it defines | Carried | Not reached |', '|---|---|---|---|---|']
+    head = ['| File | What it defines | Carried | Not reached |', '|---|---|---|---|']
     return {'definitions': '\n'.join(head + definitions),
             'types': '\n'.join(['| File | Types and traits |', '|---|---|'] + types)}
 
