@@ -26,3 +26,5 @@ mod tree;
 mod value;
 #[cfg(test)]
 mod world;
+#[cfg(test)]
+mod writes;
