@@ -15,6 +15,8 @@ mod keep;
 #[cfg(test)]
 mod lang;
 #[cfg(test)]
+mod policies;
+#[cfg(test)]
 mod query;
 #[cfg(test)]
 mod route;
