@@ -1,5 +1,5 @@
 -- From the run of a view to the answer of a request.
-use Rattle.std.proofs.Common.{◌≡◌, ◌<◌, ◌+◌, ◌^◌, refl, ap, ◌∙◌, arith, suc, ℕ, Bool, true, List, [], ◌∷◌, length, Some}
+use Rattle.std.proofs.Common.{◌≡◌, ◌<◌, ◌+◌, ◌^◌, refl, ap, subst, ◌∙◌, arith, suc, ℕ, Bool, true, List, [], ◌∷◌, length, Some}
 use Rattle.std.specs.Prelude.{slice_get}
 use Rattle.jac_lang.specs.Syntax.{Page as View, Application}
 use Rattle.jac_lang.specs.declared.pages.Verb.TheVariants as verbs
@@ -8,14 +8,16 @@ use Rattle.jac_rows.specs.Project.{project_at}
 use Rattle.jac_rows.specs.declared.plain.PlainRow.{PlainRow}
 use Rattle.jac_rows.specs.declared.row.Row.{Row}
 use Rattle.jac_rows.specs.declared.state.State.{State}
-use Rattle.jac_plain.specs.Requests.{page, page_of, after}
+use Rattle.jac_plain.specs.Policies.{IsSettled}
+use Rattle.jac_plain.specs.Requests.{Worlds, page, page_of, after}
 use Rattle.jac_plain.specs.declared.page.Page.{Page}
 use Rattle.jac_keep.specs.declared.alteration.Alteration.{Alteration}
 use Rattle.jac_keep.specs.declared.alteration.Change.{Change}
 use Rattle.jac_keep.specs.Alterations.{overlaid_from}
 use Rattle.jac_keep.specs.Kept.{applied}
 use Rattle.jac_engine.specs.declared.answer.Ask.{Ask}
-use Rattle.jac_engine.specs.Answers.{visit_of, page_answer}
+use Rattle.jac_engine.specs.Answers.{visit_of, page_answer, worlds_after}
+use Rattle.jac_engine.specs.Prepared.{worlds_of}
 use Rattle.jac_engine.specs.Served.{is_served_body}
 use Rattle.jac_engine.specs.Start.{IsStart}
 use Rattle.jac_engine.specs.Viewed.{Stores}
@@ -27,27 +29,27 @@ length_overlaid k c [] = refl
 length_overlaid k c (t ∷ ts) = ap suc (length_overlaid (k + 1) c ts)
 
 -- the page of the run is the interpreter's
-ran_page : (app : Application) (v : View) (ask : Ask) (place n : ℕ) (s : State) → slice_get app.views place ≡ Some v → n ≡ s.number
-    → page_of (ran_by (shown []) app v ask n s).pieces ≡ page (shown []) app (project_at (shown []) s) (visit_of app ask place)
-ran_page app v ask place n s is_view is_number = rw (is_view, is_number) refl
+ran_page : (app : Application) (v : View) (ask : Ask) (place n : ℕ) (s : State) (labels : List ℕ) → slice_get app.views place ≡ Some v → n ≡ s.number
+    → page_of (ran_by (shown labels) app v ask n s).pieces ≡ page (shown labels) app (project_at (shown labels) s) (visit_of app ask place)
+ran_page app v ask place n s labels is_view is_number = rw (is_view, is_number) refl
 
 ran_after : (w : ℕ → Bool) (app : Application) (v : View) (ask : Ask) (place n : ℕ) (s : State) → slice_get app.views place ≡ Some v → v.method ≡ verbs.Post → n ≡ s.number
     → record { tables = (ran_by w app v ask n s).tables; number = n + 1 } ≡ after w app (project_at w s) (visit_of app ask place)
 ran_after w app v ask place n s is_view is_post is_number = rw (is_view, is_post, is_view, is_number) refl
 
 -- the page of a view of GET
-pub page_shown : (app : Application) (v : View) (ask : Ask) (place n : ℕ) (s : State) (p : Page) → slice_get app.views place ≡ Some v → is_served_body verbs.Get v.body ≡ true
-    → n ≡ s.number → IsStart app s → ShowsView app v ask n s p
-    → page_answer [] p ≡ page_answer [] (page (shown []) app (project_at (shown []) s) (visit_of app ask place))
-page_shown app v ask place n s p is_view served is_number start shows =
-    ap (page_answer []) (shows.page n (sound_now s n start.sound is_number) (may_show n app v ask n s served) ∙ ran_page app v ask place n s is_view is_number)
+pub page_shown : (app : Application) (v : View) (ask : Ask) (place n : ℕ) (s : State) (labels : List ℕ) (p : Page) → slice_get app.views place ≡ Some v → is_served_body verbs.Get v.body ≡ true
+    → n ≡ s.number → IsStart app s → ShowsView app v ask n s labels p
+    → page_answer labels p ≡ page_answer labels (page (shown labels) app (project_at (shown labels) s) (visit_of app ask place))
+page_shown app v ask place n s labels p is_view served is_number start shows =
+    ap (page_answer labels) (shows.page n (sound_now s n start.sound is_number) (may_show n app v ask n s served) ∙ ran_page app v ask place n s labels is_view is_number)
 
 -- the page of a view of POST
-pub page_stored : (app : Application) (v : View) (ask : Ask) (place n : ℕ) (s : State) (p : Page) → slice_get app.views place ≡ Some v → is_served_body verbs.Post v.body ≡ true
-    → n ≡ s.number → n < 2 ^ 40 → IsStart app s → ShowsView app v ask n s p
-    → page_answer [] p ≡ page_answer [] (page (shown []) app (project_at (shown []) s) (visit_of app ask place))
-page_stored app v ask place n s p is_view served is_number few start shows =
-    ap (page_answer []) (shows.page (n + 1) (sound_next s n start.sound is_number few) (may_store app v ask n s served start.sound is_number) ∙ ran_page app v ask place n s is_view is_number)
+pub page_stored : (app : Application) (v : View) (ask : Ask) (place n : ℕ) (s : State) (labels : List ℕ) (p : Page) → slice_get app.views place ≡ Some v → is_served_body verbs.Post v.body ≡ true
+    → n ≡ s.number → n < 2 ^ 40 → IsStart app s → ShowsView app v ask n s labels p
+    → page_answer labels p ≡ page_answer labels (page (shown labels) app (project_at (shown labels) s) (visit_of app ask place))
+page_stored app v ask place n s labels p is_view served is_number few start shows =
+    ap (page_answer labels) (shows.page (n + 1) (sound_next s n start.sound is_number few) (may_store app v ask n s served start.sound is_number) ∙ ran_page app v ask place n s labels is_view is_number)
 
 -- the change of a run stores what the interpreter leaves, in every world
 pub change_stored : (app : Application) (v : View) (ask : Ask) (place n : ℕ) (s : State) (change : Change) → slice_get app.views place ≡ Some v → v.method ≡ verbs.Post
@@ -66,3 +68,9 @@ change_stored app v ask place n s change is_view is_post served is_number few st
         tables = rw (length_overlaid 0 change.changed s.tables) start.tables;
       };
     }
+
+-- labels that are settled on the state after a change are so in the worlds that the request leaves
+pub settled_after : (app : Application) (s : State) (ask : Ask) (place : ℕ) (change : Change) (labels : List ℕ) → Stores app s (visit_of app ask place) change
+    → IsSettled app (worlds_of (applied change s)) ask.viewer labels → IsSettled app (worlds_after app (worlds_of s) (visit_of app ask place)) ask.viewer labels
+settled_after app s ask place change labels stores settled =
+    subst (λ (worlds : Worlds). IsSettled app worlds ask.viewer labels) (λ i w. stores.worlds w i) settled

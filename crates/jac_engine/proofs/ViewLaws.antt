@@ -21,7 +21,7 @@ use Rattle.jac_keep.proofs.SoundLaws.{sound-applied}
 use Rattle.jac_keep.proofs.WorkLaws.{overlaid_none}
 use Rattle.jac_write.specs.Writes.{numbered}
 use Rattle.jac_engine.specs.Served.{are_untemplated, is_served_body}
-use Rattle.jac_engine.specs.Views.{setting_in, begun, MayRunView}
+use Rattle.jac_engine.specs.Views.{setting_in, begun, MayRunView, IsReady}
 use Rattle.jac_engine.specs.declared.answer.Ask.{Ask}
 use Rattle.jac_engine.proofs.ServedLaws.{all_reading_unlooped, storing}
 
@@ -67,3 +67,10 @@ sound_now s n sound is = rw is sound
 pub sound_next : (s : State) (n : ℕ) → IsSound s → n ≡ s.number → n < 2 ^ 40 → IsSound (numbered (n + 1) s)
 sound_next s n sound is few =
     rw (overlaid_none s.tables) at (sound-applied (record { changed = []; number = n + 1 }) s sound (omega (arith, is)) (omega (arith, few)) tt)
+
+-- a sound state is ready for a view that writes nothing, and, while there are numbers, for one that stores
+pub ready_to_show : (app : Application) (v : View) (ask : Ask) (n : ℕ) (s : State) → is_served_body verbs.Get v.body ≡ true → IsSound s → n ≡ s.number → IsReady app v ask n s
+ready_to_show app v ask n s served sound is = record { next = n; sound = sound_now s n sound is; new = may_show n app v ask n s served }
+
+pub ready_to_store : (app : Application) (v : View) (ask : Ask) (n : ℕ) (s : State) → is_served_body verbs.Post v.body ≡ true → IsSound s → n ≡ s.number → n < 2 ^ 40 → IsReady app v ask n s
+ready_to_store app v ask n s served sound is few = record { next = n + 1; sound = sound_next s n sound is few; new = may_store app v ask n s served sound is }

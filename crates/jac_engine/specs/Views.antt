@@ -45,9 +45,15 @@ pub record RunsView (app : Application) (v : View) (ask : Ask) (number : ℕ) (o
 pub record LeavesTables (app : Application) (v : View) (ask : Ask) (number : ℕ) (old : State) (tables : List (List Row)) : Type 0 where
   pub ran : (next : ℕ) → IsSound (numbered next old) → MayRunView next app v ask number old → RanTables next app v ask number old tables
 
--- the page without labels is the one of the interpreter's run
-pub record ShowsView (app : Application) (v : View) (ask : Ask) (number : ℕ) (old : State) (p : Page) : Type 0 where
-  pub page : (next : ℕ) → IsSound (numbered next old) → MayRunView next app v ask number old → p ≡ page_of (ran_by (shown []) app v ask number old).pieces
+-- the page under these labels is the one of the interpreter's run
+pub record ShowsView (app : Application) (v : View) (ask : Ask) (number : ℕ) (old : State) (labels : List ℕ) (p : Page) : Type 0 where
+  pub page : (next : ℕ) → IsSound (numbered next old) → MayRunView next app v ask number old → p ≡ page_of (ran_by (shown labels) app v ask number old).pieces
+
+-- the state is sound with a next number for which what the view creates is new
+pub record IsReady (app : Application) (v : View) (ask : Ask) (number : ℕ) (s : State) : Type 0 where
+  pub next : ℕ
+  pub sound : IsSound (numbered next s)
+  pub new : MayRunView next app v ask number s
 
 -- the page of some pieces
 abbrev pub IsMade : Page → Type 0

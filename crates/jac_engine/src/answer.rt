@@ -1,7 +1,8 @@
-ghost use Rattle.std.specs.Prelude.{◌≡◌, ◌<◌, true, length, slice_get, IfOk, OnOk, OnErr, IfSome, IsTrue, Some, []};
+ghost use Rattle.std.specs.Prelude.{◌≡◌, ◌<◌, true, length, slice_get, IfOk, OnOk, OnErr, IfSome, IsTrue, Some};
 ghost use Rattle.jac_lang.specs.Mirror.{application_of, page_of, statements_of};
 ghost use Rattle.jac_lang.specs.declared.pages.Verb.TheVariants as verbs;
 ghost use Rattle.jac_plain.specs.Requests.{method_in};
+ghost use Rattle.jac_world.specs.World.{IsAscending};
 ghost use Rattle.jac_keep.specs.Cause.{HasCause};
 ghost use Rattle.jac_keep.specs.KeeperSeen.{Reads};
 ghost use Rattle.jac_keep.specs.Kept.{applied};
@@ -15,7 +16,7 @@ ghost use Rattle.jac_engine.specs.Viewed.{IsPreparedBy, IsPreparedFor, IsShown};
 
 use crate::lookup::{has_at, place_of, view_at};
 use crate::refusal::{refuse, refuse_path};
-use crate::visit::{shown_page, stored_page};
+use crate::visit::{Labelled, shown_page, stored_page};
 use jac_keep::{Change, Keeper, Stop};
 use jac_lang::{App, Verb, View};
 use jac_plain::Page;
@@ -55,13 +56,15 @@ pub struct Prepared {
     pub change: Option<Change>,
 }
 
-/// Answers the request on what the keeper keeps, and changes nothing.
-pub fn prepare<K: Keeper, L: Ledger>(
+/// Answers the request on what the keeper keeps, and changes nothing. The labels of a page are settled for who looks: on
+/// what is kept for a GET, on what the request leaves for a POST. Each policy that is asked counts in `evaluations`.
+pub fn prepare<K: Keeper, L: Ledger, M: Ledger>(
     alloc: Global,
     app: &App,
     keeper: &mut K,
     ask: &Ask,
     splits: &mut Steps<L>,
+    evaluations: &mut Steps<M>,
 ) -> Result<Prepared, Stop>
     requires attached { IsTrue (K.seen keeper.old).attached }
     requires served { are_served (application_of app.now) ≡ true }
@@ -70,17 +73,18 @@ pub fn prepare<K: Keeper, L: Ledger>(
     ensures reads { Reads (K.seen keeper.old) (K.seen keeper.new) result }
 {
     let _models = app.models.as_slice();
-    let prepared = prepare_found(alloc, app, keeper, ask, splits)?;
+    let prepared = prepare_found(alloc, app, keeper, ask, splits, evaluations)?;
     Ok(prepared)
 }
 
 // The same, by what the request finds.
-fn prepare_found<K: Keeper, L: Ledger>(
+fn prepare_found<K: Keeper, L: Ledger, M: Ledger>(
     alloc: Global,
     app: &App,
     keeper: &mut K,
     ask: &Ask,
     splits: &mut Steps<L>,
+    evaluations: &mut Steps<M>,
 ) -> Result<Prepared, Stop>
     requires attached { IsTrue (K.seen keeper.old).attached }
     requires served { are_served (application_of app.now) ≡ true }
@@ -95,17 +99,18 @@ fn prepare_found<K: Keeper, L: Ledger>(
         let prepared = refuse_path(alloc, get, post)?;
         return Ok(prepared);
     };
-    let prepared = answer_view(alloc, app, keeper, ask, place, splits)?;
+    let prepared = answer_view(alloc, app, keeper, ask, place, splits, evaluations)?;
     Ok(prepared)
 }
 
-fn answer_view<K: Keeper, L: Ledger>(
+fn answer_view<K: Keeper, L: Ledger, M: Ledger>(
     alloc: Global,
     app: &App,
     keeper: &mut K,
     ask: &Ask,
     place: usize,
     splits: &mut Steps<L>,
+    evaluations: &mut Steps<M>,
 ) -> Result<Prepared, Stop>
     requires attached { IsTrue (K.seen keeper.old).attached }
     requires served { are_served (application_of app.now) ≡ true }
@@ -117,18 +122,18 @@ fn answer_view<K: Keeper, L: Ledger>(
     let view = view_at(app, place);
     match view.method {
         Verb::Get => {
-            let prepared = show(alloc, app, keeper, ask, place, view, splits)?;
+            let prepared = show(alloc, app, keeper, ask, place, view, splits, evaluations)?;
             Ok(prepared)
         }
         Verb::Post => {
-            let prepared = store(alloc, app, keeper, ask, place, view, splits)?;
+            let prepared = store(alloc, app, keeper, ask, place, view, splits, evaluations)?;
             Ok(prepared)
         }
     }
 }
 
 // The page of a view that shows.
-fn show<K: Keeper, L: Ledger>(
+fn show<K: Keeper, L: Ledger, M: Ledger>(
     alloc: Global,
     app: &App,
     keeper: &mut K,
@@ -136,6 +141,7 @@ fn show<K: Keeper, L: Ledger>(
     place: usize,
     view: &View,
     splits: &mut Steps<L>,
+    evaluations: &mut Steps<M>,
 ) -> Result<Prepared, Stop>
     requires attached { IsTrue (K.seen keeper.old).attached }
     requires start { IsTrue (K.seen keeper.old).tells → IsStart (application_of app.now) (K.seen keeper.old).state }
@@ -145,15 +151,15 @@ fn show<K: Keeper, L: Ledger>(
     ensures reads { Reads (K.seen keeper.old) (K.seen keeper.new) result }
 {
     let number = keeper.number()?;
-    let page = shown_page(alloc, app, keeper, ask, view, number, splits)?;
+    let shown = shown_page(alloc, app, keeper, ask, view, number, splits, evaluations)?;
     Ok(Prepared {
-        answer: answer_of(alloc, page),
+        answer: answer_of(shown),
         change: None,
     })
 }
 
 // The page of a view that stores, and what it stores, while there are numbers.
-fn store<K: Keeper, L: Ledger>(
+fn store<K: Keeper, L: Ledger, M: Ledger>(
     alloc: Global,
     app: &App,
     keeper: &mut K,
@@ -161,6 +167,7 @@ fn store<K: Keeper, L: Ledger>(
     place: usize,
     view: &View,
     splits: &mut Steps<L>,
+    evaluations: &mut Steps<M>,
 ) -> Result<Prepared, Stop>
     requires attached { IsTrue (K.seen keeper.old).attached }
     requires start { IsTrue (K.seen keeper.old).tells → IsStart (application_of app.now) (K.seen keeper.old).state }
@@ -175,17 +182,20 @@ fn store<K: Keeper, L: Ledger>(
         let prepared = refuse(alloc, 507, None)?;
         return Ok(prepared);
     }
-    let stored = stored_page(alloc, app, keeper, ask, view, number, splits)?;
+    let stored = stored_page(alloc, app, keeper, ask, view, number, splits, evaluations)?;
     Ok(Prepared {
-        answer: answer_of(alloc, stored.page),
+        answer: answer_of(stored.shown),
         change: Some(stored.change),
     })
 }
 
-// The answer with this page, which was made under no label.
-fn answer_of(alloc: Global, page: Page) -> Answer
-    ensures { result ≡ page_answer [] page }
+// The answer with this page, under its labels.
+fn answer_of(shown: Labelled) -> Answer
+    ensures answer { result ≡ page_answer shown.labels shown.page }
+    ensures ascending { IsAscending shown.labels }
 {
+    let Labelled { page, labels } = shown;
+    let _rising = labels.as_slice();
     let Page {
         status,
         location,
@@ -196,7 +206,7 @@ fn answer_of(alloc: Global, page: Page) -> Answer
         location,
         allow: None,
         body,
-        shown: Some(Assignment::empty(alloc)),
+        shown: Some(labels),
     }
 }
 

@@ -539,10 +539,10 @@ fn execute_bound<K: Keeper, L: Ledger>(
     ensures told { OnOk result (StaysTold K.seen work.old work.new) }
     ensures keeps { WritesWork K.seen work.old work.new result }
 {
-    let outer = env.as_slice().len();
+    let around = env.as_slice().len();
     bind_tuple(alloc, env, binders, ids)?;
     execute_all(alloc, work, app, ctx, env, out, pc, body, splits)?;
-    env.cut(outer);
+    env.cut(around);
     Ok(())
 }
 

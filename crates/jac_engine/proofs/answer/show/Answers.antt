@@ -1,9 +1,10 @@
-use Rattle.std.proofs.Common.{◌∙◌, refl, ap, []}
+use Rattle.std.proofs.Common.{◌∙◌, refl, ap}
 use Rattle.jac_lang.specs.Mirror.{application_of, page_of}
 use Rattle.jac_lang.proofs.Places.{length-entities}
 use Rattle.jac_engine.specs.Answers.{page_answer}
 use Rattle.jac_engine.proofs.AnswerLaws.{page_shown}
 use Rattle.jac_engine.proofs.ServedLaws.{showing_runs}
+use Rattle.jac_engine.proofs.ViewLaws.{ready_to_show}
 use Rattle.jac_engine.proofs.answer.show.Goals as goal
 
 pub shown_page-requires-clause-tables : goal.shown_page-requires-clause-tables
@@ -15,23 +16,31 @@ shown_page-requires-clause-tables g c = λ told.
 pub shown_page-requires-clause-runnable : goal.shown_page-requires-clause-runnable
 shown_page-requires-clause-runnable g c = showing_runs c.in_ok-number.number _ c.requires.served
 
+pub shown_page-requires-clause-ready : goal.shown_page-requires-clause-ready
+shown_page-requires-clause-ready g c = λ told.
+    let left = c.in_ok-number.ensures.reads.left in
+    let start = c.requires.start (left.told told) in
+    rw (left.same_state told) (ready_to_show (application_of c.args.app.now) (page_of c.args.view.now) c.args.ask.now c.in_ok-number.number (g.K.Keeper.seen c.args.keeper.now).state c.requires.served start.sound
+    (c.in_ok-number.ensures.exact told))
+
 pub returns-clause-shown : goal.returns-clause-shown
 returns-clause-shown g c =
     let app = application_of c.args.app.now in
     let left = c.in_ok-number.ensures.reads.left in
-    let made = c.in_ok-page.ensures.made in
+    let made = c.in_ok-shown.ensures.made in
+    let labels = c.in_ok-shown.shown.labels in
     let s = (g.K.Keeper.seen c.args.keeper.now).state in
     record {
       change = refl;
-      form = record { labels = []; pieces = made.0; made = c.answer_of.ensures ∙ ap (page_answer []) made.1; settled = refl };
+      form = record { labels = labels; pieces = made.0; made = c.answer_of.ensures.answer ∙ ap (page_answer labels) made.1; ascending = c.answer_of.ensures.ascending };
       shows = λ told.
-          let before = c.in_ok-page.ensures.left.told told in
+          let before = c.in_ok-shown.ensures.left.told told in
           record {
-            labels = [];
+            labels = labels;
             made =
-                c.answer_of.ensures
-                ∙ page_shown app (page_of c.args.view.now) c.args.ask.now c.args.place c.in_ok-number.number s c.in_ok-page.page c.requires.view c.requires.served
-                (c.in_ok-number.ensures.exact before) (c.requires.start (left.told before)) (rw (left.same_state before) at (c.in_ok-page.ensures.page told));
-            settled = refl;
+                c.answer_of.ensures.answer
+                ∙ page_shown app (page_of c.args.view.now) c.args.ask.now c.args.place c.in_ok-number.number s labels c.in_ok-shown.shown.page c.requires.view c.requires.served
+                (c.in_ok-number.ensures.exact before) (c.requires.start (left.told before)) (rw (left.same_state before) at (c.in_ok-shown.ensures.page told));
+            settled = rw (left.same_state before) at (c.in_ok-shown.ensures.settled told);
           };
     }

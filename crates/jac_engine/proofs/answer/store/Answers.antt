@@ -1,9 +1,11 @@
-use Rattle.std.proofs.Common.{◌<◌, ◌^◌, ◌∙◌, ap, refl, inr, arith, []}
+use Rattle.std.proofs.Common.{◌<◌, ◌^◌, ◌∙◌, ap, refl, inr, arith, IsTrue}
 use Rattle.jac_lang.specs.Mirror.{application_of, page_of}
 use Rattle.jac_lang.proofs.Places.{length-entities}
-use Rattle.jac_engine.specs.Answers.{page_answer}
-use Rattle.jac_engine.proofs.AnswerLaws.{page_stored, change_stored}
+use Rattle.jac_engine.specs.Answers.{page_answer, visit_of}
+use Rattle.jac_engine.proofs.AnswerLaws.{page_stored, change_stored, settled_after}
 use Rattle.jac_engine.proofs.ServedLaws.{storing_runs}
+use Rattle.jac_engine.proofs.ViewLaws.{ready_to_store}
+use Rattle.jac_engine.specs.Viewed.{Stores}
 use Rattle.jac_engine.proofs.answer.store.Goals as goal
 
 pub stored_page-requires-clause-tables : goal.stored_page-requires-clause-tables
@@ -18,6 +20,14 @@ stored_page-requires-clause-runnable g c =
     let few : c.in_ok-number.number < 2 ^ 40 = omega (arith, c.in_ok-number.ensures.in_range.1, c.if-number-eq-LAST_NUMBER.false) in
     storing_runs c.in_ok-number.number _ some few c.requires.served
 
+pub stored_page-requires-clause-ready : goal.stored_page-requires-clause-ready
+stored_page-requires-clause-ready g c = λ told.
+    let left = c.in_ok-number.ensures.reads.left in
+    let start = c.requires.start (left.told told) in
+    let few : c.in_ok-number.number < 2 ^ 40 = omega (arith, c.in_ok-number.ensures.in_range.1, c.if-number-eq-LAST_NUMBER.false) in
+    rw (left.same_state told) (ready_to_store (application_of c.args.app.now) (page_of c.args.view.now) c.args.ask.now c.in_ok-number.number (g.K.Keeper.seen c.args.keeper.now).state c.requires.served start.sound
+    (c.in_ok-number.ensures.exact told) few)
+
 pub returns-clause-stored : goal.returns-clause-stored
 returns-clause-stored g c =
     let app = application_of c.args.app.now in
@@ -27,23 +37,25 @@ returns-clause-stored g c =
     let v = page_of c.args.view.now in
     let few : n < 2 ^ 40 = omega (arith, c.in_ok-number.ensures.in_range.1, c.if-number-eq-LAST_NUMBER.false) in
     let made = c.in_ok-stored.ensures.made in
+    let shown = c.in_ok-stored.stored.shown in
+    let stores : IsTrue (g.K.Keeper.seen c.stored_page.new.keeper).tells → Stores app s (visit_of app c.args.ask.now c.args.place) c.in_ok-stored.stored.change = λ told.
+    let before = c.in_ok-stored.ensures.left.told told in
+    change_stored app v c.args.ask.now c.args.place n s c.in_ok-stored.stored.change c.requires.view c.requires.method c.requires.served
+    (c.in_ok-number.ensures.exact before) few (c.requires.start (left.told before)) c.in_ok-stored.ensures.number
+    (rw (left.same_state before) at (c.in_ok-stored.ensures.stored told)) in
     inr record {
       change = c.in_ok-stored.stored.change;
       changes = refl;
-      form = record { labels = []; pieces = made.0; made = c.answer_of.ensures ∙ ap (page_answer []) made.1; settled = refl };
+      form = record { labels = shown.labels; pieces = made.0; made = c.answer_of.ensures.answer ∙ ap (page_answer shown.labels) made.1; ascending = c.answer_of.ensures.ascending };
       shows = λ told.
           let before = c.in_ok-stored.ensures.left.told told in
           record {
-            labels = [];
+            labels = shown.labels;
             made =
-                c.answer_of.ensures
-                ∙ page_stored app v c.args.ask.now c.args.place n s c.in_ok-stored.stored.page c.requires.view c.requires.served
+                c.answer_of.ensures.answer
+                ∙ page_stored app v c.args.ask.now c.args.place n s shown.labels shown.page c.requires.view c.requires.served
                 (c.in_ok-number.ensures.exact before) few (c.requires.start (left.told before)) (rw (left.same_state before) at (c.in_ok-stored.ensures.page told));
-            settled = refl;
+            settled = settled_after app s c.args.ask.now c.args.place c.in_ok-stored.stored.change shown.labels (stores told) (rw (left.same_state before) at (c.in_ok-stored.ensures.settled told));
           };
-      stores = λ told.
-          let before = c.in_ok-stored.ensures.left.told told in
-          change_stored app v c.args.ask.now c.args.place n s c.in_ok-stored.stored.change c.requires.view c.requires.method c.requires.served
-          (c.in_ok-number.ensures.exact before) few (c.requires.start (left.told before)) c.in_ok-stored.ensures.number
-          (rw (left.same_state before) at (c.in_ok-stored.ensures.stored told));
+      stores = stores;
     }

@@ -43,9 +43,9 @@ execute_bound-returns-clause-left g t c = λ told.
     scopes (λ w. leaves_all (setting_at c.args.app.now c.args.ctx.now w) body) (λ n w. MayRunAll n (setting_at c.args.app.now c.args.ctx.now w) body) (λ w. holds w c.args.pc.now)
     (λ w env. bound bs c.args.ids.now env)
     (state_of g.K.Keeper.seen c.args.work.now) (state_of g.K.Keeper.seen c.execute_all.new.work) c.args.env.now more c.bind_tuple.new.env c.execute_all.new.env c.cut.new.self
-    c.args.out.now c.execute_all.new.out (length c.as_slice-outer.result.now)
+    c.args.out.now c.execute_all.new.out (length c.as_slice-around.result.now)
     c.in_ok-bind_tuple.ensures (λ w. sym (env_at-append w c.args.env.now more) ∙ bound-shown w bs c.args.ids.now c.args.env.now (c.args.env.now ++ more) refl)
-    (ap length c.as_slice-outer.ensures) c.cut.ensures (c.in_ok-execute_all.ensures.left told)
+    (ap length c.as_slice-around.ensures) c.cut.ensures (c.in_ok-execute_all.ensures.left told)
 
 pub execute_if-returns-clause-left : goal.execute_if-returns-clause-left
 execute_if-returns-clause-left g t c = λ told.

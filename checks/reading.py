@@ -1,0 +1,300 @@
+#!/usr/bin/env python3
+"""Walks the names from the clauses of the program's top call, `run` of jac_app, through the definitions in specs/,
+and compares what it finds with docs/READING.md and docs/DEFINITIONS.md. Where a page is out of date it says so,
+and its status is 1. With the word --write it writes the tables of docs/READING.md anew.
+
+A name is followed where it is defined in specs/ or is a type or a trait of the code; a library's word is counted.
+Variables aren't told from definitions: one that has the name of a definition that its file has or brings in counts as
+that definition. So a file may be said to carry a definition more than it does, and none less."""
+import os
+import re
+import sys
+
+sys.dont_write_bytecode = True
+from pages import TOP, differences, read                                    # noqa: E402
+
+START = ('jac_app', 'command', 'run')
+PAGE = 'docs/READING.md'
+NOTIONS = 'docs/DEFINITIONS.md'
+
+WORD = re.compile(r"(\.?)([^\W\d][\w'-]*)")
+HEAD = re.compile(r"(?:(?:abbrev|unfoldable|opaque|pub)\s+)*(?:(record|data)\s+)?([^\W\d][\w'-]*)(\s.*)?$", re.S)
+
+
+def uncommented(text):
+    return re.sub(r'(?m)(?:--|//).*$', '', text)
+
+
+class Item:
+    """A definition of specs/, or a type, a trait or the top call of the code."""
+
+    def __init__(self, place, name, text=''):
+        self.place, self.name, self.text = place, name, text
+
+
+class Place:
+    """A file: its items, and what its imports name."""
+
+    def __init__(self, path, crate):
+        self.path, self.crate = path, crate
+        self.items, self.imports, self.given = {}, {}, {}
+
+    def add_imports(self, text, pattern, separator):
+        for given, path, names, alias in re.findall(pattern, text):
+            path = path.split(separator)
+            if alias:
+                pairs = [(alias, path)]
+            elif names:
+                pairs = [self.one_import(path, name.strip()) for name in names.split(',') if name.strip()]
+            else:
+                pairs = [(path[-1], path)]
+            self.imports.update(pairs)
+            if given:
+                self.given.update(pairs)
+
+    @staticmethod
+    def one_import(path, name):
+        name, _, alias = name.partition(' as ')
+        return (alias.strip() or name.strip()), path + [name.strip()]
+
+
+class Specs(Place):
+    """A file of specs/."""
+
+    def __init__(self, path, crate):
+        super().__init__(path, crate)
+        text = read(path)
+        first = re.search(r'(?m)^-- (.*)$', text)
+        self.about = first.group(1).strip() if first else ''
+        self.add_imports(text, r'(?m)^(pub )?use Rattle\.([\w.]+?)(?:\.\{([^}]*)\}| as (\w+))?$', '.')
+        self.add_items(uncommented(text))
+
+    def add_items(self, text):
+        inner, current = False, None
+        for line in text.split('\n'):
+            indent = len(line) - len(line.lstrip())
+            if not line.strip() or line.lstrip().startswith(('use ', 'pub use ')):
+                continue
+            if re.match(r'(module\b.*where|(abbrev )?mutual)\s*$', line):
+                inner, current = True, None
+                continue
+            if indent == 0:
+                inner = False
+            found = HEAD.match(line.strip()) if indent == (2 if inner else 0) else None
+            if found:
+                current = self.item_at(found) or current
+            if current:
+                current.text += line + '\n'
+
+    def item_at(self, found):
+        kind, name, rest = found.groups()
+        starts = kind or (rest or '').lstrip().startswith(':')
+        if starts and name not in self.items:
+            self.items[name] = Item(self, name)
+        return self.items.get(name)
+
+
+class Code(Place):
+    """A file of src/: its types and traits, each with its clauses or its model."""
+
+    def __init__(self, path, crate):
+        super().__init__(path, crate)
+        text = read(path)
+        self.add_imports(text, r'\b(ghost )?use Rattle\.([\w.]+?)(?:\.\{([^}]*)\}| as (\w+))?;', '.')
+        self.add_imports(text, r'(?m)^()use ([\w:]+?)(?:::\{([^}]*)\}|(?: as (\w+)))?;', '::')
+        text = uncommented(text)
+        for kind, name in re.findall(r'(?m)^(?:pub(?:\([a-z]+\))? )?(struct|enum|trait|type) (\w+)', text):
+            self.items[name] = Item(self, name, self.block(text, r'%s %s\b' % (kind, name)))
+        for name, model in re.findall(r'(?m)^impl(?:<[^>]*>)? Model for (\w+)(.*?^\})', text, re.S | re.M):
+            if name in self.items:
+                self.items[name].text += re.sub(r'ghost use [^;]*;', '', model)
+
+    @staticmethod
+    def block(text, head):
+        """From the head to its end: a semicolon, or the brace that ends what the line's brace begins."""
+        start = re.search(r'(?m)^.*\b' + head, text).start()
+        ends = [at for at in (text.find('\n}', start), text.find(';\n', start)) if at > 0]
+        line = text[start:text.find('\n', start)]
+        return text[start:(text.find('\n}', start) if line.rstrip().endswith('{') else min(ends))]
+
+    def call(self, name):
+        """A function's head, with its clauses, and without its body."""
+        text = uncommented(read(self.path))
+        return Item(self, name, re.search(r'(?m)^pub fn %s\b.*?^\{' % name, text, re.S | re.M).group())
+
+
+class Repository:
+    def __init__(self):
+        self.specs, self.code, self.types = {}, {}, {}
+        for crate in sorted(os.listdir(os.path.join(TOP, 'crates'))):
+            if crate != 'jac_tests':
+                self.add_files(crate, 'specs', '.antt', Specs, self.specs)
+                self.add_files(crate, 'src', '.rt', Code, self.code)
+        for (crate, _), place in self.code.items():
+            for name, item in place.items.items():
+                self.types.setdefault((crate, name), item)
+
+    @staticmethod
+    def add_files(crate, part, end, kind, places):
+        top = os.path.join(TOP, 'crates', crate, part)
+        for folder, _, files in os.walk(top):
+            for file in sorted(files):
+                path = os.path.join(folder, file)
+                module = os.path.relpath(path, top)[:-len(end)].replace(os.sep, '.')
+                if file.endswith(end) and module not in ('Lib', 'tests'):
+                    places[crate, module] = kind(os.path.relpath(path, TOP), crate)
+
+    def item_of(self, place, name):
+        """The item that a name in this place stands for; 'std' for a word of a library, None for anything else."""
+        if name in place.items:
+            return place.items[name]
+        if name in place.imports:
+            return self.imported(place, place.imports[name])
+        return self.types.get((place.crate, name)) if isinstance(place, Code) else None
+
+    def imported(self, place, path):
+        crate = place.crate if path[0] in ('crate', 'self', 'super') else path[0]
+        if not os.path.isdir(os.path.join(TOP, 'crates', crate)):
+            return 'std'
+        if 'declared' in path:
+            path = [word for word in path if word != 'TheVariants']
+            return next((self.types[crate, word] for word in reversed(path) if (crate, word) in self.types), None)
+        if len(path) > 2 and path[1] == 'specs':
+            target = self.specs.get((crate, '.'.join(path[2:-1])))
+            if target is None:
+                return None
+            found = target.items.get(path[-1])
+            if not found and path[-1] in target.given:
+                found = self.imported(target, target.given[path[-1]])
+            return found
+        return self.types.get((crate, path[-1]))
+
+    def cited(self, item):
+        """The items that an item's text names, in their order, and the library's words."""
+        own, library = [], set()
+        for dot, name in WORD.findall(item.text):
+            found = None if dot else self.item_of(item.place, name)
+            if found == 'std':
+                library.add(name)
+            elif found and found is not item and found not in own:
+                own.append(found)
+        return own, library
+
+    def walk(self):
+        """The top call, and for each item that it reaches those that this cites; and the library's words."""
+        start = self.code[START[:2]].call(START[2])
+        seen, library = {}, set()
+
+        def visit(item):
+            seen[item], words = self.cited(item)
+            library.update(words)
+            for other in reversed(seen[item]):
+                if other not in seen:
+                    visit(other)
+
+        sys.setrecursionlimit(10000)
+        visit(start)
+        return start, seen, library
+
+
+def in_order(start, seen):
+    """The files of what was reached, each before those that it cites."""
+    cites = {}
+    for item, own in seen.items():
+        cites.setdefault(item.place, []).extend(other.place for other in own)
+    done, order = set(), []
+
+    def visit(place):
+        done.add(place)
+        for other in reversed(cites.get(place, [])):
+            if other not in done:
+                visit(other)
+        order.append(place)
+
+    visit(start.place)
+    return order[::-1]
+
+
+def names(items):
+    return ', '.join('`%s`' % name for name in items) or 'none'
+
+
+def tables(start, seen):
+    definitions, types = [], []
+    reached = {}
+    for item in seen:
+        reached.setdefault(item.place, set()).add(item.name)
+    for place in in_order(start, seen):
+        path = place.path[len('crates/'):]
+        if isinstance(place, Specs):
+            rest = [name for name in place.items if name not in reached[place]]
+            definitions.append('| `%s` | %s | %d | %s |' % (path, place.about, len(place.items) - len(rest), names(rest)))
+        else:
+            own = [name for name in place.items if name in reached[place]]
+            if own:
+                types.append('| `%s` | %s |' % (path, names(own)))
+    head = ['| File | What it defines | Carried | Not reached |', '|---|---|---|---|']
+    return {'definitions': '\n'.join(head + definitions),
+            'types': '\n'.join(['| File | Types and traits |', '|---|---|'] + types)}
+
+
+def counts(repository, seen):
+    reached = [item for item in seen if isinstance(item.place, Specs)]
+    files = {item.place for item in reached}
+    return (len(reached), len(files), sum(len(place.items) for place in repository.specs.values()) - len(reached))
+
+
+def sentence(repository, seen, library):
+    return ('The promise reaches %d definitions in %d files of `specs/` and %d words of the library; %d definitions '
+            'stand beside them.' % (counts(repository, seen)[:2] + (len(library),) + counts(repository, seen)[2:]))
+
+
+def notions(repository):
+    """Of each row of docs/DEFINITIONS.md its notion, and the place and the name of each definition that it cites; a
+    place or a name that doesn't exist is None."""
+    for row in read(NOTIONS).split('\n'):
+        cells = [cell.strip() for cell in row.split('|')]
+        if len(cells) < 5 or '/specs/' not in cells[3]:
+            continue
+        place, cited = None, []
+        for word in re.findall(r'`([^`]*)`', cells[3]):
+            if '/specs/' in word:
+                crate, module = word.split('/specs/')
+                place = repository.specs.get((crate, module[:-len('.antt')].replace('/', '.')))
+                cited += [(word, None)] if place is None else []
+            elif place is not None and '/' not in word:
+                cited.append((word, place.items.get(word)))
+        yield cells[1], cited
+
+
+def lost_notions(repository):
+    """What docs/DEFINITIONS.md names and specs/ doesn't have."""
+    return ['docs/DEFINITIONS.md, %s: there is no %s' % (notion, word)
+            for notion, cited in notions(repository) for word, item in cited if item is None]
+
+
+def unreached_notions(repository, seen):
+    """The rows of docs/DEFINITIONS.md of which the promise reaches some definition not, with those."""
+    lines = []
+    for notion, cited in notions(repository):
+        beyond = [word for word, item in cited if item not in seen]
+        if beyond:
+            lines.append('| %s | %s |' % (notion, 'nothing' if len(beyond) == len(cited) else 'all but ' + names(beyond)))
+    return '\n'.join(['| Notion | Reached |', '|---|---|'] + lines)
+
+
+def main():
+    repository = Repository()
+    start, seen, library = repository.walk()
+    parts = tables(start, seen)
+    parts['counts'] = sentence(repository, seen, library)
+    parts['notions'] = unreached_notions(repository, seen)
+    wrong = lost_notions(repository) + differences(PAGE, parts, 'checks/reading.py', '--write' in sys.argv[1:])
+    for line in wrong:
+        print('FAILED ' + line)
+    print(parts['counts'])
+    sys.exit(1 if wrong else 0)
+
+
+if __name__ == '__main__':
+    main()

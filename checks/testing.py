@@ -1,0 +1,80 @@
+#!/usr/bin/env python3
+"""Counts what is proved and tested, by crate, and compares the counts with docs/TESTING.md: where the page is out of
+date it says so, and its status is 1. With the word --write it writes the page's tables anew."""
+import os
+import re
+import sys
+
+sys.dont_write_bytecode = True
+from cases import FOLDER, parse                                             # noqa: E402
+from pages import TOP, differences, read                                    # noqa: E402
+from reading import Specs                                                   # noqa: E402
+
+PAGE = 'docs/TESTING.md'
+FUNCTION = re.compile(r'(?m)^\s*(pub )?(?:pub\([a-z]+\) )?(?:const )?fn \w+')
+CLAUSE = re.compile(r'(?m)^\s*(?:requires|ensures)\b')
+COLUMNS = ('lines of code', 'functions', 'public', 'clauses', 'definitions', 'lemmas', 'functions with a proof by hand',
+           'wrong bodies', 'tests')
+
+
+def paths(crate, part, end):
+    """The files of a part of a crate, as paths from the top."""
+    for folder, _, files in os.walk(os.path.join(TOP, 'crates', crate, part)):
+        for file in sorted(files):
+            if file.endswith(end):
+                yield os.path.relpath(os.path.join(folder, file), TOP)
+
+
+def joined(found):
+    return '\n'.join(map(read, found))
+
+
+def definitions(found, crate):
+    return sum(len(Specs(path, crate).items) for path in found)
+
+
+def of_crate(crate):
+    sources = list(paths(crate, 'src', '.rt'))
+    tests = [path for path in sources if '#[test]' in read(path)]
+    code = joined(path for path in sources if path not in tests)
+    proofs = list(paths(crate, 'proofs', '.antt'))
+    own = [path for path in proofs if path.count(os.sep) > 3]
+    lemmas = [path for path in proofs if path not in own and not path.endswith('Lib.antt')]
+    functions = FUNCTION.findall(code)
+    return (code.count('\n'), len(functions), sum(1 for public in functions if public), len(CLAUSE.findall(code)),
+            definitions(paths(crate, 'specs', '.antt'), crate), definitions(lemmas, crate),
+            len({os.path.dirname(path) for path in own}), sum(1 for _ in paths(crate, 'must-fail', '.edit')),
+            joined(tests).count('#[test]'))
+
+
+def crates():
+    return [line.split(':')[0].split()[0] for line in read('crates.txt').split('\n') if line and not line.startswith('#')]
+
+
+def table(rows):
+    head = '| crate | %s |' % ' | '.join(COLUMNS)
+    lines = [head, '|---' * (len(COLUMNS) + 1) + '|']
+    lines += ['| `%s` | %s |' % (name, ' | '.join(map(str, counts))) for name, counts in rows]
+    return '\n'.join(lines + ['| **all** | %s |' % ' | '.join(str(sum(column)) for column in zip(*(c for _, c in rows)))])
+
+
+def of_cases():
+    runs = [len(parse(read(os.path.join(os.path.relpath(FOLDER, TOP), name)))[1]) for name in os.listdir(FOLDER)]
+    replies = sum(content.count(b'reply ') for name in os.listdir(FOLDER)
+                  for _, _, content, _ in parse(read(os.path.join(os.path.relpath(FOLDER, TOP), name)))[1])
+    examples = [name for name in os.listdir(os.path.join(TOP, 'examples')) if name.endswith('.app')]
+    return ('%d worked cases with %d runs of the program and %d replies stand in `checks/cases`, and %d examples with their '
+            'output in `examples`.' % (len(runs), sum(runs), replies, len(examples)))
+
+
+def main():
+    tables = {'counts': table([(name, of_crate(name)) for name in crates()]), 'cases': of_cases()}
+    wrong = differences(PAGE, tables, 'checks/testing.py', '--write' in sys.argv[1:])
+    for line in wrong:
+        print('FAILED ' + line)
+    print(tables['cases'])
+    sys.exit(1 if wrong else 0)
+
+
+if __name__ == '__main__':
+    main()

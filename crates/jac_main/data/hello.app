@@ -1,2 +1,0 @@
-(app
- (view get "/" (params) (put "hello")))
