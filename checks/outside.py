@@ -34,12 +34,27 @@ def replay(name, app, events, status, out):
 
 
 def example(name):
-    """An example of the repository, whose output stands beside it."""
+    """An example of the repository, whose output stands beside it, and its audit where it has policies."""
     folder = os.path.join(TOP, 'examples')
     with open(os.path.join(folder, name + '.out'), 'rb') as handle:
         want = handle.read()
     done = run(['replay', name + '.app', name + '.events'], folder, stdout=subprocess.PIPE)
-    return None if (done.returncode, done.stdout) == (0, want) else '%s: %r' % (name, done.stdout[-200:])
+    if (done.returncode, done.stdout) != (0, want):
+        return '%s: %r' % (name, done.stdout[-200:])
+    return audited(folder, name) if os.path.exists(os.path.join(folder, name + '.audit')) else None
+
+
+def audited(folder, name):
+    """The audit of an example, into a file that held something else before."""
+    with open(os.path.join(folder, name + '.audit'), 'rb') as handle:
+        want = handle.read()
+    with tempfile.NamedTemporaryFile() as audit:
+        audit.write(b'old\n' * 1000)
+        audit.flush()
+        run(['replay', '--audit', audit.name, name + '.app', name + '.events'], folder, stdout=subprocess.PIPE)
+        with open(audit.name, 'rb') as handle:
+            have = handle.read()
+    return None if have == want else '%s, audit: %r' % (name, have[-200:])
 
 
 def closed_output():
