@@ -60,7 +60,7 @@ unopened_ends seen start command bytes ending idle read (inr memory) =
 
 -- the last step ends it
 pub served_ends : (seen : Sight) (start : State) (command : Replay) (app : Application) (events out audit : List ℕ) (result : Result (Unit {0}) Ending)
-    → IsOpened seen command app events → EndsServing (sinks_of seen) app seen.keeper start events result out audit → Ends seen start command result out audit
+    → IsOpened seen command app events → EndsServing (sinks_of seen) command.audit app seen.keeper start events result out audit → Ends seen start command result out audit
 served_ends seen start command app events out audit (Ok done) opened h = (app, events, opened, h.0, h.1, h.2)
 served_ends seen start command app events out audit (Err (endings.LineRefused n)) opened h = (app, events, opened, h.0, h.1, h.2)
 served_ends seen start command app events out audit (Err endings.WriteFault) opened h = (app, events, opened, h.0, h.1)
@@ -70,14 +70,14 @@ served_ends seen start command app events out audit (Err (endings.ReadFault role
 served_ends seen start command app events out audit (Err (endings.TooLong role)) opened h = absurd h
 
 -- the audit was aimed, and then only put on
-aimed_once : (a b c : SinkSeen) (done : Unit {0}) → Aims a b None (Ok done) → Lasts b c → IsAimed (span a c)
-aimed_once a b c done aims lasts = λ told. lasts.same_aims told ∙ aims.ok (lasts.told told)
+aimed_once : (a b c : SinkSeen) (name : Option (List ℕ)) (done : Unit {0}) → Aims a b name (Ok done) → Lasts b c → IsAimed name (span a c)
+aimed_once a b c name done aims lasts = λ told. lasts.same_aims told ∙ aims.ok (lasts.told told)
 
-took_once : (a b c : SinkSeen) (done : Unit {0}) (bytes : List ℕ) → Aims a b None (Ok done) → Lasts b c → Took (span b c) bytes → Took (span a c) bytes
-took_once a b c done bytes aims lasts took = λ told. took told ∙ ap (λ (held : List ℕ). held ++ bytes) (aims.same_held (lasts.told told))
+took_once : (a b c : SinkSeen) (name : Option (List ℕ)) (done : Unit {0}) (bytes : List ℕ) → Aims a b name (Ok done) → Lasts b c → Took (span b c) bytes → Took (span a c) bytes
+took_once a b c name done bytes aims lasts took = λ told. took told ∙ ap (λ (held : List ℕ). held ++ bytes) (aims.same_held (lasts.told told))
 
 -- the events were served behind the aim
-module _ (out_before out_after audit_before audit_aimed audit_after : SinkSeen) (done : Unit {0}) (aims : Aims audit_before audit_aimed None (Ok done))
+module _ (out_before out_after audit_before audit_aimed audit_after : SinkSeen) (name : Option (List ℕ)) (done : Unit {0}) (aims : Aims audit_before audit_aimed name (Ok done))
     (app : Application) (k : Span KeeperSeen) (start : State) (events : List ℕ) where
   went_aimed : (P Q : List ℕ → List ℕ → Type 0) → ((o a : List ℕ) → P o a → Q o a)
       → Went (sinks out_before out_after audit_aimed audit_after) P → WentAimed (sinks out_before out_after audit_before audit_after) Q
@@ -87,36 +87,36 @@ module _ (out_before out_after audit_before audit_aimed audit_after : SinkSeen) 
     out_lasts = went.out_lasts;
     audit_later = omega (arith, aims.later, went.audit_lasts.later);
     out_took = went.out_took;
-    audit_took = took_once audit_before audit_aimed audit_after done went.audit aims went.audit_lasts went.audit_took;
+    audit_took = took_once audit_before audit_aimed audit_after name done went.audit aims went.audit_lasts went.audit_took;
     holds = f went.out went.audit went.holds;
   }
 
   pub serve_whole : (served : Unit {0}) → Went (sinks out_before out_after audit_aimed audit_after) (ServesAs app k start events (Ok served))
-      → WentAimed (sinks out_before out_after audit_before audit_after) (EndsServing (sinks out_before out_after audit_before audit_after) app k start events (Ok served))
+      → WentAimed (sinks out_before out_after audit_before audit_after) (EndsServing (sinks out_before out_after audit_before audit_after) name app k start events (Ok served))
   serve_whole served went =
-      went_aimed _ _ (λ o a h. (aimed_once audit_before audit_aimed audit_after done aims went.audit_lasts, h.0, h.1)) went
+      went_aimed _ _ (λ o a h. (aimed_once audit_before audit_aimed audit_after name done aims went.audit_lasts, h.0, h.1)) went
 
   pub serve_stopped : (stopped : Stopped) → Went (sinks out_before out_after audit_aimed audit_after) (ServesAs app k start events (Err stopped))
       → (stopped ≡ stops.Write → AWriteFailed (sinks out_before out_after audit_aimed audit_after))
-      → WentAimed (sinks out_before out_after audit_before audit_after) (EndsServing (sinks out_before out_after audit_before audit_after) app k start events (Err (ending_of stopped)))
+      → WentAimed (sinks out_before out_after audit_before audit_after) (EndsServing (sinks out_before out_after audit_before audit_after) name app k start events (Err (ending_of stopped)))
   serve_stopped (stops.Refused n) went failed =
-      went_aimed _ _ (λ o a h. (aimed_once audit_before audit_aimed audit_after done aims went.audit_lasts, h.0, h.1)) went
+      went_aimed _ _ (λ o a h. (aimed_once audit_before audit_aimed audit_after name done aims went.audit_lasts, h.0, h.1)) went
   serve_stopped stops.Memory went failed =
-      went_aimed _ _ (λ o a h. (aimed_once audit_before audit_aimed audit_after done aims went.audit_lasts, h)) went
+      went_aimed _ _ (λ o a h. (aimed_once audit_before audit_aimed audit_after name done aims went.audit_lasts, h)) went
   serve_stopped stops.Write went failed =
       went_aimed _ _
       (λ o a h. (
         failed_later (sinks out_before out_after audit_before audit_after) (sinks out_before out_after audit_aimed audit_after)
             (omega arith) aims.later (omega arith) (omega arith) (failed refl),
-        inr (aimed_once audit_before audit_aimed audit_after done aims went.audit_lasts, h),
+        inr (aimed_once audit_before audit_aimed audit_after name done aims went.audit_lasts, h),
       ))
       went
 
 -- the aim failed
-pub aim_failed : (out audit_before audit_after : SinkSeen) (failed : Failed) (app : Application) (k : KeeperSeen) (start : State) (events : List ℕ)
-    → Aims audit_before audit_after None (Err failed)
-    → WentAimed (sinks out out audit_before audit_after) (EndsServing (sinks out out audit_before audit_after) app (span k k) start events (Err endings.WriteFault))
-aim_failed out audit_before audit_after failed app k start events aims = record {
+pub aim_failed : (out audit_before audit_after : SinkSeen) (name : Option (List ℕ)) (failed : Failed) (app : Application) (k : KeeperSeen) (start : State) (events : List ℕ)
+    → Aims audit_before audit_after name (Err failed)
+    → WentAimed (sinks out out audit_before audit_after) (EndsServing (sinks out out audit_before audit_after) name app (span k k) start events (Err endings.WriteFault))
+aim_failed out audit_before audit_after name failed app k start events aims = record {
   out = [];
   audit = [];
   out_lasts = Lasts-none out;

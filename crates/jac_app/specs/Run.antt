@@ -1,5 +1,6 @@
 -- The command that the words give, the steps of a run and how it ends.
 use Rattle.std.specs.Prelude.{◌≡◌, ◌≤◌, ◌<◌, ◌⊎◌, ◌&&◌, ⊤, not, nat_lt, ℕ, Bool, true, false, IsTrue, IsSomeAnd, if◌then◌else◌, Result, Ok, Err, Option, Some, None, List, [], ◌∷◌, ◌++◌, length, take, codes, decimal}
+use Rattle.std.specs.Option.{option_copied}
 use Rattle.std.specs.Str.{bytes_eq}
 use Rattle.jac_io.specs.Faults.{Rose}
 use Rattle.jac_io.specs.Seen.{FilesSeen, SinkSeen, Lasts}
@@ -22,26 +23,40 @@ use Rattle.jac_app.specs.Log.{script_of}
 use Rattle.jac_app.specs.Outside.{Span, span, Sinks, Took, IsFront, AWriteFailed}
 use Rattle.jac_app.specs.Serve.{PutsServed, PutsTorn}
 
--- the files of a replay, by their names
+-- the files of a replay, by their names; the audit's where there is one
 pub record Replay : Type 0 where
   pub app : List ℕ
   pub events : List ℕ
-
-abbrev pub replay_of : List ℕ → List ℕ → Replay
-replay_of app events = record { app = app; events = events }
+  pub audit : Option (List ℕ)
 
 -- the same of the code's command
 abbrev pub named : Command → Replay
-named command = replay_of command.app.now command.events.now
+named command = record { app = command.app.now; events = command.events.now; audit = option_copied command.audit }
 
 -- a word that names a file: it isn't empty, and begins with `-` only where it is `-`
 abbrev pub is_operand : List ℕ → Bool
 is_operand word = not (is_nil word) && not (bytes_eq (take 1 word) (codes "-") && nat_lt 1 (length word))
 
--- `replay APP EVENTS`
+abbrev pub may_audit : Option (List ℕ) → Bool
+may_audit None = true
+may_audit (Some name) = is_operand name
+
+abbrev pub replay_with : List ℕ → List ℕ → Option (List ℕ) → Option Replay
+replay_with app events audit =
+    if is_operand app && is_operand events && may_audit audit then Some (record { app = app; events = events; audit = audit }) else None
+
+-- `--audit FILE` stands behind the two files, between them or in front of them
+abbrev pub replay_among : List ℕ → List ℕ → List ℕ → List ℕ → Option Replay
+replay_among first second third fourth =
+    if bytes_eq third (codes "--audit") then replay_with first second (Some fourth) else
+    if bytes_eq second (codes "--audit") then replay_with first fourth (Some third) else
+    if bytes_eq first (codes "--audit") then replay_with third fourth (Some second) else None
+
+-- `replay APP EVENTS`, and `--audit FILE` with it or not
 abbrev pub command_of : List (List ℕ) → Option Replay
-command_of (name ∷ (app ∷ (events ∷ []))) =
-    if bytes_eq name (codes "replay") && (is_operand app && is_operand events) then Some (record { app = app; events = events }) else None
+command_of (name ∷ (app ∷ (events ∷ []))) = if bytes_eq name (codes "replay") then replay_with app events None else None
+command_of (name ∷ (first ∷ (second ∷ (third ∷ (fourth ∷ []))))) =
+    if bytes_eq name (codes "replay") then replay_among first second third fourth else None
 command_of words = None
 
 abbrev pub name_of : Replay → Role → List ℕ
@@ -100,9 +115,9 @@ abbrev pub IsReached : Sight → Replay → Role → Type 0
 IsReached seen command roles.App = ⊤
 IsReached seen command roles.Events = (app : Application) × HasApplication seen command app
 
--- the audit was aimed once, at no file, before anything was put on it
-abbrev pub IsAimed : Span SinkSeen → Type 0
-IsAimed audit = IsTrue audit.after.tells → audit.after.aims ≡ audit.before.aims ++ (None, length audit.before.held) ∷ []
+-- the audit was aimed once, at this file or at none, before anything was put on it
+abbrev pub IsAimed : Option (List ℕ) → Span SinkSeen → Type 0
+IsAimed name audit = IsTrue audit.after.tells → audit.after.aims ≡ audit.before.aims ++ (name, length audit.before.held) ∷ []
 
 -- nothing was put, the audit was not aimed, and the keeper was not called
 pub record IsIdle (audit : Span SinkSeen) (keeper : Span KeeperSeen) (out_bytes audit_bytes : List ℕ) : Type 0 where
@@ -114,17 +129,17 @@ pub record IsIdle (audit : Span SinkSeen) (keeper : Span KeeperSeen) (out_bytes 
 -- what the steps of a replay put, and why they ended
 abbrev pub Ends : Sight → State → Replay → Result (Unit {0}) Ending → List ℕ → List ℕ → Type 0
 Ends seen start command (Ok done) out audit =
-    (app : Application) × (events : List ℕ) × IsOpened seen command app events × IsAimed seen.audit
+    (app : Application) × (events : List ℕ) × IsOpened seen command app events × IsAimed command.audit seen.audit
     × ((script_of events).refused ≡ None) × PutsServed false app seen.keeper start (script_of events) out audit
 Ends seen start command (Err (endings.LineRefused n)) out audit =
-    (app : Application) × (events : List ℕ) × IsOpened seen command app events × IsAimed seen.audit
+    (app : Application) × (events : List ℕ) × IsOpened seen command app events × IsAimed command.audit seen.audit
     × ((script_of events).refused ≡ Some n) × PutsServed false app seen.keeper start (script_of events) out audit
 Ends seen start command (Err endings.WriteFault) out audit =
     (app : Application) × (events : List ℕ) × IsOpened seen command app events × AWriteFailed (sinks_of seen)
-    × (IsIdle seen.audit seen.keeper out audit ⊎ (IsAimed seen.audit × PutsTorn app seen.keeper start (script_of events) out audit))
+    × (IsIdle seen.audit seen.keeper out audit ⊎ (IsAimed command.audit seen.audit × PutsTorn app seen.keeper start (script_of events) out audit))
 Ends seen start command (Err endings.Memory) out audit =
     IsIdle seen.audit seen.keeper out audit
-    ⊎ ((app : Application) × (events : List ℕ) × IsOpened seen command app events × IsAimed seen.audit
+    ⊎ ((app : Application) × (events : List ℕ) × IsOpened seen command app events × IsAimed command.audit seen.audit
     × PutsServed true app seen.keeper start (script_of events) out audit)
 Ends seen start command (Err endings.AppRefused) out audit =
     (bytes : List ℕ) × IsRead seen command roles.App bytes × ((app : Application) → IsApplication bytes app → ⊥) × IsIdle seen.audit seen.keeper out audit
@@ -165,17 +180,17 @@ pub record WentAimed (s : Sinks) (Holds : List ℕ → List ℕ → Type 0) : Ty
   pub holds : Holds out audit
 
 -- how the last step ends, which aims the audit and serves the events
-abbrev pub EndsServing : Sinks → Application → Span KeeperSeen → State → List ℕ → Result (Unit {0}) Ending → List ℕ → List ℕ → Type 0
-EndsServing s app k start events (Ok done) out audit =
-    IsAimed s.audit × ((script_of events).refused ≡ None) × PutsServed false app k start (script_of events) out audit
-EndsServing s app k start events (Err (endings.LineRefused n)) out audit =
-    IsAimed s.audit × ((script_of events).refused ≡ Some n) × PutsServed false app k start (script_of events) out audit
-EndsServing s app k start events (Err endings.WriteFault) out audit =
-    AWriteFailed s × (IsIdle s.audit k out audit ⊎ (IsAimed s.audit × PutsTorn app k start (script_of events) out audit))
-EndsServing s app k start events (Err endings.Memory) out audit = IsAimed s.audit × PutsServed true app k start (script_of events) out audit
-EndsServing s app k start events (Err endings.AppRefused) out audit = ⊥
-EndsServing s app k start events (Err (endings.ReadFault role)) out audit = ⊥
-EndsServing s app k start events (Err (endings.TooLong role)) out audit = ⊥
+abbrev pub EndsServing : Sinks → Option (List ℕ) → Application → Span KeeperSeen → State → List ℕ → Result (Unit {0}) Ending → List ℕ → List ℕ → Type 0
+EndsServing s name app k start events (Ok done) out audit =
+    IsAimed name s.audit × ((script_of events).refused ≡ None) × PutsServed false app k start (script_of events) out audit
+EndsServing s name app k start events (Err (endings.LineRefused n)) out audit =
+    IsAimed name s.audit × ((script_of events).refused ≡ Some n) × PutsServed false app k start (script_of events) out audit
+EndsServing s name app k start events (Err endings.WriteFault) out audit =
+    AWriteFailed s × (IsIdle s.audit k out audit ⊎ (IsAimed name s.audit × PutsTorn app k start (script_of events) out audit))
+EndsServing s name app k start events (Err endings.Memory) out audit = IsAimed name s.audit × PutsServed true app k start (script_of events) out audit
+EndsServing s name app k start events (Err endings.AppRefused) out audit = ⊥
+EndsServing s name app k start events (Err (endings.ReadFault role)) out audit = ⊥
+EndsServing s name app k start events (Err (endings.TooLong role)) out audit = ⊥
 
 abbrev pub usage_line : List ℕ
 usage_line = codes "usage: jac check APP, replay APP EVENTS, serve APP PORT COUNT, demo N, dump APP LABELS; options --db FILE --sessions FILE --audit FILE\n"

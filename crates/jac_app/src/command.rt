@@ -1,5 +1,5 @@
 ghost use Rattle.std.specs.Prelude.{◌≡◌, ◌++◌, ◌≤◌, ◌<◌, ◌^◌, length, ℕ, IsTrue, List, Result, Option, Some, None, IfOk, IfErr, true, take, codes, decimal};
-ghost use Rattle.std.specs.Option.{option_map};
+ghost use Rattle.std.specs.Option.{option_copied, option_map};
 ghost use Rattle.std.specs.Str.{bytes_eq};
 ghost use Rattle.jac_io.specs.Seen.{FilesLast};
 ghost use Rattle.jac_lang.specs.Mirror.{application_of};
@@ -8,7 +8,7 @@ ghost use Rattle.jac_engine.specs.Start.{IsStart};
 ghost use Rattle.jac_app.specs.Keeping.{IsForAll};
 ghost use Rattle.jac_app.specs.Application.{IsApplication};
 ghost use Rattle.jac_app.specs.Outside.{IsPut, span, sinks};
-ghost use Rattle.jac_app.specs.Run.{is_operand, command_of, named, replay_of, sight, sinks_of, name_of, limit_of, limit_text, ending_of, IsUnread, IsUnopened, EndsServing, Ends, Runs, IsRun, fault_line, status_of, usage_line, Closed, Closes, Finishes, WentAimed};
+ghost use Rattle.jac_app.specs.Run.{is_operand, may_audit, replay_with, replay_among, command_of, named, sight, sinks_of, name_of, limit_of, limit_text, ending_of, IsUnread, IsUnopened, EndsServing, Ends, Runs, IsRun, fault_line, status_of, usage_line, Closed, Closes, Finishes, WentAimed};
 
 use crate::application::read_application;
 use crate::outside::{put, put_three};
@@ -46,6 +46,7 @@ pub enum Ending {
 struct Command<'a> {
     app: &'a Txt,
     events: &'a Txt,
+    audit: Option<&'a Txt>,
 }
 
 fn command_of(words: &[Txt]) -> Option<Command<'_>>
@@ -53,14 +54,64 @@ fn command_of(words: &[Txt]) -> Option<Command<'_>>
 {
     match words {
         [name, app, events] => {
-            if is_replay(name) && is_operand(app) && is_operand(events) {
-                Some(Command { app, events })
-            } else {
-                None
+            if is_replay(name) {
+                return replay_with(app, events, None);
             }
+            None
+        }
+        [name, first, second, third, fourth] => {
+            if is_replay(name) {
+                return replay_among(first, second, third, fourth);
+            }
+            None
         }
         _ => None,
     }
+}
+
+// The option stands in front of the files, between them or behind them.
+fn replay_among<'a>(
+    first: &'a Txt,
+    second: &'a Txt,
+    third: &'a Txt,
+    fourth: &'a Txt,
+) -> Option<Command<'a>>
+    ensures { option_map named result ≡ replay_among first.now second.now third.now fourth.now }
+{
+    if is_audit(third) {
+        return replay_with(first, second, Some(fourth));
+    }
+    if is_audit(second) {
+        return replay_with(first, fourth, Some(third));
+    }
+    if is_audit(first) {
+        return replay_with(third, fourth, Some(second));
+    }
+    None
+}
+
+fn replay_with<'a>(app: &'a Txt, events: &'a Txt, audit: Option<&'a Txt>) -> Option<Command<'a>>
+    ensures { option_map named result ≡ replay_with app.now events.now (option_copied audit.entry) }
+{
+    if is_operand(app) && is_operand(events) && may_audit(audit) {
+        return Some(Command { app, events, audit });
+    }
+    None
+}
+
+fn may_audit(audit: Option<&Txt>) -> bool
+    ensures { result ≡ may_audit (option_copied audit.entry) }
+{
+    match audit {
+        None => true,
+        Some(name) => is_operand(name),
+    }
+}
+
+fn is_audit(word: &Txt) -> bool
+    ensures { result ≡ bytes_eq word.now (codes "--audit") }
+{
+    word.as_bytes() == b"--audit".as_slice()
 }
 
 fn is_replay(word: &Txt) -> bool
@@ -126,25 +177,27 @@ fn open_app(alloc: Global, bytes: &[u8]) -> Result<App, Ending>
     }
 }
 
-// Aims the audit at no file, and serves the events.
-fn serve<O: Sink, U: AuditSink, K: Keeper, L: Ledger>(
+// Aims the audit at the file of this name, or at none, and serves the events.
+fn serve<O: Sink, U: AuditSink, K: Keeper, L: Ledger, M: Ledger>(
     alloc: Global,
     app: &App,
+    name: Option<Txt>,
     events: &[u8],
     out: &mut O,
     audit: &mut U,
     keeper: &mut K,
     splits: &mut Steps<L>,
+    evaluations: &mut Steps<M>,
 ) -> Result<(), Ending>
     requires short { length events.now < 2 ^ 32 }
     requires attached { IsTrue (K.seen keeper.old).attached }
     requires served { are_served (application_of app.now) ≡ true }
     requires start { IsTrue (K.seen keeper.old).tells → IsStart (application_of app.now) (K.seen keeper.old).state }
     ensures { WentAimed (sinks (O.seen out.old) (O.seen out.new) (U.seen audit.old) (U.seen audit.new))
-        (EndsServing (sinks (O.seen out.old) (O.seen out.new) (U.seen audit.old) (U.seen audit.new)) (application_of app.now) (span (K.seen keeper.old) (K.seen keeper.new)) (K.seen keeper.old).state events.now result) }
+        (EndsServing (sinks (O.seen out.old) (O.seen out.new) (U.seen audit.old) (U.seen audit.new)) name (application_of app.now) (span (K.seen keeper.old) (K.seen keeper.new)) (K.seen keeper.old).state events.now result) }
 {
-    match audit.aim(None) {
-        Ok(()) => match serve_events(alloc, app, events, out, audit, keeper, splits) {
+    match audit.aim(name) {
+        Ok(()) => match serve_events(alloc, app, events, out, audit, keeper, splits, evaluations) {
             Ok(()) => Ok(()),
             Err(stopped) => Err(ending_of(stopped)),
         },
@@ -163,23 +216,23 @@ fn ending_of(stopped: Stopped) -> Ending
 }
 
 // The steps of a replay: the application, the events, the audit's aim, and each event.
-fn replay<F: Files, O: Sink, U: AuditSink, K: Keeper, L: Ledger>(
+fn replay<F: Files, O: Sink, U: AuditSink, K: Keeper, L: Ledger, M: Ledger>(
     alloc: Global,
-    app_name: &Txt,
-    events_name: &Txt,
+    command: Command<'_>,
     files: &mut F,
     out: &mut O,
     audit: &mut U,
     keeper: &mut K,
     splits: &mut Steps<L>,
+    evaluations: &mut Steps<M>,
 ) -> Result<(), Ending>
     requires attached { IsTrue (K.seen keeper.old).attached }
     requires start { IsTrue (K.seen keeper.old).tells → IsForAll (K.seen keeper.old).state }
     ensures { WentAimed (sinks (O.seen out.old) (O.seen out.new) (U.seen audit.old) (U.seen audit.new))
         (Ends (sight (F.seen files.old) (F.seen files.new) (O.seen out.old) (O.seen out.new) (U.seen audit.old) (U.seen audit.new) (K.seen keeper.old) (K.seen keeper.new))
-        (K.seen keeper.old).state (replay_of app_name.now events_name.now) result) }
+        (K.seen keeper.old).state (named command.entry) result) }
 {
-    let bytes = match read_file(alloc, files, app_name, Role::App) {
+    let bytes = match read_file(alloc, files, command.app, Role::App) {
         Ok(bytes) => bytes,
         Err(ending) => return Err(ending),
     };
@@ -187,19 +240,45 @@ fn replay<F: Files, O: Sink, U: AuditSink, K: Keeper, L: Ledger>(
         Ok(app) => app,
         Err(ending) => return Err(ending),
     };
-    let events = match read_file(alloc, files, events_name, Role::Events) {
+    let events = match read_file(alloc, files, command.events, Role::Events) {
         Ok(events) => events,
         Err(ending) => return Err(ending),
     };
-    serve(alloc, &app, events.as_slice(), out, audit, keeper, splits)
+    let name = match copy_name(alloc, command.audit) {
+        Ok(name) => name,
+        Err(Memory) => return Err(Ending::Memory),
+    };
+    serve(
+        alloc,
+        &app,
+        name,
+        events.as_slice(),
+        out,
+        audit,
+        keeper,
+        splits,
+        evaluations,
+    )
 }
 
-fn name_bytes<'a>(role: Role, app_name: &'a Txt, events_name: &'a Txt) -> &'a [u8]
-    ensures { result.now ≡ name_of (replay_of app_name.now events_name.now) role }
+fn copy_name(alloc: Global, name: Option<&Txt>) -> Result<Option<Txt>, Memory>
+    ensures { IfOk result (λ copy. copy ≡ option_copied name.entry) }
+{
+    match name {
+        None => Ok(None),
+        Some(name) => {
+            let copy = name.copy(alloc)?;
+            Ok(Some(copy))
+        }
+    }
+}
+
+fn name_bytes<'a>(role: Role, command: Command<'a>) -> &'a [u8]
+    ensures { result.now ≡ name_of (named command.entry) role }
 {
     match role {
-        Role::App => app_name.as_bytes(),
-        Role::Events => events_name.as_bytes(),
+        Role::App => command.app.as_bytes(),
+        Role::Events => command.events.as_bytes(),
     }
 }
 
@@ -213,25 +292,20 @@ fn limit_bytes(role: Role) -> &'static [u8]
 }
 
 // Puts the line that tells why a replay ended; it takes no memory.
-fn put_fault<O: Sink>(
-    out: &mut O,
-    app_name: &Txt,
-    events_name: &Txt,
-    ending: Ending,
-) -> Result<(), Failed>
-    ensures { IsPut (span (O.seen out.old) (O.seen out.new)) (fault_line (replay_of app_name.now events_name.now) ending) result }
+fn put_fault<O: Sink>(out: &mut O, command: Command<'_>, ending: Ending) -> Result<(), Failed>
+    ensures { IsPut (span (O.seen out.old) (O.seen out.new)) (fault_line (named command.entry) ending) result }
 {
     match ending {
         Ending::ReadFault(role) => put_three(
             out,
             b"read fault: ",
-            name_bytes(role, app_name, events_name),
+            name_bytes(role, command),
             b"\n",
         ),
         Ending::TooLong(role) => put_three(
             out,
             b"too long: ",
-            name_bytes(role, app_name, events_name),
+            name_bytes(role, command),
             limit_bytes(role),
         ),
         Ending::AppRefused => put(out, b"app: refused\n"),
@@ -263,17 +337,12 @@ fn status_of(ending: Ending) -> Status
 }
 
 // Puts the last line, where the replay ended early.
-fn finish<O: Sink>(
-    out: &mut O,
-    app_name: &Txt,
-    events_name: &Txt,
-    ended: Result<(), Ending>,
-) -> Status
-    ensures { Closed (span (O.seen out.old) (O.seen out.new)) (λ put. Finishes (span (O.seen out.old) (O.seen out.new)) (replay_of app_name.now events_name.now) ended put result) }
+fn finish<O: Sink>(out: &mut O, command: Command<'_>, ended: Result<(), Ending>) -> Status
+    ensures { Closed (span (O.seen out.old) (O.seen out.new)) (λ put. Finishes (span (O.seen out.old) (O.seen out.new)) (named command.entry) ended put result) }
 {
     match ended {
         Ok(()) => Status::Done,
-        Err(ending) => match put_fault(out, app_name, events_name, ending) {
+        Err(ending) => match put_fault(out, command, ending) {
             Ok(()) => status_of(ending),
             Err(Failed) => Status::WriteFault,
         },
@@ -293,7 +362,7 @@ fn refuse_words<O: Sink>(out: &mut O) -> Status
 }
 
 // The run, as one statement on all that it puts.
-fn run_words<F: Files, O: Sink, U: AuditSink, K: Keeper, L: Ledger>(
+fn run_words<F: Files, O: Sink, U: AuditSink, K: Keeper, L: Ledger, M: Ledger>(
     alloc: Global,
     words: &[Txt],
     files: &mut F,
@@ -301,6 +370,7 @@ fn run_words<F: Files, O: Sink, U: AuditSink, K: Keeper, L: Ledger>(
     audit: &mut U,
     keeper: &mut K,
     splits: &mut Steps<L>,
+    evaluations: &mut Steps<M>,
 ) -> Status
     requires attached { IsTrue (K.seen keeper.old).attached }
     requires start { IsTrue (K.seen keeper.old).tells → IsForAll (K.seen keeper.old).state }
@@ -311,15 +381,15 @@ fn run_words<F: Files, O: Sink, U: AuditSink, K: Keeper, L: Ledger>(
         Some(command) => {
             let ended = replay(
                 alloc,
-                command.app,
-                command.events,
+                command,
                 files,
                 out,
                 audit,
                 keeper,
                 splits,
+                evaluations,
             );
-            finish(out, command.app, command.events, ended)
+            finish(out, command, ended)
         }
         None => refuse_words(out),
     }
@@ -327,8 +397,10 @@ fn run_words<F: Files, O: Sink, U: AuditSink, K: Keeper, L: Ledger>(
 
 /// Runs the command that the words give, and puts replies on `out` and the audit's lines on `audit`. The
 /// words are those after the program's name: `replay APP EVENTS` serves the events of a file, one after
-/// another, with the application of another, on what the keeper keeps. A status other than `Done` has its line as the last one on `out`.
-pub fn run<F: Files, O: Sink, U: AuditSink, K: Keeper, L: Ledger>(
+/// another, with the application of another, on what the keeper keeps. With `--audit FILE` among the words behind
+/// `replay` the audit is aimed at that file, else at none. A status other than `Done` has its line as the last
+/// one on `out`.
+pub fn run<F: Files, O: Sink, U: AuditSink, K: Keeper, L: Ledger, M: Ledger>(
     alloc: Global,
     words: &[Txt],
     files: &mut F,
@@ -336,6 +408,7 @@ pub fn run<F: Files, O: Sink, U: AuditSink, K: Keeper, L: Ledger>(
     audit: &mut U,
     keeper: &mut K,
     splits: &mut Steps<L>,
+    evaluations: &mut Steps<M>,
 ) -> Status
     // The keeper may be called, and a state that it tells is one that any application may start from.
     requires attached { IsTrue (K.seen keeper.old).attached }
@@ -344,5 +417,5 @@ pub fn run<F: Files, O: Sink, U: AuditSink, K: Keeper, L: Ledger>(
     // Every byte that is put, every page and the state at the end, by the status; each status by its cause.
     ensures { IsRun (sight (F.seen files.old) (F.seen files.new) (O.seen out.old) (O.seen out.new) (U.seen audit.old) (U.seen audit.new) (K.seen keeper.old) (K.seen keeper.new)) words.now result }
 {
-    run_words(alloc, words, files, out, audit, keeper, splits)
+    run_words(alloc, words, files, out, audit, keeper, splits, evaluations)
 }

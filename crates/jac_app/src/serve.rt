@@ -83,13 +83,14 @@ fn make_lines(
 
 // Answers one request and stores what it leaves. The lines of its reply are made before, so that nothing is
 // stored without them.
-fn answer_event<K: Keeper, L: Ledger>(
+fn answer_event<K: Keeper, L: Ledger, M: Ledger>(
     alloc: Global,
     app: &App,
     keeper: &mut K,
     k: u64,
     event: &Event,
     splits: &mut Steps<L>,
+    evaluations: &mut Steps<M>,
 ) -> Result<Lines, Stop>
     requires attached { IsTrue (K.seen keeper.old).attached }
     requires served { are_served (application_of app.now) ≡ true }
@@ -102,7 +103,7 @@ fn answer_event<K: Keeper, L: Ledger>(
     ensures attached { (K.seen keeper.new).attached ≡ (K.seen keeper.old).attached }
 {
     let ask = ask_in(alloc, app, event)?;
-    let prepared = prepare(alloc, app, keeper, &ask, splits)?;
+    let prepared = prepare(alloc, app, keeper, &ask, splits, evaluations)?;
     let lines = make_lines(
         alloc,
         k,
@@ -225,7 +226,7 @@ fn put_pieces<O: Sink, U: AuditSink>(
 }
 
 // Answers one request, of which `served` were answered before.
-fn serve_event<O: Sink, U: AuditSink, K: Keeper, L: Ledger>(
+fn serve_event<O: Sink, U: AuditSink, K: Keeper, L: Ledger, M: Ledger>(
     alloc: Global,
     app: &App,
     served: u64,
@@ -234,6 +235,7 @@ fn serve_event<O: Sink, U: AuditSink, K: Keeper, L: Ledger>(
     audit: &mut U,
     keeper: &mut K,
     splits: &mut Steps<L>,
+    evaluations: &mut Steps<M>,
 ) -> Result<(), Failed>
     requires few { served < 2 ^ 64 - 1 }
     requires attached { IsTrue (K.seen keeper.old).attached }
@@ -243,7 +245,7 @@ fn serve_event<O: Sink, U: AuditSink, K: Keeper, L: Ledger>(
     ensures cause { OnErr result (AWriteFailed (sinks (O.seen out.old) (O.seen out.new) (U.seen audit.old) (U.seen audit.new))) }
     ensures attached { (K.seen keeper.new).attached ≡ (K.seen keeper.old).attached }
 {
-    match answer_event(alloc, app, keeper, served + 1, event, splits) {
+    match answer_event(alloc, app, keeper, served + 1, event, splits, evaluations) {
         Ok(lines) => put_lines(out, audit, lines.reply.as_bytes(), lines.audit.as_bytes()),
         Err(stop) => put_failed(
             out,
@@ -267,7 +269,7 @@ pub enum Stopped {
 }
 
 // One line; the count of the requests answered by then.
-fn serve_line<O: Sink, U: AuditSink, K: Keeper, L: Ledger>(
+fn serve_line<O: Sink, U: AuditSink, K: Keeper, L: Ledger, M: Ledger>(
     alloc: Global,
     app: &App,
     served: u64,
@@ -277,6 +279,7 @@ fn serve_line<O: Sink, U: AuditSink, K: Keeper, L: Ledger>(
     audit: &mut U,
     keeper: &mut K,
     splits: &mut Steps<L>,
+    evaluations: &mut Steps<M>,
 ) -> Result<u64, Stopped>
     requires few { served < 2 ^ 64 - 1 }
     requires attached { IsTrue (K.seen keeper.old).attached }
@@ -293,7 +296,15 @@ fn serve_line<O: Sink, U: AuditSink, K: Keeper, L: Ledger>(
     }
     match read_ask(alloc, line) {
         Ok(Some(event)) => match serve_event(
-            alloc, app, served, &event, out, audit, keeper, splits,
+            alloc,
+            app,
+            served,
+            &event,
+            out,
+            audit,
+            keeper,
+            splits,
+            evaluations,
         ) {
             Ok(()) => Ok(served + 1),
             Err(Failed) => Err(Stopped::Write),
@@ -310,7 +321,7 @@ fn is_blank(line: &[u8]) -> bool
 }
 
 /// Serves the events of a file, line by line, up to the first line that has no form.
-pub fn serve_events<O: Sink, U: AuditSink, K: Keeper, L: Ledger>(
+pub fn serve_events<O: Sink, U: AuditSink, K: Keeper, L: Ledger, M: Ledger>(
     alloc: Global,
     app: &App,
     bytes: &[u8],
@@ -318,6 +329,7 @@ pub fn serve_events<O: Sink, U: AuditSink, K: Keeper, L: Ledger>(
     audit: &mut U,
     keeper: &mut K,
     splits: &mut Steps<L>,
+    evaluations: &mut Steps<M>,
 ) -> Result<(), Stopped>
     requires short { length bytes.now < 2 ^ 32 }
     requires attached { IsTrue (K.seen keeper.old).attached }
@@ -332,7 +344,18 @@ pub fn serve_events<O: Sink, U: AuditSink, K: Keeper, L: Ledger>(
     'lines: while let Some(rest) = left {
         let (line, after) = first_part(rest, b'\n');
         number += 1;
-        match serve_line(alloc, app, served, number, line, out, audit, keeper, splits) {
+        match serve_line(
+            alloc,
+            app,
+            served,
+            number,
+            line,
+            out,
+            audit,
+            keeper,
+            splits,
+            evaluations,
+        ) {
             Ok(count) => served = count,
             Err(stopped) => return Err(stopped),
         }

@@ -94,34 +94,70 @@ impl Sink for Stdout<'_> {
     }
 }
 
-/// An audit that is aimed at no file: it drops its bytes. An aim at a file fails.
+/// The audit's file, which an aim makes or empties. An audit that is aimed at none drops its bytes. Each put is
+/// written through at once.
 #[derive(Drop)]
-pub struct NoAudit {
+pub struct HostAudit<'r> {
+    rt: &'r HostRuntime,
+    file: Option<File>,
     faults: u64,
 }
 
-impl NoAudit {
-    pub fn new() -> NoAudit {
-        NoAudit { faults: 0 }
+impl<'r> HostAudit<'r> {
+    pub fn new(rt: &'r HostRuntime) -> HostAudit<'r> {
+        HostAudit {
+            rt,
+            file: None,
+            faults: 0,
+        }
     }
 }
 
-impl Sink for NoAudit {
+impl Sink for HostAudit<'_> {
     ghost seen = { λ s. record { tells = false; held = []; aims = []; faults = s.faults } };
 
-    fn put(&mut self, _bytes: &[u8]) -> Result<(), Failed> {
-        Ok(())
-    }
-}
-
-impl AuditSink for NoAudit {
-    fn aim(&mut self, name: Option<Txt>) -> Result<(), Failed> {
-        match name {
-            None => Ok(()),
-            Some(_) => {
+    fn put(&mut self, bytes: &[u8]) -> Result<(), Failed> {
+        match write_to(&mut self.file, bytes) {
+            Ok(()) => Ok(()),
+            Err(Failed) => {
                 self.faults = self.faults.saturating_add(1);
                 Err(Failed)
             }
         }
+    }
+}
+
+impl AuditSink for HostAudit<'_> {
+    fn aim(&mut self, name: Option<Txt>) -> Result<(), Failed> {
+        match open_named(self.rt, name) {
+            Ok(file) => {
+                self.file = file;
+                Ok(())
+            }
+            Err(Failed) => {
+                self.faults = self.faults.saturating_add(1);
+                Err(Failed)
+            }
+        }
+    }
+}
+
+fn write_to(file: &mut Option<File>, bytes: &[u8]) -> Result<(), Failed> {
+    match file {
+        None => Ok(()),
+        Some(file) => match file.write_all(bytes) {
+            Ok(()) => Ok(()),
+            Err(_) => Err(Failed),
+        },
+    }
+}
+
+fn open_named(rt: &HostRuntime, name: Option<Txt>) -> Result<Option<File>, Failed> {
+    match name {
+        None => Ok(None),
+        Some(name) => match File::create(rt, name.as_str()) {
+            Ok(file) => Ok(Some(file)),
+            Err(_) => Err(Failed),
+        },
     }
 }

@@ -1,4 +1,4 @@
-//! The program `jac`: the host's files and standard output, and a keeper in memory, beneath `jac_app`.
+//! The program `jac`: the host's files, its audit and standard output, and a keeper in memory, beneath `jac_app`.
 #![tactic(auto)]
 
 ghost use Rattle.std.specs.Prelude.{◌≡◌, ◌<◌};
@@ -7,7 +7,7 @@ mod host;
 #[cfg(test)]
 mod tests;
 
-use host::{HostFiles, NoAudit, Stdout};
+use host::{HostAudit, HostFiles, Stdout};
 use jac_app::{Status, empty_state, run};
 use jac_io::Calls;
 use jac_keep::MemoryKeeper;
@@ -19,17 +19,24 @@ use std::sync::ledger::{Blank, Ledger};
 use std::{env, io};
 
 fn main(rt: HostRuntime) -> ExitCode {
-    let status = match run_words::<Brand>(&rt, Blank::new(1)) {
+    let status = match run_words::<Brand, Brand>(&rt, Blank::new(1), Blank::new(1)) {
         Ok(status) => status,
         Err(Memory) => Status::Memory,
     };
     ExitCode::from(status.number())
 }
 
-fn run_words<L: Ledger>(rt: &HostRuntime, blank: Blank) -> Result<Status, Memory>
+fn run_words<L: Ledger, M: Ledger>(
+    rt: &HostRuntime,
+    blank: Blank,
+    second: Blank,
+) -> Result<Status, Memory>
     requires name { blank.name ≡ L.name }
     requires parts { blank.parts ≡ L.parts }
     requires some { 0 < blank.parts }
+    requires second_name { second.name ≡ M.name }
+    requires second_parts { second.parts ≡ M.parts }
+    requires second_some { 0 < second.parts }
 {
     let alloc = rt.alloc();
     let words = words_of(rt)?;
@@ -37,8 +44,9 @@ fn run_words<L: Ledger>(rt: &HostRuntime, blank: Blank) -> Result<Status, Memory
     let mut keeper = MemoryKeeper::new(state, Calls::empty(alloc), Calls::empty(alloc));
     let mut files = HostFiles::new(rt);
     let mut out = Stdout::new(rt);
-    let mut audit = NoAudit::new();
+    let mut audit = HostAudit::new(rt);
     let mut splits: Steps<L> = Steps::new(blank);
+    let mut evaluations: Steps<M> = Steps::new(second);
     let status = run(
         alloc,
         words.as_slice(),
@@ -47,6 +55,7 @@ fn run_words<L: Ledger>(rt: &HostRuntime, blank: Blank) -> Result<Status, Memory
         &mut audit,
         &mut keeper,
         &mut splits,
+        &mut evaluations,
     );
     Ok(status)
 }

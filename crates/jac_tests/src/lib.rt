@@ -15,6 +15,8 @@ mod keep;
 #[cfg(test)]
 mod lang;
 #[cfg(test)]
+mod policies;
+#[cfg(test)]
 mod query;
 #[cfg(test)]
 mod route;
@@ -26,3 +28,5 @@ mod tree;
 mod value;
 #[cfg(test)]
 mod world;
+#[cfg(test)]
+mod writes;

@@ -1,8 +1,8 @@
-use Rattle.std.proofs.Common.{◌∙◌, ap, sym, refl, ℕ, Option, List, arith}
+use Rattle.std.proofs.Common.{◌∙◌, ap, sym, refl, inl, ℕ, Option, List, arith}
 use Rattle.jac_lang.specs.Mirror.{application_of}
 use Rattle.jac_app.specs.declared.command.Role.TheVariants as roles
 use Rattle.jac_app.specs.Outside.{span}
-use Rattle.jac_app.specs.Run.{sight, replay_of}
+use Rattle.jac_app.specs.Run.{sight, named}
 use Rattle.jac_app.proofs.RunLemmas.{unread_ends, unopened_ends, served_ends, idle_ends, still_idle, WentAimed-on}
 use Rattle.jac_app.proofs.command.replay.Goals as goal
 
@@ -12,7 +12,7 @@ returns-in-Err g c =
     let O = g.O.Sink in
     let U = g.U.Sink in
     let K = g.K.Keeper in
-    let command = replay_of c.args.app_name.now c.args.events_name.now in
+    let command = named c.args.command in
     let out = O.seen c.args.out.now in
     let audit = U.seen c.args.audit.now in
     let k = K.seen c.args.keeper.now in
@@ -29,7 +29,7 @@ returns-in-Err-open_app g c =
     let O = g.O.Sink in
     let U = g.U.Sink in
     let K = g.K.Keeper in
-    let command = replay_of c.args.app_name.now c.args.events_name.now in
+    let command = named c.args.command in
     let out = O.seen c.args.out.now in
     let audit = U.seen c.args.audit.now in
     let k = K.seen c.args.keeper.now in
@@ -46,7 +46,7 @@ returns-in-Err-read_file g c =
     let O = g.O.Sink in
     let U = g.U.Sink in
     let K = g.K.Keeper in
-    let command = replay_of c.args.app_name.now c.args.events_name.now in
+    let command = named c.args.command in
     let out = O.seen c.args.out.now in
     let audit = U.seen c.args.audit.now in
     let k = K.seen c.args.keeper.now in
@@ -66,13 +66,18 @@ returns-in-Err-read_file g c =
     (record { earlier = c.in-Ok.ensures.lasts.later; later = omega arith; told = λ told. told; same_file = λ told. c.in-Ok.ensures.lasts.same_file (lasts.told told) })
     (still_idle audit k) c.in-Err-read_file.ensures.unread)
 
+pub returns-in-Err-copy_name : goal.returns-in-Err-copy_name
+returns-in-Err-copy_name g c =
+    let audit = g.U.Sink.seen c.args.audit.now in
+    idle_ends (g.O.Sink.seen c.args.out.now) audit _ (inl (still_idle audit (g.K.Keeper.seen c.args.keeper.now)))
+
 pub returns : goal.returns
 returns g c =
     let F = g.F.Files in
     let O = g.O.Sink in
     let U = g.U.Sink in
     let K = g.K.Keeper in
-    let command = replay_of c.args.app_name.now c.args.events_name.now in
+    let command = named c.args.command in
     let files = F.seen c.args.files.now in
     let later = F.seen c.read_file-2.new.files in
     let seen =
@@ -91,9 +96,9 @@ returns g c =
       events_read = record {
         short = c.in-Ok-read_file.ensures.short;
         told = λ told.
-            ap (λ (f : List ℕ → Option (List ℕ)). f c.args.events_name.now) (sym (first.same_file (second.told told)))
+            ap (λ (f : List ℕ → Option (List ℕ)). f c.args.command.events.now) (sym (first.same_file (second.told told)))
             ∙ c.in-Ok-read_file.ensures.told told;
       };
     })
-    (rw c.as_slice-2.ensures at served))
+    (rw (c.as_slice-2.ensures, c.in-Ok-copy_name.ensures) at served))
     c.serve.ensures

@@ -1,5 +1,5 @@
 use Rattle.std.proofs.Common.{◌∙◌, sym, refl, inl, inr, [], ◌++◌, arith}
-use Rattle.jac_app.specs.Run.{sight, replay_of}
+use Rattle.jac_app.specs.Run.{sight, named}
 use Rattle.jac_app.proofs.OutsideLemmas.{Lasts-then, Took-none, Took-then}
 use Rattle.jac_app.proofs.RunLemmas.{Ends-later, Finishes-widen, still_idle}
 use Rattle.jac_app.proofs.command.run_words.Goals as goal
@@ -24,7 +24,7 @@ returns-in-Some g c =
     let O = g.O.Sink in
     let U = g.U.Sink in
     let K = g.K.Keeper in
-    let command = replay_of c.in-Some.command.app.now c.in-Some.command.events.now in
+    let command = named c.in-Some.command in
     let start = (K.seen c.args.keeper.now).state in
     let before = O.seen c.args.out.now in
     let middle = O.seen c.replay-ended.new.out in
