@@ -11,7 +11,7 @@ up to the next:
     == run WORDS                     a run of the program with these words, quoted as a shell reads them
     == status N                      the exit status of the runs above
     == out                           and all that they put on standard output
-    == left NAME                     what each of these runs leaves in the file
+    == wrote NAME                    and the file of this name that each of them left
 """
 import os
 import re
@@ -37,8 +37,8 @@ def sections(text):
 
 
 def parse(text):
-    """The files, and the runs: their words, with status, output and the files that they leave."""
-    files, runs, waiting, status, left = {}, [], [], None, None
+    """The files, and the runs: their words, with status and output."""
+    files, runs, waiting, status = {}, [], [], None
     for head, content in sections(text):
         kind, _, rest = head.partition(' ')
         if kind == 'file':
@@ -49,11 +49,11 @@ def parse(text):
         elif kind == 'status' and waiting:
             status = int(rest)
         elif kind == 'out' and waiting and status is not None:
-            left = {}
-            runs += [(words, status, content, left) for words in waiting]
-            waiting, status = [], None
-        elif kind == 'left' and left is not None and not waiting:
-            left[rest] = content
+            last = [(words, status, content, {}) for words in waiting]
+            runs, waiting, status = runs + last, [], None
+        elif kind == 'wrote' and not waiting and runs:
+            for run in last:
+                run[3][rest] = content
         else:
             raise Malformed('a section that does not belong here: == ' + head)
     if waiting or not runs:
@@ -68,23 +68,17 @@ def failures(program, text):
         for name, content in files.items():
             with open(os.path.join(folder, name), 'wb') as file:
                 file.write(content)
-        for words, status, out, left in runs:
+        for words, status, out, wrote in runs:
             done = subprocess.run([program] + words, cwd=folder, stdin=subprocess.DEVNULL,
                                   stdout=subprocess.PIPE, timeout=120)
             if (done.returncode, done.stdout) != (status, out):
                 yield '%s: want %d and %r, have %d and %r' % (
                     shlex.join(words), status, out[-600:], done.returncode, done.stdout[-600:])
-            for name, content in left.items():
-                have = content_of(os.path.join(folder, name))
-                if have != content:
-                    yield '%s leaves in %s: want %r, have %r' % (shlex.join(words), name, content, have)
-
-
-def content_of(path):
-    if not os.path.exists(path):
-        return None
-    with open(path, 'rb') as file:
-        return file.read()
+            for name, content in wrote.items():
+                with open(os.path.join(folder, name), 'rb') as file:
+                    left = file.read()
+                if left != content:
+                    yield '%s: want of %s %r, have %r' % (shlex.join(words), name, content[-600:], left[-600:])
 
 
 def main():

@@ -160,10 +160,13 @@ fn store_view<K: Keeper, L: Ledger, M: Ledger>(
     ensures told { OnOk result (StaysTold K.seen work.old work.new) }
     ensures keeps { WritesWork K.seen work.old work.new result }
 {
-    let out = run_body(alloc, work, app, ask, view, number, splits)?;
-    let labels = resolve(alloc, work, app, ask.viewer, evaluations)?;
-    let page = page_of(alloc, &out, &labels)?;
-    Ok(Labelled { page, labels })
+    let pieces = run_body(alloc, work, app, ask, view, number, splits)?;
+    let settled = resolve(alloc, work, app, ask.viewer, evaluations)?;
+    let page = page_of(alloc, &pieces, &settled)?;
+    Ok(Labelled {
+        page,
+        labels: settled,
+    })
 }
 
 // Runs the statements of the view for all assignments at once.
