@@ -495,7 +495,9 @@ fn changed_either<K: Keeper, L: Ledger>(
     let everywhere = Guard::empty(alloc);
     make(alloc, work, app, &everywhere, 7, splits)?;
     let count = one_set(alloc, 0, Value::Int(20))?;
-    let either = Facet::split(alloc, OTHER, note(Some(NOTE)), note(None), splits)?;
+    let high = Facet::leaf(Value::Ref(Some(NOTE)));
+    let low = Facet::leaf(Value::Ref(None));
+    let either = Facet::split(alloc, OTHER, high, low, splits)?;
     set(alloc, work, app, &everywhere, &either, &count, splits)?;
     all_show(alloc, work, [b"20;a;", b"21;a;", b"7;a;", b"8;a;"])
 }
