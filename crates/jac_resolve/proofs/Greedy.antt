@@ -8,7 +8,7 @@ use Rattle.jac_lang.specs.Syntax.{Application}
 use Rattle.jac_plain.specs.Requests.{Worlds}
 use Rattle.jac_plain.specs.Policies.{is_allowed, with_label, ShowsForbidden, AreAllowed}
 use Rattle.jac_pruned.proofs.Working.{next}
-use Rattle.jac_resolve.specs.Rounds.{all_allowed, hidden_count, MayAdd, Tries, Advances, Within, Fills}
+use Rattle.jac_resolve.specs.Rounds.{all_allowed, hidden_count, MayAdd, Tries, Advances, Within}
 
 left_true : (a b : Bool) → (a && b) ≡ true → a ≡ true
 left_true true b p = refl
@@ -169,13 +169,6 @@ module _ (app : Application) (worlds : Worlds) (viewer : Option ℕ) where
     allowed = λ a. allowed_on old new x one (before.allowed a) g t;
     fills = fills_on labels more old new x added one (subst (λ (l : List ℕ). FillsBut labels l old added) is before.fills) g t;
   }
-
-  fills_last : (labels new : List ℕ) (added : Bool) → FillsBut labels [] new added → Fills app worlds viewer labels new added
-  fills_last labels new true h = tt
-  fills_last labels new false h = λ k among hidden. h k among refl hidden
-
-  pub round_last : (labels left start new : List ℕ) (added : Bool) → left ≡ [] → Round labels left start new added → Fills app worlds viewer labels new added
-  round_last labels left start new added is round = fills_last labels new added (subst (λ (l : List ℕ). FillsBut labels l new added) is round.fills)
 
 -- what is known in a round, told or not, with a count that doesn't fall, and what is known beside
 pub record InRound (labels start new : List ℕ) (added : Bool) (before now : ℕ) (beside : Type 0) : Type 0 where
