@@ -10,12 +10,19 @@ use std::alloc::Global;
 use std::marker::Model;
 use std::sync::ledger::Ledger;
 
+/// How many labels may stand one behind the other in a facet. What works on a facet, and its drop, recurses once
+/// for each of them, and the stack must not decide whether that ends: a facet that would have more is refused as
+/// want of memory.
+pub(crate) const MOST_LABELS: u32 = 1024;
+
 /// A faceted value (Austin and Flanagan, POPL 2012): one value, or a label with the value where it is shown
 /// and the value where it is hidden.
 #[cycle(facet)]
 #[derive(Drop)]
 pub struct Facet<T> {
     pub(crate) node: Node<T>,
+    // How many labels stand one behind the other, on the longest path.
+    labels: u32,
 }
 
 #[cycle(facet)]
@@ -51,10 +58,12 @@ impl<T: Leaf> Facet<T> {
     {
         Facet {
             node: Node::Leaf(value),
+            labels: 0,
         }
     }
 
-    /// High where the label is shown, else low. Equal sides give that side.
+    /// High where the label is shown, else low. Equal sides give that side. A facet may have 1,024 labels one
+    /// behind the other; beyond that it wants memory.
     pub fn split<L: Ledger>(
         alloc: Global,
         label: Label,
@@ -73,10 +82,15 @@ impl<T: Leaf> Facet<T> {
         if high.same(&low) {
             return Ok(high);
         }
+        let labels = high.labels.max(low.labels);
+        if labels >= MOST_LABELS {
+            return Err(Memory);
+        }
         let high = Box::new(alloc, high)?;
         let low = Box::new(alloc, low)?;
         Ok(Facet {
             node: Node::Split(label, high, low),
+            labels: labels + 1,
         })
     }
 
@@ -103,6 +117,7 @@ impl<T: Leaf> Facet<T> {
                 let value = value.copy(alloc)?;
                 Ok(Facet {
                     node: Node::Leaf(value),
+                    labels: 0,
                 })
             }
             Node::Split(label, high, low) => {
@@ -110,6 +125,7 @@ impl<T: Leaf> Facet<T> {
                 let low = Box::new(alloc, low.copy(alloc)?)?;
                 Ok(Facet {
                     node: Node::Split(*label, high, low),
+                    labels: self.labels,
                 })
             }
         }

@@ -5,6 +5,7 @@ ghost use Rattle.jac_facet.specs.Shape.{at, top, Above, has_label};
 ghost use Rattle.jac_facet.specs.Tops.{IsBefore};
 
 use crate::combine::first_label;
+use crate::facet::MOST_LABELS;
 use crate::{Facet, Leaf};
 use jac_value::Memory;
 use jac_world::{Guard, Label, Steps};
@@ -12,7 +13,8 @@ use std::alloc::Global;
 use std::sync::ledger::Ledger;
 
 impl<T: Leaf> Facet<T> {
-    /// The new facet where the guard holds, else the old one.
+    /// The new facet where the guard holds, else the old one. A guard of more labels than a facet may have one
+    /// behind the other wants memory.
     pub fn under<L: Ledger>(
         alloc: Global,
         guard: &Guard,
@@ -22,7 +24,11 @@ impl<T: Leaf> Facet<T> {
     ) -> Result<Facet<T>, Memory>
         ensures { IfOk result (λ r. (w : ℕ → Bool) → at w r ≡ (if holds w guard.now then at w new.now else at w old.now)) }
     {
-        let facet = Facet::under_pairs(alloc, guard.pairs(), new, old, splits)?;
+        let pairs = guard.pairs();
+        if pairs.len() > MOST_LABELS as usize {
+            return Err(Memory);
+        }
+        let facet = Facet::under_pairs(alloc, pairs, new, old, splits)?;
         Ok(facet)
     }
 
