@@ -268,10 +268,12 @@ may_create next k name (Some m) site cells May later r less apart absent may =
     let id = record_id k.number site m in
     let made = created_cells k m id cells r in
     let here : is_among site (site ∷ later) ≡ true = or_first (site == site) (is_among site later) (grind (arith, nat_tests)) in
-    let none : is_among site later ≡ false = not_true (is_among site later) (and_parts (not (is_among site later)) (are_apart later) apart).0 in
-    (record { numbered = less; absent = absent site m here }, may (with_env (r.env ++ binding name (value.Ref (Some id)) ∷ []) (with_record m (plain_row id made) r))
-    (λ other i is. keeps_record k.number other i site m made r.tables (other_than site other (site == other) later refl none is)
-    (absent other i (or_second (site == other) (is_among other later) is))))
+    let none : is_among site later ≡ false = not_true (is_among site later) (and_parts (not (is_among site later)) (are_apart later) apart).0 in (
+      record { numbered = less; absent = absent site m here },
+      may (with_env (r.env ++ binding name (value.Ref (Some id)) ∷ []) (with_record m (plain_row id made) r))
+          (λ other i is. keeps_record k.number other i site m made r.tables (other_than site other (site == other) later refl none is)
+          (absent other i (or_second (site == other) (is_among other later) is))),
+    )
 
 mutual
   may_run_one : (next : ℕ) (k : Setting) (s : Statement) (r : Run) → k.number < next → are_apart (sites_in s) ≡ true → is_unlooped false s ≡ true → AreAbsent k.number (sites_in s) r.tables → MayRun next k s r
@@ -300,6 +302,8 @@ mutual
   may_run_all next k Statements.none r less apart h a = tt
   may_run_all next k (Statements.more s rest) r less apart h a =
       let parts = and_parts (is_unlooped false s) (are_unlooped false rest) h in
-      let two = apart_parts (sites_in s) (sites rest) apart in
-      (may_run_one next k s r less two.first parts.0 (absent_first k.number (sites_in s) (sites rest) r.tables a), may_run_all next k rest (leaves k s r) less two.second parts.1
-      (λ site m is. keeps_one k site m s (two.strange site is) r (absent_second k.number (sites_in s) (sites rest) r.tables a site m is)))
+      let two = apart_parts (sites_in s) (sites rest) apart in (
+        may_run_one next k s r less two.first parts.0 (absent_first k.number (sites_in s) (sites rest) r.tables a),
+        may_run_all next k rest (leaves k s r) less two.second parts.1
+            (λ site m is. keeps_one k site m s (two.strange site is) r (absent_second k.number (sites_in s) (sites rest) r.tables a site m is)),
+      )

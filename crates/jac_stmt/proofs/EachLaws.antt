@@ -47,7 +47,7 @@ module _ {X : Type 0} (step : (ℕ → Bool) → X → Run → Run) (May : ℕ �
   each_next all rest more where_ x old now new is before run n sound may =
       let was : RunningEach n all rest old now = before n sound may in
       let asked : (w : ℕ → Bool) → MayAll (step w) (May n w) (if where_ w then x ∷ more w else more w) (run_at w now) = λ w.
-          subst (λ (xs : List X). MayAll (step w) (May n w) xs (run_at w now)) (is w) (was.may w) in
+      subst (λ (xs : List X). MayAll (step w) (May n w) xs (run_at w now)) (is w) (was.may w) in
       let ran : Ran n (λ w. step w x) where_ now new = run n was.sound (λ w held. may_first n w (where_ w) x (more w) (run_at w now) held (asked w)) in
       record {
         here = λ w.

@@ -50,10 +50,10 @@ branches app ctx e first second pc start old new env env2 out out2 value leaves 
     let before : (w : ℕ → Bool) → run_at w (faceted old env out) ≡ r w = λ w. ap (λ (s : State). run_at w (faceted s env out)) same in
     let read : (w : ℕ → Bool) → holds w pc ≡ true → value_in (setting_at app ctx w) e (r w) ≡ at w value = λ w held. sym (value_here app ctx start env out e w none) ∙ sym (means w held) in
     let asked : (w : ℕ → Bool) → MayAll (chosen_at app ctx first second w) (MayChooseAt app ctx first second n w) (seen w leaves) (run_at w (faceted old env out)) = λ w.
-        subst (λ (s : Run). MayAll (chosen_at app ctx first second w) (MayChooseAt app ctx first second n w) (seen w leaves) s) (sym (before w))
-        (subst (λ (vs : List Value). MayAll (chosen_at app ctx first second w) (MayChooseAt app ctx first second n w) vs (r w)) (sym (is w))
-        (may_one (chosen_at app ctx first second w) (MayChooseAt app ctx first second n w) (holds w pc) (at w value) (r w)
-        (λ held. subst (λ (v : Value). MayChooseAt app ctx first second n w v (r w)) (read w held) (may w held)))) in
+    subst (λ (s : Run). MayAll (chosen_at app ctx first second w) (MayChooseAt app ctx first second n w) (seen w leaves) s) (sym (before w))
+    (subst (λ (vs : List Value). MayAll (chosen_at app ctx first second w) (MayChooseAt app ctx first second n w) vs (r w)) (sym (is w))
+    (may_one (chosen_at app ctx first second w) (MayChooseAt app ctx first second n w) (holds w pc) (at w value) (r w)
+    (λ held. subst (λ (v : Value). MayChooseAt app ctx first second n w v (r w)) (read w held) (may w held)))) in
     let ran : RanEach n (chosen_at app ctx first second) (λ w. seen w leaves) (faceted old env out) (faceted new env2 out2) = each n (sound_too n start old same sound) asked in
     record {
       left = λ w.
@@ -91,13 +91,13 @@ repeats app ctx q body pc start old new env env2 out out2 ts none same found eac
     let r : (ℕ → Bool) → Run = λ w. run_at w (faceted start env out) in
     let before : (w : ℕ → Bool) → run_at w (faceted old env out) ≡ r w = λ w. ap (λ (s : State). run_at w (faceted s env out)) same in
     let tuples : (w : ℕ → Bool) → holds w pc ≡ true → live w ts ≡ answers (world_of (setting_at app ctx w) (r w)) q (r w).env = λ w held.
-        found w held ∙ ap (λ this. answers (record { models = (application_of app).models; this = this; viewer = ctx.viewer; tables = (project_at w start).tables }) q (env_at w env)) none in
+    found w held ∙ ap (λ this. answers (record { models = (application_of app).models; this = this; viewer = ctx.viewer; tables = (project_at w start).tables }) q (env_at w env)) none in
     let asked : (w : ℕ → Bool) → MayAll (bound_at app ctx bs body w) (MayBindAt app ctx bs body n w) (live_under pc ts w) (run_at w (faceted old env out)) = λ w.
-        subst (λ (s : Run). MayAll (bound_at app ctx bs body w) (MayBindAt app ctx bs body n w) (live_under pc ts w) s) (sym (before w))
-        (may_some (bound_at app ctx bs body w) (MayBindAt app ctx bs body n w) (holds w pc) (live w ts) (r w)
-        (λ held.
-        subst (λ (xs : List (List ℕ)). MayAll (bound_at app ctx bs body w) (MayBindAt app ctx bs body n w) xs (r w)) (sym (tuples w held))
-        (may-bound app ctx bs body n w (answers (world_of (setting_at app ctx w) (r w)) q (r w).env) (r w) (may w held)))) in
+    subst (λ (s : Run). MayAll (bound_at app ctx bs body w) (MayBindAt app ctx bs body n w) (live_under pc ts w) s) (sym (before w))
+    (may_some (bound_at app ctx bs body w) (MayBindAt app ctx bs body n w) (holds w pc) (live w ts) (r w)
+    (λ held.
+    subst (λ (xs : List (List ℕ)). MayAll (bound_at app ctx bs body w) (MayBindAt app ctx bs body n w) xs (r w)) (sym (tuples w held))
+    (may-bound app ctx bs body n w (answers (world_of (setting_at app ctx w) (r w)) q (r w).env) (r w) (may w held)))) in
     let ran : RanEach n (bound_at app ctx bs body) (live_under pc ts) (faceted old env out) (faceted new env2 out2) = each n (sound_too n start old same sound) asked in
     record {
       left = λ w.

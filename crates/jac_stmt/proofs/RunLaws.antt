@@ -125,7 +125,7 @@ scopes body MayBody where_ inner s t env more env1 env2 env3 out out2 outer grow
     let shown : (w : ℕ → Bool) → env_at w env1 ≡ inner w (env_at w env) = λ w. ap (env_at w) grown ∙ env_at-append w env more ∙ same w in
     let opened : (w : ℕ → Bool) → run_at w (faceted s env1 out) ≡ with_env (inner w (env_at w env)) (run_at w (faceted s env out)) = λ w. ap (λ es. with_env es (run_at w (faceted s env out))) (shown w) in
     let kept : (w : ℕ → Bool) → take outer (inner w (env_at w env)) ≡ env_at w env = λ w.
-        ap (take outer) (sym (same w)) ∙ ap (λ m. take m (env_at w env ++ env_at w more)) (long ∙ sym (env_at-length w env)) ∙ take-append_seam (env_at w env) (env_at w more) in
+    ap (take outer) (sym (same w)) ∙ ap (λ m. take m (env_at w env ++ env_at w more)) (long ∙ sym (env_at-length w env)) ∙ take-append_seam (env_at w env) (env_at w more) in
     let ran : Ran n body where_ (faceted s env1 out) (faceted t env2 out2) = run n sound (λ w held. subst (MayBody n w) (sym (opened w)) (may w held)) in
     record {
       left = λ w.

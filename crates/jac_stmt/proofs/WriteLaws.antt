@@ -68,7 +68,7 @@ cells_remade : (models : List Entity) (w : ℕ → Bool) (m id : ℕ) (value_of 
 cells_remade models w m id value_of sets put placed =
     let fields = fields_at models m in
     let by_places : ◌≡◌ {A = List Value → List Value} (λ old. shielded models w m id (is_set fields sets) (drafted models fields value_of sets old)) (remade_cells models w m id (placed_sets fields value_of sets)) =
-        λ i old. shielded models w m id (λ f. is_set-placed fields value_of sets f i) (drafted-placed models fields value_of sets old i) in
+    λ i old. shielded models w m id (λ f. is_set-placed fields value_of sets f i) (drafted-placed models fields value_of sets old i) in
     by_places ∙ ap (remade_cells models w m id) placed
 
 pub updates : (app : App) (ctx : Ctx) (name : List ℕ) (e : Expression) (sets : List Assigned) (pc : List (ℕ × Bool)) (m : ℕ) (start old new : State) (env : List (List ℕ × Shape Value)) (out : List (List (ℕ × Bool) × Piece))
@@ -85,7 +85,7 @@ updates app ctx name e sets pc m start old new env out target put none place sam
     let k = setting_at app ctx w in
     let r : Run = run_at w (faceted start env out) in
     let placed : placed_sets (fields_at models m) (λ x. value_in k x r) sets ≡ sets_at w put =
-        ap (λ (value_of : Expression → Value). placed_sets (fields_at models m) value_of sets) (values_here app ctx start env out w none) ∙ sym (puts w held) in
+    ap (λ (value_of : Expression → Value). placed_sets (fields_at models m) value_of sets) (values_here app ctx start env out w none) ∙ sym (puts w held) in
     let remade : (id : ℕ) → updated_cells k m id sets r ≡ remade_cells models w m id (sets_at w put) = λ id. cells_remade models w m id (λ x. value_in k x r) sets (sets_at w put) placed in
     ap (λ p. updated k p (value_in k e r) sets r) place
     ∙ ap (λ v. record r { tables = tables_after m v (λ id rows. changed id (updated_cells k m id sets r) rows) r.tables }) (sym (value_here app ctx start env out e w none) ∙ sym (means w held))
@@ -122,9 +122,9 @@ make_runs app ctx m site sets pc start old new env out cells can_hold few_sites 
     let of_model : model_of_id id ≡ m = id_model ctx.number site m few_sites few_models in
     let made : number_of_id id < n = subst (λ (x : ℕ). x < n) (sym (id_number ctx.number site m few_sites few_models)) (may (wanted pc) can_hold).numbered in
     let absent : (w : ℕ → Bool) → holds w pc ≡ true → stands (record_with id (rows_of (project_at w old).tables (model_of_id id))) ≡ false = λ w held.
-        ap (λ (s : State). stands (record_with id (rows_of (project_at w s).tables (model_of_id id)))) same
-        ∙ ap (λ (x : ℕ). stands (record_with id (rows_of (project_at w start).tables x))) of_model
-        ∙ (may w held).absent in
+    ap (λ (s : State). stands (record_with id (rows_of (project_at w s).tables (model_of_id id)))) same
+    ∙ ap (λ (x : ℕ). stands (record_with id (rows_of (project_at w start).tables x))) of_model
+    ∙ (may w held).absent in
     written_ran n (λ w. tables_made models w (model_of_id id) id (all_at w cells)) (λ w r. with_record m (plain_row id (created_cells (setting_at app ctx w) m id sets r)) r)
     pc start old new env out same
     (λ w held.
@@ -149,7 +149,7 @@ pub makes : (app : App) (ctx : Ctx) (name : List ℕ) (m site : ℕ) (sets : Lis
 makes app ctx name m site sets body pc start old mid new env env2 out out2 cells made can_hold few_sites few_models none same drafts create is named =
     let id = record_id ctx.number site m in
     let after : Runs (named_at app ctx name (λ w. value.Ref (Some id)) body) (MayNameAt app ctx name (λ w. value.Ref (Some id)) body) (λ w. holds w pc) (faceted mid env out) (faceted new env2 out2) =
-        subst (λ (f : Shape Value). Runs (named_at app ctx name (λ w. at w f) body) (MayNameAt app ctx name (λ w. at w f) body) (λ w. holds w pc) (faceted mid env out) (faceted new env2 out2)) is named in
+    subst (λ (f : Shape Value). Runs (named_at app ctx name (λ w. at w f) body) (MayNameAt app ctx name (λ w. at w f) body) (λ w. holds w pc) (faceted mid env out) (faceted new env2 out2)) is named in
     then_runs (λ w r. with_record m (plain_row id (created_cells (setting_at app ctx w) m id sets r)) r) (named_at app ctx name (λ w. value.Ref (Some id)) body)
     (λ n w r. IsNew n ctx.number id (rows_of r.tables m)) (MayNameAt app ctx name (λ w. value.Ref (Some id)) body) (λ w. holds w pc)
     (faceted start env out) (faceted mid env out) (faceted new env2 out2)

@@ -44,7 +44,9 @@ pub(crate) fn read_sets<K: Keeper, L: Ledger>(
     let mut sets = Vec::new(alloc);
     let mut left = cells;
     'cells: while let Publics::More(first, rest) = left {
-        read_set(alloc, work, app, ctx, env, pc, model, first, &mut sets, splits)?;
+        read_set(
+            alloc, work, app, ctx, env, pc, model, first, &mut sets, splits,
+        )?;
         left = rest;
     }
     Ok(Sets::from_vec(sets))

@@ -12,7 +12,8 @@ returns-then-eq-clause-place c =
 pub bindings-preserved : goal.bindings-preserved
 bindings-preserved c =
     let long : length c.bindings.rest.now ≡ length c.in-Some.outer.now + 1 =
-        ap length c.in-Some.ensures.cases.0 ∙ length-append c.in-Some.outer.now (c.in-Some.binding.now ∷ []) in
-    (sym (ap (last_place c.args.name.now) c.in-Some.ensures.cases.0 ∙ place_passed c.args.name.now c.in-Some.outer.now c.in-Some.binding.now (sym c.eq.ensures ∙ c.if-eq.false))
-    ∙ c.bindings.invariant.0,
-    omega (arith, long, c.bindings.invariant.1))
+    ap length c.in-Some.ensures.cases.0 ∙ length-append c.in-Some.outer.now (c.in-Some.binding.now ∷ []) in (
+      sym (ap (last_place c.args.name.now) c.in-Some.ensures.cases.0 ∙ place_passed c.args.name.now c.in-Some.outer.now c.in-Some.binding.now (sym c.eq.ensures ∙ c.if-eq.false))
+          ∙ c.bindings.invariant.0,
+      omega (arith, long, c.bindings.invariant.1),
+    )

@@ -67,10 +67,10 @@ execute_for-returns-clause-left g t c = λ told.
     let q = question_of c.args.query.now in
     let body = statements_of c.args.body.now in
     let ran : RunsEach (bound_at app ctx q.binders body) (MayBindAt app ctx q.binders body) (live_under c.args.pc.now c.in_ok-answers.answers)
-        (faceted (state_of g.K.Keeper.seen c.tuples.new.work) c.args.env.now c.args.out.now) (faceted (state_of g.K.Keeper.seen c.execute_tuples.new.work) c.execute_tuples.new.env c.execute_tuples.new.out) =
-        subst (λ (ts : List Tuple). RunsEach (bound_at app ctx q.binders body) (MayBindAt app ctx q.binders body) (live_under c.args.pc.now ts)
-        (faceted (state_of g.K.Keeper.seen c.tuples.new.work) c.args.env.now c.args.out.now) (faceted (state_of g.K.Keeper.seen c.execute_tuples.new.work) c.execute_tuples.new.env c.execute_tuples.new.out))
-        c.as_slice-answers.ensures (c.in_ok-execute_tuples.ensures.left told) in
+    (faceted (state_of g.K.Keeper.seen c.tuples.new.work) c.args.env.now c.args.out.now) (faceted (state_of g.K.Keeper.seen c.execute_tuples.new.work) c.execute_tuples.new.env c.execute_tuples.new.out) =
+    subst (λ (ts : List Tuple). RunsEach (bound_at app ctx q.binders body) (MayBindAt app ctx q.binders body) (live_under c.args.pc.now ts)
+    (faceted (state_of g.K.Keeper.seen c.tuples.new.work) c.args.env.now c.args.out.now) (faceted (state_of g.K.Keeper.seen c.execute_tuples.new.work) c.execute_tuples.new.env c.execute_tuples.new.out))
+    c.as_slice-answers.ensures (c.in_ok-execute_tuples.ensures.left told) in
     repeats app ctx q body c.args.pc.now (state_of g.K.Keeper.seen c.args.work.now) (state_of g.K.Keeper.seen c.tuples.new.work) (state_of g.K.Keeper.seen c.execute_tuples.new.work)
     c.args.env.now c.execute_tuples.new.env c.args.out.now c.execute_tuples.new.out c.in_ok-answers.answers c.requires.no_record (c.in_ok-answers.ensures.reads.same.same_state before)
     (c.in_ok-answers.ensures.answers before) ran
@@ -85,7 +85,7 @@ execute_made-returns-clause-left g t c = λ told.
     let old = state_of g.K.Keeper.seen c.new_cells.new.work in
     let mid = state_of g.K.Keeper.seen c.create.new.work in
     let made : Creates id (λ w. tables_made models w (model_of_id id) id (all_at w c.in_ok-cells.cells)) c.args.pc.now old mid =
-        subst (λ (x : ℕ). Creates x (λ w. tables_made models w (model_of_id x) x (all_at w c.in_ok-cells.cells)) c.args.pc.now old mid) c.id_of-id.ensures (c.in_ok-create.ensures.left at_named) in
+    subst (λ (x : ℕ). Creates x (λ w. tables_made models w (model_of_id x) x (all_at w c.in_ok-cells.cells)) c.args.pc.now old mid) c.id_of-id.ensures (c.in_ok-create.ensures.left at_named) in
     makes app c.args.ctx.now c.args.name.now c.args.model c.args.site (assigned_of c.args.cells.now) (statements_of c.args.body.now) c.args.pc.now
     (state_of g.K.Keeper.seen c.args.work.now) old mid (state_of g.K.Keeper.seen c.execute_named.new.work)
     c.args.env.now c.execute_named.new.env c.args.out.now c.execute_named.new.out c.in_ok-cells.cells c.leaf-made.result
