@@ -1,0 +1,53 @@
+#!/usr/bin/env python3
+"""Copies the libraries that a gate has proved in one clone into another, so that `rt check` there doesn't prove the
+crates below once more. Words: the clone that lacks them, and the one that has them. Takes a library only where its
+text, and that of all below it, is the same in both, and tells which it took. It is an aid for whoever works on a
+crate: the gate itself takes nothing that was kept."""
+import importlib.machinery
+import importlib.util
+import os
+import shutil
+import sys
+
+RT = os.path.realpath(shutil.which('rt'))
+
+
+def load():
+    loader = importlib.machinery.SourceFileLoader('rt_main', RT)
+    module = importlib.util.module_from_spec(importlib.util.spec_from_loader('rt_main', loader))
+    loader.exec_module(module)
+    make = module.rtlib.Crate.__init__
+
+    def with_files(crate, *given, **named):
+        make(crate, *given, **named)
+        module.read_files(crate)
+
+    module.rtlib.Crate.__init__ = with_files
+    return module.rtlib
+
+
+def crates(rtlib, top):
+    os.chdir(top)
+    return {crate.name: crate for crate in rtlib.crates_below(top)}
+
+
+def stock(rtlib, top, source):
+    have = crates(rtlib, source)
+    stamps = {name: crate.stamp() for name, crate in have.items()}
+    lack = crates(rtlib, top)
+    for name in sorted(lack, key=lambda name: len(lack[name].below())):
+        crate = lack[name]
+        same = name in have and stamps[name] == crate.stamp() and os.path.isdir(have[name].rlib)
+        if crate.is_built() or not same or not all(below.is_built() for below in crate.below()):
+            continue
+        into = os.path.join(crate.folder, 'out', 'rlib')
+        shutil.rmtree(into, ignore_errors=True)
+        shutil.copytree(os.path.join(have[name].folder, 'out', 'rlib'), into, symlinks=True)
+        with open(os.path.join(into, 'stamp'), 'w', encoding='utf-8') as file:
+            file.write(stamps[name])
+        print(name)
+
+
+if __name__ == '__main__':
+    sys.dont_write_bytecode = True
+    stock(load(), *(os.path.abspath(word) for word in sys.argv[1:3]))
