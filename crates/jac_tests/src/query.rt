@@ -128,7 +128,7 @@ fn run_steps<L: Ledger>(rt: &impl Abort, alloc: Global, blank: Blank) -> Result<
     Ok(())
 }
 
-fn run_totals<L: Ledger>(rt: &impl Abort, alloc: Global, blank: Blank) -> Result<(), Fail>
+fn run_folds<L: Ledger>(rt: &impl Abort, alloc: Global, blank: Blank) -> Result<(), Fail>
     requires name { blank.name ≡ L.name }
     requires parts { blank.parts ≡ L.parts }
     requires some { 0 < blank.parts }
@@ -140,30 +140,11 @@ fn run_totals<L: Ledger>(rt: &impl Abort, alloc: Global, blank: Blank) -> Result
     let terms = two_facets(alloc, leaf(Value::Int(5)), leaf(Value::Int(7)))?;
     let sum = fold_sum(alloc, &tuples, &terms, &mut steps)?;
     assert!(rt; shows(alloc, &sum, &Value::Int(12), &Value::Int(7))?);
-    Ok(())
-}
-
-fn run_choices<L: Ledger>(rt: &impl Abort, alloc: Global, blank: Blank) -> Result<(), Fail>
-    requires name { blank.name ≡ L.name }
-    requires parts { blank.parts ≡ L.parts }
-    requires some { 0 < blank.parts }
-{
-    let mut steps: Steps<L> = Steps::new(blank);
-    let tuples = two_tuples(alloc, guard(alloc, true)?)?;
     let exists = fold_exists(alloc, &tuples, &mut steps)?;
     assert!(rt; shows(alloc, &exists, &Value::Bool(true), &Value::Bool(true))?);
     let one = first(alloc, &tuples, &mut steps)?;
     let (shown, hidden) = (Value::Ref(Some(Id(4096))), Value::Ref(Some(Id(8192))));
     assert!(rt; shows(alloc, &one, &shown, &hidden)?);
-    Ok(())
-}
-
-fn run_cells<L: Ledger>(rt: &impl Abort, alloc: Global, blank: Blank) -> Result<(), Fail>
-    requires name { blank.name ≡ L.name }
-    requires parts { blank.parts ≡ L.parts }
-    requires some { 0 < blank.parts }
-{
-    let mut steps: Steps<L> = Steps::new(blank);
     let rows = [row(alloc, 12289, true, 1)?, row(alloc, 12289, false, 2)?];
     let value = read_field(alloc, &rows, 0, &Value::Int(0), &mut steps)?;
     assert!(rt; shows(alloc, &value, &Value::Int(1), &Value::Int(2))?);
@@ -176,18 +157,8 @@ fn tuples_are_kept_and_sorted(rt: HostRuntime) -> Result<(), Fail> {
 }
 
 #[test]
-fn tuples_are_counted_and_summed(rt: HostRuntime) -> Result<(), Fail> {
-    run_totals::<Brand>(&rt, rt.alloc(), Blank::new(1))
-}
-
-#[test]
-fn a_tuple_is_chosen(rt: HostRuntime) -> Result<(), Fail> {
-    run_choices::<Brand>(&rt, rt.alloc(), Blank::new(1))
-}
-
-#[test]
-fn a_field_is_read(rt: HostRuntime) -> Result<(), Fail> {
-    run_cells::<Brand>(&rt, rt.alloc(), Blank::new(1))
+fn tuples_are_asked(rt: HostRuntime) -> Result<(), Fail> {
+    run_folds::<Brand>(&rt, rt.alloc(), Blank::new(1))
 }
 
 #[test]
