@@ -22,7 +22,7 @@ Above id rest = StartsAboveBy (λ (a : Alteration). a.id) id rest
 abbrev pub placed_if : Bool → ℕ → List Row → List Row → List Row
 placed_if test id new rows = if test then placed id new rows else rows
 
-above-less : (a b : ℕ) (rest : List Alteration) → a < b → Above b rest → Above a rest
+pub above-less : (a b : ℕ) (rest : List Alteration) → a < b → Above b rest → Above a rest
 above-less a b [] h above = above
 above-less a b (x ∷ xs) h above = omega (arith, h, above)
 
@@ -47,13 +47,13 @@ placed_if-again false id new old rows own = refl
 placed_if-again true id new old rows own = placed-again id new old rows own
 
 -- where one more alteration comes to stand
-renamed-less : (id : ℕ) (new : List Row) (a : Alteration) (rest : List Alteration) → a.id < id → renamed id new (a ∷ rest) ≡ a ∷ renamed id new rest
+pub renamed-less : (id : ℕ) (new : List Row) (a : Alteration) (rest : List Alteration) → a.id < id → renamed id new (a ∷ rest) ≡ a ∷ renamed id new rest
 renamed-less id new a rest h = grind (arith, h)
 
 renamed-same : (id : ℕ) (new : List Row) (a : Alteration) (rest : List Alteration) → a.id ≡ id → renamed id new (a ∷ rest) ≡ record { id = id; rows = new } ∷ rest
 renamed-same id new a rest h = grind (arith, h)
 
-renamed-more : (id : ℕ) (new : List Row) (a : Alteration) (rest : List Alteration) → id < a.id → renamed id new (a ∷ rest) ≡ record { id = id; rows = new } ∷ a ∷ rest
+pub renamed-more : (id : ℕ) (new : List Row) (a : Alteration) (rest : List Alteration) → id < a.id → renamed id new (a ∷ rest) ≡ record { id = id; rows = new } ∷ a ∷ rest
 renamed-more id new a rest h = grind (arith, h)
 
 -- a number is less than another, equal to it or greater
@@ -91,7 +91,7 @@ altered-renamed model id new (a ∷ rest) rows rises own own_new =
     ]
 
 -- a record before all that are named isn't named
-named-above : (id : ℕ) (rest : List Alteration) → Above id rest → Rises rest → named id rest ≡ None
+pub named-above : (id : ℕ) (rest : List Alteration) → Above id rest → Rises rest → named id rest ≡ None
 named-above id [] above rises = refl
 named-above id (a ∷ rest) above rises =
     let ih : named id rest ≡ None = named-above id rest (above-less id a.id rest above rises.0) rises.1 in

@@ -1,5 +1,5 @@
 -- what a sound state gives, and what keeps it sound
-use Rattle.std.proofs.Common.{◌≡◌, ℕ, suc, ◌+◌, ◌<◌, ◌≤◌, ◌^◌, ◌==◌, nat_lt, Bool, true, false, if◌then◌else◌, List, [], ◌∷◌, ◌++◌, length, get_or, drop, drop-cons, refl, sym, ap, ◌∙◌, arith}
+use Rattle.std.proofs.Common.{◌≡◌, ℕ, zero, suc, ◌+◌, ◌<◌, ◌≤◌, ◌^◌, ◌==◌, nat_lt, Bool, true, false, if◌then◌else◌, List, [], ◌∷◌, ◌++◌, refl, arith}
 use Rattle.std.specs.List.{AllByRecursion}
 use Rattle.jac_value.specs.Ids.{model_of_id}
 use Rattle.jac_rows.specs.Apart.{IsBefore}
@@ -12,6 +12,7 @@ use Rattle.jac_keep.specs.declared.alteration.Change.{Change}
 use Rattle.jac_keep.specs.Records.{with_id, before, behind, placed}
 use Rattle.jac_keep.specs.Kept.{applied, state_with}
 use Rattle.jac_value.specs.declared.value.Kind.{Kind}
+use Rattle.jac_rows.specs.Tables.{rows_of}
 use Rattle.jac_rows.specs.Good.{IsMade, AreRising, AreSound, IsSound, IsRecord, AreGuarded, IsGoodByGuards}
 use Rattle.jac_keep.proofs.AlteringLaws.{placed_if}
 
@@ -23,13 +24,15 @@ sound_tables next model (t ∷ ts) sound = (sound.0, sound_tables next (model + 
 pub tables_of_sound : (s : State) → IsSound s → AreTables s.tables
 tables_of_sound s sound = sound_tables s.number 0 s.tables sound.tables
 
--- the table of a model after the alterations, where the tables after them are tables
-pub altered_table : (model : ℕ) (changed : List Alteration) (tables : List (List Row)) (t : List Row) → model < length tables → t ≡ get_or tables model t
-    → AreTables (overlaid_from model changed (drop model tables)) → AreRising (altered model changed t)
-altered_table model changed tables t h is sound =
-    let here : drop model tables ≡ t ∷ drop (suc model) tables = drop-cons tables model t h ∙ ap (λ x. x ∷ drop (suc model) tables) (sym is) in
-    let parts : AreTables (overlaid_from model changed (t ∷ drop (suc model) tables)) = rw here at sound in
-    parts.0
+-- the rows of a model in tables
+tables_rise : (tables : List (List Row)) (model : ℕ) → AreTables tables → AreRising (rows_of tables model)
+tables_rise [] zero rising = tt
+tables_rise [] (suc model) rising = tt
+tables_rise (t ∷ tables) zero rising = rising.0
+tables_rise (t ∷ tables) (suc model) rising = tables_rise tables model rising.1
+
+pub rows_of_sound : (s : State) (model : ℕ) → IsSound s → AreRising (rows_of s.tables model)
+rows_of_sound s model sound = tables_rise s.tables model (tables_of_sound s sound)
 
 abbrev Before : Row → List Row → Type 0
 Before x ys = IsBefore (λ (r : Row). r.id) (λ r. r.guard) x ys
@@ -70,11 +73,11 @@ all-if : (P : Row → Type 0) (b : Bool) (x : Row) (xs : List Row) → P x → A
 all-if P true x xs h rest = (h, rest)
 all-if P false x xs h rest = rest
 
-all-with_id : (P : Row → Type 0) (test : ℕ → Bool) (xs : List Row) → AllByRecursion P xs → AllByRecursion P (with_id test xs)
+pub all-with_id : (P : Row → Type 0) (test : ℕ → Bool) (xs : List Row) → AllByRecursion P xs → AllByRecursion P (with_id test xs)
 all-with_id P test [] a = tt
 all-with_id P test (x ∷ xs) a = all-if P (test x.id) x (with_id test xs) a.0 (all-with_id P test xs a.1)
 
-all-append : (P : Row → Type 0) (xs ys : List Row) → AllByRecursion P xs → AllByRecursion P ys → AllByRecursion P (xs ++ ys)
+pub all-append : (P : Row → Type 0) (xs ys : List Row) → AllByRecursion P xs → AllByRecursion P ys → AllByRecursion P (xs ++ ys)
 all-append P [] ys a b = b
 all-append P (x ∷ xs) ys a b = (a.0, all-append P xs ys a.1 b)
 
@@ -89,15 +92,15 @@ lt_of_test a b e = grind (arith, e)
 le_of_test : (a b : ℕ) → nat_lt a b ≡ true → a + 1 ≤ b
 le_of_test a b e = grind (arith, e)
 
-less-before : (id : ℕ) (rows : List Row) → AllByRecursion (λ (r : Row). r.id < id) (before id rows)
+pub less-before : (id : ℕ) (rows : List Row) → AllByRecursion (λ (r : Row). r.id < id) (before id rows)
 less-before id [] = tt
 less-before id (r ∷ rows) = passing-if (λ (x : Row). x.id < id) (nat_lt r.id id) r (before id rows) (λ e. lt_of_test r.id id e) (less-before id rows)
 
-greater-behind : (id : ℕ) (rows : List Row) → AllByRecursion (λ (r : Row). id + 1 ≤ r.id) (behind id rows)
+pub greater-behind : (id : ℕ) (rows : List Row) → AllByRecursion (λ (r : Row). id + 1 ≤ r.id) (behind id rows)
 greater-behind id [] = tt
 greater-behind id (r ∷ rows) = passing-if (λ (x : Row). id + 1 ≤ x.id) (nat_lt id r.id) r (behind id rows) (λ e. le_of_test id r.id e) (greater-behind id rows)
 
-all-mapped : (P Q : Row → Type 0) (xs : List Row) → ((x : Row) → P x → Q x) → AllByRecursion P xs → AllByRecursion Q xs
+pub all-mapped : (P Q : Row → Type 0) (xs : List Row) → ((x : Row) → P x → Q x) → AllByRecursion P xs → AllByRecursion Q xs
 all-mapped P Q [] f a = tt
 all-mapped P Q (x ∷ xs) f a = (f x a.0, all-mapped P Q xs f a.1)
 

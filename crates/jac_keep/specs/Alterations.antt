@@ -1,5 +1,5 @@
 -- records with all their new alternatives
-use Rattle.std.specs.Prelude.{ℕ, ◌+◌, ◌<◌, ◌==◌, nat_lt, if◌then◌else◌, List, [], ◌∷◌, ⊤, Option, Some, None}
+use Rattle.std.specs.Prelude.{ℕ, ◌+◌, ◌<◌, ◌==◌, nat_lt, if◌then◌else◌, List, [], ◌∷◌, length, ⊤, Option, Some, None}
 use Rattle.jac_value.specs.Ids.{model_of_id}
 use Rattle.jac_world.specs.World.{IsRisingBy}
 use Rattle.jac_rows.specs.declared.row.Row.{Row}
@@ -34,6 +34,21 @@ abbrev pub altered : ℕ → List Alteration → List Row → List Row
 altered model [] rows = rows
 altered model (a ∷ rest) rows =
     altered model rest (if model_of_id a.id == model then placed a.id a.rows rows else rows)
+
+-- the alterations of a model's records
+abbrev pub of_model : ℕ → List Alteration → List Alteration
+of_model model [] = []
+of_model model (a ∷ rest) = if model_of_id a.id == model then a ∷ of_model model rest else of_model model rest
+
+-- rows after alterations of them
+abbrev pub placed_each : List Alteration → List Row → List Row
+placed_each [] rows = rows
+placed_each (a ∷ rest) rows = placed_each rest (placed a.id a.rows rows)
+
+-- how many rows alterations bring
+abbrev pub brought : List Alteration → ℕ
+brought [] = 0
+brought (a ∷ rest) = length a.rows + brought rest
 
 -- the tables after the alterations, from the table of a model on
 abbrev pub overlaid_from : ℕ → List Alteration → List (List Row) → List (List Row)

@@ -6,3 +6,4 @@ pub mod KeeperSeen
 pub mod Worked
 pub mod Sound
 pub mod KeeperState
+pub mod Opened

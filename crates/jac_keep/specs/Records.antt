@@ -1,5 +1,6 @@
 -- the rows of a table by their ids
-use Rattle.std.specs.Prelude.{◌≡◌, ℕ, Bool, ◌==◌, nat_lt, if◌then◌else◌, List, [], ◌∷◌, ◌++◌, ⊤}
+use Rattle.std.specs.Prelude.{◌≡◌, ◌≤◌, ℕ, Bool, true, false, ◌==◌, nat_lt, if◌then◌else◌, List, [], ◌∷◌, ◌++◌, ⊤}
+use Rattle.std.specs.List.{AllByRecursion}
 use Rattle.jac_rows.specs.declared.row.Row.{Row}
 
 -- the rows whose ids pass the test, in their order
@@ -26,3 +27,13 @@ placed id new rows = before id rows ++ new ++ behind id rows
 abbrev pub AreOf : ℕ → List Row → Type 0
 AreOf id [] = ⊤
 AreOf id (r ∷ rs) = (r.id ≡ id) × AreOf id rs
+
+-- the ids don't fall
+abbrev pub AreOrdered : List Row → Type 0
+AreOrdered [] = ⊤
+AreOrdered (r ∷ rs) = AllByRecursion (λ (x : Row). r.id ≤ x.id) rs × AreOrdered rs
+
+-- whether the ids start at the number or above it, and don't fall
+abbrev pub are_in_order : ℕ → List Row → Bool
+are_in_order least [] = true
+are_in_order least (r ∷ rs) = if nat_lt r.id least then false else are_in_order r.id rs

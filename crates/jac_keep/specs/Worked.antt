@@ -1,5 +1,5 @@
 -- a work as one state, and what its calls keep
-use Rattle.std.specs.Prelude.{◌≡◌, Bool, IsTrue, length, Result, IsErrOf}
+use Rattle.std.specs.Prelude.{◌≡◌, IsTrue, length, Result, IsErrOf}
 use Rattle.jac_io.specs.Faults.{Rose}
 use Rattle.jac_rows.specs.declared.state.State.{State}
 use Rattle.jac_keep.specs.declared.alteration.Alterations.{Alterations}

@@ -1,6 +1,10 @@
-ghost use Rattle.std.specs.Prelude.{◌≡◌, ◌<◌, ◌≤◌, ℕ, List, [], length, All, insert, slice_set, IfOk, OnOk, OnErr, MatchResult};
+ghost use Rattle.std.specs.Prelude.{◌≡◌, ◌<◌, ◌≤◌, ℕ, List, [], Some, None, true, false, nat_lt, length, All, insert, slice_set, IfOk, OnOk, OnErr, MatchResult};
 ghost use Rattle.std.specs.Option.{option_copied};
+ghost use Rattle.std.specs.List.{HoldsAt};
+ghost use Rattle.std.specs.List.Sorted.{IsPartitionPoint};
+ghost use Rattle.jac_world.specs.World.{IsRisingBy};
 ghost use Rattle.jac_rows.specs.declared.row.Row.{Row as Seen};
+ghost use Rattle.jac_keep.specs.declared.alteration.Alteration.{Alteration as Named};
 ghost use Rattle.jac_keep.specs.Alterations.{AreApart, named, renamed, altered};
 
 use crate::placing::alter_rows;
@@ -92,12 +96,10 @@ impl Alterations {
         ensures apart { AreApart self.now }
     {
         let items = self.changed.as_slice();
-        'changed: for alteration in items {
-            if alteration.id == id {
-                return Some(&alteration.rows);
-            }
+        match place_of(items, id) {
+            Ok(at) => Some(&items[at].rows),
+            Err(_) => None,
         }
-        None
     }
 
     /// Names the record, in place of its earlier alteration if there is one.
@@ -123,6 +125,7 @@ impl Alterations {
 
 // Names the record, in place of its earlier alteration if there is one.
 fn put_in(changed: &mut Vec<Alteration>, id: Id, rows: Rows) -> Result<(), Memory>
+    requires { IsRisingBy (λ (a : Named). a.id) changed.old.items }
     ensures ok { OnOk result (changed.new.items ≡ renamed id rows changed.old.items) }
     ensures err { OnErr result (changed.new.items ≡ changed.old.items) }
 {
@@ -135,18 +138,25 @@ fn put_in(changed: &mut Vec<Alteration>, id: Id, rows: Rows) -> Result<(), Memor
 
 // Where the record's alteration stands, or where it would.
 fn place_of(items: &[Alteration], id: Id) -> Result<usize, usize>
+    requires { IsRisingBy (λ (a : Named). a.id) items.now }
     ensures within { MatchResult result (λ at. at < length items.now) (λ at. at ≤ length items.now) }
     ensures place { MatchResult result (λ at. (rows : List Seen) → renamed id rows items.now ≡ slice_set items.now at (record { id = id; rows = rows })) (λ at. (rows : List Seen) → renamed id rows items.now ≡ insert items.now at (record { id = id; rows = rows })) }
+    ensures named { MatchResult result (λ at. HoldsAt (λ (a : Named). named id items.now ≡ Some a.rows) items.now at) (λ _. named id items.now ≡ None) }
 {
-    'items: for (at, alteration) in items.iter().enumerate() {
-        if alteration.id == id {
-            return Ok(at);
-        }
-        if id < alteration.id {
-            return Err(at);
-        }
+    let at = count_below(items, id);
+    if at == items.len() {
+        return Err(at);
     }
-    Err(items.len())
+    if items[at].id == id { Ok(at) } else { Err(at) }
+}
+
+// How many alterations have lesser ids.
+fn count_below(items: &[Alteration], id: Id) -> usize
+    requires { IsRisingBy (λ (a : Named). a.id) items.now }
+    ensures within { result ≤ length items.now }
+    ensures point { IsPartitionPoint (λ (a : Named). nat_lt a.id id ≡ true) (λ a. nat_lt a.id id ≡ false) items.now result }
+{
+    items.partition_point(|alteration| alteration.id < id)
 }
 
 /// What a request leaves: the records that it altered, and the next number.

@@ -2,10 +2,14 @@
 #![tactic(auto)]
 
 mod alteration;
+mod exchange;
 mod keeper;
 mod laws;
 mod memory_keeper;
+mod opening;
+mod places;
 mod placing;
+mod splitting;
 mod stop;
 mod work;
 

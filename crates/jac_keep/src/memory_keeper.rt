@@ -1,17 +1,17 @@
 ghost use Rattle.std.specs.Prelude.{◌≡◌, ◌≤◌, ◌^◌, ◌↔◌, ◌++◌, ◌∷◌, [], true, IfOk, OnOk, OnErr, IsTrue, IsErrOf};
 ghost use Rattle.jac_value.specs.Ids.{model_of_id};
-ghost use Rattle.jac_keep.specs.Sound.{AreTables};
 ghost use Rattle.jac_rows.specs.Good.{IsSound};
 ghost use Rattle.jac_rows.specs.Tables.{rows_of};
 ghost use Rattle.jac_keep.specs.Records.{alternatives};
-ghost use Rattle.jac_keep.specs.Alterations.{overlaid};
 ghost use Rattle.jac_keep.specs.Cause.{HasCause};
 ghost use Rattle.jac_keep.specs.KeeperSeen.{Keeps, Reads};
 ghost use Rattle.jac_keep.specs.Kept.{applied};
 
+use crate::opening::alter_tables;
+use crate::places::place_in;
 use crate::{Alterations, Change, Keeper, Stop};
 use jac_io::Calls;
-use jac_rows::{Row, Rows, State, Table, Tables};
+use jac_rows::{Row, Rows, State};
 use jac_value::{Id, Memory, id_model};
 use std::alloc::Global;
 use std::marker::Model;
@@ -116,7 +116,7 @@ impl Keeper for MemoryKeeper {
         ensures reads { Reads (seen_keeper self.old) (seen_keeper self.new) result }
     {
         self.count_read()?;
-        let rows = copy_of(alloc, self.state.tables.rows(id_model(id)), id)?;
+        let rows = copy_of(alloc, &self.state, id)?;
         Ok(rows)
     }
 
@@ -133,11 +133,8 @@ impl Keeper for MemoryKeeper {
             self.faults = self.faults.saturating_add(1);
             return Err(Stop::Keeper);
         }
-        let tables = altered_tables(alloc, &self.state.tables, &change.changed)?;
-        self.state = State {
-            tables,
-            number: change.number,
-        };
+        alter_tables(alloc, &mut self.state.tables, &change.changed)?;
+        self.state.number = change.number;
         Ok(())
     }
 }
@@ -155,39 +152,13 @@ fn copy_rows(alloc: Global, rows: &[Row]) -> Result<Rows, Memory>
 }
 
 // Copies of the rows of the record.
-fn copy_of(alloc: Global, rows: &[Row], id: Id) -> Result<Rows, Memory>
-    ensures { IfOk result (λ r. r ≡ alternatives id rows.now) }
+fn copy_of(alloc: Global, state: &State, id: Id) -> Result<Rows, Memory>
+    requires { IsSound state.now }
+    ensures { IfOk result (λ r. r ≡ alternatives id (rows_of state.now.tables (model_of_id id))) }
 {
-    let mut copies = Vec::new(alloc);
-    'rows: for row in rows {
-        add_if_of(alloc, &mut copies, row, id)?;
-    }
-    Ok(Rows::from_vec(copies))
-}
-
-// Adds a copy of the row if it is an alternative of the record.
-fn add_if_of(alloc: Global, copies: &mut Vec<Row>, row: &Row, id: Id) -> Result<(), Memory>
-    ensures { OnOk result (copies.new.items ≡ copies.old.items ++ alternatives id (row.now ∷ [])) }
-{
-    if row.id == id {
-        let row = row.copy(alloc)?;
-        copies.push(row)?;
-    }
-    Ok(())
-}
-
-// The tables after the alterations.
-fn altered_tables(alloc: Global, tables: &Tables, changed: &Alterations) -> Result<Tables, Memory>
-    requires { AreTables (overlaid changed.now tables.now) }
-    ensures { IfOk result (λ t. t ≡ overlaid changed.now tables.now) }
-{
-    let old = tables.as_slice();
-    let mut new = Vec::new(alloc);
-    'tables: for (model, table) in old.iter().enumerate() {
-        let rows = copy_rows(alloc, table.as_slice())?;
-        let rows = changed.alter(alloc, model, rows)?;
-        let table = Table::from_vec(rows.into_vec());
-        new.push(table)?;
-    }
-    Ok(Tables::from_vec(new))
+    let rows = state.tables.rows(id_model(id));
+    let place = place_in(rows, id);
+    let (_, from) = rows.split_at(place.start);
+    let (own, _) = from.split_at(place.count);
+    copy_rows(alloc, own)
 }

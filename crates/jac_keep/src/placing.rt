@@ -1,10 +1,11 @@
-//! Rows in place of a record's alternatives.
-ghost use Rattle.std.specs.Prelude.{◌≡◌, ◌==◌, ◌++◌, ◌∷◌, [], if◌then◌else◌, IfOk, OnOk};
-ghost use Rattle.jac_value.specs.Ids.{model_of_id};
-ghost use Rattle.jac_keep.specs.Records.{before, behind, placed};
-ghost use Rattle.jac_keep.specs.Alterations.{altered};
+//! Alterations put in place among rows by rising id.
+ghost use Rattle.std.specs.Prelude.{◌≡◌, ◌+◌, ◌≤◌, ◌++◌, ◌∷◌, [], vec_len, vec_capacity, IfOk, OnOk};
+ghost use Rattle.jac_keep.specs.Records.{AreOrdered, are_in_order};
+ghost use Rattle.jac_keep.specs.Alterations.{AreOwn, altered, of_model, placed_each, brought};
 
 use crate::Alteration;
+use crate::exchange::place;
+use crate::splitting::alter_any;
 use jac_rows::Row;
 use jac_value::{Id, Memory, id_model};
 use std::alloc::Global;
@@ -16,76 +17,114 @@ pub fn alter_rows(
     model: usize,
     rows: Vec<Row>,
 ) -> Result<Vec<Row>, Memory>
+    requires { AreOwn changed.now }
     ensures { IfOk result (λ v. v.items ≡ altered model changed.now rows.items) }
 {
-    let mut left = rows;
-    'changed: for alteration in changed {
-        let next = alter_if(alloc, alteration, model, left)?;
-        left = next;
+    if is_in_order(rows.as_slice()) {
+        alter_ordered(alloc, changed, model, rows)
+    } else {
+        alter_any(alloc, changed, model, rows)
     }
-    Ok(left)
 }
 
-// The rows of a model after one alteration, of whatever model.
-fn alter_if(
+// Whether the ids don't fall.
+fn is_in_order(rows: &[Row]) -> bool
+    ensures { result ≡ are_in_order 0 rows.now }
+{
+    let mut last = Id(0);
+    'rows: for row in rows {
+        if row.id < last {
+            return false;
+        }
+        last = row.id;
+    }
+    true
+}
+
+// The same, of rows whose ids don't fall.
+fn alter_ordered(
     alloc: Global,
-    alteration: &Alteration,
+    changed: &[Alteration],
     model: usize,
     rows: Vec<Row>,
 ) -> Result<Vec<Row>, Memory>
-    ensures { IfOk result (λ v. v.items ≡ (if model_of_id alteration.now.id == model then placed alteration.now.id alteration.now.rows rows.items else rows.items)) }
+    requires ordered { AreOrdered rows.items }
+    requires own { AreOwn changed.now }
+    ensures { IfOk result (λ v. v.items ≡ altered model changed.now rows.items) }
+{
+    let mut rows = rows;
+    let news = prepare(alloc, &mut rows, model, changed)?;
+    Ok(place_each(rows, news))
+}
+
+/// Copies of the alterations of the model's records, with room for their rows.
+pub fn prepare(
+    alloc: Global,
+    rows: &mut Vec<Row>,
+    model: usize,
+    changed: &[Alteration],
+) -> Result<Vec<Alteration>, Memory>
+    ensures rows { rows.new.items ≡ rows.old.items }
+    ensures news { IfOk result (λ v. v.items ≡ of_model model changed.now) }
+    ensures room { IfOk result (λ v. vec_len rows.new + brought v.items ≤ vec_capacity rows.new) }
+{
+    let news = copies_of(alloc, model, changed)?;
+    let count = count_brought(news.as_slice())?;
+    rows.reserve(count)?;
+    Ok(news)
+}
+
+// Copies of the alterations of the model's records.
+fn copies_of(alloc: Global, model: usize, changed: &[Alteration]) -> Result<Vec<Alteration>, Memory>
+    ensures { IfOk result (λ v. v.items ≡ of_model model changed.now) }
+{
+    let mut copies = Vec::new(alloc);
+    'changed: for alteration in changed {
+        add_if_of(alloc, &mut copies, model, alteration)?;
+    }
+    Ok(copies)
+}
+
+// Adds a copy of the alteration if its record is of the model.
+fn add_if_of(
+    alloc: Global,
+    copies: &mut Vec<Alteration>,
+    model: usize,
+    alteration: &Alteration,
+) -> Result<(), Memory>
+    ensures { OnOk result (copies.new.items ≡ copies.old.items ++ of_model model (alteration.now ∷ [])) }
 {
     if usize::from(id_model(alteration.id)) == model {
-        let rows = place_rows(alloc, alteration.id, alteration.rows.as_slice(), rows)?;
-        Ok(rows)
-    } else {
-        Ok(rows)
-    }
-}
-
-// The rows with these in place of the record's alternatives.
-fn place_rows(alloc: Global, id: Id, new: &[Row], rows: Vec<Row>) -> Result<Vec<Row>, Memory>
-    ensures { IfOk result (λ v. v.items ≡ placed id new.now rows.items) }
-{
-    let (mut low, mut high) = split_rows(alloc, id, rows)?;
-    add_copies(alloc, &mut low, new)?;
-    low.append(&mut high)?;
-    Ok(low)
-}
-
-// The rows before and behind a record's place.
-fn split_rows(alloc: Global, id: Id, rows: Vec<Row>) -> Result<(Vec<Row>, Vec<Row>), Memory>
-    ensures low { IfOk result (λ p. p.0.items ≡ before id rows.items) }
-    ensures high { IfOk result (λ p. p.1.items ≡ behind id rows.items) }
-{
-    let mut low = Vec::new(alloc);
-    let mut high = Vec::new(alloc);
-    'rows: for row in rows {
-        add_row(&mut low, &mut high, id, row)?;
-    }
-    Ok((low, high))
-}
-
-// Adds the row on its side of the record.
-fn add_row(low: &mut Vec<Row>, high: &mut Vec<Row>, id: Id, row: Row) -> Result<(), Memory>
-    ensures low { OnOk result (low.new.items ≡ low.old.items ++ before id (row ∷ [])) }
-    ensures high { OnOk result (high.new.items ≡ high.old.items ++ behind id (row ∷ [])) }
-{
-    if row.id < id {
-        low.push(row)?;
-    } else if id < row.id {
-        high.push(row)?;
+        let copy = alteration.copy(alloc)?;
+        copies.push(copy)?;
     }
     Ok(())
 }
 
-// Adds copies of the rows.
-fn add_copies(alloc: Global, rows: &mut Vec<Row>, new: &[Row]) -> Result<(), Memory>
-    ensures { OnOk result (rows.new.items ≡ rows.old.items ++ new.now) }
+// How many rows the alterations bring.
+fn count_brought(news: &[Alteration]) -> Result<usize, Memory>
+    ensures { IfOk result (λ n. n ≡ brought news.now) }
 {
-    'new: for row in new {
-        let row = row.copy(alloc)?;
-        rows.push(row)?;
+    let mut count: usize = 0;
+    'news: for alteration in news {
+        count = count
+            .checked_add(alteration.rows.as_slice().len())
+            .ok_or(Memory)?;
     }
-    Ok(())
+    Ok(count)
+}
+
+/// The rows after the alterations, for which there is room.
+pub fn place_each(rows: Vec<Row>, news: Vec<Alteration>) -> Vec<Row>
+    requires ordered { AreOrdered rows.items }
+    requires own { AreOwn news.items }
+    requires room { vec_len rows + brought news.items ≤ vec_capacity rows }
+    ensures { result.items ≡ placed_each news.items rows.items }
+{
+    let mut altered = rows;
+    'news: for alteration in news {
+        let Alteration { id, rows } = alteration;
+        place(&mut altered, id, rows.into_vec());
+    }
+    altered
 }

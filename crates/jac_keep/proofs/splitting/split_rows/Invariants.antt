@@ -1,7 +1,7 @@
 use Rattle.std.proofs.Common.{◌≡◌, ◌++◌}
 use Rattle.std.specs.Vec.Iter.{into_iter_items}
 use Rattle.jac_keep.specs.Records.{before, behind}
-use Rattle.jac_keep.proofs.placing.split_rows.Given as goal
+use Rattle.jac_keep.proofs.splitting.split_rows.Given as goal
 
 abbrev pub invariant-rows : goal.invariant-rows
 invariant-rows l =

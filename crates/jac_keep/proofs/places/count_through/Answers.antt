@@ -1,0 +1,19 @@
+use Rattle.std.proofs.Common.{nat_le, rules, of_calls}
+use Rattle.std.proofs.lemmas.List.Sorted.{IsPartitionPoint-from_clause, IsPartitionedBy-leb}
+use Rattle.jac_rows.specs.declared.row.Row.{Row}
+use Rattle.jac_keep.proofs.Bisection.{IsPoint, rows_rise, taken, left}
+use Rattle.jac_keep.proofs.places.count_through.Goals as goal
+
+pub returns-clause-low : goal.returns-clause-low
+returns-clause-low c =
+    let parted = IsPartitionedBy-leb (λ (r : Row). r.id) _ c.args.id (rows_rise _ c.requires) in
+    let point : IsPoint (λ i. nat_le i c.args.id) c.args.rows.now c.partition_point.result =
+    IsPartitionPoint-from_clause (λ (r : Row). nat_le r.id c.args.id) _ _ c.partition_point.ensures.partitioned parted (λ a r q k. search (rules, of_calls)) in
+    taken (λ i. nat_le i c.args.id) c.args.rows.now c.partition_point.result point
+
+pub returns-clause-high : goal.returns-clause-high
+returns-clause-high c =
+    let parted = IsPartitionedBy-leb (λ (r : Row). r.id) _ c.args.id (rows_rise _ c.requires) in
+    let point : IsPoint (λ i. nat_le i c.args.id) c.args.rows.now c.partition_point.result =
+    IsPartitionPoint-from_clause (λ (r : Row). nat_le r.id c.args.id) _ _ c.partition_point.ensures.partitioned parted (λ a r q k. search (rules, of_calls)) in
+    left (λ i. nat_le i c.args.id) c.args.rows.now c.partition_point.result point

@@ -1,0 +1,105 @@
+//! Tables whose rows are taken out, given room, altered and put back.
+ghost use Rattle.std.specs.Prelude.{◌≡◌, ◌+◌, ◌≤◌, ◌++◌, ◌∷◌, [], Bool, if◌then◌else◌, length, vec_len, vec_capacity, IfOk, OnOk, OnErr, IsTrue};
+ghost use Rattle.std.specs.List.{AllByRecursion};
+ghost use Rattle.jac_rows.specs.Good.{AreRising};
+ghost use Rattle.jac_keep.specs.Records.{AreOrdered};
+ghost use Rattle.jac_keep.specs.Alterations.{AreOwn, of_model, placed_each, brought, overlaid};
+ghost use Rattle.jac_keep.specs.Sound.{AreTables};
+ghost use Rattle.jac_keep.specs.Opened.{rows_in, rows_after, IsReady, AreReady, CanPlace};
+
+use crate::placing::{place_each, prepare};
+use crate::{Alteration, Alterations};
+use jac_rows::{Row, Table, Tables};
+use jac_value::Memory;
+use std::alloc::Global;
+use std::mem::replace;
+
+/// The rows of a table, and copies of the alterations of its records.
+#[derive(Drop)]
+pub struct Opened {
+    pub rows: Vec<Row>,
+    pub news: Vec<Alteration>,
+}
+
+/// Alters the tables, all or none of them. All memory is taken before the first row moves, and no row is copied
+/// but those that are new.
+pub fn alter_tables(alloc: Global, tables: &mut Tables, changed: &Alterations) -> Result<(), Memory>
+    requires rising { AreTables tables.old }
+    requires stay { AreTables (overlaid changed.now tables.old) }
+    ensures ok { OnOk result (tables.new ≡ overlaid changed.now tables.old) }
+    ensures err { OnErr result (tables.new ≡ tables.old) }
+{
+    let count = tables.as_slice().len();
+    let opened = Vec::with_capacity(alloc, count)?;
+    let closed = Vec::with_capacity(alloc, count)?;
+    let old = replace(tables, Tables::empty(alloc)).into_vec();
+    let (opened, ready) = open_all(alloc, old, changed.as_slice(), opened);
+    *tables = Tables::from_vec(close_all(opened, ready, closed));
+    if ready { Ok(()) } else { Err(Memory) }
+}
+
+// The tables' rows and copies of the alterations, and whether there was memory for all.
+fn open_all(
+    alloc: Global,
+    tables: Vec<Table>,
+    changed: &[Alteration],
+    opened: Vec<Opened>,
+) -> (Vec<Opened>, bool)
+    requires empty { opened.items ≡ [] }
+    requires room { length tables.items ≤ vec_capacity opened }
+    ensures rows { rows_in result.0.items ≡ tables.items }
+    ensures ready { IsTrue result.1 → AreReady 0 changed.now result.0.items }
+{
+    let mut all = opened;
+    let mut ready = true;
+    'tables: for table in tables {
+        let (one, is_ready) = open(alloc, table, all.len(), changed);
+        ready &= is_ready;
+        all.push_reserved(one);
+    }
+    (all, ready)
+}
+
+// The table's rows and copies of the alterations, and whether there was memory.
+fn open(alloc: Global, table: Table, model: usize, changed: &[Alteration]) -> (Opened, bool)
+    ensures rows { result.0.rows.items ≡ table }
+    ensures ready { IsTrue result.1 → IsReady model changed.now result.0 }
+{
+    let mut rows = table.into_vec();
+    match prepare(alloc, &mut rows, model, changed) {
+        Ok(news) => (Opened { rows, news }, true),
+        Err(Memory) => {
+            let news = Vec::new(alloc);
+            (Opened { rows, news }, false)
+        }
+    }
+}
+
+// The tables after their alterations if these are ready, else as they were.
+fn close_all(opened: Vec<Opened>, ready: bool, closed: Vec<Table>) -> Vec<Table>
+    requires empty { closed.items ≡ [] }
+    requires room { length opened.items ≤ vec_capacity closed }
+    requires can { IsTrue ready → AllByRecursion CanPlace opened.items }
+    requires rising { AreTables (rows_after ready opened.items) }
+    ensures { result.items ≡ rows_after ready opened.items }
+{
+    let mut tables = closed;
+    'opened: for one in opened {
+        tables.push_reserved(close(one, ready));
+    }
+    tables
+}
+
+// The table after its alterations if these are ready, else as it was.
+fn close(opened: Opened, ready: bool) -> Table
+    requires can { IsTrue ready → CanPlace opened }
+    requires rising { AreRising (if ready then placed_each opened.news.items opened.rows.items else opened.rows.items) }
+    ensures { result ≡ (if ready then placed_each opened.news.items opened.rows.items else opened.rows.items) }
+{
+    let Opened { rows, news } = opened;
+    if ready {
+        Table::from_vec(place_each(rows, news))
+    } else {
+        Table::from_vec(rows)
+    }
+}
