@@ -1,15 +1,15 @@
 -- Statements with the site that comes next, as a loop gathers them.
-use Rattle.std.proofs.Common.{ℕ, Option}
-use Rattle.std.specs.Option.{option_map}
+use Rattle.std.proofs.Common.{ℕ, List}
 use Rattle.jac_lang.specs.Syntax.{Statements}
 use Rattle.jac_lang.specs.Turned.{body_onto}
 use Rattle.jac_tree.specs.Plain.{PlainTrees}
-use Rattle.jac_forms.specs.Statements.{Body, body, statements_of_trees}
+use Rattle.jac_forms.specs.Reads.{Read, read_map}
+use Rattle.jac_forms.specs.Statements.{Body, body, statements_in_trees}
 
 -- the statements turned round, before those of the second
 abbrev pub body_onto_body : Statements → Body → Body
 body_onto_body ss b = body b.next (body_onto ss b.statements)
 
 -- the statements of these trees, with those so far turned round before them
-abbrev pub gathered : Statements → PlainTrees → ℕ → Option Body
-gathered back ts n = option_map (body_onto_body back) (statements_of_trees ts n)
+abbrev pub gathered : Statements → List ℕ → ℕ → PlainTrees → ℕ → Read Body
+gathered back at k ts n = read_map (body_onto_body back) (statements_in_trees at k ts n)

@@ -1,4 +1,5 @@
 pub mod QueryShape
+pub mod Upward
 pub mod Made
 pub mod Bodies
 pub mod Gathered

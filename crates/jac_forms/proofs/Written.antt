@@ -1,50 +1,63 @@
 -- What is read as an application is one that is written.
 use Rattle.std.proofs.Common.{◌≡◌, ℕ, ◌+◌, ◌<◌, ◌≤◌, ◌^◌, Bool, true, false, nat_le, refl, subst, arith, Option, Some, None, List, [], length}
-use Rattle.std.specs.Prelude.{IfSome, IsTrue, codes}
+use Rattle.std.specs.Prelude.{IfSome, IsTrue, if◌then◌else◌, codes}
 use Rattle.std.specs.List.{All}
-use Rattle.std.specs.Option.{option_map, option_and_then}
 use Rattle.std.specs.Str.{bytes_eq}
 use Rattle.std.proofs.lemmas.Bool.Decides.{nat_tests}
 use Rattle.std.proofs.lemmas.List.Elements.{All-nil, All-cons}
 use Rattle.jac_value.specs.Paths.{is_path}
 use Rattle.jac_lang.specs.declared.field_kinds.Field.{Field}
+use Rattle.jac_lang.specs.declared.field_kinds.KindName.{KindName}
 use Rattle.jac_lang.specs.declared.field_kinds.KindName.TheVariants as kinds
 use Rattle.jac_lang.specs.declared.pages.Verb.{Verb}
 use Rattle.jac_lang.specs.Syntax.{Assigned, FieldGroup, Page, Application}
 use Rattle.jac_lang.specs.Written.{IsName, IsWrittenExpression, IsWrittenAssigned, IsWrittenKind, IsWrittenField, IsWrittenGroup, IsWrittenModel, IsWrittenView, IsWritten, sites}
 use Rattle.jac_tree.specs.Plain.{PlainTree, PlainTrees}
-use Rattle.jac_forms.specs.Names.{count, name_of_tree, tail_of, each_of_trees}
-use Rattle.jac_forms.specs.Expressions.{one_of_trees}
-use Rattle.jac_forms.specs.Statements.{Body, assigned_of_tree, statements_of_trees}
-use Rattle.jac_forms.specs.Applications.{plain_kind_of, one_name_of_trees, kind_of_tree, field, field_of_tree, few_fields, fields_of_tree, params_of_tree, some_guards, guards_of_tree, policy_of_tree, group, group_of_trees, group_of_tree, entity, entity_of_trees, entity_of_tree, method_of_tree, path_of_tree, page, page_of_trees, page_of_tree, is_headed, headed, Items, items, after_model, items_of_trees, application, viewer_of_tree, with_viewer, application_of_items, application_of_trees, application_of_tree}
-use Rattle.jac_forms.proofs.Chains.{after, chained, mapped, weaker, where_true, where_false, either, within, each}
+use Rattle.jac_forms.specs.Places.{child}
+use Rattle.jac_forms.specs.Reads.{Read, got, read_map, read_and_then, behind}
+use Rattle.jac_forms.specs.declared.fault.FormFault.TheVariants as faults
+use Rattle.jac_forms.specs.declared.fault.Want.{Want}
+use Rattle.jac_forms.specs.declared.fault.Want.TheVariants as wants
+use Rattle.jac_forms.specs.declared.fault.What.TheVariants as whats
+use Rattle.jac_forms.specs.Names.{count, name_in_tree, tail_of, each_in_trees}
+use Rattle.jac_forms.specs.Expressions.{one_in_trees}
+use Rattle.jac_forms.specs.Statements.{Body, assigned_in_tree, statements_in_trees, creates}
+use Rattle.jac_forms.specs.Applications.{plain_kind_of, one_name_in_trees, kind_in_tree, field, field_in_tree, few_fields, fields_in_tree, params_in_tree, some_guards, guards_in_tree, policy_in_tree, group, group_in_trees, group_in_tree, entity, entity_in_trees, entity_in_tree, method_in_tree, path_in_tree, page, page_in_trees, page_in_tree, is_headed, headed, Items, items, after_model, items_in_trees, application, viewer_in_tree, with_viewer, application_of_items, application_in_trees, application_in_tree}
+use Rattle.jac_forms.proofs.Chains.{IfGot, after, placed, freely, chained, mapped, weaker, where_true, where_false, either, within, each}
 use Rattle.jac_forms.proofs.Spans.{spans-few}
 use Rattle.jac_forms.proofs.WrittenExpressions.{name-written, one-written}
 use Rattle.jac_forms.proofs.WrittenStatements.{all-assigned, AreNumbered, statements-written}
 
 plain_kind-written : (a : List ℕ) → IfSome (plain_kind_of a) IsWrittenKind
 plain_kind-written a =
-    either IsWrittenKind (bytes_eq a (codes "int")) (Some kinds.Int) _ tt
-    (either IsWrittenKind (bytes_eq a (codes "text")) (Some kinds.Text) _ tt
-    (where_true IsWrittenKind (bytes_eq a (codes "bool")) (Some kinds.Bool) (λ _. tt)))
+    one_of (bytes_eq a (codes "int")) (Some kinds.Int) _ tt
+    (one_of (bytes_eq a (codes "text")) (Some kinds.Text) _ tt
+    (one_of (bytes_eq a (codes "bool")) (Some kinds.Bool) None tt tt))
+  where
+    one_of : (b : Bool) (o p : Option KindName) → IfSome o IsWrittenKind → IfSome p IsWrittenKind → IfSome (if b then o else p) IsWrittenKind
+    one_of true o p h k = h
+    one_of false o p h k = k
 
-one_name-written : (ts : PlainTrees) → IfSome (one_name_of_trees ts) IsName
-one_name-written (PlainTrees.more t PlainTrees.none) = name-written t
-one_name-written PlainTrees.none = tt
-one_name-written (PlainTrees.more t (PlainTrees.more u ts)) = tt
+one_name-written : (want : Want) (at : List ℕ) (ts : PlainTrees) → IfGot (one_name_in_trees want at ts) IsName
+one_name-written want at (PlainTrees.more t PlainTrees.none) = name-written (child at 1) t
+one_name-written want at PlainTrees.none = tt
+one_name-written want at (PlainTrees.more t (PlainTrees.more u ts)) = tt
 
-kind-written : (t : PlainTree) → IfSome (kind_of_tree t) IsWrittenKind
-kind-written (PlainTree.atom a) = plain_kind-written a
-kind-written (PlainTree.text x) = tt
-kind-written (PlainTree.list ts) =
-    mapped IsName IsWrittenKind kinds.Ref (option_and_then one_name_of_trees (tail_of (codes "ref") (PlainTree.list ts)))
-    (after IsName one_name_of_trees (tail_of (codes "ref") (PlainTree.list ts)) one_name-written) (λ name h. h)
+reference-written : (at : List ℕ) (t : PlainTree) → IfGot (read_map kinds.Ref (behind wants.Kind at (one_name_in_trees wants.Kind at) (tail_of (codes "ref") t))) IsWrittenKind
+reference-written at t =
+    mapped IsName IsWrittenKind kinds.Ref (behind wants.Kind at (one_name_in_trees wants.Kind at) (tail_of (codes "ref") t))
+    (after IsName wants.Kind at (one_name_in_trees wants.Kind at) (tail_of (codes "ref") t) (one_name-written wants.Kind at)) (λ name h. h)
 
-field-written : (t : PlainTree) → IfSome (field_of_tree t) IsWrittenField
-field-written (PlainTree.list (PlainTrees.more x (PlainTrees.more k PlainTrees.none))) =
-    chained IsName IsWrittenField (λ name. option_map (field name) (kind_of_tree k)) (name_of_tree x) (name-written x) (λ name h.
-    mapped IsWrittenKind IsWrittenField (field name) (kind_of_tree k) (kind-written k) (λ kind i. (h, i)))
-field-written t = tt
+kind-written : (at : List ℕ) (t : PlainTree) → IfGot (kind_in_tree at t) IsWrittenKind
+kind-written at (PlainTree.atom a) = placed IsWrittenKind wants.Kind at (plain_kind_of a) (plain_kind-written a)
+kind-written at (PlainTree.text x) = tt
+kind-written at (PlainTree.list ts) = reference-written at (PlainTree.list ts)
+
+field-written : (want : Want) (at : List ℕ) (t : PlainTree) → IfGot (field_in_tree want at t) IsWrittenField
+field-written want at (PlainTree.list (PlainTrees.more x (PlainTrees.more k PlainTrees.none))) =
+    chained IsName IsWrittenField (λ name. read_map (field name) (kind_in_tree (child at 1) k)) (name_in_tree (child at 0) x) (name-written (child at 0) x) (λ name h.
+    mapped IsWrittenKind IsWrittenField (field name) (kind_in_tree (child at 1) k) (kind-written (child at 1) k) (λ kind i. (h, i)))
+field-written want at t = tt
 
 abbrev AreFields : PlainTrees → List Field → Type 0
 AreFields ts fs = All IsWrittenField fs × (length fs ≡ count ts)
@@ -52,86 +65,87 @@ AreFields ts fs = All IsWrittenField fs × (length fs ≡ count ts)
 abbrev AreFewFields : List Field → Type 0
 AreFewFields fs = All IsWrittenField fs × (length fs ≤ 32)
 
-few-written : (ts : PlainTrees) → IfSome (few_fields ts) AreFewFields
-few-written ts =
-    within AreFewFields 32 (count ts) (each_of_trees field_of_tree ts) (λ few.
-    weaker (AreFields ts) AreFewFields (each_of_trees field_of_tree ts) (each IsWrittenField field_of_tree field-written ts) (λ fs h. let n = h.1 in (h.0, omega arith)))
+few-written : (at : List ℕ) (ts : PlainTrees) → IfGot (few_fields at ts) AreFewFields
+few-written at ts =
+    within AreFewFields whats.Fields at 32 (count ts) (each_in_trees (field_in_tree wants.Field) at 1 ts) (λ few.
+    weaker (AreFields ts) AreFewFields (each_in_trees (field_in_tree wants.Field) at 1 ts) (each IsWrittenField (field_in_tree wants.Field) (field-written wants.Field) at 1 ts) (λ fs h. let n = h.1 in (h.0, omega arith)))
 
-fields-written : (t : PlainTree) → IfSome (fields_of_tree t) AreFewFields
-fields-written t = after AreFewFields few_fields (tail_of (codes "fields") t) few-written
+fields-written : (at : List ℕ) (t : PlainTree) → IfGot (fields_in_tree at t) AreFewFields
+fields-written at t = after AreFewFields wants.Fields at (few_fields at) (tail_of (codes "fields") t) (few-written at)
 
-params-written : (t : PlainTree) → IfSome (params_of_tree t) (All IsWrittenField)
-params-written t =
-    after (All IsWrittenField) (each_of_trees field_of_tree) (tail_of (codes "params") t) (λ ts.
-    weaker (AreFields ts) (All IsWrittenField) (each_of_trees field_of_tree ts) (each IsWrittenField field_of_tree field-written ts) (λ fs h. h.0))
+params-written : (at : List ℕ) (t : PlainTree) → IfGot (params_in_tree at t) (All IsWrittenField)
+params-written at t =
+    after (All IsWrittenField) wants.Params at (each_in_trees (field_in_tree wants.Param) at 1) (tail_of (codes "params") t) (λ ts.
+    weaker (AreFields ts) (All IsWrittenField) (each_in_trees (field_in_tree wants.Param) at 1 ts) (each IsWrittenField (field_in_tree wants.Param) (field-written wants.Param) at 1 ts) (λ fs h. h.0))
 
 abbrev AreGuards : List Assigned → Type 0
 AreGuards gs = (0 < length gs) × All IsWrittenAssigned gs
 
-some_guards-written : (ts : PlainTrees) → IfSome (some_guards ts) AreGuards
-some_guards-written ts =
-    where_false AreGuards (nat_le (count ts) 0) (each_of_trees assigned_of_tree ts) (λ some.
-    weaker (λ cells. All IsWrittenAssigned cells × (length cells ≡ count ts)) AreGuards (each_of_trees assigned_of_tree ts) (all-assigned ts) (λ gs h.
+some_guards-written : (at : List ℕ) (ts : PlainTrees) → IfGot (some_guards at ts) AreGuards
+some_guards-written at ts =
+    where_false AreGuards (nat_le (count ts) 0) (each_in_trees (assigned_in_tree wants.Guard) at 1 ts) (faults.Form at wants.Guard) (λ some.
+    weaker (λ cells. All IsWrittenAssigned cells × (length cells ≡ count ts)) AreGuards (each_in_trees (assigned_in_tree wants.Guard) at 1 ts) (all-assigned wants.Guard at ts) (λ gs h.
     let n = h.1 in (grind (arith, nat_tests), h.0)))
 
-guards-written : (t : PlainTree) → IfSome (guards_of_tree t) AreGuards
-guards-written t = after AreGuards some_guards (tail_of (codes "guards") t) some_guards-written
+guards-written : (at : List ℕ) (t : PlainTree) → IfGot (guards_in_tree at t) AreGuards
+guards-written at t = after AreGuards wants.Guard at (some_guards at) (tail_of (codes "guards") t) (some_guards-written at)
 
-policy-written : (t : PlainTree) → IfSome (policy_of_tree t) IsWrittenExpression
-policy-written t = after IsWrittenExpression one_of_trees (tail_of (codes "policy") t) one-written
+policy-written : (at : List ℕ) (t : PlainTree) → IfGot (policy_in_tree at t) IsWrittenExpression
+policy-written at t = after IsWrittenExpression wants.Policy at (one_in_trees wants.Policy at) (tail_of (codes "policy") t) (one-written wants.Policy at)
 
-group_parts-written : (ts : PlainTrees) → IfSome (group_of_trees ts) IsWrittenGroup
-group_parts-written (PlainTrees.more gs (PlainTrees.more p PlainTrees.none)) =
-    chained AreGuards IsWrittenGroup (λ guards. option_map (group guards) (policy_of_tree p)) (guards_of_tree gs) (guards-written gs) (λ guards h.
-    mapped IsWrittenExpression IsWrittenGroup (group guards) (policy_of_tree p) (policy-written p) (λ policy k. record { some = h.0; guards = h.1; policy = k }))
-group_parts-written ts = tt
+group_parts-written : (at : List ℕ) (ts : PlainTrees) → IfGot (group_in_trees at ts) IsWrittenGroup
+group_parts-written at (PlainTrees.more gs (PlainTrees.more p PlainTrees.none)) =
+    chained AreGuards IsWrittenGroup (λ guards. read_map (group guards) (policy_in_tree (child at 2) p)) (guards_in_tree (child at 1) gs) (guards-written (child at 1) gs) (λ guards h.
+    mapped IsWrittenExpression IsWrittenGroup (group guards) (policy_in_tree (child at 2) p) (policy-written (child at 2) p) (λ policy k. record { some = h.0; guards = h.1; policy = k }))
+group_parts-written at ts = tt
 
-group-written : (t : PlainTree) → IfSome (group_of_tree t) IsWrittenGroup
-group-written t = after IsWrittenGroup group_of_trees (tail_of (codes "group") t) group_parts-written
+group-written : (at : List ℕ) (t : PlainTree) → IfGot (group_in_tree at t) IsWrittenGroup
+group-written at t = after IsWrittenGroup wants.Group at (group_in_trees at) (tail_of (codes "group") t) (group_parts-written at)
 
 abbrev AreGroups : PlainTrees → List FieldGroup → Type 0
 AreGroups ts gs = All IsWrittenGroup gs × (length gs ≡ count ts)
 
-entity_parts-written : (ts : PlainTrees) → IfSome (entity_of_trees ts) IsWrittenModel
-entity_parts-written (PlainTrees.more x (PlainTrees.more fs gs)) =
-    within IsWrittenModel 8 (count gs) (option_and_then (λ name. option_and_then (λ fields. option_map (entity name fields) (each_of_trees group_of_tree gs)) (fields_of_tree fs)) (name_of_tree x)) (λ few.
-    chained IsName IsWrittenModel (λ name. option_and_then (λ fields. option_map (entity name fields) (each_of_trees group_of_tree gs)) (fields_of_tree fs)) (name_of_tree x) (name-written x) (λ name h.
-    chained AreFewFields IsWrittenModel (λ fields. option_map (entity name fields) (each_of_trees group_of_tree gs)) (fields_of_tree fs) (fields-written fs) (λ fields k.
-    mapped (AreGroups gs) IsWrittenModel (entity name fields) (each_of_trees group_of_tree gs) (each IsWrittenGroup group_of_tree group-written gs) (λ groups l.
+entity_parts-written : (at : List ℕ) (ts : PlainTrees) → IfGot (entity_in_trees at ts) IsWrittenModel
+entity_parts-written at (PlainTrees.more x (PlainTrees.more fs gs)) =
+    within IsWrittenModel whats.Groups at 8 (count gs) (read_and_then (λ name. read_and_then (λ fields. read_map (entity name fields) (each_in_trees group_in_tree at 3 gs)) (fields_in_tree (child at 2) fs)) (name_in_tree (child at 1) x)) (λ few.
+    chained IsName IsWrittenModel (λ name. read_and_then (λ fields. read_map (entity name fields) (each_in_trees group_in_tree at 3 gs)) (fields_in_tree (child at 2) fs)) (name_in_tree (child at 1) x) (name-written (child at 1) x) (λ name h.
+    chained AreFewFields IsWrittenModel (λ fields. read_map (entity name fields) (each_in_trees group_in_tree at 3 gs)) (fields_in_tree (child at 2) fs) (fields-written (child at 2) fs) (λ fields k.
+    mapped (AreGroups gs) IsWrittenModel (entity name fields) (each_in_trees group_in_tree at 3 gs) (each IsWrittenGroup group_in_tree group-written at 3 gs) (λ groups l.
     let n = l.1 in
     record { name = h; few_fields = k.1; fields = k.0; few_groups = omega arith; groups = l.0 }))))
-entity_parts-written PlainTrees.none = tt
-entity_parts-written (PlainTrees.more x PlainTrees.none) = tt
+entity_parts-written at PlainTrees.none = tt
+entity_parts-written at (PlainTrees.more x PlainTrees.none) = tt
 
-entity-written : (t : PlainTree) → IfSome (entity_of_tree t) IsWrittenModel
-entity-written t = after IsWrittenModel entity_of_trees (tail_of (codes "model") t) entity_parts-written
+entity-written : (at : List ℕ) (t : PlainTree) → IfGot (entity_in_tree at t) IsWrittenModel
+entity-written at t = after IsWrittenModel wants.Item at (entity_in_trees at) (tail_of (codes "model") t) (entity_parts-written at)
 
 abbrev IsPath : List ℕ → Type 0
 IsPath path = IsTrue (is_path path)
 
-path-written : (t : PlainTree) → IfSome (path_of_tree t) IsPath
-path-written (PlainTree.atom a) = tt
-path-written (PlainTree.text x) = where_true IsPath (is_path x) (Some x) (λ e. e)
-path-written (PlainTree.list ts) = tt
+path-written : (at : List ℕ) (t : PlainTree) → IfGot (path_in_tree at t) IsPath
+path-written at (PlainTree.atom a) = tt
+path-written at (PlainTree.text x) = where_true IsPath (is_path x) (got x) (faults.Form at wants.Path) (λ e. e)
+path-written at (PlainTree.list ts) = tt
 
-page-written : (method : Verb) (path : List ℕ) (params : List Field) (body : Body) → IsPath path → All IsWrittenField params → AreNumbered 0 body → IfSome (page method path params body) IsWrittenView
-page-written method path params body h k l =
-    within IsWrittenView 64 body.next (Some (record { method = method; path = path; params = params; body = body.statements })) (λ few.
+page-written : (at : List ℕ) (method : Verb) (path : List ℕ) (params : List Field) (body : Body) → IsPath path → All IsWrittenField params → AreNumbered 0 body → IfGot (page at method path params body) IsWrittenView
+page-written at method path params body h k l =
+    where_true IsWrittenView (nat_le body.next 64) (got (record { method = method; path = path; params = params; body = body.statements })) (faults.TooMany at whats.Sites (creates body.statements)) (λ e.
+    let few : body.next ≤ 64 = grind (arith, nat_tests) in
     let counted = spans-few body.next (sites body.statements) l.1 few in
     record { path = h; params = k; body = l.0; few_sites = counted.0; in_order = counted.1 })
 
-page_parts-written : (ts : PlainTrees) → IfSome (page_of_trees ts) IsWrittenView
-page_parts-written (PlainTrees.more m (PlainTrees.more p (PlainTrees.more ps ss))) =
-    after IsWrittenView (λ method. option_and_then (λ path. option_and_then (λ params. option_and_then (page method path params) (statements_of_trees ss 0)) (params_of_tree ps)) (path_of_tree p)) (method_of_tree m) (λ method.
-    chained IsPath IsWrittenView (λ path. option_and_then (λ params. option_and_then (page method path params) (statements_of_trees ss 0)) (params_of_tree ps)) (path_of_tree p) (path-written p) (λ path h.
-    chained (All IsWrittenField) IsWrittenView (λ params. option_and_then (page method path params) (statements_of_trees ss 0)) (params_of_tree ps) (params-written ps) (λ params k.
-    chained (AreNumbered 0) IsWrittenView (page method path params) (statements_of_trees ss 0) (statements-written ss 0) (λ body l. page-written method path params body h k l))))
-page_parts-written PlainTrees.none = tt
-page_parts-written (PlainTrees.more m PlainTrees.none) = tt
-page_parts-written (PlainTrees.more m (PlainTrees.more p PlainTrees.none)) = tt
+page_parts-written : (at : List ℕ) (ts : PlainTrees) → IfGot (page_in_trees at ts) IsWrittenView
+page_parts-written at (PlainTrees.more m (PlainTrees.more p (PlainTrees.more ps ss))) =
+    freely IsWrittenView (λ method. read_and_then (λ path. read_and_then (λ params. read_and_then (page at method path params) (statements_in_trees at 4 ss 0)) (params_in_tree (child at 3) ps)) (path_in_tree (child at 2) p)) (method_in_tree (child at 1) m) (λ method.
+    chained IsPath IsWrittenView (λ path. read_and_then (λ params. read_and_then (page at method path params) (statements_in_trees at 4 ss 0)) (params_in_tree (child at 3) ps)) (path_in_tree (child at 2) p) (path-written (child at 2) p) (λ path h.
+    chained (All IsWrittenField) IsWrittenView (λ params. read_and_then (page at method path params) (statements_in_trees at 4 ss 0)) (params_in_tree (child at 3) ps) (params-written (child at 3) ps) (λ params k.
+    chained (AreNumbered 0) IsWrittenView (page at method path params) (statements_in_trees at 4 ss 0) (statements-written at 4 ss 0) (λ body l. page-written at method path params body h k l))))
+page_parts-written at PlainTrees.none = tt
+page_parts-written at (PlainTrees.more m PlainTrees.none) = tt
+page_parts-written at (PlainTrees.more m (PlainTrees.more p PlainTrees.none)) = tt
 
-view-written : (t : PlainTree) → IfSome (page_of_tree t) IsWrittenView
-view-written t = after IsWrittenView page_of_trees (tail_of (codes "view") t) page_parts-written
+view-written : (at : List ℕ) (t : PlainTree) → IfGot (page_in_tree at t) IsWrittenView
+view-written at t = after IsWrittenView wants.Item at (page_in_trees at) (tail_of (codes "view") t) (page_parts-written at)
 
 -- the models are as many as the lists with their head, or fewer
 pub record AreItems (most : ℕ) (is : Items) : Type 0 where
@@ -142,9 +156,9 @@ pub record AreItems (most : ℕ) (is : Items) : Type 0 where
 abbrev AreViews : PlainTrees → List Page → Type 0
 AreViews ts vs = All IsWrittenView vs × (length vs ≡ count ts)
 
-views-written : (most : ℕ) (ts : PlainTrees) → IfSome (option_map (items []) (each_of_trees page_of_tree ts)) (AreItems most)
-views-written most ts =
-    mapped (AreViews ts) (AreItems most) (items []) (each_of_trees page_of_tree ts) (each IsWrittenView page_of_tree view-written ts) (λ vs h.
+views-written : (at : List ℕ) (j most : ℕ) (ts : PlainTrees) → IfGot (read_map (items []) (each_in_trees page_in_tree at j ts)) (AreItems most)
+views-written at j most ts =
+    mapped (AreViews ts) (AreItems most) (items []) (each_in_trees page_in_tree at j ts) (each IsWrittenView page_in_tree view-written at j ts) (λ vs h.
     record { few = omega arith; models = All-nil IsWrittenModel; views = h.0 })
 
 headed-most : (t : PlainTree) (ts : PlainTrees) → headed (codes "model") ts ≤ headed (codes "model") (PlainTrees.more t ts)
@@ -154,46 +168,47 @@ headed-most t ts = split (is_headed (codes "model") t) refl
     split true e = rw e (omega arith)
     split false e = rw e (omega arith)
 
-pub items-written : (ts : PlainTrees) → IfSome (items_of_trees ts) (AreItems (headed (codes "model") ts))
-items-written PlainTrees.none = record { few = omega arith; models = All-nil IsWrittenModel; views = All-nil IsWrittenView }
-items-written (PlainTrees.more t ts) = split (is_headed (codes "model") t) refl (items-written ts)
+pub items-written : (at : List ℕ) (j : ℕ) (ts : PlainTrees) → IfGot (items_in_trees at j ts) (AreItems (headed (codes "model") ts))
+items-written at j PlainTrees.none = record { few = omega arith; models = All-nil IsWrittenModel; views = All-nil IsWrittenView }
+items-written at j (PlainTrees.more t ts) = split (is_headed (codes "model") t) refl (items-written at (j + 1) ts)
   where
-    split : (b : Bool) → is_headed (codes "model") t ≡ b → IfSome (items_of_trees ts) (AreItems (headed (codes "model") ts)) → IfSome (items_of_trees (PlainTrees.more t ts)) (AreItems (headed (codes "model") (PlainTrees.more t ts)))
+    split : (b : Bool) → is_headed (codes "model") t ≡ b → IfGot (items_in_trees at (j + 1) ts) (AreItems (headed (codes "model") ts))
+        → IfGot (items_in_trees at j (PlainTrees.more t ts)) (AreItems (headed (codes "model") (PlainTrees.more t ts)))
     split true e rest = rw e (
-        chained IsWrittenModel (AreItems (headed (codes "model") ts + 1)) (λ m. option_map (after_model m) (items_of_trees ts)) (entity_of_tree t) (entity-written t) (λ m h.
-        mapped (AreItems (headed (codes "model") ts)) (AreItems (headed (codes "model") ts + 1)) (after_model m) (items_of_trees ts) rest (λ is k.
+        chained IsWrittenModel (AreItems (headed (codes "model") ts + 1)) (λ m. read_map (after_model m) (items_in_trees at (j + 1) ts)) (entity_in_tree (child at j) t) (entity-written (child at j) t) (λ m h.
+        mapped (AreItems (headed (codes "model") ts)) (AreItems (headed (codes "model") ts + 1)) (after_model m) (items_in_trees at (j + 1) ts) rest (λ is k.
         let n = k.few in
         record { few = omega arith; models = All-cons IsWrittenModel m is.models h k.models; views = k.views })))
-    split false e rest = rw e (views-written (headed (codes "model") ts) (PlainTrees.more t ts))
+    split false e rest = rw e (views-written at j (headed (codes "model") ts) (PlainTrees.more t ts))
 
 -- an application of few views is written
 abbrev IsMostly : Application → Type 0
 IsMostly a = length a.views < 2 ^ 32 → IsWritten a
 
-made-written : (most : ℕ) (viewer : Option (List ℕ)) (o : Option Items) → most ≤ 64 → IfSome viewer IsName → IfSome o (AreItems most) → IfSome (option_map (application viewer) o) IsMostly
+made-written : (most : ℕ) (viewer : Option (List ℕ)) (o : Read Items) → most ≤ 64 → IfSome viewer IsName → IfGot o (AreItems most) → IfGot (read_map (application viewer) o) IsMostly
 made-written most viewer o small h k =
     mapped (AreItems most) IsMostly (application viewer) o k (λ is l few.
     let n = l.few in
     record { viewer = h; few_models = omega arith; models = l.models; few_views = few; views = l.views })
 
-viewer-written : (t : PlainTree) → IfSome (viewer_of_tree t) IsName
-viewer-written t = after IsName one_name_of_trees (tail_of (codes "viewer") t) one_name-written
+viewer-written : (at : List ℕ) (t : PlainTree) → IfGot (viewer_in_tree at t) IsName
+viewer-written at t = after IsName wants.Item at (one_name_in_trees wants.Item at) (tail_of (codes "viewer") t) (one_name-written wants.Item at)
 
-parts-written : (ts : PlainTrees) → headed (codes "model") ts ≤ 64 → IfSome (application_of_items ts) IsMostly
-parts-written PlainTrees.none small = made-written 0 None (items_of_trees PlainTrees.none) (omega arith) tt (items-written PlainTrees.none)
-parts-written (PlainTrees.more t ts) small =
+parts-written : (at : List ℕ) (ts : PlainTrees) → headed (codes "model") ts ≤ 64 → IfGot (application_of_items at ts) IsMostly
+parts-written at PlainTrees.none small = made-written 0 None (items_in_trees at 1 PlainTrees.none) (omega arith) tt (items-written at 1 PlainTrees.none)
+parts-written at (PlainTrees.more t ts) small =
     let fewer = headed-most t ts in
-    either IsMostly (is_headed (codes "viewer") t) (option_and_then (with_viewer ts) (viewer_of_tree t)) _
-    (chained IsName IsMostly (with_viewer ts) (viewer_of_tree t) (viewer-written t) (λ name h.
-    made-written (headed (codes "model") ts) (Some name) (items_of_trees ts) (omega (arith, fewer, small)) h (items-written ts)))
-    (made-written (headed (codes "model") (PlainTrees.more t ts)) None (items_of_trees (PlainTrees.more t ts)) small tt (items-written (PlainTrees.more t ts)))
+    either IsMostly (is_headed (codes "viewer") t) (read_and_then (with_viewer at ts) (viewer_in_tree (child at 1) t)) _
+    (chained IsName IsMostly (with_viewer at ts) (viewer_in_tree (child at 1) t) (viewer-written (child at 1) t) (λ name h.
+    made-written (headed (codes "model") ts) (Some name) (items_in_trees at 2 ts) (omega (arith, fewer, small)) h (items-written at 2 ts)))
+    (made-written (headed (codes "model") (PlainTrees.more t ts)) None (items_in_trees at 1 (PlainTrees.more t ts)) small tt (items-written at 1 (PlainTrees.more t ts)))
 
-all-written : (ts : PlainTrees) → IfSome (application_of_trees ts) IsMostly
-all-written ts = within IsMostly 64 (headed (codes "model") ts) (application_of_items ts) (parts-written ts)
+all-written : (at : List ℕ) (ts : PlainTrees) → IfGot (application_in_trees at ts) IsMostly
+all-written at ts = within IsMostly whats.Models at 64 (headed (codes "model") ts) (application_of_items at ts) (parts-written at ts)
 
-pub application-written : (t : PlainTree) → IfSome (application_of_tree t) IsMostly
-application-written t = after IsMostly application_of_trees (tail_of (codes "app") t) all-written
+pub application-written : (at : List ℕ) (t : PlainTree) → IfGot (application_in_tree at t) IsMostly
+application-written at t = after IsMostly wants.App at (application_in_trees at) (tail_of (codes "app") t) (all-written at)
 
 -- the application that a tree writes is written, where its views are few
-pub is-written : (t : PlainTree) (a : Application) → application_of_tree t ≡ Some a → length a.views < 2 ^ 32 → IsWritten a
-is-written t a e = subst (λ (o : Option Application). IfSome o IsMostly) e (application-written t)
+pub is-written : (t : PlainTree) (a : Application) → application_in_tree [] t ≡ got a → length a.views < 2 ^ 32 → IsWritten a
+is-written t a e = subst (λ (o : Read Application). IfGot o IsMostly) e (application-written [] t)

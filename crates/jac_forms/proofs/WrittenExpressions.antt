@@ -1,8 +1,7 @@
 -- What is read as an expression or a query is one that is written.
-use Rattle.std.proofs.Common.{◌≡◌, ℕ, ℤ, true, false, nat_le, refl, arith, Option, Some, None, List, ◌∷◌, length}
-use Rattle.std.specs.Prelude.{IfSome, codes}
+use Rattle.std.proofs.Common.{◌≡◌, ℕ, ℤ, ◌+◌, true, false, nat_le, refl, arith, Option, Some, None, List, ◌∷◌, length}
+use Rattle.std.specs.Prelude.{codes}
 use Rattle.std.specs.List.{All}
-use Rattle.std.specs.Option.{option_map, option_and_then}
 use Rattle.std.specs.Str.{bytes_eq}
 use Rattle.std.proofs.lemmas.Bool.Decides.{nat_tests}
 use Rattle.std.proofs.lemmas.List.Elements.{All-nil, All-cons}
@@ -15,190 +14,198 @@ use Rattle.jac_lang.specs.declared.queries.Order.TheVariants as orders
 use Rattle.jac_lang.specs.Syntax.{Expression, Expressions}
 use Rattle.jac_lang.specs.Written.{IsName, IsWrittenBinder, AreBinders, IsWrittenOrder, IsWrittenExpression, AreWrittenExpressions, IsWrittenQuestion}
 use Rattle.jac_tree.specs.Plain.{PlainTree, PlainTrees}
-use Rattle.jac_forms.specs.Names.{count, is_word, name_of_tree, named}
-use Rattle.jac_forms.specs.Expressions.{number_or_name, atom_expression, binder, binder_of_tree, binders_of_trees, some_binders, binders_of_tree, SortKey, sort_key, key_of, rising, falling, sorting_of_trees, order_of_tree, question, question_if, counted, summed, asked, first_of, none_of_trees, Operands, form_of, expression_of_form, expression_of_tree, expression_of_list, one_of_trees, two_of_trees, pick_of_trees, get_of_trees, expressions_of_trees, query_of_trees, sum_of_trees, question_of_tree, operands_of}
+use Rattle.jac_forms.specs.Places.{child}
+use Rattle.jac_forms.specs.Reads.{Read, got, read_map, read_and_then, up_to}
+use Rattle.jac_forms.specs.declared.fault.FormFault.TheVariants as faults
+use Rattle.jac_forms.specs.declared.fault.Want.{Want}
+use Rattle.jac_forms.specs.declared.fault.Want.TheVariants as wants
+use Rattle.jac_forms.specs.declared.fault.What.TheVariants as whats
+use Rattle.jac_forms.specs.Names.{count, is_word, name_in_tree, named}
+use Rattle.jac_forms.specs.Expressions.{number_or_name, atom_expression, binder, binder_in_tree, binders_in_trees, some_binders, binders_in_tree, has_few, SortKey, sort_key, key_of, rising, falling, sorting_in_trees, order_in_tree, question, question_if, counted, summed, asked, first_of, none_in_trees, Operands, form_of, expression_of_form, expression_in_tree, expression_in_list, one_in_trees, two_in_trees, pick_in_trees, get_in_trees, expressions_in_trees, query_in_trees, sum_in_trees, question_in_tree, operands_of}
 use Rattle.jac_forms.specs.declared.words.Form.{Form}
 use Rattle.jac_forms.specs.declared.words.Form.TheVariants as forms
-use Rattle.jac_forms.proofs.Chains.{chained, mapped, weaker, where_true, where_false, either}
+use Rattle.jac_forms.proofs.Chains.{IfGot, chained, mapped, weaker, where_true, where_false, either, within}
 
-pub named-written : (a : List ℕ) → IfSome (named a) IsName
-named-written a = where_true IsName (is_name a) (Some a) (λ e. e)
+pub named-written : (want : Want) (at : List ℕ) (a : List ℕ) → IfGot (named want at a) IsName
+named-written want at a = where_true IsName (is_name a) (got a) (faults.Form at want) (λ e. e)
 
-pub name-written : (t : PlainTree) → IfSome (name_of_tree t) IsName
-name-written (PlainTree.atom a) = named-written a
-name-written (PlainTree.text x) = tt
-name-written (PlainTree.list ts) = tt
+pub name-written : (at : List ℕ) (t : PlainTree) → IfGot (name_in_tree at t) IsName
+name-written at (PlainTree.atom a) = named-written wants.Name at a
+name-written at (PlainTree.text x) = tt
+name-written at (PlainTree.list ts) = tt
 
-binder-written : (t : PlainTree) → IfSome (binder_of_tree t) IsWrittenBinder
-binder-written (PlainTree.list (PlainTrees.more x (PlainTrees.more m PlainTrees.none))) =
-    chained IsName IsWrittenBinder (λ name. option_map (binder name) (name_of_tree m)) (name_of_tree x) (name-written x) (λ name h.
-    mapped IsName IsWrittenBinder (binder name) (name_of_tree m) (name-written m) (λ model k. (h, k)))
-binder-written t = tt
+binder-written : (at : List ℕ) (t : PlainTree) → IfGot (binder_in_tree at t) IsWrittenBinder
+binder-written at (PlainTree.list (PlainTrees.more x (PlainTrees.more m PlainTrees.none))) =
+    chained IsName IsWrittenBinder (λ name. read_map (binder name) (name_in_tree (child at 1) m)) (name_in_tree (child at 0) x) (name-written (child at 0) x) (λ name h.
+    mapped IsName IsWrittenBinder (binder name) (name_in_tree (child at 1) m) (name-written (child at 1) m) (λ model k. (h, k)))
+binder-written at t = tt
 
 abbrev AreBound : PlainTrees → List Binder → Type 0
 AreBound ts bs = All IsWrittenBinder bs × (length bs ≡ count ts)
 
-binders-written : (ts : PlainTrees) → IfSome (binders_of_trees ts) (AreBound ts)
-binders-written PlainTrees.none = (All-nil IsWrittenBinder, refl)
-binders-written (PlainTrees.more t ts) =
-    chained IsWrittenBinder (AreBound (PlainTrees.more t ts)) (λ b. option_map (λ bs. b ∷ bs) (binders_of_trees ts)) (binder_of_tree t) (binder-written t) (λ b h.
-    mapped (AreBound ts) (AreBound (PlainTrees.more t ts)) (λ bs. b ∷ bs) (binders_of_trees ts) (binders-written ts) (λ bs k.
-    (All-cons IsWrittenBinder b bs h k.0, omega (arith, k.1))))
+binders-written : (at : List ℕ) (k : ℕ) (ts : PlainTrees) → IfGot (binders_in_trees at k ts) (AreBound ts)
+binders-written at k PlainTrees.none = (All-nil IsWrittenBinder, refl)
+binders-written at k (PlainTrees.more t ts) =
+    chained IsWrittenBinder (AreBound (PlainTrees.more t ts)) (λ b. read_map (λ bs. b ∷ bs) (binders_in_trees at (k + 1) ts)) (binder_in_tree (child at k) t) (binder-written (child at k) t) (λ b h.
+    mapped (AreBound ts) (AreBound (PlainTrees.more t ts)) (λ bs. b ∷ bs) (binders_in_trees at (k + 1) ts) (binders-written at (k + 1) ts) (λ bs l.
+    (All-cons IsWrittenBinder b bs h l.0, omega (arith, l.1))))
 
-some-written : (most : ℕ) (ts : PlainTrees) → IfSome (some_binders most ts) (AreBinders most)
-some-written most ts =
-    where_false (AreBinders most) (nat_le (count ts) 0) _ (λ some. where_true (AreBinders most) (nat_le (count ts) most) (binders_of_trees ts) (λ few.
-    weaker (AreBound ts) (AreBinders most) (binders_of_trees ts) (binders-written ts) (λ bs h.
+some-written : (most : ℕ) (at : List ℕ) (ts : PlainTrees) → IfGot (some_binders most at ts) (AreBinders most)
+some-written most at ts =
+    where_false (AreBinders most) (nat_le (count ts) 0) (up_to whats.Binders at most (count ts) (binders_in_trees at 0 ts)) (faults.Form at wants.Binder) (λ some.
+    within (AreBinders most) whats.Binders at most (count ts) (binders_in_trees at 0 ts) (λ few.
+    weaker (AreBound ts) (AreBinders most) (binders_in_trees at 0 ts) (binders-written at 0 ts) (λ bs h.
     let n = h.1 in
     (grind (arith, nat_tests), grind (arith, nat_tests), h.0))))
 
-query_binders-written : (most : ℕ) (t : PlainTree) → IfSome (binders_of_tree most t) (AreBinders most)
-query_binders-written most (PlainTree.atom a) = tt
-query_binders-written most (PlainTree.text x) = tt
-query_binders-written most (PlainTree.list ts) = some-written most ts
+query_binders-written : (most : ℕ) (at : List ℕ) (t : PlainTree) → IfGot (binders_in_tree most at t) (AreBinders most)
+query_binders-written most at (PlainTree.atom a) = tt
+query_binders-written most at (PlainTree.text x) = tt
+query_binders-written most at (PlainTree.list ts) = some-written most at ts
 
 abbrev IsKey : SortKey → Type 0
 IsKey key = IsName key.binder × IsName key.field
 
-key-written : (x f : PlainTree) → IfSome (key_of x f) IsKey
-key-written x f =
-    chained IsName IsKey (λ name. option_map (sort_key name) (name_of_tree f)) (name_of_tree x) (name-written x) (λ name h.
-    mapped IsName IsKey (sort_key name) (name_of_tree f) (name-written f) (λ field k. (h, k)))
+key-written : (at : List ℕ) (x f : PlainTree) → IfGot (key_of at x f) IsKey
+key-written at x f =
+    chained IsName IsKey (λ name. read_map (sort_key name) (name_in_tree (child at 2) f)) (name_in_tree (child at 1) x) (name-written (child at 1) x) (λ name h.
+    mapped IsName IsKey (sort_key name) (name_in_tree (child at 2) f) (name-written (child at 2) f) (λ field k. (h, k)))
 
-sorting-written : (ts : PlainTrees) → IfSome (sorting_of_trees ts) IsWrittenOrder
-sorting-written (PlainTrees.more w (PlainTrees.more x (PlainTrees.more f PlainTrees.none))) =
-    either IsWrittenOrder (is_word (codes "up") w) (option_map rising (key_of x f)) _
-    (mapped IsKey IsWrittenOrder rising (key_of x f) (key-written x f) (λ key h. h))
-    (where_true IsWrittenOrder (is_word (codes "down") w) (option_map falling (key_of x f)) (λ _. mapped IsKey IsWrittenOrder falling (key_of x f) (key-written x f) (λ key h. h)))
-sorting-written ts = tt
+sorting-written : (at : List ℕ) (ts : PlainTrees) → IfGot (sorting_in_trees at ts) IsWrittenOrder
+sorting-written at (PlainTrees.more w (PlainTrees.more x (PlainTrees.more f PlainTrees.none))) =
+    either IsWrittenOrder (is_word (codes "up") w) (read_map rising (key_of at x f)) _
+    (mapped IsKey IsWrittenOrder rising (key_of at x f) (key-written at x f) (λ key h. h))
+    (where_true IsWrittenOrder (is_word (codes "down") w) (read_map falling (key_of at x f)) (faults.Form at wants.Order) (λ _. mapped IsKey IsWrittenOrder falling (key_of at x f) (key-written at x f) (λ key h. h)))
+sorting-written at ts = tt
 
-order-written : (t : PlainTree) → IfSome (order_of_tree t) IsWrittenOrder
-order-written (PlainTree.atom a) = where_true IsWrittenOrder (bytes_eq a (codes "key")) (Some orders.Key) (λ _. tt)
-order-written (PlainTree.text x) = tt
-order-written (PlainTree.list ts) = sorting-written ts
+order-written : (at : List ℕ) (t : PlainTree) → IfGot (order_in_tree at t) IsWrittenOrder
+order-written at (PlainTree.atom a) = where_true IsWrittenOrder (bytes_eq a (codes "key")) (got orders.Key) (faults.Form at wants.Order) (λ _. tt)
+order-written at (PlainTree.text x) = tt
+order-written at (PlainTree.list ts) = sorting-written at ts
 
-number_or_name-written : (a : List ℕ) (o : Option ℤ) → IfSome (number_or_name a o) IsWrittenExpression
-number_or_name-written a (Some i) = tt
-number_or_name-written a None = mapped IsName IsWrittenExpression Expression.name (named a) (named-written a) (λ x h. h)
+number_or_name-written : (at : List ℕ) (a : List ℕ) (o : Option ℤ) → IfGot (number_or_name at a o) IsWrittenExpression
+number_or_name-written at a (Some i) = tt
+number_or_name-written at a None = mapped IsName IsWrittenExpression Expression.name (named wants.Expression at a) (named-written wants.Expression at a) (λ x h. h)
 
-atom-written : (a : List ℕ) → IfSome (atom_expression a) IsWrittenExpression
-atom-written a =
-    either IsWrittenExpression (bytes_eq a (codes "true")) (Some (Expression.bool true)) _ tt
-    (either IsWrittenExpression (bytes_eq a (codes "false")) (Some (Expression.bool false)) _ tt
-    (either IsWrittenExpression (bytes_eq a (codes "this")) (Some Expression.this) _ tt
-    (either IsWrittenExpression (bytes_eq a (codes "viewer")) (Some Expression.viewer) _ tt (number_or_name-written a (integer_of a)))))
+atom-written : (at : List ℕ) (a : List ℕ) → IfGot (atom_expression at a) IsWrittenExpression
+atom-written at a =
+    either IsWrittenExpression (bytes_eq a (codes "true")) (got (Expression.bool true)) _ tt
+    (either IsWrittenExpression (bytes_eq a (codes "false")) (got (Expression.bool false)) _ tt
+    (either IsWrittenExpression (bytes_eq a (codes "this")) (got Expression.this) _ tt
+    (either IsWrittenExpression (bytes_eq a (codes "viewer")) (got Expression.viewer) _ tt (number_or_name-written at a (integer_of a)))))
 
-none-written : (ts : PlainTrees) → IfSome (none_of_trees ts) IsWrittenExpression
-none-written (PlainTrees.more m PlainTrees.none) = mapped IsName IsWrittenExpression Expression.none_of (name_of_tree m) (name-written m) (λ x h. h)
-none-written ts = tt
+none-written : (at : List ℕ) (ts : PlainTrees) → IfGot (none_in_trees at ts) IsWrittenExpression
+none-written at (PlainTrees.more m PlainTrees.none) = mapped IsName IsWrittenExpression Expression.none_of (name_in_tree (child at 1) m) (name-written (child at 1) m) (λ x h. h)
+none-written at ts = tt
 
-question-written : (most : ℕ) (bs : Option (List Binder)) (c : Option Expression) (o : Option Order) → IfSome bs (AreBinders most) → IfSome c IsWrittenExpression → IfSome o IsWrittenOrder
-    → IfSome (question_if bs c o) (IsWrittenQuestion most)
+question-written : (most : ℕ) (bs : Read (List Binder)) (c : Read Expression) (o : Read Order) → IfGot bs (AreBinders most) → IfGot c IsWrittenExpression → IfGot o IsWrittenOrder
+    → IfGot (question_if bs c o) (IsWrittenQuestion most)
 question-written most bs c o h k l =
-    chained (AreBinders most) (IsWrittenQuestion most) (λ binders. option_and_then (λ cond. option_map (question binders cond) o) c) bs h (λ binders p.
-    chained IsWrittenExpression (IsWrittenQuestion most) (λ cond. option_map (question binders cond) o) c k (λ cond q.
+    chained (AreBinders most) (IsWrittenQuestion most) (λ binders. read_and_then (λ cond. read_map (question binders cond) o) c) bs h (λ binders p.
+    chained IsWrittenExpression (IsWrittenQuestion most) (λ cond. read_map (question binders cond) o) c k (λ cond q.
     mapped IsWrittenOrder (IsWrittenQuestion most) (question binders cond) o l (λ order r. (p, q, r))))
 
 -- the operands of a form, in each way that some form takes them
 record AreOperands (operands : Operands) : Type 0 where
-  none_of : IfSome operands.none_of IsWrittenExpression
-  one : IfSome operands.one IsWrittenExpression
-  two : (op : Op) → IfSome (operands.two op) IsWrittenExpression
-  get : IfSome operands.get IsWrittenExpression
-  pick : IfSome operands.pick IsWrittenExpression
-  parts : IfSome operands.parts AreWrittenExpressions
-  asked : (most : ℕ) → IfSome (operands.asked most) (IsWrittenQuestion most)
-  sum : IfSome operands.sum IsWrittenExpression
+  none_of : IfGot operands.none_of IsWrittenExpression
+  one : IfGot operands.one IsWrittenExpression
+  two : (op : Op) → IfGot (operands.two op) IsWrittenExpression
+  get : IfGot operands.get IsWrittenExpression
+  pick : IfGot operands.pick IsWrittenExpression
+  parts : IfGot operands.parts AreWrittenExpressions
+  asked : (most : ℕ) → IfGot (operands.asked most) (IsWrittenQuestion most)
+  sum : IfGot operands.sum IsWrittenExpression
 
-form-written : (form : Option Form) (operands : Operands) → AreOperands operands → IfSome (expression_of_form form operands) IsWrittenExpression
-form-written None operands h = tt
-form-written (Some forms.NoneOf) operands h = h.none_of
-form-written (Some forms.Get) operands h = h.get
-form-written (Some forms.Live) operands h = mapped IsWrittenExpression IsWrittenExpression Expression.live operands.one h.one (λ x k. k)
-form-written (Some (forms.Two op)) operands h = h.two op
-form-written (Some forms.Not) operands h = mapped IsWrittenExpression IsWrittenExpression Expression.negated operands.one h.one (λ x k. k)
-form-written (Some forms.Cat) operands h = mapped AreWrittenExpressions IsWrittenExpression Expression.cat operands.parts h.parts (λ x k. k)
-form-written (Some forms.Str) operands h = mapped IsWrittenExpression IsWrittenExpression Expression.str operands.one h.one (λ x k. k)
-form-written (Some forms.Pick) operands h = h.pick
-form-written (Some forms.Count) operands h = mapped (IsWrittenQuestion 1) IsWrittenExpression counted (operands.asked 1) (h.asked 1) (λ x k. k)
-form-written (Some forms.Sum) operands h = h.sum
-form-written (Some forms.AnyOf) operands h = mapped (IsWrittenQuestion 3) IsWrittenExpression asked (operands.asked 3) (h.asked 3) (λ x k. k)
-form-written (Some forms.First) operands h = mapped (IsWrittenQuestion 3) IsWrittenExpression first_of (operands.asked 3) (h.asked 3) (λ x k. k)
+form-written : (at : List ℕ) (form : Option Form) (operands : Operands) → AreOperands operands → IfGot (expression_of_form at form operands) IsWrittenExpression
+form-written at None operands h = tt
+form-written at (Some forms.NoneOf) operands h = h.none_of
+form-written at (Some forms.Get) operands h = h.get
+form-written at (Some forms.Live) operands h = mapped IsWrittenExpression IsWrittenExpression Expression.live operands.one h.one (λ x k. k)
+form-written at (Some (forms.Two op)) operands h = h.two op
+form-written at (Some forms.Not) operands h = mapped IsWrittenExpression IsWrittenExpression Expression.negated operands.one h.one (λ x k. k)
+form-written at (Some forms.Cat) operands h = mapped AreWrittenExpressions IsWrittenExpression Expression.cat operands.parts h.parts (λ x k. k)
+form-written at (Some forms.Str) operands h = mapped IsWrittenExpression IsWrittenExpression Expression.str operands.one h.one (λ x k. k)
+form-written at (Some forms.Pick) operands h = h.pick
+form-written at (Some forms.Count) operands h = mapped (IsWrittenQuestion 1) IsWrittenExpression counted (operands.asked 1) (h.asked 1) (λ x k. k)
+form-written at (Some forms.Sum) operands h = h.sum
+form-written at (Some forms.AnyOf) operands h = mapped (IsWrittenQuestion 3) IsWrittenExpression asked (operands.asked 3) (h.asked 3) (λ x k. k)
+form-written at (Some forms.First) operands h = mapped (IsWrittenQuestion 3) IsWrittenExpression first_of (operands.asked 3) (h.asked 3) (λ x k. k)
 
 mutual
-  pub expression-written : (t : PlainTree) → IfSome (expression_of_tree t) IsWrittenExpression
-  expression-written (PlainTree.atom a) = atom-written a
-  expression-written (PlainTree.text x) = tt
-  expression-written (PlainTree.list ts) = list-written ts
+  pub expression-written : (at : List ℕ) (t : PlainTree) → IfGot (expression_in_tree at t) IsWrittenExpression
+  expression-written at (PlainTree.atom a) = atom-written at a
+  expression-written at (PlainTree.text x) = tt
+  expression-written at (PlainTree.list ts) = list-written at ts
 
-  list-written : (ts : PlainTrees) → IfSome (expression_of_list ts) IsWrittenExpression
-  list-written PlainTrees.none = tt
-  list-written (PlainTrees.more head ts) =
-      form-written (form_of head) (operands_of ts) (record {
-        none_of = none-written ts;
-        one = one-written ts;
-        two = two-written ts;
-        get = get-written ts;
-        pick = pick-written ts;
-        parts = parts-written ts;
-        asked = query-written ts;
-        sum = sum-written ts;
+  list-written : (at : List ℕ) (ts : PlainTrees) → IfGot (expression_in_list at ts) IsWrittenExpression
+  list-written at PlainTrees.none = tt
+  list-written at (PlainTrees.more head ts) =
+      form-written at (form_of head) (operands_of at ts) (record {
+        none_of = none-written at ts;
+        one = one-written wants.Expression at ts;
+        two = two-written at ts;
+        get = get-written at ts;
+        pick = pick-written at ts;
+        parts = parts-written at 1 ts;
+        asked = query-written at ts;
+        sum = sum-written at ts;
       })
 
-  pub one-written : (ts : PlainTrees) → IfSome (one_of_trees ts) IsWrittenExpression
-  one-written (PlainTrees.more a PlainTrees.none) = expression-written a
-  one-written PlainTrees.none = tt
-  one-written (PlainTrees.more a (PlainTrees.more b ts)) = tt
+  pub one-written : (want : Want) (at : List ℕ) (ts : PlainTrees) → IfGot (one_in_trees want at ts) IsWrittenExpression
+  one-written want at (PlainTrees.more a PlainTrees.none) = expression-written (child at 1) a
+  one-written want at PlainTrees.none = tt
+  one-written want at (PlainTrees.more a (PlainTrees.more b ts)) = tt
 
-  two-written : (ts : PlainTrees) (op : Op) → IfSome (two_of_trees ts op) IsWrittenExpression
-  two-written (PlainTrees.more a (PlainTrees.more b PlainTrees.none)) op =
-      chained IsWrittenExpression IsWrittenExpression (λ x. option_map (Expression.two op x) (expression_of_tree b)) (expression_of_tree a) (expression-written a) (λ x h.
-      mapped IsWrittenExpression IsWrittenExpression (Expression.two op x) (expression_of_tree b) (expression-written b) (λ y k. (h, k)))
-  two-written PlainTrees.none op = tt
-  two-written (PlainTrees.more a PlainTrees.none) op = tt
-  two-written (PlainTrees.more a (PlainTrees.more b (PlainTrees.more c ts))) op = tt
+  two-written : (at : List ℕ) (ts : PlainTrees) (op : Op) → IfGot (two_in_trees at ts op) IsWrittenExpression
+  two-written at (PlainTrees.more a (PlainTrees.more b PlainTrees.none)) op =
+      chained IsWrittenExpression IsWrittenExpression (λ x. read_map (Expression.two op x) (expression_in_tree (child at 2) b)) (expression_in_tree (child at 1) a) (expression-written (child at 1) a) (λ x h.
+      mapped IsWrittenExpression IsWrittenExpression (Expression.two op x) (expression_in_tree (child at 2) b) (expression-written (child at 2) b) (λ y k. (h, k)))
+  two-written at PlainTrees.none op = tt
+  two-written at (PlainTrees.more a PlainTrees.none) op = tt
+  two-written at (PlainTrees.more a (PlainTrees.more b (PlainTrees.more c ts))) op = tt
 
-  pick-written : (ts : PlainTrees) → IfSome (pick_of_trees ts) IsWrittenExpression
-  pick-written (PlainTrees.more c (PlainTrees.more a (PlainTrees.more b PlainTrees.none))) =
-      chained IsWrittenExpression IsWrittenExpression (λ x. option_and_then (λ y. option_map (Expression.pick x y) (expression_of_tree b)) (expression_of_tree a)) (expression_of_tree c) (expression-written c) (λ x h.
-      chained IsWrittenExpression IsWrittenExpression (λ y. option_map (Expression.pick x y) (expression_of_tree b)) (expression_of_tree a) (expression-written a) (λ y k.
-      mapped IsWrittenExpression IsWrittenExpression (Expression.pick x y) (expression_of_tree b) (expression-written b) (λ z l. (h, k, l))))
-  pick-written PlainTrees.none = tt
-  pick-written (PlainTrees.more c PlainTrees.none) = tt
-  pick-written (PlainTrees.more c (PlainTrees.more a PlainTrees.none)) = tt
-  pick-written (PlainTrees.more c (PlainTrees.more a (PlainTrees.more b (PlainTrees.more d ts)))) = tt
+  pick-written : (at : List ℕ) (ts : PlainTrees) → IfGot (pick_in_trees at ts) IsWrittenExpression
+  pick-written at (PlainTrees.more c (PlainTrees.more a (PlainTrees.more b PlainTrees.none))) =
+      chained IsWrittenExpression IsWrittenExpression (λ x. read_and_then (λ y. read_map (Expression.pick x y) (expression_in_tree (child at 3) b)) (expression_in_tree (child at 2) a)) (expression_in_tree (child at 1) c) (expression-written (child at 1) c) (λ x h.
+      chained IsWrittenExpression IsWrittenExpression (λ y. read_map (Expression.pick x y) (expression_in_tree (child at 3) b)) (expression_in_tree (child at 2) a) (expression-written (child at 2) a) (λ y k.
+      mapped IsWrittenExpression IsWrittenExpression (Expression.pick x y) (expression_in_tree (child at 3) b) (expression-written (child at 3) b) (λ z l. (h, k, l))))
+  pick-written at PlainTrees.none = tt
+  pick-written at (PlainTrees.more c PlainTrees.none) = tt
+  pick-written at (PlainTrees.more c (PlainTrees.more a PlainTrees.none)) = tt
+  pick-written at (PlainTrees.more c (PlainTrees.more a (PlainTrees.more b (PlainTrees.more d ts)))) = tt
 
-  get-written : (ts : PlainTrees) → IfSome (get_of_trees ts) IsWrittenExpression
-  get-written (PlainTrees.more m (PlainTrees.more f (PlainTrees.more e PlainTrees.none))) =
-      chained IsName IsWrittenExpression (λ model. option_and_then (λ field. option_map (Expression.get model field) (expression_of_tree e)) (name_of_tree f)) (name_of_tree m) (name-written m) (λ x h.
-      chained IsName IsWrittenExpression (λ field. option_map (Expression.get x field) (expression_of_tree e)) (name_of_tree f) (name-written f) (λ y k.
-      mapped IsWrittenExpression IsWrittenExpression (Expression.get x y) (expression_of_tree e) (expression-written e) (λ z l. (h, k, l))))
-  get-written PlainTrees.none = tt
-  get-written (PlainTrees.more m PlainTrees.none) = tt
-  get-written (PlainTrees.more m (PlainTrees.more f PlainTrees.none)) = tt
-  get-written (PlainTrees.more m (PlainTrees.more f (PlainTrees.more e (PlainTrees.more d ts)))) = tt
+  get-written : (at : List ℕ) (ts : PlainTrees) → IfGot (get_in_trees at ts) IsWrittenExpression
+  get-written at (PlainTrees.more m (PlainTrees.more f (PlainTrees.more e PlainTrees.none))) =
+      chained IsName IsWrittenExpression (λ model. read_and_then (λ field. read_map (Expression.get model field) (expression_in_tree (child at 3) e)) (name_in_tree (child at 2) f)) (name_in_tree (child at 1) m) (name-written (child at 1) m) (λ x h.
+      chained IsName IsWrittenExpression (λ field. read_map (Expression.get x field) (expression_in_tree (child at 3) e)) (name_in_tree (child at 2) f) (name-written (child at 2) f) (λ y k.
+      mapped IsWrittenExpression IsWrittenExpression (Expression.get x y) (expression_in_tree (child at 3) e) (expression-written (child at 3) e) (λ z l. (h, k, l))))
+  get-written at PlainTrees.none = tt
+  get-written at (PlainTrees.more m PlainTrees.none) = tt
+  get-written at (PlainTrees.more m (PlainTrees.more f PlainTrees.none)) = tt
+  get-written at (PlainTrees.more m (PlainTrees.more f (PlainTrees.more e (PlainTrees.more d ts)))) = tt
 
-  parts-written : (ts : PlainTrees) → IfSome (expressions_of_trees ts) AreWrittenExpressions
-  parts-written PlainTrees.none = tt
-  parts-written (PlainTrees.more t ts) =
-      chained IsWrittenExpression AreWrittenExpressions (λ e. option_map (Expressions.more e) (expressions_of_trees ts)) (expression_of_tree t) (expression-written t) (λ x h.
-      mapped AreWrittenExpressions AreWrittenExpressions (Expressions.more x) (expressions_of_trees ts) (parts-written ts) (λ y k. (h, k)))
+  parts-written : (at : List ℕ) (k : ℕ) (ts : PlainTrees) → IfGot (expressions_in_trees at k ts) AreWrittenExpressions
+  parts-written at k PlainTrees.none = tt
+  parts-written at k (PlainTrees.more t ts) =
+      chained IsWrittenExpression AreWrittenExpressions (λ e. read_map (Expressions.more e) (expressions_in_trees at (k + 1) ts)) (expression_in_tree (child at k) t) (expression-written (child at k) t) (λ x h.
+      mapped AreWrittenExpressions AreWrittenExpressions (Expressions.more x) (expressions_in_trees at (k + 1) ts) (parts-written at (k + 1) ts) (λ y l. (h, l)))
 
-  query-written : (ts : PlainTrees) (most : ℕ) → IfSome (query_of_trees ts most) (IsWrittenQuestion most)
-  query-written (PlainTrees.more q PlainTrees.none) most = from-written most q
-  query-written PlainTrees.none most = tt
-  query-written (PlainTrees.more q (PlainTrees.more e ts)) most = tt
+  query-written : (at : List ℕ) (ts : PlainTrees) (most : ℕ) → IfGot (query_in_trees at ts most) (IsWrittenQuestion most)
+  query-written at (PlainTrees.more q PlainTrees.none) most = from-written most (child at 1) q
+  query-written at PlainTrees.none most = tt
+  query-written at (PlainTrees.more q (PlainTrees.more e ts)) most = tt
 
-  sum-written : (ts : PlainTrees) → IfSome (sum_of_trees ts) IsWrittenExpression
-  sum-written (PlainTrees.more q (PlainTrees.more e PlainTrees.none)) =
-      chained (IsWrittenQuestion 1) IsWrittenExpression (λ asked. option_map (summed asked) (expression_of_tree e)) (question_of_tree 1 q) (from-written 1 q) (λ x h.
-      mapped IsWrittenExpression IsWrittenExpression (summed x) (expression_of_tree e) (expression-written e) (λ y k. (h.0, h.1, h.2, k)))
-  sum-written PlainTrees.none = tt
-  sum-written (PlainTrees.more q PlainTrees.none) = tt
-  sum-written (PlainTrees.more q (PlainTrees.more e (PlainTrees.more d ts))) = tt
+  sum-written : (at : List ℕ) (ts : PlainTrees) → IfGot (sum_in_trees at ts) IsWrittenExpression
+  sum-written at (PlainTrees.more q (PlainTrees.more e PlainTrees.none)) =
+      chained (IsWrittenQuestion 1) IsWrittenExpression (λ asked. read_map (summed asked) (expression_in_tree (child at 2) e)) (question_in_tree 1 (child at 1) q) (from-written 1 (child at 1) q) (λ x h.
+      mapped IsWrittenExpression IsWrittenExpression (summed x) (expression_in_tree (child at 2) e) (expression-written (child at 2) e) (λ y k. (h.0, h.1, h.2, k)))
+  sum-written at PlainTrees.none = tt
+  sum-written at (PlainTrees.more q PlainTrees.none) = tt
+  sum-written at (PlainTrees.more q (PlainTrees.more e (PlainTrees.more d ts))) = tt
 
-  pub from-written : (most : ℕ) (t : PlainTree) → IfSome (question_of_tree most t) (IsWrittenQuestion most)
-  from-written most (PlainTree.list (PlainTrees.more w (PlainTrees.more bs (PlainTrees.more c (PlainTrees.more o PlainTrees.none))))) =
-      where_true (IsWrittenQuestion most) (is_word (codes "from") w) (question_if (binders_of_tree most bs) (expression_of_tree c) (order_of_tree o)) (λ _.
-      question-written most (binders_of_tree most bs) (expression_of_tree c) (order_of_tree o) (query_binders-written most bs) (expression-written c) (order-written o))
-  from-written most t = tt
+  pub from-written : (most : ℕ) (at : List ℕ) (t : PlainTree) → IfGot (question_in_tree most at t) (IsWrittenQuestion most)
+  from-written most at (PlainTree.list (PlainTrees.more w (PlainTrees.more bs (PlainTrees.more c (PlainTrees.more o PlainTrees.none))))) =
+      where_true (IsWrittenQuestion most) (is_word (codes "from") w) _ (faults.Form at wants.Query) (λ _.
+      where_true (IsWrittenQuestion most) (has_few most bs) (question_if (binders_in_tree most (child at 1) bs) (expression_in_tree (child at 2) c) (order_in_tree (child at 3) o)) (faults.Form at wants.Query) (λ _.
+      question-written most (binders_in_tree most (child at 1) bs) (expression_in_tree (child at 2) c) (order_in_tree (child at 3) o) (query_binders-written most (child at 1) bs) (expression-written (child at 2) c) (order-written (child at 3) o)))
+  from-written most at t = tt

@@ -1,6 +1,5 @@
 -- Applications as trees write them.
 use Rattle.std.specs.Prelude.{ℕ, ◌+◌, Bool, false, nat_le, if◌then◌else◌, Option, Some, None, List, [], ◌∷◌, codes}
-use Rattle.std.specs.Option.{option_map, option_and_then}
 use Rattle.std.specs.Str.{bytes_eq}
 use Rattle.jac_lang.specs.Syntax.{Expression, Assigned, FieldGroup, Entity, Page, Application}
 use Rattle.jac_lang.specs.declared.field_kinds.Field.{Field}
@@ -10,9 +9,14 @@ use Rattle.jac_lang.specs.declared.pages.Verb.{Verb}
 use Rattle.jac_lang.specs.declared.pages.Verb.TheVariants as verbs
 use Rattle.jac_tree.specs.Plain.{PlainTree, PlainTrees}
 use Rattle.jac_value.specs.Paths.{is_path}
-use Rattle.jac_forms.specs.Names.{count, is_word, name_of_tree, tail_of, each_of_trees, up_to}
-use Rattle.jac_forms.specs.Expressions.{one_of_trees}
-use Rattle.jac_forms.specs.Statements.{Body, assigned_of_tree, statements_of_trees}
+use Rattle.jac_forms.specs.Places.{child}
+use Rattle.jac_forms.specs.Reads.{Read, got, wrong, many, read_map, read_and_then, up_to, got_where, behind, value_of}
+use Rattle.jac_forms.specs.Names.{count, is_word, name_in_tree, tail_of, each_in_trees}
+use Rattle.jac_forms.specs.Expressions.{one_in_trees}
+use Rattle.jac_forms.specs.Statements.{Body, assigned_in_tree, statements_in_trees, creates}
+use Rattle.jac_forms.specs.declared.fault.Want.{Want}
+use Rattle.jac_forms.specs.declared.fault.Want.TheVariants as wants
+use Rattle.jac_forms.specs.declared.fault.What.TheVariants as whats
 
 -- `int`, `text` or `bool`
 abbrev pub plain_kind_of : List ℕ → Option KindName
@@ -21,93 +25,94 @@ plain_kind_of a =
     if bytes_eq a (codes "text") then Some kinds.Text else
     if bytes_eq a (codes "bool") then Some kinds.Bool else None
 
--- one name
-abbrev pub one_name_of_trees : PlainTrees → Option (List ℕ)
-one_name_of_trees (PlainTrees.more t PlainTrees.none) = name_of_tree t
-one_name_of_trees ts = None
+-- one name; what is none is a fault of `want`
+abbrev pub one_name_in_trees : Want → List ℕ → PlainTrees → Read (List ℕ)
+one_name_in_trees want at (PlainTrees.more t PlainTrees.none) = name_in_tree (child at 1) t
+one_name_in_trees want at ts = wrong want at
 
 -- a kind: one of those words, or `(ref NAME)`
-abbrev pub kind_of_tree : PlainTree → Option KindName
-kind_of_tree (PlainTree.atom a) = plain_kind_of a
-kind_of_tree t = option_map kinds.Ref (option_and_then one_name_of_trees (tail_of (codes "ref") t))
+abbrev pub kind_in_tree : List ℕ → PlainTree → Read KindName
+kind_in_tree at (PlainTree.atom a) = got_where wants.Kind at (plain_kind_of a)
+kind_in_tree at t = read_map kinds.Ref (behind wants.Kind at (one_name_in_trees wants.Kind at) (tail_of (codes "ref") t))
 
 abbrev pub field : List ℕ → KindName → Field
 field name kind = record { name = name; kind = kind }
 
--- `(NAME kind)`
-abbrev pub field_of_tree : PlainTree → Option Field
-field_of_tree (PlainTree.list (PlainTrees.more x (PlainTrees.more k PlainTrees.none))) =
-    option_and_then (λ name. option_map (field name) (kind_of_tree k)) (name_of_tree x)
-field_of_tree t = None
+-- `(NAME kind)`; what is none is a fault of `want`
+abbrev pub field_in_tree : Want → List ℕ → PlainTree → Read Field
+field_in_tree want at (PlainTree.list (PlainTrees.more x (PlainTrees.more k PlainTrees.none))) =
+    read_and_then (λ name. read_map (field name) (kind_in_tree (child at 1) k)) (name_in_tree (child at 0) x)
+field_in_tree want at t = wrong want at
 
 -- `(fields field ..)`, at most 32
-abbrev pub few_fields : PlainTrees → Option (List Field)
-few_fields ts = up_to 32 (count ts) (each_of_trees field_of_tree ts)
+abbrev pub few_fields : List ℕ → PlainTrees → Read (List Field)
+few_fields at ts = up_to whats.Fields at 32 (count ts) (each_in_trees (field_in_tree wants.Field) at 1 ts)
 
-abbrev pub fields_of_tree : PlainTree → Option (List Field)
-fields_of_tree t = option_and_then few_fields (tail_of (codes "fields") t)
+abbrev pub fields_in_tree : List ℕ → PlainTree → Read (List Field)
+fields_in_tree at t = behind wants.Fields at (few_fields at) (tail_of (codes "fields") t)
 
 -- `(params field ..)`
-abbrev pub params_of_tree : PlainTree → Option (List Field)
-params_of_tree t = option_and_then (each_of_trees field_of_tree) (tail_of (codes "params") t)
+abbrev pub params_in_tree : List ℕ → PlainTree → Read (List Field)
+params_in_tree at t = behind wants.Params at (each_in_trees (field_in_tree wants.Param) at 1) (tail_of (codes "params") t)
 
 -- one or more guards
-abbrev pub some_guards : PlainTrees → Option (List Assigned)
-some_guards ts = if nat_le (count ts) 0 then None else each_of_trees assigned_of_tree ts
+abbrev pub some_guards : List ℕ → PlainTrees → Read (List Assigned)
+some_guards at ts = if nat_le (count ts) 0 then wrong wants.Guard at else each_in_trees (assigned_in_tree wants.Guard) at 1 ts
 
 -- `(guards (NAME expression)+)`
-abbrev pub guards_of_tree : PlainTree → Option (List Assigned)
-guards_of_tree t = option_and_then some_guards (tail_of (codes "guards") t)
+abbrev pub guards_in_tree : List ℕ → PlainTree → Read (List Assigned)
+guards_in_tree at t = behind wants.Guard at (some_guards at) (tail_of (codes "guards") t)
 
 -- `(policy expression)`
-abbrev pub policy_of_tree : PlainTree → Option Expression
-policy_of_tree t = option_and_then one_of_trees (tail_of (codes "policy") t)
+abbrev pub policy_in_tree : List ℕ → PlainTree → Read Expression
+policy_in_tree at t = behind wants.Policy at (one_in_trees wants.Policy at) (tail_of (codes "policy") t)
 
 abbrev pub group : List Assigned → Expression → FieldGroup
 group guards policy = record { guards = guards; policy = policy }
 
 -- `(group guards policy)`
-abbrev pub group_of_trees : PlainTrees → Option FieldGroup
-group_of_trees (PlainTrees.more gs (PlainTrees.more p PlainTrees.none)) =
-    option_and_then (λ guards. option_map (group guards) (policy_of_tree p)) (guards_of_tree gs)
-group_of_trees ts = None
+abbrev pub group_in_trees : List ℕ → PlainTrees → Read FieldGroup
+group_in_trees at (PlainTrees.more gs (PlainTrees.more p PlainTrees.none)) =
+    read_and_then (λ guards. read_map (group guards) (policy_in_tree (child at 2) p)) (guards_in_tree (child at 1) gs)
+group_in_trees at ts = wrong wants.Group at
 
-abbrev pub group_of_tree : PlainTree → Option FieldGroup
-group_of_tree t = option_and_then group_of_trees (tail_of (codes "group") t)
+abbrev pub group_in_tree : List ℕ → PlainTree → Read FieldGroup
+group_in_tree at t = behind wants.Group at (group_in_trees at) (tail_of (codes "group") t)
 
 abbrev pub entity : List ℕ → List Field → List FieldGroup → Entity
 entity name fields groups = record { name = name; fields = fields; groups = groups }
 
 -- `(model NAME fields group ..)` of at most 8 groups
-abbrev pub entity_of_trees : PlainTrees → Option Entity
-entity_of_trees (PlainTrees.more x (PlainTrees.more fs gs)) =
-    up_to 8 (count gs) (option_and_then (λ name. option_and_then (λ fields. option_map (entity name fields) (each_of_trees group_of_tree gs)) (fields_of_tree fs)) (name_of_tree x))
-entity_of_trees ts = None
+abbrev pub entity_in_trees : List ℕ → PlainTrees → Read Entity
+entity_in_trees at (PlainTrees.more x (PlainTrees.more fs gs)) =
+    up_to whats.Groups at 8 (count gs) (read_and_then (λ name. read_and_then (λ fields. read_map (entity name fields) (each_in_trees group_in_tree at 3 gs)) (fields_in_tree (child at 2) fs)) (name_in_tree (child at 1) x))
+entity_in_trees at ts = wrong wants.Item at
 
-abbrev pub entity_of_tree : PlainTree → Option Entity
-entity_of_tree t = option_and_then entity_of_trees (tail_of (codes "model") t)
+abbrev pub entity_in_tree : List ℕ → PlainTree → Read Entity
+entity_in_tree at t = behind wants.Item at (entity_in_trees at) (tail_of (codes "model") t)
 
 -- `get` or `post`
-abbrev pub method_of_tree : PlainTree → Option Verb
-method_of_tree t = if is_word (codes "get") t then Some verbs.Get else if is_word (codes "post") t then Some verbs.Post else None
+abbrev pub method_in_tree : List ℕ → PlainTree → Read Verb
+method_in_tree at t = if is_word (codes "get") t then got verbs.Get else if is_word (codes "post") t then got verbs.Post else wrong wants.Method at
 
 -- a text that is a path
-abbrev pub path_of_tree : PlainTree → Option (List ℕ)
-path_of_tree (PlainTree.text x) = if is_path x then Some x else None
-path_of_tree t = None
+abbrev pub path_in_tree : List ℕ → PlainTree → Read (List ℕ)
+path_in_tree at (PlainTree.text x) = if is_path x then got x else wrong wants.Path at
+path_in_tree at t = wrong wants.Path at
 
 -- a view of at most 64 sites
-abbrev pub page : Verb → List ℕ → List Field → Body → Option Page
-page method path params body = up_to 64 body.next (Some (record { method = method; path = path; params = params; body = body.statements }))
+abbrev pub page : List ℕ → Verb → List ℕ → List Field → Body → Read Page
+page at method path params body =
+    if nat_le body.next 64 then got (record { method = method; path = path; params = params; body = body.statements }) else many whats.Sites at (creates body.statements)
 
 -- `(view method "path" params statement ..)`
-abbrev pub page_of_trees : PlainTrees → Option Page
-page_of_trees (PlainTrees.more m (PlainTrees.more p (PlainTrees.more ps ss))) =
-    option_and_then (λ method. option_and_then (λ path. option_and_then (λ params. option_and_then (page method path params) (statements_of_trees ss 0)) (params_of_tree ps)) (path_of_tree p)) (method_of_tree m)
-page_of_trees ts = None
+abbrev pub page_in_trees : List ℕ → PlainTrees → Read Page
+page_in_trees at (PlainTrees.more m (PlainTrees.more p (PlainTrees.more ps ss))) =
+    read_and_then (λ method. read_and_then (λ path. read_and_then (λ params. read_and_then (page at method path params) (statements_in_trees at 4 ss 0)) (params_in_tree (child at 3) ps)) (path_in_tree (child at 2) p)) (method_in_tree (child at 1) m)
+page_in_trees at ts = wrong wants.Item at
 
-abbrev pub page_of_tree : PlainTree → Option Page
-page_of_tree t = option_and_then page_of_trees (tail_of (codes "view") t)
+abbrev pub page_in_tree : List ℕ → PlainTree → Read Page
+page_in_tree at t = behind wants.Item at (page_in_trees at) (tail_of (codes "view") t)
 
 -- a list with this word as its head
 abbrev pub is_headed : List ℕ → PlainTree → Bool
@@ -130,36 +135,40 @@ items models views = record { models = models; views = views }
 abbrev pub after_model : Entity → Items → Items
 after_model m is = items (m ∷ is.models) is.views
 
--- models, and then views
-abbrev pub items_of_trees : PlainTrees → Option Items
-items_of_trees PlainTrees.none = Some (items [] [])
-items_of_trees (PlainTrees.more t ts) =
+-- models, and then views, of which the first is child k
+abbrev pub items_in_trees : List ℕ → ℕ → PlainTrees → Read Items
+items_in_trees at k PlainTrees.none = got (items [] [])
+items_in_trees at k (PlainTrees.more t ts) =
     if is_headed (codes "model") t
-    then option_and_then (λ m. option_map (after_model m) (items_of_trees ts)) (entity_of_tree t)
-    else option_map (items []) (each_of_trees page_of_tree (PlainTrees.more t ts))
+    then read_and_then (λ m. read_map (after_model m) (items_in_trees at (k + 1) ts)) (entity_in_tree (child at k) t)
+    else read_map (items []) (each_in_trees page_in_tree at k (PlainTrees.more t ts))
 
 abbrev pub application : Option (List ℕ) → Items → Application
 application viewer is = record { viewer = viewer; models = is.models; views = is.views }
 
 -- `(viewer NAME)`
-abbrev pub viewer_of_tree : PlainTree → Option (List ℕ)
-viewer_of_tree t = option_and_then one_name_of_trees (tail_of (codes "viewer") t)
+abbrev pub viewer_in_tree : List ℕ → PlainTree → Read (List ℕ)
+viewer_in_tree at t = behind wants.Item at (one_name_in_trees wants.Item at) (tail_of (codes "viewer") t)
 
-abbrev pub with_viewer : PlainTrees → List ℕ → Option Application
-with_viewer ts name = option_map (application (Some name)) (items_of_trees ts)
+abbrev pub with_viewer : List ℕ → PlainTrees → List ℕ → Read Application
+with_viewer at ts name = read_map (application (Some name)) (items_in_trees at 2 ts)
 
 -- the viewer's model, where it is named, and the items
-abbrev pub application_of_items : PlainTrees → Option Application
-application_of_items PlainTrees.none = option_map (application None) (items_of_trees PlainTrees.none)
-application_of_items (PlainTrees.more t ts) =
+abbrev pub application_of_items : List ℕ → PlainTrees → Read Application
+application_of_items at PlainTrees.none = read_map (application None) (items_in_trees at 1 PlainTrees.none)
+application_of_items at (PlainTrees.more t ts) =
     if is_headed (codes "viewer") t
-    then option_and_then (with_viewer ts) (viewer_of_tree t)
-    else option_map (application None) (items_of_trees (PlainTrees.more t ts))
+    then read_and_then (with_viewer at ts) (viewer_in_tree (child at 1) t)
+    else read_map (application None) (items_in_trees at 1 (PlainTrees.more t ts))
 
 -- at most 64 models
-abbrev pub application_of_trees : PlainTrees → Option Application
-application_of_trees ts = up_to 64 (headed (codes "model") ts) (application_of_items ts)
+abbrev pub application_in_trees : List ℕ → PlainTrees → Read Application
+application_in_trees at ts = up_to whats.Models at 64 (headed (codes "model") ts) (application_of_items at ts)
 
 -- `(app (viewer NAME)? model .. view ..)`
+abbrev pub application_in_tree : List ℕ → PlainTree → Read Application
+application_in_tree at t = behind wants.App at (application_in_trees at) (tail_of (codes "app") t)
+
+-- the application that a tree writes
 abbrev pub application_of_tree : PlainTree → Option Application
-application_of_tree t = option_and_then application_of_trees (tail_of (codes "app") t)
+application_of_tree t = value_of (application_in_tree [] t)

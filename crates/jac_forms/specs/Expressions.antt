@@ -1,6 +1,5 @@
 -- Expressions and queries as trees write them.
-use Rattle.std.specs.Prelude.{ℕ, ℤ, true, false, nat_le, if◌then◌else◌, Option, Some, None, List, [], ◌∷◌, codes}
-use Rattle.std.specs.Option.{option_map, option_and_then}
+use Rattle.std.specs.Prelude.{ℕ, ◌+◌, ℤ, Bool, true, false, nat_le, if◌then◌else◌, Option, Some, None, List, [], ◌∷◌, codes}
 use Rattle.std.specs.Str.{bytes_eq}
 use Rattle.jac_lang.specs.Syntax.{Expression, Expressions, Question}
 use Rattle.jac_lang.specs.declared.expressions.Op.{Op}
@@ -10,7 +9,12 @@ use Rattle.jac_lang.specs.declared.queries.Order.{Order}
 use Rattle.jac_lang.specs.declared.queries.Order.TheVariants as orders
 use Rattle.jac_tree.specs.Plain.{PlainTree, PlainTrees}
 use Rattle.jac_value.specs.Values.{integer_of}
-use Rattle.jac_forms.specs.Names.{count, is_word, name_of_tree, named}
+use Rattle.jac_forms.specs.Places.{child}
+use Rattle.jac_forms.specs.Reads.{Read, got, wrong, read_map, read_and_then, up_to, value_of}
+use Rattle.jac_forms.specs.Names.{count, is_word, name_in_tree, named}
+use Rattle.jac_forms.specs.declared.fault.Want.{Want}
+use Rattle.jac_forms.specs.declared.fault.Want.TheVariants as wants
+use Rattle.jac_forms.specs.declared.fault.What.TheVariants as whats
 use Rattle.jac_forms.specs.declared.queries.Most.{Most}
 use Rattle.jac_forms.specs.declared.queries.Most.TheVariants as mosts
 use Rattle.jac_forms.specs.declared.words.Form.{Form}
@@ -60,29 +64,30 @@ form_of (PlainTree.atom a) = form_of_word a
 form_of t = None
 
 -- an atom as an expression: a reserved word, an integer or a name
-abbrev pub number_or_name : List ℕ → Option ℤ → Option Expression
-number_or_name a (Some i) = Some (Expression.int i)
-number_or_name a None = option_map Expression.name (named a)
+abbrev pub number_or_name : List ℕ → List ℕ → Option ℤ → Read Expression
+number_or_name at a (Some i) = got (Expression.int i)
+number_or_name at a None = read_map Expression.name (named wants.Expression at a)
 
-abbrev pub atom_expression : List ℕ → Option Expression
-atom_expression a =
-    if bytes_eq a (codes "true") then Some (Expression.bool true) else
-    if bytes_eq a (codes "false") then Some (Expression.bool false) else
-    if bytes_eq a (codes "this") then Some Expression.this else
-    if bytes_eq a (codes "viewer") then Some Expression.viewer else number_or_name a (integer_of a)
+abbrev pub atom_expression : List ℕ → List ℕ → Read Expression
+atom_expression at a =
+    if bytes_eq a (codes "true") then got (Expression.bool true) else
+    if bytes_eq a (codes "false") then got (Expression.bool false) else
+    if bytes_eq a (codes "this") then got Expression.this else
+    if bytes_eq a (codes "viewer") then got Expression.viewer else number_or_name at a (integer_of a)
 
 abbrev pub binder : List ℕ → List ℕ → Binder
 binder name model = record { name = name; model = model }
 
 -- `(NAME NAME)`
-abbrev pub binder_of_tree : PlainTree → Option Binder
-binder_of_tree (PlainTree.list (PlainTrees.more x (PlainTrees.more m PlainTrees.none))) =
-    option_and_then (λ name. option_map (binder name) (name_of_tree m)) (name_of_tree x)
-binder_of_tree t = None
+abbrev pub binder_in_tree : List ℕ → PlainTree → Read Binder
+binder_in_tree at (PlainTree.list (PlainTrees.more x (PlainTrees.more m PlainTrees.none))) =
+    read_and_then (λ name. read_map (binder name) (name_in_tree (child at 1) m)) (name_in_tree (child at 0) x)
+binder_in_tree at t = wrong wants.Binder at
 
-abbrev pub binders_of_trees : PlainTrees → Option (List Binder)
-binders_of_trees PlainTrees.none = Some []
-binders_of_trees (PlainTrees.more t ts) = option_and_then (λ b. option_map (λ bs. b ∷ bs) (binders_of_trees ts)) (binder_of_tree t)
+abbrev pub binders_in_trees : List ℕ → ℕ → PlainTrees → Read (List Binder)
+binders_in_trees at k PlainTrees.none = got []
+binders_in_trees at k (PlainTrees.more t ts) =
+    read_and_then (λ b. read_map (λ bs. b ∷ bs) (binders_in_trees at (k + 1) ts)) (binder_in_tree (child at k) t)
 
 -- how many binders a query may have
 abbrev pub most_binders : Most → ℕ
@@ -90,12 +95,18 @@ most_binders mosts.One = 1
 most_binders mosts.Three = 3
 
 -- one or more binders, up to `most`
-abbrev pub some_binders : ℕ → PlainTrees → Option (List Binder)
-some_binders most ts = if nat_le (count ts) 0 then None else if nat_le (count ts) most then binders_of_trees ts else None
+abbrev pub some_binders : ℕ → List ℕ → PlainTrees → Read (List Binder)
+some_binders most at ts =
+    if nat_le (count ts) 0 then wrong wants.Binder at else up_to whats.Binders at most (count ts) (binders_in_trees at 0 ts)
 
-abbrev pub binders_of_tree : ℕ → PlainTree → Option (List Binder)
-binders_of_tree most (PlainTree.list ts) = some_binders most ts
-binders_of_tree most t = None
+abbrev pub binders_in_tree : ℕ → List ℕ → PlainTree → Read (List Binder)
+binders_in_tree most at (PlainTree.list ts) = some_binders most at ts
+binders_in_tree most at t = wrong wants.Binder at
+
+-- where only one binder may stand, more of them make no query
+abbrev pub has_few : ℕ → PlainTree → Bool
+has_few most (PlainTree.list ts) = if nat_le most 1 then nat_le (count ts) most else true
+has_few most t = true
 
 -- a binder and its field, by which answers are sorted
 pub record SortKey : Type 0 where
@@ -105,8 +116,8 @@ pub record SortKey : Type 0 where
 abbrev pub sort_key : List ℕ → List ℕ → SortKey
 sort_key x f = record { binder = x; field = f }
 
-abbrev pub key_of : PlainTree → PlainTree → Option SortKey
-key_of x f = option_and_then (λ name. option_map (sort_key name) (name_of_tree f)) (name_of_tree x)
+abbrev pub key_of : List ℕ → PlainTree → PlainTree → Read SortKey
+key_of at x f = read_and_then (λ name. read_map (sort_key name) (name_in_tree (child at 2) f)) (name_in_tree (child at 1) x)
 
 abbrev pub rising : SortKey → Order
 rising key = orders.Up key.binder key.field
@@ -115,22 +126,23 @@ abbrev pub falling : SortKey → Order
 falling key = orders.Down key.binder key.field
 
 -- `(up NAME NAME)` or `(down NAME NAME)`
-abbrev pub sorting_of_trees : PlainTrees → Option Order
-sorting_of_trees (PlainTrees.more w (PlainTrees.more x (PlainTrees.more f PlainTrees.none))) =
-    if is_word (codes "up") w then option_map rising (key_of x f) else if is_word (codes "down") w then option_map falling (key_of x f) else None
-sorting_of_trees ts = None
+abbrev pub sorting_in_trees : List ℕ → PlainTrees → Read Order
+sorting_in_trees at (PlainTrees.more w (PlainTrees.more x (PlainTrees.more f PlainTrees.none))) =
+    if is_word (codes "up") w then read_map rising (key_of at x f) else if is_word (codes "down") w then read_map falling (key_of at x f) else wrong wants.Order at
+sorting_in_trees at ts = wrong wants.Order at
 
 -- `key`, or a field of a binder, rising or falling
-abbrev pub order_of_tree : PlainTree → Option Order
-order_of_tree (PlainTree.atom a) = if bytes_eq a (codes "key") then Some orders.Key else None
-order_of_tree (PlainTree.text x) = None
-order_of_tree (PlainTree.list ts) = sorting_of_trees ts
+abbrev pub order_in_tree : List ℕ → PlainTree → Read Order
+order_in_tree at (PlainTree.atom a) = if bytes_eq a (codes "key") then got orders.Key else wrong wants.Order at
+order_in_tree at (PlainTree.text x) = wrong wants.Order at
+order_in_tree at (PlainTree.list ts) = sorting_in_trees at ts
 
 abbrev pub question : List Binder → Expression → Order → Question
 question bs c o = record { binders = bs; cond = c; order = o }
 
-abbrev pub question_if : Option (List Binder) → Option Expression → Option Order → Option Question
-question_if bs c o = option_and_then (λ binders. option_and_then (λ cond. option_map (question binders cond) o) c) bs
+-- the first fault of the three, from the left
+abbrev pub question_if : Read (List Binder) → Read Expression → Read Order → Read Question
+question_if bs c o = read_and_then (λ binders. read_and_then (λ cond. read_map (question binders cond) o) c) bs
 
 -- the forms with a query
 abbrev pub counted : Question → Expression
@@ -146,112 +158,126 @@ abbrev pub first_of : Question → Expression
 first_of q = Expression.first q.binders q.cond q.order
 
 -- `(none NAME)`
-abbrev pub none_of_trees : PlainTrees → Option Expression
-none_of_trees (PlainTrees.more m PlainTrees.none) = option_map Expression.none_of (name_of_tree m)
-none_of_trees ts = None
+abbrev pub none_in_trees : List ℕ → PlainTrees → Read Expression
+none_in_trees at (PlainTrees.more m PlainTrees.none) = read_map Expression.none_of (name_in_tree (child at 1) m)
+none_in_trees at ts = wrong wants.Expression at
 
 -- the operands of a form, read in each way that some form takes them
 pub record Operands : Type 0 where
-  pub none_of : Option Expression
-  pub one : Option Expression
-  pub two : Op → Option Expression
-  pub get : Option Expression
-  pub pick : Option Expression
-  pub parts : Option Expressions
-  pub asked : ℕ → Option Question
-  pub sum : Option Expression
+  pub none_of : Read Expression
+  pub one : Read Expression
+  pub two : Op → Read Expression
+  pub get : Read Expression
+  pub pick : Read Expression
+  pub parts : Read Expressions
+  pub asked : ℕ → Read Question
+  pub sum : Read Expression
 
 -- a form with its operands
-abbrev pub expression_of_form : Option Form → Operands → Option Expression
-expression_of_form None operands = None
-expression_of_form (Some forms.NoneOf) operands = operands.none_of
-expression_of_form (Some forms.Get) operands = operands.get
-expression_of_form (Some forms.Live) operands = option_map Expression.live operands.one
-expression_of_form (Some (forms.Two op)) operands = operands.two op
-expression_of_form (Some forms.Not) operands = option_map Expression.negated operands.one
-expression_of_form (Some forms.Cat) operands = option_map Expression.cat operands.parts
-expression_of_form (Some forms.Str) operands = option_map Expression.str operands.one
-expression_of_form (Some forms.Pick) operands = operands.pick
-expression_of_form (Some forms.Count) operands = option_map counted (operands.asked 1)
-expression_of_form (Some forms.Sum) operands = operands.sum
-expression_of_form (Some forms.AnyOf) operands = option_map asked (operands.asked 3)
-expression_of_form (Some forms.First) operands = option_map first_of (operands.asked 3)
+abbrev pub expression_of_form : List ℕ → Option Form → Operands → Read Expression
+expression_of_form at None operands = wrong wants.Expression at
+expression_of_form at (Some forms.NoneOf) operands = operands.none_of
+expression_of_form at (Some forms.Get) operands = operands.get
+expression_of_form at (Some forms.Live) operands = read_map Expression.live operands.one
+expression_of_form at (Some (forms.Two op)) operands = operands.two op
+expression_of_form at (Some forms.Not) operands = read_map Expression.negated operands.one
+expression_of_form at (Some forms.Cat) operands = read_map Expression.cat operands.parts
+expression_of_form at (Some forms.Str) operands = read_map Expression.str operands.one
+expression_of_form at (Some forms.Pick) operands = operands.pick
+expression_of_form at (Some forms.Count) operands = read_map counted (operands.asked 1)
+expression_of_form at (Some forms.Sum) operands = operands.sum
+expression_of_form at (Some forms.AnyOf) operands = read_map asked (operands.asked 3)
+expression_of_form at (Some forms.First) operands = read_map first_of (operands.asked 3)
 
+-- Each definition takes the path of its tree; one of operands takes the path of the list that they stand in,
+-- where they are the children from 1 on.
 abbrev mutual
   -- an expression
-  pub expression_of_tree : PlainTree → Option Expression
-  expression_of_tree (PlainTree.atom a) = atom_expression a
-  expression_of_tree (PlainTree.text x) = Some (Expression.text x)
-  expression_of_tree (PlainTree.list ts) = expression_of_list ts
+  pub expression_in_tree : List ℕ → PlainTree → Read Expression
+  expression_in_tree at (PlainTree.atom a) = atom_expression at a
+  expression_in_tree at (PlainTree.text x) = got (Expression.text x)
+  expression_in_tree at (PlainTree.list ts) = expression_in_list at ts
 
   -- a list, which begins with the word of its form
-  pub expression_of_list : PlainTrees → Option Expression
-  expression_of_list PlainTrees.none = None
-  expression_of_list (PlainTrees.more head ts) =
-      expression_of_form (form_of head) (record {
-        none_of = none_of_trees ts;
-        one = one_of_trees ts;
-        two = two_of_trees ts;
-        get = get_of_trees ts;
-        pick = pick_of_trees ts;
-        parts = expressions_of_trees ts;
-        asked = query_of_trees ts;
-        sum = sum_of_trees ts;
+  pub expression_in_list : List ℕ → PlainTrees → Read Expression
+  expression_in_list at PlainTrees.none = wrong wants.Expression at
+  expression_in_list at (PlainTrees.more head ts) =
+      expression_of_form at (form_of head) (record {
+        none_of = none_in_trees at ts;
+        one = one_in_trees wants.Expression at ts;
+        two = two_in_trees at ts;
+        get = get_in_trees at ts;
+        pick = pick_in_trees at ts;
+        parts = expressions_in_trees at 1 ts;
+        asked = query_in_trees at ts;
+        sum = sum_in_trees at ts;
       })
 
   -- one expression
-  pub one_of_trees : PlainTrees → Option Expression
-  one_of_trees (PlainTrees.more a PlainTrees.none) = expression_of_tree a
-  one_of_trees ts = None
+  pub one_in_trees : Want → List ℕ → PlainTrees → Read Expression
+  one_in_trees want at (PlainTrees.more a PlainTrees.none) = expression_in_tree (child at 1) a
+  one_in_trees want at ts = wrong want at
 
   -- two
-  pub two_of_trees : PlainTrees → Op → Option Expression
-  two_of_trees (PlainTrees.more a (PlainTrees.more b PlainTrees.none)) op =
-      option_and_then (λ x. option_map (Expression.two op x) (expression_of_tree b)) (expression_of_tree a)
-  two_of_trees ts op = None
+  pub two_in_trees : List ℕ → PlainTrees → Op → Read Expression
+  two_in_trees at (PlainTrees.more a (PlainTrees.more b PlainTrees.none)) op =
+      read_and_then (λ x. read_map (Expression.two op x) (expression_in_tree (child at 2) b)) (expression_in_tree (child at 1) a)
+  two_in_trees at ts op = wrong wants.Expression at
 
   -- a condition and two choices
-  pub pick_of_trees : PlainTrees → Option Expression
-  pick_of_trees (PlainTrees.more c (PlainTrees.more a (PlainTrees.more b PlainTrees.none))) =
-      option_and_then (λ x. option_and_then (λ y. option_map (Expression.pick x y) (expression_of_tree b)) (expression_of_tree a)) (expression_of_tree c)
-  pick_of_trees ts = None
+  pub pick_in_trees : List ℕ → PlainTrees → Read Expression
+  pick_in_trees at (PlainTrees.more c (PlainTrees.more a (PlainTrees.more b PlainTrees.none))) =
+      read_and_then (λ x. read_and_then (λ y. read_map (Expression.pick x y) (expression_in_tree (child at 3) b)) (expression_in_tree (child at 2) a)) (expression_in_tree (child at 1) c)
+  pick_in_trees at ts = wrong wants.Expression at
 
   -- a model, a field and the reference
-  pub get_of_trees : PlainTrees → Option Expression
-  get_of_trees (PlainTrees.more m (PlainTrees.more f (PlainTrees.more e PlainTrees.none))) =
-      option_and_then (λ model. option_and_then (λ field. option_map (Expression.get model field) (expression_of_tree e)) (name_of_tree f)) (name_of_tree m)
-  get_of_trees ts = None
+  pub get_in_trees : List ℕ → PlainTrees → Read Expression
+  get_in_trees at (PlainTrees.more m (PlainTrees.more f (PlainTrees.more e PlainTrees.none))) =
+      read_and_then (λ model. read_and_then (λ field. read_map (Expression.get model field) (expression_in_tree (child at 3) e)) (name_in_tree (child at 2) f)) (name_in_tree (child at 1) m)
+  get_in_trees at ts = wrong wants.Expression at
 
-  -- any number
-  pub expressions_of_trees : PlainTrees → Option Expressions
-  expressions_of_trees PlainTrees.none = Some Expressions.none
-  expressions_of_trees (PlainTrees.more t ts) = option_and_then (λ e. option_map (Expressions.more e) (expressions_of_trees ts)) (expression_of_tree t)
+  -- any number, of which the first is child k
+  pub expressions_in_trees : List ℕ → ℕ → PlainTrees → Read Expressions
+  expressions_in_trees at k PlainTrees.none = got Expressions.none
+  expressions_in_trees at k (PlainTrees.more t ts) =
+      read_and_then (λ e. read_map (Expressions.more e) (expressions_in_trees at (k + 1) ts)) (expression_in_tree (child at k) t)
 
   -- one query, of up to `most` binders
-  pub query_of_trees : PlainTrees → ℕ → Option Question
-  query_of_trees (PlainTrees.more q PlainTrees.none) most = question_of_tree most q
-  query_of_trees ts most = None
+  pub query_in_trees : List ℕ → PlainTrees → ℕ → Read Question
+  query_in_trees at (PlainTrees.more q PlainTrees.none) most = question_in_tree most (child at 1) q
+  query_in_trees at ts most = wrong wants.Expression at
 
   -- a query of one binder and an expression
-  pub sum_of_trees : PlainTrees → Option Expression
-  sum_of_trees (PlainTrees.more q (PlainTrees.more e PlainTrees.none)) =
-      option_and_then (λ asked. option_map (summed asked) (expression_of_tree e)) (question_of_tree 1 q)
-  sum_of_trees ts = None
+  pub sum_in_trees : List ℕ → PlainTrees → Read Expression
+  sum_in_trees at (PlainTrees.more q (PlainTrees.more e PlainTrees.none)) =
+      read_and_then (λ asked. read_map (summed asked) (expression_in_tree (child at 2) e)) (question_in_tree 1 (child at 1) q)
+  sum_in_trees at ts = wrong wants.Expression at
 
   -- `(from ((NAME NAME)+) expression order)` of up to `most` binders
-  pub question_of_tree : ℕ → PlainTree → Option Question
-  question_of_tree most (PlainTree.list (PlainTrees.more w (PlainTrees.more bs (PlainTrees.more c (PlainTrees.more o PlainTrees.none))))) =
-      if is_word (codes "from") w then question_if (binders_of_tree most bs) (expression_of_tree c) (order_of_tree o) else None
-  question_of_tree most t = None
+  pub question_in_tree : ℕ → List ℕ → PlainTree → Read Question
+  question_in_tree most at (PlainTree.list (PlainTrees.more w (PlainTrees.more bs (PlainTrees.more c (PlainTrees.more o PlainTrees.none))))) =
+      if is_word (codes "from") w
+      then if has_few most bs
+      then question_if (binders_in_tree most (child at 1) bs) (expression_in_tree (child at 2) c) (order_in_tree (child at 3) o)
+      else wrong wants.Query at
+      else wrong wants.Query at
+  question_in_tree most at t = wrong wants.Query at
 
-abbrev pub operands_of : PlainTrees → Operands
-operands_of ts = record {
-  none_of = none_of_trees ts;
-  one = one_of_trees ts;
-  two = two_of_trees ts;
-  get = get_of_trees ts;
-  pick = pick_of_trees ts;
-  parts = expressions_of_trees ts;
-  asked = query_of_trees ts;
-  sum = sum_of_trees ts;
+abbrev pub operands_of : List ℕ → PlainTrees → Operands
+operands_of at ts = record {
+  none_of = none_in_trees at ts;
+  one = one_in_trees wants.Expression at ts;
+  two = two_in_trees at ts;
+  get = get_in_trees at ts;
+  pick = pick_in_trees at ts;
+  parts = expressions_in_trees at 1 ts;
+  asked = query_in_trees at ts;
+  sum = sum_in_trees at ts;
 }
+
+-- the expression, and the query of up to `most` binders, that a tree writes
+abbrev pub expression_of_tree : PlainTree → Option Expression
+expression_of_tree t = value_of (expression_in_tree [] t)
+
+abbrev pub question_of_tree : ℕ → PlainTree → Option Question
+question_of_tree most t = value_of (question_in_tree most [] t)

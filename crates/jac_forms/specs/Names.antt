@@ -1,9 +1,12 @@
 -- Words, names, and lists of trees.
-use Rattle.std.specs.Prelude.{ℕ, ◌+◌, Bool, false, nat_le, if◌then◌else◌, Option, Some, None, List, [], ◌∷◌}
-use Rattle.std.specs.Option.{option_map, option_and_then}
+use Rattle.std.specs.Prelude.{ℕ, ◌+◌, Bool, false, if◌then◌else◌, Option, Some, None, List, [], ◌∷◌}
 use Rattle.std.specs.Str.{bytes_eq}
 use Rattle.jac_tree.specs.Plain.{PlainTree, PlainTrees}
 use Rattle.jac_value.specs.Names.{is_name}
+use Rattle.jac_forms.specs.Places.{child}
+use Rattle.jac_forms.specs.Reads.{Read, got, wrong, read_map, read_and_then, value_of}
+use Rattle.jac_forms.specs.declared.fault.Want.{Want}
+use Rattle.jac_forms.specs.declared.fault.Want.TheVariants as wants
 
 -- how many trees stand in a list
 abbrev pub count : PlainTrees → ℕ
@@ -23,20 +26,20 @@ tail_of word (PlainTree.text x) = None
 tail_of word (PlainTree.list PlainTrees.none) = None
 tail_of word (PlainTree.list (PlainTrees.more w ts)) = if is_word word w then Some ts else None
 
--- what is read of each tree
-abbrev pub each_of_trees : {A : Type 0} → (PlainTree → Option A) → PlainTrees → Option (List A)
-each_of_trees read PlainTrees.none = Some []
-each_of_trees read (PlainTrees.more t ts) = option_and_then (λ first. option_map (λ rest. first ∷ rest) (each_of_trees read ts)) (read t)
-
--- what is read, where there are at most so many
-abbrev pub up_to : {A : Type 0} → ℕ → ℕ → Option A → Option A
-up_to most n read = if nat_le n most then read else None
+-- what is read of each tree, of which the first is child k of the list at this path
+abbrev pub each_in_trees : {A : Type 0} → (List ℕ → PlainTree → Read A) → List ℕ → ℕ → PlainTrees → Read (List A)
+each_in_trees read at k PlainTrees.none = got []
+each_in_trees read at k (PlainTrees.more t ts) = read_and_then (λ first. read_map (λ rest. first ∷ rest) (each_in_trees read at (k + 1) ts)) (read (child at k) t)
 
 -- the bytes, where they are a name
-abbrev pub named : List ℕ → Option (List ℕ)
-named a = if is_name a then Some a else None
+abbrev pub named : Want → List ℕ → List ℕ → Read (List ℕ)
+named want at a = if is_name a then got a else wrong want at
 
 -- the name that a tree is
+abbrev pub name_in_tree : List ℕ → PlainTree → Read (List ℕ)
+name_in_tree at (PlainTree.atom a) = named wants.Name at a
+name_in_tree at t = wrong wants.Name at
+
+-- the same, where no fault is asked
 abbrev pub name_of_tree : PlainTree → Option (List ℕ)
-name_of_tree (PlainTree.atom a) = named a
-name_of_tree t = None
+name_of_tree t = value_of (name_in_tree [] t)

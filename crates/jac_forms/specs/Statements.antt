@@ -1,11 +1,14 @@
 -- Statements as trees write them.
 use Rattle.std.specs.Prelude.{ℕ, ◌+◌, min, if◌then◌else◌, Option, Some, None, List, codes}
-use Rattle.std.specs.Option.{option_map, option_and_then}
 use Rattle.std.specs.Str.{bytes_eq}
 use Rattle.jac_lang.specs.Syntax.{Expression, Question, Assigned, Statement, Statements}
 use Rattle.jac_tree.specs.Plain.{PlainTree, PlainTrees}
-use Rattle.jac_forms.specs.Names.{name_of_tree, tail_of, each_of_trees}
-use Rattle.jac_forms.specs.Expressions.{expression_of_tree, one_of_trees, question_of_tree}
+use Rattle.jac_forms.specs.Places.{child}
+use Rattle.jac_forms.specs.Reads.{Read, got, wrong, read_map, read_and_then, behind}
+use Rattle.jac_forms.specs.Names.{name_in_tree, tail_of, each_in_trees}
+use Rattle.jac_forms.specs.Expressions.{expression_in_tree, one_in_trees, question_in_tree}
+use Rattle.jac_forms.specs.declared.fault.Want.{Want}
+use Rattle.jac_forms.specs.declared.fault.Want.TheVariants as wants
 use Rattle.jac_forms.specs.declared.steps.Single.{Single}
 use Rattle.jac_forms.specs.declared.steps.Single.TheVariants as singles
 use Rattle.jac_forms.specs.declared.steps.Step.{Step}
@@ -46,52 +49,52 @@ step_of t = None
 abbrev pub assigned : List ℕ → Expression → Assigned
 assigned field value = record { field = field; value = value }
 
--- `(NAME expression)`
-abbrev pub assigned_of_tree : PlainTree → Option Assigned
-assigned_of_tree (PlainTree.list (PlainTrees.more f (PlainTrees.more e PlainTrees.none))) =
-    option_and_then (λ field. option_map (assigned field) (expression_of_tree e)) (name_of_tree f)
-assigned_of_tree t = None
+-- `(NAME expression)`; what is none is a fault of `want`
+abbrev pub assigned_in_tree : Want → List ℕ → PlainTree → Read Assigned
+assigned_in_tree want at (PlainTree.list (PlainTrees.more f (PlainTrees.more e PlainTrees.none))) =
+    read_and_then (λ field. read_map (assigned field) (expression_in_tree (child at 1) e)) (name_in_tree (child at 0) f)
+assigned_in_tree want at t = wrong want at
 
 -- `(set (NAME expression) ..)`
-abbrev pub set_of_tree : PlainTree → Option (List Assigned)
-set_of_tree t = option_and_then (each_of_trees assigned_of_tree) (tail_of (codes "set") t)
+abbrev pub set_in_tree : List ℕ → PlainTree → Read (List Assigned)
+set_in_tree at t = behind wants.Set at (each_in_trees (assigned_in_tree wants.Cell) at 1) (tail_of (codes "set") t)
 
 -- a name and an expression
-abbrev pub assign_of_trees : PlainTrees → Option Statement
-assign_of_trees (PlainTrees.more x (PlainTrees.more e PlainTrees.none)) =
-    option_and_then (λ name. option_map (Statement.assign name) (expression_of_tree e)) (name_of_tree x)
-assign_of_trees ts = None
+abbrev pub assign_in_trees : List ℕ → PlainTrees → Read Statement
+assign_in_trees at (PlainTrees.more x (PlainTrees.more e PlainTrees.none)) =
+    read_and_then (λ name. read_map (Statement.assign name) (expression_in_tree (child at 2) e)) (name_in_tree (child at 1) x)
+assign_in_trees at ts = wrong wants.Statement at
 
 -- a model, a reference and a set
-abbrev pub update_of_trees : PlainTrees → Option Statement
-update_of_trees (PlainTrees.more m (PlainTrees.more e (PlainTrees.more s PlainTrees.none))) =
-    option_and_then (λ model. option_and_then (λ target. option_map (Statement.update model target) (set_of_tree s)) (expression_of_tree e)) (name_of_tree m)
-update_of_trees ts = None
+abbrev pub update_in_trees : List ℕ → PlainTrees → Read Statement
+update_in_trees at (PlainTrees.more m (PlainTrees.more e (PlainTrees.more s PlainTrees.none))) =
+    read_and_then (λ model. read_and_then (λ target. read_map (Statement.update model target) (set_in_tree (child at 3) s)) (expression_in_tree (child at 2) e)) (name_in_tree (child at 1) m)
+update_in_trees at ts = wrong wants.Statement at
 
 -- a model and a reference
-abbrev pub delete_of_trees : PlainTrees → Option Statement
-delete_of_trees (PlainTrees.more m (PlainTrees.more e PlainTrees.none)) =
-    option_and_then (λ model. option_map (Statement.delete model) (expression_of_tree e)) (name_of_tree m)
-delete_of_trees ts = None
+abbrev pub delete_in_trees : List ℕ → PlainTrees → Read Statement
+delete_in_trees at (PlainTrees.more m (PlainTrees.more e PlainTrees.none)) =
+    read_and_then (λ model. read_map (Statement.delete model) (expression_in_tree (child at 2) e)) (name_in_tree (child at 1) m)
+delete_in_trees at ts = wrong wants.Statement at
 
-abbrev pub missing_of_trees : PlainTrees → Option Statement
-missing_of_trees PlainTrees.none = Some Statement.missing
-missing_of_trees ts = None
+abbrev pub missing_in_trees : List ℕ → PlainTrees → Read Statement
+missing_in_trees at PlainTrees.none = got Statement.missing
+missing_in_trees at ts = wrong wants.Statement at
 
 -- a text
-abbrev pub template_of_trees : PlainTrees → Option Statement
-template_of_trees (PlainTrees.more (PlainTree.text x) PlainTrees.none) = Some (Statement.template x)
-template_of_trees ts = None
+abbrev pub template_in_trees : List ℕ → PlainTrees → Read Statement
+template_in_trees at (PlainTrees.more (PlainTree.text x) PlainTrees.none) = got (Statement.template x)
+template_in_trees at ts = wrong wants.Statement at
 
-abbrev pub single_of_trees : PlainTrees → Single → Option Statement
-single_of_trees ts singles.Put = option_map Statement.put (one_of_trees ts)
-single_of_trees ts singles.Esc = option_map Statement.escape (one_of_trees ts)
-single_of_trees ts singles.Assign = assign_of_trees ts
-single_of_trees ts singles.Update = update_of_trees ts
-single_of_trees ts singles.Delete = delete_of_trees ts
-single_of_trees ts singles.Missing = missing_of_trees ts
-single_of_trees ts singles.Redirect = option_map Statement.redirect (one_of_trees ts)
-single_of_trees ts singles.Template = template_of_trees ts
+abbrev pub single_in_trees : List ℕ → PlainTrees → Single → Read Statement
+single_in_trees at ts singles.Put = read_map Statement.put (one_in_trees wants.Statement at ts)
+single_in_trees at ts singles.Esc = read_map Statement.escape (one_in_trees wants.Statement at ts)
+single_in_trees at ts singles.Assign = assign_in_trees at ts
+single_in_trees at ts singles.Update = update_in_trees at ts
+single_in_trees at ts singles.Delete = delete_in_trees at ts
+single_in_trees at ts singles.Missing = missing_in_trees at ts
+single_in_trees at ts singles.Redirect = read_map Statement.redirect (one_in_trees wants.Statement at ts)
+single_in_trees at ts singles.Template = template_in_trees at ts
 
 -- a statement, and the site that comes after those of its `create` statements
 pub record Numbered : Type 0 where
@@ -130,79 +133,101 @@ before_body s b = body b.next (Statements.more s b.statements)
 
 -- what stands behind the head, read in each way that some statement takes it
 pub record Operands : Type 0 where
-  pub single : Single → Option Statement
-  pub bind : ℕ → Option Numbered
-  pub branch : ℕ → Option Numbered
-  pub each : ℕ → Option Numbered
-  pub create : ℕ → Option Numbered
+  pub single : Single → Read Statement
+  pub bind : ℕ → Read Numbered
+  pub branch : ℕ → Read Numbered
+  pub each : ℕ → Read Numbered
+  pub create : ℕ → Read Numbered
 
 -- a statement whose first site would be n
-abbrev pub statement_of_step : Option Step → Operands → ℕ → Option Numbered
-statement_of_step None operands n = None
-statement_of_step (Some (steps.Single single)) operands n = option_map (numbered n) (operands.single single)
-statement_of_step (Some steps.Let) operands n = operands.bind n
-statement_of_step (Some steps.If) operands n = operands.branch n
-statement_of_step (Some steps.For) operands n = operands.each n
-statement_of_step (Some steps.Create) operands n = operands.create n
+abbrev pub statement_of_step : List ℕ → Option Step → Operands → ℕ → Read Numbered
+statement_of_step at None operands n = wrong wants.Statement at
+statement_of_step at (Some (steps.Single single)) operands n = read_map (numbered n) (operands.single single)
+statement_of_step at (Some steps.Let) operands n = operands.bind n
+statement_of_step at (Some steps.If) operands n = operands.branch n
+statement_of_step at (Some steps.For) operands n = operands.each n
+statement_of_step at (Some steps.Create) operands n = operands.create n
 
 -- a statement, and statements; their sites are counted from n in the order of the text
 abbrev mutual
-  pub statement_of_tree : PlainTree → ℕ → Option Numbered
-  statement_of_tree (PlainTree.atom a) n = None
-  statement_of_tree (PlainTree.text x) n = None
-  statement_of_tree (PlainTree.list ts) n = statement_of_list ts n
+  pub statement_in_tree : List ℕ → PlainTree → ℕ → Read Numbered
+  statement_in_tree at (PlainTree.atom a) n = wrong wants.Statement at
+  statement_in_tree at (PlainTree.text x) n = wrong wants.Statement at
+  statement_in_tree at (PlainTree.list ts) n = statement_in_list at ts n
 
   -- a list, which begins with the word of its statement
-  pub statement_of_list : PlainTrees → ℕ → Option Numbered
-  statement_of_list PlainTrees.none n = None
-  statement_of_list (PlainTrees.more head ts) n =
-      statement_of_step (step_of head) (record {
-        single = single_of_trees ts;
-        bind = bind_of_trees ts;
-        branch = branch_of_trees ts;
-        each = each_of_query ts;
-        create = create_of_trees ts;
+  pub statement_in_list : List ℕ → PlainTrees → ℕ → Read Numbered
+  statement_in_list at PlainTrees.none n = wrong wants.Statement at
+  statement_in_list at (PlainTrees.more head ts) n =
+      statement_of_step at (step_of head) (record {
+        single = single_in_trees at ts;
+        bind = bind_in_trees at ts;
+        branch = branch_in_trees at ts;
+        each = each_of_query at ts;
+        create = create_in_trees at ts;
       }) n
 
   -- a name, an expression and statements
-  pub bind_of_trees : PlainTrees → ℕ → Option Numbered
-  bind_of_trees (PlainTrees.more x (PlainTrees.more e ss)) n =
-      option_and_then (λ name. option_and_then (λ value. option_map (bind name value) (statements_of_trees ss n)) (expression_of_tree e)) (name_of_tree x)
-  bind_of_trees ts n = None
+  pub bind_in_trees : List ℕ → PlainTrees → ℕ → Read Numbered
+  bind_in_trees at (PlainTrees.more x (PlainTrees.more e ss)) n =
+      read_and_then (λ name. read_and_then (λ value. read_map (bind name value) (statements_in_trees at 3 ss n)) (expression_in_tree (child at 2) e)) (name_in_tree (child at 1) x)
+  bind_in_trees at ts n = wrong wants.Statement at
 
   -- a condition and two lists of statements
-  pub branch_of_trees : PlainTrees → ℕ → Option Numbered
-  branch_of_trees (PlainTrees.more c (PlainTrees.more a (PlainTrees.more b PlainTrees.none))) n =
-      option_and_then (λ cond. option_and_then (λ first. option_map (branch cond first) (body_of_tree b first.next)) (body_of_tree a n)) (expression_of_tree c)
-  branch_of_trees ts n = None
+  pub branch_in_trees : List ℕ → PlainTrees → ℕ → Read Numbered
+  branch_in_trees at (PlainTrees.more c (PlainTrees.more a (PlainTrees.more b PlainTrees.none))) n =
+      read_and_then (λ cond. read_and_then (λ first. read_map (branch cond first) (body_in_tree (child at 3) b first.next)) (body_in_tree (child at 2) a n)) (expression_in_tree (child at 1) c)
+  branch_in_trees at ts n = wrong wants.Statement at
 
   -- a query and statements
-  pub each_of_query : PlainTrees → ℕ → Option Numbered
-  each_of_query (PlainTrees.more q ss) n = option_and_then (λ asked. option_map (each asked) (statements_of_trees ss n)) (question_of_tree 3 q)
-  each_of_query PlainTrees.none n = None
+  pub each_of_query : List ℕ → PlainTrees → ℕ → Read Numbered
+  each_of_query at (PlainTrees.more q ss) n = read_and_then (λ asked. read_map (each asked) (statements_in_trees at 2 ss n)) (question_in_tree 3 (child at 1) q)
+  each_of_query at PlainTrees.none n = wrong wants.Statement at
 
   -- a name, a model, a set and statements; its own site comes before theirs
-  pub create_of_trees : PlainTrees → ℕ → Option Numbered
-  create_of_trees (PlainTrees.more x (PlainTrees.more m (PlainTrees.more s ss))) n =
-      option_and_then (λ name. option_and_then (λ model. option_and_then (λ cells. option_map (create name model n cells) (statements_of_trees ss (next_site n))) (set_of_tree s)) (name_of_tree m)) (name_of_tree x)
-  create_of_trees ts n = None
+  pub create_in_trees : List ℕ → PlainTrees → ℕ → Read Numbered
+  create_in_trees at (PlainTrees.more x (PlainTrees.more m (PlainTrees.more s ss))) n =
+      read_and_then (λ name. read_and_then (λ model. read_and_then (λ cells. read_map (create name model n cells) (statements_in_trees at 4 ss (next_site n))) (set_in_tree (child at 3) s)) (name_in_tree (child at 2) m)) (name_in_tree (child at 1) x)
+  create_in_trees at ts n = wrong wants.Statement at
 
   -- a list of statements
-  pub body_of_tree : PlainTree → ℕ → Option Body
-  body_of_tree (PlainTree.atom a) n = None
-  body_of_tree (PlainTree.text x) n = None
-  body_of_tree (PlainTree.list ts) n = statements_of_trees ts n
+  pub body_in_tree : List ℕ → PlainTree → ℕ → Read Body
+  body_in_tree at (PlainTree.atom a) n = wrong wants.Body at
+  body_in_tree at (PlainTree.text x) n = wrong wants.Body at
+  body_in_tree at (PlainTree.list ts) n = statements_in_trees at 0 ts n
 
-  pub statements_of_trees : PlainTrees → ℕ → Option Body
-  statements_of_trees PlainTrees.none n = Some (body n Statements.none)
-  statements_of_trees (PlainTrees.more t ts) n =
-      option_and_then (λ first. option_map (before_body first.statement) (statements_of_trees ts first.next)) (statement_of_tree t n)
+  -- statements, of which the first is child k
+  pub statements_in_trees : List ℕ → ℕ → PlainTrees → ℕ → Read Body
+  statements_in_trees at k PlainTrees.none n = got (body n Statements.none)
+  statements_in_trees at k (PlainTrees.more t ts) n =
+      read_and_then (λ first. read_map (before_body first.statement) (statements_in_trees at (k + 1) ts first.next)) (statement_in_tree (child at k) t n)
 
-abbrev pub operands_of : PlainTrees → Operands
-operands_of ts = record {
-  single = single_of_trees ts;
-  bind = bind_of_trees ts;
-  branch = branch_of_trees ts;
-  each = each_of_query ts;
-  create = create_of_trees ts;
+abbrev pub operands_of : List ℕ → PlainTrees → Operands
+operands_of at ts = record {
+  single = single_in_trees at ts;
+  bind = bind_in_trees at ts;
+  branch = branch_in_trees at ts;
+  each = each_of_query at ts;
+  create = create_in_trees at ts;
 }
+
+-- how many `create` statements there are
+abbrev mutual
+  pub creates_in : Statement → ℕ
+  creates_in (Statement.put e) = 0
+  creates_in (Statement.escape e) = 0
+  creates_in (Statement.bind x e body) = creates body
+  creates_in (Statement.assign x e) = 0
+  creates_in (Statement.branch c a b) = creates a + creates b
+  creates_in (Statement.each q body) = creates body
+  creates_in (Statement.create x m site cells body) = creates body + 1
+  creates_in (Statement.update m e cells) = 0
+  creates_in (Statement.delete m e) = 0
+  creates_in Statement.missing = 0
+  creates_in (Statement.redirect e) = 0
+  creates_in (Statement.template t) = 0
+  creates_in (Statement.block body) = creates body
+
+  pub creates : Statements → ℕ
+  creates Statements.none = 0
+  creates (Statements.more s ss) = creates_in s + creates ss

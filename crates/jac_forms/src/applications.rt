@@ -1,13 +1,16 @@
-ghost use Rattle.std.specs.Prelude.{◌≡◌, ◌+◌, ◌<◌, ◌≤◌, ◌^◌, Some, None, IfOk, IfErr, IsTrue, length, min, codes};
+ghost use Rattle.std.specs.Prelude.{◌≡◌, ◌<◌, ◌≤◌, ◌^◌, [], Some, None, IfOk, IfErr, IsTrue, length, codes};
 ghost use Rattle.jac_lang.specs.Mirror.{entities_of, pages_of, application_of};
 ghost use Rattle.jac_lang.specs.Written.{IsWritten};
 ghost use Rattle.jac_tree.specs.Mirror.{plain, plain_all};
-ghost use Rattle.jac_forms.specs.Names.{each_of_trees};
+ghost use Rattle.jac_forms.specs.Applications.{application_in_tree, application_in_trees, application_of_items, application_of_tree, headed, is_headed, items, items_in_trees, page_in_tree, viewer_in_tree};
+ghost use Rattle.jac_forms.specs.Names.{each_in_trees};
+ghost use Rattle.jac_forms.specs.Places.{path_of};
+ghost use Rattle.jac_forms.specs.Reads.{got, refused};
 ghost use Rattle.jac_forms.specs.Refusal.{refuses};
-ghost use Rattle.jac_forms.specs.Applications.{page_of_tree, is_headed, headed, items, items_of_trees, viewer_of_tree, application_of_items, application_of_trees, application_of_tree};
 
 use crate::fields::read_only_name;
 use crate::models::read_model;
+use crate::names::{next_count, next_number};
 use crate::place::Place;
 use crate::views::read_view;
 use crate::words::{is_word, tail_of};
@@ -24,12 +27,13 @@ struct Items {
     views: Views,
 }
 
-/// The application that a tree writes, or the tree's first fault. An application of 2^32 views or more is
-/// answered as want of memory.
+/// The application that a tree writes, or the tree's first fault. A list of 2^32 trees or more, and so an
+/// application of as many views, is answered as want of memory.
 pub fn app_of(alloc: Global, tree: &Tree) -> Result<App, FormFault>
     ensures value { IfOk result (λ a. application_of_tree (plain tree.now) ≡ Some (application_of a)) }
     ensures written { IfOk result (λ a. IsWritten (application_of a)) }
     ensures none { IfErr result (λ f. IsTrue (refuses f) → application_of_tree (plain tree.now) ≡ None) }
+    ensures fault { IfErr result (λ f. IsTrue (refuses f) → application_in_tree [] (plain tree.now) ≡ refused f) }
 {
     match tail_of(tree, b"app") {
         Some(trees) => {
@@ -41,11 +45,11 @@ pub fn app_of(alloc: Global, tree: &Tree) -> Result<App, FormFault>
 }
 
 fn read_app(alloc: Global, place: &Place<'_>, trees: &Trees) -> Result<App, FormFault>
-    ensures value { IfOk result (λ a. application_of_trees (plain_all trees.now) ≡ Some (application_of a)) }
+    ensures value { IfOk result (λ a. application_in_trees (path_of place.now) (plain_all trees.now) ≡ got (application_of a)) }
     ensures few { IfOk result (λ a. length a.views < 2 ^ 32) }
-    ensures none { IfErr result (λ f. IsTrue (refuses f) → application_of_trees (plain_all trees.now) ≡ None) }
+    ensures fault { IfErr result (λ f. IsTrue (refuses f) → application_in_trees (path_of place.now) (plain_all trees.now) ≡ refused f) }
 {
-    let models = count_models(trees);
+    let models = count_models(trees)?;
     if models > 64 {
         return Err(place.too_many(alloc, What::Models, models));
     }
@@ -54,18 +58,18 @@ fn read_app(alloc: Global, place: &Place<'_>, trees: &Trees) -> Result<App, Form
 }
 
 // The models are the lists whose head is `model`, wherever they stand.
-fn count_models(trees: &Trees) -> u64
-    ensures { result ≡ min (headed (codes "model") (plain_all trees.now)) 0xFFFF_FFFF_FFFF_FFFF }
+fn count_models(trees: &Trees) -> Result<u64, Memory>
+    ensures { IfOk result (λ number. number ≡ headed (codes "model") (plain_all trees.now)) }
 {
     let mut number: u64 = 0;
     let mut left = trees;
     'trees: while let Trees::More(first, rest) = left {
         if is_headed(first, b"model") {
-            number = number.saturating_add(1);
+            number = next_count(number)?;
         }
         left = rest;
     }
-    number
+    Ok(number)
 }
 
 fn is_headed(tree: &Tree, word: &[u8]) -> bool
@@ -79,9 +83,9 @@ fn is_headed(tree: &Tree, word: &[u8]) -> bool
 
 fn read_viewer_and_items(alloc: Global, place: &Place<'_>, trees: &Trees) -> Result<App, FormFault>
     requires { headed (codes "model") (plain_all trees.now) ≤ 64 }
-    ensures value { IfOk result (λ a. application_of_items (plain_all trees.now) ≡ Some (application_of a)) }
+    ensures value { IfOk result (λ a. application_of_items (path_of place.now) (plain_all trees.now) ≡ got (application_of a)) }
     ensures few { IfOk result (λ a. length a.views < 2 ^ 32) }
-    ensures none { IfErr result (λ f. IsTrue (refuses f) → application_of_items (plain_all trees.now) ≡ None) }
+    ensures fault { IfErr result (λ f. IsTrue (refuses f) → application_of_items (path_of place.now) (plain_all trees.now) ≡ refused f) }
 {
     if let Trees::More(first, rest) = trees {
         if is_headed(first, b"viewer") {
@@ -103,8 +107,8 @@ fn read_viewer_and_items(alloc: Global, place: &Place<'_>, trees: &Trees) -> Res
 }
 
 fn read_viewer(alloc: Global, place: &Place<'_>, tree: &Tree) -> Result<Txt, FormFault>
-    ensures value { IfOk result (λ name. viewer_of_tree (plain tree.now) ≡ Some name) }
-    ensures none { IfErr result (λ f. IsTrue (refuses f) → viewer_of_tree (plain tree.now) ≡ None) }
+    ensures value { IfOk result (λ name. viewer_in_tree (path_of place.now) (plain tree.now) ≡ got name) }
+    ensures fault { IfErr result (λ f. IsTrue (refuses f) → viewer_in_tree (path_of place.now) (plain tree.now) ≡ refused f) }
 {
     match tail_of(tree, b"viewer") {
         Some(trees) => {
@@ -123,9 +127,9 @@ fn read_items(
     trees: &Trees,
 ) -> Result<Items, FormFault>
     requires { headed (codes "model") (plain_all trees.now) ≤ 64 }
-    ensures value { IfOk result (λ is. items_of_trees (plain_all trees.now) ≡ Some (items (entities_of is.models) (pages_of is.views))) }
+    ensures value { IfOk result (λ is. items_in_trees (path_of place.now) first (plain_all trees.now) ≡ got (items (entities_of is.models) (pages_of is.views))) }
     ensures few { IfOk result (λ is. length is.views < 2 ^ 32) }
-    ensures none { IfErr result (λ f. IsTrue (refuses f) → items_of_trees (plain_all trees.now) ≡ None) }
+    ensures fault { IfErr result (λ f. IsTrue (refuses f) → items_in_trees (path_of place.now) first (plain_all trees.now) ≡ refused f) }
 {
     let mut models = Vec::new(alloc);
     let mut number = first;
@@ -140,7 +144,7 @@ fn read_items(
         }
         let model = read_model(alloc, &place.child(number), one)?;
         models.push(model)?;
-        number = number.saturating_add(1);
+        number = next_number(number)?;
         left = rest;
     }
     Ok(Items {
@@ -155,9 +159,9 @@ fn read_views(
     first: u32,
     trees: &Trees,
 ) -> Result<Views, FormFault>
-    ensures value { IfOk result (λ vs. each_of_trees page_of_tree (plain_all trees.now) ≡ Some (pages_of vs)) }
+    ensures value { IfOk result (λ vs. each_in_trees page_in_tree (path_of place.now) first (plain_all trees.now) ≡ got (pages_of vs)) }
     ensures few { IfOk result (λ vs. length vs < 2 ^ 32) }
-    ensures none { IfErr result (λ f. IsTrue (refuses f) → each_of_trees page_of_tree (plain_all trees.now) ≡ None) }
+    ensures fault { IfErr result (λ f. IsTrue (refuses f) → each_in_trees page_in_tree (path_of place.now) first (plain_all trees.now) ≡ refused f) }
 {
     let mut views = Vec::new(alloc);
     let mut number = first;
@@ -169,14 +173,4 @@ fn read_views(
         left = rest;
     }
     Ok(Views::from_vec(views))
-}
-
-// No tree is there for a number past the last of 32 bits.
-fn next_number(number: u32) -> Result<u32, Memory>
-    ensures { IfOk result (λ next. (next ≡ number + 1) × (next < 2 ^ 32)) }
-{
-    match number.checked_add(1) {
-        Some(next) => Ok(next),
-        None => Err(Memory),
-    }
 }

@@ -1,12 +1,14 @@
-ghost use Rattle.std.specs.Prelude.{◌≡◌, Some, None, IfOk, IfErr, IsTrue};
+ghost use Rattle.std.specs.Prelude.{◌≡◌, IfOk, IfErr, IsTrue};
 ghost use Rattle.jac_lang.specs.Mirror.{assigned_of, one_assigned_of};
 ghost use Rattle.jac_tree.specs.Mirror.{plain, plain_all};
-ghost use Rattle.jac_forms.specs.Names.{each_of_trees};
+ghost use Rattle.jac_forms.specs.Statements.{assigned_in_tree, set_in_tree};
+ghost use Rattle.jac_forms.specs.Names.{each_in_trees};
+ghost use Rattle.jac_forms.specs.Places.{path_of};
+ghost use Rattle.jac_forms.specs.Reads.{got, refused};
 ghost use Rattle.jac_forms.specs.Refusal.{refuses};
-ghost use Rattle.jac_forms.specs.Statements.{assigned_of_tree, set_of_tree};
 
 use crate::expressions::read_expr;
-use crate::names::read_name;
+use crate::names::{next_number, read_name};
 use crate::place::Place;
 use crate::words::tail_of;
 use crate::{FormFault, Want};
@@ -15,8 +17,8 @@ use jac_tree::{Tree, Trees};
 use std::alloc::Global;
 
 pub fn read_set(alloc: Global, place: &Place<'_>, tree: &Tree) -> Result<Publics, FormFault>
-    ensures value { IfOk result (λ cells. set_of_tree (plain tree.now) ≡ Some (assigned_of cells)) }
-    ensures none { IfErr result (λ f. IsTrue (refuses f) → set_of_tree (plain tree.now) ≡ None) }
+    ensures value { IfOk result (λ cells. set_in_tree (path_of place.now) (plain tree.now) ≡ got (assigned_of cells)) }
+    ensures fault { IfErr result (λ f. IsTrue (refuses f) → set_in_tree (path_of place.now) (plain tree.now) ≡ refused f) }
 {
     match tail_of(tree, b"set") {
         Some(cells) => {
@@ -34,8 +36,8 @@ pub fn read_assigned(
     want: Want,
     trees: &Trees,
 ) -> Result<Publics, FormFault>
-    ensures value { IfOk result (λ ps. each_of_trees assigned_of_tree (plain_all trees.now) ≡ Some (assigned_of ps)) }
-    ensures none { IfErr result (λ f. IsTrue (refuses f) → each_of_trees assigned_of_tree (plain_all trees.now) ≡ None) }
+    ensures value { IfOk result (λ ps. each_in_trees (assigned_in_tree want) (path_of place.now) 1 (plain_all trees.now) ≡ got (assigned_of ps)) }
+    ensures fault { IfErr result (λ f. IsTrue (refuses f) → each_in_trees (assigned_in_tree want) (path_of place.now) 1 (plain_all trees.now) ≡ refused f) }
 {
     let mut back = Publics::End;
     let mut number: u32 = 1;
@@ -43,7 +45,7 @@ pub fn read_assigned(
     'fields: while let Trees::More(first, rest) = left {
         let first = read_one_assigned(alloc, &place.child(number), want, first)?;
         back = Publics::More(first, Box::new(alloc, back)?);
-        number = number.saturating_add(1);
+        number = next_number(number)?;
         left = rest;
     }
     let assigned = back.before(Publics::End);
@@ -56,8 +58,8 @@ fn read_one_assigned(
     want: Want,
     tree: &Tree,
 ) -> Result<Public, FormFault>
-    ensures value { IfOk result (λ p. assigned_of_tree (plain tree.now) ≡ Some (one_assigned_of p)) }
-    ensures none { IfErr result (λ f. IsTrue (refuses f) → assigned_of_tree (plain tree.now) ≡ None) }
+    ensures value { IfOk result (λ p. assigned_in_tree want (path_of place.now) (plain tree.now) ≡ got (one_assigned_of p)) }
+    ensures fault { IfErr result (λ f. IsTrue (refuses f) → assigned_in_tree want (path_of place.now) (plain tree.now) ≡ refused f) }
 {
     let Tree::List(Trees::More(field, rest)) = tree else {
         return Err(place.form(alloc, want));

@@ -1,12 +1,15 @@
-ghost use Rattle.std.specs.Prelude.{◌≡◌, Some, None, IfOk, IfErr, IsTrue};
+ghost use Rattle.std.specs.Prelude.{◌≡◌, [], Some, None, IfOk, IfErr, IsTrue};
 ghost use Rattle.jac_lang.specs.Mirror.{expression_of, expressions_of, question_of};
 ghost use Rattle.jac_lang.specs.Syntax.{Expression};
 ghost use Rattle.jac_tree.specs.Mirror.{plain, plain_all};
 ghost use Rattle.jac_value.specs.Values.{integer_of};
-ghost use Rattle.jac_forms.specs.Expressions.{expression_of_list, atom_expression, number_or_name, none_of_trees, expression_of_tree, expression_of_form, operands_of, one_of_trees, two_of_trees, pick_of_trees, get_of_trees, expressions_of_trees, query_of_trees, sum_of_trees, question_of_tree, most_binders};
+ghost use Rattle.jac_forms.specs.declared.fault.Want.TheVariants as wants;
+ghost use Rattle.jac_forms.specs.Expressions.{atom_expression, expression_in_list, expression_in_tree, expression_of_form, expression_of_tree, expressions_in_trees, get_in_trees, most_binders, none_in_trees, number_or_name, one_in_trees, operands_of, pick_in_trees, query_in_trees, question_in_tree, question_of_tree, sum_in_trees, two_in_trees};
+ghost use Rattle.jac_forms.specs.Places.{path_of};
+ghost use Rattle.jac_forms.specs.Reads.{got, refused};
 ghost use Rattle.jac_forms.specs.Refusal.{refuses};
 
-use crate::names::read_name;
+use crate::names::{next_number, read_name};
 use crate::place::Place;
 use crate::queries::{Most, has_few, read_binders, read_order};
 use crate::words::{Form, form_of, is_word};
@@ -16,19 +19,23 @@ use jac_tree::{Tree, Trees};
 use jac_value::{Txt, integer_of, is_name};
 use std::alloc::Global;
 
-/// The expression that a tree writes, or the tree's first fault.
+/// The expression that a tree writes, or the tree's first fault. A list of 2^32 trees or more is answered as
+/// want of memory.
 pub fn expr_of(alloc: Global, tree: &Tree) -> Result<Expr, FormFault>
     ensures value { IfOk result (λ e. expression_of_tree (plain tree.now) ≡ Some (expression_of e)) }
     ensures none { IfErr result (λ f. IsTrue (refuses f) → expression_of_tree (plain tree.now) ≡ None) }
+    ensures fault { IfErr result (λ f. IsTrue (refuses f) → expression_in_tree [] (plain tree.now) ≡ refused f) }
 {
     let e = read_expr(alloc, &Place::Top, tree)?;
     Ok(e)
 }
 
-/// The query of one to three binders that a tree writes, or the tree's first fault.
+/// The query of one to three binders that a tree writes, or the tree's first fault. A list of 2^32 trees or
+/// more is answered as want of memory.
 pub fn query_of(alloc: Global, tree: &Tree) -> Result<Query, FormFault>
     ensures value { IfOk result (λ q. question_of_tree 3 (plain tree.now) ≡ Some (question_of q)) }
     ensures none { IfErr result (λ f. IsTrue (refuses f) → question_of_tree 3 (plain tree.now) ≡ None) }
+    ensures fault { IfErr result (λ f. IsTrue (refuses f) → question_in_tree 3 [] (plain tree.now) ≡ refused f) }
 {
     let q = read_query(alloc, &Place::Top, Most::Three, tree)?;
     Ok(q)
@@ -41,8 +48,8 @@ pub fn read_only(
     want: Want,
     trees: &Trees,
 ) -> Result<Expr, FormFault>
-    ensures value { IfOk result (λ e. one_of_trees (plain_all trees.now) ≡ Some (expression_of e)) }
-    ensures none { IfErr result (λ f. IsTrue (refuses f) → one_of_trees (plain_all trees.now) ≡ None) }
+    ensures value { IfOk result (λ e. one_in_trees want (path_of place.now) (plain_all trees.now) ≡ got (expression_of e)) }
+    ensures fault { IfErr result (λ f. IsTrue (refuses f) → one_in_trees want (path_of place.now) (plain_all trees.now) ≡ refused f) }
 {
     let Trees::More(only, rest) = trees else {
         return Err(place.form(alloc, want));
@@ -56,8 +63,8 @@ pub fn read_only(
 
 #[cycle(read)]
 pub fn read_expr(alloc: Global, place: &Place<'_>, tree: &Tree) -> Result<Expr, FormFault>
-    ensures value { IfOk result (λ e. expression_of_tree (plain tree.now) ≡ Some (expression_of e)) }
-    ensures none { IfErr result (λ f. IsTrue (refuses f) → expression_of_tree (plain tree.now) ≡ None) }
+    ensures value { IfOk result (λ e. expression_in_tree (path_of place.now) (plain tree.now) ≡ got (expression_of e)) }
+    ensures fault { IfErr result (λ f. IsTrue (refuses f) → expression_in_tree (path_of place.now) (plain tree.now) ≡ refused f) }
 {
     match tree {
         Tree::Atom(word) => {
@@ -78,8 +85,8 @@ pub fn read_expr(alloc: Global, place: &Place<'_>, tree: &Tree) -> Result<Expr, 
 // A list begins with the word of its form.
 #[cycle(read)]
 fn read_list(alloc: Global, place: &Place<'_>, trees: &Trees) -> Result<Expr, FormFault>
-    ensures value { IfOk result (λ e. expression_of_list (plain_all trees.now) ≡ Some (expression_of e)) }
-    ensures none { IfErr result (λ f. IsTrue (refuses f) → expression_of_list (plain_all trees.now) ≡ None) }
+    ensures value { IfOk result (λ e. expression_in_list (path_of place.now) (plain_all trees.now) ≡ got (expression_of e)) }
+    ensures fault { IfErr result (λ f. IsTrue (refuses f) → expression_in_list (path_of place.now) (plain_all trees.now) ≡ refused f) }
 {
     let Trees::More(head, operands) = trees else {
         return Err(place.form(alloc, Want::Expression));
@@ -94,8 +101,8 @@ fn read_list(alloc: Global, place: &Place<'_>, trees: &Trees) -> Result<Expr, Fo
 }
 
 fn read_atom(alloc: Global, place: &Place<'_>, word: &Txt) -> Result<Expr, FormFault>
-    ensures value { IfOk result (λ e. atom_expression word.now ≡ Some (expression_of e)) }
-    ensures none { IfErr result (λ f. IsTrue (refuses f) → atom_expression word.now ≡ None) }
+    ensures value { IfOk result (λ e. atom_expression (path_of place.now) word.now ≡ got (expression_of e)) }
+    ensures fault { IfErr result (λ f. IsTrue (refuses f) → atom_expression (path_of place.now) word.now ≡ refused f) }
 {
     let text = word.as_str();
     if text == "true" {
@@ -113,8 +120,8 @@ fn read_atom(alloc: Global, place: &Place<'_>, word: &Txt) -> Result<Expr, FormF
 }
 
 fn read_number_or_name(alloc: Global, place: &Place<'_>, word: &Txt) -> Result<Expr, FormFault>
-    ensures value { IfOk result (λ e. number_or_name word.now (integer_of word.now) ≡ Some (expression_of e)) }
-    ensures none { IfErr result (λ f. IsTrue (refuses f) → number_or_name word.now (integer_of word.now) ≡ None) }
+    ensures value { IfOk result (λ e. number_or_name (path_of place.now) word.now (integer_of word.now) ≡ got (expression_of e)) }
+    ensures fault { IfErr result (λ f. IsTrue (refuses f) → number_or_name (path_of place.now) word.now (integer_of word.now) ≡ refused f) }
 {
     match integer_of(word) {
         Some(number) => Ok(Expr::Int(number)),
@@ -136,8 +143,8 @@ fn read_form(
     form: Form,
     operands: &Trees,
 ) -> Result<Expr, FormFault>
-    ensures value { IfOk result (λ e. expression_of_form (Some form) (operands_of (plain_all operands.now)) ≡ Some (expression_of e)) }
-    ensures none { IfErr result (λ f. IsTrue (refuses f) → expression_of_form (Some form) (operands_of (plain_all operands.now)) ≡ None) }
+    ensures value { IfOk result (λ e. expression_of_form (path_of place.now) (Some form) (operands_of (path_of place.now) (plain_all operands.now)) ≡ got (expression_of e)) }
+    ensures fault { IfErr result (λ f. IsTrue (refuses f) → expression_of_form (path_of place.now) (Some form) (operands_of (path_of place.now) (plain_all operands.now)) ≡ refused f) }
 {
     match form {
         Form::NoneOf => {
@@ -192,8 +199,8 @@ fn read_form(
 }
 
 fn read_none(alloc: Global, place: &Place<'_>, operands: &Trees) -> Result<Expr, FormFault>
-    ensures value { IfOk result (λ e. none_of_trees (plain_all operands.now) ≡ Some (expression_of e)) }
-    ensures none { IfErr result (λ f. IsTrue (refuses f) → none_of_trees (plain_all operands.now) ≡ None) }
+    ensures value { IfOk result (λ e. none_in_trees (path_of place.now) (plain_all operands.now) ≡ got (expression_of e)) }
+    ensures fault { IfErr result (λ f. IsTrue (refuses f) → none_in_trees (path_of place.now) (plain_all operands.now) ≡ refused f) }
 {
     let Trees::More(model, rest) = operands else {
         return Err(place.form(alloc, Want::Expression));
@@ -207,8 +214,8 @@ fn read_none(alloc: Global, place: &Place<'_>, operands: &Trees) -> Result<Expr,
 
 #[cycle(read)]
 fn read_one(alloc: Global, place: &Place<'_>, operands: &Trees) -> Result<Expr, FormFault>
-    ensures value { IfOk result (λ e. one_of_trees (plain_all operands.now) ≡ Some (expression_of e)) }
-    ensures none { IfErr result (λ f. IsTrue (refuses f) → one_of_trees (plain_all operands.now) ≡ None) }
+    ensures value { IfOk result (λ e. one_in_trees wants.Expression (path_of place.now) (plain_all operands.now) ≡ got (expression_of e)) }
+    ensures fault { IfErr result (λ f. IsTrue (refuses f) → one_in_trees wants.Expression (path_of place.now) (plain_all operands.now) ≡ refused f) }
 {
     let Trees::More(only, rest) = operands else {
         return Err(place.form(alloc, Want::Expression));
@@ -222,8 +229,8 @@ fn read_one(alloc: Global, place: &Place<'_>, operands: &Trees) -> Result<Expr, 
 
 #[cycle(read)]
 fn read_two(alloc: Global, place: &Place<'_>, op: Op, operands: &Trees) -> Result<Expr, FormFault>
-    ensures value { IfOk result (λ e. two_of_trees (plain_all operands.now) op ≡ Some (expression_of e)) }
-    ensures none { IfErr result (λ f. IsTrue (refuses f) → two_of_trees (plain_all operands.now) op ≡ None) }
+    ensures value { IfOk result (λ e. two_in_trees (path_of place.now) (plain_all operands.now) op ≡ got (expression_of e)) }
+    ensures fault { IfErr result (λ f. IsTrue (refuses f) → two_in_trees (path_of place.now) (plain_all operands.now) op ≡ refused f) }
 {
     let Trees::More(left, rest) = operands else {
         return Err(place.form(alloc, Want::Expression));
@@ -241,8 +248,8 @@ fn read_two(alloc: Global, place: &Place<'_>, op: Op, operands: &Trees) -> Resul
 
 #[cycle(read)]
 fn read_pick(alloc: Global, place: &Place<'_>, operands: &Trees) -> Result<Expr, FormFault>
-    ensures value { IfOk result (λ e. pick_of_trees (plain_all operands.now) ≡ Some (expression_of e)) }
-    ensures none { IfErr result (λ f. IsTrue (refuses f) → pick_of_trees (plain_all operands.now) ≡ None) }
+    ensures value { IfOk result (λ e. pick_in_trees (path_of place.now) (plain_all operands.now) ≡ got (expression_of e)) }
+    ensures fault { IfErr result (λ f. IsTrue (refuses f) → pick_in_trees (path_of place.now) (plain_all operands.now) ≡ refused f) }
 {
     let Trees::More(cond, rest) = operands else {
         return Err(place.form(alloc, Want::Expression));
@@ -264,8 +271,8 @@ fn read_pick(alloc: Global, place: &Place<'_>, operands: &Trees) -> Result<Expr,
 
 #[cycle(read)]
 fn read_get(alloc: Global, place: &Place<'_>, operands: &Trees) -> Result<Expr, FormFault>
-    ensures value { IfOk result (λ e. get_of_trees (plain_all operands.now) ≡ Some (expression_of e)) }
-    ensures none { IfErr result (λ f. IsTrue (refuses f) → get_of_trees (plain_all operands.now) ≡ None) }
+    ensures value { IfOk result (λ e. get_in_trees (path_of place.now) (plain_all operands.now) ≡ got (expression_of e)) }
+    ensures fault { IfErr result (λ f. IsTrue (refuses f) → get_in_trees (path_of place.now) (plain_all operands.now) ≡ refused f) }
 {
     let Trees::More(model, rest) = operands else {
         return Err(place.form(alloc, Want::Expression));
@@ -287,8 +294,8 @@ fn read_get(alloc: Global, place: &Place<'_>, operands: &Trees) -> Result<Expr, 
 
 #[cycle(read)]
 fn read_parts(alloc: Global, place: &Place<'_>, operands: &Trees) -> Result<Exprs, FormFault>
-    ensures value { IfOk result (λ es. expressions_of_trees (plain_all operands.now) ≡ Some (expressions_of es)) }
-    ensures none { IfErr result (λ f. IsTrue (refuses f) → expressions_of_trees (plain_all operands.now) ≡ None) }
+    ensures value { IfOk result (λ es. expressions_in_trees (path_of place.now) 1 (plain_all operands.now) ≡ got (expressions_of es)) }
+    ensures fault { IfErr result (λ f. IsTrue (refuses f) → expressions_in_trees (path_of place.now) 1 (plain_all operands.now) ≡ refused f) }
 {
     let mut back = Exprs::End;
     let mut number: u32 = 1;
@@ -296,7 +303,7 @@ fn read_parts(alloc: Global, place: &Place<'_>, operands: &Trees) -> Result<Expr
     'parts: while let Trees::More(first, rest) = left {
         let first = Box::new(alloc, read_expr(alloc, &place.child(number), first)?)?;
         back = Exprs::More(first, Box::new(alloc, back)?);
-        number = number.saturating_add(1);
+        number = next_number(number)?;
         left = rest;
     }
     let parts = back.before(Exprs::End);
@@ -310,8 +317,8 @@ fn read_asked(
     most: Most,
     operands: &Trees,
 ) -> Result<Query, FormFault>
-    ensures value { IfOk result (λ q. query_of_trees (plain_all operands.now) (most_binders most) ≡ Some (question_of q)) }
-    ensures none { IfErr result (λ f. IsTrue (refuses f) → query_of_trees (plain_all operands.now) (most_binders most) ≡ None) }
+    ensures value { IfOk result (λ q. query_in_trees (path_of place.now) (plain_all operands.now) (most_binders most) ≡ got (question_of q)) }
+    ensures fault { IfErr result (λ f. IsTrue (refuses f) → query_in_trees (path_of place.now) (plain_all operands.now) (most_binders most) ≡ refused f) }
 {
     let Trees::More(query, rest) = operands else {
         return Err(place.form(alloc, Want::Expression));
@@ -325,8 +332,8 @@ fn read_asked(
 
 #[cycle(read)]
 fn read_sum(alloc: Global, place: &Place<'_>, operands: &Trees) -> Result<Expr, FormFault>
-    ensures value { IfOk result (λ e. sum_of_trees (plain_all operands.now) ≡ Some (expression_of e)) }
-    ensures none { IfErr result (λ f. IsTrue (refuses f) → sum_of_trees (plain_all operands.now) ≡ None) }
+    ensures value { IfOk result (λ e. sum_in_trees (path_of place.now) (plain_all operands.now) ≡ got (expression_of e)) }
+    ensures fault { IfErr result (λ f. IsTrue (refuses f) → sum_in_trees (path_of place.now) (plain_all operands.now) ≡ refused f) }
 {
     let Trees::More(query, rest) = operands else {
         return Err(place.form(alloc, Want::Expression));
@@ -349,8 +356,8 @@ pub fn read_query(
     most: Most,
     tree: &Tree,
 ) -> Result<Query, FormFault>
-    ensures value { IfOk result (λ q. question_of_tree (most_binders most) (plain tree.now) ≡ Some (question_of q)) }
-    ensures none { IfErr result (λ f. IsTrue (refuses f) → question_of_tree (most_binders most) (plain tree.now) ≡ None) }
+    ensures value { IfOk result (λ q. question_in_tree (most_binders most) (path_of place.now) (plain tree.now) ≡ got (question_of q)) }
+    ensures fault { IfErr result (λ f. IsTrue (refuses f) → question_in_tree (most_binders most) (path_of place.now) (plain tree.now) ≡ refused f) }
 {
     let Tree::List(trees) = tree else {
         return Err(place.form(alloc, Want::Query));

@@ -1,10 +1,12 @@
-ghost use Rattle.std.specs.Prelude.{◌≡◌, ◌≤◌, Some, None, IfOk, IfErr, IsTrue, length};
+ghost use Rattle.std.specs.Prelude.{◌≡◌, ◌≤◌, IfOk, IfErr, IsTrue, length};
 ghost use Rattle.jac_tree.specs.Mirror.{plain, plain_all};
-ghost use Rattle.jac_forms.specs.Names.{count, each_of_trees};
+ghost use Rattle.jac_forms.specs.Applications.{few_fields, field_in_tree, fields_in_tree, kind_in_tree, one_name_in_trees, params_in_tree, plain_kind_of};
+ghost use Rattle.jac_forms.specs.Names.{count, each_in_trees};
+ghost use Rattle.jac_forms.specs.Places.{path_of};
+ghost use Rattle.jac_forms.specs.Reads.{got, refused};
 ghost use Rattle.jac_forms.specs.Refusal.{refuses};
-ghost use Rattle.jac_forms.specs.Applications.{plain_kind_of, one_name_of_trees, kind_of_tree, field_of_tree, few_fields, fields_of_tree, params_of_tree};
 
-use crate::names::{count, is_up_to, read_name};
+use crate::names::{count, is_up_to, next_number, read_name};
 use crate::place::Place;
 use crate::words::tail_of;
 use crate::{FormFault, Want, What};
@@ -15,9 +17,9 @@ use std::alloc::Global;
 
 /// The fields of a model, at most 32.
 pub fn read_fields(alloc: Global, place: &Place<'_>, tree: &Tree) -> Result<Fields, FormFault>
-    ensures value { IfOk result (λ fs. fields_of_tree (plain tree.now) ≡ Some fs) }
+    ensures value { IfOk result (λ fs. fields_in_tree (path_of place.now) (plain tree.now) ≡ got fs) }
     ensures few { IfOk result (λ fs. length fs ≤ 32) }
-    ensures none { IfErr result (λ f. IsTrue (refuses f) → fields_of_tree (plain tree.now) ≡ None) }
+    ensures fault { IfErr result (λ f. IsTrue (refuses f) → fields_in_tree (path_of place.now) (plain tree.now) ≡ refused f) }
 {
     match tail_of(tree, b"fields") {
         Some(trees) => {
@@ -30,8 +32,8 @@ pub fn read_fields(alloc: Global, place: &Place<'_>, tree: &Tree) -> Result<Fiel
 
 /// The parameters of a view.
 pub fn read_params(alloc: Global, place: &Place<'_>, tree: &Tree) -> Result<Fields, FormFault>
-    ensures value { IfOk result (λ fs. params_of_tree (plain tree.now) ≡ Some fs) }
-    ensures none { IfErr result (λ f. IsTrue (refuses f) → params_of_tree (plain tree.now) ≡ None) }
+    ensures value { IfOk result (λ fs. params_in_tree (path_of place.now) (plain tree.now) ≡ got fs) }
+    ensures fault { IfErr result (λ f. IsTrue (refuses f) → params_in_tree (path_of place.now) (plain tree.now) ≡ refused f) }
 {
     match tail_of(tree, b"params") {
         Some(trees) => {
@@ -43,15 +45,15 @@ pub fn read_params(alloc: Global, place: &Place<'_>, tree: &Tree) -> Result<Fiel
 }
 
 fn read_few(alloc: Global, place: &Place<'_>, trees: &Trees) -> Result<Fields, FormFault>
-    ensures value { IfOk result (λ fs. few_fields (plain_all trees.now) ≡ Some fs) }
+    ensures value { IfOk result (λ fs. few_fields (path_of place.now) (plain_all trees.now) ≡ got fs) }
     ensures few { IfOk result (λ fs. length fs ≤ 32) }
-    ensures none { IfErr result (λ f. IsTrue (refuses f) → few_fields (plain_all trees.now) ≡ None) }
+    ensures fault { IfErr result (λ f. IsTrue (refuses f) → few_fields (path_of place.now) (plain_all trees.now) ≡ refused f) }
 {
     if is_up_to(trees, 32) {
         let fields = read_each(alloc, place, Want::Field, trees)?;
         Ok(fields)
     } else {
-        Err(place.too_many(alloc, What::Fields, count(trees)))
+        Err(place.too_many(alloc, What::Fields, count(trees)?))
     }
 }
 
@@ -61,9 +63,9 @@ fn read_each(
     want: Want,
     trees: &Trees,
 ) -> Result<Fields, FormFault>
-    ensures value { IfOk result (λ fs. each_of_trees field_of_tree (plain_all trees.now) ≡ Some fs) }
+    ensures value { IfOk result (λ fs. each_in_trees (field_in_tree want) (path_of place.now) 1 (plain_all trees.now) ≡ got fs) }
     ensures count { IfOk result (λ fs. length fs ≡ count (plain_all trees.now)) }
-    ensures none { IfErr result (λ f. IsTrue (refuses f) → each_of_trees field_of_tree (plain_all trees.now) ≡ None) }
+    ensures fault { IfErr result (λ f. IsTrue (refuses f) → each_in_trees (field_in_tree want) (path_of place.now) 1 (plain_all trees.now) ≡ refused f) }
 {
     let mut fields = Vec::new(alloc);
     let mut number: u32 = 1;
@@ -71,15 +73,15 @@ fn read_each(
     'fields: while let Trees::More(first, rest) = left {
         let field = read_field(alloc, &place.child(number), want, first)?;
         fields.push(field)?;
-        number = number.saturating_add(1);
+        number = next_number(number)?;
         left = rest;
     }
     Ok(Fields::from_vec(fields))
 }
 
 fn read_field(alloc: Global, place: &Place<'_>, want: Want, tree: &Tree) -> Result<Field, FormFault>
-    ensures value { IfOk result (λ f. field_of_tree (plain tree.now) ≡ Some f) }
-    ensures none { IfErr result (λ f. IsTrue (refuses f) → field_of_tree (plain tree.now) ≡ None) }
+    ensures value { IfOk result (λ f. field_in_tree want (path_of place.now) (plain tree.now) ≡ got f) }
+    ensures fault { IfErr result (λ f. IsTrue (refuses f) → field_in_tree want (path_of place.now) (plain tree.now) ≡ refused f) }
 {
     let Tree::List(Trees::More(name, rest)) = tree else {
         return Err(place.form(alloc, want));
@@ -96,8 +98,8 @@ fn read_field(alloc: Global, place: &Place<'_>, want: Want, tree: &Tree) -> Resu
 }
 
 fn read_kind(alloc: Global, place: &Place<'_>, tree: &Tree) -> Result<KindName, FormFault>
-    ensures value { IfOk result (λ k. kind_of_tree (plain tree.now) ≡ Some k) }
-    ensures none { IfErr result (λ f. IsTrue (refuses f) → kind_of_tree (plain tree.now) ≡ None) }
+    ensures value { IfOk result (λ k. kind_in_tree (path_of place.now) (plain tree.now) ≡ got k) }
+    ensures fault { IfErr result (λ f. IsTrue (refuses f) → kind_in_tree (path_of place.now) (plain tree.now) ≡ refused f) }
 {
     match tree {
         Tree::Atom(word) => match plain_kind_of(word.as_str()) {
@@ -135,8 +137,8 @@ pub fn read_only_name(
     want: Want,
     trees: &Trees,
 ) -> Result<Txt, FormFault>
-    ensures value { IfOk result (λ name. one_name_of_trees (plain_all trees.now) ≡ Some name) }
-    ensures none { IfErr result (λ f. IsTrue (refuses f) → one_name_of_trees (plain_all trees.now) ≡ None) }
+    ensures value { IfOk result (λ name. one_name_in_trees want (path_of place.now) (plain_all trees.now) ≡ got name) }
+    ensures fault { IfErr result (λ f. IsTrue (refuses f) → one_name_in_trees want (path_of place.now) (plain_all trees.now) ≡ refused f) }
 {
     let Trees::More(name, rest) = trees else {
         return Err(place.form(alloc, want));

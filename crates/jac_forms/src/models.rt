@@ -1,14 +1,16 @@
-ghost use Rattle.std.specs.Prelude.{◌≡◌, Some, None, IfOk, IfErr, IsTrue, nat_le};
+ghost use Rattle.std.specs.Prelude.{◌≡◌, IfOk, IfErr, IsTrue, nat_le};
 ghost use Rattle.jac_lang.specs.Mirror.{assigned_of, expression_of, field_group_of, groups_of, entity_of};
 ghost use Rattle.jac_tree.specs.Mirror.{plain, plain_all};
-ghost use Rattle.jac_forms.specs.Names.{count, each_of_trees};
+ghost use Rattle.jac_forms.specs.Applications.{entity_in_tree, entity_in_trees, group_in_tree, group_in_trees, guards_in_tree, policy_in_tree, some_guards};
+ghost use Rattle.jac_forms.specs.Names.{count, each_in_trees};
+ghost use Rattle.jac_forms.specs.Places.{path_of};
+ghost use Rattle.jac_forms.specs.Reads.{got, refused};
 ghost use Rattle.jac_forms.specs.Refusal.{refuses};
-ghost use Rattle.jac_forms.specs.Applications.{some_guards, guards_of_tree, policy_of_tree, group_of_trees, group_of_tree, entity_of_trees, entity_of_tree};
 
 use crate::assigned::read_assigned;
 use crate::expressions::read_only;
 use crate::fields::read_fields;
-use crate::names::{count, is_up_to, read_name};
+use crate::names::{count, is_up_to, next_number, read_name};
 use crate::place::Place;
 use crate::words::tail_of;
 use crate::{FormFault, Want, What};
@@ -17,8 +19,8 @@ use jac_tree::{Tree, Trees};
 use std::alloc::Global;
 
 pub fn read_model(alloc: Global, place: &Place<'_>, tree: &Tree) -> Result<ModelDef, FormFault>
-    ensures value { IfOk result (λ m. entity_of_tree (plain tree.now) ≡ Some (entity_of m)) }
-    ensures none { IfErr result (λ f. IsTrue (refuses f) → entity_of_tree (plain tree.now) ≡ None) }
+    ensures value { IfOk result (λ m. entity_in_tree (path_of place.now) (plain tree.now) ≡ got (entity_of m)) }
+    ensures fault { IfErr result (λ f. IsTrue (refuses f) → entity_in_tree (path_of place.now) (plain tree.now) ≡ refused f) }
 {
     match tail_of(tree, b"model") {
         Some(parts) => {
@@ -30,8 +32,8 @@ pub fn read_model(alloc: Global, place: &Place<'_>, tree: &Tree) -> Result<Model
 }
 
 fn read_parts(alloc: Global, place: &Place<'_>, parts: &Trees) -> Result<ModelDef, FormFault>
-    ensures value { IfOk result (λ m. entity_of_trees (plain_all parts.now) ≡ Some (entity_of m)) }
-    ensures none { IfErr result (λ f. IsTrue (refuses f) → entity_of_trees (plain_all parts.now) ≡ None) }
+    ensures value { IfOk result (λ m. entity_in_trees (path_of place.now) (plain_all parts.now) ≡ got (entity_of m)) }
+    ensures fault { IfErr result (λ f. IsTrue (refuses f) → entity_in_trees (path_of place.now) (plain_all parts.now) ≡ refused f) }
 {
     let Trees::More(name, rest) = parts else {
         return Err(place.form(alloc, Want::Item));
@@ -40,7 +42,7 @@ fn read_parts(alloc: Global, place: &Place<'_>, parts: &Trees) -> Result<ModelDe
         return Err(place.form(alloc, Want::Item));
     };
     if !is_up_to(groups, 8) {
-        return Err(place.too_many(alloc, What::Groups, count(groups)));
+        return Err(place.too_many(alloc, What::Groups, count(groups)?));
     }
     let name = read_name(alloc, &place.child(1), name)?;
     let fields = read_fields(alloc, &place.child(2), fields)?;
@@ -55,8 +57,8 @@ fn read_parts(alloc: Global, place: &Place<'_>, parts: &Trees) -> Result<ModelDe
 // The groups of a model begin with its child 3.
 fn read_groups(alloc: Global, place: &Place<'_>, trees: &Trees) -> Result<Groups, FormFault>
     requires { IsTrue (nat_le (count (plain_all trees.now)) 8) }
-    ensures value { IfOk result (λ gs. each_of_trees group_of_tree (plain_all trees.now) ≡ Some (groups_of gs)) }
-    ensures none { IfErr result (λ f. IsTrue (refuses f) → each_of_trees group_of_tree (plain_all trees.now) ≡ None) }
+    ensures value { IfOk result (λ gs. each_in_trees group_in_tree (path_of place.now) 3 (plain_all trees.now) ≡ got (groups_of gs)) }
+    ensures fault { IfErr result (λ f. IsTrue (refuses f) → each_in_trees group_in_tree (path_of place.now) 3 (plain_all trees.now) ≡ refused f) }
 {
     let mut groups = Vec::new(alloc);
     let mut number: u32 = 3;
@@ -64,15 +66,15 @@ fn read_groups(alloc: Global, place: &Place<'_>, trees: &Trees) -> Result<Groups
     'groups: while let Trees::More(first, rest) = left {
         let group = read_group(alloc, &place.child(number), first)?;
         groups.push(group)?;
-        number = number.saturating_add(1);
+        number = next_number(number)?;
         left = rest;
     }
     Ok(Groups::from_vec(groups))
 }
 
 fn read_group(alloc: Global, place: &Place<'_>, tree: &Tree) -> Result<Group, FormFault>
-    ensures value { IfOk result (λ g. group_of_tree (plain tree.now) ≡ Some (field_group_of g)) }
-    ensures none { IfErr result (λ f. IsTrue (refuses f) → group_of_tree (plain tree.now) ≡ None) }
+    ensures value { IfOk result (λ g. group_in_tree (path_of place.now) (plain tree.now) ≡ got (field_group_of g)) }
+    ensures fault { IfErr result (λ f. IsTrue (refuses f) → group_in_tree (path_of place.now) (plain tree.now) ≡ refused f) }
 {
     match tail_of(tree, b"group") {
         Some(parts) => {
@@ -84,8 +86,8 @@ fn read_group(alloc: Global, place: &Place<'_>, tree: &Tree) -> Result<Group, Fo
 }
 
 fn read_group_parts(alloc: Global, place: &Place<'_>, parts: &Trees) -> Result<Group, FormFault>
-    ensures value { IfOk result (λ g. group_of_trees (plain_all parts.now) ≡ Some (field_group_of g)) }
-    ensures none { IfErr result (λ f. IsTrue (refuses f) → group_of_trees (plain_all parts.now) ≡ None) }
+    ensures value { IfOk result (λ g. group_in_trees (path_of place.now) (plain_all parts.now) ≡ got (field_group_of g)) }
+    ensures fault { IfErr result (λ f. IsTrue (refuses f) → group_in_trees (path_of place.now) (plain_all parts.now) ≡ refused f) }
 {
     let Trees::More(guards, rest) = parts else {
         return Err(place.form(alloc, Want::Group));
@@ -102,8 +104,8 @@ fn read_group_parts(alloc: Global, place: &Place<'_>, parts: &Trees) -> Result<G
 }
 
 fn read_guards(alloc: Global, place: &Place<'_>, tree: &Tree) -> Result<Publics, FormFault>
-    ensures value { IfOk result (λ ps. guards_of_tree (plain tree.now) ≡ Some (assigned_of ps)) }
-    ensures none { IfErr result (λ f. IsTrue (refuses f) → guards_of_tree (plain tree.now) ≡ None) }
+    ensures value { IfOk result (λ ps. guards_in_tree (path_of place.now) (plain tree.now) ≡ got (assigned_of ps)) }
+    ensures fault { IfErr result (λ f. IsTrue (refuses f) → guards_in_tree (path_of place.now) (plain tree.now) ≡ refused f) }
 {
     match tail_of(tree, b"guards") {
         Some(trees) => {
@@ -115,8 +117,8 @@ fn read_guards(alloc: Global, place: &Place<'_>, tree: &Tree) -> Result<Publics,
 }
 
 fn read_some_guards(alloc: Global, place: &Place<'_>, trees: &Trees) -> Result<Publics, FormFault>
-    ensures value { IfOk result (λ ps. some_guards (plain_all trees.now) ≡ Some (assigned_of ps)) }
-    ensures none { IfErr result (λ f. IsTrue (refuses f) → some_guards (plain_all trees.now) ≡ None) }
+    ensures value { IfOk result (λ ps. some_guards (path_of place.now) (plain_all trees.now) ≡ got (assigned_of ps)) }
+    ensures fault { IfErr result (λ f. IsTrue (refuses f) → some_guards (path_of place.now) (plain_all trees.now) ≡ refused f) }
 {
     if is_up_to(trees, 0) {
         return Err(place.form(alloc, Want::Guard));
@@ -126,8 +128,8 @@ fn read_some_guards(alloc: Global, place: &Place<'_>, trees: &Trees) -> Result<P
 }
 
 fn read_policy(alloc: Global, place: &Place<'_>, tree: &Tree) -> Result<Expr, FormFault>
-    ensures value { IfOk result (λ e. policy_of_tree (plain tree.now) ≡ Some (expression_of e)) }
-    ensures none { IfErr result (λ f. IsTrue (refuses f) → policy_of_tree (plain tree.now) ≡ None) }
+    ensures value { IfOk result (λ e. policy_in_tree (path_of place.now) (plain tree.now) ≡ got (expression_of e)) }
+    ensures fault { IfErr result (λ f. IsTrue (refuses f) → policy_in_tree (path_of place.now) (plain tree.now) ≡ refused f) }
 {
     match tail_of(tree, b"policy") {
         Some(trees) => {

@@ -1,12 +1,14 @@
-ghost use Rattle.std.specs.Prelude.{◌≡◌, Some, None, IfOk, IfErr, IsTrue, nat_le};
+ghost use Rattle.std.specs.Prelude.{◌≡◌, ◌+◌, ◌<◌, ◌^◌, IfOk, IfErr, IsTrue, nat_le};
 ghost use Rattle.jac_tree.specs.Mirror.{plain, plain_all};
-ghost use Rattle.jac_forms.specs.Names.{count, name_of_tree};
+ghost use Rattle.jac_forms.specs.Names.{count, name_in_tree};
+ghost use Rattle.jac_forms.specs.Places.{path_of};
+ghost use Rattle.jac_forms.specs.Reads.{got, refused};
 ghost use Rattle.jac_forms.specs.Refusal.{refuses};
 
 use crate::place::Place;
 use crate::{FormFault, Want};
 use jac_tree::{Tree, Trees};
-use jac_value::{Txt, is_name};
+use jac_value::{Memory, Txt, is_name};
 use std::alloc::Global;
 
 /// Whether there are at most so many trees.
@@ -26,19 +28,41 @@ pub fn is_up_to(trees: &Trees, most: u64) -> bool
 }
 
 /// How many trees there are, for a fault to tell.
-pub fn count(trees: &Trees) -> u64 {
+pub fn count(trees: &Trees) -> Result<u64, Memory>
+    ensures { IfOk result (λ number. number ≡ count (plain_all trees.now)) }
+{
     let mut number: u64 = 0;
     let mut left = trees;
     'trees: while let Trees::More(_, rest) = left {
-        number = number.saturating_add(1);
+        number = next_count(number)?;
         left = rest;
     }
-    number
+    Ok(number)
+}
+
+/// The number of the next child. No tree is there for one past the last of 32 bits.
+pub fn next_number(number: u32) -> Result<u32, Memory>
+    ensures { IfOk result (λ next. (next ≡ number + 1) × (next < 2 ^ 32)) }
+{
+    match number.checked_add(1) {
+        Some(next) => Ok(next),
+        None => Err(Memory),
+    }
+}
+
+/// One more. So much that 64 bits don't count it is never there.
+pub fn next_count(number: u64) -> Result<u64, Memory>
+    ensures { IfOk result (λ next. next ≡ number + 1) }
+{
+    match number.checked_add(1) {
+        Some(next) => Ok(next),
+        None => Err(Memory),
+    }
 }
 
 pub fn read_name(alloc: Global, place: &Place<'_>, tree: &Tree) -> Result<Txt, FormFault>
-    ensures value { IfOk result (λ name. name_of_tree (plain tree.now) ≡ Some name) }
-    ensures none { IfErr result (λ f. IsTrue (refuses f) → name_of_tree (plain tree.now) ≡ None) }
+    ensures value { IfOk result (λ name. name_in_tree (path_of place.now) (plain tree.now) ≡ got name) }
+    ensures fault { IfErr result (λ f. IsTrue (refuses f) → name_in_tree (path_of place.now) (plain tree.now) ≡ refused f) }
 {
     match tree {
         Tree::Atom(word) => {

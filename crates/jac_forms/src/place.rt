@@ -1,3 +1,8 @@
+ghost use Rattle.std.specs.Prelude.{◌≡◌, IfOk, IsTrue};
+ghost use Rattle.jac_forms.specs.declared.fault.FormFault.TheVariants as faults;
+ghost use Rattle.jac_forms.specs.Places.{child, path_of};
+ghost use Rattle.jac_forms.specs.Refusal.{refuses};
+
 use crate::{FormFault, Path, Want, What};
 use jac_value::Memory;
 use std::alloc::Global;
@@ -10,11 +15,15 @@ pub enum Place<'p> {
 }
 
 impl Place<'_> {
-    pub fn child(&self, number: u32) -> Place<'_> {
+    pub fn child(&self, number: u32) -> Place<'_>
+        ensures { path_of result ≡ child (path_of self.now) number }
+    {
         Place::Child(self, number)
     }
 
-    fn path(&self, alloc: Global) -> Result<Path, Memory> {
+    fn path(&self, alloc: Global) -> Result<Path, Memory>
+        ensures { IfOk result (λ path. path ≡ path_of self.now) }
+    {
         let mut numbers = Vec::new(alloc);
         let mut left = self;
         'up: while let Place::Child(up, number) = left {
@@ -25,14 +34,18 @@ impl Place<'_> {
         Ok(Path::from_vec(numbers))
     }
 
-    pub fn form(&self, alloc: Global, want: Want) -> FormFault {
+    pub fn form(&self, alloc: Global, want: Want) -> FormFault
+        ensures { IsTrue (refuses result) → result ≡ faults.Form (path_of self.now) want }
+    {
         match self.path(alloc) {
             Ok(path) => FormFault::Form { path, want },
             Err(_) => FormFault::Memory,
         }
     }
 
-    pub fn too_many(&self, alloc: Global, what: What, have: u64) -> FormFault {
+    pub fn too_many(&self, alloc: Global, what: What, have: u64) -> FormFault
+        ensures { IsTrue (refuses result) → result ≡ faults.TooMany (path_of self.now) what have }
+    {
         match self.path(alloc) {
             Ok(path) => FormFault::TooMany { path, what, have },
             Err(_) => FormFault::Memory,

@@ -1,10 +1,12 @@
-ghost use Rattle.std.specs.Prelude.{◌≡◌, Some, None, IfOk, IfErr, IsTrue, IsFalse};
+ghost use Rattle.std.specs.Prelude.{◌≡◌, IfOk, IfErr, IsTrue};
 ghost use Rattle.jac_lang.specs.Mirror.{binders_of};
 ghost use Rattle.jac_tree.specs.Mirror.{plain, plain_all};
-ghost use Rattle.jac_forms.specs.Expressions.{binder_of_tree, binders_of_trees, some_binders, binders_of_tree, order_of_tree, most_binders, sorting_of_trees, key_of, sort_key};
+ghost use Rattle.jac_forms.specs.Expressions.{binder_in_tree, binders_in_tree, binders_in_trees, has_few, key_of, most_binders, order_in_tree, some_binders, sort_key, sorting_in_trees};
+ghost use Rattle.jac_forms.specs.Places.{path_of};
+ghost use Rattle.jac_forms.specs.Reads.{got, refused};
 ghost use Rattle.jac_forms.specs.Refusal.{refuses};
 
-use crate::names::{count, is_up_to, read_name};
+use crate::names::{count, is_up_to, next_number, read_name};
 use crate::place::Place;
 use crate::words::is_word;
 use crate::{FormFault, Want, What};
@@ -33,7 +35,7 @@ impl Most {
 
 /// Whether there are as few binders as are asked where only one may be. What is no list is told later.
 pub fn has_few(most: Most, tree: &Tree) -> bool
-    ensures { IsFalse result → binders_of_tree (most_binders most) (plain tree.now) ≡ None }
+    ensures { result ≡ has_few (most_binders most) (plain tree.now) }
 {
     match (most, tree) {
         (Most::One, Tree::List(trees)) => is_up_to(trees, 1),
@@ -47,8 +49,8 @@ pub fn read_binders(
     most: Most,
     tree: &Tree,
 ) -> Result<Binders, FormFault>
-    ensures value { IfOk result (λ bs. binders_of_tree (most_binders most) (plain tree.now) ≡ Some (binders_of bs)) }
-    ensures none { IfErr result (λ f. IsTrue (refuses f) → binders_of_tree (most_binders most) (plain tree.now) ≡ None) }
+    ensures value { IfOk result (λ bs. binders_in_tree (most_binders most) (path_of place.now) (plain tree.now) ≡ got (binders_of bs)) }
+    ensures fault { IfErr result (λ f. IsTrue (refuses f) → binders_in_tree (most_binders most) (path_of place.now) (plain tree.now) ≡ refused f) }
 {
     match tree {
         Tree::List(trees) => {
@@ -65,8 +67,8 @@ fn read_some(
     most: Most,
     trees: &Trees,
 ) -> Result<Binders, FormFault>
-    ensures value { IfOk result (λ bs. some_binders (most_binders most) (plain_all trees.now) ≡ Some (binders_of bs)) }
-    ensures none { IfErr result (λ f. IsTrue (refuses f) → some_binders (most_binders most) (plain_all trees.now) ≡ None) }
+    ensures value { IfOk result (λ bs. some_binders (most_binders most) (path_of place.now) (plain_all trees.now) ≡ got (binders_of bs)) }
+    ensures fault { IfErr result (λ f. IsTrue (refuses f) → some_binders (most_binders most) (path_of place.now) (plain_all trees.now) ≡ refused f) }
 {
     if is_up_to(trees, 0) {
         return Err(place.form(alloc, Want::Binder));
@@ -75,13 +77,13 @@ fn read_some(
         let binders = read_each(alloc, place, trees)?;
         Ok(binders)
     } else {
-        Err(place.too_many(alloc, What::Binders, count(trees)))
+        Err(place.too_many(alloc, What::Binders, count(trees)?))
     }
 }
 
 fn read_each(alloc: Global, place: &Place<'_>, trees: &Trees) -> Result<Binders, FormFault>
-    ensures value { IfOk result (λ bs. binders_of_trees (plain_all trees.now) ≡ Some (binders_of bs)) }
-    ensures none { IfErr result (λ f. IsTrue (refuses f) → binders_of_trees (plain_all trees.now) ≡ None) }
+    ensures value { IfOk result (λ bs. binders_in_trees (path_of place.now) 0 (plain_all trees.now) ≡ got (binders_of bs)) }
+    ensures fault { IfErr result (λ f. IsTrue (refuses f) → binders_in_trees (path_of place.now) 0 (plain_all trees.now) ≡ refused f) }
 {
     let mut back = Binders::End;
     let mut number: u32 = 0;
@@ -89,7 +91,7 @@ fn read_each(alloc: Global, place: &Place<'_>, trees: &Trees) -> Result<Binders,
     'binders: while let Trees::More(first, rest) = left {
         let binder = read_binder(alloc, &place.child(number), first)?;
         back = Binders::More(binder, Box::new(alloc, back)?);
-        number = number.saturating_add(1);
+        number = next_number(number)?;
         left = rest;
     }
     let binders = back.before(Binders::End);
@@ -97,8 +99,8 @@ fn read_each(alloc: Global, place: &Place<'_>, trees: &Trees) -> Result<Binders,
 }
 
 fn read_binder(alloc: Global, place: &Place<'_>, tree: &Tree) -> Result<Binder, FormFault>
-    ensures value { IfOk result (λ b. binder_of_tree (plain tree.now) ≡ Some b) }
-    ensures none { IfErr result (λ f. IsTrue (refuses f) → binder_of_tree (plain tree.now) ≡ None) }
+    ensures value { IfOk result (λ b. binder_in_tree (path_of place.now) (plain tree.now) ≡ got b) }
+    ensures fault { IfErr result (λ f. IsTrue (refuses f) → binder_in_tree (path_of place.now) (plain tree.now) ≡ refused f) }
 {
     let Tree::List(Trees::More(name, rest)) = tree else {
         return Err(place.form(alloc, Want::Binder));
@@ -115,8 +117,8 @@ fn read_binder(alloc: Global, place: &Place<'_>, tree: &Tree) -> Result<Binder, 
 }
 
 pub fn read_order(alloc: Global, place: &Place<'_>, tree: &Tree) -> Result<Order, FormFault>
-    ensures value { IfOk result (λ o. order_of_tree (plain tree.now) ≡ Some o) }
-    ensures none { IfErr result (λ f. IsTrue (refuses f) → order_of_tree (plain tree.now) ≡ None) }
+    ensures value { IfOk result (λ o. order_in_tree (path_of place.now) (plain tree.now) ≡ got o) }
+    ensures fault { IfErr result (λ f. IsTrue (refuses f) → order_in_tree (path_of place.now) (plain tree.now) ≡ refused f) }
 {
     match tree {
         Tree::Atom(word) => {
@@ -135,8 +137,8 @@ pub fn read_order(alloc: Global, place: &Place<'_>, tree: &Tree) -> Result<Order
 }
 
 fn read_sorting(alloc: Global, place: &Place<'_>, trees: &Trees) -> Result<Order, FormFault>
-    ensures value { IfOk result (λ o. sorting_of_trees (plain_all trees.now) ≡ Some o) }
-    ensures none { IfErr result (λ f. IsTrue (refuses f) → sorting_of_trees (plain_all trees.now) ≡ None) }
+    ensures value { IfOk result (λ o. sorting_in_trees (path_of place.now) (plain_all trees.now) ≡ got o) }
+    ensures fault { IfErr result (λ f. IsTrue (refuses f) → sorting_in_trees (path_of place.now) (plain_all trees.now) ≡ refused f) }
 {
     let Trees::More(word, rest) = trees else {
         return Err(place.form(alloc, Want::Order));
@@ -167,8 +169,8 @@ fn read_key(
     binder: &Tree,
     field: &Tree,
 ) -> Result<(Txt, Txt), FormFault>
-    ensures value { IfOk result (λ key. key_of (plain binder.now) (plain field.now) ≡ Some (sort_key key.0 key.1)) }
-    ensures none { IfErr result (λ f. IsTrue (refuses f) → key_of (plain binder.now) (plain field.now) ≡ None) }
+    ensures value { IfOk result (λ key. key_of (path_of place.now) (plain binder.now) (plain field.now) ≡ got (sort_key key.0 key.1)) }
+    ensures fault { IfErr result (λ f. IsTrue (refuses f) → key_of (path_of place.now) (plain binder.now) (plain field.now) ≡ refused f) }
 {
     let binder = read_name(alloc, &place.child(1), binder)?;
     let field = read_name(alloc, &place.child(2), field)?;

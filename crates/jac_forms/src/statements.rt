@@ -1,12 +1,14 @@
-ghost use Rattle.std.specs.Prelude.{◌≡◌, Some, None, IfOk, IfErr, IsTrue};
+ghost use Rattle.std.specs.Prelude.{◌≡◌, Some, IfOk, IfErr, IsTrue};
 ghost use Rattle.jac_lang.specs.Mirror.{statement_of, statements_of};
 ghost use Rattle.jac_tree.specs.Mirror.{plain, plain_all};
+ghost use Rattle.jac_forms.specs.Statements.{assign_in_trees, bind_in_trees, body, body_in_tree, branch_in_trees, create_in_trees, delete_in_trees, each_of_query, missing_in_trees, next_site, numbered, operands_of, single_in_trees, statement_in_list, statement_in_tree, statement_of_step, statements_in_trees, template_in_trees, update_in_trees};
+ghost use Rattle.jac_forms.specs.Places.{path_of};
+ghost use Rattle.jac_forms.specs.Reads.{got, refused};
 ghost use Rattle.jac_forms.specs.Refusal.{refuses};
-ghost use Rattle.jac_forms.specs.Statements.{single_of_trees, assign_of_trees, update_of_trees, delete_of_trees, missing_of_trees, template_of_trees, statement_of_tree, statement_of_list, statement_of_step, operands_of, bind_of_trees, branch_of_trees, each_of_query, create_of_trees, body_of_tree, statements_of_trees, numbered, body, next_site};
 
 use crate::assigned::read_set;
 use crate::expressions::{read_expr, read_only, read_query};
-use crate::names::read_name;
+use crate::names::{next_number, read_name};
 use crate::place::Place;
 use crate::queries::Most;
 use crate::steps::{Single, Step, step_of};
@@ -25,8 +27,8 @@ pub fn read_stmts(
     sites: &mut u8,
     trees: &Trees,
 ) -> Result<Stmts, FormFault>
-    ensures value { IfOk result (λ ss. statements_of_trees (plain_all trees.now) sites.old ≡ Some (body sites.new (statements_of ss))) }
-    ensures none { IfErr result (λ f. IsTrue (refuses f) → statements_of_trees (plain_all trees.now) sites.old ≡ None) }
+    ensures value { IfOk result (λ ss. statements_in_trees (path_of place.now) first (plain_all trees.now) sites.old ≡ got (body sites.new (statements_of ss))) }
+    ensures fault { IfErr result (λ f. IsTrue (refuses f) → statements_in_trees (path_of place.now) first (plain_all trees.now) sites.old ≡ refused f) }
 {
     let mut back = Stmts::End;
     let mut number = first;
@@ -34,7 +36,7 @@ pub fn read_stmts(
     'statements: while let Trees::More(one, rest) = left {
         let one = read_stmt(alloc, &place.child(number), sites, one)?;
         back = Stmts::More(Box::new(alloc, one)?, Box::new(alloc, back)?);
-        number = number.saturating_add(1);
+        number = next_number(number)?;
         left = rest;
     }
     let statements = back.before(Stmts::End);
@@ -48,8 +50,8 @@ fn read_stmt(
     sites: &mut u8,
     tree: &Tree,
 ) -> Result<Stmt, FormFault>
-    ensures value { IfOk result (λ s. statement_of_tree (plain tree.now) sites.old ≡ Some (numbered sites.new (statement_of s))) }
-    ensures none { IfErr result (λ f. IsTrue (refuses f) → statement_of_tree (plain tree.now) sites.old ≡ None) }
+    ensures value { IfOk result (λ s. statement_in_tree (path_of place.now) (plain tree.now) sites.old ≡ got (numbered sites.new (statement_of s))) }
+    ensures fault { IfErr result (λ f. IsTrue (refuses f) → statement_in_tree (path_of place.now) (plain tree.now) sites.old ≡ refused f) }
 {
     match tree {
         Tree::List(trees) => {
@@ -68,8 +70,8 @@ fn read_list(
     sites: &mut u8,
     trees: &Trees,
 ) -> Result<Stmt, FormFault>
-    ensures value { IfOk result (λ s. statement_of_list (plain_all trees.now) sites.old ≡ Some (numbered sites.new (statement_of s))) }
-    ensures none { IfErr result (λ f. IsTrue (refuses f) → statement_of_list (plain_all trees.now) sites.old ≡ None) }
+    ensures value { IfOk result (λ s. statement_in_list (path_of place.now) (plain_all trees.now) sites.old ≡ got (numbered sites.new (statement_of s))) }
+    ensures fault { IfErr result (λ f. IsTrue (refuses f) → statement_in_list (path_of place.now) (plain_all trees.now) sites.old ≡ refused f) }
 {
     let Trees::More(head, operands) = trees else {
         return Err(place.form(alloc, Want::Statement));
@@ -91,8 +93,8 @@ fn read_step(
     step: Step,
     operands: &Trees,
 ) -> Result<Stmt, FormFault>
-    ensures value { IfOk result (λ s. statement_of_step (Some step) (operands_of (plain_all operands.now)) sites.old ≡ Some (numbered sites.new (statement_of s))) }
-    ensures none { IfErr result (λ f. IsTrue (refuses f) → statement_of_step (Some step) (operands_of (plain_all operands.now)) sites.old ≡ None) }
+    ensures value { IfOk result (λ s. statement_of_step (path_of place.now) (Some step) (operands_of (path_of place.now) (plain_all operands.now)) sites.old ≡ got (numbered sites.new (statement_of s))) }
+    ensures fault { IfErr result (λ f. IsTrue (refuses f) → statement_of_step (path_of place.now) (Some step) (operands_of (path_of place.now) (plain_all operands.now)) sites.old ≡ refused f) }
 {
     match step {
         Step::Single(single) => {
@@ -125,8 +127,8 @@ fn read_let(
     sites: &mut u8,
     operands: &Trees,
 ) -> Result<Stmt, FormFault>
-    ensures value { IfOk result (λ s. bind_of_trees (plain_all operands.now) sites.old ≡ Some (numbered sites.new (statement_of s))) }
-    ensures none { IfErr result (λ f. IsTrue (refuses f) → bind_of_trees (plain_all operands.now) sites.old ≡ None) }
+    ensures value { IfOk result (λ s. bind_in_trees (path_of place.now) (plain_all operands.now) sites.old ≡ got (numbered sites.new (statement_of s))) }
+    ensures fault { IfErr result (λ f. IsTrue (refuses f) → bind_in_trees (path_of place.now) (plain_all operands.now) sites.old ≡ refused f) }
 {
     let Trees::More(name, rest) = operands else {
         return Err(place.form(alloc, Want::Statement));
@@ -147,8 +149,8 @@ fn read_if(
     sites: &mut u8,
     operands: &Trees,
 ) -> Result<Stmt, FormFault>
-    ensures value { IfOk result (λ s. branch_of_trees (plain_all operands.now) sites.old ≡ Some (numbered sites.new (statement_of s))) }
-    ensures none { IfErr result (λ f. IsTrue (refuses f) → branch_of_trees (plain_all operands.now) sites.old ≡ None) }
+    ensures value { IfOk result (λ s. branch_in_trees (path_of place.now) (plain_all operands.now) sites.old ≡ got (numbered sites.new (statement_of s))) }
+    ensures fault { IfErr result (λ f. IsTrue (refuses f) → branch_in_trees (path_of place.now) (plain_all operands.now) sites.old ≡ refused f) }
 {
     let Trees::More(cond, rest) = operands else {
         return Err(place.form(alloc, Want::Statement));
@@ -175,8 +177,8 @@ fn read_for(
     sites: &mut u8,
     operands: &Trees,
 ) -> Result<Stmt, FormFault>
-    ensures value { IfOk result (λ s. each_of_query (plain_all operands.now) sites.old ≡ Some (numbered sites.new (statement_of s))) }
-    ensures none { IfErr result (λ f. IsTrue (refuses f) → each_of_query (plain_all operands.now) sites.old ≡ None) }
+    ensures value { IfOk result (λ s. each_of_query (path_of place.now) (plain_all operands.now) sites.old ≡ got (numbered sites.new (statement_of s))) }
+    ensures fault { IfErr result (λ f. IsTrue (refuses f) → each_of_query (path_of place.now) (plain_all operands.now) sites.old ≡ refused f) }
 {
     let Trees::More(query, rest) = operands else {
         return Err(place.form(alloc, Want::Statement));
@@ -193,8 +195,8 @@ fn read_create(
     sites: &mut u8,
     operands: &Trees,
 ) -> Result<Stmt, FormFault>
-    ensures value { IfOk result (λ s. create_of_trees (plain_all operands.now) sites.old ≡ Some (numbered sites.new (statement_of s))) }
-    ensures none { IfErr result (λ f. IsTrue (refuses f) → create_of_trees (plain_all operands.now) sites.old ≡ None) }
+    ensures value { IfOk result (λ s. create_in_trees (path_of place.now) (plain_all operands.now) sites.old ≡ got (numbered sites.new (statement_of s))) }
+    ensures fault { IfErr result (λ f. IsTrue (refuses f) → create_in_trees (path_of place.now) (plain_all operands.now) sites.old ≡ refused f) }
 {
     let Trees::More(name, rest) = operands else {
         return Err(place.form(alloc, Want::Statement));
@@ -227,8 +229,8 @@ fn read_body(
     sites: &mut u8,
     tree: &Tree,
 ) -> Result<Stmts, FormFault>
-    ensures value { IfOk result (λ ss. body_of_tree (plain tree.now) sites.old ≡ Some (body sites.new (statements_of ss))) }
-    ensures none { IfErr result (λ f. IsTrue (refuses f) → body_of_tree (plain tree.now) sites.old ≡ None) }
+    ensures value { IfOk result (λ ss. body_in_tree (path_of place.now) (plain tree.now) sites.old ≡ got (body sites.new (statements_of ss))) }
+    ensures fault { IfErr result (λ f. IsTrue (refuses f) → body_in_tree (path_of place.now) (plain tree.now) sites.old ≡ refused f) }
 {
     match tree {
         Tree::List(trees) => {
@@ -253,8 +255,8 @@ fn read_single(
     single: Single,
     operands: &Trees,
 ) -> Result<Stmt, FormFault>
-    ensures value { IfOk result (λ s. single_of_trees (plain_all operands.now) single ≡ Some (statement_of s)) }
-    ensures none { IfErr result (λ f. IsTrue (refuses f) → single_of_trees (plain_all operands.now) single ≡ None) }
+    ensures value { IfOk result (λ s. single_in_trees (path_of place.now) (plain_all operands.now) single ≡ got (statement_of s)) }
+    ensures fault { IfErr result (λ f. IsTrue (refuses f) → single_in_trees (path_of place.now) (plain_all operands.now) single ≡ refused f) }
 {
     match single {
         Single::Put => {
@@ -293,8 +295,8 @@ fn read_single(
 }
 
 fn read_assign(alloc: Global, place: &Place<'_>, operands: &Trees) -> Result<Stmt, FormFault>
-    ensures value { IfOk result (λ s. assign_of_trees (plain_all operands.now) ≡ Some (statement_of s)) }
-    ensures none { IfErr result (λ f. IsTrue (refuses f) → assign_of_trees (plain_all operands.now) ≡ None) }
+    ensures value { IfOk result (λ s. assign_in_trees (path_of place.now) (plain_all operands.now) ≡ got (statement_of s)) }
+    ensures fault { IfErr result (λ f. IsTrue (refuses f) → assign_in_trees (path_of place.now) (plain_all operands.now) ≡ refused f) }
 {
     let Trees::More(name, rest) = operands else {
         return Err(place.form(alloc, Want::Statement));
@@ -311,8 +313,8 @@ fn read_assign(alloc: Global, place: &Place<'_>, operands: &Trees) -> Result<Stm
 }
 
 fn read_update(alloc: Global, place: &Place<'_>, operands: &Trees) -> Result<Stmt, FormFault>
-    ensures value { IfOk result (λ s. update_of_trees (plain_all operands.now) ≡ Some (statement_of s)) }
-    ensures none { IfErr result (λ f. IsTrue (refuses f) → update_of_trees (plain_all operands.now) ≡ None) }
+    ensures value { IfOk result (λ s. update_in_trees (path_of place.now) (plain_all operands.now) ≡ got (statement_of s)) }
+    ensures fault { IfErr result (λ f. IsTrue (refuses f) → update_in_trees (path_of place.now) (plain_all operands.now) ≡ refused f) }
 {
     let Trees::More(model, rest) = operands else {
         return Err(place.form(alloc, Want::Statement));
@@ -333,8 +335,8 @@ fn read_update(alloc: Global, place: &Place<'_>, operands: &Trees) -> Result<Stm
 }
 
 fn read_delete(alloc: Global, place: &Place<'_>, operands: &Trees) -> Result<Stmt, FormFault>
-    ensures value { IfOk result (λ s. delete_of_trees (plain_all operands.now) ≡ Some (statement_of s)) }
-    ensures none { IfErr result (λ f. IsTrue (refuses f) → delete_of_trees (plain_all operands.now) ≡ None) }
+    ensures value { IfOk result (λ s. delete_in_trees (path_of place.now) (plain_all operands.now) ≡ got (statement_of s)) }
+    ensures fault { IfErr result (λ f. IsTrue (refuses f) → delete_in_trees (path_of place.now) (plain_all operands.now) ≡ refused f) }
 {
     let Trees::More(model, rest) = operands else {
         return Err(place.form(alloc, Want::Statement));
@@ -351,8 +353,8 @@ fn read_delete(alloc: Global, place: &Place<'_>, operands: &Trees) -> Result<Stm
 }
 
 fn read_missing(alloc: Global, place: &Place<'_>, operands: &Trees) -> Result<Stmt, FormFault>
-    ensures value { IfOk result (λ s. missing_of_trees (plain_all operands.now) ≡ Some (statement_of s)) }
-    ensures none { IfErr result (λ f. IsTrue (refuses f) → missing_of_trees (plain_all operands.now) ≡ None) }
+    ensures value { IfOk result (λ s. missing_in_trees (path_of place.now) (plain_all operands.now) ≡ got (statement_of s)) }
+    ensures fault { IfErr result (λ f. IsTrue (refuses f) → missing_in_trees (path_of place.now) (plain_all operands.now) ≡ refused f) }
 {
     match operands {
         Trees::End => Ok(Stmt::Missing),
@@ -361,8 +363,8 @@ fn read_missing(alloc: Global, place: &Place<'_>, operands: &Trees) -> Result<St
 }
 
 fn read_template(alloc: Global, place: &Place<'_>, operands: &Trees) -> Result<Stmt, FormFault>
-    ensures value { IfOk result (λ s. template_of_trees (plain_all operands.now) ≡ Some (statement_of s)) }
-    ensures none { IfErr result (λ f. IsTrue (refuses f) → template_of_trees (plain_all operands.now) ≡ None) }
+    ensures value { IfOk result (λ s. template_in_trees (path_of place.now) (plain_all operands.now) ≡ got (statement_of s)) }
+    ensures fault { IfErr result (λ f. IsTrue (refuses f) → template_in_trees (path_of place.now) (plain_all operands.now) ≡ refused f) }
 {
     let Trees::More(text, rest) = operands else {
         return Err(place.form(alloc, Want::Statement));

@@ -1,6 +1,6 @@
 ghost use Rattle.std.specs.Prelude.{◌≡◌};
 ghost use Rattle.jac_tree.specs.Mirror.{plain};
-ghost use Rattle.jac_forms.specs.Statements.{single_of, step_around, step_of_word, step_of};
+ghost use Rattle.jac_forms.specs.Statements.{single_of, step_around, step_of, step_of_word};
 
 use jac_tree::Tree;
 

@@ -1,8 +1,10 @@
-ghost use Rattle.std.specs.Prelude.{◌≡◌, Some, None, IfOk, IfErr, IsTrue};
+ghost use Rattle.std.specs.Prelude.{◌≡◌, IfOk, IfErr, IsTrue};
 ghost use Rattle.jac_lang.specs.Mirror.{page_of};
 ghost use Rattle.jac_tree.specs.Mirror.{plain, plain_all};
+ghost use Rattle.jac_forms.specs.Applications.{method_in_tree, page_in_tree, page_in_trees, path_in_tree};
+ghost use Rattle.jac_forms.specs.Places.{path_of};
+ghost use Rattle.jac_forms.specs.Reads.{got, refused};
 ghost use Rattle.jac_forms.specs.Refusal.{refuses};
-ghost use Rattle.jac_forms.specs.Applications.{method_of_tree, path_of_tree, page_of_trees, page_of_tree};
 
 use crate::fields::read_params;
 use crate::place::Place;
@@ -16,8 +18,8 @@ use jac_value::{Txt, is_path};
 use std::alloc::Global;
 
 pub fn read_view(alloc: Global, place: &Place<'_>, tree: &Tree) -> Result<View, FormFault>
-    ensures value { IfOk result (λ v. page_of_tree (plain tree.now) ≡ Some (page_of v)) }
-    ensures none { IfErr result (λ f. IsTrue (refuses f) → page_of_tree (plain tree.now) ≡ None) }
+    ensures value { IfOk result (λ v. page_in_tree (path_of place.now) (plain tree.now) ≡ got (page_of v)) }
+    ensures fault { IfErr result (λ f. IsTrue (refuses f) → page_in_tree (path_of place.now) (plain tree.now) ≡ refused f) }
 {
     match tail_of(tree, b"view") {
         Some(parts) => {
@@ -30,8 +32,8 @@ pub fn read_view(alloc: Global, place: &Place<'_>, tree: &Tree) -> Result<View, 
 
 // The sites are counted behind the statements, so a fault inside of them comes first.
 fn read_parts(alloc: Global, place: &Place<'_>, parts: &Trees) -> Result<View, FormFault>
-    ensures value { IfOk result (λ v. page_of_trees (plain_all parts.now) ≡ Some (page_of v)) }
-    ensures none { IfErr result (λ f. IsTrue (refuses f) → page_of_trees (plain_all parts.now) ≡ None) }
+    ensures value { IfOk result (λ v. page_in_trees (path_of place.now) (plain_all parts.now) ≡ got (page_of v)) }
+    ensures fault { IfErr result (λ f. IsTrue (refuses f) → page_in_trees (path_of place.now) (plain_all parts.now) ≡ refused f) }
 {
     let Trees::More(method, rest) = parts else {
         return Err(place.form(alloc, Want::Item));
@@ -48,7 +50,7 @@ fn read_parts(alloc: Global, place: &Place<'_>, parts: &Trees) -> Result<View, F
     let mut sites = 0;
     let body = read_stmts(alloc, place, 4, &mut sites, rest)?;
     if sites > 64 {
-        return Err(place.too_many(alloc, What::Sites, count_sites(&body)));
+        return Err(place.too_many(alloc, What::Sites, count_sites(&body)?));
     }
     Ok(View {
         method,
@@ -59,8 +61,8 @@ fn read_parts(alloc: Global, place: &Place<'_>, parts: &Trees) -> Result<View, F
 }
 
 fn read_method(alloc: Global, place: &Place<'_>, tree: &Tree) -> Result<Verb, FormFault>
-    ensures value { IfOk result (λ v. method_of_tree (plain tree.now) ≡ Some v) }
-    ensures none { IfErr result (λ f. IsTrue (refuses f) → method_of_tree (plain tree.now) ≡ None) }
+    ensures value { IfOk result (λ v. method_in_tree (path_of place.now) (plain tree.now) ≡ got v) }
+    ensures fault { IfErr result (λ f. IsTrue (refuses f) → method_in_tree (path_of place.now) (plain tree.now) ≡ refused f) }
 {
     if is_word(tree, b"get") {
         Ok(Verb::Get)
@@ -72,8 +74,8 @@ fn read_method(alloc: Global, place: &Place<'_>, tree: &Tree) -> Result<Verb, Fo
 }
 
 fn read_path(alloc: Global, place: &Place<'_>, tree: &Tree) -> Result<Txt, FormFault>
-    ensures value { IfOk result (λ path. path_of_tree (plain tree.now) ≡ Some path) }
-    ensures none { IfErr result (λ f. IsTrue (refuses f) → path_of_tree (plain tree.now) ≡ None) }
+    ensures value { IfOk result (λ path. path_in_tree (path_of place.now) (plain tree.now) ≡ got path) }
+    ensures fault { IfErr result (λ f. IsTrue (refuses f) → path_in_tree (path_of place.now) (plain tree.now) ≡ refused f) }
 {
     match tree {
         Tree::Text(text) => {

@@ -1,4 +1,4 @@
-use Rattle.std.proofs.Common.{◌≡◌, ◌≤◌, ◌+◌, min}
+use Rattle.std.proofs.Common.{◌≡◌, ◌+◌}
 use Rattle.std.specs.Prelude.{codes}
 use Rattle.jac_tree.specs.Mirror.{plain_all}
 use Rattle.jac_forms.specs.Applications.{headed}
@@ -6,7 +6,4 @@ use Rattle.jac_forms.proofs.applications.count_models.Given as goal
 
 -- the models so far and those of the rest are those of all
 abbrev pub invariant-trees : goal.invariant-trees
-invariant-trees l = record {
-  small : l.number ≤ 0xFFFF_FFFF_FFFF_FFFF;
-  sum : min (l.number + headed (codes "model") (plain_all l.left)) 0xFFFF_FFFF_FFFF_FFFF ≡ min (headed (codes "model") (plain_all l.trees)) 0xFFFF_FFFF_FFFF_FFFF;
-}
+invariant-trees l = l.number + headed (codes "model") (plain_all l.left) ≡ headed (codes "model") (plain_all l.trees)

@@ -2,7 +2,8 @@ use Rattle.std.proofs.Common.{◌≡◌, ◌≤◌, ◌+◌, vec_len}
 use Rattle.std.specs.Prelude.{codes}
 use Rattle.jac_lang.specs.Mirror.{entities_of}
 use Rattle.jac_tree.specs.Mirror.{plain_all}
-use Rattle.jac_forms.specs.Applications.{headed, items_of_trees}
+use Rattle.jac_forms.specs.Applications.{headed, items_in_trees}
+use Rattle.jac_forms.specs.Places.{path_of}
 use Rattle.jac_forms.proofs.Gathered.{gathered}
 use Rattle.jac_forms.proofs.applications.read_items.Given as goal
 
@@ -10,5 +11,7 @@ use Rattle.jac_forms.proofs.applications.read_items.Given as goal
 abbrev pub invariant-models : goal.invariant-models
 invariant-models l = record {
   few : vec_len l.models + headed (codes "model") (plain_all l.left) ≤ 64;
-  made : gathered (entities_of l.models.items) (plain_all l.left) ≡ items_of_trees (plain_all l.trees);
+  made :
+      gathered (entities_of l.models.items) (path_of l.fn.place) l.number (plain_all l.left)
+      ≡ items_in_trees (path_of l.fn.place) l.fn.first (plain_all l.trees);
 }

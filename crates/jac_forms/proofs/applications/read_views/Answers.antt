@@ -2,8 +2,9 @@ use Rattle.std.proofs.Common.{rules, ap, arith, length, ◌≡◌, refl, subst}
 use Rattle.jac_lang.specs.Mirror.{page_of, pages_of}
 use Rattle.jac_tree.specs.Plain.{PlainTrees}
 use Rattle.jac_tree.specs.Mirror.{plain, plain_all}
-use Rattle.jac_forms.specs.Names.{each_of_trees}
-use Rattle.jac_forms.specs.Applications.{page_of_tree}
+use Rattle.jac_forms.specs.Names.{each_in_trees}
+use Rattle.jac_forms.specs.Places.{path_of}
+use Rattle.jac_forms.specs.Applications.{page_in_tree}
 use Rattle.jac_forms.proofs.Made.{made_before, made-more, seen-pushed}
 use Rattle.jac_forms.proofs.applications.read_views.Goals as goal
 
@@ -11,15 +12,16 @@ pub views-preserved : goal.views-preserved
 views-preserved c =
     let left : plain_all c.views.left.now ≡ PlainTrees.more (plain c.deref.result.now) (plain_all c.deref-left.result.now) =
     rw (c.in-More.is, ← c.deref.ensures, ← c.deref-left.ensures) refl in
-    let all = each_of_trees page_of_tree (plain_all c.args.trees.now) in
+    let at = path_of c.args.place.now in
+    let all = each_in_trees page_in_tree at c.args.first (plain_all c.args.trees.now) in
     record {
       few = search rules;
       fits = search rules;
-      made = made-more page_of_tree (pages_of c.views.views.items) (pages_of c.push.new.self.items) (page_of c.in_ok-view.view)
-          (plain c.deref.result.now) (plain_all c.deref-left.result.now) all
+      made = made-more page_in_tree at (pages_of c.views.views.items) (pages_of c.push.new.self.items) (page_of c.in_ok-view.view)
+          c.views.number _ _ (plain c.deref.result.now) (plain_all c.deref-left.result.now) all
           (seen-pushed page_of pages_of refl (λ _ _. refl) c.views.views.items c.push.new.self.items c.in_ok-view.view c.in_ok-push.ensures.items)
-          c.in_ok-view.ensures.value
-          (subst (λ (ts : PlainTrees). made_before (pages_of c.views.views.items) (each_of_trees page_of_tree ts) ≡ all) left c.views.invariant.made);
+          (search rules) c.child.ensures c.in_ok-view.ensures.value
+          (subst (λ (ts : PlainTrees). made_before (pages_of c.views.views.items) (each_in_trees page_in_tree at c.views.number ts) ≡ all) left c.views.invariant.made);
     }
 
 pub returns-clause-few : goal.returns-clause-few

@@ -1,15 +1,18 @@
 use Rattle.std.proofs.Common.{◌≡◌, ◌≤◌}
-use Rattle.std.specs.Option.{option_map}
 use Rattle.jac_tree.specs.declared.tree.Trees.{size-Trees}
 use Rattle.jac_tree.specs.Mirror.{plain_all}
 use Rattle.jac_lang.specs.Mirror.{expressions_of}
 use Rattle.jac_lang.specs.Turned.{onto}
-use Rattle.jac_forms.specs.Expressions.{expressions_of_trees}
+use Rattle.jac_forms.specs.Expressions.{expressions_in_trees}
+use Rattle.jac_forms.specs.Places.{path_of}
+use Rattle.jac_forms.specs.Reads.{read_map}
 use Rattle.jac_forms.proofs.expressions.+read.Given as goal
 
 -- the parts so far, before those of the rest, are those of all
 abbrev pub invariant-read_parts-parts : goal.invariant-read_parts-parts
 invariant-read_parts-parts l = record {
   no_deeper : size-Trees l.left ≤ size-Trees l.operands;
-  made : option_map (onto (expressions_of l.back)) (expressions_of_trees (plain_all l.left)) ≡ expressions_of_trees (plain_all l.operands);
+  made :
+      read_map (onto (expressions_of l.back)) (expressions_in_trees (path_of l.fn.place) l.number (plain_all l.left))
+      ≡ expressions_in_trees (path_of l.fn.place) 1 (plain_all l.operands);
 }

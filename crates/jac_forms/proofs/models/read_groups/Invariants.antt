@@ -1,8 +1,9 @@
 use Rattle.std.proofs.Common.{◌≡◌, ◌+◌, vec_len}
 use Rattle.jac_lang.specs.Mirror.{groups_of}
 use Rattle.jac_tree.specs.Mirror.{plain_all}
-use Rattle.jac_forms.specs.Applications.{group_of_tree}
-use Rattle.jac_forms.specs.Names.{count, each_of_trees}
+use Rattle.jac_forms.specs.Applications.{group_in_tree}
+use Rattle.jac_forms.specs.Names.{count, each_in_trees}
+use Rattle.jac_forms.specs.Places.{path_of}
 use Rattle.jac_forms.proofs.Made.{made_before}
 use Rattle.jac_forms.proofs.models.read_groups.Given as goal
 
@@ -10,5 +11,7 @@ use Rattle.jac_forms.proofs.models.read_groups.Given as goal
 abbrev pub invariant-groups : goal.invariant-groups
 invariant-groups l = record {
   count : vec_len l.groups + count (plain_all l.left) ≡ count (plain_all l.trees);
-  made : made_before (groups_of l.groups.items) (each_of_trees group_of_tree (plain_all l.left)) ≡ each_of_trees group_of_tree (plain_all l.trees);
+  made :
+      made_before (groups_of l.groups.items) (each_in_trees group_in_tree (path_of l.fn.place) l.number (plain_all l.left))
+      ≡ each_in_trees group_in_tree (path_of l.fn.place) 3 (plain_all l.trees);
 }

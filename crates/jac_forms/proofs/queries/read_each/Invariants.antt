@@ -1,11 +1,14 @@
 use Rattle.std.proofs.Common.{◌≡◌}
-use Rattle.std.specs.Option.{option_map}
 use Rattle.jac_lang.specs.Mirror.{binders_of}
 use Rattle.jac_lang.specs.Turned.{turned}
 use Rattle.jac_tree.specs.Mirror.{plain_all}
-use Rattle.jac_forms.specs.Expressions.{binders_of_trees}
+use Rattle.jac_forms.specs.Places.{path_of}
+use Rattle.jac_forms.specs.Reads.{read_map}
+use Rattle.jac_forms.specs.Expressions.{binders_in_trees}
 use Rattle.jac_forms.proofs.queries.read_each.Given as goal
 
 -- the binders so far, before those of the rest, are those of all
 abbrev pub invariant-binders : goal.invariant-binders
-invariant-binders l = option_map (turned (binders_of l.back)) (binders_of_trees (plain_all l.left)) ≡ binders_of_trees (plain_all l.trees)
+invariant-binders l =
+    read_map (turned (binders_of l.back)) (binders_in_trees (path_of l.fn.place) l.number (plain_all l.left))
+    ≡ binders_in_trees (path_of l.fn.place) 0 (plain_all l.trees)

@@ -1,0 +1,8 @@
+use Rattle.std.proofs.Common.{◌≡◌, ◌+◌}
+use Rattle.jac_tree.specs.Mirror.{plain_all}
+use Rattle.jac_forms.specs.Names.{count}
+use Rattle.jac_forms.proofs.names.count.Given as goal
+
+-- the trees so far and those of the rest are all
+abbrev pub invariant-trees : goal.invariant-trees
+invariant-trees l = l.number + count (plain_all l.left) ≡ count (plain_all l.trees)
