@@ -1,0 +1,11 @@
+pub mod Frames
+pub mod Contents
+pub mod Leads
+pub mod Cuts
+pub mod Bodies
+pub mod Templates
+pub mod FaultLaws
+pub mod Runs
+pub mod OneExpansion
+pub mod Texts
+pub mod SiteLaws

@@ -1,0 +1,38 @@
+-- The faults of a template.
+use Rattle.std.specs.Prelude.{ℕ, Bool, true, false}
+use Rattle.jac_forms.specs.declared.fault.FormFault.{FormFault}
+use Rattle.jac_forms.specs.declared.fault.FormFault.TheVariants as forms
+use Rattle.jac_tree.specs.declared.fault.TreeFault.{TreeFault}
+use Rattle.jac_tree.specs.declared.fault.TreeFault.TheVariants as trees
+use Rattle.jac_template.specs.declared.fault.TemplateFault.{TemplateFault}
+use Rattle.jac_template.specs.declared.fault.TemplateFault.TheVariants as faults
+
+-- a fault, with the place of the first byte of its tag; want of memory is none of the text's
+pub data Fault : Type 0 where
+  unclosed : ℕ → Fault
+  stray : ℕ → Fault
+  deep : ℕ → Fault
+  tree : ℕ → TreeFault → Fault
+  form : ℕ → Fault
+  memory : Fault
+
+abbrev pub tree_fault : ℕ → TreeFault → Fault
+tree_fault place trees.Memory = Fault.memory
+tree_fault place fault = Fault.tree place fault
+
+abbrev pub form_fault : ℕ → FormFault → Fault
+form_fault place forms.Memory = Fault.memory
+form_fault place fault = Fault.form place
+
+abbrev pub fault_of : TemplateFault → Fault
+fault_of (faults.Unclosed place) = Fault.unclosed place
+fault_of (faults.Stray place) = Fault.stray place
+fault_of (faults.Deep place) = Fault.deep place
+fault_of (faults.Tree place fault) = tree_fault place fault
+fault_of (faults.Form place fault) = form_fault place fault
+fault_of faults.Memory = Fault.memory
+
+-- the text is refused, and not for want of memory
+abbrev pub refuses : TemplateFault → Bool
+refuses faults.Memory = false
+refuses fault = true

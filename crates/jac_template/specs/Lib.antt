@@ -1,0 +1,11 @@
+pub mod Escaped
+pub mod Pieces
+pub mod Tags
+pub mod Grammar
+pub mod Faults
+pub mod Expansion
+pub mod Applications
+pub mod Untemplated
+pub mod Quoting
+pub mod Marked
+pub mod Progress

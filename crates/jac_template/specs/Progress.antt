@@ -1,0 +1,98 @@
+-- What a reader of pieces has: the open blocks, and the statements so far of the innermost body.
+use Rattle.std.specs.Prelude.{◌≡◌, ℕ, nat_lt, if◌then◌else◌, Option, Some, None, List, [], ◌∷◌, ◌++◌, length}
+use Rattle.jac_lang.specs.Mirror.{expression_of, question_of, statements_of}
+use Rattle.jac_lang.specs.Syntax.{Expression, Question, Statement, Statements}
+use Rattle.jac_lang.specs.Turned.{body_onto}
+use Rattle.jac_template.specs.Faults.{Fault}
+use Rattle.jac_template.specs.Tags.{Mark}
+use Rattle.jac_template.specs.declared.blocks.Blocks.{Blocks}
+use Rattle.jac_template.specs.declared.blocks.Context.{Context}
+use Rattle.jac_template.specs.declared.blocks.Context.TheVariants as contexts
+use Rattle.jac_template.specs.declared.blocks.Frame.{Frame}
+
+-- the body that is open: of a `let`, the first or the second of an `if`, of a `for`
+pub data Opening : Type 0 where
+  bind : List ℕ → Expression → Opening
+  first : Expression → Opening
+  second : Expression → Statements → Opening
+  each : Question → Opening
+
+-- an open block: the place of its tag, its body, and the statements before it, turned round
+pub record OpenBlock : Type 0 where
+  pub place : ℕ
+  pub opening : Opening
+  pub before : Statements
+
+abbrev pub open_block : ℕ → Opening → Statements → OpenBlock
+open_block place opening before = record { place = place; opening = opening; before = before }
+
+-- the open blocks from the innermost one out, and the statements of the innermost body, turned round
+pub record Progress : Type 0 where
+  pub blocks : List OpenBlock
+  pub body : Statements
+
+abbrev pub progress : List OpenBlock → Statements → Progress
+progress blocks body = record { blocks = blocks; body = body }
+
+abbrev pub opening_of : Context → Opening
+opening_of (contexts.Let x e) = Opening.bind x (expression_of e)
+opening_of (contexts.Then c) = Opening.first (expression_of c)
+opening_of (contexts.Else c ss) = Opening.second (expression_of c) (statements_of ss)
+opening_of (contexts.For q) = Opening.each (question_of q)
+
+abbrev pub open_block_of : Frame → OpenBlock
+open_block_of f = open_block f.place (opening_of f.context) (statements_of f.before)
+
+-- the frames of a stack, of which the last is the innermost block
+abbrev pub open_blocks : List Frame → List OpenBlock
+open_blocks [] = []
+open_blocks (f ∷ fs) = open_blocks fs ++ open_block_of f ∷ []
+
+abbrev pub progress_of : Blocks → Progress
+progress_of b = progress (open_blocks b.frames.items) (statements_of b.body)
+
+-- the statements in the order of their running
+abbrev pub run_order : Statements → Statements
+run_order body = body_onto body Statements.none
+
+-- what a block is once its `end` was read
+abbrev pub statement : Opening → Statements → Statement
+statement (Opening.bind x e) body = Statement.bind x e body
+statement (Opening.first c) body = Statement.branch c body Statements.none
+statement (Opening.second c done) body = Statement.branch c done body
+statement (Opening.each q) body = Statement.each q body
+
+-- one more block, of which there are at most 64
+abbrev pub opened : ℕ → Opening → Progress → Option Progress
+opened place opening p =
+    if nat_lt (length p.blocks) 64 then Some (progress (open_block place opening p.body ∷ p.blocks) Statements.none) else None
+
+-- the innermost block behind its `else`
+abbrev pub turned_in : ℕ → Opening → Statements → List OpenBlock → Statements → Option Progress
+turned_in place (Opening.first c) before blocks body =
+    Some (progress (open_block place (Opening.second c (run_order body)) before ∷ blocks) Statements.none)
+turned_in place opening before blocks body = None
+
+abbrev pub turned : List OpenBlock → Statements → Option Progress
+turned [] body = None
+turned (b ∷ blocks) body = turned_in b.place b.opening b.before blocks body
+
+-- the innermost block behind its `end`
+abbrev pub closed : List OpenBlock → Statements → Option Progress
+closed [] body = None
+closed (b ∷ blocks) body = Some (progress blocks (Statements.more (statement b.opening (run_order body)) b.before))
+
+-- behind a mark at this place; none where it may not stand there
+abbrev pub after : ℕ → Mark → Progress → Option Progress
+after place (Mark.put e) p = Some (progress p.blocks (Statements.more (Statement.put e) p.body))
+after place (Mark.escape e) p = Some (progress p.blocks (Statements.more (Statement.escape e) p.body))
+after place (Mark.bind x e) p = opened place (Opening.bind x e) p
+after place (Mark.branch c) p = opened place (Opening.first c) p
+after place (Mark.each q) p = opened place (Opening.each q) p
+after place Mark.otherwise p = turned p.blocks p.body
+after place Mark.finish p = closed p.blocks p.body
+
+-- the fault of the innermost block, which has no end
+abbrev pub IsUnclosed : List OpenBlock → Fault → Type 0
+IsUnclosed [] fault = ⊥
+IsUnclosed (b ∷ blocks) fault = fault ≡ Fault.unclosed b.place

@@ -1,0 +1,19 @@
+//! Templates: the text of a page with tags in it, and the statements that it expands to.
+#![tactic(auto)]
+
+mod application;
+mod blocks;
+mod controls;
+mod expansion;
+mod fault;
+mod html;
+mod laws;
+mod marks;
+mod pieces;
+mod statements;
+
+pub use application::{ViewFault, expand_app};
+pub use expansion::expand;
+pub use fault::TemplateFault;
+pub use html::escape;
+pub use laws::{expands_to_one, expansion_keeps_sites};
