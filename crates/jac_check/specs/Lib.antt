@@ -1,0 +1,12 @@
+pub mod Scope
+pub mod Kinds
+pub mod Well
+pub mod Runnable
+pub mod Verdict
+pub mod NameFaults
+pub mod Expressions
+pub mod Statements
+pub mod Causes
+pub mod Applications
+pub mod Mirror
+pub mod Found

@@ -1,0 +1,45 @@
+use jac_lang::KindName;
+use jac_value::Txt;
+
+/// Where an application is not well.
+#[derive(Debug, Drop)]
+pub enum Place {
+    /// At `(viewer M)`.
+    Viewer,
+    /// In the model of this name.
+    Model(Txt),
+    /// In the view of this number, counted from 0 in the order of the text.
+    View(u32),
+}
+
+/// The kind that a form wants.
+#[derive(Debug, Drop)]
+pub enum Wanted {
+    One(KindName),
+    /// An int or a text.
+    Ordered,
+    /// A reference to some model.
+    Reference,
+}
+
+/// Why an application is not well.
+#[derive(Debug, Drop)]
+pub enum CheckCause {
+    /// No model, field, parameter or binding has this name here.
+    UnknownName(Txt),
+    TwiceNamed(Txt),
+    WrongKind { want: Wanted, have: KindName },
+    WriteInGet,
+    CreateInLoop,
+    ViewerInPublic,
+    /// The form that begins with this word, or this name, may not stand here.
+    NotHere(Txt),
+    Memory,
+}
+
+/// The first fault of an application.
+#[derive(Debug, Drop)]
+pub struct CheckFault {
+    pub place: Place,
+    pub cause: CheckCause,
+}

@@ -1,0 +1,16 @@
+ghost use Rattle.std.specs.Prelude.{◌≡◌, is_none, IsTrue};
+ghost use Rattle.jac_lang.specs.Syntax.{Application};
+ghost use Rattle.jac_check.specs.Well.{is_well};
+ghost use Rattle.jac_check.specs.Runnable.{AreRunnable};
+ghost use Rattle.jac_check.specs.Applications.{first_fault};
+
+/// A law: an application is well exactly where it has no fault.
+pub fn well_without_fault()
+    ensures { (app : Application) → is_well app ≡ is_none (first_fault app) }
+{}
+
+/// A law: the views of a well application may be run. None that answers GET writes, no record is created inside of
+/// a `for`, and no template is left.
+pub fn well_is_runnable()
+    ensures { (app : Application) → IsTrue (is_well app) → AreRunnable app }
+{}

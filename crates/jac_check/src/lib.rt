@@ -1,0 +1,24 @@
+//! Names and kinds: whether an application is well, or its first fault in the order of the text.
+#![tactic(auto)]
+
+mod cause;
+mod cells;
+mod checked;
+mod expressions;
+mod fault;
+mod forms;
+mod found;
+mod kinds;
+mod laws;
+mod lookups;
+mod models;
+mod names;
+mod paths;
+mod queries;
+mod scope;
+mod statements;
+mod views;
+
+pub use checked::{Checked, check};
+pub use fault::{CheckCause, CheckFault, Place, Wanted};
+pub use laws::{well_is_runnable, well_without_fault};
