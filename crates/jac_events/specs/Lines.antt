@@ -1,0 +1,86 @@
+-- The forms of an event's line, and the event that each writes down.
+use Rattle.std.specs.Prelude.{ℕ, ◌^◌, ◌==◌, ◌&&◌, nat_le, nat_lt, Bool, true, false, if◌then◌else◌, Option, Some, None, List, [], ◌∷◌, length, take, codes}
+use Rattle.std.specs.Option.{option_map, option_and_then}
+use Rattle.std.specs.List.{list_all, before_first, after_first}
+use Rattle.std.specs.Char.{is_ascii_digit, is_ascii_uppercase}
+use Rattle.std.specs.Str.{bytes_eq, is_utf8}
+use Rattle.std.specs.Str.Parse.{digits_value}
+use Rattle.jac_events.specs.Words.{word_at, after_byte, quoted_at}
+use Rattle.jac_events.specs.declared.event.Event.{Event}
+use Rattle.jac_events.specs.declared.event.Event.TheVariants.{Ask, Begin, Piece, Finish}
+
+-- a number below the limit, of 1 to `most` decimal digits
+abbrev pub number_of : ℕ → ℕ → List ℕ → Option ℕ
+number_of most limit word =
+    if nat_lt 0 (length word) && nat_le (length word) most && list_all is_ascii_digit word && nat_lt (digits_value 10 word) limit
+    then Some (digits_value 10 word) else None
+
+-- a viewer's number, or `-` for nobody
+abbrev pub viewer_of : List ℕ → Option (Option ℕ)
+viewer_of word = if bytes_eq word (codes "-") then Some None else option_map (λ n. Some n) (number_of 39 (2 ^ 128) word)
+
+-- the number of a connection
+abbrev pub conn_of : List ℕ → Option ℕ
+conn_of word = number_of 10 (2 ^ 32) word
+
+-- 1 to 15 upper-case letters
+abbrev pub is_method : List ℕ → Bool
+is_method word = nat_lt 0 (length word) && nat_le (length word) 15 && list_all is_ascii_uppercase word
+
+-- a text that begins with `/`
+abbrev pub is_target : List ℕ → Bool
+is_target bytes = bytes_eq (take 1 bytes) (codes "/") && is_utf8 bytes
+
+abbrev pub is_nil : List ℕ → Bool
+is_nil [] = true
+is_nil (b ∷ bytes) = false
+
+-- the request of these parts: the path is what stands before the target's first `?`, the query what follows it
+abbrev pub asked : Option ℕ → List ℕ → List ℕ → List ℕ → Event
+asked viewer method target body = Ask viewer method (before_first (λ b. b == 63) target) (after_first (λ b. b == 63) target) body
+
+-- behind `ask`: `VIEWER METHOD "TARGET" "BODY"`
+abbrev pub ask_of : List ℕ → Option Event
+ask_of rest =
+    option_and_then (λ viewer.
+    option_and_then (λ method.
+    option_and_then (λ target.
+    option_and_then (λ rest.
+    option_and_then (λ body.
+    option_and_then (λ number.
+    if is_method method.0 && is_target target.0 && is_nil body.1 then Some (asked number method.0 target.0 body.0) else None)
+    (viewer_of viewer.0))
+    (quoted_at rest))
+    (after_byte 32 target.1))
+    (quoted_at method.1))
+    (word_at viewer.1))
+    (word_at rest)
+
+-- behind `data`: `N "BYTES"`
+abbrev pub data_of : List ℕ → Option Event
+data_of rest =
+    option_and_then (λ number.
+    option_and_then (λ content.
+    option_and_then (λ conn.
+    if is_nil content.1 then Some (Piece conn content.0) else None)
+    (conn_of number.0))
+    (quoted_at number.1))
+    (word_at rest)
+
+-- `ask ..`, `open N`, `data N "BYTES"` or `end N`, with one space between two parts
+abbrev pub event_by : List ℕ → List ℕ → Option Event
+event_by verb rest =
+    if bytes_eq verb (codes "ask") then ask_of rest else
+    if bytes_eq verb (codes "open") then option_map Begin (conn_of rest) else
+    if bytes_eq verb (codes "data") then data_of rest else
+    if bytes_eq verb (codes "end") then option_map Finish (conn_of rest) else
+    None
+
+-- the event of a line that isn't empty, where it has a form
+abbrev pub event_of : List ℕ → Option Event
+event_of line = option_and_then (λ first. event_by first.0 first.1) (word_at line)
+
+-- what a line writes down, where it has a form: an empty one nothing
+abbrev pub line_of : List ℕ → Option (Option Event)
+line_of [] = Some None
+line_of (b ∷ bytes) = option_map (λ event. Some event) (event_of (b ∷ bytes))

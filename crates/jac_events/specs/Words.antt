@@ -1,0 +1,56 @@
+-- Words and quoted texts, as they stand at the front of a line's rest.
+use Rattle.std.specs.Prelude.{ℕ, ◌+◌, ◌-◌, ◌*◌, ◌==◌, ◌&&◌, nat_le, if◌then◌else◌, Option, Some, None, List, [], ◌∷◌, take, drop, position}
+use Rattle.std.specs.Option.{option_map, option_and_then}
+
+-- the word before the first space, and what follows that space
+abbrev pub word_at : List ℕ → Option (List ℕ × List ℕ)
+word_at bytes = option_map (λ i. (take i bytes, drop (i + 1) bytes)) (position (λ b. b == 32) bytes)
+
+-- what follows this byte, where it stands first
+abbrev pub after_byte : ℕ → List ℕ → Option (List ℕ)
+after_byte b [] = None
+after_byte b (c ∷ bytes) = if c == b then Some bytes else None
+
+-- the value of a digit of base 16, in either case
+abbrev pub hex_value : ℕ → Option ℕ
+hex_value c =
+    if nat_le 48 c && nat_le c 57 then Some (c - 48) else
+    if nat_le 65 c && nat_le c 70 then Some (c - 55) else
+    if nat_le 97 c && nat_le c 102 then Some (c - 87) else
+    None
+
+-- a byte of the content, before what is read of the rest
+abbrev pub with_byte : ℕ → Option (List ℕ × List ℕ) → Option (List ℕ × List ℕ)
+with_byte b read = option_map (λ p. (b ∷ p.0, p.1)) read
+
+abbrev mutual
+  -- the content up to the closing quote, and what follows that quote
+  pub unquoted : List ℕ → Option (List ℕ × List ℕ)
+  unquoted [] = None
+  unquoted (c ∷ bytes) =
+      if c == 34 then Some ([], bytes) else
+      if c == 92 then unescaped bytes else
+      if c == 10 then None else
+      with_byte c (unquoted bytes)
+
+  -- the same behind a backslash: `\n`, `\r`, `\\`, `\"` and `\xHH`
+  pub unescaped : List ℕ → Option (List ℕ × List ℕ)
+  unescaped [] = None
+  unescaped (c ∷ bytes) =
+      if c == 110 then with_byte 10 (unquoted bytes) else
+      if c == 114 then with_byte 13 (unquoted bytes) else
+      if c == 92 then with_byte 92 (unquoted bytes) else
+      if c == 34 then with_byte 34 (unquoted bytes) else
+      if c == 120 then unhexed bytes else
+      None
+
+  -- the same behind `\x`
+  pub unhexed : List ℕ → Option (List ℕ × List ℕ)
+  unhexed [] = None
+  unhexed (h ∷ []) = None
+  unhexed (h ∷ (l ∷ bytes)) =
+      option_and_then (λ high. option_and_then (λ low. with_byte (16 * high + low) (unquoted bytes)) (hex_value l)) (hex_value h)
+
+-- the content of a quoted text that stands first, and what follows it
+abbrev pub quoted_at : List ℕ → Option (List ℕ × List ℕ)
+quoted_at bytes = option_and_then unquoted (after_byte 34 bytes)

@@ -1,0 +1,36 @@
+use jac_value::{Bytes, Txt};
+
+/// What a line writes down.
+#[derive(Debug, Drop)]
+pub enum Event {
+    /// A request without a connection. The viewer is the number of a record, as the line has it.
+    Ask {
+        viewer: Option<u128>,
+        method: Txt,
+        path: Txt,
+        query: Bytes,
+        body: Bytes,
+    },
+    /// A connection begins.
+    Begin {
+        conn: u32,
+    },
+    /// Bytes come on a connection.
+    Piece {
+        conn: u32,
+        bytes: Bytes,
+    },
+    /// A connection ends.
+    Finish {
+        conn: u32,
+    },
+}
+
+/// Why a line isn't read.
+#[derive(Clone, Copy, Debug, PartialEq, Eq)]
+pub enum LineFault {
+    /// The line has no form.
+    BadLine,
+    /// A growth was refused.
+    Memory,
+}
