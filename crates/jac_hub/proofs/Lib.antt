@@ -1,0 +1,12 @@
+pub mod Statuses
+pub mod Reading
+pub mod Standing
+pub mod Longer
+pub mod Following
+pub mod Emptying
+pub mod Events
+pub mod Giving
+pub mod EventParts
+pub mod Plain
+pub mod Cutting
+pub mod Runs

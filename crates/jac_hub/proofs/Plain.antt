@@ -1,0 +1,14 @@
+-- A request that is understood as itself, and an answer that is what is sent.
+use Rattle.std.proofs.Common.{refl, ℕ}
+use Rattle.jac_hub.specs.declared.handler.Heard.{Heard}
+use Rattle.jac_hub.specs.declared.handler.Heard.TheVariants.{Whole, Refused}
+use Rattle.jac_hub.specs.declared.sent.Sent.{Sent}
+use Rattle.jac_hub.specs.Served.{Agrees, plain_hearing, sends}
+use Rattle.jac_hub.proofs.Following.{Tells}
+
+agrees : (heard : Heard) (sent : Sent) → Agrees plain_hearing heard sent sent
+agrees (Whole request) sent = (refl, tt)
+agrees (Refused status) sent = tt
+
+pub plain-tells : {H : Type 0} (handles : H → ℕ → Heard → Sent → H → Type 0) → Tells plain_hearing handles (sends handles)
+plain-tells handles = λ before after c heard sent handled. (sent, (handled, refl), agrees heard sent)

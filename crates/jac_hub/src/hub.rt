@@ -1,0 +1,207 @@
+ghost use Rattle.std.specs.Prelude.{◌≡◌, ◌<◌, ◌+◌, None, Some, IfSome};
+ghost use Rattle.jac_http.specs.Requests.{IsTaken};
+ghost use Rattle.jac_hub.specs.Hub.{seen, IsOfConnection, new_hub, StepsBegin, StepsPiece, StepsFinish, Steps, Nexts, NextServing, NextBreaking, turn_behind, out_of, unused_in, left};
+ghost use Rattle.jac_hub.specs.declared.hub.Turn.TheVariants.{Idle, Closing};
+
+use crate::channel::{Channel, Given};
+use crate::sent::fixed_500;
+use crate::{Handler, Sent};
+use jac_events::Event;
+use jac_value::Memory;
+use std::alloc::Global;
+use std::collections::BTreeMap;
+
+/// Why an event isn't taken.
+#[derive(Clone, Copy, Debug, PartialEq, Eq)]
+pub enum HubFault {
+    /// The connection hasn't begun.
+    NotOpen(u32),
+    /// The connection has begun already.
+    AlreadyOpen(u32),
+    /// A growth was refused.
+    Memory,
+}
+
+/// What a hub puts out.
+#[derive(Debug, Drop)]
+pub enum HubOut {
+    Reply { conn: u32, sent: Sent },
+    Closed { conn: u32 },
+}
+
+/// What is to come of the last event.
+#[derive(Clone, Copy, Debug)]
+enum Turn {
+    /// Nothing: the next event may come.
+    Idle,
+    /// What the connection's bytes bring.
+    Serving(u32),
+    /// That memory ran out for the connection.
+    Breaking(u32),
+    /// That the connection is closed.
+    Closing(u32),
+    /// That nothing more comes.
+    Done,
+}
+
+/// The connections that have begun, and what is to come of the last event.
+#[derive(Debug, Drop)]
+pub struct Hub {
+    channels: BTreeMap<u32, Channel>,
+    turn: Turn,
+}
+
+impl Hub {
+    pub fn new(alloc: Global) -> Hub
+        ensures { seen result ≡ new_hub }
+    {
+        Hub {
+            channels: BTreeMap::new(alloc),
+            turn: Turn::Idle,
+        }
+    }
+
+    /// Takes an event. What it brings is asked by `next`, until that answers none.
+    pub fn step(&mut self, alloc: Global, event: &Event) -> Result<(), HubFault>
+        requires idle { (seen self.old).turn ≡ Idle }
+        requires connection { IsOfConnection event.now }
+        ensures { Steps (seen self.old) event.now result (seen self.new) }
+    {
+        match event {
+            Event::Ask { .. } => unreachable!(),
+            Event::Begin { conn } => self.begin(alloc, *conn),
+            Event::Piece { conn, bytes } => self.piece(*conn, bytes.as_slice()),
+            Event::Finish { conn } => self.finish(*conn),
+        }
+    }
+
+    fn begin(&mut self, alloc: Global, conn: u32) -> Result<(), HubFault>
+        ensures { StepsBegin (seen self.old) conn ((seen self.old).channels conn) result (seen self.new) }
+    {
+        if self.channels.contains_key(&conn) {
+            return Err(HubFault::AlreadyOpen(conn));
+        }
+        match self.channels.insert(conn, Channel::new(alloc)) {
+            Ok(_) => {
+                self.turn = Turn::Done;
+                Ok(())
+            }
+            Err(_) => Err(HubFault::Memory),
+        }
+    }
+
+    fn piece(&mut self, conn: u32, bytes: &[u8]) -> Result<(), HubFault>
+        ensures { StepsPiece (seen self.old) conn bytes.now ((seen self.old).channels conn) result (seen self.new) }
+    {
+        let Some(channel) = self.channels.get_mut(&conn) else {
+            return Err(HubFault::NotOpen(conn));
+        };
+        if channel.is_closed() {
+            self.turn = Turn::Done;
+            return Ok(());
+        }
+        match channel.piece(bytes) {
+            Ok(()) => {
+                self.turn = Turn::Serving(conn);
+                Ok(())
+            }
+            Err(Memory) => {
+                self.turn = Turn::Breaking(conn);
+                Err(HubFault::Memory)
+            }
+        }
+    }
+
+    fn finish(&mut self, conn: u32) -> Result<(), HubFault>
+        ensures { StepsFinish (seen self.old) conn ((seen self.old).channels conn) result (seen self.new) }
+    {
+        match self.channels.remove(&conn) {
+            Some(_) => {
+                self.turn = Turn::Done;
+                Ok(())
+            }
+            None => Err(HubFault::NotOpen(conn)),
+        }
+    }
+
+    /// The next thing that the last event brings: one reply for each request and for what is refused, in their
+    /// order, then that the connection is closed, then none.
+    pub fn next<H: Handler>(&mut self, alloc: Global, handler: &mut H) -> Option<HubOut>
+        requires { H.ready handler.old }
+        ensures next { Nexts IsTaken H.handles (seen self.old) (seen self.old).turn result (seen self.new) handler.old handler.new }
+        ensures idle { result ≡ None → (seen self.new).turn ≡ Idle }
+        ensures nearer { IfSome result (λ out. left (seen self.new) < left (seen self.old)) }
+        ensures ready { H.ready handler.new }
+    {
+        match self.turn {
+            Turn::Idle => None,
+            Turn::Serving(conn) => self.serve(alloc, conn, handler),
+            Turn::Breaking(conn) => Some(self.fail(conn)),
+            Turn::Closing(conn) => {
+                self.turn = Turn::Done;
+                Some(HubOut::Closed { conn })
+            }
+            Turn::Done => {
+                self.turn = Turn::Idle;
+                None
+            }
+        }
+    }
+
+    fn serve<H: Handler>(&mut self, alloc: Global, conn: u32, handler: &mut H) -> Option<HubOut>
+        requires { H.ready handler.old }
+        ensures next { NextServing IsTaken H.handles (seen self.old) conn ((seen self.old).channels conn) result (seen self.new) handler.old handler.new }
+        ensures idle { result ≡ None → (seen self.new).turn ≡ Idle }
+        ensures nearer { IfSome result (λ out. left (seen self.new) < unused_in ((seen self.old).channels conn) + 4) }
+        ensures ready { H.ready handler.new }
+    {
+        let Some(channel) = self.channels.get_mut(&conn) else {
+            self.turn = Turn::Idle;
+            return None;
+        };
+        let given = channel.next(alloc, conn, handler);
+        let closed = channel.is_closed();
+        self.turn = turn_behind(conn, &given, closed);
+        out_of(conn, given)
+    }
+
+    fn fail(&mut self, conn: u32) -> HubOut
+        ensures next { NextBreaking (seen self.old) conn ((seen self.old).channels conn) (Some result) (seen self.new) }
+        ensures turn { (seen self.new).turn ≡ Closing conn }
+    {
+        if let Some(channel) = self.channels.get_mut(&conn) {
+            channel.close();
+        }
+        self.turn = Turn::Closing(conn);
+        HubOut::Reply {
+            conn,
+            sent: fixed_500(),
+        }
+    }
+}
+
+fn turn_behind(conn: u32, given: &Option<Given>, closed: bool) -> Turn
+    ensures { result ≡ turn_behind conn given.now closed }
+{
+    match given {
+        None => Turn::Idle,
+        Some(Given::Reply(_)) => {
+            if closed {
+                Turn::Closing(conn)
+            } else {
+                Turn::Serving(conn)
+            }
+        }
+        Some(Given::Closed) => Turn::Done,
+    }
+}
+
+fn out_of(conn: u32, given: Option<Given>) -> Option<HubOut>
+    ensures { result ≡ out_of conn given }
+{
+    match given {
+        None => None,
+        Some(Given::Reply(sent)) => Some(HubOut::Reply { conn, sent }),
+        Some(Given::Closed) => Some(HubOut::Closed { conn }),
+    }
+}
