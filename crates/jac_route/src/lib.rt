@@ -1,8 +1,17 @@
-//! What a request hands to a view: its pairs, its parameters, and who looks.
+//! What a request hands to a view: its route, its pairs, its parameters, and who looks.
 #![tactic(auto)]
 
+mod lookup;
 mod pairs;
 mod parameters;
+mod parts;
+mod routes;
+mod sessions;
+mod words;
 
+pub use lookup::{Allow, Found, find};
 pub use pairs::{Pair, Pairs, pairs_of};
 pub use parameters::{bind, kind_by_name, viewer_id};
+pub use routes::{Route, RouteFault, Routes, routes_of};
+pub use sessions::{Session, SessionFault, Sessions, sessions_of, viewer_of};
+pub use words::read_viewer;

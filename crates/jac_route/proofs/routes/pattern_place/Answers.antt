@@ -1,0 +1,10 @@
+use Rattle.std.proofs.Common.{◌∙◌, sym}
+use Rattle.jac_route.specs.Routes.{has_pattern}
+use Rattle.jac_route.proofs.PlaceLaws.{position_seen}
+use Rattle.jac_route.proofs.routes.pattern_place.Goals as goal
+
+pub returns-in-Some : goal.returns-in-Some
+returns-in-Some c = sym c.in-Some.is ∙ c.place_of.ensures.place ∙ position_seen (has_pattern c.args.pattern.now) c.args.views.now
+
+pub returns-in-None : goal.returns-in-None
+returns-in-None c = sym c.in-None.is ∙ c.place_of.ensures.place ∙ position_seen (has_pattern c.args.pattern.now) c.args.views.now

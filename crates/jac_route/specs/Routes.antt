@@ -1,0 +1,86 @@
+-- The routes of an application: each pattern once, with the views that have it.
+use Rattle.std.specs.Prelude.{◌≡◌, ℕ, ◌+◌, ◌==◌, ◌&&◌, not, Bool, true, false, if◌then◌else◌, List, [], ◌∷◌, ⊤, Option, Some, None, is_some, position, Result, Ok, Err}
+use Rattle.std.specs.Str.{bytes_eq}
+use Rattle.matchit.specs.Rows.{RowsOf}
+use Rattle.matchit.specs.Route.{Scan, parse_route}
+use Rattle.matchit.specs.Router.{RouteOf, route_from, nearest}
+use Rattle.matchit.specs.Order.{placed}
+use Rattle.matchit.specs.declared.error.InsertError.{InsertError}
+use Rattle.matchit.specs.declared.error.InsertError.TheVariants as insert
+use Rattle.jac_lang.specs.declared.pages.Verb.{Verb}
+use Rattle.jac_lang.specs.declared.pages.Verb.TheVariants as verbs
+use Rattle.jac_lang.specs.Syntax.{Page, Application}
+use Rattle.jac_route.specs.declared.routes.Route.{Route}
+use Rattle.jac_route.specs.declared.routes.RouteFault.{RouteFault}
+use Rattle.jac_route.specs.declared.routes.RouteFault.TheVariants as fault
+
+-- the rows of `matchit`, each with the views of its pattern
+abbrev pub Table : Type 0
+Table = RowsOf (RouteOf Route)
+
+abbrev pub same_verb : Verb → Verb → Bool
+same_verb verbs.Get verbs.Get = true
+same_verb verbs.Post verbs.Post = true
+same_verb v w = false
+
+abbrev pub has_pattern : List ℕ → Page → Bool
+has_pattern pattern v = bytes_eq v.path pattern
+
+abbrev pub is_at : Verb → List ℕ → Page → Bool
+is_at verb pattern v = same_verb v.method verb && bytes_eq v.path pattern
+
+-- the place of the first view of a pattern, and of the first of a method and a pattern
+abbrev pub pattern_place : List Page → List ℕ → Option ℕ
+pattern_place views pattern = position (has_pattern pattern) views
+
+abbrev pub view_place : List Page → Verb → List ℕ → Option ℕ
+view_place views verb pattern = position (is_at verb pattern) views
+
+-- the pattern and its views
+abbrev pub route_of : List Page → List ℕ → Route
+route_of views pattern = record { pattern = pattern; get = view_place views verbs.Get pattern; post = view_place views verbs.Post pattern }
+
+abbrev pub is_place : ℕ → Option ℕ → Bool
+is_place n None = false
+is_place n (Some place) = place == n
+
+-- the table with one pattern more, or the number of the view where `matchit` refuses its pattern beside the others
+abbrev pub with_pattern : ℕ → Result Scan InsertError → Route → Table → Result Table ℕ
+with_pattern n (Err e) route rows = Err n
+with_pattern n (Ok scan) route rows = if is_some (nearest scan.pattern rows) then Err n else Ok (placed (scan.pattern, route_from scan route) rows)
+
+-- the table with the n-th view: refused where an earlier view has its method and pattern, unchanged where one has its pattern alone
+abbrev pub with_view : List Page → ℕ → Page → Table → Result Table ℕ
+with_view views n v rows =
+    if not (is_place n (view_place views v.method v.path)) then Err n else
+    if not (is_place n (pattern_place views v.path)) then Ok rows else
+    with_pattern n (parse_route v.path) (route_of views v.path) rows
+
+abbrev pub go_on : Result Table ℕ → (Table → Result Table ℕ) → Result Table ℕ
+go_on (Ok rows) next = next rows
+go_on (Err n) next = Err n
+
+-- the table with each of the views from the n-th on, or the number of the first that clashes
+abbrev pub table_from : List Page → ℕ → List Page → Table → Result Table ℕ
+table_from views n [] rows = Ok rows
+table_from views n (v ∷ rest) rows = go_on (with_view views n v rows) (table_from views (n + 1) rest)
+
+abbrev pub table_of : Application → Result Table ℕ
+table_of app = table_from app.views 0 app.views []
+
+-- no view clashes with an earlier one, and these are the routes
+abbrev pub AreRoutes : Application → Table → Type 0
+AreRoutes app routes = table_of app ≡ Ok routes
+
+-- a clash is at the view that is refused; want of memory says nothing
+abbrev pub Clashes : RouteFault → Result Table ℕ → Type 0
+Clashes (fault.Clash n) table = table ≡ Err n
+Clashes fault.Memory table = ⊤
+
+-- what a refused insert means at the n-th view
+abbrev pub fault_of : ℕ → InsertError → RouteFault
+fault_of n insert.OutOfMemory = fault.Memory
+fault_of n (insert.Conflict with) = fault.Clash n
+fault_of n insert.InvalidParamSegment = fault.Clash n
+fault_of n insert.InvalidParam = fault.Clash n
+fault_of n insert.InvalidCatchAll = fault.Clash n

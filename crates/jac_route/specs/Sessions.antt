@@ -1,0 +1,70 @@
+-- The lines of a sessions file, and who looks by a token.
+use Rattle.std.specs.Prelude.{ℕ, ◌+◌, ◌==◌, ◌&&◌, nat_le, nat_lt, Bool, if◌then◌else◌, List, [], ◌∷◌, ◌++◌, ◌≡◌, ⊤, length, Option, Some, None, Result, Ok, Err}
+use Rattle.std.specs.Option.{option_and_then}
+use Rattle.std.specs.List.{slice_split, list_all}
+use Rattle.std.specs.Str.{bytes_eq}
+use Rattle.jac_value.specs.Names.{is_atom_byte}
+use Rattle.jac_value.specs.Paths.{is_nil}
+use Rattle.jac_lang.specs.Syntax.{Application}
+use Rattle.jac_route.specs.declared.sessions.Session.{Session}
+use Rattle.jac_route.specs.declared.sessions.SessionFault.{SessionFault}
+use Rattle.jac_route.specs.declared.sessions.SessionFault.TheVariants as fault
+use Rattle.jac_route.specs.Parameters.{viewer_of}
+use Rattle.jac_route.specs.Words.{first_word, viewer_read}
+
+-- 1 to 128 ASCII letters, digits, `-` and `_`
+abbrev pub is_token : List ℕ → Bool
+is_token word = nat_lt 0 (length word) && nat_le (length word) 128 && list_all is_atom_byte word
+
+-- `TOKEN VIEWER`
+abbrev pub session_of : List ℕ → Option Session
+session_of line =
+    option_and_then (λ words. option_and_then (λ viewer.
+    if is_token words.0 then Some (record { token = words.0; viewer = viewer }) else None)
+    (viewer_read words.1))
+    (first_word line)
+
+abbrev pub numbered : ℕ → Option Session → Result (Option Session) ℕ
+numbered n None = Err n
+numbered n (Some session) = Ok (Some session)
+
+-- the session of the n-th line: an empty line has none, and a line of another form is refused
+abbrev pub line_read : ℕ → List ℕ → Result (Option Session) ℕ
+line_read n line = if is_nil line then Ok None else numbered n (session_of line)
+
+abbrev pub listed : Option Session → List Session
+listed None = []
+listed (Some session) = session ∷ []
+
+-- sessions before what follows them
+abbrev pub before : List Session → Result (List Session) ℕ → Result (List Session) ℕ
+before sessions (Ok rest) = Ok (sessions ++ rest)
+before sessions (Err n) = Err n
+
+abbrev pub before_rest : Result (Option Session) ℕ → Result (List Session) ℕ → Result (List Session) ℕ
+before_rest (Ok session) rest = before (listed session) rest
+before_rest (Err n) rest = Err n
+
+-- the sessions of the lines from the n-th on, or the number of the first line that is refused
+abbrev pub sessions_from : ℕ → List (List ℕ) → Result (List Session) ℕ
+sessions_from n [] = Ok []
+sessions_from n (line ∷ lines) = before_rest (line_read n line) (sessions_from (n + 1) lines)
+
+-- lines are numbered from 1, each without its LF; the last may lack one
+abbrev pub sessions_in : List ℕ → Result (List Session) ℕ
+sessions_in bytes = sessions_from 1 (slice_split (λ b. b == 10) bytes)
+
+-- a bad line is the one that is refused; want of memory says nothing
+abbrev pub Refuses : {A : Type 0} → SessionFault → Result A ℕ → Type 0
+Refuses (fault.BadLine n) read = read ≡ Err n
+Refuses fault.Memory read = ⊤
+
+-- the first session of a token
+abbrev pub session_named : List ℕ → List Session → Option Session
+session_named token [] = None
+session_named token (s ∷ rest) = if bytes_eq s.token token then Some s else session_named token rest
+
+-- who looks by a token: nobody without a session, by a session of nobody, or where the number is no id of the viewer's model
+abbrev pub session_viewer : List Session → Option (List ℕ) → Application → Option ℕ
+session_viewer sessions token app =
+    option_and_then (λ name. option_and_then (λ session. option_and_then (viewer_of app) session.viewer) (session_named name sessions)) token
