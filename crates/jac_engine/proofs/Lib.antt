@@ -4,3 +4,4 @@ pub mod SiteLaws
 pub mod ViewLaws
 pub mod AnswerLaws
 pub mod PreparedLaws
+pub mod WellServed

@@ -12,8 +12,11 @@ use Rattle.jac_plain.specs.Models.{kinds_of}
 use Rattle.jac_plain.specs.Requests.{Visit, method_in, after, after_by}
 use Rattle.jac_plain.proofs.GoodLaws.{good_after}
 use Rattle.jac_keep.specs.declared.alteration.Change.{Change}
-use Rattle.jac_engine.specs.Answers.{IsSomePage, IsAnswerOf, IsAnswerBy, HasFormOf, HasFormBy, left_by, is_post, is_stored_by, visit_of}
-use Rattle.jac_engine.specs.Found.{Found, found}
+use Rattle.jac_engine.specs.Answers.{IsSomePage, IsAnswerOf, IsAnswerBy, HasFormOf, HasFormBy, left_by, is_post, is_stored_by, asked_with, visit_of}
+use Rattle.jac_route.specs.Found.{found}
+use Rattle.jac_route.specs.declared.lookup.Found.{Found}
+use Rattle.jac_route.specs.declared.lookup.Found.TheVariants as founds
+use Rattle.jac_route.specs.declared.pairs.Pair.{Pair}
 use Rattle.jac_engine.specs.Prepared.{IsPrepared, applied_if, worlds_of}
 use Rattle.jac_engine.specs.Served.{are_served}
 use Rattle.jac_engine.specs.Start.{IsStart}
@@ -32,29 +35,29 @@ form_by verbs.Post tells app s visit p (inl full) = inl (ap (λ (q : Prepared). 
 form_by verbs.Post tells app s visit p (inr stored) = inr stored.form
 
 form_for : (f : Found) (tells : Bool) (app : Application) (s : State) (ask : Ask) (p : Prepared) → IsPreparedFor f tells app s ask p → HasFormBy f app p.answer
-form_for Found.no_route tells app s ask p h = ap (λ (q : Prepared). q.answer) h
-form_for (Found.wrong_method allow) tells app s ask p h = ap (λ (q : Prepared). q.answer) h
-form_for (Found.view n) tells app s ask p h = form_by (method_in (slice_get app.views n)) tells app s (visit_of app ask n) p h
+form_for founds.NoRoute tells app s ask p h = ap (λ (q : Prepared). q.answer) h
+form_for (founds.WrongMethod allow) tells app s ask p h = ap (λ (q : Prepared). q.answer) h
+form_for (founds.View n pairs) tells app s ask p h = form_by (method_in (slice_get app.views n)) tells app s (visit_of app (asked_with pairs ask) n) p h
 
 -- a page of this method is stored where this is a POST
-stored_page : (app : Application) (n : ℕ) (v : Verb) (p : Prepared) → method_in (slice_get app.views n) ≡ v → (page : IsSomePage p.answer)
-    → is_stored_by (Found.view n) app p.answer.shown ≡ is_post v
-stored_page app n v p is page =
-    ap (λ (o : Option (List ℕ)). is_stored_by (Found.view n) app o) (shown_in p.answer page) ∙ ap is_post is
+stored_page : (app : Application) (n : ℕ) (pairs : List Pair) (v : Verb) (p : Prepared) → method_in (slice_get app.views n) ≡ v → (page : IsSomePage p.answer)
+    → is_stored_by (founds.View n pairs) app p.answer.shown ≡ is_post v
+stored_page app n pairs v p is page =
+    ap (λ (o : Option (List ℕ)). is_stored_by (founds.View n pairs) app o) (shown_in p.answer page) ∙ ap is_post is
 
-stored_by : (v : Verb) (tells : Bool) (app : Application) (s : State) (n : ℕ) (visit : Visit) (p : Prepared)
-    → method_in (slice_get app.views n) ≡ v → IsPreparedBy v tells app s visit p → is_some p.change ≡ is_stored_by (Found.view n) app p.answer.shown
-stored_by verbs.Get tells app s n visit p is h = ap (λ (c : Option Change). is_some c) h.change ∙ sym (stored_page app n verbs.Get p is h.form)
-stored_by verbs.Post tells app s n visit p is (inl full) =
-    ap (λ (q : Prepared). is_some q.change) full.refusal ∙ sym (ap (λ (q : Prepared). is_stored_by (Found.view n) app q.answer.shown) full.refusal)
-stored_by verbs.Post tells app s n visit p is (inr stored) =
-    ap (λ (c : Option Change). is_some c) stored.changes ∙ sym (stored_page app n verbs.Post p is stored.form)
+stored_by : (v : Verb) (tells : Bool) (app : Application) (s : State) (n : ℕ) (pairs : List Pair) (visit : Visit) (p : Prepared)
+    → method_in (slice_get app.views n) ≡ v → IsPreparedBy v tells app s visit p → is_some p.change ≡ is_stored_by (founds.View n pairs) app p.answer.shown
+stored_by verbs.Get tells app s n pairs visit p is h = ap (λ (c : Option Change). is_some c) h.change ∙ sym (stored_page app n pairs verbs.Get p is h.form)
+stored_by verbs.Post tells app s n pairs visit p is (inl full) =
+    ap (λ (q : Prepared). is_some q.change) full.refusal ∙ sym (ap (λ (q : Prepared). is_stored_by (founds.View n pairs) app q.answer.shown) full.refusal)
+stored_by verbs.Post tells app s n pairs visit p is (inr stored) =
+    ap (λ (c : Option Change). is_some c) stored.changes ∙ sym (stored_page app n pairs verbs.Post p is stored.form)
 
 stored_for : (f : Found) (tells : Bool) (app : Application) (s : State) (ask : Ask) (p : Prepared)
     → IsPreparedFor f tells app s ask p → is_some p.change ≡ is_stored_by f app p.answer.shown
-stored_for Found.no_route tells app s ask p h = ap (λ (q : Prepared). is_some q.change) h
-stored_for (Found.wrong_method allow) tells app s ask p h = ap (λ (q : Prepared). is_some q.change) h
-stored_for (Found.view n) tells app s ask p h = stored_by (method_in (slice_get app.views n)) tells app s n (visit_of app ask n) p refl h
+stored_for founds.NoRoute tells app s ask p h = ap (λ (q : Prepared). is_some q.change) h
+stored_for (founds.WrongMethod allow) tells app s ask p h = ap (λ (q : Prepared). is_some q.change) h
+stored_for (founds.View n pairs) tells app s ask p h = stored_by (method_in (slice_get app.views n)) tells app s n pairs (visit_of app (asked_with pairs ask) n) p refl h
 
 answered_by : (v : Verb) (tells : Bool) (app : Application) (s : State) (visit : Visit) (p : Prepared)
     → IsPreparedBy v tells app s visit p → IsTrue tells → IsAnswerOf v app (worlds_of s) visit p.answer
@@ -64,37 +67,37 @@ answered_by verbs.Post tells app s visit p (inr stored) told = inr ((λ w. (stor
 
 answered_for : (f : Found) (tells : Bool) (app : Application) (s : State) (ask : Ask) (p : Prepared)
     → IsPreparedFor f tells app s ask p → IsTrue tells → IsAnswerBy f app (worlds_of s) ask p.answer
-answered_for Found.no_route tells app s ask p h told = ap (λ (q : Prepared). q.answer) h
-answered_for (Found.wrong_method allow) tells app s ask p h told = ap (λ (q : Prepared). q.answer) h
-answered_for (Found.view n) tells app s ask p h told = answered_by (method_in (slice_get app.views n)) tells app s (visit_of app ask n) p h told
+answered_for founds.NoRoute tells app s ask p h told = ap (λ (q : Prepared). q.answer) h
+answered_for (founds.WrongMethod allow) tells app s ask p h told = ap (λ (q : Prepared). q.answer) h
+answered_for (founds.View n pairs) tells app s ask p h told = answered_by (method_in (slice_get app.views n)) tells app s (visit_of app (asked_with pairs ask) n) p h told
 
 -- what a page leaves is what its view leaves
-left_page : (w : ℕ → Bool) (app : Application) (ask : Ask) (n : ℕ) (p : Prepared) (t : PlainState) (page : IsSomePage p.answer)
-    → left_by (Found.view n) w app ask p.answer.shown t ≡ after w app t (visit_of app ask n)
-left_page w app ask n p t page = ap (λ (o : Option (List ℕ)). left_by (Found.view n) w app ask o t) (shown_in p.answer page)
+left_page : (w : ℕ → Bool) (app : Application) (ask : Ask) (n : ℕ) (pairs : List Pair) (p : Prepared) (t : PlainState) (page : IsSomePage p.answer)
+    → left_by (founds.View n pairs) w app ask p.answer.shown t ≡ after w app t (visit_of app (asked_with pairs ask) n)
+left_page w app ask n pairs p t page = ap (λ (o : Option (List ℕ)). left_by (founds.View n pairs) w app ask o t) (shown_in p.answer page)
 
 after_get : (w : ℕ → Bool) (app : Application) (t : PlainState) (visit : Visit) → method_in (slice_get app.views visit.view) ≡ verbs.Get → after w app t visit ≡ t
 after_get w app t visit is = ap (λ (v : Verb). after_by v w app t visit) is
 
-worlds_by : (v : Verb) (tells : Bool) (app : Application) (s : State) (ask : Ask) (n : ℕ) (p : Prepared)
-    → method_in (slice_get app.views n) ≡ v → IsPreparedBy v tells app s (visit_of app ask n) p → IsTrue tells → (w : ℕ → Bool)
-    → project_at w (applied_if p.change s) ≡ left_by (Found.view n) w app ask p.answer.shown (project_at w s)
-worlds_by verbs.Get tells app s ask n p is h told w =
+worlds_by : (v : Verb) (tells : Bool) (app : Application) (s : State) (ask : Ask) (n : ℕ) (pairs : List Pair) (p : Prepared)
+    → method_in (slice_get app.views n) ≡ v → IsPreparedBy v tells app s (visit_of app (asked_with pairs ask) n) p → IsTrue tells → (w : ℕ → Bool)
+    → project_at w (applied_if p.change s) ≡ left_by (founds.View n pairs) w app ask p.answer.shown (project_at w s)
+worlds_by verbs.Get tells app s ask n pairs p is h told w =
     ap (λ (c : Option Change). project_at w (applied_if c s)) h.change
-    ∙ sym (left_page w app ask n p (project_at w s) h.form ∙ after_get w app (project_at w s) (visit_of app ask n) is)
-worlds_by verbs.Post tells app s ask n p is (inl full) told w =
+    ∙ sym (left_page w app ask n pairs p (project_at w s) h.form ∙ after_get w app (project_at w s) (visit_of app (asked_with pairs ask) n) is)
+worlds_by verbs.Post tells app s ask n pairs p is (inl full) told w =
     ap (λ (q : Prepared). project_at w (applied_if q.change s)) full.refusal
-    ∙ sym (ap (λ (q : Prepared). left_by (Found.view n) w app ask q.answer.shown (project_at w s)) full.refusal)
-worlds_by verbs.Post tells app s ask n p is (inr stored) told w =
+    ∙ sym (ap (λ (q : Prepared). left_by (founds.View n pairs) w app ask q.answer.shown (project_at w s)) full.refusal)
+worlds_by verbs.Post tells app s ask n pairs p is (inr stored) told w =
     ap (λ (c : Option Change). project_at w (applied_if c s)) stored.changes
-    ∙ (stored.stores told).worlds w ∙ sym (left_page w app ask n p (project_at w s) stored.form)
+    ∙ (stored.stores told).worlds w ∙ sym (left_page w app ask n pairs p (project_at w s) stored.form)
 
 worlds_for : (f : Found) (tells : Bool) (app : Application) (s : State) (ask : Ask) (p : Prepared)
     → IsPreparedFor f tells app s ask p → IsTrue tells → (w : ℕ → Bool)
     → project_at w (applied_if p.change s) ≡ left_by f w app ask p.answer.shown (project_at w s)
-worlds_for Found.no_route tells app s ask p h told w = ap (λ (q : Prepared). project_at w (applied_if q.change s)) h
-worlds_for (Found.wrong_method allow) tells app s ask p h told w = ap (λ (q : Prepared). project_at w (applied_if q.change s)) h
-worlds_for (Found.view n) tells app s ask p h told w = worlds_by (method_in (slice_get app.views n)) tells app s ask n p refl h told w
+worlds_for founds.NoRoute tells app s ask p h told w = ap (λ (q : Prepared). project_at w (applied_if q.change s)) h
+worlds_for (founds.WrongMethod allow) tells app s ask p h told w = ap (λ (q : Prepared). project_at w (applied_if q.change s)) h
+worlds_for (founds.View n pairs) tells app s ask p h told w = worlds_by (method_in (slice_get app.views n)) tells app s ask n pairs p refl h told w
 
 start_by : (v : Verb) (tells : Bool) (app : Application) (s : State) (visit : Visit) (p : Prepared)
     → IsPreparedBy v tells app s visit p → IsTrue tells → IsStart app s → IsStart app (applied_if p.change s)
@@ -104,25 +107,25 @@ start_by verbs.Post tells app s visit p (inr stored) told start = rw stored.chan
 
 start_for : (f : Found) (tells : Bool) (app : Application) (s : State) (ask : Ask) (p : Prepared)
     → IsPreparedFor f tells app s ask p → IsTrue tells → IsStart app s → IsStart app (applied_if p.change s)
-start_for Found.no_route tells app s ask p h told start = rw h start
-start_for (Found.wrong_method allow) tells app s ask p h told start = rw h start
-start_for (Found.view n) tells app s ask p h told start = start_by (method_in (slice_get app.views n)) tells app s (visit_of app ask n) p h told start
+start_for founds.NoRoute tells app s ask p h told start = rw h start
+start_for (founds.WrongMethod allow) tells app s ask p h told start = rw h start
+start_for (founds.View n pairs) tells app s ask p h told start = start_by (method_in (slice_get app.views n)) tells app s (visit_of app (asked_with pairs ask) n) p h told start
 
-good_by : (v : Verb) (tells : Bool) (app : Application) (s : State) (ask : Ask) (n : ℕ) (p : Prepared) → are_served app ≡ true → length app.models ≤ 64
-    → IsPreparedBy v tells app s (visit_of app ask n) p → IsTrue tells → IsGood (kinds_of app) s → IsGood (kinds_of app) (applied_if p.change s)
-good_by verbs.Get tells app s ask n p served few h told good = rw h.change good
-good_by verbs.Post tells app s ask n p served few (inl full) told good = rw full.refusal good
-good_by verbs.Post tells app s ask n p served few (inr stored) told good = λ w.
+good_by : (v : Verb) (tells : Bool) (app : Application) (s : State) (ask : Ask) (n : ℕ) (pairs : List Pair) (p : Prepared) → are_served app ≡ true → length app.models ≤ 64
+    → IsPreparedBy v tells app s (visit_of app (asked_with pairs ask) n) p → IsTrue tells → IsGood (kinds_of app) s → IsGood (kinds_of app) (applied_if p.change s)
+good_by verbs.Get tells app s ask n pairs p served few h told good = rw h.change good
+good_by verbs.Post tells app s ask n pairs p served few (inl full) told good = rw full.refusal good
+good_by verbs.Post tells app s ask n pairs p served few (inr stored) told good = λ w.
     let stores = stored.stores told in
     let after_change = ap (λ (c : Option Change). project_at w (applied_if c s)) stored.changes ∙ stores.worlds w in
     subst (λ (t : PlainState). IsGoodPlain (kinds_of app) t) (sym after_change)
-    (good_after w app (project_at w s) (visit_of app ask n) (good w) stores.room few (sited_view app n (slice_get app.views n) served refl))
+    (good_after w app (project_at w s) (visit_of app (asked_with pairs ask) n) (good w) stores.room few (sited_view app n (slice_get app.views n) served refl))
 
 good_for : (f : Found) (tells : Bool) (app : Application) (s : State) (ask : Ask) (p : Prepared) → are_served app ≡ true → length app.models ≤ 64
     → IsPreparedFor f tells app s ask p → IsTrue tells → IsGood (kinds_of app) s → IsGood (kinds_of app) (applied_if p.change s)
-good_for Found.no_route tells app s ask p served few h told good = rw h good
-good_for (Found.wrong_method allow) tells app s ask p served few h told good = rw h good
-good_for (Found.view n) tells app s ask p served few h told good = good_by (method_in (slice_get app.views n)) tells app s ask n p served few h told good
+good_for founds.NoRoute tells app s ask p served few h told good = rw h good
+good_for (founds.WrongMethod allow) tells app s ask p served few h told good = rw h good
+good_for (founds.View n pairs) tells app s ask p served few h told good = good_by (method_in (slice_get app.views n)) tells app s ask n pairs p served few h told good
 
 -- what was prepared by what the request finds answers it
 pub is_prepared : (tells : Bool) (app : Application) (s : State) (ask : Ask) (p : Prepared) → are_served app ≡ true → length app.models ≤ 64 → (IsTrue tells → IsStart app s)

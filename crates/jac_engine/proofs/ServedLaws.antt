@@ -11,7 +11,7 @@ use Rattle.jac_plain.specs.Making.{are_apart}
 use Rattle.jac_plain.specs.Reading.{is_reading, are_reading}
 use Rattle.jac_plain.specs.Requests.{body_in}
 use Rattle.jac_stmt.specs.Runs.{IsRunnable, AreRunnable}
-use Rattle.jac_engine.specs.Served.{is_untemplated, are_untemplated, behind_sites, have_own_sites, is_fixed, is_served_body, is_served_view, are_served_views, have_own_routes, are_served}
+use Rattle.jac_engine.specs.Served.{is_untemplated, are_untemplated, behind_sites, have_own_sites, is_served_body, is_served_view, are_served_views, are_served}
 use Rattle.jac_engine.proofs.SiteLaws.{are_below, below, below_parts, apart}
 
 both_true : (a b : Bool) → a ≡ true → b ≡ true → (a && b) ≡ true
@@ -181,12 +181,12 @@ body_among : (vs : List View) (n : ℕ) (v : View) → are_served_views vs ≡ t
 body_among [] n v h e = cc
 body_among (x ∷ xs) zero v h e =
     let same : x ≡ v = cc in
-    rw (← same) (and_parts (is_fixed x.path) (is_served_body x.method x.body) (and_parts (is_served_view x) (are_served_views xs) h).0).1
+    rw (← same) (and_parts (is_served_view x) (are_served_views xs) h).0
 body_among (x ∷ xs) (suc n) v h e = body_among xs n v (and_parts (is_served_view x) (are_served_views xs) h).1 e
 
 -- the body of a view of a served application
 pub served_body : (app : Application) (n : ℕ) (v : View) → are_served app ≡ true → slice_get app.views n ≡ Some v → is_served_body v.method v.body ≡ true
-served_body app n v h e = body_among app.views n v (and_parts (are_served_views app.views) (have_own_routes app.views) h).0 e
+served_body app n v h e = body_among app.views n v h e
 
 sited_body : (v : Verb) (body : Statements) → is_served_body v body ≡ true → are_sited body ≡ true
 sited_body verbs.Get body h = all_reading_sited body (and_parts (are_untemplated body) (are_reading body) h).1

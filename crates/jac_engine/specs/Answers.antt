@@ -10,8 +10,11 @@ use Rattle.jac_plain.specs.declared.page.Page.{Page}
 use Rattle.jac_plain.specs.declared.page.Piece.{Piece}
 use Rattle.jac_plain.specs.Policies.{IsSettled}
 use Rattle.jac_plain.specs.Requests.{Visit, Worlds, method_in, page_of, page, after}
+use Rattle.jac_route.specs.Found.{found}
 use Rattle.jac_route.specs.Parameters.{parameters}
-use Rattle.jac_engine.specs.Found.{Found, found}
+use Rattle.jac_route.specs.declared.lookup.Found.{Found}
+use Rattle.jac_route.specs.declared.lookup.Found.TheVariants as founds
+use Rattle.jac_route.specs.declared.pairs.Pair.{Pair}
 use Rattle.jac_engine.specs.declared.answer.Answer.{Answer}
 use Rattle.jac_engine.specs.declared.answer.Ask.{Ask}
 
@@ -39,6 +42,16 @@ page_answer labels p = record { status = p.status; location = p.location; allow 
 abbrev pub params_in : Option View → List Field
 params_in None = []
 params_in (Some v) = v.params
+
+-- the request with the pairs of its path before its own
+abbrev pub asked_with : List Pair → Ask → Ask
+asked_with pairs ask = record ask { pairs = pairs ++ ask.pairs }
+
+-- the methods of a path with views of GET, and of POST
+abbrev pub allow_text : Bool → Bool → List ℕ
+allow_text true true = codes "GET, HEAD, POST"
+allow_text true false = codes "GET, HEAD"
+allow_text false post = codes "POST"
 
 -- the request as the ordinary interpreter takes it: the place of its view, its parameters and who looks
 abbrev pub visit_of : Application → Ask → ℕ → Visit
@@ -69,9 +82,9 @@ IsAnswerOf verbs.Post app worlds visit answer =
 
 -- by what the request finds
 abbrev pub IsAnswerBy : Found → Application → Worlds → Ask → Answer → Type 0
-IsAnswerBy Found.no_route app worlds ask answer = answer ≡ refusal 404 None
-IsAnswerBy (Found.wrong_method allow) app worlds ask answer = answer ≡ refusal 405 (Some allow)
-IsAnswerBy (Found.view n) app worlds ask answer = IsAnswerOf (method_in (slice_get app.views n)) app worlds (visit_of app ask n) answer
+IsAnswerBy founds.NoRoute app worlds ask answer = answer ≡ refusal 404 None
+IsAnswerBy (founds.WrongMethod allow) app worlds ask answer = answer ≡ refusal 405 (Some (allow_text allow.get allow.post))
+IsAnswerBy (founds.View n pairs) app worlds ask answer = IsAnswerOf (method_in (slice_get app.views n)) app worlds (visit_of app (asked_with pairs ask) n) answer
 
 -- the answer to a request in these worlds
 abbrev pub IsAnswerTo : Application → Worlds → Ask → Answer → Type 0
@@ -89,19 +102,19 @@ HasFormOf verbs.Get answer = IsSomePage answer
 HasFormOf verbs.Post answer = (answer ≡ refusal 507 None) ⊎ IsSomePage answer
 
 abbrev pub HasFormBy : Found → Application → Answer → Type 0
-HasFormBy Found.no_route app answer = answer ≡ refusal 404 None
-HasFormBy (Found.wrong_method allow) app answer = answer ≡ refusal 405 (Some allow)
-HasFormBy (Found.view n) app answer = HasFormOf (method_in (slice_get app.views n)) answer
+HasFormBy founds.NoRoute app answer = answer ≡ refusal 404 None
+HasFormBy (founds.WrongMethod allow) app answer = answer ≡ refusal 405 (Some (allow_text allow.get allow.post))
+HasFormBy (founds.View n pairs) app answer = HasFormOf (method_in (slice_get app.views n)) answer
 
 -- what is known of the answer where no world is: a refusal has its cause, and a page is one that a run made
 abbrev pub HasForm : Application → Ask → Answer → Type 0
 HasForm app ask answer = HasFormBy (found app ask.method ask.path) app answer
 
 abbrev pub left_by : Found → (ℕ → Bool) → Application → Ask → Option (List ℕ) → PlainState → PlainState
-left_by Found.no_route w app ask shown t = t
-left_by (Found.wrong_method allow) w app ask shown t = t
-left_by (Found.view n) w app ask None t = t
-left_by (Found.view n) w app ask (Some labels) t = after w app t (visit_of app ask n)
+left_by founds.NoRoute w app ask shown t = t
+left_by (founds.WrongMethod allow) w app ask shown t = t
+left_by (founds.View n pairs) w app ask None t = t
+left_by (founds.View n pairs) w app ask (Some labels) t = after w app t (visit_of app (asked_with pairs ask) n)
 
 -- what an answer leaves of the world of an assignment: what its view leaves, where it is a page
 abbrev pub left : (ℕ → Bool) → Application → Ask → Answer → PlainState → PlainState
@@ -112,10 +125,10 @@ is_post verbs.Get = false
 is_post verbs.Post = true
 
 abbrev pub is_stored_by : Found → Application → Option (List ℕ) → Bool
-is_stored_by Found.no_route app shown = false
-is_stored_by (Found.wrong_method allow) app shown = false
-is_stored_by (Found.view n) app None = false
-is_stored_by (Found.view n) app (Some labels) = is_post (method_in (slice_get app.views n))
+is_stored_by founds.NoRoute app shown = false
+is_stored_by (founds.WrongMethod allow) app shown = false
+is_stored_by (founds.View n pairs) app None = false
+is_stored_by (founds.View n pairs) app (Some labels) = is_post (method_in (slice_get app.views n))
 
 -- whether a change comes with the answer: it does with the page of a POST
 abbrev pub is_stored : Application → Ask → Answer → Bool

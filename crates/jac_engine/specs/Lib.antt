@@ -1,9 +1,6 @@
 pub mod Served
-pub mod Sites
-pub mod Found
 pub mod Start
 pub mod Views
-pub mod Refused
 pub mod Answers
 pub mod Prepared
 pub mod Viewed

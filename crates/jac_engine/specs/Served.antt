@@ -1,7 +1,6 @@
--- The applications that are served.
-use Rattle.std.specs.Prelude.{ℕ, ◌+◌, ◌==◌, ◌&&◌, not, nat_le, nat_lt, Bool, true, false, if◌then◌else◌, List, [], ◌∷◌, Option, Some, None, is_some}
-use Rattle.std.specs.List.{list_all, list_any}
-use Rattle.std.specs.Str.{bytes_eq}
+-- The applications that are served, and what of a view's text they keep.
+use Rattle.std.specs.Prelude.{◌≡◌, ◌≤◌, ℕ, ◌+◌, ◌&&◌, nat_le, nat_lt, length, Bool, true, false, if◌then◌else◌, List, [], ◌∷◌, Option, Some, None, is_some}
+use Rattle.std.specs.List.{range_with_len}
 use Rattle.jac_lang.specs.declared.pages.Verb.{Verb}
 use Rattle.jac_lang.specs.declared.pages.Verb.TheVariants as verbs
 use Rattle.jac_lang.specs.Syntax.{Statement, Statements, Page, Application}
@@ -38,31 +37,18 @@ abbrev pub is_served_body : Verb → Statements → Bool
 is_served_body verbs.Get body = are_untemplated body && are_reading body
 is_served_body verbs.Post body = are_untemplated body && have_own_sites body
 
--- no part of the path is a name in braces
-abbrev pub is_fixed : List ℕ → Bool
-is_fixed path = list_all (λ b. not (b == 123)) path
-
-abbrev pub same_verb : Verb → Verb → Bool
-same_verb verbs.Get verbs.Get = true
-same_verb verbs.Post verbs.Post = true
-same_verb v w = false
-
--- the view answers requests of this method and path
-abbrev pub is_at : Verb → List ℕ → Page → Bool
-is_at verb path v = same_verb v.method verb && bytes_eq v.path path
-
--- no two views have one method and path
-abbrev pub have_own_routes : List Page → Bool
-have_own_routes [] = true
-have_own_routes (v ∷ vs) = not (list_any (is_at v.method v.path) vs) && have_own_routes vs
-
 abbrev pub is_served_view : Page → Bool
-is_served_view v = is_fixed v.path && is_served_body v.method v.body
+is_served_view v = is_served_body v.method v.body
 
 abbrev pub are_served_views : List Page → Bool
 are_served_views [] = true
 are_served_views (v ∷ vs) = is_served_view v && are_served_views vs
 
--- fixed paths, and every statement but a template
+-- every statement but a template
 abbrev pub are_served : Application → Bool
-are_served app = are_served_views app.views && have_own_routes app.views
+are_served app = are_served_views app.views
+
+-- the sites of a view are 0, 1, 2 and so on, at most 64 of them
+pub record IsSited (v : Page) : Type 0 where
+  pub few : length (sites v.body) ≤ 64
+  pub in_order : sites v.body ≡ range_with_len 0 (length (sites v.body))

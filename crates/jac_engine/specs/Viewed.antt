@@ -8,8 +8,9 @@ use Rattle.jac_rows.specs.declared.state.State.{State}
 use Rattle.jac_plain.specs.Requests.{Visit, method_in, after}
 use Rattle.jac_keep.specs.declared.alteration.Change.{Change}
 use Rattle.jac_keep.specs.Kept.{applied}
-use Rattle.jac_engine.specs.Answers.{IsPage, IsSomePage, refusal, visit_of, worlds_after}
-use Rattle.jac_engine.specs.Found.{Found}
+use Rattle.jac_route.specs.declared.lookup.Found.{Found}
+use Rattle.jac_route.specs.declared.lookup.Found.TheVariants as founds
+use Rattle.jac_engine.specs.Answers.{IsPage, IsSomePage, allow_text, asked_with, refusal, visit_of, worlds_after}
 use Rattle.jac_engine.specs.Prepared.{worlds_of}
 use Rattle.jac_engine.specs.Start.{IsStart}
 use Rattle.jac_engine.specs.declared.answer.Ask.{Ask}
@@ -48,6 +49,6 @@ IsPreparedBy verbs.Get tells app s visit p = IsShown tells app s visit p
 IsPreparedBy verbs.Post tells app s visit p = IsFull tells s p ⊎ IsStored tells app s visit p
 
 abbrev pub IsPreparedFor : Found → Bool → Application → State → Ask → Prepared → Type 0
-IsPreparedFor Found.no_route tells app s ask p = p ≡ refused 404 None
-IsPreparedFor (Found.wrong_method allow) tells app s ask p = p ≡ refused 405 (Some allow)
-IsPreparedFor (Found.view n) tells app s ask p = IsPreparedBy (method_in (slice_get app.views n)) tells app s (visit_of app ask n) p
+IsPreparedFor founds.NoRoute tells app s ask p = p ≡ refused 404 None
+IsPreparedFor (founds.WrongMethod allow) tells app s ask p = p ≡ refused 405 (Some (allow_text allow.get allow.post))
+IsPreparedFor (founds.View n pairs) tells app s ask p = IsPreparedBy (method_in (slice_get app.views n)) tells app s (visit_of app (asked_with pairs ask) n) p

@@ -7,21 +7,22 @@ ghost use Rattle.jac_keep.specs.Cause.{HasCause};
 ghost use Rattle.jac_keep.specs.KeeperSeen.{Reads};
 ghost use Rattle.jac_keep.specs.Kept.{applied};
 ghost use Rattle.jac_rows.specs.Good.{IsSound};
-ghost use Rattle.jac_engine.specs.Answers.{visit_of, page_answer};
-ghost use Rattle.jac_engine.specs.Found.{found};
+ghost use Rattle.jac_route.specs.Found.{found, IsWithin};
+ghost use Rattle.jac_route.specs.Routes.{AreRoutes};
+ghost use Rattle.jac_engine.specs.Answers.{asked_with, visit_of, page_answer};
 ghost use Rattle.jac_engine.specs.Prepared.{IsPrepared, applied_if};
 ghost use Rattle.jac_engine.specs.Served.{are_served, is_served_body};
 ghost use Rattle.jac_engine.specs.Start.{IsStart};
 ghost use Rattle.jac_engine.specs.Viewed.{IsPreparedBy, IsPreparedFor, IsShown};
 
-use crate::lookup::{has_at, place_of, view_at};
-use crate::refusal::{refuse, refuse_path};
+use crate::lookup::view_at;
+use crate::refusal::{refuse, refuse_method};
 use crate::visit::{Labelled, shown_page, stored_page};
 use jac_keep::{Change, Keeper, Stop};
 use jac_lang::{App, Verb, View};
 use jac_plain::Page;
-use jac_route::Pairs;
-use jac_value::{Bytes, Id, Txt};
+use jac_route::{Found, Pairs, Routes, find};
+use jac_value::{Bytes, Id, Memory, Txt};
 use jac_world::{Assignment, Steps};
 use std::alloc::Global;
 use std::sync::ledger::Ledger;
@@ -61,6 +62,7 @@ pub struct Prepared {
 pub fn prepare<K: Keeper, L: Ledger, M: Ledger>(
     alloc: Global,
     app: &App,
+    routes: &Routes,
     keeper: &mut K,
     ask: &Ask,
     splits: &mut Steps<L>,
@@ -68,12 +70,13 @@ pub fn prepare<K: Keeper, L: Ledger, M: Ledger>(
 ) -> Result<Prepared, Stop>
     requires attached { IsTrue (K.seen keeper.old).attached }
     requires served { are_served (application_of app.now) ≡ true }
+    requires routes { AreRoutes (application_of app.now) routes.now }
     requires start { IsTrue (K.seen keeper.old).tells → IsStart (application_of app.now) (K.seen keeper.old).state }
     ensures prepared { IfOk result (IsPrepared (K.seen keeper.new).tells (application_of app.now) (K.seen keeper.old).state ask.now) }
     ensures reads { Reads (K.seen keeper.old) (K.seen keeper.new) result }
 {
     let _models = app.models.as_slice();
-    let prepared = prepare_found(alloc, app, keeper, ask, splits, evaluations)?;
+    let prepared = prepare_found(alloc, app, routes, keeper, ask, splits, evaluations)?;
     Ok(prepared)
 }
 
@@ -81,6 +84,7 @@ pub fn prepare<K: Keeper, L: Ledger, M: Ledger>(
 fn prepare_found<K: Keeper, L: Ledger, M: Ledger>(
     alloc: Global,
     app: &App,
+    routes: &Routes,
     keeper: &mut K,
     ask: &Ask,
     splits: &mut Steps<L>,
@@ -88,19 +92,35 @@ fn prepare_found<K: Keeper, L: Ledger, M: Ledger>(
 ) -> Result<Prepared, Stop>
     requires attached { IsTrue (K.seen keeper.old).attached }
     requires served { are_served (application_of app.now) ≡ true }
+    requires routes { AreRoutes (application_of app.now) routes.now }
     requires start { IsTrue (K.seen keeper.old).tells → IsStart (application_of app.now) (K.seen keeper.old).state }
     ensures prepared { IfOk result (IsPreparedFor (found (application_of app.now) ask.now.method ask.now.path) (K.seen keeper.new).tells (application_of app.now) (K.seen keeper.old).state ask.now) }
     ensures reads { Reads (K.seen keeper.old) (K.seen keeper.new) result }
 {
-    let Some(place) = place_of(app, &ask.method, &ask.path) else {
-        let views = app.views.as_slice();
-        let get = has_at(views, Verb::Get, &ask.path);
-        let post = has_at(views, Verb::Post, &ask.path);
-        let prepared = refuse_path(alloc, get, post)?;
-        return Ok(prepared);
-    };
-    let prepared = answer_view(alloc, app, keeper, ask, place, splits, evaluations)?;
-    Ok(prepared)
+    let found = find_view(alloc, app, routes, ask)?;
+    match found {
+        Found::View { view, pairs } => {
+            let prepared = answer_view(alloc, app, keeper, ask, &pairs, view, splits, evaluations)?;
+            Ok(prepared)
+        }
+        Found::NoRoute => {
+            let prepared = refuse(alloc, 404, None)?;
+            Ok(prepared)
+        }
+        Found::WrongMethod(allow) => {
+            let prepared = refuse_method(alloc, allow)?;
+            Ok(prepared)
+        }
+    }
+}
+
+// What the request finds: a view is one of the application's.
+fn find_view(alloc: Global, app: &App, routes: &Routes, ask: &Ask) -> Result<Found, Memory>
+    requires routes { AreRoutes (application_of app.now) routes.now }
+    ensures found { IfOk result (λ f. f ≡ found (application_of app.now) ask.now.method ask.now.path) }
+    ensures within { IfOk result (λ f. IsWithin (length app.now.views) f) }
+{
+    find(alloc, routes, &ask.method, &ask.path)
 }
 
 fn answer_view<K: Keeper, L: Ledger, M: Ledger>(
@@ -108,7 +128,8 @@ fn answer_view<K: Keeper, L: Ledger, M: Ledger>(
     app: &App,
     keeper: &mut K,
     ask: &Ask,
-    place: usize,
+    path: &Pairs,
+    place: u32,
     splits: &mut Steps<L>,
     evaluations: &mut Steps<M>,
 ) -> Result<Prepared, Stop>
@@ -116,17 +137,37 @@ fn answer_view<K: Keeper, L: Ledger, M: Ledger>(
     requires served { are_served (application_of app.now) ≡ true }
     requires start { IsTrue (K.seen keeper.old).tells → IsStart (application_of app.now) (K.seen keeper.old).state }
     requires within { place < length app.now.views }
-    ensures prepared { IfOk result (IsPreparedBy (method_in (slice_get (application_of app.now).views place)) (K.seen keeper.new).tells (application_of app.now) (K.seen keeper.old).state (visit_of (application_of app.now) ask.now place)) }
+    ensures prepared { IfOk result (IsPreparedBy (method_in (slice_get (application_of app.now).views place)) (K.seen keeper.new).tells (application_of app.now) (K.seen keeper.old).state (visit_of (application_of app.now) (asked_with path.now ask.now) place)) }
     ensures reads { Reads (K.seen keeper.old) (K.seen keeper.new) result }
 {
     let view = view_at(app, place);
     match view.method {
         Verb::Get => {
-            let prepared = show(alloc, app, keeper, ask, place, view, splits, evaluations)?;
+            let prepared = show(
+                alloc,
+                app,
+                keeper,
+                ask,
+                path,
+                place,
+                view,
+                splits,
+                evaluations,
+            )?;
             Ok(prepared)
         }
         Verb::Post => {
-            let prepared = store(alloc, app, keeper, ask, place, view, splits, evaluations)?;
+            let prepared = store(
+                alloc,
+                app,
+                keeper,
+                ask,
+                path,
+                place,
+                view,
+                splits,
+                evaluations,
+            )?;
             Ok(prepared)
         }
     }
@@ -138,7 +179,8 @@ fn show<K: Keeper, L: Ledger, M: Ledger>(
     app: &App,
     keeper: &mut K,
     ask: &Ask,
-    place: usize,
+    path: &Pairs,
+    place: u32,
     view: &View,
     splits: &mut Steps<L>,
     evaluations: &mut Steps<M>,
@@ -147,11 +189,21 @@ fn show<K: Keeper, L: Ledger, M: Ledger>(
     requires start { IsTrue (K.seen keeper.old).tells → IsStart (application_of app.now) (K.seen keeper.old).state }
     requires view { slice_get (application_of app.now).views place ≡ Some (page_of view.now) }
     requires served { is_served_body verbs.Get (statements_of view.now.body) ≡ true }
-    ensures shown { IfOk result (IsShown (K.seen keeper.new).tells (application_of app.now) (K.seen keeper.old).state (visit_of (application_of app.now) ask.now place)) }
+    ensures shown { IfOk result (IsShown (K.seen keeper.new).tells (application_of app.now) (K.seen keeper.old).state (visit_of (application_of app.now) (asked_with path.now ask.now) place)) }
     ensures reads { Reads (K.seen keeper.old) (K.seen keeper.new) result }
 {
     let number = keeper.number()?;
-    let shown = shown_page(alloc, app, keeper, ask, view, number, splits, evaluations)?;
+    let shown = shown_page(
+        alloc,
+        app,
+        keeper,
+        ask,
+        path,
+        view,
+        number,
+        splits,
+        evaluations,
+    )?;
     Ok(Prepared {
         answer: answer_of(shown),
         change: None,
@@ -164,7 +216,8 @@ fn store<K: Keeper, L: Ledger, M: Ledger>(
     app: &App,
     keeper: &mut K,
     ask: &Ask,
-    place: usize,
+    path: &Pairs,
+    place: u32,
     view: &View,
     splits: &mut Steps<L>,
     evaluations: &mut Steps<M>,
@@ -174,7 +227,7 @@ fn store<K: Keeper, L: Ledger, M: Ledger>(
     requires view { slice_get (application_of app.now).views place ≡ Some (page_of view.now) }
     requires method { view.now.method ≡ verbs.Post }
     requires served { is_served_body verbs.Post (statements_of view.now.body) ≡ true }
-    ensures stored { IfOk result (λ p. IsPreparedBy verbs.Post (K.seen keeper.new).tells (application_of app.now) (K.seen keeper.old).state (visit_of (application_of app.now) ask.now place) p) }
+    ensures stored { IfOk result (λ p. IsPreparedBy verbs.Post (K.seen keeper.new).tells (application_of app.now) (K.seen keeper.old).state (visit_of (application_of app.now) (asked_with path.now ask.now) place) p) }
     ensures reads { Reads (K.seen keeper.old) (K.seen keeper.new) result }
 {
     let number = keeper.number()?;
@@ -182,7 +235,17 @@ fn store<K: Keeper, L: Ledger, M: Ledger>(
         let prepared = refuse(alloc, 507, None)?;
         return Ok(prepared);
     }
-    let stored = stored_page(alloc, app, keeper, ask, view, number, splits, evaluations)?;
+    let stored = stored_page(
+        alloc,
+        app,
+        keeper,
+        ask,
+        path,
+        view,
+        number,
+        splits,
+        evaluations,
+    )?;
     Ok(Prepared {
         answer: answer_of(stored.shown),
         change: Some(stored.change),

@@ -2,11 +2,11 @@
 #![tactic(auto)]
 
 mod answer;
+mod laws;
 mod lookup;
 mod parameters;
 mod refusal;
-mod served;
 mod visit;
 
 pub use answer::{Answer, Ask, Prepared, commit, prepare};
-pub use served::serves;
+pub use laws::well_is_served;

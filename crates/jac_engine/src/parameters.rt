@@ -11,17 +11,17 @@ use jac_route::{Pairs, bind};
 use jac_value::{Memory, Txt, Value};
 use std::alloc::Global;
 
-/// The parameters of the view, alike under every assignment.
+/// The parameters of the view, alike under every assignment: pairs of the path come before the others.
 pub(crate) fn bind_alike(
     alloc: Global,
     app: &App,
     view: &View,
+    path: &Pairs,
     pairs: &Pairs,
 ) -> Result<Env, Memory>
-    ensures { IfOk result (λ env. (w : ℕ → Bool) → env_at w env ≡ parameters (application_of app.now).models view.now.params pairs.now) }
+    ensures { IfOk result (λ env. (w : ℕ → Bool) → env_at w env ≡ parameters (application_of app.now).models view.now.params (path.now ++ pairs.now)) }
 {
-    let path = Pairs::empty(alloc);
-    let bindings = bind(alloc, &view.params, app, &path, pairs)?.into_vec();
+    let bindings = bind(alloc, &view.params, app, path, pairs)?.into_vec();
     let env = alike(alloc, bindings.as_slice())?;
     Ok(env)
 }

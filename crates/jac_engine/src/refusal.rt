@@ -1,24 +1,19 @@
 //! Answers without a page.
-ghost use Rattle.std.specs.Prelude.{◌≡◌, Some, None, IfOk};
-ghost use Rattle.jac_engine.specs.Found.{allow_text};
-ghost use Rattle.jac_engine.specs.Answers.{reason, fixed_body};
+ghost use Rattle.std.specs.Prelude.{◌≡◌, Some, IfOk};
+ghost use Rattle.jac_engine.specs.Answers.{allow_text, reason, fixed_body};
 ghost use Rattle.jac_engine.specs.Viewed.{refused};
-ghost use Rattle.jac_engine.specs.Refused.{refused_path};
 
 use crate::{Answer, Prepared};
+use jac_route::Allow;
 use jac_value::{Bytes, Memory, Txt};
 use std::alloc::Global;
 
-/// The refusal of a path that has no view, or none of this method.
-pub(crate) fn refuse_path(alloc: Global, get: bool, post: bool) -> Result<Prepared, Memory>
-    ensures { IfOk result (λ p. p ≡ refused_path get post) }
+/// The refusal of a method that a path hasn't.
+pub(crate) fn refuse_method(alloc: Global, allow: Allow) -> Result<Prepared, Memory>
+    ensures { IfOk result (λ p. p ≡ refused 405 (Some (allow_text allow.get allow.post))) }
 {
-    if !get && !post {
-        let prepared = refuse(alloc, 404, None)?;
-        return Ok(prepared);
-    }
-    let allow = Txt::from_str(alloc, methods(get, post))?;
-    let prepared = refuse(alloc, 405, Some(allow))?;
+    let methods = Txt::from_str(alloc, methods(allow.get, allow.post))?;
+    let prepared = refuse(alloc, 405, Some(methods))?;
     Ok(prepared)
 }
 

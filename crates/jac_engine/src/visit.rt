@@ -8,6 +8,7 @@ ghost use Rattle.jac_lang.specs.Mirror.{application_of, page_of as view_of, stat
 ghost use Rattle.jac_stmt.specs.Runs.{AreRunnable};
 ghost use Rattle.jac_write.specs.Writes.{StaysTold};
 ghost use Rattle.jac_plain.specs.Policies.{IsSettled};
+ghost use Rattle.jac_engine.specs.Answers.{asked_with};
 ghost use Rattle.jac_engine.specs.Prepared.{worlds_of};
 ghost use Rattle.jac_engine.specs.Views.{IsMade, IsReady, ShowsView, LeavesTables, RunsView};
 
@@ -17,6 +18,7 @@ use jac_keep::{Change, Keeper, Stop, Work};
 use jac_lang::{App, View};
 use jac_plain::{Ctx, Page};
 use jac_resolve::{resolve, settled_by_tables};
+use jac_route::Pairs;
 use jac_stmt::{Out, exec, page_of};
 use jac_world::{Assignment, Guard, Steps};
 use std::alloc::Global;
@@ -42,6 +44,7 @@ pub(crate) fn shown_page<K: Keeper, L: Ledger, M: Ledger>(
     app: &App,
     keeper: &mut K,
     ask: &Ask,
+    path: &Pairs,
     view: &View,
     number: u64,
     splits: &mut Steps<L>,
@@ -50,9 +53,9 @@ pub(crate) fn shown_page<K: Keeper, L: Ledger, M: Ledger>(
     requires attached { IsTrue (K.seen keeper.old).attached }
     requires tables { IsTrue (K.seen keeper.old).tells → length app.now.models ≤ length (K.seen keeper.old).state.tables }
     requires runnable { AreRunnable number (statements_of view.now.body) }
-    requires ready { IsTrue (K.seen keeper.old).tells → IsReady (application_of app.now) (view_of view.now) ask.now number (K.seen keeper.old).state }
+    requires ready { IsTrue (K.seen keeper.old).tells → IsReady (application_of app.now) (view_of view.now) (asked_with path.now ask.now) number (K.seen keeper.old).state }
     ensures made { IfOk result (λ x. IsMade x.page) }
-    ensures page { IsTrue (K.seen keeper.new).tells → IfOk result (λ x. ShowsView (application_of app.now) (view_of view.now) ask.now number (K.seen keeper.old).state x.labels x.page) }
+    ensures page { IsTrue (K.seen keeper.new).tells → IfOk result (λ x. ShowsView (application_of app.now) (view_of view.now) (asked_with path.now ask.now) number (K.seen keeper.old).state x.labels x.page) }
     ensures settled { IsTrue (K.seen keeper.new).tells → IfOk result (λ x. IsSettled (application_of app.now) (worlds_of (K.seen keeper.old).state) ask.now.viewer x.labels) }
     ensures left { IsLeft (K.seen keeper.old) (K.seen keeper.new) }
     ensures rose { IsErrOf result Stop.Keeper → Rose (K.seen keeper.old).faults (K.seen keeper.new).faults }
@@ -63,6 +66,7 @@ pub(crate) fn shown_page<K: Keeper, L: Ledger, M: Ledger>(
         &mut work,
         app,
         ask,
+        path,
         view,
         number,
         splits,
@@ -77,6 +81,7 @@ fn show_view<K: Keeper, L: Ledger, M: Ledger>(
     work: &mut Work<'_, K>,
     app: &App,
     ask: &Ask,
+    path: &Pairs,
     view: &View,
     number: u64,
     splits: &mut Steps<L>,
@@ -85,15 +90,15 @@ fn show_view<K: Keeper, L: Ledger, M: Ledger>(
     requires attached { IsTrue (K.seen work.old.keeper.now).attached }
     requires tables { IsTrue (K.seen work.old.keeper.now).tells → length app.now.models ≤ length (K.seen work.old.keeper.now).state.tables }
     requires runnable { AreRunnable number (statements_of view.now.body) }
-    requires ready { IsTold K.seen work.old → IsReady (application_of app.now) (view_of view.now) ask.now number (state_of K.seen work.old) }
+    requires ready { IsTold K.seen work.old → IsReady (application_of app.now) (view_of view.now) (asked_with path.now ask.now) number (state_of K.seen work.old) }
     ensures made { IfOk result (λ x. IsMade x.page) }
-    ensures page { IsTold K.seen work.new → IfOk result (λ x. ShowsView (application_of app.now) (view_of view.now) ask.now number (state_of K.seen work.old) x.labels x.page) }
+    ensures page { IsTold K.seen work.new → IfOk result (λ x. ShowsView (application_of app.now) (view_of view.now) (asked_with path.now ask.now) number (state_of K.seen work.old) x.labels x.page) }
     ensures settled { IsTold K.seen work.new → IfOk result (λ x. IsSettled (application_of app.now) (worlds_of (state_of K.seen work.old)) ask.now.viewer x.labels) }
     ensures told { OnOk result (StaysTold K.seen work.old work.new) }
     ensures keeps { WritesWork K.seen work.old work.new result }
 {
     let labels = resolve(alloc, work, app, ask.viewer, evaluations)?;
-    let out = run_body(alloc, work, app, ask, view, number, splits)?;
+    let out = run_body(alloc, work, app, ask, path, view, number, splits)?;
     let page = page_of(alloc, &out, &labels)?;
     Ok(Labelled { page, labels })
 }
@@ -104,6 +109,7 @@ pub(crate) fn stored_page<K: Keeper, L: Ledger, M: Ledger>(
     app: &App,
     keeper: &mut K,
     ask: &Ask,
+    path: &Pairs,
     view: &View,
     number: u64,
     splits: &mut Steps<L>,
@@ -113,11 +119,11 @@ pub(crate) fn stored_page<K: Keeper, L: Ledger, M: Ledger>(
     requires tables { IsTrue (K.seen keeper.old).tells → length app.now.models ≤ length (K.seen keeper.old).state.tables }
     requires few { number < 2 ^ 40 }
     requires runnable { AreRunnable number (statements_of view.now.body) }
-    requires ready { IsTrue (K.seen keeper.old).tells → IsReady (application_of app.now) (view_of view.now) ask.now number (K.seen keeper.old).state }
+    requires ready { IsTrue (K.seen keeper.old).tells → IsReady (application_of app.now) (view_of view.now) (asked_with path.now ask.now) number (K.seen keeper.old).state }
     ensures made { IfOk result (λ x. IsMade x.shown.page) }
-    ensures page { IsTrue (K.seen keeper.new).tells → IfOk result (λ x. ShowsView (application_of app.now) (view_of view.now) ask.now number (K.seen keeper.old).state x.shown.labels x.shown.page) }
+    ensures page { IsTrue (K.seen keeper.new).tells → IfOk result (λ x. ShowsView (application_of app.now) (view_of view.now) (asked_with path.now ask.now) number (K.seen keeper.old).state x.shown.labels x.shown.page) }
     ensures settled { IsTrue (K.seen keeper.new).tells → IfOk result (λ x. IsSettled (application_of app.now) (worlds_of (applied x.change (K.seen keeper.old).state)) ask.now.viewer x.shown.labels) }
-    ensures stored { IsTrue (K.seen keeper.new).tells → IfOk result (λ x. LeavesTables (application_of app.now) (view_of view.now) ask.now number (K.seen keeper.old).state (applied x.change (K.seen keeper.old).state).tables) }
+    ensures stored { IsTrue (K.seen keeper.new).tells → IfOk result (λ x. LeavesTables (application_of app.now) (view_of view.now) (asked_with path.now ask.now) number (K.seen keeper.old).state (applied x.change (K.seen keeper.old).state).tables) }
     ensures number { IfOk result (λ x. x.change.number ≡ number + 1) }
     ensures left { IsLeft (K.seen keeper.old) (K.seen keeper.new) }
     ensures rose { IsErrOf result Stop.Keeper → Rose (K.seen keeper.old).faults (K.seen keeper.new).faults }
@@ -129,6 +135,7 @@ pub(crate) fn stored_page<K: Keeper, L: Ledger, M: Ledger>(
         &mut work,
         app,
         ask,
+        path,
         view,
         number,
         splits,
@@ -144,6 +151,7 @@ fn store_view<K: Keeper, L: Ledger, M: Ledger>(
     work: &mut Work<'_, K>,
     app: &App,
     ask: &Ask,
+    path: &Pairs,
     view: &View,
     number: u64,
     splits: &mut Steps<L>,
@@ -152,15 +160,15 @@ fn store_view<K: Keeper, L: Ledger, M: Ledger>(
     requires attached { IsTrue (K.seen work.old.keeper.now).attached }
     requires tables { IsTrue (K.seen work.old.keeper.now).tells → length app.now.models ≤ length (K.seen work.old.keeper.now).state.tables }
     requires runnable { AreRunnable number (statements_of view.now.body) }
-    requires ready { IsTold K.seen work.old → IsReady (application_of app.now) (view_of view.now) ask.now number (state_of K.seen work.old) }
+    requires ready { IsTold K.seen work.old → IsReady (application_of app.now) (view_of view.now) (asked_with path.now ask.now) number (state_of K.seen work.old) }
     ensures made { IfOk result (λ x. IsMade x.page) }
-    ensures page { IsTold K.seen work.new → IfOk result (λ x. ShowsView (application_of app.now) (view_of view.now) ask.now number (state_of K.seen work.old) x.labels x.page) }
+    ensures page { IsTold K.seen work.new → IfOk result (λ x. ShowsView (application_of app.now) (view_of view.now) (asked_with path.now ask.now) number (state_of K.seen work.old) x.labels x.page) }
     ensures settled { IsTold K.seen work.new → IfOk result (λ x. IsSettled (application_of app.now) (worlds_of (state_of K.seen work.new)) ask.now.viewer x.labels) }
-    ensures stored { IsTold K.seen work.new → OnOk result (LeavesTables (application_of app.now) (view_of view.now) ask.now number (state_of K.seen work.old) (state_of K.seen work.new).tables) }
+    ensures stored { IsTold K.seen work.new → OnOk result (LeavesTables (application_of app.now) (view_of view.now) (asked_with path.now ask.now) number (state_of K.seen work.old) (state_of K.seen work.new).tables) }
     ensures told { OnOk result (StaysTold K.seen work.old work.new) }
     ensures keeps { WritesWork K.seen work.old work.new result }
 {
-    let pieces = run_body(alloc, work, app, ask, view, number, splits)?;
+    let pieces = run_body(alloc, work, app, ask, path, view, number, splits)?;
     let settled = resolve(alloc, work, app, ask.viewer, evaluations)?;
     let page = page_of(alloc, &pieces, &settled)?;
     Ok(Labelled {
@@ -175,6 +183,7 @@ fn run_body<K: Keeper, L: Ledger>(
     work: &mut Work<'_, K>,
     app: &App,
     ask: &Ask,
+    path: &Pairs,
     view: &View,
     number: u64,
     splits: &mut Steps<L>,
@@ -182,11 +191,11 @@ fn run_body<K: Keeper, L: Ledger>(
     requires attached { IsTrue (K.seen work.old.keeper.now).attached }
     requires tables { IsTrue (K.seen work.old.keeper.now).tells → length app.now.models ≤ length (K.seen work.old.keeper.now).state.tables }
     requires runnable { AreRunnable number (statements_of view.now.body) }
-    ensures runs { IsTold K.seen work.new → IfOk result (RunsView (application_of app.now) (view_of view.now) ask.now number (state_of K.seen work.old) (state_of K.seen work.new).tables) }
+    ensures runs { IsTold K.seen work.new → IfOk result (RunsView (application_of app.now) (view_of view.now) (asked_with path.now ask.now) number (state_of K.seen work.old) (state_of K.seen work.new).tables) }
     ensures told { OnOk result (StaysTold K.seen work.old work.new) }
     ensures keeps { WritesWork K.seen work.old work.new result }
 {
-    let mut env = bind_alike(alloc, app, view, &ask.pairs)?;
+    let mut env = bind_alike(alloc, app, view, path, &ask.pairs)?;
     let mut out = Out::empty(alloc);
     let ctx = Ctx {
         viewer: ask.viewer,

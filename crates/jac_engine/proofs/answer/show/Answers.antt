@@ -1,7 +1,7 @@
 use Rattle.std.proofs.Common.{◌∙◌, refl, ap}
 use Rattle.jac_lang.specs.Mirror.{application_of, page_of}
 use Rattle.jac_lang.proofs.Places.{length-entities}
-use Rattle.jac_engine.specs.Answers.{page_answer}
+use Rattle.jac_engine.specs.Answers.{asked_with, page_answer}
 use Rattle.jac_engine.proofs.AnswerLaws.{page_shown}
 use Rattle.jac_engine.proofs.ServedLaws.{showing_runs}
 use Rattle.jac_engine.proofs.ViewLaws.{ready_to_show}
@@ -20,7 +20,7 @@ pub shown_page-requires-clause-ready : goal.shown_page-requires-clause-ready
 shown_page-requires-clause-ready g c = λ told.
     let left = c.in_ok-number.ensures.reads.left in
     let start = c.requires.start (left.told told) in
-    rw (left.same_state told) (ready_to_show (application_of c.args.app.now) (page_of c.args.view.now) c.args.ask.now c.in_ok-number.number (g.K.Keeper.seen c.args.keeper.now).state c.requires.served start.sound
+    rw (left.same_state told) (ready_to_show (application_of c.args.app.now) (page_of c.args.view.now) (asked_with c.args.path.now c.args.ask.now) c.in_ok-number.number (g.K.Keeper.seen c.args.keeper.now).state c.requires.served start.sound
     (c.in_ok-number.ensures.exact told))
 
 pub returns-clause-shown : goal.returns-clause-shown
@@ -39,7 +39,7 @@ returns-clause-shown g c =
             labels = labels;
             made =
                 c.answer_of.ensures.answer
-                ∙ page_shown app (page_of c.args.view.now) c.args.ask.now c.args.place c.in_ok-number.number s labels c.in_ok-shown.shown.page c.requires.view c.requires.served
+                ∙ page_shown app (page_of c.args.view.now) (asked_with c.args.path.now c.args.ask.now) c.args.place c.in_ok-number.number s labels c.in_ok-shown.shown.page c.requires.view c.requires.served
                 (c.in_ok-number.ensures.exact before) (c.requires.start (left.told before)) (rw (left.same_state before) at (c.in_ok-shown.ensures.page told));
             settled = rw (left.same_state before) at (c.in_ok-shown.ensures.settled told);
           };

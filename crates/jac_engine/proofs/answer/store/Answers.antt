@@ -1,7 +1,7 @@
 use Rattle.std.proofs.Common.{◌<◌, ◌^◌, ◌∙◌, ap, refl, inr, arith, IsTrue}
 use Rattle.jac_lang.specs.Mirror.{application_of, page_of}
 use Rattle.jac_lang.proofs.Places.{length-entities}
-use Rattle.jac_engine.specs.Answers.{page_answer, visit_of}
+use Rattle.jac_engine.specs.Answers.{asked_with, page_answer, visit_of}
 use Rattle.jac_engine.proofs.AnswerLaws.{page_stored, change_stored, settled_after}
 use Rattle.jac_engine.proofs.ServedLaws.{storing_runs}
 use Rattle.jac_engine.proofs.ViewLaws.{ready_to_store}
@@ -25,7 +25,7 @@ stored_page-requires-clause-ready g c = λ told.
     let left = c.in_ok-number.ensures.reads.left in
     let start = c.requires.start (left.told told) in
     let few : c.in_ok-number.number < 2 ^ 40 = omega (arith, c.in_ok-number.ensures.in_range.1, c.if-number-eq-LAST_NUMBER.false) in
-    rw (left.same_state told) (ready_to_store (application_of c.args.app.now) (page_of c.args.view.now) c.args.ask.now c.in_ok-number.number (g.K.Keeper.seen c.args.keeper.now).state c.requires.served start.sound
+    rw (left.same_state told) (ready_to_store (application_of c.args.app.now) (page_of c.args.view.now) (asked_with c.args.path.now c.args.ask.now) c.in_ok-number.number (g.K.Keeper.seen c.args.keeper.now).state c.requires.served start.sound
     (c.in_ok-number.ensures.exact told) few)
 
 pub returns-clause-stored : goal.returns-clause-stored
@@ -38,9 +38,9 @@ returns-clause-stored g c =
     let few : n < 2 ^ 40 = omega (arith, c.in_ok-number.ensures.in_range.1, c.if-number-eq-LAST_NUMBER.false) in
     let made = c.in_ok-stored.ensures.made in
     let shown = c.in_ok-stored.stored.shown in
-    let stores : IsTrue (g.K.Keeper.seen c.stored_page.new.keeper).tells → Stores app s (visit_of app c.args.ask.now c.args.place) c.in_ok-stored.stored.change = λ told.
+    let stores : IsTrue (g.K.Keeper.seen c.stored_page.new.keeper).tells → Stores app s (visit_of app (asked_with c.args.path.now c.args.ask.now) c.args.place) c.in_ok-stored.stored.change = λ told.
     let before = c.in_ok-stored.ensures.left.told told in
-    change_stored app v c.args.ask.now c.args.place n s c.in_ok-stored.stored.change c.requires.view c.requires.method c.requires.served
+    change_stored app v (asked_with c.args.path.now c.args.ask.now) c.args.place n s c.in_ok-stored.stored.change c.requires.view c.requires.method c.requires.served
     (c.in_ok-number.ensures.exact before) few (c.requires.start (left.told before)) c.in_ok-stored.ensures.number
     (rw (left.same_state before) at (c.in_ok-stored.ensures.stored told)) in
     inr record {
@@ -53,9 +53,9 @@ returns-clause-stored g c =
             labels = shown.labels;
             made =
                 c.answer_of.ensures.answer
-                ∙ page_stored app v c.args.ask.now c.args.place n s shown.labels shown.page c.requires.view c.requires.served
+                ∙ page_stored app v (asked_with c.args.path.now c.args.ask.now) c.args.place n s shown.labels shown.page c.requires.view c.requires.served
                 (c.in_ok-number.ensures.exact before) few (c.requires.start (left.told before)) (rw (left.same_state before) at (c.in_ok-stored.ensures.page told));
-            settled = settled_after app s c.args.ask.now c.args.place c.in_ok-stored.stored.change shown.labels (stores told) (rw (left.same_state before) at (c.in_ok-stored.ensures.settled told));
+            settled = settled_after app s (asked_with c.args.path.now c.args.ask.now) c.args.place c.in_ok-stored.stored.change shown.labels (stores told) (rw (left.same_state before) at (c.in_ok-stored.ensures.settled told));
           };
       stores = stores;
     }
