@@ -1,11 +1,8 @@
 -- The lines of a request that wasn't answered.
-use Rattle.std.proofs.Common.{◌≡◌, refl, ap, ◌∙◌, ℕ, true, false, Option, None, List, ◌++◌, append_assoc, codes}
+use Rattle.std.proofs.Common.{◌≡◌, refl, ℕ, true, false, Option, None, List, ◌++◌, append_assoc, codes}
 use Rattle.std.specs.Fmt.{decimal, digits}
 use Rattle.std.specs.Str.{bytes_eq}
-use Rattle.jac_keep.specs.declared.stop.Stop.{Stop}
-use Rattle.jac_keep.specs.declared.stop.Stop.TheVariants as stops
 use Rattle.jac_engine.specs.Answers.{refusal}
-use Rattle.jac_app.specs.Failed.{status_of_stop}
 use Rattle.jac_app.specs.Log.{reply_text, audit_text, viewer_text}
 
 decimal-500 : decimal 500 ≡ codes "500"

@@ -1,8 +1,13 @@
-pub mod AsciiLemmas
 pub mod OutsideLemmas
 pub mod FailedLemmas
 pub mod EntryLemmas
+pub mod EntriesLemmas
+pub mod BringsLemmas
+pub mod HandlingLemmas
+pub mod HubLemmas
+pub mod NextLemmas
+pub mod EventLemmas
 pub mod ProgressLemmas
-pub mod LineLemmas
 pub mod RunLemmas
 pub mod EmptyLemmas
+mod OpeningLemmas

@@ -1,299 +1,317 @@
 -- Serving line after line.
-use Rattle.std.proofs.Common.{◌≡◌, ◌∙◌, ap, sym, subst, refl, ℕ, ◌+◌, ◌≤◌, ◌-◌, ◌^◌, min, true, false, Bool, IsTrue, Option, Some, None, List, [], ◌∷◌, ◌++◌, length, map, append_assoc, append-nil, arith}
+use Rattle.std.proofs.Common.{◌≡◌, ◌∙◌, ap, sym, subst, refl, ℕ, ◌+◌, ◌≤◌, ◌<◌, ◌⊎◌, true, false, Bool, IsTrue, IfSome, Option, Some, None, Result, Ok, Err, List, [], ◌∷◌, ◌++◌, length, append_assoc, append-nil, length-append, arith}
+use denote.Ref.{Bor}
 use Rattle.jac_lang.specs.Syntax.{Application}
-use Rattle.jac_rows.specs.Good.{IsGood}
-use Rattle.jac_rows.specs.Project.{project_at}
-use Rattle.jac_rows.specs.declared.plain.PlainState.{PlainState}
-use Rattle.jac_rows.specs.declared.state.State.{State}
 use Rattle.jac_keep.specs.KeeperSeen.{KeeperSeen}
-use Rattle.jac_plain.specs.Models.{kinds_of}
-use Rattle.jac_plain.specs.Requests.{Worlds}
-use Rattle.jac_value.specs.Parts.{parts_left}
-use Rattle.jac_engine.specs.Prepared.{worlds_of}
+use Rattle.jac_value.specs.Parts.{parts_left, option_now, length_left}
 use Rattle.jac_engine.specs.Start.{IsStart}
-use Rattle.jac_app.specs.declared.line.Event.{Event}
-use Rattle.jac_app.specs.Keeping.{IsStill, Grew}
-use Rattle.jac_app.specs.Line.{ask_of, is_nil}
-use Rattle.jac_app.specs.Log.{Entry, Heard, Script, IsHeard, IsCaused, Serves, IsFormed, AreFormed, IsAnswered, AreAnswered, after_entry, after_log, faults_in, script_from, script_of, script_step, with_event, heard_from, heard_at, heard, heard_in, reply_line, audit_line, text, audited, audited_from}
-use Rattle.jac_app.specs.Outside.{Span, span, IsTorn}
-use Rattle.jac_app.specs.Serve.{IsEntryOf, IsServed, PutsServed, PutsTorn}
-
-heard_from-append : (app : Application) (n : ℕ) (events more : List Event) → heard_from app n (events ++ more) ≡ heard_from app n events ++ heard_from app (n + length events) more
-heard_from-append app n [] more = ap (λ (j : ℕ). heard_from app j more) (omega arith)
-heard_from-append app n (e ∷ events) more =
-    ap (λ (rest : List Heard). heard_at app n e ∷ rest)
-    (heard_from-append app (n + 1) events more ∙ ap (λ (j : ℕ). heard_from app (n + 1) events ++ heard_from app j more) (omega arith))
-
-map_heard-append : (log : List Entry) (entry : Entry) → map heard_in (log ++ entry ∷ []) ≡ map heard_in log ++ heard_in entry ∷ []
-map_heard-append [] entry = refl
-map_heard-append (x ∷ log) entry = ap (λ (rest : List Heard). heard_in x ∷ rest) (map_heard-append log entry)
-
-text-append : (log : List Entry) (entry : Entry) → text (log ++ entry ∷ []) ≡ text log ++ reply_line entry
-text-append [] entry = append-nil (reply_line entry)
-text-append (x ∷ log) entry = ap (λ (rest : List ℕ). reply_line x ++ rest) (text-append log entry) ∙ sym (append_assoc (reply_line x) (text log) (reply_line entry))
-
-audited_from-append : (k : ℕ) (log : List Entry) (entry : Entry) → audited_from k (log ++ entry ∷ []) ≡ audited_from k log ++ audit_line (k + length log) entry
-audited_from-append k [] entry = append-nil (audit_line k entry) ∙ ap (λ (n : ℕ). audit_line n entry) (omega arith)
-audited_from-append k (x ∷ log) entry =
-    ap (λ (rest : List ℕ). audit_line k x ++ rest)
-    (audited_from-append (k + 1) log entry ∙ ap (λ (n : ℕ). audited_from (k + 1) log ++ audit_line n entry) (omega arith))
-    ∙ sym (append_assoc (audit_line k x) (audited_from (k + 1) log) (audit_line (k + length (x ∷ log)) entry))
-
-after_log-append : (w : ℕ → Bool) (app : Application) (log : List Entry) (entry : Entry) (t : PlainState) → after_log w app (log ++ entry ∷ []) t ≡ after_entry w app entry (after_log w app log t)
-after_log-append w app [] entry t = refl
-after_log-append w app (x ∷ log) entry t = after_log-append w app log entry (after_entry w app x t)
-
-formed-append : (app : Application) (log : List Entry) (entry : Entry) → AreFormed app log → IsFormed app entry → AreFormed app (log ++ entry ∷ [])
-formed-append app [] entry all one = (one, tt)
-formed-append app (x ∷ log) entry all one = (all.0, formed-append app log entry all.1 one)
-
-answered-append : (app : Application) (worlds : Worlds) (log : List Entry) (entry : Entry)
-    → AreAnswered app worlds log → IsAnswered app (λ w. after_log w app log (worlds w)) entry → AreAnswered app worlds (log ++ entry ∷ [])
-answered-append app worlds [] entry all one = (one, tt)
-answered-append app worlds (x ∷ log) entry all one = (all.0, answered-append app (λ w. after_entry w app x (worlds w)) log entry all.1 one)
-
-faults_in-append : (log : List Entry) (entry : Entry) → faults_in (log ++ entry ∷ []) ≡ faults_in log + faults_in (entry ∷ [])
-faults_in-append [] entry = omega arith
-faults_in-append (x ∷ log) entry = omega (arith, faults_in-append log entry)
-
-grew_then : (before middle after one two : ℕ) → Grew before one middle → Grew middle two after → Grew before (one + two) after
-grew_then before middle after one two first second = omega (arith, first, second)
-
-length-push : (X : Type 0) (xs : List X) (x : X) → length (xs ++ x ∷ []) ≡ length xs + 1
-length-push X [] x = refl
-length-push X (y ∷ xs) x = omega (arith, length-push X xs x)
-
--- these events were served, from what the keeper was to what it is
-pub record IsServing (app : Application) (k : Span KeeperSeen) (events : List Event) (log : List Entry) : Type 0 where
-  pub subjects : heard app events ≡ map heard_in log
-  pub formed : AreFormed app log
-  pub faults : Grew k.before.faults (faults_in log) k.after.faults
-  pub told : IsTrue k.after.tells → IsTrue k.before.tells
-  pub answered : IsTrue k.after.tells → AreAnswered app (worlds_of k.before.state) log
-  pub worlds : IsTrue k.after.tells → (w : ℕ → Bool) → project_at w k.after.state ≡ after_log w app log (project_at w k.before.state)
-  pub goes_on : IsTrue k.after.tells → IsStart app k.after.state
-  pub good : IsTrue k.after.tells → IsGood (kinds_of app) k.before.state → IsGood (kinds_of app) k.after.state
-
-IsServing-none : (app : Application) (a : KeeperSeen) → (IsTrue a.tells → IsStart app a.state) → IsServing app (span a a) [] []
-IsServing-none app a start = record {
-  subjects = refl;
-  formed = tt;
-  faults = omega arith;
-  told = λ told. told;
-  answered = λ told. tt;
-  worlds = λ told w. refl;
-  goes_on = start;
-  good = λ told good. good;
-}
-
--- the keeper wasn't called
-IsServing-still : (app : Application) (a b c : KeeperSeen) (events : List Event) (log : List Entry) → IsServing app (span a b) events log → c ≡ b → IsServing app (span a c) events log
-IsServing-still app a b c events log serving still = subst (λ (k : KeeperSeen). IsServing app (span a k) events log) (sym still) serving
-
--- the worlds before an event, as the log leaves them
-worlds_before : (app : Application) (a b : KeeperSeen) (log : List Entry)
-    → ((w : ℕ → Bool) → project_at w b.state ≡ after_log w app log (project_at w a.state))
-    → worlds_of b.state ≡ (λ (w : ℕ → Bool). after_log w app log (project_at w a.state))
-worlds_before app a b log same = λ i w. same w i
-
--- one more event
-IsServing-push : (app : Application) (a b c : KeeperSeen) (events : List Event) (log : List Entry) (served : ℕ) (event : Event) (entry : Entry)
-    → IsServing app (span a b) events log → length events ≡ served → IsEntryOf app (span b c) served event entry
-    → IsServing app (span a c) (events ++ event ∷ []) (log ++ entry ∷ [])
-IsServing-push app a b c events log served event entry serving count is_entry = record {
-  subjects =
-      heard_from-append app 0 events (event ∷ [])
-      ∙ ap (λ (front : List Heard). front ++ heard_at app (0 + length events) event ∷ []) serving.subjects
-      ∙ ap (λ (h : Heard). map heard_in log ++ h ∷ []) (ap (λ (n : ℕ). heard_at app n event) (omega (arith, count)) ∙ sym is_entry.heard)
-      ∙ sym (map_heard-append log entry);
-  formed = formed-append app log entry serving.formed is_entry.formed;
-  faults =
-      subst (λ (n : ℕ). Grew a.faults n c.faults) (sym (faults_in-append log entry))
-      (grew_then a.faults b.faults c.faults (faults_in log) (faults_in (entry ∷ [])) serving.faults is_entry.faults);
-  told = λ told. serving.told (is_entry.told told);
-  answered = λ told.
-      let before = is_entry.told told in
-      answered-append app (worlds_of a.state) log entry (serving.answered before)
-      (subst (λ (worlds : Worlds). IsAnswered app worlds entry) (worlds_before app a b log (serving.worlds before)) (is_entry.answered told));
-  worlds = λ told w.
-      is_entry.worlds told w
-      ∙ ap (λ (t : PlainState). after_entry w app entry t) (serving.worlds (is_entry.told told) w)
-      ∙ sym (after_log-append w app log entry (project_at w a.state));
-  goes_on = is_entry.goes_on;
-  good = λ told good. is_entry.good told (serving.good (is_entry.told told) good);
-}
-
--- all the events were served, or the first of them
-served_whole : (early : Bool) (app : Application) (a b : KeeperSeen) (events more all : List Event) (log : List Entry)
-    → IsServing app (span a b) events log → all ≡ events ++ more → (early ≡ false → more ≡ []) → IsServed early app (span a b) a.state all log
-served_whole early app a b events more all log serving parts whole =
-    let subjects : IsHeard early app all log = record {
-      unheard = heard_from app (0 + length events) more;
-      parts =
-          ap (heard app) parts ∙ heard_from-append app 0 events more
-          ∙ ap (λ (front : List Heard). front ++ heard_from app (0 + length events) more) serving.subjects;
-      whole = λ is. ap (heard_from app (0 + length events)) (whole is);
-    } in
-    record {
-      caused = record { subjects = subjects; formed = serving.formed; faults = serving.faults };
-      told = serving.told;
-      serves = λ told. record { subjects = subjects; answered = serving.answered told; worlds = serving.worlds told; goes_on = serving.goes_on told; good = serving.good told };
-    }
+use Rattle.jac_engine.specs.declared.answer.Ask.{Ask}
+use Rattle.jac_events.specs.declared.event.Event.{Event}
+use Rattle.jac_events.specs.Lines.{line_of}
+use Rattle.jac_hub.specs.declared.hub.Turn.TheVariants as turns
+use Rattle.jac_hub.specs.Heard.{Connections, no_connections, IsBegunBy, after_both}
+use Rattle.jac_hub.specs.Hub.{HubSeen, new_hub}
+use Rattle.jac_hub.specs.Served.{AreLike}
+use Rattle.jac_route.specs.declared.sessions.Session.{Session}
+use Rattle.jac_app.specs.declared.serve.Lapse.{Lapse}
+use Rattle.jac_app.specs.declared.serve.Lapse.TheVariants as lapses
+use Rattle.jac_app.specs.declared.serve.Stopped.{Stopped}
+use Rattle.jac_app.specs.declared.serve.Stopped.TheVariants as stops
+use Rattle.jac_app.specs.Log.{Entry, hearing, Brings, IsHeardBy, audited, audited_from}
+use Rattle.jac_app.specs.Outside.{Span, span}
+use Rattle.jac_app.specs.Script.{Script, script_from, script_of, script_step, script_event, stopped_at, with_event, lapse_of, opened_by}
+use Rattle.jac_app.specs.Serve.{AreEntries, IsEventServed, IsEventTorn, IsEntryTorn, IsClosingTorn, AnswersEvent, AnswersLine, IsServed, PutsServed, PutsTorn, ServesAs, is_open}
+use Rattle.jac_app.proofs.EntriesLemmas.{entries-none, entries-then, entries-still, audited-append}
+use Rattle.jac_app.proofs.BringsLemmas.{brings-push, brings-heard, brings-part, brings-begun, open_after}
 
 -- events that were served, before those of the rest
 abbrev pub served_before : List Event → Script → Script
 served_before events script = record { events = events ++ script.events; refused = script.refused }
 
 -- some lines were served, and these are left
-pub record Progress (app : Application) (k : Span KeeperSeen) (bytes : List ℕ) (left : Option (List ℕ)) (lines served : ℕ) (out audit : List ℕ) : Type 0 where
+pub record Progress (app : Application) (sessions : List Session) (hub : HubSeen) (k : Span KeeperSeen) (bytes : List ℕ) (left : Option (List ℕ)) (lines served : ℕ) (out audit : List ℕ) : Type 0 where
   pub events : List Event
   pub log : List Entry
-  pub script : served_before events (script_from (lines + 1) (parts_left 10 left)) ≡ script_of bytes
-  pub serving : IsServing app k events log
+  pub known : Connections Ask
+  pub script : served_before events (script_from (parts_left 10 left) (lines + 1) (is_open known)) ≡ script_of bytes
+  pub entries : AreEntries app k log
   pub counted : length log ≡ served
-  pub same_length : length events ≡ served
-  pub out_text : out ≡ text log
+  pub like : AreLike (hearing app sessions) hub.channels known
+  pub idle : hub.turn ≡ turns.Idle
+  pub out_text : Brings app sessions no_connections 0 events log out known
   pub audit_text : audit ≡ audited log
 
-pub start : (app : Application) (a : KeeperSeen) (bytes : List ℕ) → (IsTrue a.tells → IsStart app a.state) → Progress app (span a a) bytes (Some bytes) 0 0 [] []
-start app a bytes starts = record {
+start_new : (app : Application) (sessions : List Session) (a : KeeperSeen) (bytes : List ℕ) → (IsTrue a.tells → IsStart app a.state)
+    → Progress app sessions new_hub (span a a) bytes (Some bytes) 0 0 [] []
+start_new app sessions a bytes starts = record {
   events = [];
   log = [];
+  known = no_connections;
   script = refl;
-  serving = IsServing-none app a starts;
+  entries = entries-none app a starts;
   counted = refl;
-  same_length = refl;
-  out_text = refl;
+  like = λ c. tt;
+  idle = refl;
+  out_text = (refl, refl, refl);
   audit_text = refl;
 }
 
-script_blank : (n : ℕ) (line : List ℕ) (lines : List (List ℕ)) → is_nil line ≡ true → script_from n (line ∷ lines) ≡ script_from (n + 1) lines
-script_blank n line lines blank = rw blank refl
+pub start : (app : Application) (sessions : List Session) (hub : HubSeen) (a : KeeperSeen) (bytes : List ℕ) → hub ≡ new_hub → (IsTrue a.tells → IsStart app a.state)
+    → Progress app sessions hub (span a a) bytes (Some bytes) 0 0 [] []
+start app sessions hub a bytes new starts =
+    subst (λ (h : HubSeen). Progress app sessions h (span a a) bytes (Some bytes) 0 0 [] []) (sym new) (start_new app sessions a bytes starts)
 
-script_line : (n : ℕ) (line : List ℕ) (lines : List (List ℕ)) (event : Option Event) → is_nil line ≡ false → ask_of line ≡ event
-    → script_from n (line ∷ lines) ≡ script_step n event (script_from (n + 1) lines)
-script_line n line lines event full asked = rw (full, asked) refl
+-- the lines that are left, by what the first of them writes down
+opened : {app : Application} {sessions : List Session} {hub : HubSeen} {k : Span KeeperSeen} {bytes : List ℕ} {left : Option (List ℕ)} {lines served : ℕ} {out audit : List ℕ}
+    (p : Progress app sessions hub k bytes left lines served out audit) (line : List ℕ) (rest : List (List ℕ)) (written : Option (Option Event)) → parts_left 10 left ≡ line ∷ rest → line_of line ≡ written
+    → served_before p.events (script_step (lines + 1) written (is_open p.known) (script_from rest (lines + 1 + 1))) ≡ script_of bytes
+opened {app} {sessions} {hub} {k} {bytes} {left} {lines} p line rest written parts is =
+    ap (λ (o : Option (Option Event)). served_before p.events (script_step (lines + 1) o (is_open p.known) (script_from rest (lines + 1 + 1)))) (sym is)
+    ∙ ap (λ (ls : List (List ℕ)). served_before p.events (script_from ls (lines + 1) (is_open p.known))) (sym parts) ∙ p.script
+
+-- an empty line is passed over
+pass_over : (app : Application) (sessions : List Session) (hub new : HubSeen) (a b c : KeeperSeen) (bytes : List ℕ) (left after : Option (List ℕ)) (lines served : ℕ) (out audit line : List ℕ)
+    → Progress app sessions hub (span a b) bytes left lines served out audit → new ≡ hub → c ≡ b
+    → parts_left 10 left ≡ line ∷ parts_left 10 after → line_of line ≡ Some None → Progress app sessions new (span a c) bytes after (lines + 1) served out audit
+pass_over app sessions hub new a b c bytes left after lines served out audit line p same still parts is = record {
+  events = p.events;
+  log = p.log;
+  known = p.known;
+  script = opened p line (parts_left 10 after) (Some None) parts is;
+  entries = entries-still app a b c p.log p.entries still;
+  counted = p.counted;
+  like = subst (λ (h : HubSeen). AreLike (hearing app sessions) h.channels p.known) (sym same) p.like;
+  idle = ap (λ (h : HubSeen). h.turn) same ∙ p.idle;
+  out_text = p.out_text;
+  audit_text = p.audit_text;
+}
 
 served_push : (events : List Event) (event : Event) (script : Script) → served_before (events ++ event ∷ []) script ≡ served_before events (with_event event script)
 served_push events event script = ap (λ (es : List Event). let s : Script = record { events = es; refused = script.refused } in s) (append_assoc events (event ∷ []) script.events)
 
--- the lines that are left, by the first of them
-opened : {app : Application} {k : Span KeeperSeen} {bytes : List ℕ} {left : Option (List ℕ)} {lines served : ℕ} {out audit : List ℕ}
-    (p : Progress app k bytes left lines served out audit) (line : List ℕ) (rest : List (List ℕ)) → parts_left 10 left ≡ line ∷ rest
-    → served_before p.events (script_from (lines + 1) (line ∷ rest)) ≡ script_of bytes
-opened {app} {k} {bytes} {left} {lines} p line rest parts =
-    ap (λ (ls : List (List ℕ)). served_before p.events (script_from (lines + 1) ls)) (sym parts) ∙ p.script
+-- the script by the line of an event that may stand there
+allowed : {app : Application} {sessions : List Session} {hub : HubSeen} {k : Span KeeperSeen} {bytes : List ℕ} {left : Option (List ℕ)} {lines served : ℕ} {out audit : List ℕ}
+    (p : Progress app sessions hub k bytes left lines served out audit) (after : Option (List ℕ)) (line : List ℕ) (event : Event)
+    → parts_left 10 left ≡ line ∷ parts_left 10 after → line_of line ≡ Some (Some event) → lapse_of (lines + 1) (is_open p.known) event ≡ None
+    → served_before p.events (with_event event (script_from (parts_left 10 after) (lines + 1 + 1) (opened_by event (is_open p.known)))) ≡ script_of bytes
+allowed {app} {sessions} {hub} {k} {bytes} {left} {lines} p after line event parts is none =
+    ap (λ (o : Option Lapse). served_before p.events (script_event o event (script_from (parts_left 10 after) (lines + 1 + 1) (opened_by event (is_open p.known))))) (sym none)
+    ∙ opened p line (parts_left 10 after) (Some (Some event)) parts is
 
--- an empty line is passed over
-pub pass_over : (app : Application) (a b c : KeeperSeen) (bytes : List ℕ) (left after : Option (List ℕ)) (lines served : ℕ) (out audit line : List ℕ)
-    → Progress app (span a b) bytes left lines served out audit → c ≡ b
-    → parts_left 10 left ≡ line ∷ parts_left 10 after → is_nil line ≡ true → Progress app (span a c) bytes after (lines + 1) served out audit
-pass_over app a b c bytes left after lines served out audit line p still parts blank = record {
+audited_more : (log mine : List Entry) (served : ℕ) (audit more : List ℕ) → length log ≡ served → audit ≡ audited log → more ≡ audited_from (served + 1) mine → audit ++ more ≡ audited (log ++ mine)
+audited_more log mine served audit more counted is more_is =
+    ap (λ (t : List ℕ). t ++ more) is
+    ∙ ap (λ (t : List ℕ). audited log ++ t) (more_is ∙ ap (λ (n : ℕ). audited_from n mine) (omega (arith, counted)))
+    ∙ sym (audited-append 1 log mine)
+
+-- a line's event is served
+serve_one : (app : Application) (sessions : List Session) (hub new : HubSeen) (a b c : KeeperSeen) (bytes : List ℕ) (left after : Option (List ℕ)) (lines served count : ℕ) (out audit line o au : List ℕ) (event : Event)
+    → (p : Progress app sessions hub (span a b) bytes left lines served out audit)
+    → parts_left 10 left ≡ line ∷ parts_left 10 after → line_of line ≡ Some (Some event) → lapse_of (lines + 1) (is_open p.known) event ≡ None
+    → IsEventServed app sessions new (span b c) served count (0 + length p.events) event p.known o au
+    → Progress app sessions new (span a c) bytes after (lines + 1) count (out ++ o) (audit ++ au)
+serve_one app sessions hub new a b c bytes left after lines served count out audit line o au event p parts is none s =
+    let h = hearing app sessions in
+    let later = after_both h event s.mine p.known in
+    record {
+      events = p.events ++ event ∷ [];
+      log = p.log ++ s.mine;
+      known = later;
+      script =
+          served_push p.events event (script_from (parts_left 10 after) (lines + 1 + 1) (is_open later))
+          ∙ ap (λ (f : ℕ → Bool). served_before p.events (with_event event (script_from (parts_left 10 after) (lines + 1 + 1) f))) (open_after h event s.mine p.known)
+          ∙ allowed p after line event parts is none;
+      entries = entries-then app a b c p.log s.mine p.entries s.entries;
+      counted = let all = length-append p.log s.mine in omega (arith, all, p.counted, s.count_is);
+      like = s.like;
+      idle = s.idle;
+      out_text =
+          subst (λ (t : List ℕ). Brings app sessions no_connections 0 (p.events ++ event ∷ []) (p.log ++ s.mine) (out ++ t) later) (sym s.out_text)
+          (brings-push app sessions p.events no_connections p.known 0 p.log s.mine out event p.out_text s.brought);
+      audit_text = audited_more p.log s.mine served audit au p.counted p.audit_text s.audit_text;
+    }
+
+nothing_more : (bytes more : List ℕ) → more ≡ [] → bytes ≡ bytes ++ more
+nothing_more bytes more none = sym (append-nil bytes) ∙ ap (λ (m : List ℕ). bytes ++ m) (sym none)
+
+no_ok : (X : Type 0) (count : ℕ) (stopped : Stopped) → ◌≡◌ {A = Result ℕ Stopped} (Ok count) (Err stopped) → X
+no_ok X count stopped e = absurd cc
+
+ok_same : (x y : ℕ) → ◌≡◌ {A = Result ℕ Stopped} (Ok x) (Ok y) → x ≡ y
+ok_same x y e = cc
+
+pub go_on : (app : Application) (sessions : List Session) (hub new : HubSeen) (a b c : KeeperSeen) (bytes : List ℕ) (left after : Option (List ℕ)) (lines served count : ℕ) (out audit line o au : List ℕ)
+    → Progress app sessions hub (span a b) bytes left lines served out audit → parts_left 10 left ≡ line ∷ parts_left 10 after → (written : Option (Option Event)) → line_of line ≡ written
+    → AnswersLine app sessions hub new (span b c) served (lines + 1) written (Ok count) o au
+    → Progress app sessions new (span a c) bytes after (lines + 1) count (out ++ o) (audit ++ au)
+go_on app sessions hub new a b c bytes left after lines served count out audit line o au p parts None is h = no_ok _ count _ h.0
+go_on app sessions hub new a b c bytes left after lines served count out audit line o au p parts (Some None) is h =
+    subst (λ (t : List ℕ). Progress app sessions new (span a c) bytes after (lines + 1) count (out ++ o) t) (nothing_more audit au h.3)
+    (subst (λ (t : List ℕ). Progress app sessions new (span a c) bytes after (lines + 1) count t audit) (nothing_more out o h.2)
+    (subst (λ (n : ℕ). Progress app sessions new (span a c) bytes after (lines + 1) n out audit) (sym (ok_same count served h.0))
+    (pass_over app sessions hub new a b c bytes left after lines served out audit line p h.1 h.4 parts is)))
+go_on app sessions hub new a b c bytes left after lines served count out audit line o au p parts (Some (Some event)) is h =
+    let one = h (0 + length p.events) p.known p.like in
+    serve_one app sessions hub new a b c bytes left after lines served count out audit line o au event p parts is one.0 one.1
+
+-- what was served of all, whole or in part
+heard_by : (early : Bool) (app : Application) (sessions : List Session) (events unserved all : List Event) (log : List Entry) (out : List ℕ) (known : Connections Ask)
+    → Brings app sessions no_connections 0 events log out known → all ≡ events ++ unserved → (early ≡ false → unserved ≡ []) → IsHeardBy early app sessions all log
+heard_by false app sessions events unserved all log out known brings parts whole =
+    subst (λ (es : List Event). IsHeardBy false app sessions es log) (sym (parts ∙ ap (λ (es : List Event). events ++ es) (whole refl) ∙ append-nil events))
+    (brings-heard app sessions events no_connections known 0 log out brings)
+heard_by true app sessions events unserved all log out known brings parts whole =
+    subst (λ (es : List Event). IsHeardBy true app sessions es log) (sym parts) (brings-part app sessions events unserved no_connections known 0 log out brings)
+
+is_served_by : (early : Bool) (app : Application) (sessions : List Session) (a b : KeeperSeen) (all : List Event) (log : List Entry) → IsHeardBy early app sessions all log → AreEntries app (span a b) log
+    → IsServed early app sessions (span a b) a.state all log
+is_served_by early app sessions a b all log heard entries = record {
+  caused = record { subjects = heard; formed = entries.formed; faults = entries.faults };
+  told = entries.told;
+  serves = λ told. record { subjects = heard; answered = entries.answered told; worlds = entries.worlds told; goes_on = entries.goes_on told; good = entries.good told };
+}
+
+-- the lines so far were put, and no more
+finish_with : (early : Bool) (app : Application) (sessions : List Session) (hub : HubSeen) (a b c : KeeperSeen) (bytes : List ℕ) (left : Option (List ℕ)) (lines served : ℕ) (out audit : List ℕ) (unserved : List Event)
+    → (p : Progress app sessions hub (span a b) bytes left lines served out audit) → c ≡ b → (script_of bytes).events ≡ p.events ++ unserved → (early ≡ false → unserved ≡ [])
+    → PutsServed early app sessions (span a c) a.state (script_of bytes) out audit
+finish_with early app sessions hub a b c bytes left lines served out audit unserved p still parts whole = record {
   events = p.events;
+  unserved = unserved;
   log = p.log;
-  script =
-      ap (λ (s : Script). served_before p.events s) (sym (script_blank (lines + 1) line (parts_left 10 after) blank))
-      ∙ opened p line (parts_left 10 after) parts;
-  serving = IsServing-still app a b c p.events p.log p.serving still;
-  counted = p.counted;
-  same_length = p.same_length;
+  later = p.known;
+  parts = parts;
+  ended = whole;
+  served =
+      is_served_by early app sessions a c (script_of bytes).events p.log
+      (heard_by early app sessions p.events unserved (script_of bytes).events p.log out p.known p.out_text parts whole) (entries-still app a b c p.log p.entries still);
   out_text = p.out_text;
   audit_text = p.audit_text;
 }
 
--- the script by the line of an event
-script_at : {app : Application} {k : Span KeeperSeen} {bytes : List ℕ} {left : Option (List ℕ)} {lines served : ℕ} {out audit : List ℕ}
-    (p : Progress app k bytes left lines served out audit) (after : Option (List ℕ)) (line : List ℕ) (event : Event)
-    → parts_left 10 left ≡ line ∷ parts_left 10 after → is_nil line ≡ false → ask_of line ≡ Some event
-    → served_before (p.events ++ event ∷ []) (script_from (lines + 1 + 1) (parts_left 10 after)) ≡ script_of bytes
-script_at {app} {k} {bytes} {left} {lines} p after line event parts full asked =
-    served_push p.events event (script_from (lines + 1 + 1) (parts_left 10 after))
-    ∙ ap (λ (s : Script). served_before p.events s) (sym (script_line (lines + 1) line (parts_left 10 after) (Some event) full asked))
-    ∙ opened p line (parts_left 10 after) parts
-
--- a line's event is served
-pub serve_one : (app : Application) (a b c : KeeperSeen) (bytes : List ℕ) (left after : Option (List ℕ)) (lines served : ℕ) (out audit line reply audited_line : List ℕ) (event : Event) (entry : Entry)
-    → Progress app (span a b) bytes left lines served out audit
-    → parts_left 10 left ≡ line ∷ parts_left 10 after → is_nil line ≡ false → ask_of line ≡ Some event
-    → IsEntryOf app (span b c) served event entry → reply ≡ reply_line entry → audited_line ≡ audit_line (served + 1) entry
-    → Progress app (span a c) bytes after (lines + 1) (served + 1) (out ++ reply) (audit ++ audited_line)
-serve_one app a b c bytes left after lines served out audit line reply audited_line event entry p parts full asked is_entry same_reply same_line = record {
-  events = p.events ++ event ∷ [];
-  log = p.log ++ entry ∷ [];
-  script = script_at p after line event parts full asked;
-  serving = IsServing-push app a b c p.events p.log served event entry p.serving p.same_length is_entry;
-  counted = length-push Entry p.log entry ∙ ap (λ (n : ℕ). n + 1) p.counted;
-  same_length = length-push Event p.events event ∙ ap (λ (n : ℕ). n + 1) p.same_length;
-  out_text = ap (λ (o : List ℕ). o ++ reply) p.out_text ∙ ap (λ (r : List ℕ). text p.log ++ r) same_reply ∙ sym (text-append p.log entry);
-  audit_text =
-      ap (λ (a : List ℕ). a ++ audited_line) p.audit_text
-      ∙ ap (λ (r : List ℕ). audited p.log ++ r) (same_line ∙ ap (λ (n : ℕ). audit_line n entry) (omega (arith, p.counted)))
-      ∙ sym (audited_from-append 1 p.log entry);
-}
-
--- no line is left
-pub finish_all : (app : Application) (a b : KeeperSeen) (bytes : List ℕ) (lines served : ℕ) (out audit : List ℕ)
-    → Progress app (span a b) bytes None lines served out audit → ((script_of bytes).refused ≡ None) × PutsServed false app (span a b) a.state (script_of bytes) out audit
-finish_all app a b bytes lines served out audit p = (
-  ap (λ (s : Script). s.refused) (sym p.script),
-  record {
-    log = p.log;
-    served = served_whole false app a b p.events [] (script_of bytes).events p.log p.serving (ap (λ (s : Script). s.events) (sym p.script)) (λ is. refl);
-    out_text = p.out_text;
-    audit_text = p.audit_text;
-  },
+-- a line is refused
+finish_refused : (app : Application) (sessions : List Session) (hub : HubSeen) (a b c : KeeperSeen) (bytes : List ℕ) (left : Option (List ℕ)) (lines served : ℕ) (out audit o au : List ℕ) (lapse : Lapse)
+    → (p : Progress app sessions hub (span a b) bytes left lines served out audit) → served_before p.events (stopped_at lapse) ≡ script_of bytes → o ≡ [] → au ≡ [] → c ≡ b
+    → ServesAs app sessions (span a c) a.state bytes (Err (stops.Refused lapse)) (out ++ o) (audit ++ au)
+finish_refused app sessions hub a b c bytes left lines served out audit o au lapse p script no_out no_audit still = (
+  ap (λ (s : Script). s.refused) (sym script),
+  subst (λ (t : List ℕ). PutsServed false app sessions (span a c) a.state (script_of bytes) (out ++ o) t) (nothing_more audit au no_audit)
+      (subst (λ (t : List ℕ). PutsServed false app sessions (span a c) a.state (script_of bytes) t audit) (nothing_more out o no_out)
+      (finish_with false app sessions hub a b c bytes left lines served out audit [] p still (ap (λ (s : Script). s.events) (sym script)) (λ is. refl))),
 )
 
--- a line has no form
-pub finish_refused : (app : Application) (a b c : KeeperSeen) (bytes : List ℕ) (left after : Option (List ℕ)) (lines served : ℕ) (out audit line : List ℕ)
-    → Progress app (span a b) bytes left lines served out audit → c ≡ b
-    → parts_left 10 left ≡ line ∷ parts_left 10 after → is_nil line ≡ false → ask_of line ≡ None
-    → ((script_of bytes).refused ≡ Some (lines + 1)) × PutsServed false app (span a c) a.state (script_of bytes) out audit
-finish_refused app a b c bytes left after lines served out audit line p still parts full asked =
-    let script : script_of bytes ≡ served_before p.events (record { events = []; refused = Some (lines + 1) }) =
-    sym (opened p line (parts_left 10 after) parts) ∙ ap (λ (s : Script). served_before p.events s) (script_line (lines + 1) line (parts_left 10 after) None full asked) in (
-      ap (λ (s : Script). s.refused) script,
-      record {
-        log = p.log;
-        served =
-            served_whole false app a c p.events [] (script_of bytes).events p.log (IsServing-still app a b c p.events p.log p.serving still)
-            (ap (λ (s : Script). s.events) script) (λ is. refl);
-        out_text = p.out_text;
-        audit_text = p.audit_text;
-      },
-    )
+refused_same : (x y : Lapse) → ◌≡◌ {A = Result ℕ Stopped} (Err (stops.Refused x)) (Err (stops.Refused y)) → x ≡ y
+refused_same x y e = cc
+
+write_other : (X : Type 0) (y : Lapse) → ◌≡◌ {A = Result ℕ Stopped} (Err stops.Write) (Err (stops.Refused y)) → X
+write_other X y e = absurd cc
+
+refused_other : (X : Type 0) (x : Stopped) (n : ℕ) → ◌≡◌ {A = Result ℕ Stopped} (Err x) (Ok n) → X
+refused_other X x n e = absurd cc
 
 early_is_not_whole : {X : Type 0} → true ≡ false → X
 early_is_not_whole is = absurd cc
 
--- memory ran out
-pub finish_early : (app : Application) (a b c : KeeperSeen) (bytes : List ℕ) (left : Option (List ℕ)) (lines served : ℕ) (out audit : List ℕ)
-    → Progress app (span a b) bytes left lines served out audit → c ≡ b → PutsServed true app (span a c) a.state (script_of bytes) out audit
-finish_early app a b c bytes left lines served out audit p still = record {
-  log = p.log;
-  served =
-      served_whole true app a c p.events (script_from (lines + 1) (parts_left 10 left)).events (script_of bytes).events p.log
-      (IsServing-still app a b c p.events p.log p.serving still) (ap (λ (s : Script). s.events) (sym p.script)) early_is_not_whole;
-  out_text = p.out_text;
-  audit_text = p.audit_text;
-}
+torn_at : (app : Application) (sessions : List Session) (served n : ℕ) (event : Event) (known : Connections Ask) (mine : List Entry) (o au : List ℕ) (count place : ℕ) → served ≡ count → n ≡ place
+    → IsEntryTorn served mine o au ⊎ IsClosingTorn app sessions served n event known mine o au
+    → IsEntryTorn count mine o au ⊎ IsClosingTorn app sessions count place event known mine o au
+torn_at app sessions served n event known mine o au count place same at h =
+    subst (λ (m : ℕ). IsEntryTorn count mine o au ⊎ IsClosingTorn app sessions count m event known mine o au) at
+    (subst (λ (m : ℕ). IsEntryTorn m mine o au ⊎ IsClosingTorn app sessions m n event known mine o au) same h)
+
+none_before : (n : ℕ) → 0 + n ≡ n
+none_before n = omega arith
 
 -- a put failed
-pub finish_torn : (app : Application) (a b c : KeeperSeen) (bytes : List ℕ) (left after : Option (List ℕ)) (lines served : ℕ) (out audit line out_torn audit_torn : List ℕ) (event : Event) (entry : Entry)
-    → Progress app (span a b) bytes left lines served out audit
-    → parts_left 10 left ≡ line ∷ parts_left 10 after → is_nil line ≡ false → ask_of line ≡ Some event
-    → IsEntryOf app (span b c) served event entry → IsTorn (reply_line entry) (audit_line (served + 1) entry) out_torn audit_torn
-    → PutsTorn app (span a c) a.state (script_of bytes) (out ++ out_torn) (audit ++ audit_torn)
-finish_torn app a b c bytes left after lines served out audit line out_torn audit_torn event entry p parts full asked is_entry torn = record {
-  log = p.log;
-  entry = entry;
-  out_torn = out_torn;
-  audit_torn = audit_torn;
-  served =
-      served_whole true app a c (p.events ++ event ∷ []) (script_from (lines + 1 + 1) (parts_left 10 after)).events (script_of bytes).events (p.log ++ entry ∷ [])
-      (IsServing-push app a b c p.events p.log served event entry p.serving p.same_length is_entry)
-      (ap (λ (s : Script). s.events) (sym (script_at p after line event parts full asked))) early_is_not_whole;
-  torn = subst (λ (n : ℕ). IsTorn (reply_line entry) (audit_line (n + 1) entry) out_torn audit_torn) (sym p.counted) torn;
-  out_text = ap (λ (o : List ℕ). o ++ out_torn) p.out_text;
-  audit_text = ap (λ (a : List ℕ). a ++ audit_torn) p.audit_text;
-}
+finish_torn : (app : Application) (sessions : List Session) (hub : HubSeen) (a b c : KeeperSeen) (bytes : List ℕ) (left after : Option (List ℕ)) (lines served : ℕ) (out audit line o au : List ℕ) (event : Event)
+    → (p : Progress app sessions hub (span a b) bytes left lines served out audit)
+    → parts_left 10 left ≡ line ∷ parts_left 10 after → line_of line ≡ Some (Some event) → lapse_of (lines + 1) (is_open p.known) event ≡ None
+    → IsEventTorn app sessions (span b c) served (0 + length p.events) event p.known o au
+    → PutsTorn app sessions (span a c) a.state (script_of bytes) (out ++ o) (audit ++ au)
+finish_torn app sessions hub a b c bytes left after lines served out audit line o au event p parts is none t =
+    let unserved = (script_from (parts_left 10 after) (lines + 1 + 1) (opened_by event (is_open p.known))).events in
+    let all : (script_of bytes).events ≡ p.events ++ event ∷ unserved = ap (λ (s : Script). s.events) (sym (allowed p after line event parts is none)) in
+    record {
+      events = p.events;
+      event = event;
+      unserved = unserved;
+      log = p.log;
+      mine = t.mine;
+      known = p.known;
+      text = out;
+      out_more = o;
+      audit_more = au;
+      parts = all;
+      served =
+          is_served_by true app sessions a c (script_of bytes).events (p.log ++ t.mine)
+          (subst (λ (es : List Event). IsHeardBy true app sessions es (p.log ++ t.mine)) (sym all)
+          (brings-begun app sessions p.events unserved event no_connections p.known 0 p.log t.mine out p.out_text t.begun))
+          (entries-then app a b c p.log t.mine p.entries t.entries);
+      brought = p.out_text;
+      begun = subst (λ (n : ℕ). IsBegunBy (hearing app sessions) n event p.known t.mine) (none_before (length p.events)) t.begun;
+      torn = torn_at app sessions served (0 + length p.events) event p.known t.mine o au (length p.log) (length p.events) (sym p.counted) (none_before (length p.events)) t.torn;
+      out_text = refl;
+      audit_text = ap (λ (x : List ℕ). x ++ au) p.audit_text;
+    }
+
+pub stop_at : (app : Application) (sessions : List Session) (hub new : HubSeen) (a b c : KeeperSeen) (bytes : List ℕ) (left after : Option (List ℕ)) (lines served : ℕ) (out audit line o au : List ℕ)
+    → Progress app sessions hub (span a b) bytes left lines served out audit → parts_left 10 left ≡ line ∷ parts_left 10 after → (written : Option (Option Event)) → line_of line ≡ written → (stopped : Stopped)
+    → AnswersLine app sessions hub new (span b c) served (lines + 1) written (Err stopped) o au
+    → ServesAs app sessions (span a c) a.state bytes (Err stopped) (out ++ o) (audit ++ au)
+stop_at app sessions hub new a b c bytes left after lines served out audit line o au p parts written is stops.Memory h =
+    subst (λ (t : List ℕ). PutsServed true app sessions (span a c) a.state (script_of bytes) (out ++ o) t) (nothing_more audit au h.1)
+    (subst (λ (t : List ℕ). PutsServed true app sessions (span a c) a.state (script_of bytes) t audit) (nothing_more out o h.0)
+    (finish_with true app sessions hub a b c bytes left lines served out audit _ p h.2 (ap (λ (s : Script). s.events) (sym p.script)) early_is_not_whole))
+stop_at app sessions hub new a b c bytes left after lines served out audit line o au p parts None is (stops.Refused lapse) h =
+    finish_refused app sessions hub a b c bytes left lines served out audit o au lapse p
+    (ap (λ (l : Lapse). served_before p.events (stopped_at l)) (refused_same lapse (lapses.NoForm (lines + 1)) h.0) ∙ opened p line (parts_left 10 after) None parts is)
+    h.1 h.2 h.3
+stop_at app sessions hub new a b c bytes left after lines served out audit line o au p parts (Some None) is (stops.Refused lapse) h = refused_other _ (stops.Refused lapse) served h.0
+stop_at app sessions hub new a b c bytes left after lines served out audit line o au p parts (Some (Some event)) is (stops.Refused lapse) h =
+    finish_refused app sessions hub a b c bytes left lines served out audit o au lapse p
+    (ap (λ (l : Option Lapse). served_before p.events (script_event l event (script_from (parts_left 10 after) (lines + 1 + 1) (opened_by event (is_open p.known))))) (sym (h.0 p.known p.like))
+    ∙ opened p line (parts_left 10 after) (Some (Some event)) parts is)
+    h.1 h.2 h.3
+stop_at app sessions hub new a b c bytes left after lines served out audit line o au p parts None is stops.Write h = write_other _ (lapses.NoForm (lines + 1)) h.0
+stop_at app sessions hub new a b c bytes left after lines served out audit line o au p parts (Some None) is stops.Write h = refused_other _ stops.Write served h.0
+stop_at app sessions hub new a b c bytes left after lines served out audit line o au p parts (Some (Some event)) is stops.Write h =
+    let one = h (0 + length p.events) p.known p.like in
+    finish_torn app sessions hub a b c bytes left after lines served out audit line o au event p parts is one.0 one.1
+
+-- no line is left
+pub finish_left : (app : Application) (sessions : List Session) (hub : HubSeen) (a b : KeeperSeen) (bytes : List ℕ) (left : Option (Bor (List ℕ))) (lines served : ℕ) (out audit : List ℕ)
+    → ((rest : Bor (List ℕ)) → left ≡ Some rest → ⊥) → Progress app sessions hub (span a b) bytes (option_now left) lines served out audit
+    → ServesAs app sessions (span a b) a.state bytes (Ok tt) out audit
+finish_left app sessions hub a b bytes None lines served out audit none p = (
+  ap (λ (s : Script). s.refused) (sym p.script),
+  finish_with false app sessions hub a b b bytes None lines served out audit [] p refl (ap (λ (s : Script). s.events) (sym p.script)) (λ is. refl),
+)
+finish_left app sessions hub a b bytes (Some rest) lines served out audit none p = absurd (none rest refl)
+
+pub shorter_left : (after : Option (Bor (List ℕ))) (n : ℕ) → IfSome after (λ rest. length rest.now < n) → length_left (option_now after) ≤ n
+shorter_left None n h = omega arith
+shorter_left (Some rest) n h = omega (arith, h)
+
+-- an event's answer is its line's
+pub event_line : (app : Application) (sessions : List Session) (hub new : HubSeen) (k : Span KeeperSeen) (served line : ℕ) (event : Event) (result : Result ℕ Stopped) (out audit : List ℕ)
+    → AnswersEvent app sessions hub new k served line event result out audit → AnswersLine app sessions hub new k served line (Some (Some event)) result out audit
+event_line app sessions hub new k served line event (Ok count) out audit h = h
+event_line app sessions hub new k served line event (Err (stops.Refused lapse)) out audit h = h
+event_line app sessions hub new k served line event (Err stops.Memory) out audit h = h
+event_line app sessions hub new k served line event (Err stops.Write) out audit h = h
+
+pub line_empty : (app : Application) (sessions : List Session) (hub : HubSeen) (k : KeeperSeen) (served line : ℕ) (written : Option (Option Event)) → written ≡ Some None
+    → AnswersLine app sessions hub hub (span k k) served line written (Ok served) [] []
+line_empty app sessions hub k served line written is =
+    subst (λ (w : Option (Option Event)). AnswersLine app sessions hub hub (span k k) served line w (Ok served) [] []) (sym is) (refl, refl, refl, refl, refl)
+
+pub line_formless : (app : Application) (sessions : List Session) (hub : HubSeen) (k : KeeperSeen) (served line : ℕ) (written : Option (Option Event)) → written ≡ None
+    → AnswersLine app sessions hub hub (span k k) served line written (Err (stops.Refused (lapses.NoForm line))) [] []
+line_formless app sessions hub k served line written is =
+    subst (λ (w : Option (Option Event)). AnswersLine app sessions hub hub (span k k) served line w (Err (stops.Refused (lapses.NoForm line))) [] []) (sym is) (refl, refl, refl, refl)
+
+pub line_event : (app : Application) (sessions : List Session) (hub new : HubSeen) (k : Span KeeperSeen) (served line : ℕ) (event : Event) (written : Option (Option Event)) (result : Result ℕ Stopped) (out audit : List ℕ)
+    → written ≡ Some (Some event) → AnswersEvent app sessions hub new k served line event result out audit → AnswersLine app sessions hub new k served line written result out audit
+line_event app sessions hub new k served line event written result out audit is h =
+    subst (λ (w : Option (Option Event)). AnswersLine app sessions hub new k served line w result out audit) (sym is)
+    (event_line app sessions hub new k served line event result out audit h)

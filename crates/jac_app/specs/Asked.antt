@@ -1,11 +1,13 @@
--- The request that an `ask` line brings.
+-- The request that an `ask` line or a connection brings.
 use Rattle.std.specs.Prelude.{ℕ, ◌++◌, if◌then◌else◌, Option, Some, None, List, [], codes}
 use Rattle.std.specs.Str.{bytes_eq}
 use Rattle.jac_lang.specs.Syntax.{Application}
+use Rattle.jac_http.specs.declared.taken.Request.{Request}
 use Rattle.jac_route.specs.Pairs.{pairs_in}
 use Rattle.jac_route.specs.Parameters.{viewer_of}
+use Rattle.jac_route.specs.Sessions.{session_viewer}
+use Rattle.jac_route.specs.declared.sessions.Session.{Session}
 use Rattle.jac_engine.specs.declared.answer.Ask.{Ask}
-use Rattle.jac_app.specs.declared.line.Event.{Event}
 
 -- a number that is no id of the viewer's model is nobody's
 abbrev pub viewer_in : Application → Option ℕ → Option ℕ
@@ -17,10 +19,13 @@ abbrev pub form_body : List ℕ → List ℕ → List ℕ
 form_body method body = if bytes_eq method (codes "POST") then body else []
 
 -- the pairs of the query, and then those of the form body
-abbrev pub ask_in : Application → Event → Ask
-ask_in app event = record {
-  viewer = viewer_in app event.viewer;
-  method = event.method;
-  path = event.path;
-  pairs = pairs_in event.query ++ pairs_in (form_body event.method event.body);
-}
+abbrev pub ask_by : Option ℕ → List ℕ → List ℕ → List ℕ → List ℕ → Ask
+ask_by viewer method path query body = record { viewer = viewer; method = method; path = path; pairs = pairs_in query ++ pairs_in (form_body method body) }
+
+-- the request of an `ask` line
+abbrev pub ask_in : Application → Option ℕ → List ℕ → List ℕ → List ℕ → List ℕ → Ask
+ask_in app viewer method path query body = ask_by (viewer_in app viewer) method path query body
+
+-- the request of a connection: who looks is told by the session of its token
+abbrev pub request_in : Application → List Session → Request → Ask
+request_in app sessions request = ask_by (session_viewer sessions request.token app) request.method request.path request.query request.body

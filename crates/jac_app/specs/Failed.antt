@@ -1,5 +1,5 @@
 -- A request that wasn't answered: memory ran out, or the keeper failed.
-use Rattle.std.specs.Prelude.{ℕ, List, codes}
+use Rattle.std.specs.Prelude.{ℕ}
 use Rattle.jac_keep.specs.declared.stop.Stop.{Stop}
 use Rattle.jac_keep.specs.declared.stop.Stop.TheVariants as stops
 

@@ -1,7 +1,7 @@
 pub mod Application
 pub mod Keeping
 pub mod Line
-pub mod Piece
+pub mod Script
 pub mod Made
 pub mod Log
 pub mod Asked
@@ -9,4 +9,5 @@ pub mod Failed
 pub mod Outside
 pub mod Serve
 pub mod Run
+pub mod Refusal
 pub mod Status

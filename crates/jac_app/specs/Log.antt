@@ -1,5 +1,5 @@
 -- What a run did: an entry for each request that was answered.
-use Rattle.std.specs.Prelude.{◌≡◌, ℕ, ◌+◌, ◌==◌, ◌&&◌, ◌⊎◌, Bool, false, is_none, if◌then◌else◌, Option, Some, None, List, [], ◌∷◌, ◌++◌, ⊤, map, codes, decimal}
+use Rattle.std.specs.Prelude.{◌≡◌, ℕ, ◌+◌, ◌==◌, ◌&&◌, ◌||◌, ◌⊎◌, Bool, true, false, is_none, is_some, not, if◌then◌else◌, Option, Some, None, List, [], ◌∷◌, ◌++◌, ⊤, codes, decimal}
 use Rattle.std.specs.List.{flat_map}
 use Rattle.std.specs.Str.{bytes_eq}
 use Rattle.jac_value.specs.Quoted.{quoted}
@@ -15,86 +15,69 @@ use Rattle.jac_engine.specs.Prepared.{worlds_of}
 use Rattle.jac_engine.specs.Start.{IsStart}
 use Rattle.jac_engine.specs.declared.answer.Answer.{Answer}
 use Rattle.jac_engine.specs.declared.answer.Ask.{Ask}
-use Rattle.jac_app.specs.declared.line.Event.{Event}
-use Rattle.jac_app.specs.Asked.{ask_in}
+use Rattle.jac_events.specs.declared.event.Event.{Event}
+use Rattle.jac_events.specs.declared.event.Event.TheVariants.{Ask as Asking, Begin, Piece, Finish}
+use Rattle.jac_http.specs.Requests.{IsTaken}
+use Rattle.jac_http.specs.Replies.{body_of, reply_bytes}
+use Rattle.jac_hub.specs.Hearing.{Source, asked, connection, Subject as SubjectOf, whole, refused, broken, Entry as EntryOf, Hearing}
+use Rattle.jac_hub.specs.Heard.{Connections, IsHeard, IsHeardInPart, IsBroughtBy, after_both}
+use Rattle.jac_hub.specs.Served.{is_shut}
+use Rattle.jac_route.specs.declared.sessions.Session.{Session}
+use Rattle.jac_app.specs.Asked.{ask_in, request_in}
 use Rattle.jac_app.specs.Keeping.{Grew}
-use Rattle.jac_app.specs.Line.{ask_of, lines_of, is_nil}
 
--- the events of a file: those of the lines before the first line that has no form, and the number of that line
-pub record Script : Type 0 where
-  pub events : List Event
-  pub refused : Option ℕ
+-- what was answered: a request, and whether it closes its connection; what is refused; or that memory ran out
+abbrev pub Subject : Type 0
+Subject = SubjectOf Ask
 
-abbrev pub with_event : Event → Script → Script
-with_event event script = record { events = event ∷ script.events; refused = script.refused }
+-- a subject of an event, and its answer
+abbrev pub Entry : Type 0
+Entry = EntryOf Ask Answer
 
--- a line that isn't empty, before what follows it
-abbrev pub script_step : ℕ → Option Event → Script → Script
-script_step n None rest = record { events = []; refused = Some n }
-script_step n (Some event) rest = with_event event rest
+-- the answer stands for want of memory or a fault of the keeper: its connection ends
+abbrev pub is_failure : Answer → Bool
+is_failure answer = answer.status == 500 || answer.status == 503
 
--- the lines from the n-th on; an empty line is passed over
-abbrev pub script_from : ℕ → List (List ℕ) → Script
-script_from n [] = record { events = []; refused = None }
-script_from n (line ∷ lines) =
-    if is_nil line then script_from (n + 1) lines else script_step n (ask_of line) (script_from (n + 1) lines)
+-- how an application's requests are understood
+abbrev pub hearing : Application → List Session → Hearing Ask Answer
+hearing app sessions = record {
+  reads = IsTaken;
+  wants = request_in app sessions;
+  asks = ask_in app;
+  ends = is_failure;
+  fits = λ subject answer. Unit {0};
+}
 
--- lines are numbered from 1
-abbrev pub script_of : List ℕ → Script
-script_of bytes = script_from 1 (lines_of bytes)
+-- the log has the subjects that the events bring, in order; where it may stop early, the first of them
+abbrev pub IsHeardBy : Bool → Application → List Session → List Event → List Entry → Type 0
+IsHeardBy false app sessions events log = IsHeard (hearing app sessions) events log
+IsHeardBy true app sessions events log = IsHeardInPart (hearing app sessions) events log
 
--- where a request came from
-pub data Source : Type 0 where
-  -- an `ask` line
-  asked : Source
+-- the answer to what is refused
+abbrev pub refused_with : ℕ → Answer
+refused_with status = record { status = status; location = None; allow = None; body = body_of status [] false; shown = None }
 
--- what was answered
-pub data Subject : Type 0 where
-  -- a request, and whether it closes its connection
-  whole : Ask → Bool → Subject
+-- what stands in for an answer where memory ran out or the keeper failed
+abbrev pub HasFailed : Answer → Type 0
+HasFailed answer = (answer ≡ refusal 500 None) ⊎ (answer ≡ refusal 503 None)
 
--- what an event brings: its place among the events, from 0, where it came from, and what is to be answered
-pub record Heard : Type 0 where
-  pub place : ℕ
-  pub source : Source
-  pub subject : Subject
-
--- a request that was answered, and how
-pub record Entry : Type 0 where
-  pub place : ℕ
-  pub source : Source
-  pub subject : Subject
-  pub answer : Answer
-
-abbrev pub heard_in : Entry → Heard
-heard_in entry = record { place = entry.place; source = entry.source; subject = entry.subject }
-
--- an `ask` line brings its request
-abbrev pub heard_at : Application → ℕ → Event → Heard
-heard_at app n event = record { place = n; source = Source.asked; subject = Subject.whole (ask_in app event) false }
-
-abbrev pub heard_from : Application → ℕ → List Event → List Heard
-heard_from app n [] = []
-heard_from app n (event ∷ events) = heard_at app n event ∷ heard_from app (n + 1) events
-
--- what the events bring, in order
-abbrev pub heard : Application → List Event → List Heard
-heard app events = heard_from app 0 events
-
--- the log answers what the events bring, in order; where it may stop early, the first of it
-pub record IsHeard (early : Bool) (app : Application) (events : List Event) (log : List Entry) : Type 0 where
-  pub unheard : List Heard
-  pub parts : heard app events ≡ map heard_in log ++ unheard
-  pub whole : early ≡ false → unheard ≡ []
-
+-- the subject is answered in these worlds, or it was met by want of memory or a fault of the keeper, which is asked
+-- for requests alone
 abbrev pub IsAnswer : Application → Worlds → Subject → Answer → Type 0
-IsAnswer app worlds (Subject.whole ask closes) answer = IsAnswerTo app worlds ask answer
+IsAnswer app worlds (whole ask closes) answer = HasFailed answer ⊎ IsAnswerTo app worlds ask answer
+IsAnswer app worlds (refused status) answer = (answer ≡ refusal 500 None) ⊎ (answer ≡ refused_with status)
+IsAnswer app worlds broken answer = answer ≡ refusal 500 None
 
-abbrev pub HasFormOf : Application → Subject → Answer → Type 0
-HasFormOf app (Subject.whole ask closes) answer = HasForm app ask answer
+-- where nothing is told of worlds: each refusal has its cause, and each page is one that a run made
+abbrev pub IsFormed : Application → Subject → Answer → Type 0
+IsFormed app (whole ask closes) answer = HasFailed answer ⊎ HasForm app ask answer
+IsFormed app (refused status) answer = (answer ≡ refusal 500 None) ⊎ (answer ≡ refused_with status)
+IsFormed app broken answer = answer ≡ refusal 500 None
 
 abbrev pub left_of : (ℕ → Bool) → Application → Subject → Answer → PlainState → PlainState
-left_of w app (Subject.whole ask closes) answer t = left w app ask answer t
+left_of w app (whole ask closes) answer t = left w app ask answer t
+left_of w app (refused status) answer t = t
+left_of w app broken answer t = t
 
 -- what an entry leaves of the world of an assignment
 abbrev pub after_entry : (ℕ → Bool) → Application → Entry → PlainState → PlainState
@@ -105,35 +88,24 @@ abbrev pub after_log : (ℕ → Bool) → Application → List Entry → PlainSt
 after_log w app [] t = t
 after_log w app (entry ∷ log) t = after_log w app log (after_entry w app entry t)
 
--- what stands in for an answer where memory ran out or the keeper failed
-abbrev pub HasFailed : Answer → Type 0
-HasFailed answer = (answer ≡ refusal 500 None) ⊎ (answer ≡ refusal 503 None)
-
--- the entry's subject is answered in these worlds, or it was met by want of memory or a fault of the keeper
-abbrev pub IsAnswered : Application → Worlds → Entry → Type 0
-IsAnswered app worlds entry = HasFailed entry.answer ⊎ IsAnswer app worlds entry.subject entry.answer
-
 -- each entry, in the worlds that the entries before it leave
 abbrev pub AreAnswered : Application → Worlds → List Entry → Type 0
 AreAnswered app worlds [] = ⊤
-AreAnswered app worlds (entry ∷ log) = IsAnswered app worlds entry × AreAnswered app (λ w. after_entry w app entry (worlds w)) log
+AreAnswered app worlds (entry ∷ log) =
+    IsAnswer app worlds entry.subject entry.answer × AreAnswered app (λ w. after_entry w app entry (worlds w)) log
 
 -- the log answers what the events bring, each in the worlds before it; and under every assignment the state at
 -- the end shows the world that the log leaves of what the start shows; a good start stays good
-pub record Serves (early : Bool) (app : Application) (start : State) (events : List Event) (log : List Entry) (finish : State) : Type 0 where
-  pub subjects : IsHeard early app events log
+pub record Serves (early : Bool) (app : Application) (sessions : List Session) (start : State) (events : List Event) (log : List Entry) (finish : State) : Type 0 where
+  pub subjects : IsHeardBy early app sessions events log
   pub answered : AreAnswered app (worlds_of start) log
   pub worlds : (w : ℕ → Bool) → project_at w finish ≡ after_log w app log (project_at w start)
   pub goes_on : IsStart app finish
   pub good : IsGood (kinds_of app) start → IsGood (kinds_of app) finish
 
--- where nothing is told of worlds: each refusal has its cause, and each page is one that a run made
-abbrev pub IsFormed : Application → Entry → Type 0
-IsFormed app entry = HasFailed entry.answer ⊎ HasFormOf app entry.subject entry.answer
-
 abbrev pub AreFormed : Application → List Entry → Type 0
 AreFormed app [] = ⊤
-AreFormed app (entry ∷ log) = IsFormed app entry × AreFormed app log
+AreFormed app (entry ∷ log) = IsFormed app entry.subject entry.answer × AreFormed app log
 
 -- the answer stands for a fault of the keeper: 503 without a page
 abbrev pub is_fault : Answer → Bool
@@ -145,8 +117,8 @@ faults_in [] = 0
 faults_in (entry ∷ log) = (if is_fault entry.answer then 1 else 0) + faults_in log
 
 -- the log answers what the events bring, told or not, and only the keeper's faults are answered as such
-pub record IsCaused (early : Bool) (app : Application) (events : List Event) (log : List Entry) (before after : ℕ) : Type 0 where
-  pub subjects : IsHeard early app events log
+pub record IsCaused (early : Bool) (app : Application) (sessions : List Session) (events : List Event) (log : List Entry) (before after : ℕ) : Type 0 where
+  pub subjects : IsHeardBy early app sessions events log
   pub formed : AreFormed app log
   pub faults : Grew before (faults_in log) after
 
@@ -164,15 +136,59 @@ reply_text method status location body =
     codes "reply " ++ decimal status ++ codes " " ++ quoted (location_text location)
     ++ codes " " ++ quoted (printed_body method body) ++ 10 ∷ []
 
-abbrev pub reply_to : Subject → Answer → List ℕ
-reply_to (Subject.whole ask closes) answer = reply_text ask.method answer.status answer.location answer.body
+-- `sent N "BYTES"`, the reply on the connection of this number
+abbrev pub sent_text : ℕ → List ℕ → List ℕ
+sent_text c bytes = codes "sent " ++ decimal c ++ codes " " ++ quoted bytes ++ 10 ∷ []
+
+-- the method of a request, whose body isn't sent where it is HEAD
+abbrev pub method_of : Subject → List ℕ
+method_of (whole ask closes) = ask.method
+method_of (refused status) = []
+method_of broken = []
+
+-- the reply says that its connection is closed
+abbrev pub closes_behind : Subject → Answer → Bool
+closes_behind (whole ask closes) answer = closes || is_failure answer
+closes_behind (refused status) answer = true
+closes_behind broken answer = true
+
+abbrev pub bytes_of : Subject → Answer → List ℕ
+bytes_of subject answer =
+    reply_bytes answer.status answer.location answer.allow answer.body (is_some answer.shown) (bytes_eq (method_of subject) (codes "HEAD")) (closes_behind subject answer)
+
+abbrev pub reply_to : Source → Subject → Answer → List ℕ
+reply_to asked subject answer = reply_text (method_of subject) answer.status answer.location answer.body
+reply_to (connection c) subject answer = sent_text c (bytes_of subject answer)
 
 abbrev pub reply_line : Entry → List ℕ
-reply_line entry = reply_to entry.subject entry.answer
+reply_line entry = reply_to entry.source entry.subject entry.answer
 
 -- the lines of the replies, in order
-abbrev pub text : List Entry → List ℕ
-text log = flat_map reply_line log
+abbrev pub replies_text : List Entry → List ℕ
+replies_text log = flat_map reply_line log
+
+abbrev pub closed_text : ℕ → List ℕ
+closed_text c = codes "closed " ++ decimal c ++ 10 ∷ []
+
+-- `closed N`, where the event's connection was closed in it
+abbrev pub closing_text : Event → Connections Ask → Connections Ask → List ℕ
+closing_text (Asking viewer method path query body) before after = []
+closing_text (Begin c) before after = []
+closing_text (Piece c bytes) before after = if not (is_shut (before c)) && is_shut (after c) then closed_text c else []
+closing_text (Finish c) before after = []
+
+-- the text of an event: the lines of its replies, and that its connection was closed
+abbrev pub event_text : Application → List Session → Event → Connections Ask → List Entry → List ℕ
+event_text app sessions event known mine = replies_text mine ++ closing_text event known (after_both (hearing app sessions) event mine known)
+
+-- the events, of which the first is the n-th, bring the log, this is their text, and behind them the connections
+-- stand so
+abbrev pub Brings : Application → List Session → Connections Ask → ℕ → List Event → List Entry → List ℕ → Connections Ask → Type 0
+Brings app sessions known n [] log text later = (log ≡ []) × (text ≡ []) × (later ≡ known)
+Brings app sessions known n (event ∷ events) log text later =
+    (mine : List Entry) × (others : List Entry) × (rest : List ℕ) × (log ≡ mine ++ others) × (text ≡ event_text app sessions event known mine ++ rest)
+    × IsBroughtBy (hearing app sessions) n event known mine
+    × Brings app sessions (after_both (hearing app sessions) event mine known) (n + 1) events others rest later
 
 abbrev pub viewer_text : Option ℕ → List ℕ
 viewer_text None = codes "-"
@@ -192,13 +208,18 @@ abbrev pub shown_text : Option (List ℕ) → List ℕ
 shown_text None = codes "nopage"
 shown_text (Some labels) = labels_text labels
 
+-- ` STATUS VIEWER SHOWN`, which follows the number of a reply
+abbrev pub audit_rest : ℕ → Option ℕ → Option (List ℕ) → List ℕ
+audit_rest status viewer shown = codes " " ++ decimal status ++ codes " " ++ viewer_text viewer ++ codes " " ++ shown_text shown ++ 10 ∷ []
+
 -- `K STATUS VIEWER SHOWN`, of the k-th reply
 abbrev pub audit_text : ℕ → ℕ → Option ℕ → Option (List ℕ) → List ℕ
-audit_text k status viewer shown =
-    decimal k ++ codes " " ++ decimal status ++ codes " " ++ viewer_text viewer ++ codes " " ++ shown_text shown ++ 10 ∷ []
+audit_text k status viewer shown = decimal k ++ audit_rest status viewer shown
 
 abbrev pub viewer_of : Subject → Option ℕ
-viewer_of (Subject.whole ask closes) = ask.viewer
+viewer_of (whole ask closes) = ask.viewer
+viewer_of (refused status) = None
+viewer_of broken = None
 
 abbrev pub audit_line : ℕ → Entry → List ℕ
 audit_line k entry = audit_text k entry.answer.status (viewer_of entry.subject) entry.answer.shown

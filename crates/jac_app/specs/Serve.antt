@@ -1,5 +1,6 @@
 -- What serving the lines of an events file puts on the two sinks.
-use Rattle.std.specs.Prelude.{◌≡◌, ℕ, ◌+◌, ◌⊎◌, Bool, IsTrue, length, true, false, Result, Ok, Err, Some, None, List, [], ◌∷◌, ◌++◌}
+use Rattle.std.specs.Prelude.{◌≡◌, ℕ, ◌+◌, ◌⊎◌, Bool, IsTrue, length, true, false, is_some, if◌then◌else◌, decimal, Result, Ok, Err, Option, Some, None, List, [], ◌∷◌, ◌++◌, ⊤}
+use Rattle.std.specs.List.{flat_map}
 use Rattle.jac_lang.specs.Syntax.{Application}
 use Rattle.jac_rows.specs.Good.{IsGood}
 use Rattle.jac_rows.specs.Project.{project_at}
@@ -11,81 +12,298 @@ use Rattle.jac_engine.specs.Prepared.{worlds_of}
 use Rattle.jac_engine.specs.Start.{IsStart}
 use Rattle.jac_engine.specs.declared.answer.Answer.{Answer}
 use Rattle.jac_engine.specs.declared.answer.Ask.{Ask}
-use Rattle.jac_app.specs.declared.line.Event.{Event}
+use Rattle.jac_events.specs.declared.event.Event.{Event}
+use Rattle.jac_http.specs.Requests.{IsTaken}
+use Rattle.jac_http.specs.Replies.{reply_bytes, status_of_fixed}
+use Rattle.jac_hub.specs.declared.handler.Heard.{Heard}
+use Rattle.jac_hub.specs.declared.handler.Heard.TheVariants.{Whole, Refused}
+use Rattle.jac_hub.specs.declared.hub.HubFault.{HubFault}
+use Rattle.jac_hub.specs.declared.hub.HubFault.TheVariants as faults
+use Rattle.jac_hub.specs.declared.hub.HubOut.{HubOut}
+use Rattle.jac_hub.specs.declared.hub.HubOut.TheVariants.{Reply, Closed}
+use Rattle.jac_hub.specs.declared.hub.Turn.TheVariants.{Idle}
+use Rattle.jac_hub.specs.declared.sent.Sent.{Sent}
+use Rattle.jac_hub.specs.declared.sent.Sent.TheVariants.{Made, Still}
+use Rattle.jac_hub.specs.Channel.{sent_closes, fixed_500}
+use Rattle.jac_hub.specs.Hearing.{Source, asked, connection, whole, refused}
+use Rattle.jac_hub.specs.Heard.{Connections, no_connections, IsBroughtBy, IsBegunBy, after_both}
+use Rattle.jac_hub.specs.Hub.{HubSeen, Steps}
+use Rattle.jac_hub.specs.Served.{AreLike, IsEmptied, IsGiven, IsLost}
+use Rattle.jac_route.specs.declared.sessions.Session.{Session}
+use Rattle.jac_app.specs.declared.answer.Via.{Via}
+use Rattle.jac_app.specs.declared.answer.Via.TheVariants as ways
+use Rattle.jac_app.specs.declared.serve.Lapse.{Lapse}
+use Rattle.jac_app.specs.declared.serve.Lapse.TheVariants as lapses
 use Rattle.jac_app.specs.declared.serve.Stopped.{Stopped}
 use Rattle.jac_app.specs.declared.serve.Stopped.TheVariants as stops
-use Rattle.jac_app.specs.Line.{ask_of, is_nil}
+use Rattle.jac_app.specs.Asked.{request_in}
 use Rattle.jac_app.specs.Keeping.{IsStill, Grew}
-use Rattle.jac_app.specs.Log.{Entry, Script, script_of, IsFormed, IsAnswered, Serves, IsCaused, heard_in, heard_at, after_entry, faults_in, reply_text, audit_text, reply_line, audit_line, text, audited}
-use Rattle.jac_app.specs.Outside.{Span, PutBoth, IsTorn}
+use Rattle.jac_app.specs.Log.{Subject, Entry, hearing, is_failure, Brings, IsAnswer, IsFormed, AreFormed, AreAnswered, Serves, IsCaused, left_of, after_log, faults_in, is_fault, reply_to, reply_line, sent_text, closed_text, closing_text, event_text, replies_text, viewer_of, audit_rest, audit_text, audit_line, audited, audited_from}
+use Rattle.jac_app.specs.Outside.{Span, PutBoth, IsTorn, IsFront}
+use Rattle.jac_app.specs.Script.{Script, script_of, lapse_of}
 
--- a request was answered, and its answer stored; these are the lines of its reply, the k-th
-pub record IsAnswerMade (app : Application) (k : Span KeeperSeen) (ask : Ask) (number : ℕ) (reply audit : List ℕ) : Type 0 where
+abbrev pub source_of : Via → Source
+source_of ways.Line = asked
+source_of (ways.Connection conn close) = connection conn
+
+abbrev pub close_of : Via → Bool
+close_of ways.Line = false
+close_of (ways.Connection conn close) = close
+
+-- a request was answered, and its answer stored; these are the line of its reply and what follows the number of its
+-- audit line
+pub record IsAnswerMade (app : Application) (k : Span KeeperSeen) (via : Via) (ask : Ask) (reply audit : List ℕ) : Type 0 where
   pub answer : Answer
   pub form : HasForm app ask answer
   pub answered : IsTrue k.after.tells → IsAnswerTo app (worlds_of k.before.state) ask answer
   pub worlds : IsTrue k.after.tells → (w : ℕ → Bool) → project_at w k.after.state ≡ left w app ask answer (project_at w k.before.state)
   pub goes_on : IsTrue k.after.tells → IsStart app k.after.state
   pub good : IsTrue k.after.tells → IsGood (kinds_of app) k.before.state → IsGood (kinds_of app) k.after.state
-  pub reply_made : reply ≡ reply_text ask.method answer.status answer.location answer.body
-  pub audit_made : audit ≡ audit_text number answer.status ask.viewer answer.shown
+  pub reply_made : reply ≡ reply_to (source_of via) (whole ask (close_of via)) answer
+  pub audit_made : audit ≡ audit_rest answer.status ask.viewer answer.shown
 
--- the entry of an event, of which there were `served` before, and what it leaves
-pub record IsEntryOf (app : Application) (k : Span KeeperSeen) (served : ℕ) (event : Event) (entry : Entry) : Type 0 where
-  pub heard : heard_in entry ≡ heard_at app served event
-  pub formed : IsFormed app entry
+-- the subject has this answer, and what that leaves
+pub record IsEntryOf (app : Application) (k : Span KeeperSeen) (subject : Subject) (answer : Answer) : Type 0 where
+  pub formed : IsFormed app subject answer
   pub told : IsTrue k.after.tells → IsTrue k.before.tells
-  pub answered : IsTrue k.after.tells → IsAnswered app (worlds_of k.before.state) entry
-  pub worlds : IsTrue k.after.tells → (w : ℕ → Bool) → project_at w k.after.state ≡ after_entry w app entry (project_at w k.before.state)
+  pub answered : IsTrue k.after.tells → IsAnswer app (worlds_of k.before.state) subject answer
+  pub worlds : IsTrue k.after.tells → (w : ℕ → Bool) → project_at w k.after.state ≡ left_of w app subject answer (project_at w k.before.state)
   pub goes_on : IsTrue k.after.tells → IsStart app k.after.state
   pub good : IsTrue k.after.tells → IsGood (kinds_of app) k.before.state → IsGood (kinds_of app) k.after.state
-  pub faults : Grew k.before.faults (faults_in (entry ∷ [])) k.after.faults
+  pub faults : Grew k.before.faults (if is_fault answer then 1 else 0) k.after.faults
 
--- an event is answered, its audit line first
-abbrev pub AnswersAsk : {E : Type 0} → Application → Span KeeperSeen → ℕ → Event → Result (Unit {0}) E → List ℕ → List ℕ → Type 0
-AnswersAsk app k served event result out audit =
-    (entry : Entry) × IsEntryOf app k served event entry × PutBoth (reply_line entry) (audit_line (served + 1) entry) result out audit
+-- the request of an `ask` line is answered, behind so many replies, its audit line first
+abbrev pub AnswersAsk : {E : Type 0} → Application → Span KeeperSeen → ℕ → Ask → Result (Unit {0}) E → List ℕ → List ℕ → Type 0
+AnswersAsk app k served ask result out audit =
+    (answer : Answer) × IsEntryOf app k (whole ask false) answer
+    × PutBoth (reply_to asked (whole ask false) answer) (audit_text (served + 1) answer.status ask.viewer answer.shown) result out audit
 
--- a line brings nothing where it is empty, and else its event; the count is that of the requests answered by then
-abbrev pub AnswersLine : Application → Span KeeperSeen → ℕ → ℕ → List ℕ → Result ℕ Stopped → List ℕ → List ℕ → Type 0
-AnswersLine app k served number line (Ok count) out audit =
-    ((is_nil line ≡ true) × (count ≡ served) × (out ≡ []) × (audit ≡ []) × IsStill k)
-    ⊎ ((is_nil line ≡ false) × (count ≡ served + 1) × ((event : Event) × (ask_of line ≡ Some event)
-    × ((entry : Entry) × IsEntryOf app k served event entry × (out ≡ reply_line entry) × (audit ≡ audit_line (served + 1) entry))))
-AnswersLine app k served number line (Err stops.Write) out audit =
-    (is_nil line ≡ false) × ((event : Event) × (ask_of line ≡ Some event)
-    × ((entry : Entry) × IsEntryOf app k served event entry × IsTorn (reply_line entry) (audit_line (served + 1) entry) out audit))
-AnswersLine app k served number line (Err (stops.Refused n)) out audit =
-    (is_nil line ≡ false) × (ask_of line ≡ None) × (n ≡ number) × (out ≡ []) × (audit ≡ []) × IsStill k
-AnswersLine app k served number line (Err stops.Memory) out audit = (out ≡ []) × (audit ≡ []) × IsStill k
-
--- these events were served from this start on, or, where it may stop early, the first of them
-pub record IsServed (early : Bool) (app : Application) (k : Span KeeperSeen) (start : State) (events : List Event) (log : List Entry) : Type 0 where
-  pub caused : IsCaused early app events log k.before.faults k.after.faults
+-- some subjects were answered one after another
+pub record AreEntries (app : Application) (k : Span KeeperSeen) (log : List Entry) : Type 0 where
+  pub formed : AreFormed app log
   pub told : IsTrue k.after.tells → IsTrue k.before.tells
-  pub serves : IsTrue k.after.tells → Serves early app start events log k.after.state
+  pub answered : IsTrue k.after.tells → AreAnswered app (worlds_of k.before.state) log
+  pub worlds : IsTrue k.after.tells → (w : ℕ → Bool) → project_at w k.after.state ≡ after_log w app log (project_at w k.before.state)
+  pub goes_on : IsTrue k.after.tells → IsStart app k.after.state
+  pub good : IsTrue k.after.tells → IsGood (kinds_of app) k.before.state → IsGood (kinds_of app) k.after.state
+  pub faults : Grew k.before.faults (faults_in log) k.after.faults
 
--- and their lines were put whole
-pub record PutsServed (early : Bool) (app : Application) (k : Span KeeperSeen) (start : State) (script : Script) (out audit : List ℕ) : Type 0 where
-  pub log : List Entry
-  pub served : IsServed early app k start script.events log
-  pub out_text : out ≡ text log
-  pub audit_text : audit ≡ audited log
+abbrev pub subject_of : Application → List Session → Heard → Subject
+subject_of app sessions (Whole request) = whole (request_in app sessions request) request.close
+subject_of app sessions (Refused status) = refused status
 
--- the first events were served, and the lines of the last of them were torn
-pub record PutsTorn (app : Application) (k : Span KeeperSeen) (start : State) (script : Script) (out audit : List ℕ) : Type 0 where
-  pub log : List Entry
+-- the line that is put for what was sent on a connection
+abbrev pub sent_line : ℕ → Sent → List ℕ
+sent_line c (Made line audit close) = line
+sent_line c (Still status head viewer) = sent_text c (reply_bytes (status_of_fixed status) None None [] false head true)
+
+-- the audit's line for it, of the k-th reply
+abbrev pub sent_audit : ℕ → Sent → List ℕ
+sent_audit k (Made line audit close) = decimal k ++ audit
+sent_audit k (Still status head viewer) = audit_text k (status_of_fixed status) viewer None
+
+-- what was heard of a connection has this answer, and what was sent is its line
+pub record IsHandled (app : Application) (sessions : List Session) (before : KeeperSeen) (c : ℕ) (heard : Heard) (sent : Sent) (after : KeeperSeen) (answer : Answer) : Type 0 where
+  pub line : sent_line c sent ≡ reply_to (connection c) (subject_of app sessions heard) answer
+  pub audit : (k : ℕ) → sent_audit k sent ≡ audit_text k answer.status (viewer_of (subject_of app sessions heard)) answer.shown
+  pub closing : sent_closes sent ≡ is_failure answer
+  pub entry : IsEntryOf app (record { before = before; after = after }) (subject_of app sessions heard) answer
+
+-- what is sent for what is refused with this status, unless memory runs out
+abbrev pub IsRefusalSent : ℕ → ℕ → Sent → Type 0
+IsRefusalSent c status sent =
+    (sent ≡ Made (sent_text c (reply_bytes status None None [] false false true)) (audit_rest status None None) false) ⊎ (sent ≡ fixed_500)
+
+abbrev pub handled : Application → List Session → KeeperSeen → ℕ → Heard → Sent → KeeperSeen → Type 0
+handled app sessions before c heard sent after = (answer : Answer) × IsHandled app sessions before c heard sent after answer
+
+-- what is put for what a hub gives
+abbrev pub out_text : HubOut → List ℕ
+out_text (Reply c sent) = sent_line c sent
+out_text (Closed c) = closed_text c
+
+abbrev pub outs_text : List HubOut → List ℕ
+outs_text outs = flat_map out_text outs
+
+-- so many replies are among them
+abbrev pub replies_in : List HubOut → ℕ
+replies_in [] = 0
+replies_in (Reply c sent ∷ outs) = 1 + replies_in outs
+replies_in (Closed c ∷ outs) = replies_in outs
+
+-- their audit lines, the first of which is that of the k-th reply
+abbrev pub outs_audited : ℕ → List HubOut → List ℕ
+outs_audited k [] = []
+outs_audited k (Reply c sent ∷ outs) = sent_audit k sent ++ outs_audited (k + 1) outs
+outs_audited k (Closed c ∷ outs) = outs_audited k outs
+
+-- what was to be put for one of them was torn
+abbrev pub IsOutTorn : ℕ → HubOut → List ℕ → List ℕ → Type 0
+IsOutTorn k (Reply c sent) out audit = IsTorn (sent_line c sent) (sent_audit k sent) out audit
+IsOutTorn k (Closed c) out audit = IsFront out (closed_text c) × (audit ≡ [])
+
+-- one of them is put, behind so many replies
+abbrev pub PutsOut : {E : Type 0} → ℕ → HubOut → Result ℕ E → List ℕ → List ℕ → Type 0
+PutsOut served given (Ok count) out audit =
+    (count ≡ served + replies_in (given ∷ [])) × (out ≡ out_text given) × (audit ≡ outs_audited (served + 1) (given ∷ []))
+PutsOut served given (Err failed) out audit = IsOutTorn (served + 1) given out audit
+
+-- what a hub gave so far was put
+pub record PutsSoFar (app : Application) (sessions : List Session) (hub now : HubSeen) (k : Span KeeperSeen) (served count : ℕ) (out audit : List ℕ) : Type 0 where
+  pub outs : List HubOut
+  pub given : IsGiven IsTaken (handled app sessions) hub outs now k.before k.after
+  pub count_is : count ≡ served + replies_in outs
+  pub out_text : out ≡ outs_text outs
+  pub audit_text : audit ≡ outs_audited (served + 1) outs
+
+-- some of what a hub gave was put, and then a put failed
+pub record PutsSome (app : Application) (sessions : List Session) (hub : HubSeen) (k : Span KeeperSeen) (served : ℕ) (out audit : List ℕ) : Type 0 where
+  pub outs : List HubOut
+  pub last : HubOut
+  pub left : HubSeen
+  pub out_torn : List ℕ
+  pub audit_torn : List ℕ
+  pub given : IsGiven IsTaken (handled app sessions) hub (outs ++ last ∷ []) left k.before k.after
+  pub torn : IsOutTorn (served + replies_in outs + 1) last out_torn audit_torn
+  pub out_text : out ≡ outs_text outs ++ out_torn
+  pub audit_text : audit ≡ outs_audited (served + 1) outs ++ audit_torn
+
+-- all that a hub gave was put
+pub record PutsAll (app : Application) (sessions : List Session) (hub new : HubSeen) (k : Span KeeperSeen) (served count : ℕ) (out audit : List ℕ) : Type 0 where
+  pub outs : List HubOut
+  pub emptied : IsEmptied IsTaken (handled app sessions) hub outs new k.before k.after
+  pub count_is : count ≡ served + replies_in outs
+  pub out_text : out ≡ outs_text outs
+  pub audit_text : audit ≡ outs_audited (served + 1) outs
+
+abbrev pub PutsOuts : {E : Type 0} → Application → List Session → HubSeen → HubSeen → Span KeeperSeen → ℕ → Result ℕ E → List ℕ → List ℕ → Type 0
+PutsOuts app sessions hub new k served (Ok count) out audit = PutsAll app sessions hub new k served count out audit
+PutsOuts app sessions hub new k served (Err failed) out audit = PutsSome app sessions hub k served out audit
+
+abbrev pub lapse_by : ℕ → HubFault → Option Lapse
+lapse_by line (faults.NotOpen c) = Some (lapses.NotOpen line c)
+lapse_by line (faults.AlreadyOpen c) = Some (lapses.AlreadyOpen line c)
+lapse_by line faults.Memory = None
+
+-- a hub took the event of this line, or why it didn't
+abbrev pub TakesEvent : ℕ → HubSeen → Event → Result (Unit {0}) Stopped → HubSeen → Type 0
+TakesEvent line hub event (Ok done) new =
+    (taken : Result (Unit {0}) HubFault) × Steps hub event taken new × (IsLost event taken → ⊥) × ((taken ≡ Ok tt) ⊎ (taken ≡ Err faults.Memory))
+TakesEvent line hub event (Err (stops.Refused lapse)) new = (fault : HubFault) × Steps hub event (Err fault) new × (lapse_by line fault ≡ Some lapse)
+TakesEvent line hub event (Err stops.Memory) new = ⊤
+TakesEvent line hub event (Err stops.Write) new = ⊥
+
+-- the connections that have begun
+abbrev pub is_open : Connections Ask → ℕ → Bool
+is_open known c = is_some (known c)
+
+-- the connections of a hub between two events
+pub record IsFollowing (app : Application) (sessions : List Session) (hub : HubSeen) : Type 0 where
+  pub known : Connections Ask
+  pub like : AreLike (hearing app sessions) hub.channels known
+
+-- the n-th event was served whole, of which the connections stood so before
+pub record IsEventServed (app : Application) (sessions : List Session) (new : HubSeen) (k : Span KeeperSeen) (served count n : ℕ) (event : Event) (known : Connections Ask) (out audit : List ℕ) : Type 0 where
+  pub mine : List Entry
+  pub brought : IsBroughtBy (hearing app sessions) n event known mine
+  pub entries : AreEntries app k mine
+  pub count_is : count ≡ served + length mine
+  pub like : AreLike (hearing app sessions) new.channels (after_both (hearing app sessions) event mine known)
+  pub idle : new.turn ≡ Idle
+  pub out_text : out ≡ event_text app sessions event known mine
+  pub audit_text : audit ≡ audited_from (served + 1) mine
+
+-- the lines of an entry were torn
+pub record IsEntryTorn (served : ℕ) (mine : List Entry) (out audit : List ℕ) : Type 0 where
+  pub whole_ones : List Entry
   pub entry : Entry
   pub out_torn : List ℕ
   pub audit_torn : List ℕ
-  pub served : IsServed true app k start script.events (log ++ entry ∷ [])
-  pub torn : IsTorn (reply_line entry) (audit_line (length log + 1) entry) out_torn audit_torn
-  pub out_text : out ≡ text log ++ out_torn
-  pub audit_text : audit ≡ audited log ++ audit_torn
+  pub parts : mine ≡ whole_ones ++ entry ∷ []
+  pub torn : IsTorn (reply_line entry) (audit_line (served + length whole_ones + 1) entry) out_torn audit_torn
+  pub out_text : out ≡ replies_text whole_ones ++ out_torn
+  pub audit_text : audit ≡ audited_from (served + 1) whole_ones ++ audit_torn
+
+-- the line was torn that tells that a connection was closed
+pub record IsClosingTorn (app : Application) (sessions : List Session) (served n : ℕ) (event : Event) (known : Connections Ask) (mine : List Entry) (out audit : List ℕ) : Type 0 where
+  pub out_torn : List ℕ
+  pub brought : IsBroughtBy (hearing app sessions) n event known mine
+  pub torn : IsFront out_torn (closing_text event known (after_both (hearing app sessions) event mine known))
+  pub out_text : out ≡ replies_text mine ++ out_torn
+  pub audit_text : audit ≡ audited_from (served + 1) mine
+
+-- the first entries of the n-th event were answered, and a put failed
+pub record IsEventTorn (app : Application) (sessions : List Session) (k : Span KeeperSeen) (served n : ℕ) (event : Event) (known : Connections Ask) (out audit : List ℕ) : Type 0 where
+  pub mine : List Entry
+  pub begun : IsBegunBy (hearing app sessions) n event known mine
+  pub entries : AreEntries app k mine
+  pub torn : IsEntryTorn served mine out audit ⊎ IsClosingTorn app sessions served n event known mine out audit
+
+-- an event is served, whichever connections the hub may stand for; it stands on this line
+abbrev pub AnswersEvent : Application → List Session → HubSeen → HubSeen → Span KeeperSeen → ℕ → ℕ → Event → Result ℕ Stopped → List ℕ → List ℕ → Type 0
+AnswersEvent app sessions hub new k served line event (Ok count) out audit =
+    (n : ℕ) (known : Connections Ask) → AreLike (hearing app sessions) hub.channels known
+    → (lapse_of line (is_open known) event ≡ None) × IsEventServed app sessions new k served count n event known out audit
+AnswersEvent app sessions hub new k served line event (Err (stops.Refused lapse)) out audit =
+    ((known : Connections Ask) → AreLike (hearing app sessions) hub.channels known → lapse_of line (is_open known) event ≡ Some lapse)
+    × (out ≡ []) × (audit ≡ []) × IsStill k
+AnswersEvent app sessions hub new k served line event (Err stops.Memory) out audit = (out ≡ []) × (audit ≡ []) × IsStill k
+AnswersEvent app sessions hub new k served line event (Err stops.Write) out audit =
+    (n : ℕ) (known : Connections Ask) → AreLike (hearing app sessions) hub.channels known
+    → (lapse_of line (is_open known) event ≡ None) × IsEventTorn app sessions k served n event known out audit
+
+-- a line by what it writes down: nothing, an event, or it has no form
+abbrev pub AnswersLine : Application → List Session → HubSeen → HubSeen → Span KeeperSeen → ℕ → ℕ → Option (Option Event) → Result ℕ Stopped → List ℕ → List ℕ → Type 0
+AnswersLine app sessions hub new k served line written (Err stops.Memory) out audit = (out ≡ []) × (audit ≡ []) × IsStill k
+AnswersLine app sessions hub new k served line None result out audit =
+    (result ≡ Err (stops.Refused (lapses.NoForm line))) × (out ≡ []) × (audit ≡ []) × IsStill k
+AnswersLine app sessions hub new k served line (Some None) result out audit =
+    (result ≡ Ok served) × (new ≡ hub) × (out ≡ []) × (audit ≡ []) × IsStill k
+AnswersLine app sessions hub new k served line (Some (Some event)) result out audit = AnswersEvent app sessions hub new k served line event result out audit
+
+-- these events were served from this start on, or, where it may stop early, the first of them
+pub record IsServed (early : Bool) (app : Application) (sessions : List Session) (k : Span KeeperSeen) (start : State) (events : List Event) (log : List Entry) : Type 0 where
+  pub caused : IsCaused early app sessions events log k.before.faults k.after.faults
+  pub told : IsTrue k.after.tells → IsTrue k.before.tells
+  pub serves : IsTrue k.after.tells → Serves early app sessions start events log k.after.state
+
+-- and their lines were put whole: the text is that of the events that were served
+pub record PutsServed (early : Bool) (app : Application) (sessions : List Session) (k : Span KeeperSeen) (start : State) (script : Script) (out audit : List ℕ) : Type 0 where
+  pub events : List Event
+  pub unserved : List Event
+  pub log : List Entry
+  pub later : Connections Ask
+  pub parts : script.events ≡ events ++ unserved
+  pub ended : early ≡ false → unserved ≡ []
+  pub served : IsServed early app sessions k start script.events log
+  pub out_text : Brings app sessions no_connections 0 events log out later
+  pub audit_text : audit ≡ audited log
+
+-- the first events were served, and the lines of the one behind them were torn
+pub record PutsTorn (app : Application) (sessions : List Session) (k : Span KeeperSeen) (start : State) (script : Script) (out audit : List ℕ) : Type 0 where
+  pub events : List Event
+  pub event : Event
+  pub unserved : List Event
+  pub log : List Entry
+  pub mine : List Entry
+  pub known : Connections Ask
+  pub text : List ℕ
+  pub out_more : List ℕ
+  pub audit_more : List ℕ
+  pub parts : script.events ≡ events ++ event ∷ unserved
+  pub served : IsServed true app sessions k start script.events (log ++ mine)
+  pub brought : Brings app sessions no_connections 0 events log text known
+  pub begun : IsBegunBy (hearing app sessions) (length events) event known mine
+  pub torn : IsEntryTorn (length log) mine out_more audit_more
+      ⊎ IsClosingTorn app sessions (length log) (length events) event known mine out_more audit_more
+  pub out_text : out ≡ text ++ out_more
+  pub audit_text : audit ≡ audited log ++ audit_more
 
 -- how serving the events of a file ends
-abbrev pub ServesAs : Application → Span KeeperSeen → State → List ℕ → Result (Unit {0}) Stopped → List ℕ → List ℕ → Type 0
-ServesAs app k start bytes (Ok done) out audit = ((script_of bytes).refused ≡ None) × PutsServed false app k start (script_of bytes) out audit
-ServesAs app k start bytes (Err (stops.Refused n)) out audit = ((script_of bytes).refused ≡ Some n) × PutsServed false app k start (script_of bytes) out audit
-ServesAs app k start bytes (Err stops.Memory) out audit = PutsServed true app k start (script_of bytes) out audit
-ServesAs app k start bytes (Err stops.Write) out audit = PutsTorn app k start (script_of bytes) out audit
+abbrev pub ServesAs : Application → List Session → Span KeeperSeen → State → List ℕ → Result (Unit {0}) Stopped → List ℕ → List ℕ → Type 0
+ServesAs app sessions k start bytes (Ok done) out audit =
+    ((script_of bytes).refused ≡ None) × PutsServed false app sessions k start (script_of bytes) out audit
+ServesAs app sessions k start bytes (Err (stops.Refused lapse)) out audit =
+    ((script_of bytes).refused ≡ Some lapse) × PutsServed false app sessions k start (script_of bytes) out audit
+ServesAs app sessions k start bytes (Err stops.Memory) out audit = PutsServed true app sessions k start (script_of bytes) out audit
+ServesAs app sessions k start bytes (Err stops.Write) out audit = PutsTorn app sessions k start (script_of bytes) out audit

@@ -1,23 +1,27 @@
-ghost use Rattle.std.specs.Prelude.{◌≡◌, ◌++◌, ◌≤◌, ◌<◌, ◌^◌, length, ℕ, IsTrue, List, Result, Option, Some, None, IfOk, IfErr, true, take, codes, decimal};
+ghost use Rattle.std.specs.Prelude.{◌≡◌, ◌⊎◌, ◌++◌, ◌≤◌, ◌<◌, ◌^◌, length, ℕ, IsTrue, List, [], Result, Err, Option, Some, None, IfOk, IfErr, true, take, codes, decimal};
 ghost use Rattle.std.specs.Option.{option_copied, option_map};
 ghost use Rattle.std.specs.Str.{bytes_eq};
 ghost use Rattle.jac_io.specs.Seen.{FilesLast};
 ghost use Rattle.jac_lang.specs.Mirror.{application_of};
-ghost use Rattle.jac_engine.specs.Served.{are_served};
 ghost use Rattle.jac_engine.specs.Start.{IsStart};
+ghost use Rattle.jac_route.specs.Sessions.{sessions_in};
 ghost use Rattle.jac_app.specs.Keeping.{IsForAll};
 ghost use Rattle.jac_app.specs.Application.{IsApplication};
-ghost use Rattle.jac_app.specs.Outside.{IsPut, span, sinks};
-ghost use Rattle.jac_app.specs.Run.{is_operand, may_audit, replay_with, replay_among, command_of, named, sight, sinks_of, name_of, limit_of, limit_text, ending_of, IsUnread, IsUnopened, EndsServing, Ends, Runs, IsRun, fault_line, status_of, usage_line, Closed, Closes, Finishes, WentAimed};
+ghost use Rattle.jac_app.specs.Refusal.{refusal_text};
+ghost use Rattle.jac_app.specs.Outside.{AWriteFailed, IsPut, Went, span, sinks};
+ghost use Rattle.jac_app.specs.Serve.{ServesAs};
+ghost use Rattle.jac_app.specs.Run.{is_operand, may_name, is_audit, is_sessions, is_option, replay_with, with_one, with_two, among_four, among_six, command_of, named, name_or_empty, sight, sinks_of, name_of, limit_of, limit_text, ending_of, HasSessions, IsUnread, IsUnopened, IsUnlisted, IsSessionless, EndsServing, Ends, Runs, IsRun, fault_line, lapse_line, status_of, usage_line, Closed, Closes, Finishes, WentAimed};
 
 use crate::application::read_application;
-use crate::outside::{put, put_three};
-use crate::serve::{Stopped, serve_events};
+use crate::outside::{put, put_five, put_three};
+use crate::refusal::{Refusal, refusal_line};
+use crate::serve::{Lapse, Stopped, serve_events};
+use crate::service::Service;
 use crate::status::Status;
 use itoa::Buffer;
 use jac_io::{AuditSink, Failed, FileFault, Files, Sink};
 use jac_keep::Keeper;
-use jac_lang::App;
+use jac_route::{SessionFault, Sessions, sessions_of};
 use jac_value::{Bytes, Memory, Txt};
 use jac_world::Steps;
 use std::alloc::Global;
@@ -27,16 +31,20 @@ use std::sync::ledger::Ledger;
 #[derive(Clone, Copy, Debug, PartialEq, Eq)]
 pub enum Role {
     App,
+    Sessions,
     Events,
 }
 
 /// Why the steps of a replay ended early.
-#[derive(Clone, Copy, Debug, PartialEq, Eq)]
+#[derive(Debug, Drop)]
 pub enum Ending {
     ReadFault(Role),
     TooLong(Role),
-    AppRefused,
-    LineRefused(u64),
+    /// The line tells why.
+    AppRefused(Txt),
+    LineRefused(Lapse),
+    /// The line of the sessions of this number, from 1.
+    SessionsRefused(u64),
     WriteFault,
     Memory,
 }
@@ -46,6 +54,7 @@ pub enum Ending {
 struct Command<'a> {
     app: &'a Txt,
     events: &'a Txt,
+    sessions: Option<&'a Txt>,
     audit: Option<&'a Txt>,
 }
 
@@ -55,13 +64,19 @@ fn command_of(words: &[Txt]) -> Option<Command<'_>>
     match words {
         [name, app, events] => {
             if is_replay(name) {
-                return replay_with(app, events, None);
+                return replay_with(app, events, None, None);
             }
             None
         }
-        [name, first, second, third, fourth] => {
+        [name, a, b, c, d] => {
             if is_replay(name) {
-                return replay_among(first, second, third, fourth);
+                return among_four(a, b, c, d);
+            }
+            None
+        }
+        [name, a, b, c, d, e, f] => {
+            if is_replay(name) {
+                return among_six(a, b, c, d, e, f);
             }
             None
         }
@@ -69,49 +84,128 @@ fn command_of(words: &[Txt]) -> Option<Command<'_>>
     }
 }
 
-// The option stands in front of the files, between them or behind them.
-fn replay_among<'a>(
-    first: &'a Txt,
-    second: &'a Txt,
-    third: &'a Txt,
-    fourth: &'a Txt,
+// An option stands in front of the files, between them or behind them.
+fn among_four<'a>(a: &'a Txt, b: &'a Txt, c: &'a Txt, d: &'a Txt) -> Option<Command<'a>>
+    ensures { option_map named result ≡ among_four a.now b.now c.now d.now }
+{
+    if is_option(a) {
+        return with_one(c, d, a, b);
+    }
+    if is_option(b) {
+        return with_one(a, d, b, c);
+    }
+    with_one(a, b, c, d)
+}
+
+// The other option stands anywhere behind the first.
+fn among_six<'a>(
+    a: &'a Txt,
+    b: &'a Txt,
+    c: &'a Txt,
+    d: &'a Txt,
+    e: &'a Txt,
+    f: &'a Txt,
 ) -> Option<Command<'a>>
-    ensures { option_map named result ≡ replay_among first.now second.now third.now fourth.now }
+    ensures { option_map named result ≡ among_six a.now b.now c.now d.now e.now f.now }
 {
-    if is_audit(third) {
-        return replay_with(first, second, Some(fourth));
+    if is_option(a) && is_option(c) {
+        return with_two(e, f, a, b, c, d);
     }
-    if is_audit(second) {
-        return replay_with(first, fourth, Some(third));
+    if is_option(a) && is_option(d) {
+        return with_two(c, f, a, b, d, e);
     }
-    if is_audit(first) {
-        return replay_with(third, fourth, Some(second));
+    if is_option(a) {
+        return with_two(c, d, a, b, e, f);
+    }
+    if is_option(b) && is_option(d) {
+        return with_two(a, f, b, c, d, e);
+    }
+    if is_option(b) {
+        return with_two(a, d, b, c, e, f);
+    }
+    with_two(a, b, c, d, e, f)
+}
+
+fn with_one<'a>(
+    app: &'a Txt,
+    events: &'a Txt,
+    option: &'a Txt,
+    file: &'a Txt,
+) -> Option<Command<'a>>
+    ensures { option_map named result ≡ with_one app.now events.now option.now file.now }
+{
+    if is_audit(option) {
+        return replay_with(app, events, None, Some(file));
+    }
+    if is_sessions(option) {
+        return replay_with(app, events, Some(file), None);
     }
     None
 }
 
-fn replay_with<'a>(app: &'a Txt, events: &'a Txt, audit: Option<&'a Txt>) -> Option<Command<'a>>
-    ensures { option_map named result ≡ replay_with app.now events.now (option_copied audit.entry) }
+fn with_two<'a>(
+    app: &'a Txt,
+    events: &'a Txt,
+    option: &'a Txt,
+    file: &'a Txt,
+    other: &'a Txt,
+    other_file: &'a Txt,
+) -> Option<Command<'a>>
+    ensures { option_map named result ≡ with_two app.now events.now option.now file.now other.now other_file.now }
 {
-    if is_operand(app) && is_operand(events) && may_audit(audit) {
-        return Some(Command { app, events, audit });
+    if is_audit(option) && is_sessions(other) {
+        return replay_with(app, events, Some(other_file), Some(file));
+    }
+    if is_sessions(option) && is_audit(other) {
+        return replay_with(app, events, Some(file), Some(other_file));
     }
     None
 }
 
-fn may_audit(audit: Option<&Txt>) -> bool
-    ensures { result ≡ may_audit (option_copied audit.entry) }
+fn replay_with<'a>(
+    app: &'a Txt,
+    events: &'a Txt,
+    sessions: Option<&'a Txt>,
+    audit: Option<&'a Txt>,
+) -> Option<Command<'a>>
+    ensures { option_map named result ≡ replay_with app.now events.now (option_copied sessions.entry) (option_copied audit.entry) }
 {
-    match audit {
+    if is_operand(app) && is_operand(events) && may_name(sessions) && may_name(audit) {
+        return Some(Command {
+            app,
+            events,
+            sessions,
+            audit,
+        });
+    }
+    None
+}
+
+fn may_name(file: Option<&Txt>) -> bool
+    ensures { result ≡ may_name (option_copied file.entry) }
+{
+    match file {
         None => true,
         Some(name) => is_operand(name),
     }
 }
 
+fn is_option(word: &Txt) -> bool
+    ensures { result ≡ is_option word.now }
+{
+    is_audit(word) || is_sessions(word)
+}
+
 fn is_audit(word: &Txt) -> bool
-    ensures { result ≡ bytes_eq word.now (codes "--audit") }
+    ensures { result ≡ is_audit word.now }
 {
     word.as_bytes() == b"--audit".as_slice()
+}
+
+fn is_sessions(word: &Txt) -> bool
+    ensures { result ≡ is_sessions word.now }
+{
+    word.as_bytes() == b"--sessions".as_slice()
 }
 
 fn is_replay(word: &Txt) -> bool
@@ -140,7 +234,7 @@ fn limit(role: Role) -> usize
     ensures { result ≡ limit_of role }
 {
     match role {
-        Role::App => 1_048_576,
+        Role::App | Role::Sessions => 1_048_576,
         Role::Events => 16_777_216,
     }
 }
@@ -164,23 +258,66 @@ fn read_file<F: Files>(
     }
 }
 
-fn open_app(alloc: Global, bytes: &[u8]) -> Result<App, Ending>
-    ensures opened { IfOk result (λ app. IsApplication bytes.now (application_of app)) }
-    ensures served { IfOk result (λ app. are_served (application_of app) ≡ true) }
-    ensures few { IfOk result (λ app. length (application_of app).models ≤ 64) }
+fn open_app(alloc: Global, bytes: &[u8]) -> Result<Service, Ending>
+    requires { length bytes.now ≤ limit_of Role.App }
+    ensures opened { IfOk result (λ service. IsApplication bytes.now (application_of service)) }
+    ensures few { IfOk result (λ service. length (application_of service).models ≤ 64) }
     ensures unopened { IfErr result (λ ending. IsUnopened bytes.now ending) }
 {
     match read_application(alloc, bytes) {
-        Ok(Some(app)) => Ok(app),
-        Ok(None) => Err(Ending::AppRefused),
-        Err(Memory) => Err(Ending::Memory),
+        Ok(service) => {
+            let _app = service.app();
+            Ok(service)
+        }
+        Err(refusal) => Err(refused(alloc, &refusal)),
+    }
+}
+
+fn refused(alloc: Global, refusal: &Refusal) -> Ending
+    ensures { ((¬ (refusal.now ≡ Refusal.Memory)) × (result ≡ Ending.AppRefused (refusal_text refusal.now))) ⊎ (result ≡ Ending.Memory) }
+{
+    match refusal_line(alloc, refusal) {
+        Ok(line) => Ending::AppRefused(line),
+        Err(Memory) => Ending::Memory,
+    }
+}
+
+// The sessions of the file of this name; without a name there are none.
+fn read_sessions<F: Files>(
+    alloc: Global,
+    files: &mut F,
+    name: Option<&Txt>,
+) -> Result<Sessions, Ending>
+    ensures lasts { FilesLast (F.seen files.old) (F.seen files.new) }
+    ensures had { IfOk result (HasSessions (span (F.seen files.old) (F.seen files.new)) (option_copied name.entry)) }
+    ensures sessionless { IfErr result (IsSessionless (span (F.seen files.old) (F.seen files.new)) (option_copied name.entry)) }
+{
+    let name = match name {
+        None => return Ok(Sessions::empty(alloc)),
+        Some(name) => name,
+    };
+    match read_file(alloc, files, name, Role::Sessions) {
+        Ok(bytes) => list_sessions(alloc, bytes.as_slice()),
+        Err(ending) => Err(ending),
+    }
+}
+
+fn list_sessions(alloc: Global, bytes: &[u8]) -> Result<Sessions, Ending>
+    ensures listed { IfOk result (λ sessions. sessions_in bytes.now ≡ Ok sessions) }
+    ensures unlisted { IfErr result (IsUnlisted bytes.now) }
+{
+    match sessions_of(alloc, bytes) {
+        Ok(sessions) => Ok(sessions),
+        Err(SessionFault::BadLine(line)) => Err(Ending::SessionsRefused(line)),
+        Err(SessionFault::Memory) => Err(Ending::Memory),
     }
 }
 
 // Aims the audit at the file of this name, or at none, and serves the events.
 fn serve<O: Sink, U: AuditSink, K: Keeper, L: Ledger, M: Ledger>(
     alloc: Global,
-    app: &App,
+    service: &Service,
+    sessions: &Sessions,
     name: Option<Txt>,
     events: &[u8],
     out: &mut O,
@@ -191,13 +328,22 @@ fn serve<O: Sink, U: AuditSink, K: Keeper, L: Ledger, M: Ledger>(
 ) -> Result<(), Ending>
     requires short { length events.now < 2 ^ 32 }
     requires attached { IsTrue (K.seen keeper.old).attached }
-    requires served { are_served (application_of app.now) ≡ true }
-    requires start { IsTrue (K.seen keeper.old).tells → IsStart (application_of app.now) (K.seen keeper.old).state }
+    requires start { IsTrue (K.seen keeper.old).tells → IsStart (application_of service.now) (K.seen keeper.old).state }
     ensures { WentAimed (sinks (O.seen out.old) (O.seen out.new) (U.seen audit.old) (U.seen audit.new))
-        (EndsServing (sinks (O.seen out.old) (O.seen out.new) (U.seen audit.old) (U.seen audit.new)) name (application_of app.now) (span (K.seen keeper.old) (K.seen keeper.new)) (K.seen keeper.old).state events.now result) }
+        (EndsServing (sinks (O.seen out.old) (O.seen out.new) (U.seen audit.old) (U.seen audit.new)) name (application_of service.now) sessions.now (span (K.seen keeper.old) (K.seen keeper.new)) (K.seen keeper.old).state events.now result) }
 {
     match audit.aim(name) {
-        Ok(()) => match serve_events(alloc, app, events, out, audit, keeper, splits, evaluations) {
+        Ok(()) => match serve_events(
+            alloc,
+            service,
+            sessions,
+            events,
+            out,
+            audit,
+            keeper,
+            splits,
+            evaluations,
+        ) {
             Ok(()) => Ok(()),
             Err(stopped) => Err(ending_of(stopped)),
         },
@@ -209,13 +355,13 @@ fn ending_of(stopped: Stopped) -> Ending
     ensures { result ≡ ending_of stopped }
 {
     match stopped {
-        Stopped::Refused(line) => Ending::LineRefused(line),
+        Stopped::Refused(lapse) => Ending::LineRefused(lapse),
         Stopped::Write => Ending::WriteFault,
         Stopped::Memory => Ending::Memory,
     }
 }
 
-// The steps of a replay: the application, the events, the audit's aim, and each event.
+// The steps of a replay: the application, the sessions, the events, the audit's aim, and each event.
 fn replay<F: Files, O: Sink, U: AuditSink, K: Keeper, L: Ledger, M: Ledger>(
     alloc: Global,
     command: Command<'_>,
@@ -236,8 +382,12 @@ fn replay<F: Files, O: Sink, U: AuditSink, K: Keeper, L: Ledger, M: Ledger>(
         Ok(bytes) => bytes,
         Err(ending) => return Err(ending),
     };
-    let app = match open_app(alloc, bytes.as_slice()) {
-        Ok(app) => app,
+    let service = match open_app(alloc, bytes.as_slice()) {
+        Ok(service) => service,
+        Err(ending) => return Err(ending),
+    };
+    let sessions = match read_sessions(alloc, files, command.sessions) {
+        Ok(sessions) => sessions,
         Err(ending) => return Err(ending),
     };
     let events = match read_file(alloc, files, command.events, Role::Events) {
@@ -250,7 +400,8 @@ fn replay<F: Files, O: Sink, U: AuditSink, K: Keeper, L: Ledger, M: Ledger>(
     };
     serve(
         alloc,
-        &app,
+        &service,
+        &sessions,
         name,
         events.as_slice(),
         out,
@@ -278,7 +429,17 @@ fn name_bytes<'a>(role: Role, command: Command<'a>) -> &'a [u8]
 {
     match role {
         Role::App => command.app.as_bytes(),
+        Role::Sessions => bytes_or_none(command.sessions),
         Role::Events => command.events.as_bytes(),
+    }
+}
+
+fn bytes_or_none(name: Option<&Txt>) -> &[u8]
+    ensures { result.now ≡ name_or_empty (option_copied name.entry) }
+{
+    match name {
+        None => b"",
+        Some(name) => name.as_bytes(),
     }
 }
 
@@ -286,36 +447,55 @@ fn limit_bytes(role: Role) -> &'static [u8]
     ensures { result.now ≡ limit_text role }
 {
     match role {
-        Role::App => b", limit 1048576\n",
+        Role::App | Role::Sessions => b", limit 1048576\n",
         Role::Events => b", limit 16777216\n",
     }
 }
 
 // Puts the line that tells why a replay ended; it takes no memory.
-fn put_fault<O: Sink>(out: &mut O, command: Command<'_>, ending: Ending) -> Result<(), Failed>
-    ensures { IsPut (span (O.seen out.old) (O.seen out.new)) (fault_line (named command.entry) ending) result }
+fn put_fault<O: Sink>(out: &mut O, command: Command<'_>, ending: &Ending) -> Result<(), Failed>
+    ensures { IsPut (span (O.seen out.old) (O.seen out.new)) (fault_line (named command.entry) ending.now) result }
 {
     match ending {
         Ending::ReadFault(role) => put_three(
             out,
             b"read fault: ",
-            name_bytes(role, command),
+            name_bytes(*role, command),
             b"\n",
         ),
         Ending::TooLong(role) => put_three(
             out,
             b"too long: ",
-            name_bytes(role, command),
-            limit_bytes(role),
+            name_bytes(*role, command),
+            limit_bytes(*role),
         ),
-        Ending::AppRefused => put(out, b"app: refused\n"),
-        Ending::LineRefused(line) => put_line_fault(out, line),
+        Ending::AppRefused(line) => put(out, line.as_bytes()),
+        Ending::LineRefused(lapse) => put_lapse(out, *lapse),
+        Ending::SessionsRefused(line) => put_bad_line(out, *line),
         Ending::WriteFault => put(out, b"write fault\n"),
         Ending::Memory => put(out, b"memory\n"),
     }
 }
 
-fn put_line_fault<O: Sink>(out: &mut O, line: u64) -> Result<(), Failed>
+fn put_bad_line<O: Sink>(out: &mut O, line: u64) -> Result<(), Failed>
+    ensures { IsPut (span (O.seen out.old) (O.seen out.new)) (codes "sessions: line " ++ decimal line ++ codes "\n") result }
+{
+    let mut buffer = Buffer::new();
+    let digits = buffer.format(line);
+    put_three(out, b"sessions: line ", digits.as_bytes(), b"\n")
+}
+
+fn put_lapse<O: Sink>(out: &mut O, lapse: Lapse) -> Result<(), Failed>
+    ensures { IsPut (span (O.seen out.old) (O.seen out.new)) (lapse_line lapse) result }
+{
+    match lapse {
+        Lapse::NoForm { line } => put_formless(out, line),
+        Lapse::NotOpen { line, conn } => put_conn_fault(out, line, conn, b" is not open\n"),
+        Lapse::AlreadyOpen { line, conn } => put_conn_fault(out, line, conn, b" is open\n"),
+    }
+}
+
+fn put_formless<O: Sink>(out: &mut O, line: u64) -> Result<(), Failed>
     ensures { IsPut (span (O.seen out.old) (O.seen out.new)) (codes "events: line " ++ decimal line ++ codes ": no form\n") result }
 {
     let mut buffer = Buffer::new();
@@ -323,14 +503,31 @@ fn put_line_fault<O: Sink>(out: &mut O, line: u64) -> Result<(), Failed>
     put_three(out, b"events: line ", digits.as_bytes(), b": no form\n")
 }
 
-fn status_of(ending: Ending) -> Status
-    ensures { result ≡ status_of ending }
+fn put_conn_fault<O: Sink>(out: &mut O, line: u64, conn: u32, fault: &[u8]) -> Result<(), Failed>
+    ensures { IsPut (span (O.seen out.old) (O.seen out.new)) (codes "events: line " ++ decimal line ++ codes ": connection " ++ decimal conn ++ fault.now) result }
+{
+    let mut line_buffer = Buffer::new();
+    let mut conn_buffer = Buffer::new();
+    let line_digits = line_buffer.format(line);
+    let conn_digits = conn_buffer.format(conn);
+    put_five(
+        out,
+        b"events: line ",
+        line_digits.as_bytes(),
+        b": connection ",
+        conn_digits.as_bytes(),
+        fault,
+    )
+}
+
+fn status_of(ending: &Ending) -> Status
+    ensures { result ≡ status_of ending.now }
 {
     match ending {
         Ending::ReadFault(_) => Status::ReadFault,
         Ending::TooLong(_) => Status::TooLong,
-        Ending::AppRefused => Status::AppRefused,
-        Ending::LineRefused(_) => Status::LineRefused,
+        Ending::AppRefused(_) => Status::AppRefused,
+        Ending::LineRefused(_) | Ending::SessionsRefused(_) => Status::LineRefused,
         Ending::WriteFault => Status::WriteFault,
         Ending::Memory => Status::Memory,
     }
@@ -342,8 +539,8 @@ fn finish<O: Sink>(out: &mut O, command: Command<'_>, ended: Result<(), Ending>)
 {
     match ended {
         Ok(()) => Status::Done,
-        Err(ending) => match put_fault(out, command, ending) {
-            Ok(()) => status_of(ending),
+        Err(ending) => match put_fault(out, command, &ending) {
+            Ok(()) => status_of(&ending),
             Err(Failed) => Status::WriteFault,
         },
     }
@@ -398,7 +595,8 @@ fn run_words<F: Files, O: Sink, U: AuditSink, K: Keeper, L: Ledger, M: Ledger>(
 /// Runs the command that the words give, and puts replies on `out` and the audit's lines on `audit`. The
 /// words are those after the program's name: `replay APP EVENTS` serves the events of a file, one after
 /// another, with the application of another, on what the keeper keeps. With `--audit FILE` among the words behind
-/// `replay` the audit is aimed at that file, else at none. A status other than `Done` has its line as the last
+/// `replay` the audit is aimed at that file, else at none. With `--sessions FILE` a token has the viewer that its
+/// line in that file gives it, else nobody looks by any token. A status other than `Done` has its line as the last
 /// one on `out`.
 pub fn run<F: Files, O: Sink, U: AuditSink, K: Keeper, L: Ledger, M: Ledger>(
     alloc: Global,

@@ -2,14 +2,20 @@
 //! events file is answered over a keeper.
 #![tactic(auto)]
 
+mod answer;
 mod application;
+mod asks;
 mod command;
-mod line;
+mod handler;
 mod outside;
+mod puts;
+mod refusal;
 mod reply;
 mod serve;
+mod service;
 mod start;
 mod status;
+mod still;
 
 pub use command::run;
 pub use start::empty_state;

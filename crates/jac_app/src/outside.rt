@@ -62,3 +62,23 @@ pub fn put_four<S: Sink>(
         Err(Failed) => Err(Failed),
     }
 }
+
+/// Puts five pieces, as one.
+pub fn put_five<S: Sink>(
+    sink: &mut S,
+    first: &[u8],
+    second: &[u8],
+    third: &[u8],
+    fourth: &[u8],
+    fifth: &[u8],
+) -> Result<(), Failed>
+    ensures { IsPut (span (S.seen sink.old) (S.seen sink.new)) (first.now ++ second.now ++ third.now ++ fourth.now ++ fifth.now) result }
+{
+    match put_four(sink, first, second, third, fourth) {
+        Ok(()) => match put(sink, fifth) {
+            Ok(()) => Ok(()),
+            Err(Failed) => Err(Failed),
+        },
+        Err(Failed) => Err(Failed),
+    }
+}

@@ -1,10 +1,13 @@
-ghost use Rattle.std.specs.Prelude.{◌≡◌, ◌++◌, ◌∷◌, [], IfOk, OnOk, List, Option, Some, None, codes, decimal};
+ghost use Rattle.std.specs.Prelude.{◌≡◌, ◌++◌, ◌∷◌, [], true, false, IsSome, is_some, IfOk, OnOk, List, Option, Some, None, codes, decimal};
 ghost use Rattle.std.specs.Str.{bytes_eq};
 ghost use Rattle.std.specs.String.{string_bytes};
-ghost use Rattle.jac_app.specs.Log.{reply_text, audit_text, location_text, printed_body, viewer_text, labels_text, more_labels, shown_text};
+ghost use Rattle.jac_http.specs.Replies.{phrase_of, reply_bytes};
+ghost use Rattle.jac_value.specs.Quoted.{quoted};
+ghost use Rattle.jac_app.specs.Log.{reply_text, sent_text, audit_rest, location_text, printed_body, viewer_text, labels_text, more_labels, shown_text, refused_with};
 
 use jac_engine::Answer;
-use jac_value::{Id, Memory, Txt, escape_line};
+use jac_http::write_reply;
+use jac_value::{Bytes, Id, Memory, Txt, escape_line};
 use jac_world::Assignment;
 use std::alloc::Global;
 
@@ -51,20 +54,76 @@ pub fn is_head(method: &[u8]) -> bool
     method == b"HEAD".as_slice()
 }
 
-/// The audit's line of the k-th reply: `K STATUS VIEWER SHOWN`.
-pub fn audit_line(alloc: Global, k: u64, viewer: Option<Id>, answer: &Answer) -> Result<Txt, Memory>
-    ensures { IfOk result (λ line. line ≡ audit_text k answer.now.status viewer answer.now.shown) }
+/// The line of a reply on a connection: `sent N "BYTES"`.
+pub fn sent_line(
+    alloc: Global,
+    conn: u32,
+    answer: &Answer,
+    head: bool,
+    close: bool,
+) -> Result<Txt, Memory>
+    requires { IsSome (phrase_of answer.now.status) }
+    ensures { IfOk result (λ line. line ≡ sent_text conn (reply_bytes answer.now.status answer.now.location answer.now.allow answer.now.body (is_some answer.now.shown) head close)) }
 {
-    let viewer = viewer_text(alloc, viewer)?;
-    let shown = shown_text(alloc, &answer.shown)?;
-    let line = audit_parts(alloc, k, answer.status, viewer.as_str(), shown.as_str())?;
+    let bytes = write_reply(
+        alloc,
+        answer.status,
+        answer.location.as_ref(),
+        answer.allow.as_ref(),
+        &answer.body,
+        answer.shown.is_some(),
+        head,
+        close,
+    )?;
+    let line = sent_bytes(alloc, conn, &bytes)?;
     Ok(line)
 }
 
-fn audit_parts(alloc: Global, k: u64, status: u16, viewer: &str, shown: &str) -> Result<Txt, Memory>
-    ensures { IfOk result (λ line. line ≡ codes "" ++ decimal k ++ codes " " ++ decimal status ++ codes " " ++ viewer.now ++ codes " " ++ shown.now ++ 10 ∷ []) }
+/// The line of the reply to what is refused on a connection.
+pub fn refusal_line(alloc: Global, conn: u32, status: u16) -> Result<Txt, Memory>
+    requires { IsSome (phrase_of status) }
+    ensures { IfOk result (λ line. line ≡ sent_text conn (reply_bytes status None None [] false false true)) }
 {
-    let line = format!(in alloc; "{k} {status} {viewer} {shown}\n")?;
+    let empty = Bytes::empty(alloc);
+    let bytes = write_reply(alloc, status, None, None, &empty, false, false, true)?;
+    let line = sent_bytes(alloc, conn, &bytes)?;
+    Ok(line)
+}
+
+fn sent_bytes(alloc: Global, conn: u32, bytes: &Bytes) -> Result<Txt, Memory>
+    ensures { IfOk result (λ line. line ≡ sent_text conn bytes.now) }
+{
+    let quoted = escape_line(alloc, bytes.as_slice())?;
+    let line = sent_parts(alloc, conn, quoted.as_str())?;
+    Ok(line)
+}
+
+fn sent_parts(alloc: Global, conn: u32, quoted: &str) -> Result<Txt, Memory>
+    ensures { IfOk result (λ line. line ≡ codes "sent " ++ decimal conn ++ codes " " ++ quoted.now ++ 10 ∷ []) }
+{
+    let line = format!(in alloc; "sent {conn} {quoted}\n")?;
+    Ok(Txt::from_string(line))
+}
+
+/// What follows the number in the audit's line of a reply: ` STATUS VIEWER SHOWN`.
+pub fn audit_rest(
+    alloc: Global,
+    status: u16,
+    viewer: Option<Id>,
+    shown: &Option<Assignment>,
+) -> Result<Txt, Memory>
+    ensures { IfOk result (λ line. line ≡ audit_rest status viewer shown.now) }
+{
+    let viewer = viewer_text(alloc, viewer)?;
+    let shown = shown_text(alloc, shown)?;
+    let line = audit_parts(alloc, status, viewer.as_str(), shown.as_str())?;
+    Ok(line)
+}
+
+fn audit_parts(alloc: Global, status: u16, viewer: &str, shown: &str) -> Result<Txt, Memory>
+    ensures { IfOk result (λ line. line ≡ codes " " ++ decimal status ++ codes " " ++ viewer.now ++ codes " " ++ shown.now ++ 10 ∷ []) }
+{
+    let line = format!(in alloc; " {status} {viewer} {shown}\n")?;
     Ok(Txt::from_string(line))
 }
 

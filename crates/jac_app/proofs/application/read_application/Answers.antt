@@ -1,20 +1,32 @@
-use Rattle.std.proofs.Common.{◌≡◌, ◌∙◌, ap, sym, ℕ, Option, Some, None, List, IfSome}
-use Rattle.std.specs.Option.{option_map}
-use Rattle.jac_lang.specs.declared.application.App.{App}
-use Rattle.jac_lang.specs.Mirror.{application_of}
-use Rattle.jac_tree.specs.Grammar.{Accepted}
-use Rattle.jac_tree.specs.Plain.{PlainTree}
-use Rattle.jac_app.specs.Application.{served_application, IsApplication}
+use Rattle.std.proofs.Common.{◌≡◌, sym, subst, ◌⊎◌}
+use Rattle.jac_lang.specs.Syntax.{Application}
+use Rattle.jac_tree.specs.Mirror.{plain}
+use Rattle.jac_app.specs.Application.{IsApplication}
+use Rattle.jac_app.specs.Refusal.{HasRefusal}
+use Rattle.jac_app.specs.declared.refusal.Refusal.{Refusal}
+use Rattle.jac_app.specs.declared.refusal.Refusal.TheVariants as refusals
+use Rattle.jac_app.proofs.OpeningLemmas.{opening_is, opening_has, opening_none, text_has, text_none}
 use Rattle.jac_app.proofs.application.read_application.Goals as goal
 
-application_reads : (bytes : List ℕ) (t : PlainTree) (o : Option App) → Accepted bytes t → option_map application_of o ≡ served_application t → IfSome o (λ a. IsApplication bytes (application_of a))
-application_reads bytes t None a e = tt
-application_reads bytes t (Some app) a e = (t, a, sym e)
+pub returns-in-Ok-clause-app : goal.returns-in-Ok-clause-app
+returns-in-Ok-clause-app c = opening_is c.args.bytes.now (plain c.in-Ok.tree) c.open_tree.result c.in-Ok.ensures.tree c.open_tree.ensures
 
-pub returns-in_ok-app-in-Ok-clause-app : goal.returns-in_ok-app-in-Ok-clause-app
-returns-in_ok-app-in-Ok-clause-app c =
-    application_reads c.args.bytes.now _ _ c.in-Ok.ensures.tree c.in_ok-app-in-Ok.ensures.app
+pub returns-in-Ok-clause-refused : goal.returns-in-Ok-clause-refused
+returns-in-Ok-clause-refused c = opening_has c.args.bytes.now (plain c.in-Ok.tree) c.open_tree.result c.in-Ok.ensures.tree c.open_tree.ensures
 
-pub returns-in_ok-app-in-Ok-clause-none : goal.returns-in_ok-app-in-Ok-clause-none
-returns-in_ok-app-in-Ok-clause-none c = λ a h.
-    c.in_ok-app-in-Ok.ensures.app ∙ ap served_application (c.in-Ok.ensures.only h.0 h.1) ∙ h.2
+pub returns-in-Ok-clause-none : goal.returns-in-Ok-clause-none
+returns-in-Ok-clause-none c =
+    opening_none c.expands_to_one.ensures.application c.args.bytes.now (plain c.in-Ok.tree) c.open_tree.result c.in-Ok.ensures.only c.open_tree.ensures
+
+pub returns-in-Err : goal.returns-in-Err
+returns-in-Err c =
+    let bytes = c.args.bytes.now in
+    let read = c.read_tree.ensures in
+    let told = sym c.text_refusal.ensures in
+    record {
+      app = tt;
+      refused = subst (λ (r : Refusal). (r ≡ refusals.Memory) ⊎ HasRefusal bytes r) told
+          (text_has bytes c.read_tree.result c.in-Err.fault c.in-Err.is (λ long. read.long.0 long) c.requires.short read.not_utf8 read.stray read.deep read.unclosed);
+      none = subst (λ (r : Refusal). (r ≡ refusals.Memory) ⊎ ((app : Application) → IsApplication bytes app → ⊥)) told
+          (text_none plain bytes c.read_tree.result c.in-Err.fault c.in-Err.is read.only);
+    }

@@ -1,6 +1,6 @@
-use Rattle.std.proofs.Common.{refl, inl}
+use Rattle.jac_app.proofs.RunLemmas.{refused_ends}
 use Rattle.jac_app.proofs.command.open_app.Goals as goal
 
-pub returns-in-Ok-None-clause-unopened : goal.returns-in-Ok-None-clause-unopened
-returns-in-Ok-None-clause-unopened c =
-    inl (refl, λ app is_application. let e = rw c.in-Ok-None.field-0-is at (c.in-Ok-None.ensures.none app is_application) in cc)
+pub returns-in-Err-clause-unopened : goal.returns-in-Err-clause-unopened
+returns-in-Err-clause-unopened c =
+    refused_ends c.args.bytes.now c.in-Err.refusal c.refused.result c.in-Err.ensures.refused c.in-Err.ensures.none c.refused.ensures

@@ -1,4 +1,4 @@
-use Rattle.std.proofs.Common.{◌∙◌, sym, refl, inl, inr, [], ◌++◌, arith}
+use Rattle.std.proofs.Common.{sym, refl, inl, inr, [], ◌++◌, arith}
 use Rattle.jac_app.specs.Run.{sight, named}
 use Rattle.jac_app.proofs.OutsideLemmas.{Lasts-then, Took-none, Took-then}
 use Rattle.jac_app.proofs.RunLemmas.{Ends-later, Finishes-widen, still_idle}

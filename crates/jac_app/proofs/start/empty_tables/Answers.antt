@@ -1,4 +1,4 @@
-use Rattle.std.proofs.Common.{◌≡◌, ◌∙◌, ap, List, [], ◌∷◌, ◌++◌}
+use Rattle.std.proofs.Common.{◌∙◌, ap, List, [], ◌∷◌, ◌++◌}
 use Rattle.jac_rows.specs.declared.row.Row.{Row}
 use Rattle.jac_app.proofs.EmptyLemmas.{empties_push}
 use Rattle.jac_app.proofs.start.empty_tables.Goals as goal

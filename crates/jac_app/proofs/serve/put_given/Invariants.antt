@@ -1,0 +1,25 @@
+use Rattle.std.proofs.Common.{◌≡◌, ◌+◌, ◌-◌, ◌≤◌, ◌<◌, ◌^◌, IsTrue}
+use Rattle.jac_lang.specs.Mirror.{application_of}
+use Rattle.jac_engine.specs.Start.{IsStart}
+use Rattle.jac_hub.specs.Hub.{seen, left}
+use Rattle.jac_app.specs.Outside.{Went, sinks, span}
+use Rattle.jac_app.specs.Serve.{PutsSoFar}
+use Rattle.jac_app.proofs.serve.put_given.Given as goal
+
+abbrev pub invariant-outs : goal.invariant-outs
+invariant-outs g l =
+    let O = g.O.Sink in
+    let U = g.U.Sink in
+    let K = g.K.Keeper in
+    record {
+      few : l.served + left (seen l.fn.hub) < 2 ^ 64 - 1;
+      fewer : l.count + left (seen l.hub) ≤ l.served + left (seen l.fn.hub);
+      attached : IsTrue (K.seen l.keeper).attached;
+      same_attached : (K.seen l.keeper).attached ≡ (K.seen l.fn.keeper).attached;
+      start : IsTrue (K.seen l.keeper).tells → IsStart (application_of l.service) (K.seen l.keeper).state;
+      went : Went (sinks (O.seen l.fn.out) (O.seen l.out) (U.seen l.fn.audit) (U.seen l.audit))
+          (PutsSoFar (application_of l.service) l.sessions (seen l.fn.hub) (seen l.hub) (span (K.seen l.fn.keeper) (K.seen l.keeper)) l.served l.count);
+    }
+
+abbrev pub decreases-outs : goal.decreases-outs
+decreases-outs g l = left (seen l.hub)
