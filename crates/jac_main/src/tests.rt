@@ -96,8 +96,6 @@ const ORDERED_NOTES: &str = "(app (model Note (fields (body text))
 const TWO_NOTES: &[u8] =
     b"ask - POST \"/new\" \"body=a\"\nask - POST \"/new\" \"body=b\"\nask - GET \"/all\" \"\"\n";
 
-const REFUSED: &[u8] = b"app: refused\n";
-
 const USAGE: &[u8] =
     b"usage: jac check APP, replay APP EVENTS, serve APP PORT COUNT, demo N, dump APP LABELS; options --db FILE --sessions FILE --audit FILE\n";
 
@@ -327,18 +325,36 @@ fn a_line_without_a_form_ends_the_run_after_those_before_it(rt: HostRuntime) -> 
 #[test]
 fn bytes_that_are_no_application_are_refused(rt: HostRuntime) -> Result<(), Fail> {
     let alloc = rt.alloc();
-    let twice = "(app (view get \"/\" (params)) (view get \"/\" (params)))";
-    for app in [
-        "",
-        "(app",
+    refuses(&rt, alloc, "(app", b"app: unclosed at 4\n")?;
+    refuses(
+        &rt,
+        alloc,
         "(app \"x\")",
-        "(app (view get \"/\" (params) (template \"x\")))",
-        "(app (view get \"/{x}\" (params (x int))))",
-        twice,
-    ] {
-        replays(&rt, alloc, app, b"", Status::AppRefused, REFUSED, b"")?;
-    }
+        b"app: form at 1: expected item\n",
+    )?;
+    refuses(
+        &rt,
+        alloc,
+        "(app (view get \"/\" (params) (template \"{{ x\")))",
+        b"app: template in view 0: unclosed at 0\n",
+    )?;
+    refuses(
+        &rt,
+        alloc,
+        "(app (view get \"/\" (params) (put (add 1 \"2\"))))",
+        b"app: view 0: wrong kind: want int, have text\n",
+    )?;
+    refuses(
+        &rt,
+        alloc,
+        "(app (view get \"/\" (params)) (view get \"/\" (params)))",
+        b"app: view 1: path clashes\n",
+    )?;
     Ok(())
+}
+
+fn refuses(rt: &impl Abort, alloc: Global, app: &str, line: &[u8]) -> Result<(), Memory> {
+    replays(rt, alloc, app, b"", Status::AppRefused, line, b"")
 }
 
 #[test]
@@ -694,5 +710,45 @@ fn the_audit_is_aimed_at_its_file(rt: HostRuntime) -> Result<(), Fail> {
         no_fails(alloc),
     )?;
     assert_eq!(rt; left.status, Status::Usage);
+    Ok(())
+}
+
+// Two connections whose pieces are interleaved: the request that is whole first has the lower number.
+const INTERLEAVED: &[u8] = b"open 1\nopen 2\n\
+data 1 \"POST /join HTTP/1.1\\r\\nHost: a\\r\\nContent-Length: 8\\r\\n\\r\\nname\"\n\
+data 2 \"POST /join HTTP/1.1\\r\\nHost: a\\r\\nContent-Length: 8\\r\\n\\r\\nname=Bob\"\n\
+data 1 \"=Ann\"\nend 1\nend 2\n";
+
+const INTERLEAVED_OUT: &[u8] =
+    b"sent 2 \"HTTP/1.1 200 OK\\r\\nContent-Type: text/html; charset=utf-8\\r\\nContent-Length: 4\\r\\n\\r\\n4096\"\n\
+sent 1 \"HTTP/1.1 200 OK\\r\\nContent-Type: text/html; charset=utf-8\\r\\nContent-Length: 4\\r\\n\\r\\n8192\"\n";
+
+#[test]
+fn connections_are_answered_as_their_bytes_come(rt: HostRuntime) -> Result<(), Fail> {
+    let alloc = rt.alloc();
+    replays(
+        &rt,
+        alloc,
+        CALENDAR,
+        INTERLEAVED,
+        Status::Done,
+        INTERLEAVED_OUT,
+        b"1 200 - -\n2 200 - -\n",
+    )?;
+    Ok(())
+}
+
+#[test]
+fn a_connection_that_is_not_open_ends_the_run(rt: HostRuntime) -> Result<(), Fail> {
+    let alloc = rt.alloc();
+    replays(
+        &rt,
+        alloc,
+        HELLO,
+        b"ask - GET \"/\" \"\"\ndata 7 \"x\"\n",
+        Status::LineRefused,
+        b"reply 200 \"\" \"hello\"\nevents: line 2: connection 7 is not open\n",
+        b"1 200 - -\n",
+    )?;
     Ok(())
 }
