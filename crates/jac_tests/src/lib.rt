@@ -1,32 +1,29 @@
-//! Tests of the library crates, where no clause says what they say: each public call once on its happy path,
-//! with an answer that comes from outside. They stand here so that no crate below is proved twice.
+//! Tests of the crates for texts, of what no clause says: each public call once on its happy path, with an answer
+//! that comes from outside. They stand here, and those of guarded rows in `jac_row_tests`, so that no crate below is
+//! proved twice.
 #![tactic(auto)]
 
 #[cfg(test)]
-mod expr;
+mod check;
 #[cfg(test)]
-mod facet;
+mod events;
 #[cfg(test)]
 mod forms;
 #[cfg(test)]
-mod io;
+mod http;
 #[cfg(test)]
-mod keep;
+mod hub;
+#[cfg(test)]
+mod io;
 #[cfg(test)]
 mod lang;
 #[cfg(test)]
-mod policies;
-#[cfg(test)]
-mod query;
-#[cfg(test)]
 mod route;
 #[cfg(test)]
-mod rows;
+mod template;
 #[cfg(test)]
 mod tree;
 #[cfg(test)]
 mod value;
 #[cfg(test)]
 mod world;
-#[cfg(test)]
-mod writes;
