@@ -92,7 +92,7 @@ def main():
         replay('carriage returns', HELLO, ASK[:-1] + b'\r\n', 3, line),
         replay('a NUL', HELLO, b'ask - GET "/\0" ""\n', 0, b'reply 404 "" "404 Not Found\\n"\n'),
         replay('a target that is not UTF-8', HELLO, b'ask - GET "/\xff" ""\n', 3, line),
-        replay('an application that is not UTF-8', HELLO + b'\xff', ASK, 2, b'app: refused\n'),
+        replay('an application that is not UTF-8', HELLO + b'\xff', ASK, 2, b'app: not UTF-8 at 43\n'),
         closed_output(),
     ]
     for wrong in filter(None, results):

@@ -1,0 +1,289 @@
+#!/usr/bin/env python3
+"""Measures the built program. Words: the program, and the numbers of records, or none for 256, 1024 and 4096.
+
+For each number N a store of N events is made by N requests, and then each kind of request is asked of it. A request
+costs the processor time of a run with some of them less that of the run without, divided by their number, the best of
+three.
+Where Flask is installed it serves the same lists from SQLite in the same run, in one process and by its test client,
+with queries written by hand; the ratio is our time to its. Last stand the bars: what the costs are meant to keep to.
+It is no part of the gate: what a machine takes is no property of the program."""
+import os
+import sys
+import tempfile
+import time
+
+SIZES = [256, 1024, 4096]
+HOSTS = 16
+LEAST = 0.4     # seconds that the requests of one measurement take at least
+MOST = 60       # and that a single one may take before larger stores are left out
+PAIRED = 1000   # records of each of two models that a query crosses
+
+APPLICATION = r"""(app (viewer User)
+
+ (model User (fields (name text) (town text)))
+
+ (model Event (fields (title text) (host (ref User)) (open bool) (size int)))
+
+ (model Secret (fields (title text) (host (ref User)) (open bool))
+  (group (guards (title "private"))
+   (policy (or (get Secret open this) (eq (get Secret host this) viewer)))))
+
+ (view post "/join" (params (name text) (town text))
+  (create u User (set (name name) (town town)) (put u)))
+
+ (view post "/add" (params (title text) (host (ref User)) (open bool) (size int))
+  (create e Event (set (title title) (host host) (open open) (size size)) (put e)))
+
+ (view post "/hide" (params (title text) (host (ref User)) (open bool))
+  (create s Secret (set (title title) (host host) (open open)) (put s)))
+
+ (view post "/rename" (params (event (ref Event)) (title text))
+  (update Event event (set (title title))))
+
+ (view get "/titles" (params)
+  (for (from ((e Event)) true key) (put (get Event title e)) (put "\n")))
+
+ (view get "/secrets" (params)
+  (for (from ((s Secret)) true key) (put (get Secret title s)) (put "\n")))
+
+ (view get "/hosts" (params)
+  (for (from ((e Event)) true key)
+   (put (get Event title e)) (put " by ") (put (get User name (get Event host e))) (put "\n")))
+
+ (view get "/large" (params)
+  (put (count (from ((e Event)) (lt 500 (get Event size e)) key))))
+
+ (view get "/sizes" (params)
+  (for (from ((e Event)) true (up e size)) (put (get Event size e)) (put "\n")))
+
+ (view get "/pairs" (params)
+  (for (from ((u User) (e Event)) (eq (get Event host e) u) key)
+   (put (get User name u)) (put " ") (put (get Event title e)) (put "\n"))))
+"""
+
+# what is asked, what it reads, and the store that it is asked of
+LISTS = [
+    ('one get a record', '/titles', 'events'),
+    ('one guarded get a record', '/secrets', 'secrets'),
+    ('two through a reference', '/hosts', 'events'),
+    ('a count with a condition', '/large', 'events'),
+    ('a sort', '/sizes', 'events'),
+    ('two binders, %d by N' % HOSTS, '/pairs', 'events'),
+]
+
+QUERIES = {
+    '/titles': ('select title from event order by id', ()),
+    '/secrets': ("select case when open or host = ? then title else 'private' end from secret order by id", (1,)),
+    '/hosts': ('select event.title, user.name from event join user on user.id = event.host order by event.id', ()),
+    '/large': ('select count(*) from event where size > 500', ()),
+    '/sizes': ('select size from event order by size, id', ()),
+    '/pairs': ('select user.name, event.title from user join event on event.host = user.id order by user.id, event.id', ()),
+}
+
+
+def size_of(place):
+    return place * 7919 % 1000
+
+
+def user_id(place):
+    return (place + 1) * 4096
+
+
+def joins(count):
+    return ['ask - POST "/join" "name=User+%d&town=Town+%d"' % (i, i % 7) for i in range(count)]
+
+
+def adds(first, count, hosts):
+    return ['ask - POST "/add" "title=Event+%d&host=%d&open=%d&size=%d"'
+            % (i, user_id(i % hosts), i % 2, size_of(i)) for i in range(first, first + count)]
+
+
+def hides(first, count):
+    return ['ask - POST "/hide" "title=Secret+%d&host=%d&open=%d"'
+            % (i, user_id(i % HOSTS), i % 2) for i in range(first, first + count)]
+
+
+def stored(kind, count):
+    """The requests that make the store."""
+    return joins(HOSTS) + (adds(0, count, HOSTS) if kind == 'events' else hides(0, count))
+
+
+class Bench:
+    def __init__(self, program, folder):
+        self.program = program
+        self.folder = folder
+        self.kept = {}
+        with open(os.path.join(folder, 'bench.app'), 'w') as file:
+            file.write(APPLICATION)
+
+    def once(self, events):
+        """Processor seconds and peak bytes of one run."""
+        path = os.path.join(self.folder, 'bench.events')
+        with open(path, 'w') as file:
+            file.write('\n'.join(events) + '\n')
+        child = os.posix_spawn(self.program, [self.program, 'replay', os.path.join(self.folder, 'bench.app'), path],
+                               os.environ, file_actions=[(os.POSIX_SPAWN_OPEN, 1, '/dev/null', os.O_WRONLY, 0)])
+        _, status, usage = os.wait4(child, 0)
+        if status:
+            sys.exit('%s ended with %d' % (self.program, os.waitstatus_to_exitcode(status)))
+        return usage.ru_utime + usage.ru_stime, usage.ru_maxrss * 1024
+
+    def best(self, events):
+        runs = [self.once(events) for _ in range(3)]
+        return min(took for took, _ in runs), max(peak for _, peak in runs)
+
+    def before(self, kind, count):
+        """The run that only makes the store."""
+        if (kind, count) not in self.kept:
+            self.kept[kind, count] = self.best(stored(kind, count))
+        return self.kept[kind, count]
+
+    def request(self, kind, count, asked):
+        """Seconds of a request and peak bytes, where asked(n) are n of them."""
+        base, _ = self.before(kind, count)
+        store = stored(kind, count)
+        number = 1
+        while True:
+            took, _ = self.once(store + asked(number))
+            if took - base >= LEAST or number >= 4096:
+                break
+            number *= 4
+        took, peak = (took, _) if took > MOST else self.best(store + asked(number))
+        return max(took - base, 0) / number, peak
+
+
+def flask_times(sizes):
+    """Seconds of a request by path and number of records, or nothing where Flask isn't installed."""
+    try:
+        import flask
+    except ImportError:
+        return {}
+    import sqlite3
+    times = {}
+    for count in sizes:
+        base = sqlite3.connect(':memory:', check_same_thread=False)
+        base.executescript('create table user (id integer primary key, name text, town text);'
+                           'create table event (id integer primary key, title text, host int, open int, size int);'
+                           'create table secret (id integer primary key, title text, host int, open int);')
+        app = flask.Flask('bench')
+        for i in range(HOSTS):
+            base.execute('insert into user values (?, ?, ?)', (i + 1, 'User %d' % i, 'Town %d' % (i % 7)))
+        for i in range(count):
+            base.execute('insert into event values (?, ?, ?, ?, ?)', (i + 1, 'Event %d' % i, i % HOSTS + 1, i % 2, size_of(i)))
+            base.execute('insert into secret values (?, ?, ?, ?)', (i + 1, 'Secret %d' % i, i % HOSTS + 1, i % 2))
+
+        def listed(query, words):
+            rows = base.execute(query, words).fetchall()
+            return '\n'.join(' '.join(str(cell) for cell in row) for row in rows)
+
+        def added():
+            form = flask.request.form
+            base.execute('insert into event (title, host, open, size) values (?, ?, ?, ?)',
+                         (form['title'], int(form['host']), int(form['open']), int(form['size'])))
+            base.commit()
+            return str(base.execute('select last_insert_rowid()').fetchone()[0])
+
+        for path, (query, words) in QUERIES.items():
+            app.add_url_rule(path, path, lambda query=query, words=words: listed(query, words))
+        app.add_url_rule('/add', '/add', added, methods=['POST'])
+        client = app.test_client()
+        for path in QUERIES:
+            times[path, count] = timed(lambda: client.get(path).data)
+        form = {'title': 'Event', 'host': '1', 'open': '1', 'size': '7'}
+        times['/add', count] = timed(lambda: client.post('/add', data=form).data)
+    return times
+
+
+def timed(call):
+    best, number = None, 1
+    for _ in range(3):
+        while True:
+            start = time.process_time()
+            for _ in range(number):
+                call()
+            took = time.process_time() - start
+            if took >= LEAST / 2:
+                break
+            number *= 4
+        best = took / number if best is None else min(best, took / number)
+    return best
+
+
+class Table:
+    """The lines of the table, and what was measured by name and number of records."""
+    def __init__(self, others):
+        self.others = others
+        self.took = {}
+        print('%-28s %6s %12s %8s %9s %12s %7s' % ('request', 'N', 'ms', 'growth', 'peak MB', 'Flask ms', 'ratio'))
+
+    def line(self, name, path, count, took, peak):
+        self.took[name, count] = took
+        fourth = self.took.get((name, count // 4))
+        growth = '%8.2f' % (took / fourth) if fourth else ' ' * 8
+        other = self.others.get((path, count))
+        flask = '%12.3f %7.2f' % (other * 1000, took / other) if other else '%12s %7s' % ('-', '-')
+        print('%-28s %6d %12.3f %s %9.1f %s' % (name, count, took * 1000, growth, peak / 2 ** 20, flask), flush=True)
+
+    def ratio(self, name, path, count):
+        other = self.others.get((path, count))
+        return self.took[name, count] / other if other and (name, count) in self.took else None
+
+
+def bar(text, value, most):
+    """One bar, which nothing holds or breaks where it wasn't measured."""
+    if value is None:
+        print('not measured: %s' % text)
+    else:
+        print('%s: %s: %.2f, at most %.2f' % ('held' if value <= most else 'BROKEN', text, value, most))
+
+
+def main():
+    program = os.path.abspath(sys.argv[1])
+    sizes = [int(word) for word in sys.argv[2:]] or SIZES
+    with tempfile.TemporaryDirectory() as folder:
+        bench = Bench(program, folder)
+        table = Table(flask_times(sizes))
+        slow = set()
+        for count in sizes:
+            posts = [
+                ('a POST that creates', '/add', lambda n: adds(count, n, HOSTS)),
+                ('a POST that updates', None, lambda n: rename(count, n)),
+            ]
+            gets = [(name, path, kind, lambda n, path=path: ['ask - GET "%s" ""' % path] * n) for name, path, kind in LISTS]
+            for name, path, kind, asked in [(n, p, 'events', a) for n, p, a in posts] + gets:
+                if name in slow:
+                    continue
+                took, peak = bench.request(kind, count, asked)
+                table.line(name, path, count, took, peak)
+                if took > MOST / 16:
+                    slow.add(name)
+        paired = joins(PAIRED) + adds(0, PAIRED, PAIRED)
+        took, peak = bench.once(paired + ['ask - GET "/pairs" ""'])
+        base, _ = bench.once(paired)
+        print('%-28s %6d %12.3f %8s %9.1f' % ('two binders, N by N', PAIRED, (took - base) * 1000, '', peak / 2 ** 20))
+        bars(table, sizes, peak)
+
+
+def rename(count, number):
+    """Updates, one after the other, of records from all over the table."""
+    first = HOSTS + 1
+    return ['ask - POST "/rename" "event=%d&title=New+%d"' % ((first + i * 37 % count) * 4096 + 1, i) for i in range(number)]
+
+
+def bars(table, sizes, peak):
+    took = table.took
+    first, last = sizes[0], sizes[-1]
+    for name in ['a POST that creates', 'a POST that updates']:
+        value = took[name, last] / took[name, first] if (name, last) in took and took.get((name, first)) else None
+        bar('%s, at N = %d over N = %d' % (name, last, first), value, 1.5)
+    for name, _, _ in LISTS:
+        for count in sizes[1:]:
+            value = took[name, count] / took[name, count // 4] if (name, count) in took and took.get((name, count // 4)) else None
+            bar('%s, growth from N = %d to %d' % (name, count // 4, count), value, 4.6)
+    if 1024 in sizes:
+        bar('one get a record, N = 1024, over Flask', table.ratio('one get a record', '/titles', 1024), 1)
+    bar('two binders over %d records each, peak MB' % PAIRED, peak / 2 ** 20, 40)
+
+
+if __name__ == '__main__':
+    main()
