@@ -1,0 +1,5 @@
+pub mod Tests
+pub mod Records
+pub mod Tuples
+pub mod Operands
+pub mod Means
