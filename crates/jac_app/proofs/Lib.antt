@@ -8,10 +8,6 @@ pub mod HubLemmas
 pub mod NextLemmas
 pub mod EventLemmas
 pub mod ProgressLemmas
-pub mod ReplayLemmas
-pub mod LaterLemmas
-pub mod CauseLemmas
-pub mod CompleteLemmas
+pub mod RunLemmas
+pub mod EmptyLemmas
 mod OpeningLemmas
-pub mod WordsLemmas
-pub mod AttachLemmas

@@ -5,22 +5,18 @@
 mod answer;
 mod application;
 mod asks;
-mod attach;
-mod check;
-mod ending;
-mod files;
+mod command;
 mod handler;
 mod outside;
-mod program;
 mod puts;
 mod refusal;
-mod replay;
 mod reply;
 mod serve;
 mod service;
+mod start;
 mod status;
 mod still;
-mod words;
 
-pub use program::run;
+pub use command::run;
+pub use start::empty_state;
 pub use status::Status;

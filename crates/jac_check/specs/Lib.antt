@@ -10,4 +10,3 @@ pub mod Causes
 pub mod Applications
 pub mod Mirror
 pub mod Found
-pub mod Schema

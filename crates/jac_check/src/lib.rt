@@ -15,7 +15,6 @@ mod models;
 mod names;
 mod paths;
 mod queries;
-mod schema;
 mod scope;
 mod statements;
 mod views;

@@ -5,4 +5,3 @@ pub mod ViewLaws
 pub mod AnswerLaws
 pub mod PreparedLaws
 pub mod WellServed
-pub mod SchemaKinds

@@ -5,4 +5,3 @@ pub mod WorkLaws
 pub mod SoundLaws
 pub mod OrderLaws
 pub mod OpeningLaws
-pub mod SchemaLaws

@@ -7,5 +7,3 @@ pub mod Worked
 pub mod Sound
 pub mod KeeperState
 pub mod Opened
-pub mod Schema
-pub mod Attaching

@@ -17,6 +17,4 @@ mod query;
 #[cfg(test)]
 mod rows;
 #[cfg(test)]
-mod vault;
-#[cfg(test)]
 mod writes;
