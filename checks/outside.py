@@ -1,12 +1,14 @@
 #!/usr/bin/env python3
 """Runs the built program against the host: its examples, files that are missing, wrong or too long, and a
 standard output that takes nothing. Words: the program. Prints each case that fails, and ends with a count."""
+import itertools
 import os
 import subprocess
 import sys
 import tempfile
 
 TOP = os.path.dirname(os.path.dirname(os.path.abspath(__file__)))
+EXAMPLES = os.path.join(TOP, 'examples')
 PROGRAM = os.path.abspath(sys.argv[1])
 HELLO = b'(app (view get "/" (params) (put "hello")))'
 ASK = b'ask - GET "/" ""\n'
@@ -33,28 +35,51 @@ def replay(name, app, events, status, out):
     return case(name, {'a': app, 'e': events}, ['replay', 'a', 'e'], status, out)
 
 
-def example(name):
-    """An example of the repository, whose output stands beside it, and its audit where it has policies."""
-    folder = os.path.join(TOP, 'examples')
-    with open(os.path.join(folder, name + '.out'), 'rb') as handle:
-        want = handle.read()
-    done = run(['replay', name + '.app', name + '.events'], folder, stdout=subprocess.PIPE)
-    if (done.returncode, done.stdout) != (0, want):
-        return '%s: %r' % (name, done.stdout[-200:])
-    return audited(folder, name) if os.path.exists(os.path.join(folder, name + '.audit')) else None
+def examples():
+    """The examples of the repository: the folder of each, and what the names of its files begin with."""
+    for name in sorted(os.listdir(EXAMPLES)):
+        path = os.path.join(EXAMPLES, name)
+        if name.endswith('.app'):
+            yield EXAMPLES, name[:-len('app')]
+        elif os.path.isdir(path):
+            yield path, ''
 
 
-def audited(folder, name):
-    """The audit of an example, into a file that held something else before."""
-    with open(os.path.join(folder, name + '.audit'), 'rb') as handle:
-        want = handle.read()
+def example(folder, prefix):
+    """An example, whose output stands beside it, and its audit where it has policies."""
+    def beside(name):
+        path = os.path.join(folder, prefix + name)
+        if os.path.exists(path):
+            with open(path, 'rb') as handle:
+                return handle.read()
+        return None
+
+    words = ['replay', prefix + 'app', prefix + 'events']
+    if beside('sessions') is not None:
+        words += ['--sessions', prefix + 'sessions']
+    done, audit = audited(folder, words)
+    name = os.path.join(os.path.relpath(folder, TOP), prefix)
+    if (done.returncode, done.stdout) != (0, beside('out')):
+        return '%s: status %r, %s' % (name, done.returncode, difference(done.stdout, beside('out') or b''))
+    if beside('audit') not in (None, audit):
+        return '%s, audit: %s' % (name, difference(audit, beside('audit')))
+    return None
+
+
+def difference(have, want):
+    """The first line that differs, and the line that was wanted."""
+    pairs = itertools.zip_longest(have.split(b'\n'), want.split(b'\n'), fillvalue=b'no line')
+    return next(('line %d: %r for %r' % (at, a[:400], b[:400]) for at, (a, b) in enumerate(pairs, 1) if a != b), 'no difference')
+
+
+def audited(folder, words):
+    """A run, and its audit in a file that held something else before."""
     with tempfile.NamedTemporaryFile() as audit:
         audit.write(b'old\n' * 1000)
         audit.flush()
-        run(['replay', '--audit', audit.name, name + '.app', name + '.events'], folder, stdout=subprocess.PIPE)
+        done = run(words + ['--audit', audit.name], folder, stdout=subprocess.PIPE)
         with open(audit.name, 'rb') as handle:
-            have = handle.read()
-    return None if have == want else '%s, audit: %r' % (name, have[-200:])
+            return done, handle.read()
 
 
 def closed_output():
@@ -79,7 +104,7 @@ def main():
     padded = HELLO + b' ' * (1048576 - len(HELLO))
     lines = b'\n' * (16777216 - len(ASK)) + ASK
     line = b'events: line 1: no form\n'
-    results = [example(name[:-4]) for name in sorted(os.listdir(os.path.join(TOP, 'examples'))) if name.endswith('.app')]
+    results = [example(folder, prefix) for folder, prefix in examples()]
     results += [
         case('a missing application', {}, ['replay', 'a', 'e'], 4, b'read fault: a\n'),
         case('missing events', {'a': HELLO}, ['replay', 'a', 'e'], 4, b'read fault: e\n'),

@@ -13,7 +13,7 @@ import sys
 sys.dont_write_bytecode = True
 from pages import TOP, differences, read                                    # noqa: E402
 
-START = ('jac_app', 'command', 'run')
+START = ('jac_app', 'program', 'run')
 PAGE = 'docs/READING.md'
 NOTIONS = 'docs/DEFINITIONS.md'
 

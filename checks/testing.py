@@ -62,7 +62,7 @@ def of_cases():
     runs = [len(parse(read(os.path.join(os.path.relpath(FOLDER, TOP), name)))[1]) for name in os.listdir(FOLDER)]
     replies = sum(content.count(b'reply ') for name in os.listdir(FOLDER)
                   for _, _, content, _ in parse(read(os.path.join(os.path.relpath(FOLDER, TOP), name)))[1])
-    examples = [name for name in os.listdir(os.path.join(TOP, 'examples')) if name.endswith('.app')]
+    examples = [name for name in os.listdir(os.path.join(TOP, 'examples')) if name.endswith('.app') or '.' not in name]
     return ('%d worked cases with %d runs of the program and %d replies stand in `checks/cases`, and %d examples with their '
             'output in `examples`.' % (len(runs), sum(runs), replies, len(examples)))
 

@@ -36,3 +36,10 @@ memory_head method e = rw (e, decimal-500) refl
 
 pub memory_body : (method : List ℕ) → bytes_eq method (codes "HEAD") ≡ false → codes "reply 500 \"\" \"500 Internal Server Error\\n\"\n" ≡ reply_text method 500 None (refusal 500 None).body
 memory_body method e = rw (e, decimal-500) refl
+
+-- the bodies alone
+pub keeper_text : codes "503 Service Unavailable\n" ≡ (refusal 503 None).body
+keeper_text = rw decimal-503 refl
+
+pub memory_text : codes "500 Internal Server Error\n" ≡ (refusal 500 None).body
+memory_text = rw decimal-500 refl

@@ -8,6 +8,14 @@ pub mod HubLemmas
 pub mod NextLemmas
 pub mod EventLemmas
 pub mod ProgressLemmas
-pub mod RunLemmas
-pub mod EmptyLemmas
+pub mod ReplayLemmas
+pub mod LaterLemmas
+pub mod CauseLemmas
+pub mod CompleteLemmas
 mod OpeningLemmas
+pub mod WordsLemmas
+pub mod AttachLemmas
+pub mod DumpLemmas
+pub mod AskingLemmas
+pub mod DemoLemmas
+pub mod CountLemmas

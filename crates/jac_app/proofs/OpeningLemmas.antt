@@ -5,7 +5,7 @@ use Rattle.std.specs.Str.{IsValidUpTo}
 use Rattle.std.proofs.lemmas.List.Elements.{All-cons, All-nil, All-head, All-tail}
 use Rattle.jac_lang.specs.Mirror.{application_of}
 use Rattle.jac_lang.specs.Syntax.{Page, Application}
-use Rattle.jac_lang.specs.Written.{IsWritten, IsWrittenView}
+use Rattle.jac_lang.specs.Written.{IsWritten, IsWrittenModel, IsWrittenView}
 use Rattle.jac_lang.specs.declared.application.App.{App}
 use Rattle.jac_tree.specs.Grammar.{Accepted, IsStrayAt, IsDeepAt, IsUnclosedAt}
 use Rattle.jac_tree.specs.Plain.{PlainTree}
@@ -183,3 +183,7 @@ sited_views (v ∷ vs) out written expands =
 pub sited : (app out : Application) → IsWritten app → ExpandsApplication app (Expanded.application out) → All IsSited out.views
 sited app out written expands =
     subst (λ (a : Application). All IsSited a.views) (sym expands.2) (sited_views app.views expands.0 written.views expands.1)
+
+-- and its models are the ones that were read
+pub same_models : (app out : Application) → IsWritten app → ExpandsApplication app (Expanded.application out) → All IsWrittenModel out.models
+same_models app out written expands = subst (λ (a : Application). All IsWrittenModel a.models) (sym expands.2) written.models

@@ -86,7 +86,7 @@ pass_over app sessions hub new a b c bytes left after lines served out audit lin
   audit_text = p.audit_text;
 }
 
-served_push : (events : List Event) (event : Event) (script : Script) → served_before (events ++ event ∷ []) script ≡ served_before events (with_event event script)
+pub served_push : (events : List Event) (event : Event) (script : Script) → served_before (events ++ event ∷ []) script ≡ served_before events (with_event event script)
 served_push events event script = ap (λ (es : List Event). let s : Script = record { events = es; refused = script.refused } in s) (append_assoc events (event ∷ []) script.events)
 
 -- the script by the line of an event that may stand there
@@ -98,7 +98,7 @@ allowed {app} {sessions} {hub} {k} {bytes} {left} {lines} p after line event par
     ap (λ (o : Option Lapse). served_before p.events (script_event o event (script_from (parts_left 10 after) (lines + 1 + 1) (opened_by event (is_open p.known))))) (sym none)
     ∙ opened p line (parts_left 10 after) (Some (Some event)) parts is
 
-audited_more : (log mine : List Entry) (served : ℕ) (audit more : List ℕ) → length log ≡ served → audit ≡ audited log → more ≡ audited_from (served + 1) mine → audit ++ more ≡ audited (log ++ mine)
+pub audited_more : (log mine : List Entry) (served : ℕ) (audit more : List ℕ) → length log ≡ served → audit ≡ audited log → more ≡ audited_from (served + 1) mine → audit ++ more ≡ audited (log ++ mine)
 audited_more log mine served audit more counted is more_is =
     ap (λ (t : List ℕ). t ++ more) is
     ∙ ap (λ (t : List ℕ). audited log ++ t) (more_is ∙ ap (λ (n : ℕ). audited_from n mine) (omega (arith, counted)))
@@ -131,7 +131,7 @@ serve_one app sessions hub new a b c bytes left after lines served count out aud
       audit_text = audited_more p.log s.mine served audit au p.counted p.audit_text s.audit_text;
     }
 
-nothing_more : (bytes more : List ℕ) → more ≡ [] → bytes ≡ bytes ++ more
+pub nothing_more : (bytes more : List ℕ) → more ≡ [] → bytes ≡ bytes ++ more
 nothing_more bytes more none = sym (append-nil bytes) ∙ ap (λ (m : List ℕ). bytes ++ m) (sym none)
 
 no_ok : (X : Type 0) (count : ℕ) (stopped : Stopped) → ◌≡◌ {A = Result ℕ Stopped} (Ok count) (Err stopped) → X
@@ -155,7 +155,7 @@ go_on app sessions hub new a b c bytes left after lines served count out audit l
     serve_one app sessions hub new a b c bytes left after lines served count out audit line o au event p parts is one.0 one.1
 
 -- what was served of all, whole or in part
-heard_by : (early : Bool) (app : Application) (sessions : List Session) (events unserved all : List Event) (log : List Entry) (out : List ℕ) (known : Connections Ask)
+pub heard_by : (early : Bool) (app : Application) (sessions : List Session) (events unserved all : List Event) (log : List Entry) (out : List ℕ) (known : Connections Ask)
     → Brings app sessions no_connections 0 events log out known → all ≡ events ++ unserved → (early ≡ false → unserved ≡ []) → IsHeardBy early app sessions all log
 heard_by false app sessions events unserved all log out known brings parts whole =
     subst (λ (es : List Event). IsHeardBy false app sessions es log) (sym (parts ∙ ap (λ (es : List Event). events ++ es) (whole refl) ∙ append-nil events))
@@ -163,7 +163,7 @@ heard_by false app sessions events unserved all log out known brings parts whole
 heard_by true app sessions events unserved all log out known brings parts whole =
     subst (λ (es : List Event). IsHeardBy true app sessions es log) (sym parts) (brings-part app sessions events unserved no_connections known 0 log out brings)
 
-is_served_by : (early : Bool) (app : Application) (sessions : List Session) (a b : KeeperSeen) (all : List Event) (log : List Entry) → IsHeardBy early app sessions all log → AreEntries app (span a b) log
+pub is_served_by : (early : Bool) (app : Application) (sessions : List Session) (a b : KeeperSeen) (all : List Event) (log : List Entry) → IsHeardBy early app sessions all log → AreEntries app (span a b) log
     → IsServed early app sessions (span a b) a.state all log
 is_served_by early app sessions a b all log heard entries = record {
   caused = record { subjects = heard; formed = entries.formed; faults = entries.faults };
@@ -209,7 +209,7 @@ write_other X y e = absurd cc
 refused_other : (X : Type 0) (x : Stopped) (n : ℕ) → ◌≡◌ {A = Result ℕ Stopped} (Err x) (Ok n) → X
 refused_other X x n e = absurd cc
 
-early_is_not_whole : {X : Type 0} → true ≡ false → X
+pub early_is_not_whole : {X : Type 0} → true ≡ false → X
 early_is_not_whole is = absurd cc
 
 torn_at : (app : Application) (sessions : List Session) (served n : ℕ) (event : Event) (known : Connections Ask) (mine : List Entry) (o au : List ℕ) (count place : ℕ) → served ≡ count → n ≡ place

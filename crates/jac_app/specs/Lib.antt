@@ -8,6 +8,15 @@ pub mod Asked
 pub mod Failed
 pub mod Outside
 pub mod Serve
+pub mod Words
+pub mod Grammar
+pub mod Commands
+pub mod Files
+pub mod Ending
+pub mod Replay
+pub mod Check
+pub mod Dump
 pub mod Run
 pub mod Refusal
 pub mod Status
+pub mod Demo

@@ -1,5 +1,5 @@
 -- What calls see of an object before and after, and what they put on sinks.
-use Rattle.std.specs.Prelude.{◌≡◌, ◌⊎◌, ℕ, IsTrue, OnErr, Result, Ok, Err, List, [], ◌++◌}
+use Rattle.std.specs.Prelude.{◌≡◌, ◌≤◌, ◌⊎◌, ℕ, IsTrue, OnErr, Result, Ok, Err, List, [], ◌++◌}
 use Rattle.jac_io.specs.Faults.{Rose}
 use Rattle.jac_io.specs.Seen.{SinkSeen, Lasts}
 
@@ -61,3 +61,13 @@ IsTorn reply line out audit = ((out ≡ []) × IsFront audit line) ⊎ (IsFront 
 abbrev pub PutBoth : {E : Type 0} → List ℕ → List ℕ → Result (Unit {0}) E → List ℕ → List ℕ → Type 0
 PutBoth reply line (Ok done) out audit = (out ≡ reply) × (audit ≡ line)
 PutBoth reply line (Err failed) out audit = IsTorn reply line out audit
+
+-- some bytes went to the one sink and some to the other, and of these it holds; the audit may have been aimed
+pub record WentAimed (s : Sinks) (Holds : List ℕ → List ℕ → Type 0) : Type 0 where
+  pub out : List ℕ
+  pub audit : List ℕ
+  pub out_lasts : Lasts s.out.before s.out.after
+  pub audit_later : s.audit.before.faults ≤ s.audit.after.faults
+  pub out_took : Took s.out out
+  pub audit_took : Took s.audit audit
+  pub holds : Holds out audit

@@ -1,7 +1,7 @@
--- The numbers of the statuses. 6, 8 and 9 are of commands that are to come.
+-- The numbers of the statuses. 8 is of a command that is to come.
 use Rattle.std.specs.Prelude.{ℕ}
 use Rattle.jac_app.specs.declared.status.Status.{Status}
-use Rattle.jac_app.specs.declared.status.Status.TheVariants.{Done, Usage, AppRefused, LineRefused, ReadFault, WriteFault, Memory, TooLong}
+use Rattle.jac_app.specs.declared.status.Status.TheVariants.{Done, Usage, AppRefused, LineRefused, ReadFault, WriteFault, StoreFault, Memory, OtherStore, TooLong}
 
 abbrev pub number_of : Status → ℕ
 number_of Done = 0
@@ -10,5 +10,7 @@ number_of AppRefused = 2
 number_of LineRefused = 3
 number_of ReadFault = 4
 number_of WriteFault = 5
+number_of StoreFault = 6
 number_of Memory = 7
+number_of OtherStore = 9
 number_of TooLong = 10

@@ -75,13 +75,13 @@ pub fn answer_ask<K: Keeper, L: Ledger, M: Ledger>(
     splits: &mut Steps<L>,
     evaluations: &mut Steps<M>,
 ) -> Result<Lines, Stop>
-    requires attached { IsTrue (K.seen keeper.old).attached }
+    requires attached { IsTrue (K.seen keeper.old).store.attached }
     requires start { IsTrue (K.seen keeper.old).tells → IsStart (application_of service.now) (K.seen keeper.old).state }
     ensures made { IfOk result (λ lines. IsAnswerMade (application_of service.now) (span (K.seen keeper.old) (K.seen keeper.new)) via ask.now lines.reply lines.audit) }
     ensures refused { IsTrue (K.seen keeper.new).tells → OnErr result ((K.seen keeper.new).state ≡ (K.seen keeper.old).state) }
     ensures told { IsTrue (K.seen keeper.new).tells → IsTrue (K.seen keeper.old).tells }
     ensures cause { HasCause (K.seen keeper.old).faults (K.seen keeper.new).faults result }
-    ensures attached { (K.seen keeper.new).attached ≡ (K.seen keeper.old).attached }
+    ensures attached { (K.seen keeper.new).store ≡ (K.seen keeper.old).store }
 {
     let prepared = prepare(
         alloc,

@@ -3,7 +3,7 @@ ghost use Rattle.std.specs.Prelude.{◌≡◌, ◌≤◌, ◌⊎◌, length, IfO
 ghost use Rattle.std.specs.List.{All};
 ghost use Rattle.jac_lang.specs.Mirror.{application_of};
 ghost use Rattle.jac_lang.specs.Syntax.{Application};
-ghost use Rattle.jac_lang.specs.Written.{IsWritten};
+ghost use Rattle.jac_lang.specs.Written.{IsWritten, IsWrittenModel};
 ghost use Rattle.jac_engine.specs.Served.{IsSited};
 ghost use Rattle.jac_forms.specs.Reads.{got};
 ghost use Rattle.jac_tree.specs.Mirror.{plain};
@@ -15,7 +15,7 @@ ghost use Rattle.jac_app.specs.Refusal.{HasRefusal, IsOpening, text_refusal, for
 use crate::refusal::Refusal;
 use crate::service::Service;
 use jac_check::{CheckCause, CheckFault, Checked, check};
-use jac_engine::well_is_served;
+use jac_engine::{schema_of_well, well_is_served};
 use jac_forms::{FormFault, app_of};
 use jac_lang::App;
 use jac_route::{RouteFault, Routes, routes_of};
@@ -85,7 +85,8 @@ fn template_refusal(fault: ViewFault) -> Refusal
 }
 
 fn open_expanded(alloc: Global, app: App) -> Result<Service, Refusal>
-    requires { All IsSited (application_of app).views }
+    requires sited { All IsSited (application_of app).views }
+    requires models { All IsWrittenModel (application_of app).models }
     ensures { IsOpening (λ o. o ≡ opened_checked (first_fault (application_of app)) (application_of app)) result }
 {
     match check(alloc, app) {
@@ -104,7 +105,8 @@ fn check_refusal(fault: CheckFault) -> Refusal
 }
 
 fn open_checked(alloc: Global, checked: Checked) -> Result<Service, Refusal>
-    requires { All IsSited (application_of checked).views }
+    requires sited { All IsSited (application_of checked).views }
+    requires models { All IsWrittenModel (application_of checked).models }
     ensures { IsOpening (λ o. o ≡ opened_routed (table_of (application_of checked)) (application_of checked)) result }
 {
     match routes_of(alloc, checked.app()) {
@@ -116,10 +118,13 @@ fn open_checked(alloc: Global, checked: Checked) -> Result<Service, Refusal>
 
 fn open_routed(checked: Checked, routes: Routes) -> Service
     requires sited { All IsSited (application_of checked).views }
+    requires models { All IsWrittenModel (application_of checked).models }
     requires routes { AreRoutes (application_of checked) routes }
     ensures { result ≡ checked }
 {
     well_is_served();
-    let _app = checked.app();
+    schema_of_well();
+    let app = checked.app();
+    let _models = app.models.as_slice();
     Service::new(checked, routes)
 }

@@ -59,10 +59,10 @@ impl<K: Keeper, L: Ledger, M: Ledger> Handler for Answerer<'_, '_, '_, '_, '_, K
     ghost use Rattle.jac_engine.specs.Start.{IsStart};
     ghost use Rattle.jac_app.specs.Serve.{handled};
 
-    ghost ready = { λ a. IsTrue (K.seen a.keeper.now).attached × (IsTrue (K.seen a.keeper.now).tells → IsStart (application_of a.service.now) (K.seen a.keeper.now).state) };
+    ghost ready = { λ a. IsTrue (K.seen a.keeper.now).store.attached × (IsTrue (K.seen a.keeper.now).tells → IsStart (application_of a.service.now) (K.seen a.keeper.now).state) };
 
     ghost handles = { λ before conn heard sent after. (after.keeper.ghost_name ≡ before.keeper.ghost_name)
-        × ((K.seen after.keeper.now).attached ≡ (K.seen before.keeper.now).attached)
+        × ((K.seen after.keeper.now).store ≡ (K.seen before.keeper.now).store)
         × handled (application_of before.service.now) before.sessions.now (K.seen before.keeper.now) conn heard sent (K.seen after.keeper.now) };
 
     fn handle(&mut self, conn: u32, heard: &Heard) -> Sent {
@@ -92,13 +92,13 @@ pub fn next_out<K: Keeper, L: Ledger, M: Ledger>(
     splits: &mut Steps<L>,
     evaluations: &mut Steps<M>,
 ) -> Option<HubOut>
-    requires attached { IsTrue (K.seen keeper.old).attached }
+    requires attached { IsTrue (K.seen keeper.old).store.attached }
     requires start { IsTrue (K.seen keeper.old).tells → IsStart (application_of service.now) (K.seen keeper.old).state }
     ensures next { Nexts IsTaken (handled (application_of service.now) sessions.now) (seen hub.old) (seen hub.old).turn result (seen hub.new) (K.seen keeper.old) (K.seen keeper.new) }
     ensures idle { result ≡ None → (seen hub.new).turn ≡ Idle }
     ensures nearer { IfSome result (λ out. left (seen hub.new) < left (seen hub.old)) }
     ensures start { IsTrue (K.seen keeper.new).tells → IsStart (application_of service.now) (K.seen keeper.new).state }
-    ensures attached { (K.seen keeper.new).attached ≡ (K.seen keeper.old).attached }
+    ensures attached { (K.seen keeper.new).store ≡ (K.seen keeper.old).store }
 {
     let mut answerer = Answerer {
         keeper,
@@ -116,14 +116,14 @@ fn ask_hub<K: Keeper, L: Ledger, M: Ledger>(
     hub: &mut Hub,
     answerer: &mut Answerer<'_, '_, '_, '_, '_, K, L, M>,
 ) -> Option<HubOut>
-    requires attached { IsTrue (K.seen answerer.old.keeper.now).attached }
+    requires attached { IsTrue (K.seen answerer.old.keeper.now).store.attached }
     requires start { IsTrue (K.seen answerer.old.keeper.now).tells → IsStart (application_of answerer.old.service.now) (K.seen answerer.old.keeper.now).state }
     ensures same_reference { answerer.new.keeper.ghost_name ≡ answerer.old.keeper.ghost_name }
     ensures next { Nexts IsTaken (handled (application_of answerer.old.service.now) answerer.old.sessions.now) (seen hub.old) (seen hub.old).turn result (seen hub.new) (K.seen answerer.old.keeper.now) (K.seen answerer.new.keeper.now) }
     ensures idle { result ≡ None → (seen hub.new).turn ≡ Idle }
     ensures nearer { IfSome result (λ out. left (seen hub.new) < left (seen hub.old)) }
     ensures start { IsTrue (K.seen answerer.new.keeper.now).tells → IsStart (application_of answerer.old.service.now) (K.seen answerer.new.keeper.now).state }
-    ensures attached { (K.seen answerer.new.keeper.now).attached ≡ (K.seen answerer.old.keeper.now).attached }
+    ensures attached { (K.seen answerer.new.keeper.now).store ≡ (K.seen answerer.old.keeper.now).store }
 {
     hub.next(alloc, answerer)
 }
@@ -138,14 +138,14 @@ fn request_lines<K: Keeper, L: Ledger, M: Ledger>(
     splits: &mut Steps<L>,
     evaluations: &mut Steps<M>,
 ) -> Result<Lines, Stop>
-    requires attached { IsTrue (K.seen keeper.old).attached }
+    requires attached { IsTrue (K.seen keeper.old).store.attached }
     requires start { IsTrue (K.seen keeper.old).tells → IsStart (application_of service.now) (K.seen keeper.old).state }
     ensures made { IfOk result (λ lines. IsAnswerMade (application_of service.now) (span (K.seen keeper.old) (K.seen keeper.new)) (Via.Connection conn request.now.close)
         (request_in (application_of service.now) sessions.now request.now) lines.reply lines.audit) }
     ensures refused { IsTrue (K.seen keeper.new).tells → OnErr result ((K.seen keeper.new).state ≡ (K.seen keeper.old).state) }
     ensures told { IsTrue (K.seen keeper.new).tells → IsTrue (K.seen keeper.old).tells }
     ensures cause { HasCause (K.seen keeper.old).faults (K.seen keeper.new).faults result }
-    ensures attached { (K.seen keeper.new).attached ≡ (K.seen keeper.old).attached }
+    ensures attached { (K.seen keeper.new).store ≡ (K.seen keeper.old).store }
 {
     let ask = request_in(alloc, service.app(), sessions, request)?;
     let via = Via::Connection {
@@ -166,10 +166,10 @@ fn answer_request<K: Keeper, L: Ledger, M: Ledger>(
     splits: &mut Steps<L>,
     evaluations: &mut Steps<M>,
 ) -> Sent
-    requires attached { IsTrue (K.seen keeper.old).attached }
+    requires attached { IsTrue (K.seen keeper.old).store.attached }
     requires start { IsTrue (K.seen keeper.old).tells → IsStart (application_of service.now) (K.seen keeper.old).state }
     ensures handled { handled (application_of service.now) sessions.now (K.seen keeper.old) conn (whole_heard request.now) result (K.seen keeper.new) }
-    ensures attached { (K.seen keeper.new).attached ≡ (K.seen keeper.old).attached }
+    ensures attached { (K.seen keeper.new).store ≡ (K.seen keeper.old).store }
 {
     match request_lines(
         alloc,

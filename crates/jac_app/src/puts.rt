@@ -33,7 +33,8 @@ pub fn put_lines<O: Sink, U: AuditSink>(
     }
 }
 
-fn put_numbered<U: AuditSink>(audit: &mut U, k: u64, rest: &[u8]) -> Result<(), Failed>
+/// The audit's line of the k-th reply, which is given behind its number.
+pub fn put_numbered<U: AuditSink>(audit: &mut U, k: u64, rest: &[u8]) -> Result<(), Failed>
     ensures { IsPut (span (U.seen audit.old) (U.seen audit.new)) (decimal k ++ rest.now) result }
 {
     let mut buffer = Buffer::new();
@@ -62,7 +63,8 @@ pub fn put_failed<O: Sink, U: AuditSink>(
     }
 }
 
-fn put_failed_audit<U: AuditSink>(
+/// The audit's line of a request that wasn't answered.
+pub fn put_failed_audit<U: AuditSink>(
     audit: &mut U,
     k: u64,
     status: Fixed,

@@ -58,14 +58,14 @@ fn ask_lines<K: Keeper, L: Ledger, M: Ledger>(
     splits: &mut Steps<L>,
     evaluations: &mut Steps<M>,
 ) -> Result<Lines, Stop>
-    requires attached { IsTrue (K.seen keeper.old).attached }
+    requires attached { IsTrue (K.seen keeper.old).store.attached }
     requires start { IsTrue (K.seen keeper.old).tells → IsStart (application_of service.now) (K.seen keeper.old).state }
     ensures made { IfOk result (λ lines. IsAnswerMade (application_of service.now) (span (K.seen keeper.old) (K.seen keeper.new)) Via.Line
         (ask_in (application_of service.now) viewer method.now path.now query.now body.now) lines.reply lines.audit) }
     ensures refused { IsTrue (K.seen keeper.new).tells → OnErr result ((K.seen keeper.new).state ≡ (K.seen keeper.old).state) }
     ensures told { IsTrue (K.seen keeper.new).tells → IsTrue (K.seen keeper.old).tells }
     ensures cause { HasCause (K.seen keeper.old).faults (K.seen keeper.new).faults result }
-    ensures attached { (K.seen keeper.new).attached ≡ (K.seen keeper.old).attached }
+    ensures attached { (K.seen keeper.new).store ≡ (K.seen keeper.old).store }
 {
     let ask = ask_in(alloc, service.app(), viewer, method, path, query, body)?;
     let lines = answer_ask(alloc, service, keeper, Via::Line, &ask, splits, evaluations)?;
@@ -89,12 +89,12 @@ fn serve_ask<O: Sink, U: AuditSink, K: Keeper, L: Ledger, M: Ledger>(
     evaluations: &mut Steps<M>,
 ) -> Result<(), Failed>
     requires few { served < 2 ^ 64 - 1 }
-    requires attached { IsTrue (K.seen keeper.old).attached }
+    requires attached { IsTrue (K.seen keeper.old).store.attached }
     requires start { IsTrue (K.seen keeper.old).tells → IsStart (application_of service.now) (K.seen keeper.old).state }
     ensures answered { Went (sinks (O.seen out.old) (O.seen out.new) (U.seen audit.old) (U.seen audit.new))
         (AnswersAsk (application_of service.now) (span (K.seen keeper.old) (K.seen keeper.new)) served (ask_in (application_of service.now) viewer method.now path.now query.now body.now) result) }
     ensures cause { OnErr result (AWriteFailed (sinks (O.seen out.old) (O.seen out.new) (U.seen audit.old) (U.seen audit.new))) }
-    ensures attached { (K.seen keeper.new).attached ≡ (K.seen keeper.old).attached }
+    ensures attached { (K.seen keeper.new).store ≡ (K.seen keeper.old).store }
 {
     match ask_lines(
         alloc,
@@ -140,14 +140,14 @@ fn put_given<O: Sink, U: AuditSink, K: Keeper, L: Ledger, M: Ledger>(
     evaluations: &mut Steps<M>,
 ) -> Result<u64, Failed>
     requires few { served + left (seen hub.old) < 2 ^ 64 - 1 }
-    requires attached { IsTrue (K.seen keeper.old).attached }
+    requires attached { IsTrue (K.seen keeper.old).store.attached }
     requires start { IsTrue (K.seen keeper.old).tells → IsStart (application_of service.now) (K.seen keeper.old).state }
     ensures put { Went (sinks (O.seen out.old) (O.seen out.new) (U.seen audit.old) (U.seen audit.new))
         (PutsOuts (application_of service.now) sessions.now (seen hub.old) (seen hub.new) (span (K.seen keeper.old) (K.seen keeper.new)) served result) }
     ensures cause { OnErr result (AWriteFailed (sinks (O.seen out.old) (O.seen out.new) (U.seen audit.old) (U.seen audit.new))) }
     ensures count { IfOk result (λ count. count ≤ served + left (seen hub.old)) }
     ensures start { IsTrue (K.seen keeper.new).tells → IsStart (application_of service.now) (K.seen keeper.new).state }
-    ensures attached { (K.seen keeper.new).attached ≡ (K.seen keeper.old).attached }
+    ensures attached { (K.seen keeper.new).store ≡ (K.seen keeper.old).store }
 {
     let mut count = served;
     'outs: while let Some(given) = next_out(
@@ -205,14 +205,14 @@ fn serve_connection<O: Sink, U: AuditSink, K: Keeper, L: Ledger, M: Ledger>(
     requires idle { (seen hub.old).turn ≡ Idle }
     requires following { IsFollowing (application_of service.now) sessions.now (seen hub.old) }
     requires connection { IsOfConnection event.now }
-    requires attached { IsTrue (K.seen keeper.old).attached }
+    requires attached { IsTrue (K.seen keeper.old).store.attached }
     requires start { IsTrue (K.seen keeper.old).tells → IsStart (application_of service.now) (K.seen keeper.old).state }
     ensures answered { Went (sinks (O.seen out.old) (O.seen out.new) (U.seen audit.old) (U.seen audit.new))
         (AnswersEvent (application_of service.now) sessions.now (seen hub.old) (seen hub.new) (span (K.seen keeper.old) (K.seen keeper.new)) served line event.now result) }
     ensures cause { result ≡ Err Stopped.Write → AWriteFailed (sinks (O.seen out.old) (O.seen out.new) (U.seen audit.old) (U.seen audit.new)) }
     ensures count { IfOk result (λ count. count ≤ served + 2 ^ 26) }
     ensures start { IsTrue (K.seen keeper.new).tells → IsStart (application_of service.now) (K.seen keeper.new).state }
-    ensures attached { (K.seen keeper.new).attached ≡ (K.seen keeper.old).attached }
+    ensures attached { (K.seen keeper.new).store ≡ (K.seen keeper.old).store }
 {
     requests_are_read();
     match take_event(alloc, hub, line, event) {
@@ -253,14 +253,14 @@ fn serve_event<O: Sink, U: AuditSink, K: Keeper, L: Ledger, M: Ledger>(
     requires few { served < 2 ^ 63 }
     requires idle { (seen hub.old).turn ≡ Idle }
     requires following { IsFollowing (application_of service.now) sessions.now (seen hub.old) }
-    requires attached { IsTrue (K.seen keeper.old).attached }
+    requires attached { IsTrue (K.seen keeper.old).store.attached }
     requires start { IsTrue (K.seen keeper.old).tells → IsStart (application_of service.now) (K.seen keeper.old).state }
     ensures answered { Went (sinks (O.seen out.old) (O.seen out.new) (U.seen audit.old) (U.seen audit.new))
         (AnswersEvent (application_of service.now) sessions.now (seen hub.old) (seen hub.new) (span (K.seen keeper.old) (K.seen keeper.new)) served line event.now result) }
     ensures cause { result ≡ Err Stopped.Write → AWriteFailed (sinks (O.seen out.old) (O.seen out.new) (U.seen audit.old) (U.seen audit.new)) }
     ensures count { IfOk result (λ count. count ≤ served + 2 ^ 26) }
     ensures start { IsTrue (K.seen keeper.new).tells → IsStart (application_of service.now) (K.seen keeper.new).state }
-    ensures attached { (K.seen keeper.new).attached ≡ (K.seen keeper.old).attached }
+    ensures attached { (K.seen keeper.new).store ≡ (K.seen keeper.old).store }
 {
     match event {
         Event::Ask {
@@ -322,14 +322,14 @@ fn serve_line<O: Sink, U: AuditSink, K: Keeper, L: Ledger, M: Ledger>(
     requires few { served < 2 ^ 63 }
     requires idle { (seen hub.old).turn ≡ Idle }
     requires following { IsFollowing (application_of service.now) sessions.now (seen hub.old) }
-    requires attached { IsTrue (K.seen keeper.old).attached }
+    requires attached { IsTrue (K.seen keeper.old).store.attached }
     requires start { IsTrue (K.seen keeper.old).tells → IsStart (application_of service.now) (K.seen keeper.old).state }
     ensures answered { Went (sinks (O.seen out.old) (O.seen out.new) (U.seen audit.old) (U.seen audit.new))
         (AnswersLine (application_of service.now) sessions.now (seen hub.old) (seen hub.new) (span (K.seen keeper.old) (K.seen keeper.new)) served number (line_of line.now) result) }
     ensures cause { result ≡ Err Stopped.Write → AWriteFailed (sinks (O.seen out.old) (O.seen out.new) (U.seen audit.old) (U.seen audit.new)) }
     ensures count { IfOk result (λ count. count ≤ served + 2 ^ 26) }
     ensures start { IsTrue (K.seen keeper.new).tells → IsStart (application_of service.now) (K.seen keeper.new).state }
-    ensures attached { (K.seen keeper.new).attached ≡ (K.seen keeper.old).attached }
+    ensures attached { (K.seen keeper.new).store ≡ (K.seen keeper.old).store }
 {
     match read_line(alloc, line) {
         Ok(Some(event)) => serve_event(
@@ -365,10 +365,11 @@ pub fn serve_events<O: Sink, U: AuditSink, K: Keeper, L: Ledger, M: Ledger>(
     evaluations: &mut Steps<M>,
 ) -> Result<(), Stopped>
     requires short { length bytes.now < 2 ^ 32 }
-    requires attached { IsTrue (K.seen keeper.old).attached }
+    requires attached { IsTrue (K.seen keeper.old).store.attached }
     requires start { IsTrue (K.seen keeper.old).tells → IsStart (application_of service.now) (K.seen keeper.old).state }
     ensures served { Went (sinks (O.seen out.old) (O.seen out.new) (U.seen audit.old) (U.seen audit.new)) (ServesAs (application_of service.now) sessions.now (span (K.seen keeper.old) (K.seen keeper.new)) (K.seen keeper.old).state bytes.now result) }
     ensures cause { result ≡ Err Stopped.Write → AWriteFailed (sinks (O.seen out.old) (O.seen out.new) (U.seen audit.old) (U.seen audit.new)) }
+    ensures store { (K.seen keeper.new).store ≡ (K.seen keeper.old).store }
 {
     let mut hub = Hub::new(alloc);
     let mut left = Some(bytes);

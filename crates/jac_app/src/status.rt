@@ -10,13 +10,18 @@ pub enum Status {
     Usage,
     /// The application's bytes spell no application.
     AppRefused,
-    /// A line of the events has no form; those before it were served.
+    /// A line of the sessions or events has no form, or names a connection in the wrong state; the events before it
+    /// were served.
     LineRefused,
     /// A file wasn't read.
     ReadFault,
     /// A put failed.
     WriteFault,
+    /// The store failed as it was attached or read.
+    StoreFault,
     Memory,
+    /// The store has another schema than the application's.
+    OtherStore,
     /// A file holds more bytes than its limit.
     TooLong,
 }
@@ -33,7 +38,9 @@ impl Status {
             Status::LineRefused => 3,
             Status::ReadFault => 4,
             Status::WriteFault => 5,
+            Status::StoreFault => 6,
             Status::Memory => 7,
+            Status::OtherStore => 9,
             Status::TooLong => 10,
         }
     }

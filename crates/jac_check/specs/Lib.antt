@@ -10,3 +10,4 @@ pub mod Causes
 pub mod Applications
 pub mod Mirror
 pub mod Found
+pub mod Schema

@@ -1,5 +1,7 @@
 ghost use Rattle.std.specs.Prelude.{◌≡◌, [], Some, None, IfOk, IfErr, IfSome, IsNone, IsTrue};
 ghost use Rattle.jac_lang.specs.Mirror.{application_of, entities_of, pages_of};
+ghost use Rattle.jac_tree.specs.Printed.{printed};
+ghost use Rattle.jac_check.specs.Schema.{schema_tree};
 ghost use Rattle.jac_check.specs.Well.{is_well};
 ghost use Rattle.jac_check.specs.Applications.{first_fault, models_fault, pages_fault, viewers_fault, is_fault};
 ghost use Rattle.jac_check.specs.Mirror.{fault_of};
@@ -10,8 +12,10 @@ use crate::fault::CheckFault;
 use crate::found::{Found, Spot, fault_at, own};
 use crate::lookups::known_model;
 use crate::models::model_fault;
+use crate::schema::schema_of;
 use crate::views::page_fault;
 use jac_lang::{App, ModelDef, View};
+use jac_value::{Memory, Txt};
 use std::alloc::Global;
 use std::marker::Model;
 
@@ -45,6 +49,14 @@ impl Checked {
         ensures well { IsTrue (is_well (application_of self.now)) }
     {
         &self.app
+    }
+
+    /// The schema text of the application.
+    pub fn schema(&self, alloc: Global) -> Result<Txt, Memory>
+        ensures { IfOk result (λ text. text ≡ printed (schema_tree (application_of self.now).models)) }
+    {
+        let schema = schema_of(alloc, self.app.models.as_slice())?;
+        Ok(schema)
     }
 }
 

@@ -15,6 +15,7 @@ mod models;
 mod names;
 mod paths;
 mod queries;
+mod schema;
 mod scope;
 mod statements;
 mod views;

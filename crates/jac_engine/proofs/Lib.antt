@@ -5,3 +5,4 @@ pub mod ViewLaws
 pub mod AnswerLaws
 pub mod PreparedLaws
 pub mod WellServed
+pub mod SchemaKinds

@@ -68,7 +68,7 @@ pub fn prepare<K: Keeper, L: Ledger, M: Ledger>(
     splits: &mut Steps<L>,
     evaluations: &mut Steps<M>,
 ) -> Result<Prepared, Stop>
-    requires attached { IsTrue (K.seen keeper.old).attached }
+    requires attached { IsTrue (K.seen keeper.old).store.attached }
     requires served { are_served (application_of app.now) ≡ true }
     requires routes { AreRoutes (application_of app.now) routes.now }
     requires start { IsTrue (K.seen keeper.old).tells → IsStart (application_of app.now) (K.seen keeper.old).state }
@@ -90,7 +90,7 @@ fn prepare_found<K: Keeper, L: Ledger, M: Ledger>(
     splits: &mut Steps<L>,
     evaluations: &mut Steps<M>,
 ) -> Result<Prepared, Stop>
-    requires attached { IsTrue (K.seen keeper.old).attached }
+    requires attached { IsTrue (K.seen keeper.old).store.attached }
     requires served { are_served (application_of app.now) ≡ true }
     requires routes { AreRoutes (application_of app.now) routes.now }
     requires start { IsTrue (K.seen keeper.old).tells → IsStart (application_of app.now) (K.seen keeper.old).state }
@@ -133,7 +133,7 @@ fn answer_view<K: Keeper, L: Ledger, M: Ledger>(
     splits: &mut Steps<L>,
     evaluations: &mut Steps<M>,
 ) -> Result<Prepared, Stop>
-    requires attached { IsTrue (K.seen keeper.old).attached }
+    requires attached { IsTrue (K.seen keeper.old).store.attached }
     requires served { are_served (application_of app.now) ≡ true }
     requires start { IsTrue (K.seen keeper.old).tells → IsStart (application_of app.now) (K.seen keeper.old).state }
     requires within { place < length app.now.views }
@@ -185,7 +185,7 @@ fn show<K: Keeper, L: Ledger, M: Ledger>(
     splits: &mut Steps<L>,
     evaluations: &mut Steps<M>,
 ) -> Result<Prepared, Stop>
-    requires attached { IsTrue (K.seen keeper.old).attached }
+    requires attached { IsTrue (K.seen keeper.old).store.attached }
     requires start { IsTrue (K.seen keeper.old).tells → IsStart (application_of app.now) (K.seen keeper.old).state }
     requires view { slice_get (application_of app.now).views place ≡ Some (page_of view.now) }
     requires served { is_served_body verbs.Get (statements_of view.now.body) ≡ true }
@@ -222,7 +222,7 @@ fn store<K: Keeper, L: Ledger, M: Ledger>(
     splits: &mut Steps<L>,
     evaluations: &mut Steps<M>,
 ) -> Result<Prepared, Stop>
-    requires attached { IsTrue (K.seen keeper.old).attached }
+    requires attached { IsTrue (K.seen keeper.old).store.attached }
     requires start { IsTrue (K.seen keeper.old).tells → IsStart (application_of app.now) (K.seen keeper.old).state }
     requires view { slice_get (application_of app.now).views place ≡ Some (page_of view.now) }
     requires method { view.now.method ≡ verbs.Post }
@@ -276,14 +276,14 @@ fn answer_of(shown: Labelled) -> Answer
 /// Stores what was prepared, by one call of the keeper's `apply` where there is a change. It takes no memory
 /// of its own.
 pub fn commit<K: Keeper>(alloc: Global, keeper: &mut K, prepared: Prepared) -> Result<Answer, Stop>
-    requires attached { IsTrue (K.seen keeper.old).attached }
+    requires attached { IsTrue (K.seen keeper.old).store.attached }
     requires good { IsTrue (K.seen keeper.old).tells → IfSome prepared.change (λ c. IsSound (applied c (K.seen keeper.old).state)) }
     ensures answer { IfOk result (λ a. a ≡ prepared.answer) }
     ensures applied { IsTrue (K.seen keeper.new).tells → OnOk result ((K.seen keeper.new).state ≡ applied_if prepared.change (K.seen keeper.old).state) }
     ensures refused { IsTrue (K.seen keeper.new).tells → OnErr result ((K.seen keeper.new).state ≡ (K.seen keeper.old).state) }
     ensures told { IsTrue (K.seen keeper.new).tells → IsTrue (K.seen keeper.old).tells }
     ensures cause { HasCause (K.seen keeper.old).faults (K.seen keeper.new).faults result }
-    ensures attached { (K.seen keeper.new).attached ≡ (K.seen keeper.old).attached }
+    ensures attached { (K.seen keeper.new).store ≡ (K.seen keeper.old).store }
 {
     let Prepared { answer, change } = prepared;
     match change {

@@ -9,4 +9,4 @@ mod refusal;
 mod visit;
 
 pub use answer::{Answer, Ask, Prepared, commit, prepare};
-pub use laws::well_is_served;
+pub use laws::{schema_of_well, well_is_served};

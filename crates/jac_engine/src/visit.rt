@@ -50,7 +50,7 @@ pub(crate) fn shown_page<K: Keeper, L: Ledger, M: Ledger>(
     splits: &mut Steps<L>,
     evaluations: &mut Steps<M>,
 ) -> Result<Labelled, Stop>
-    requires attached { IsTrue (K.seen keeper.old).attached }
+    requires attached { IsTrue (K.seen keeper.old).store.attached }
     requires tables { IsTrue (K.seen keeper.old).tells → length app.now.models ≤ length (K.seen keeper.old).state.tables }
     requires runnable { AreRunnable number (statements_of view.now.body) }
     requires ready { IsTrue (K.seen keeper.old).tells → IsReady (application_of app.now) (view_of view.now) (asked_with path.now ask.now) number (K.seen keeper.old).state }
@@ -87,7 +87,7 @@ fn show_view<K: Keeper, L: Ledger, M: Ledger>(
     splits: &mut Steps<L>,
     evaluations: &mut Steps<M>,
 ) -> Result<Labelled, Stop>
-    requires attached { IsTrue (K.seen work.old.keeper.now).attached }
+    requires attached { IsTrue (K.seen work.old.keeper.now).store.attached }
     requires tables { IsTrue (K.seen work.old.keeper.now).tells → length app.now.models ≤ length (K.seen work.old.keeper.now).state.tables }
     requires runnable { AreRunnable number (statements_of view.now.body) }
     requires ready { IsTold K.seen work.old → IsReady (application_of app.now) (view_of view.now) (asked_with path.now ask.now) number (state_of K.seen work.old) }
@@ -115,7 +115,7 @@ pub(crate) fn stored_page<K: Keeper, L: Ledger, M: Ledger>(
     splits: &mut Steps<L>,
     evaluations: &mut Steps<M>,
 ) -> Result<Stored, Stop>
-    requires attached { IsTrue (K.seen keeper.old).attached }
+    requires attached { IsTrue (K.seen keeper.old).store.attached }
     requires tables { IsTrue (K.seen keeper.old).tells → length app.now.models ≤ length (K.seen keeper.old).state.tables }
     requires few { number < 2 ^ 40 }
     requires runnable { AreRunnable number (statements_of view.now.body) }
@@ -157,7 +157,7 @@ fn store_view<K: Keeper, L: Ledger, M: Ledger>(
     splits: &mut Steps<L>,
     evaluations: &mut Steps<M>,
 ) -> Result<Labelled, Stop>
-    requires attached { IsTrue (K.seen work.old.keeper.now).attached }
+    requires attached { IsTrue (K.seen work.old.keeper.now).store.attached }
     requires tables { IsTrue (K.seen work.old.keeper.now).tells → length app.now.models ≤ length (K.seen work.old.keeper.now).state.tables }
     requires runnable { AreRunnable number (statements_of view.now.body) }
     requires ready { IsTold K.seen work.old → IsReady (application_of app.now) (view_of view.now) (asked_with path.now ask.now) number (state_of K.seen work.old) }
@@ -188,7 +188,7 @@ fn run_body<K: Keeper, L: Ledger>(
     number: u64,
     splits: &mut Steps<L>,
 ) -> Result<Out, Stop>
-    requires attached { IsTrue (K.seen work.old.keeper.now).attached }
+    requires attached { IsTrue (K.seen work.old.keeper.now).store.attached }
     requires tables { IsTrue (K.seen work.old.keeper.now).tells → length app.now.models ≤ length (K.seen work.old.keeper.now).state.tables }
     requires runnable { AreRunnable number (statements_of view.now.body) }
     ensures runs { IsTold K.seen work.new → IfOk result (RunsView (application_of app.now) (view_of view.now) (asked_with path.now ask.now) number (state_of K.seen work.old) (state_of K.seen work.new).tables) }

@@ -36,7 +36,7 @@ pub(crate) fn sort<K: Keeper, L: Ledger>(
     tuples: Tuples,
     splits: &mut Steps<L>,
 ) -> Result<Tuples, Stop>
-    requires { IsTrue (K.seen work.old.keeper.now).attached }
+    requires { IsTrue (K.seen work.old.keeper.now).store.attached }
     ensures sorted { IsTold K.seen work.new → IfOk result (λ ts. (ctx : Context) (w : ℕ → Bool) → live w ts ≡ ordered (world_at app.now ctx (state_of K.seen work.old) w) (binders_of binders.now) by.now (live w tuples)) }
     ensures ids { IfOk result (λ ts. (p : List ℕ → Bool) → all_ids p tuples ≡ true → all_ids p ts ≡ true) }
     ensures reads { ReadsWork K.seen work.old work.new result }
@@ -68,7 +68,7 @@ fn sort_by<K: Keeper, L: Ledger>(
     tuples: &Tuples,
     splits: &mut Steps<L>,
 ) -> Result<Tuples, Stop>
-    requires { IsTrue (K.seen work.old.keeper.now).attached }
+    requires { IsTrue (K.seen work.old.keeper.now).store.attached }
     ensures sorted { IsTold K.seen work.new → IfOk result (λ ts. (ctx : Context) (w : ℕ → Bool) → live w ts ≡ sorted (value_less down) (key_of (world_at app.now ctx (state_of K.seen work.old) w) (binders_of binders.now) name.now field.now) (live w tuples.now)) }
     ensures ids { IfOk result (λ ts. (p : List ℕ → Bool) → all_ids p tuples.now ≡ true → all_ids p ts ≡ true) }
     ensures reads { ReadsWork K.seen work.old work.new result }
@@ -90,7 +90,7 @@ fn keys_of<K: Keeper, L: Ledger>(
     tuples: &[Tuple],
     splits: &mut Steps<L>,
 ) -> Result<Facets<Value>, Stop>
-    requires { IsTrue (K.seen work.old.keeper.now).attached }
+    requires { IsTrue (K.seen work.old.keeper.now).store.attached }
     ensures keys { IsTold K.seen work.new → IfOk result (λ ks. (ctx : Context) (w : ℕ → Bool) → marked w tuples.now ks ≡ each_with (key_of (world_at app.now ctx (state_of K.seen work.old) w) (binders_of binders.now) name.now field.now) (live w tuples.now)) }
     ensures length { IfOk result (λ ks. length tuples.now ≡ length ks) }
     ensures reads { ReadsWork K.seen work.old work.new result }
@@ -118,7 +118,7 @@ fn key_at<K: Keeper, L: Ledger>(
     tuple: &Tuple,
     splits: &mut Steps<L>,
 ) -> Result<Facet<Value>, Stop>
-    requires { IsTrue (K.seen work.old.keeper.now).attached }
+    requires { IsTrue (K.seen work.old.keeper.now).store.attached }
     ensures key { IsTold K.seen work.new → IfOk result (λ f. (ctx : Context) (w : ℕ → Bool) → holds w tuple.now.guard ≡ true → at w f ≡ got (world_at app.now ctx (state_of K.seen work.old) w) model.now field.now (look (bound (binders_of binders.now) tuple.now.ids []) name.now)) }
     ensures reads { ReadsWork K.seen work.old work.new result }
 {

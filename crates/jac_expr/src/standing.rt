@@ -28,7 +28,7 @@ pub(crate) fn stand<K: Keeper, L: Ledger>(
     value: &Facet<Value>,
     splits: &mut Steps<L>,
 ) -> Result<Facet<Value>, Stop>
-    requires { IsTrue (K.seen work.old.keeper.now).attached }
+    requires { IsTrue (K.seen work.old.keeper.now).store.attached }
     ensures value { IsTold K.seen work.new → IfOk result (λ f. (app : App) (ctx : Context) (w : ℕ → Bool) → holds w pc.now ≡ true → at w f ≡ Truth (is_live (world_at app ctx (state_of K.seen work.old) w) (at w value.now))) }
     ensures reads { ReadsWork K.seen work.old work.new result }
 {
@@ -43,7 +43,7 @@ fn leaves_stand<K: Keeper, L: Ledger>(
     leaves: &[(Guard, Value)],
     splits: &mut Steps<L>,
 ) -> Result<Facet<Value>, Stop>
-    requires { IsTrue (K.seen work.old.keeper.now).attached }
+    requires { IsTrue (K.seen work.old.keeper.now).store.attached }
     ensures value { IsTold K.seen work.new → IfOk result (λ f. (w : ℕ → Bool) → at w f ≡ last_by (λ v. Truth (stands_in (project_at w (state_of K.seen work.old)).tables v)) (Truth false) (seen w leaves.now)) }
     ensures reads { ReadsWork K.seen work.old work.new result }
 {
@@ -61,7 +61,7 @@ fn one_stands<K: Keeper, L: Ledger>(
     value: &Value,
     splits: &mut Steps<L>,
 ) -> Result<Facet<Value>, Stop>
-    requires { IsTrue (K.seen work.old.keeper.now).attached }
+    requires { IsTrue (K.seen work.old.keeper.now).store.attached }
     ensures value { IsTold K.seen work.new → IfOk result (λ f. (w : ℕ → Bool) → at w f ≡ Truth (stands_in (project_at w (state_of K.seen work.old)).tables value.now)) }
     ensures reads { ReadsWork K.seen work.old work.new result }
 {

@@ -5,3 +5,6 @@ pub mod NamedFiles
 pub mod FilesState
 pub mod SinkState
 pub mod Seen
+pub mod Linked
+pub mod LinkState
+pub mod DoorState

@@ -5,3 +5,4 @@ pub mod WorkLaws
 pub mod SoundLaws
 pub mod OrderLaws
 pub mod OpeningLaws
+pub mod SchemaLaws

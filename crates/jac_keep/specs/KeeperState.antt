@@ -1,14 +1,18 @@
 -- a keeper in memory, as contracts see it
-use Rattle.std.specs.Prelude.{ℕ, List, Bool, true, if◌then◌else◌}
+use Rattle.std.specs.Prelude.{◌≡◌, ℕ, List, [], Bool, true, false, Option, Some, None, IsTrue, if◌then◌else◌}
 use Rattle.jac_io.specs.Faults.{risen}
 use Rattle.jac_io.specs.Calls.{listed}
 use Rattle.jac_rows.specs.declared.state.State.{State}
-use Rattle.jac_keep.specs.KeeperSeen.{KeeperSeen}
+use Rattle.jac_rows.specs.Good.{IsNext, IsSound}
+use Rattle.jac_value.specs.declared.value.Kind.{Kind}
+use Rattle.jac_keep.specs.KeeperSeen.{KeeperSeen, Store}
+use Rattle.jac_keep.specs.Schema.{IsSchema, IsFit, empties}
 
--- the state, the reads and the applies that are to fail, and how many of each there were and how many
+-- the state, its store, the reads and the applies that are to fail, and how many of each there were and how many
 -- calls failed
 pub record KeeperState : Type 0 where
   pub state : State
+  pub store : Store
   pub fail_reads : List ℕ
   pub fail_applies : List ℕ
   pub reads : ℕ
@@ -36,6 +40,40 @@ after_apply k = record k {
   faults = if apply_fails k then risen k.faults else k.faults;
 }
 
--- it tells its state, and may always be called
+-- it tells its state
 abbrev pub seen_keeper : KeeperState → KeeperSeen
-seen_keeper k = record { tells = true; state = k.state; faults = k.faults; attached = true }
+seen_keeper k = record { tells = true; state = k.state; faults = k.faults; store = k.store }
+
+-- what is stored may be attached: it fits its schema, or there is none and no table
+abbrev pub IsStored : Option (List ℕ) → State → Type 0
+IsStored None s = (s.tables ≡ []) × IsNext s.number
+IsStored (Some schema) s = ((kinds : List (List Kind)) × IsSchema schema kinds) × ((kinds : List (List Kind)) → IsSchema schema kinds → IsFit kinds s)
+
+-- its state is sound, and may be attached as long as nobody tried to
+pub record IsKeeping (state : State) (store : Store) : Type 0 where
+  pub sound : IsSound state
+  pub called : IsTrue store.attached → IsTrue store.called
+  pub stored : store.called ≡ false → IsStored store.schema state
+
+-- a store that nobody tried to attach, and one that is attached without a name or a schema
+abbrev pub unopened : Option (List ℕ) → Store
+unopened schema = record { called = false; attached = false; schema = schema; name = None }
+
+abbrev pub opened : Store
+opened = record { called = true; attached = true; schema = None; name = None }
+
+-- what an attach leaves that is refused
+abbrev pub after_refusal : KeeperState → KeeperState
+after_refusal k = record k { store = record k.store { called = true } }
+
+-- the state of a store of so many models: what was stored, and empty tables where it is new
+abbrev pub attached_state : Option (List ℕ) → ℕ → State → State
+attached_state None models s = record s { tables = empties models }
+attached_state (Some schema) models s = s
+
+-- what an attach leaves that is accepted
+abbrev pub after_attach : Option (List ℕ) → List ℕ → ℕ → KeeperState → KeeperState
+after_attach name schema models k = record k {
+  state = attached_state k.store.schema models k.state;
+  store = record { called = true; attached = true; schema = Some schema; name = name };
+}

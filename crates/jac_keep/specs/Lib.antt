@@ -7,3 +7,5 @@ pub mod Worked
 pub mod Sound
 pub mod KeeperState
 pub mod Opened
+pub mod Schema
+pub mod Attaching

@@ -9,13 +9,17 @@ mod memory_keeper;
 mod opening;
 mod places;
 mod placing;
+mod schema;
 mod splitting;
 mod stop;
+mod vault;
 mod work;
 
 pub use alteration::{Alteration, Alterations, Change};
 pub use keeper::Keeper;
 pub use laws::{record_after_change, sound_after_change, sound_if_good};
 pub use memory_keeper::MemoryKeeper;
+pub use schema::{one_schema, shape_of};
 pub use stop::Stop;
+pub use vault::{AttachFault, Vault};
 pub use work::{Overlay, Work, WorkOver};

@@ -1,4 +1,6 @@
-ghost use Rattle.std.specs.Prelude.{◌≡◌, ◌≤◌, ◌^◌, ◌↔◌, ◌++◌, ◌∷◌, [], true, IfOk, OnOk, OnErr, IsTrue, IsErrOf};
+ghost use Rattle.std.specs.Prelude.{◌≡◌, ◌≤◌, ◌^◌, ◌↔◌, ◌++◌, ◌∷◌, [], ℕ, List, Some, None, Err, true, false, IfOk, IfSome, OnOk, OnErr, IsTrue, IsErrOf, length};
+ghost use Rattle.std.specs.Option.{option_copied};
+ghost use Rattle.jac_value.specs.declared.value.Kind.{Kind as FieldKind};
 ghost use Rattle.jac_value.specs.Ids.{model_of_id};
 ghost use Rattle.jac_rows.specs.Good.{IsSound};
 ghost use Rattle.jac_rows.specs.Tables.{rows_of};
@@ -6,13 +8,16 @@ ghost use Rattle.jac_keep.specs.Records.{alternatives};
 ghost use Rattle.jac_keep.specs.Cause.{HasCause};
 ghost use Rattle.jac_keep.specs.KeeperSeen.{Keeps, Reads};
 ghost use Rattle.jac_keep.specs.Kept.{applied};
+ghost use Rattle.jac_keep.specs.Attaching.{Attaches};
+ghost use Rattle.jac_keep.specs.Schema.{IsSchema, empties};
+ghost use Rattle.jac_keep.specs.declared.vault.AttachFault.TheVariants.{Failed, Other};
 
 use crate::opening::alter_tables;
 use crate::places::place_in;
-use crate::{Alterations, Change, Keeper, Stop};
+use crate::{Alterations, AttachFault, Change, Keeper, Stop, Vault, shape_of};
 use jac_io::Calls;
-use jac_rows::{Row, Rows, State};
-use jac_value::{Id, Memory, id_model};
+use jac_rows::{Row, Rows, State, Table, Tables};
+use jac_value::{Id, Kinds, Memory, Txt, id_model};
 use std::alloc::Global;
 use std::marker::Model;
 
@@ -20,6 +25,10 @@ use std::marker::Model;
 /// `number`, `rows` and `one`; they and the applies are counted apart, from 1.
 #[derive(Debug, Drop)]
 pub struct MemoryKeeper {
+    called: bool,
+    attached: bool,
+    schema: Option<Txt>,
+    name: Option<Txt>,
     state: State,
     fail_reads: Calls,
     fail_applies: Calls,
@@ -29,22 +38,52 @@ pub struct MemoryKeeper {
 }
 
 impl Model for MemoryKeeper {
-    ghost use Rattle.jac_rows.specs.Good.{IsSound};
-    ghost use Rattle.jac_keep.specs.KeeperState.{KeeperState};
+    ghost use Rattle.jac_keep.specs.KeeperState.{KeeperState, IsKeeping};
 
     ghost Value = { KeeperState };
 
-    ghost view = { λ k. record { state = k.state; fail_reads = k.fail_reads; fail_applies = k.fail_applies; reads = k.reads; applies = k.applies; faults = k.faults } };
+    ghost view = { λ k. record { state = k.state; store = record { called = k.called; attached = k.attached; schema = k.schema; name = k.name }; fail_reads = k.fail_reads; fail_applies = k.fail_applies; reads = k.reads; applies = k.applies; faults = k.faults } };
 
-    ghost invariant = { λ k. IsSound k.state };
+    ghost invariant = { λ k. IsKeeping k.state (record { called = k.called; attached = k.attached; schema = k.schema; name = k.name }) };
 }
 
 impl MemoryKeeper {
-    pub fn new(state: State, fail_reads: Calls, fail_applies: Calls) -> MemoryKeeper
-        requires { IsSound state }
-        ensures { result ≡ record { state = state; fail_reads = fail_reads; fail_applies = fail_applies; reads = 0; applies = 0; faults = 0 } }
+    ghost use Rattle.jac_keep.specs.KeeperState.{IsStored, opened, unopened};
+
+    /// A keeper that wasn't attached yet: it has what is stored under the schema, and without one a new store.
+    pub fn new(
+        state: State,
+        schema: Option<Txt>,
+        fail_reads: Calls,
+        fail_applies: Calls,
+    ) -> MemoryKeeper
+        requires { IsStored schema state }
+        ensures { result ≡ record { state = state; store = unopened schema; fail_reads = fail_reads; fail_applies = fail_applies; reads = 0; applies = 0; faults = 0 } }
     {
         MemoryKeeper {
+            called: false,
+            attached: false,
+            schema,
+            name: None,
+            state,
+            fail_reads,
+            fail_applies,
+            reads: 0,
+            applies: 0,
+            faults: 0,
+        }
+    }
+
+    /// A keeper that may be called at once, without a schema.
+    pub fn attached(state: State, fail_reads: Calls, fail_applies: Calls) -> MemoryKeeper
+        requires { IsSound state }
+        ensures { result ≡ record { state = state; store = opened; fail_reads = fail_reads; fail_applies = fail_applies; reads = 0; applies = 0; faults = 0 } }
+    {
+        MemoryKeeper {
+            called: true,
+            attached: true,
+            schema: None,
+            name: None,
             state,
             fail_reads,
             fail_applies,
@@ -121,7 +160,8 @@ impl Keeper for MemoryKeeper {
     }
 
     fn apply(&mut self, alloc: Global, change: &Change) -> Result<(), Stop>
-        requires { IsSound (applied change.now self.old.state) }
+        requires attached { IsTrue self.old.store.attached }
+        requires good { IsSound (applied change.now self.old.state) }
         ensures ok { OnOk result (self.new ≡ record (after_apply self.old) { state = applied change.now self.old.state }) }
         ensures err { OnErr result (self.new ≡ after_apply self.old) }
         ensures stopped { IsErrOf result Stop.Keeper ↔ IsTrue (apply_fails self.old) }
@@ -136,6 +176,126 @@ impl Keeper for MemoryKeeper {
         alter_tables(alloc, &mut self.state.tables, &change.changed)?;
         self.state.number = change.number;
         Ok(())
+    }
+}
+
+impl Vault for MemoryKeeper {
+    ghost use Rattle.jac_keep.specs.KeeperState.{after_attach, after_refusal, seen_keeper};
+
+    /// It never fails, and keeps the name without using it.
+    fn attach(&mut self, alloc: Global, name: Option<&Txt>, schema: &Txt) -> Result<(), AttachFault>
+        requires first { self.old.store.called ≡ false }
+        requires schema { (kinds : List (List FieldKind)) × IsSchema schema.now kinds }
+        ensures ok { OnOk result ((kinds : List (List FieldKind)) → IsSchema schema.now kinds → self.new ≡ after_attach (option_copied name.entry) schema.now (length kinds) self.old) }
+        ensures err { OnErr result (self.new ≡ after_refusal self.old) }
+        ensures never_failed { ¬ (result ≡ Err Failed) }
+        ensures other { (stored : List ℕ) → result ≡ Err (Other stored) → (self.old.store.schema ≡ Some stored) × ¬ (stored ≡ schema.now) }
+        ensures attaches { Attaches (seen_keeper self.old) (seen_keeper self.new) (option_copied name.entry) schema.now result }
+    {
+        self.called = true;
+        let name = copy_name(alloc, name)?;
+        match made_for(alloc, &self.schema, schema)? {
+            Some(made) => {
+                self.begin(name, made);
+                Ok(())
+            }
+            None => {
+                self.reopen(name);
+                Ok(())
+            }
+        }
+    }
+}
+
+impl MemoryKeeper {
+    // A new store begins with what was made for it.
+    fn begin(&mut self, name: Option<Txt>, made: Made)
+        requires { IsSound (record self.old.state { tables = made.tables }) }
+        ensures { self.new ≡ record self.old { state = record self.old.state { tables = made.tables }; store = record { called = true; attached = true; schema = Some made.schema; name = name } } }
+    {
+        self.state.tables = made.tables;
+        self.schema = Some(made.schema);
+        self.name = name;
+        self.called = true;
+        self.attached = true;
+    }
+
+    // What is stored stays.
+    fn reopen(&mut self, name: Option<Txt>)
+        ensures { self.new ≡ record self.old { store = record { called = true; attached = true; schema = self.old.store.schema; name = name } } }
+    {
+        self.name = name;
+        self.called = true;
+        self.attached = true;
+    }
+}
+
+// What a new store keeps.
+#[derive(Drop)]
+struct Made {
+    schema: Txt,
+    tables: Tables,
+}
+
+// What is to be kept for the schema beside what is stored: nothing where it is stored already.
+fn made_for(alloc: Global, stored: &Option<Txt>, schema: &Txt) -> Result<Option<Made>, AttachFault>
+    requires { (kinds : List (List FieldKind)) × IsSchema schema.now kinds }
+    ensures known { IfOk result (λ made. made ≡ None → stored.now ≡ Some schema.now) }
+    ensures new { IfOk result (λ made. IfSome made (λ m. (stored.now ≡ None) × (m.schema ≡ schema.now))) }
+    ensures tables { IfOk result (λ made. IfSome made (λ m. (kinds : List (List FieldKind)) → IsSchema schema.now kinds → m.tables ≡ empties (length kinds))) }
+    ensures never_failed { ¬ (result ≡ Err Failed) }
+    ensures other { (text : List ℕ) → result ≡ Err (Other text) → (stored.now ≡ Some text) × ¬ (text ≡ schema.now) }
+{
+    match stored {
+        Some(stored) => {
+            if stored.as_bytes() == schema.as_bytes() {
+                Ok(None)
+            } else {
+                let stored = stored.copy(alloc)?;
+                Err(AttachFault::Other(stored))
+            }
+        }
+        None => {
+            let tables = new_tables(alloc, schema)?;
+            let schema = schema.copy(alloc)?;
+            Ok(Some(Made { schema, tables }))
+        }
+    }
+}
+
+// An empty table for each model of the schema.
+fn new_tables(alloc: Global, schema: &Txt) -> Result<Tables, Memory>
+    requires { (kinds : List (List FieldKind)) × IsSchema schema.now kinds }
+    ensures { IfOk result (λ tables. (kinds : List (List FieldKind)) → IsSchema schema.now kinds → tables ≡ empties (length kinds)) }
+{
+    match shape_of(alloc, schema)? {
+        Some(shape) => {
+            let tables = empty_tables(alloc, shape.kinds.as_slice())?;
+            Ok(tables)
+        }
+        None => unreachable!(),
+    }
+}
+
+fn empty_tables(alloc: Global, models: &[Kinds]) -> Result<Tables, Memory>
+    ensures { IfOk result (λ tables. tables ≡ empties (length models.now)) }
+{
+    let mut tables = Vec::new(alloc);
+    'models: for _model in models {
+        tables.push(Table::empty(alloc))?;
+    }
+    Ok(Tables::from_vec(tables))
+}
+
+fn copy_name(alloc: Global, name: Option<&Txt>) -> Result<Option<Txt>, Memory>
+    ensures { IfOk result (λ copy. copy ≡ option_copied name.entry) }
+{
+    match name {
+        Some(name) => {
+            let name = name.copy(alloc)?;
+            Ok(Some(name))
+        }
+        None => Ok(None),
     }
 }
 

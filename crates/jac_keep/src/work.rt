@@ -51,7 +51,7 @@ impl<'k, K: Keeper> WorkOver<'k, K, Overlay> {
 
     /// All rows of the model.
     pub fn rows(&mut self, alloc: Global, model: u8) -> Result<Rows, Stop>
-        requires { IsTrue (K.seen self.old.keeper.now).attached }
+        requires { IsTrue (K.seen self.old.keeper.now).store.attached }
         ensures exact { IsTold K.seen self.new → IfOk result (λ rows. rows ≡ rows_of (state_of K.seen self.old).tables model) }
         ensures reads { ReadsWork K.seen self.old self.new result }
     {
@@ -62,7 +62,7 @@ impl<'k, K: Keeper> WorkOver<'k, K, Overlay> {
 
     /// The alternatives of one record.
     pub fn one(&mut self, alloc: Global, id: Id) -> Result<Rows, Stop>
-        requires { IsTrue (K.seen self.old.keeper.now).attached }
+        requires { IsTrue (K.seen self.old.keeper.now).store.attached }
         ensures exact { IsTold K.seen self.new → IfOk result (λ rows. rows ≡ alternatives id (rows_of (state_of K.seen self.old).tables (model_of_id id))) }
         ensures reads { ReadsWork K.seen self.old self.new result }
     {

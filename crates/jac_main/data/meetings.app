@@ -3,8 +3,10 @@
  (model Event (fields (title text) (host (ref User)) (open bool))
   (group (guards (title "private") (host (none User)))
    (policy
-    (or (or (get Event open this) (eq (get Event host this) viewer))
-        (some (from ((g Guest)) (and (eq (get Guest event g) this) (eq (get Guest user g) viewer)) key))))))
+    (or (get Event open this)
+        (and (live viewer)
+             (or (eq (get Event host this) viewer)
+                 (some (from ((g Guest)) (and (eq (get Guest event g) this) (eq (get Guest user g) viewer)) key))))))))
  (model Guest (fields (event (ref Event)) (user (ref User))))
 
  (view post "/join" (params (name text))
@@ -15,7 +17,7 @@
    (redirect (cat "/event/" (str e)))))
 
  (view post "/event/{id}/invite" (params (id (ref Event)) (user (ref User)))
-  (if (eq (get Event host id) viewer)
+  (if (and (live user) (and (live viewer) (eq (get Event host id) viewer)))
    ((create g Guest (set (event id) (user user))) (redirect (cat "/event/" (str id))))
    ((missing))))
 

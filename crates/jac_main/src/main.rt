@@ -1,4 +1,4 @@
-//! The program `jac`: the host's files, its audit and standard output, and a keeper in memory, beneath `jac_app`.
+//! The program `jac`: the host's files, its audit and standard output, and a store in memory, beneath `jac_app`.
 #![tactic(auto)]
 
 ghost use Rattle.std.specs.Prelude.{◌≡◌, ◌<◌};
@@ -8,9 +8,10 @@ mod host;
 mod tests;
 
 use host::{HostAudit, HostFiles, Stdout};
-use jac_app::{Status, empty_state, run};
+use jac_app::{Status, run};
 use jac_io::Calls;
 use jac_keep::MemoryKeeper;
+use jac_rows::{State, Tables};
 use jac_value::{Memory, Txt};
 use jac_world::Steps;
 use std::marker::Brand;
@@ -40,8 +41,11 @@ fn run_words<L: Ledger, M: Ledger>(
 {
     let alloc = rt.alloc();
     let words = words_of(rt)?;
-    let state = empty_state(alloc, 1)?;
-    let mut keeper = MemoryKeeper::new(state, Calls::empty(alloc), Calls::empty(alloc));
+    let state = State {
+        tables: Tables::empty(alloc),
+        number: 1,
+    };
+    let mut vault = MemoryKeeper::new(state, None, Calls::empty(alloc), Calls::empty(alloc));
     let mut files = HostFiles::new(rt);
     let mut out = Stdout::new(rt);
     let mut audit = HostAudit::new(rt);
@@ -53,7 +57,7 @@ fn run_words<L: Ledger, M: Ledger>(
         &mut files,
         &mut out,
         &mut audit,
-        &mut keeper,
+        &mut vault,
         &mut splits,
         &mut evaluations,
     );

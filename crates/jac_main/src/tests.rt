@@ -1,10 +1,10 @@
 //! The program's top call over files and sinks in memory: worked examples, and each refusal once.
 ghost use Rattle.std.specs.Prelude.{◌≡◌, ◌<◌, ◌≤◌, ◌^◌};
 
-use jac_app::{Status, empty_state, run};
+use jac_app::{Status, run};
 use jac_io::{Calls, MemoryFiles, MemorySink, NamedFiles};
 use jac_keep::MemoryKeeper;
-use jac_rows::project;
+use jac_rows::{State, Tables, project};
 use jac_value::{Bytes, Memory, Txt};
 use jac_world::{Assignment, Label, Steps};
 use std::alloc::Global;
@@ -192,8 +192,11 @@ fn run_counted<L: Ledger, M: Ledger>(
     let mut files = files;
     let mut out = MemorySink::new(alloc, 4096, fails.out)?;
     let mut audit = MemorySink::new(alloc, 4096, fails.audit)?;
-    let state = empty_state(alloc, number)?;
-    let mut keeper = MemoryKeeper::new(state, fails.reads, fails.applies);
+    let state = State {
+        tables: Tables::empty(alloc),
+        number,
+    };
+    let mut keeper = MemoryKeeper::new(state, None, fails.reads, fails.applies);
     let mut splits: Steps<L> = Steps::new(blank);
     let mut evaluations: Steps<M> = Steps::new(second);
     let status = run(

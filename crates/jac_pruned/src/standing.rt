@@ -27,7 +27,7 @@ pub(crate) fn stand<K: Keeper>(
     value: &Value,
     support: &mut Support,
 ) -> Result<bool, Stop>
-    requires { IsTrue (K.seen work.old.keeper.now).attached }
+    requires { IsTrue (K.seen work.old.keeper.now).store.attached }
     ensures value { IsTold K.seen work.new → IfOk result (λ b. (app : App) (ctx : Context) → b ≡ is_live (world_at app ctx (state_of K.seen work.old) (shown a.now)) value.now) }
     ensures reads { ReadsWork K.seen work.old work.new result }
     ensures grows { Grows support.old support.new }
@@ -49,7 +49,7 @@ pub fn record_stands<K: Keeper>(
     id: Id,
     support: &mut Support,
 ) -> Result<bool, Stop>
-    requires attached { IsTrue (K.seen work.old.keeper.now).attached }
+    requires attached { IsTrue (K.seen work.old.keeper.now).store.attached }
     ensures value { IsTold K.seen work.new → IfOk result (λ b. b ≡ has_id (project_at (shown a.now) (state_of K.seen work.old)) id) }
     ensures reads { ReadsWork K.seen work.old work.new result }
     ensures grows { Grows support.old support.new }

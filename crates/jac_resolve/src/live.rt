@@ -23,7 +23,7 @@ pub fn live_labels<K: Keeper>(
     work: &mut Work<'_, K>,
     app: &App,
 ) -> Result<Labels, Stop>
-    requires attached { IsTrue (K.seen work.old.keeper.now).attached }
+    requires attached { IsTrue (K.seen work.old.keeper.now).store.attached }
     requires sound { IsTold K.seen work.old → HasSoundTables (state_of K.seen work.old) }
     ensures live { IsTold K.seen work.new → IfOk result (AreLive (application_of app.now) (worlds_of (state_of K.seen work.old))) }
     ensures by_rows { IsTold K.seen work.new → IfOk result (λ ls. (k : ℕ) → shown ls k ≡ (has_group (application_of app.now) k && has_row (state_of K.seen work.old) k)) }
@@ -40,7 +40,7 @@ fn collect<K: Keeper>(
     work: &mut Work<'_, K>,
     models: &[ModelDef],
 ) -> Result<Vec<Label>, Stop>
-    requires attached { IsTrue (K.seen work.old.keeper.now).attached }
+    requires attached { IsTrue (K.seen work.old.keeper.now).store.attached }
     requires sound { IsTold K.seen work.old → HasSoundTables (state_of K.seen work.old) }
     requires few { length models.now ≤ 64 }
     ensures labels { IsTold K.seen work.new → IfOk result (λ v. Collects (entities_of models.now) (state_of K.seen work.old).tables (length models.now) v.items) }
@@ -70,7 +70,7 @@ fn add_model<K: Keeper>(
     model: u8,
     groups: u8,
 ) -> Result<(), Stop>
-    requires attached { IsTrue (K.seen work.old.keeper.now).attached }
+    requires attached { IsTrue (K.seen work.old.keeper.now).store.attached }
     requires few { groups ≤ 8 }
     ensures labels { IsTold K.seen work.new → All (λ (r : Alternative). r.id < 2 ^ 124) (rows_of (state_of K.seen work.old).tables model) → OnOk result (labels.new.items ≡ labels.old.items ++ labels_of_rows groups (rows_of (state_of K.seen work.old).tables model)) }
     ensures guards { IsTold K.seen work.new → 0 < groups → OnOk result (CanHold (rows_of (state_of K.seen work.old).tables model)) }

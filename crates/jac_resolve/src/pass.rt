@@ -25,7 +25,7 @@ pub fn resolve<K: Keeper, M: Ledger>(
     viewer: Option<Id>,
     evaluations: &mut Steps<M>,
 ) -> Result<Assignment, Stop>
-    requires attached { IsTrue (K.seen work.old.keeper.now).attached }
+    requires attached { IsTrue (K.seen work.old.keeper.now).store.attached }
     requires sound { IsTold K.seen work.old → HasSoundTables (state_of K.seen work.old) }
     ensures settled { IsTold K.seen work.new → IfOk result (IsSettled (application_of app.now) (worlds_of (state_of K.seen work.old)) viewer) }
     ensures later { evaluations.old ≤ evaluations.new }
@@ -45,7 +45,7 @@ fn settle<K: Keeper, M: Ledger>(
     labels: &[Label],
     evaluations: &mut Steps<M>,
 ) -> Result<Assignment, Stop>
-    requires attached { IsTrue (K.seen work.old.keeper.now).attached }
+    requires attached { IsTrue (K.seen work.old.keeper.now).store.attached }
     requires live { IsTold K.seen work.old → AreLive (application_of app.now) (worlds_of (state_of K.seen work.old)) labels.now }
     ensures settled { IsTold K.seen work.new → IfOk result (IsSettled (application_of app.now) (worlds_of (state_of K.seen work.old)) viewer.now) }
     ensures later { evaluations.old ≤ evaluations.new }
@@ -78,7 +78,7 @@ fn try_labels<K: Keeper, M: Ledger>(
     a: &mut Assignment,
     evaluations: &mut Steps<M>,
 ) -> Result<bool, Stop>
-    requires { IsTrue (K.seen work.old.keeper.now).attached }
+    requires { IsTrue (K.seen work.old.keeper.now).store.attached }
     ensures advances { IfOk result (Advances labels.now a.old a.new) }
     ensures within { IfOk result (λ b. Within labels.now a.old a.new) }
     ensures allowed { IsTold K.seen work.new → AreAllowed (application_of app.now) (worlds_of (state_of K.seen work.old)) viewer.now a.old → IfOk result (λ b. AreAllowed (application_of app.now) (worlds_of (state_of K.seen work.old)) viewer.now a.new) }
@@ -104,7 +104,7 @@ fn try_label<K: Keeper, M: Ledger>(
     a: &mut Assignment,
     evaluations: &mut Steps<M>,
 ) -> Result<bool, Stop>
-    requires { IsTrue (K.seen work.old.keeper.now).attached }
+    requires { IsTrue (K.seen work.old.keeper.now).store.attached }
     ensures grows { IfOk result (MayAdd label a.old a.new) }
     ensures tries { IsTold K.seen work.new → IfOk result (Tries (application_of app.now) (worlds_of (state_of K.seen work.old)) viewer.now label a.old a.new) }
     ensures later { evaluations.old ≤ evaluations.new }
@@ -136,7 +136,7 @@ fn all_are_allowed<K: Keeper, M: Ledger>(
     a: &Assignment,
     evaluations: &mut Steps<M>,
 ) -> Result<bool, Stop>
-    requires { IsTrue (K.seen work.old.keeper.now).attached }
+    requires { IsTrue (K.seen work.old.keeper.now).store.attached }
     ensures value { IsTold K.seen work.new → IfOk result (λ b. b ≡ all_allowed (application_of app.now) (worlds_of (state_of K.seen work.old) (shown a.now)) viewer.now a.now) }
     ensures later { evaluations.old ≤ evaluations.new }
     ensures reads { ReadsWork K.seen work.old work.new result }
@@ -160,7 +160,7 @@ fn ask<K: Keeper, M: Ledger>(
     label: Label,
     evaluations: &mut Steps<M>,
 ) -> Result<bool, Stop>
-    requires { IsTrue (K.seen work.old.keeper.now).attached }
+    requires { IsTrue (K.seen work.old.keeper.now).store.attached }
     ensures value { IsTold K.seen work.new → IfOk result (λ b. b ≡ is_allowed (application_of app.now) (worlds_of (state_of K.seen work.old) (shown a.now)) viewer.now label) }
     ensures later { evaluations.old ≤ evaluations.new }
     ensures reads { ReadsWork K.seen work.old work.new result }

@@ -28,7 +28,7 @@ pub fn allowed<K: Keeper, M: Ledger>(
     label: Label,
     evaluations: &mut Steps<M>,
 ) -> Result<(bool, Support), Stop>
-    requires attached { IsTrue (K.seen work.old.keeper.now).attached }
+    requires attached { IsTrue (K.seen work.old.keeper.now).store.attached }
     ensures value { IsTold K.seen work.new → IfOk result (λ r. r.0 ≡ is_allowed (application_of app.now) (worlds_of (state_of K.seen work.old) (shown a.now)) viewer label) }
     ensures ticks { IsTold K.seen work.new → OnOk result (evaluations.new ≡ evaluations.old + (if has_group (application_of app.now) label && has_record (worlds_of (state_of K.seen work.old) (shown a.now)) label then 1 else 0)) }
     ensures later { evaluations.old ≤ evaluations.new }
@@ -63,7 +63,7 @@ fn policy_holds<K: Keeper>(
     policy: &Expr,
     support: &mut Support,
 ) -> Result<bool, Stop>
-    requires attached { IsTrue (K.seen work.old.keeper.now).attached }
+    requires attached { IsTrue (K.seen work.old.keeper.now).store.attached }
     ensures value { IsTold K.seen work.new → IfOk result (λ b. b ≡ is_true (mean (policy_world (application_of app.now) (worlds_of (state_of K.seen work.old) (shown a.now)) viewer id) (expression_of policy.now) [])) }
     ensures reads { ReadsWork K.seen work.old work.new result }
 {

@@ -113,7 +113,11 @@ fn value_of<L: Ledger>(
     let app = app(alloc)?;
     let env = names(alloc)?;
     let pc = Guard::empty(alloc);
-    let mut keeper = MemoryKeeper::new(state(alloc)?, Calls::empty(alloc), Calls::empty(alloc));
+    let mut keeper = MemoryKeeper::attached(
+        state(alloc)?,
+        Calls::empty(alloc),
+        Calls::empty(alloc),
+    );
     let mut work = Work::new(alloc, &mut keeper);
     let value = eval(alloc, &mut work, &app, &context(), &env, &pc, e, splits)?;
     Ok(value)
@@ -123,7 +127,11 @@ fn answers_of<L: Ledger>(alloc: Global, q: &Query, splits: &mut Steps<L>) -> Res
     let app = app(alloc)?;
     let env = names(alloc)?;
     let pc = Guard::empty(alloc);
-    let mut keeper = MemoryKeeper::new(state(alloc)?, Calls::empty(alloc), Calls::empty(alloc));
+    let mut keeper = MemoryKeeper::attached(
+        state(alloc)?,
+        Calls::empty(alloc),
+        Calls::empty(alloc),
+    );
     let mut work = Work::new(alloc, &mut keeper);
     let answers = tuples(alloc, &mut work, &app, &context(), &env, &pc, q, splits)?;
     Ok(answers)

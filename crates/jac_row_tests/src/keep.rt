@@ -8,6 +8,7 @@ ghost use Rattle.jac_rows.specs.Tables.{rows_of};
 ghost use Rattle.jac_io.specs.Faults.{Rose};
 ghost use Rattle.jac_keep.specs.Cause.{HasCause};
 ghost use Rattle.jac_keep.specs.KeeperSeen.{IsLeft};
+ghost use Rattle.jac_keep.specs.KeeperState.{opened};
 ghost use Rattle.jac_keep.specs.Kept.{state_with, applied};
 
 use crate::rows::guard_of;
@@ -42,7 +43,7 @@ impl ShyKeeper {
 }
 
 impl Keeper for ShyKeeper {
-    ghost seen = { λ k. record { tells = k.tells; state = record { tables = []; number = 1 }; faults = k.faults; attached = true } };
+    ghost seen = { λ k. record { tells = k.tells; state = record { tables = []; number = 1 }; faults = k.faults; store = opened } };
 
     fn number(&mut self) -> Result<u64, Stop> {
         self.answer()?;
@@ -75,7 +76,7 @@ struct Counts {
 }
 
 fn counts_without<K: Keeper>(keeper: &mut K, alloc: Global, id: Id) -> Result<Counts, Stop>
-    requires attached { IsTrue (K.seen keeper.old).attached }
+    requires attached { IsTrue (K.seen keeper.old).store.attached }
     requires a_table { IsTrue (K.seen keeper.old).tells → model_of_id id < length (K.seen keeper.old).state.tables }
     ensures left { IsTrue (K.seen keeper.new).tells → IfOk result (λ c. c.left ≡ length (rows_of (state_with id [] (K.seen keeper.old).state).tables (model_of_id id))) }
     ensures keeper { IsLeft (K.seen keeper.old) (K.seen keeper.new) }
@@ -108,7 +109,7 @@ fn deletion<K: Keeper>(keeper: &mut K, alloc: Global, id: Id, number: u64) -> Re
 
 /// Deletes the record for good, as the request of this number.
 fn delete<K: Keeper>(keeper: &mut K, alloc: Global, id: Id, number: u64) -> Result<(), Stop>
-    requires attached { IsTrue (K.seen keeper.old).attached }
+    requires attached { IsTrue (K.seen keeper.old).store.attached }
     requires a_table { IsTrue (K.seen keeper.old).tells → model_of_id id < length (K.seen keeper.old).state.tables }
     requires good { IsTrue (K.seen keeper.old).tells → IsSound (record (state_with id [] (K.seen keeper.old).state) { number = number }) }
     ensures deleted { IsTrue (K.seen keeper.new).tells → OnOk result ((K.seen keeper.new).state ≡ record (state_with id [] (K.seen keeper.old).state) { number = number }) }
@@ -179,7 +180,7 @@ fn small_state(alloc: Global) -> Result<State, Memory>
 fn a_work_reads_and_replaces(rt: HostRuntime) -> Result<(), Fail> {
     let alloc = rt.alloc();
     let state = small_state(alloc)?;
-    let mut keeper = MemoryKeeper::new(state, Calls::empty(alloc), Calls::empty(alloc));
+    let mut keeper = MemoryKeeper::attached(state, Calls::empty(alloc), Calls::empty(alloc));
     let counts = counts_without(&mut keeper, alloc, Id(12289))?;
     assert_eq!(rt; counts.record, 2);
     assert_eq!(rt; counts.model, 2);
@@ -200,7 +201,7 @@ fn listed(alloc: Global, call: u64) -> Result<Calls, Memory> {
 fn an_apply_replaces(rt: HostRuntime) -> Result<(), Fail> {
     let alloc = rt.alloc();
     let state = small_state(alloc)?;
-    let mut keeper = MemoryKeeper::new(state, Calls::empty(alloc), Calls::empty(alloc));
+    let mut keeper = MemoryKeeper::attached(state, Calls::empty(alloc), Calls::empty(alloc));
     delete(&mut keeper, alloc, Id(12289), 5)?;
     assert_eq!(rt; keeper.state().number, 5);
     assert_eq!(rt; keeper.one(alloc, Id(12289))?.as_slice().len(), 0);
@@ -213,7 +214,7 @@ fn an_apply_replaces(rt: HostRuntime) -> Result<(), Fail> {
 fn listed_calls_stop(rt: HostRuntime) -> Result<(), Fail> {
     let alloc = rt.alloc();
     let state = small_state(alloc)?;
-    let mut keeper = MemoryKeeper::new(state, listed(alloc, 1)?, listed(alloc, 1)?);
+    let mut keeper = MemoryKeeper::attached(state, listed(alloc, 1)?, listed(alloc, 1)?);
     assert_eq!(rt; keeper.number(), Err(Stop::Keeper));
     assert_eq!(rt; keeper.number(), Ok(4));
     assert_eq!(rt; delete(&mut keeper, alloc, Id(12289), 5), Err(Stop::Keeper));

@@ -17,4 +17,6 @@ mod query;
 #[cfg(test)]
 mod rows;
 #[cfg(test)]
+mod vault;
+#[cfg(test)]
 mod writes;

@@ -190,7 +190,7 @@ fn value_at(alloc: Global, a: &Assignment, text: &str) -> Option<(Value, Support
         around: None,
     };
     let state = calendar(alloc).ok()?;
-    let mut keeper = MemoryKeeper::new(state, Calls::empty(alloc), Calls::empty(alloc));
+    let mut keeper = MemoryKeeper::attached(state, Calls::empty(alloc), Calls::empty(alloc));
     let mut work = Work::new(alloc, &mut keeper);
     let mut support = Support::empty(alloc);
     let env = PlainEnv::empty(alloc);
@@ -223,7 +223,7 @@ fn has_labels(found: &[Label], wanted: &[u128]) -> bool {
 fn live(alloc: Global) -> Option<Labels> {
     let app = app(alloc, CALENDAR)?;
     let state = calendar(alloc).ok()?;
-    let mut keeper = MemoryKeeper::new(state, Calls::empty(alloc), Calls::empty(alloc));
+    let mut keeper = MemoryKeeper::attached(state, Calls::empty(alloc), Calls::empty(alloc));
     let mut work = Work::new(alloc, &mut keeper);
     live_labels(alloc, &mut work, &app).ok()
 }
@@ -237,7 +237,7 @@ fn is_allowed<L: Ledger>(
 ) -> Option<(bool, Support)> {
     let app = app(alloc, CALENDAR)?;
     let state = calendar(alloc).ok()?;
-    let mut keeper = MemoryKeeper::new(state, Calls::empty(alloc), Calls::empty(alloc));
+    let mut keeper = MemoryKeeper::attached(state, Calls::empty(alloc), Calls::empty(alloc));
     let mut work = Work::new(alloc, &mut keeper);
     let viewer = Some(Id(viewer));
     allowed(alloc, &mut work, &app, viewer, a, Label(label), evaluations).ok()
@@ -253,7 +253,7 @@ fn shown_of<L: Ledger>(
     requires { IsSound state }
 {
     let app = self::app(alloc, app)?;
-    let mut keeper = MemoryKeeper::new(state, Calls::empty(alloc), Calls::empty(alloc));
+    let mut keeper = MemoryKeeper::attached(state, Calls::empty(alloc), Calls::empty(alloc));
     let mut work = Work::new(alloc, &mut keeper);
     resolve(alloc, &mut work, &app, viewer, evaluations).ok()
 }

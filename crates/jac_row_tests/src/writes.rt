@@ -126,7 +126,7 @@ fn make<K: Keeper, L: Ledger>(
     count: i64,
     splits: &mut Steps<L>,
 ) -> Result<(), Stop>
-    requires attached { IsTrue (K.seen work.old.keeper.now).attached }
+    requires attached { IsTrue (K.seen work.old.keeper.now).store.attached }
     requires a_table { IsTrue (K.seen work.old.keeper.now).tells → 0 < length (K.seen work.old.keeper.now).state.tables }
     requires model { 0 < length app.now.models }
     requires fields { length (fields_at (application_of app.now).models 0) ≡ 2 }
@@ -156,7 +156,7 @@ fn set<K: Keeper, L: Ledger>(
     sets: &Sets,
     splits: &mut Steps<L>,
 ) -> Result<(), Stop>
-    requires attached { IsTrue (K.seen work.old.keeper.now).attached }
+    requires attached { IsTrue (K.seen work.old.keeper.now).store.attached }
     requires a_table { IsTrue (K.seen work.old.keeper.now).tells → 0 < length (K.seen work.old.keeper.now).state.tables }
     requires model { 0 < length app.now.models }
     requires fields { length (fields_at (application_of app.now).models 0) ≡ 2 }
@@ -205,7 +205,7 @@ fn shows<K: Keeper>(
     labels: &[Label],
     want: &[u8],
 ) -> Result<bool, Stop>
-    requires { IsTrue (K.seen work.old.keeper.now).attached }
+    requires { IsTrue (K.seen work.old.keeper.now).store.attached }
     ensures { WritesWork K.seen work.old work.new result }
 {
     let shown = showing(alloc, labels)?;
@@ -225,7 +225,7 @@ fn all_show<K: Keeper>(
     work: &mut Work<'_, K>,
     want: [&[u8]; 4],
 ) -> Result<bool, Stop>
-    requires { IsTrue (K.seen work.old.keeper.now).attached }
+    requires { IsTrue (K.seen work.old.keeper.now).store.attached }
     ensures { WritesWork K.seen work.old work.new result }
 {
     if !shows(alloc, work, &[COUNT, OTHER], want[0])? {
@@ -247,7 +247,7 @@ fn made_twice<K: Keeper, L: Ledger>(
     app: &App,
     splits: &mut Steps<L>,
 ) -> Result<bool, Stop>
-    requires attached { IsTrue (K.seen work.old.keeper.now).attached }
+    requires attached { IsTrue (K.seen work.old.keeper.now).store.attached }
     requires a_table { IsTrue (K.seen work.old.keeper.now).tells → 0 < length (K.seen work.old.keeper.now).state.tables }
     requires model { 0 < length app.now.models }
     requires fields { length (fields_at (application_of app.now).models 0) ≡ 2 }
@@ -269,7 +269,11 @@ fn run_creates<L: Ledger>(rt: &impl Abort, alloc: Global, blank: Blank) -> Resul
 {
     let mut steps: Steps<L> = Steps::new(blank);
     let app = app(alloc)?;
-    let mut keeper = MemoryKeeper::new(no_notes(alloc)?, Calls::empty(alloc), Calls::empty(alloc));
+    let mut keeper = MemoryKeeper::attached(
+        no_notes(alloc)?,
+        Calls::empty(alloc),
+        Calls::empty(alloc),
+    );
     let mut work = Work::new(alloc, &mut keeper);
     let right = made_twice(alloc, &mut work, &app, &mut steps)?;
     assert!(rt; right);
@@ -288,7 +292,7 @@ fn changed_here<K: Keeper, L: Ledger>(
     app: &App,
     splits: &mut Steps<L>,
 ) -> Result<bool, Stop>
-    requires attached { IsTrue (K.seen work.old.keeper.now).attached }
+    requires attached { IsTrue (K.seen work.old.keeper.now).store.attached }
     requires a_table { IsTrue (K.seen work.old.keeper.now).tells → 0 < length (K.seen work.old.keeper.now).state.tables }
     requires model { 0 < length app.now.models }
     requires fields { length (fields_at (application_of app.now).models 0) ≡ 2 }
@@ -308,7 +312,11 @@ fn run_change<L: Ledger>(rt: &impl Abort, alloc: Global, blank: Blank) -> Result
 {
     let mut steps: Steps<L> = Steps::new(blank);
     let app = app(alloc)?;
-    let mut keeper = MemoryKeeper::new(no_notes(alloc)?, Calls::empty(alloc), Calls::empty(alloc));
+    let mut keeper = MemoryKeeper::attached(
+        no_notes(alloc)?,
+        Calls::empty(alloc),
+        Calls::empty(alloc),
+    );
     let mut work = Work::new(alloc, &mut keeper);
     let right = changed_here(alloc, &mut work, &app, &mut steps)?;
     assert!(rt; right);
@@ -327,7 +335,7 @@ fn changed_title<K: Keeper, L: Ledger>(
     app: &App,
     splits: &mut Steps<L>,
 ) -> Result<bool, Stop>
-    requires attached { IsTrue (K.seen work.old.keeper.now).attached }
+    requires attached { IsTrue (K.seen work.old.keeper.now).store.attached }
     requires a_table { IsTrue (K.seen work.old.keeper.now).tells → 0 < length (K.seen work.old.keeper.now).state.tables }
     requires model { 0 < length app.now.models }
     requires fields { length (fields_at (application_of app.now).models 0) ≡ 2 }
@@ -354,7 +362,11 @@ fn run_title<L: Ledger>(rt: &impl Abort, alloc: Global, blank: Blank) -> Result<
 {
     let mut steps: Steps<L> = Steps::new(blank);
     let app = app(alloc)?;
-    let mut keeper = MemoryKeeper::new(no_notes(alloc)?, Calls::empty(alloc), Calls::empty(alloc));
+    let mut keeper = MemoryKeeper::attached(
+        no_notes(alloc)?,
+        Calls::empty(alloc),
+        Calls::empty(alloc),
+    );
     let mut work = Work::new(alloc, &mut keeper);
     let right = changed_title(alloc, &mut work, &app, &mut steps)?;
     assert!(rt; right);
@@ -373,7 +385,7 @@ fn changed_kind<K: Keeper, L: Ledger>(
     app: &App,
     splits: &mut Steps<L>,
 ) -> Result<bool, Stop>
-    requires attached { IsTrue (K.seen work.old.keeper.now).attached }
+    requires attached { IsTrue (K.seen work.old.keeper.now).store.attached }
     requires a_table { IsTrue (K.seen work.old.keeper.now).tells → 0 < length (K.seen work.old.keeper.now).state.tables }
     requires model { 0 < length app.now.models }
     requires fields { length (fields_at (application_of app.now).models 0) ≡ 2 }
@@ -400,7 +412,11 @@ fn run_kind<L: Ledger>(rt: &impl Abort, alloc: Global, blank: Blank) -> Result<(
 {
     let mut steps: Steps<L> = Steps::new(blank);
     let app = app(alloc)?;
-    let mut keeper = MemoryKeeper::new(no_notes(alloc)?, Calls::empty(alloc), Calls::empty(alloc));
+    let mut keeper = MemoryKeeper::attached(
+        no_notes(alloc)?,
+        Calls::empty(alloc),
+        Calls::empty(alloc),
+    );
     let mut work = Work::new(alloc, &mut keeper);
     let right = changed_kind(alloc, &mut work, &app, &mut steps)?;
     assert!(rt; right);
@@ -419,7 +435,7 @@ fn changed_nothing<K: Keeper, L: Ledger>(
     app: &App,
     splits: &mut Steps<L>,
 ) -> Result<bool, Stop>
-    requires attached { IsTrue (K.seen work.old.keeper.now).attached }
+    requires attached { IsTrue (K.seen work.old.keeper.now).store.attached }
     requires a_table { IsTrue (K.seen work.old.keeper.now).tells → 0 < length (K.seen work.old.keeper.now).state.tables }
     requires model { 0 < length app.now.models }
     requires fields { length (fields_at (application_of app.now).models 0) ≡ 2 }
@@ -468,7 +484,11 @@ fn run_nothing<L: Ledger>(rt: &impl Abort, alloc: Global, blank: Blank) -> Resul
 {
     let mut steps: Steps<L> = Steps::new(blank);
     let app = app(alloc)?;
-    let mut keeper = MemoryKeeper::new(no_notes(alloc)?, Calls::empty(alloc), Calls::empty(alloc));
+    let mut keeper = MemoryKeeper::attached(
+        no_notes(alloc)?,
+        Calls::empty(alloc),
+        Calls::empty(alloc),
+    );
     let mut work = Work::new(alloc, &mut keeper);
     let right = changed_nothing(alloc, &mut work, &app, &mut steps)?;
     assert!(rt; right);
@@ -487,7 +507,7 @@ fn changed_either<K: Keeper, L: Ledger>(
     app: &App,
     splits: &mut Steps<L>,
 ) -> Result<bool, Stop>
-    requires attached { IsTrue (K.seen work.old.keeper.now).attached }
+    requires attached { IsTrue (K.seen work.old.keeper.now).store.attached }
     requires a_table { IsTrue (K.seen work.old.keeper.now).tells → 0 < length (K.seen work.old.keeper.now).state.tables }
     requires model { 0 < length app.now.models }
     requires fields { length (fields_at (application_of app.now).models 0) ≡ 2 }
@@ -509,7 +529,11 @@ fn run_either<L: Ledger>(rt: &impl Abort, alloc: Global, blank: Blank) -> Result
 {
     let mut steps: Steps<L> = Steps::new(blank);
     let app = app(alloc)?;
-    let mut keeper = MemoryKeeper::new(no_notes(alloc)?, Calls::empty(alloc), Calls::empty(alloc));
+    let mut keeper = MemoryKeeper::attached(
+        no_notes(alloc)?,
+        Calls::empty(alloc),
+        Calls::empty(alloc),
+    );
     let mut work = Work::new(alloc, &mut keeper);
     let right = changed_either(alloc, &mut work, &app, &mut steps)?;
     assert!(rt; right);
@@ -528,7 +552,7 @@ fn deleted_here<K: Keeper, L: Ledger>(
     app: &App,
     splits: &mut Steps<L>,
 ) -> Result<bool, Stop>
-    requires attached { IsTrue (K.seen work.old.keeper.now).attached }
+    requires attached { IsTrue (K.seen work.old.keeper.now).store.attached }
     requires a_table { IsTrue (K.seen work.old.keeper.now).tells → 0 < length (K.seen work.old.keeper.now).state.tables }
     requires model { 0 < length app.now.models }
     requires fields { length (fields_at (application_of app.now).models 0) ≡ 2 }
@@ -547,7 +571,11 @@ fn run_delete<L: Ledger>(rt: &impl Abort, alloc: Global, blank: Blank) -> Result
 {
     let mut steps: Steps<L> = Steps::new(blank);
     let app = app(alloc)?;
-    let mut keeper = MemoryKeeper::new(no_notes(alloc)?, Calls::empty(alloc), Calls::empty(alloc));
+    let mut keeper = MemoryKeeper::attached(
+        no_notes(alloc)?,
+        Calls::empty(alloc),
+        Calls::empty(alloc),
+    );
     let mut work = Work::new(alloc, &mut keeper);
     let right = deleted_here(alloc, &mut work, &app, &mut steps)?;
     assert!(rt; right);

@@ -6,6 +6,7 @@ mod memory;
 mod plain;
 mod projection;
 mod row;
+mod shape;
 mod state;
 mod table;
 
@@ -13,5 +14,6 @@ pub use laws::good_by_guards;
 pub use plain::{PlainRow, PlainState, PlainTable, PlainTables};
 pub use projection::project;
 pub use row::{Row, Rows};
+pub use shape::{Flags, KindLists, Shape};
 pub use state::State;
 pub use table::{Table, Tables};

@@ -8,7 +8,7 @@ use Rattle.jac_write.specs.Writes.{StaysTold}
 
 -- what stands between two rounds, and what is left to run where the work is told
 pub record LoopRuns {K : Type 0} (sight : K → KeeperSeen) (old now : WorkOver K Alterations) (models : ℕ) (running : Type 0) : Type 0 where
-  pub attached : IsTrue (sight now.keeper.now).attached
+  pub attached : IsTrue (sight now.keeper.now).store.attached
   pub tables : IsTrue (sight now.keeper.now).tells → models ≤ length (sight now.keeper.now).state.tables
   pub told : StaysTold sight old now
   pub keeper : IsLeft (sight old.keeper.now) (sight now.keeper.now)

@@ -35,7 +35,7 @@ pub(crate) fn read_sets<K: Keeper, L: Ledger>(
     cells: &Publics,
     splits: &mut Steps<L>,
 ) -> Result<Sets, Stop>
-    requires attached { IsTrue (K.seen work.old.keeper.now).attached }
+    requires attached { IsTrue (K.seen work.old.keeper.now).store.attached }
     requires model { model < length app.now.models }
     ensures sets { IsTold K.seen work.new → IfOk result (λ s. (w : ℕ → Bool) → holds w pc.now ≡ true → sets_at w s ≡ placed_sets (fields_at (application_of app.now).models model) (λ e. mean (world_at app.now ctx.now (state_of K.seen work.old) w) e (env_at w env.now)) (assigned_of cells.now)) }
     ensures fields { IfOk result (λ s. All (λ (x : ℕ × Shape Plain). x.0 < length (fields_at (application_of app.now).models model)) s) }
@@ -65,7 +65,7 @@ fn read_set<K: Keeper, L: Ledger>(
     sets: &mut Vec<(u8, Facet<Value>)>,
     splits: &mut Steps<L>,
 ) -> Result<(), Stop>
-    requires attached { IsTrue (K.seen work.old.keeper.now).attached }
+    requires attached { IsTrue (K.seen work.old.keeper.now).store.attached }
     requires model { model < length app.now.models }
     requires fields { All (λ (x : ℕ × Shape Plain). x.0 < length (fields_at (application_of app.now).models model)) sets.old.items }
     ensures sets { IsTold K.seen work.new → OnOk result ((w : ℕ → Bool) → holds w pc.now ≡ true → sets_at w sets.new.items ≡ sets_at w sets.old.items ++ placed_sets (fields_at (application_of app.now).models model) (λ e. mean (world_at app.now ctx.now (state_of K.seen work.old) w) e (env_at w env.now)) (one_assigned_of set.now ∷ [])) }
@@ -92,7 +92,7 @@ pub(crate) fn new_cells<K: Keeper, L: Ledger>(
     cells: &Publics,
     splits: &mut Steps<L>,
 ) -> Result<Facets<Value>, Stop>
-    requires attached { IsTrue (K.seen work.old.keeper.now).attached }
+    requires attached { IsTrue (K.seen work.old.keeper.now).store.attached }
     requires model { model < length app.now.models }
     ensures cells { let models = (application_of app.now).models in IsTold K.seen work.new → IfOk result (λ cs. (w : ℕ → Bool) → holds w pc.now ≡ true → fitted_from models (fields_at models model) 0 (all_at w cs) ≡ drafted models (fields_at models model) (λ e. mean (world_at app.now ctx.now (state_of K.seen work.old) w) e (env_at w env.now)) (assigned_of cells.now) (default_cells models (fields_at models model))) }
     ensures each_field { IfOk result (λ cs. length cs ≡ length (fields_at (application_of app.now).models model)) }

@@ -43,7 +43,7 @@ pub fn exec<K: Keeper, L: Ledger>(
     stmts: &Stmts,
     splits: &mut Steps<L>,
 ) -> Result<(), Stop>
-    requires attached { IsTrue (K.seen work.old.keeper.now).attached }
+    requires attached { IsTrue (K.seen work.old.keeper.now).store.attached }
     requires tables { IsTrue (K.seen work.old.keeper.now).tells → length app.now.models ≤ length (K.seen work.old.keeper.now).state.tables }
     requires runnable { AreRunnable ctx.now.number (statements_of stmts.now) }
     ensures left { IsTold K.seen work.new → OnOk result (ExecutesAll app.now ctx.now (statements_of stmts.now) pc.now (faceted (state_of K.seen work.old) env.old out.old) (faceted (state_of K.seen work.new) env.new out.new)) }
@@ -69,7 +69,7 @@ fn execute_all<K: Keeper, L: Ledger>(
     stmts: &Stmts,
     splits: &mut Steps<L>,
 ) -> Result<(), Stop>
-    requires attached { IsTrue (K.seen work.old.keeper.now).attached }
+    requires attached { IsTrue (K.seen work.old.keeper.now).store.attached }
     requires tables { IsTrue (K.seen work.old.keeper.now).tells → length app.now.models ≤ length (K.seen work.old.keeper.now).state.tables }
     requires no_record { ctx.now.this ≡ None }
     requires runnable { AreRunnable ctx.now.number (statements_of stmts.now) }
@@ -98,7 +98,7 @@ fn execute<K: Keeper, L: Ledger>(
     stmt: &Stmt,
     splits: &mut Steps<L>,
 ) -> Result<(), Stop>
-    requires attached { IsTrue (K.seen work.old.keeper.now).attached }
+    requires attached { IsTrue (K.seen work.old.keeper.now).store.attached }
     requires tables { IsTrue (K.seen work.old.keeper.now).tells → length app.now.models ≤ length (K.seen work.old.keeper.now).state.tables }
     requires no_record { ctx.now.this ≡ None }
     requires runnable { IsRunnable ctx.now.number (statement_of stmt.now) }
@@ -161,7 +161,7 @@ fn execute_put<K: Keeper, L: Ledger>(
     e: &Expr,
     splits: &mut Steps<L>,
 ) -> Result<(), Stop>
-    requires attached { IsTrue (K.seen work.old.keeper.now).attached }
+    requires attached { IsTrue (K.seen work.old.keeper.now).store.attached }
     requires no_record { ctx.now.this ≡ None }
     ensures left { IsTold K.seen work.new → OnOk result (Executes app.now ctx.now (Statement.put (expression_of e.now)) pc.now (faceted (state_of K.seen work.old) env.now out.old) (faceted (state_of K.seen work.new) env.now out.new)) }
     ensures told { OnOk result (StaysTold K.seen work.old work.new) }
@@ -184,7 +184,7 @@ fn execute_escape<K: Keeper, L: Ledger>(
     e: &Expr,
     splits: &mut Steps<L>,
 ) -> Result<(), Stop>
-    requires attached { IsTrue (K.seen work.old.keeper.now).attached }
+    requires attached { IsTrue (K.seen work.old.keeper.now).store.attached }
     requires no_record { ctx.now.this ≡ None }
     ensures left { IsTold K.seen work.new → OnOk result (Executes app.now ctx.now (Statement.escape (expression_of e.now)) pc.now (faceted (state_of K.seen work.old) env.now out.old) (faceted (state_of K.seen work.new) env.now out.new)) }
     ensures told { OnOk result (StaysTold K.seen work.old work.new) }
@@ -207,7 +207,7 @@ fn execute_redirect<K: Keeper, L: Ledger>(
     e: &Expr,
     splits: &mut Steps<L>,
 ) -> Result<(), Stop>
-    requires attached { IsTrue (K.seen work.old.keeper.now).attached }
+    requires attached { IsTrue (K.seen work.old.keeper.now).store.attached }
     requires no_record { ctx.now.this ≡ None }
     ensures left { IsTold K.seen work.new → OnOk result (Executes app.now ctx.now (Statement.redirect (expression_of e.now)) pc.now (faceted (state_of K.seen work.old) env.now out.old) (faceted (state_of K.seen work.new) env.now out.new)) }
     ensures told { OnOk result (StaysTold K.seen work.old work.new) }
@@ -251,7 +251,7 @@ fn execute_assign<K: Keeper, L: Ledger>(
     e: &Expr,
     splits: &mut Steps<L>,
 ) -> Result<(), Stop>
-    requires attached { IsTrue (K.seen work.old.keeper.now).attached }
+    requires attached { IsTrue (K.seen work.old.keeper.now).store.attached }
     requires no_record { ctx.now.this ≡ None }
     ensures left { IsTold K.seen work.new → OnOk result (Executes app.now ctx.now (Statement.assign name.now (expression_of e.now)) pc.now (faceted (state_of K.seen work.old) env.old out.old) (faceted (state_of K.seen work.new) env.new out.new)) }
     ensures told { OnOk result (StaysTold K.seen work.old work.new) }
@@ -277,7 +277,7 @@ fn execute_let<K: Keeper, L: Ledger>(
     body: &Stmts,
     splits: &mut Steps<L>,
 ) -> Result<(), Stop>
-    requires attached { IsTrue (K.seen work.old.keeper.now).attached }
+    requires attached { IsTrue (K.seen work.old.keeper.now).store.attached }
     requires tables { IsTrue (K.seen work.old.keeper.now).tells → length app.now.models ≤ length (K.seen work.old.keeper.now).state.tables }
     requires no_record { ctx.now.this ≡ None }
     requires runnable { AreRunnable ctx.now.number (statements_of body.now) }
@@ -307,7 +307,7 @@ fn execute_named<K: Keeper, L: Ledger>(
     body: &Stmts,
     splits: &mut Steps<L>,
 ) -> Result<(), Stop>
-    requires attached { IsTrue (K.seen work.old.keeper.now).attached }
+    requires attached { IsTrue (K.seen work.old.keeper.now).store.attached }
     requires tables { IsTrue (K.seen work.old.keeper.now).tells → length app.now.models ≤ length (K.seen work.old.keeper.now).state.tables }
     requires no_record { ctx.now.this ≡ None }
     requires runnable { AreRunnable ctx.now.number (statements_of body.now) }
@@ -338,7 +338,7 @@ fn execute_if<K: Keeper, L: Ledger>(
     second: &Stmts,
     splits: &mut Steps<L>,
 ) -> Result<(), Stop>
-    requires attached { IsTrue (K.seen work.old.keeper.now).attached }
+    requires attached { IsTrue (K.seen work.old.keeper.now).store.attached }
     requires tables { IsTrue (K.seen work.old.keeper.now).tells → length app.now.models ≤ length (K.seen work.old.keeper.now).state.tables }
     requires no_record { ctx.now.this ≡ None }
     requires first { AreRunnable ctx.now.number (statements_of first.now) }
@@ -370,7 +370,7 @@ fn execute_leaves<K: Keeper, L: Ledger>(
     second: &Stmts,
     splits: &mut Steps<L>,
 ) -> Result<(), Stop>
-    requires attached { IsTrue (K.seen work.old.keeper.now).attached }
+    requires attached { IsTrue (K.seen work.old.keeper.now).store.attached }
     requires tables { IsTrue (K.seen work.old.keeper.now).tells → length app.now.models ≤ length (K.seen work.old.keeper.now).state.tables }
     requires no_record { ctx.now.this ≡ None }
     requires first { AreRunnable ctx.now.number (statements_of first.now) }
@@ -402,7 +402,7 @@ fn execute_leaf<K: Keeper, L: Ledger>(
     second: &Stmts,
     splits: &mut Steps<L>,
 ) -> Result<(), Stop>
-    requires attached { IsTrue (K.seen work.old.keeper.now).attached }
+    requires attached { IsTrue (K.seen work.old.keeper.now).store.attached }
     requires tables { IsTrue (K.seen work.old.keeper.now).tells → length app.now.models ≤ length (K.seen work.old.keeper.now).state.tables }
     requires no_record { ctx.now.this ≡ None }
     requires first { AreRunnable ctx.now.number (statements_of first.now) }
@@ -433,7 +433,7 @@ fn execute_for<K: Keeper, L: Ledger>(
     body: &Stmts,
     splits: &mut Steps<L>,
 ) -> Result<(), Stop>
-    requires attached { IsTrue (K.seen work.old.keeper.now).attached }
+    requires attached { IsTrue (K.seen work.old.keeper.now).store.attached }
     requires tables { IsTrue (K.seen work.old.keeper.now).tells → length app.now.models ≤ length (K.seen work.old.keeper.now).state.tables }
     requires no_record { ctx.now.this ≡ None }
     requires runnable { AreRunnable ctx.now.number (statements_of body.now) }
@@ -465,7 +465,7 @@ fn execute_tuples<K: Keeper, L: Ledger>(
     body: &Stmts,
     splits: &mut Steps<L>,
 ) -> Result<(), Stop>
-    requires attached { IsTrue (K.seen work.old.keeper.now).attached }
+    requires attached { IsTrue (K.seen work.old.keeper.now).store.attached }
     requires tables { IsTrue (K.seen work.old.keeper.now).tells → length app.now.models ≤ length (K.seen work.old.keeper.now).state.tables }
     requires no_record { ctx.now.this ≡ None }
     requires runnable { AreRunnable ctx.now.number (statements_of body.now) }
@@ -496,7 +496,7 @@ fn execute_tuple<K: Keeper, L: Ledger>(
     body: &Stmts,
     splits: &mut Steps<L>,
 ) -> Result<(), Stop>
-    requires attached { IsTrue (K.seen work.old.keeper.now).attached }
+    requires attached { IsTrue (K.seen work.old.keeper.now).store.attached }
     requires tables { IsTrue (K.seen work.old.keeper.now).tells → length app.now.models ≤ length (K.seen work.old.keeper.now).state.tables }
     requires no_record { ctx.now.this ≡ None }
     requires runnable { AreRunnable ctx.now.number (statements_of body.now) }
@@ -531,7 +531,7 @@ fn execute_bound<K: Keeper, L: Ledger>(
     body: &Stmts,
     splits: &mut Steps<L>,
 ) -> Result<(), Stop>
-    requires attached { IsTrue (K.seen work.old.keeper.now).attached }
+    requires attached { IsTrue (K.seen work.old.keeper.now).store.attached }
     requires tables { IsTrue (K.seen work.old.keeper.now).tells → length app.now.models ≤ length (K.seen work.old.keeper.now).state.tables }
     requires no_record { ctx.now.this ≡ None }
     requires runnable { AreRunnable ctx.now.number (statements_of body.now) }
@@ -563,7 +563,7 @@ fn execute_create<K: Keeper, L: Ledger>(
     body: &Stmts,
     splits: &mut Steps<L>,
 ) -> Result<(), Stop>
-    requires attached { IsTrue (K.seen work.old.keeper.now).attached }
+    requires attached { IsTrue (K.seen work.old.keeper.now).store.attached }
     requires tables { IsTrue (K.seen work.old.keeper.now).tells → length app.now.models ≤ length (K.seen work.old.keeper.now).state.tables }
     requires no_record { ctx.now.this ≡ None }
     requires numbered { 0 < ctx.now.number }
@@ -600,7 +600,7 @@ fn execute_made<K: Keeper, L: Ledger>(
     body: &Stmts,
     splits: &mut Steps<L>,
 ) -> Result<(), Stop>
-    requires attached { IsTrue (K.seen work.old.keeper.now).attached }
+    requires attached { IsTrue (K.seen work.old.keeper.now).store.attached }
     requires tables { IsTrue (K.seen work.old.keeper.now).tells → length app.now.models ≤ length (K.seen work.old.keeper.now).state.tables }
     requires no_record { ctx.now.this ≡ None }
     requires numbered { 0 < ctx.now.number }
@@ -637,7 +637,7 @@ fn execute_update<K: Keeper, L: Ledger>(
     cells: &Publics,
     splits: &mut Steps<L>,
 ) -> Result<(), Stop>
-    requires attached { IsTrue (K.seen work.old.keeper.now).attached }
+    requires attached { IsTrue (K.seen work.old.keeper.now).store.attached }
     requires tables { IsTrue (K.seen work.old.keeper.now).tells → length app.now.models ≤ length (K.seen work.old.keeper.now).state.tables }
     requires no_record { ctx.now.this ≡ None }
     ensures left { IsTold K.seen work.new → OnOk result ((out : List (List (ℕ × Bool) × Piece)) → Executes app.now ctx.now (Statement.update model.now (expression_of e.now) (assigned_of cells.now)) pc.now (faceted (state_of K.seen work.old) env.now out) (faceted (state_of K.seen work.new) env.now out)) }
@@ -665,7 +665,7 @@ fn execute_delete<K: Keeper, L: Ledger>(
     e: &Expr,
     splits: &mut Steps<L>,
 ) -> Result<(), Stop>
-    requires attached { IsTrue (K.seen work.old.keeper.now).attached }
+    requires attached { IsTrue (K.seen work.old.keeper.now).store.attached }
     requires tables { IsTrue (K.seen work.old.keeper.now).tells → length app.now.models ≤ length (K.seen work.old.keeper.now).state.tables }
     requires no_record { ctx.now.this ≡ None }
     ensures left { IsTold K.seen work.new → OnOk result ((out : List (List (ℕ × Bool) × Piece)) → Executes app.now ctx.now (Statement.delete model.now (expression_of e.now)) pc.now (faceted (state_of K.seen work.old) env.now out) (faceted (state_of K.seen work.new) env.now out)) }

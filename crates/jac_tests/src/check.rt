@@ -2,7 +2,7 @@ use jac_check::{CheckCause, CheckFault, Place, Wanted, check};
 use jac_forms::app_of;
 use jac_lang::KindName;
 use jac_tree::read_tree;
-use jac_value::Txt;
+use jac_value::{Memory, Txt};
 use std::alloc::{AllocError, Global};
 use std::test::Fail;
 
@@ -352,6 +352,32 @@ fn verdict(alloc: Global, text: &str) -> Result<String, AllocError> {
         Ok(_) => Ok(format!(in alloc; "well")?),
         Err(fault) => line(alloc, &fault),
     }
+}
+
+// The schema text of an application; nothing where its text isn't one that is well.
+fn schema_text(alloc: Global, text: &str) -> Result<Txt, Memory> {
+    let Ok(tree) = read_tree(alloc, text.as_bytes()) else {
+        return Ok(Txt::empty(alloc));
+    };
+    let Ok(app) = app_of(alloc, &tree) else {
+        return Ok(Txt::empty(alloc));
+    };
+    match check(alloc, app) {
+        Ok(checked) => checked.schema(alloc),
+        Err(_) => Ok(Txt::empty(alloc)),
+    }
+}
+
+#[test]
+fn calendar_has_a_schema(rt: HostRuntime) -> Result<(), Fail> {
+    let alloc = rt.alloc();
+    let schema = schema_text(alloc, CALENDAR)?;
+    assert_eq!(rt;
+        schema.as_str(),
+        "(schema (model User (fields (name text)) (groups)) \
+        (model Event (fields (title text) (host (ref User)) (open bool)) (groups (title))))"
+    );
+    Ok(())
 }
 
 #[test]

@@ -19,7 +19,7 @@ high_white b h = grind (arith, nat_tests)
 high_atom : (b : ℕ) → 128 ≤ b → is_atom_byte b ≡ false
 high_atom b h = grind (arith, nat_tests)
 
-plain_other : (b : ℕ) → b ≢ 34 → b ≢ 92 → is_plain_byte b ≡ true
+pub plain_other : (b : ℕ) → b ≢ 34 → b ≢ 92 → is_plain_byte b ≡ true
 plain_other b n m = grind (arith, nat_tests)
 
 high_escaped : (b : ℕ) → 128 ≤ b → escaped b ≡ None

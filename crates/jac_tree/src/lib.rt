@@ -1,10 +1,12 @@
-//! Texts of trees: atoms, quoted texts and lists in brackets, read exactly.
+//! Texts of trees: atoms, quoted texts and lists in brackets, read exactly, and printed.
 #![tactic(auto)]
 
 mod fault;
+mod print;
 mod read;
 mod tree;
 
 pub use fault::TreeFault;
-pub use read::{read_tree, spells_one_tree};
+pub use print::{print_tree, printed_spells_its_tree, spelled_has_atoms};
+pub use read::{read_text, read_tree, spells_one_tree};
 pub use tree::{Tree, Trees};

@@ -66,7 +66,7 @@ pub fn read_tree(alloc: Global, bytes: &[u8]) -> Result<Tree, TreeFault>
         Ok(text) => text,
         Err(fault) => return Err(TreeFault::NotUtf8(fault.valid_up_to() as u64)),
     };
-    let tree = read_text(alloc, text)?;
+    let tree = read_str(alloc, text)?;
     Ok(tree)
 }
 
@@ -75,8 +75,16 @@ pub fn spells_one_tree()
     ensures { (bytes : List ℕ) (t : PlainTree) (u : PlainTree) → Spells bytes t → Spells bytes u → t ≡ u }
 {}
 
-fn read_text(alloc: Global, text: &str) -> Result<Tree, TreeFault>
-    requires { length text.now ≤ 1048576 }
+/// The tree that the text spells, however long it is.
+pub fn read_text(alloc: Global, text: &Txt) -> Result<Tree, TreeFault>
+    ensures reads { Reads text.now result }
+    ensures wide { IfOk result (λ t. widest (plain t) ≤ length text.now) }
+{
+    let tree = read_str(alloc, text.as_str())?;
+    Ok(tree)
+}
+
+fn read_str(alloc: Global, text: &str) -> Result<Tree, TreeFault>
     ensures { Reads text.now result }
 {
     let mut stack = Vec::new(alloc);

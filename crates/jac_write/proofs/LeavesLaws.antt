@@ -23,7 +23,7 @@ IsWriting step all left old now = (n : ℕ) → IsSound (numbered n old) → Wri
 
 -- a loop that writes through a work
 pub record LoopWrites {K : Type 0} (sight : K → KeeperSeen) (old now : WorkOver K Alterations) (model : ℕ) (writing : Type 0) : Type 0 where
-  pub attached : IsTrue (sight now.keeper.now).attached
+  pub attached : IsTrue (sight now.keeper.now).store.attached
   pub a_table : IsTrue (sight now.keeper.now).tells → model < length (sight now.keeper.now).state.tables
   pub told : StaysTold sight old now
   pub keeper : IsLeft (sight old.keeper.now) (sight now.keeper.now)

@@ -67,7 +67,7 @@ pub fn create<K: Keeper, L: Ledger>(
     cells: &Facets<Value>,
     splits: &mut Steps<L>,
 ) -> Result<(), Stop>
-    requires attached { IsTrue (K.seen work.old.keeper.now).attached }
+    requires attached { IsTrue (K.seen work.old.keeper.now).store.attached }
     requires a_table { IsTrue (K.seen work.old.keeper.now).tells → model_of_id id < length (K.seen work.old.keeper.now).state.tables }
     requires model { model_of_id id < length app.now.models }
     requires id { is_id_of id (model_of_id id) ≡ true }

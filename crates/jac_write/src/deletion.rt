@@ -22,7 +22,7 @@ fn delete_alternatives<K: Keeper>(
     guard: &Guard,
     id: Id,
 ) -> Result<(), Stop>
-    requires attached { IsTrue (K.seen work.old.keeper.now).attached }
+    requires attached { IsTrue (K.seen work.old.keeper.now).store.attached }
     requires a_table { IsTrue (K.seen work.old.keeper.now).tells → model_of_id id < length (K.seen work.old.keeper.now).state.tables }
     ensures left { IsTold K.seen work.new → OnOk result (Writes (λ w ts. slice_set ts (model_of_id id) (without id (rows_of ts (model_of_id id)))) guard.now (state_of K.seen work.old) (state_of K.seen work.new)) }
     ensures told { OnOk result (StaysTold K.seen work.old work.new) }
@@ -46,7 +46,7 @@ fn delete_record<K: Keeper>(
     model: u8,
     id: Id,
 ) -> Result<(), Stop>
-    requires attached { IsTrue (K.seen work.old.keeper.now).attached }
+    requires attached { IsTrue (K.seen work.old.keeper.now).store.attached }
     requires a_table { IsTrue (K.seen work.old.keeper.now).tells → model < length (K.seen work.old.keeper.now).state.tables }
     ensures left { IsTold K.seen work.new → OnOk result (Writes (λ w ts. slice_set ts model (without id (rows_of ts model))) guard.now (state_of K.seen work.old) (state_of K.seen work.new)) }
     ensures told { OnOk result (StaysTold K.seen work.old work.new) }
@@ -67,7 +67,7 @@ fn delete_where<K: Keeper>(
     model: u8,
     target: &Value,
 ) -> Result<(), Stop>
-    requires attached { IsTrue (K.seen work.old.keeper.now).attached }
+    requires attached { IsTrue (K.seen work.old.keeper.now).store.attached }
     requires a_table { IsTrue (K.seen work.old.keeper.now).tells → model < length (K.seen work.old.keeper.now).state.tables }
     ensures left { IsTold K.seen work.new → OnOk result (Writes (λ w. tables_after model target.now without) guard.now (state_of K.seen work.old) (state_of K.seen work.new)) }
     ensures told { OnOk result (StaysTold K.seen work.old work.new) }
@@ -88,7 +88,7 @@ fn delete_leaves<K: Keeper>(
     model: u8,
     leaves: &[(Guard, Value)],
 ) -> Result<(), Stop>
-    requires attached { IsTrue (K.seen work.old.keeper.now).attached }
+    requires attached { IsTrue (K.seen work.old.keeper.now).store.attached }
     requires a_table { IsTrue (K.seen work.old.keeper.now).tells → model < length (K.seen work.old.keeper.now).state.tables }
     ensures left { IsTold K.seen work.new → OnOk result (WritesEach (λ w v. tables_after model v without) leaves.now (state_of K.seen work.old) (state_of K.seen work.new)) }
     ensures told { OnOk result (StaysTold K.seen work.old work.new) }
@@ -109,7 +109,7 @@ pub fn delete<K: Keeper>(
     model: u8,
     target: &Facet<Value>,
 ) -> Result<(), Stop>
-    requires attached { IsTrue (K.seen work.old.keeper.now).attached }
+    requires attached { IsTrue (K.seen work.old.keeper.now).store.attached }
     requires a_table { IsTrue (K.seen work.old.keeper.now).tells → model < length (K.seen work.old.keeper.now).state.tables }
     ensures left { IsTold K.seen work.new → OnOk result (Writes (λ w. tables_after model (at w target.now) without) pc.now (state_of K.seen work.old) (state_of K.seen work.new)) }
     ensures told { OnOk result (StaysTold K.seen work.old work.new) }

@@ -1,5 +1,5 @@
 //! What a field shows where its group is hidden.
-ghost use Rattle.std.specs.Prelude.{◌≡◌, ◌<◌, ◌+◌, [], ℕ, Bool, true, length, slice_get, unwrap_or, Some, None, IfOk};
+ghost use Rattle.std.specs.Prelude.{◌≡◌, ◌<◌, ◌+◌, [], ℕ, Bool, true, length, slice_get, unwrap_or, Some, None, IfOk, IsTrue};
 ghost use Rattle.jac_value.specs.Ids.{is_id_of, number_of_id};
 ghost use Rattle.jac_value.specs.Values.{default_value};
 ghost use Rattle.jac_lang.specs.Lookup.{fields_at, kind_at};
@@ -103,6 +103,7 @@ fn value_in<L: Ledger>(
     e: &Expr,
     splits: &mut Steps<L>,
 ) -> Result<Value, Stop>
+    requires { IsTrue keeper.old.store.attached }
     ensures { IfOk result (λ v. v ≡ mean (record { models = (application_of app.now).models; this = Some id; viewer = None; tables = (project_at (shown []) keeper.old.state).tables }) (expression_of e.now) []) }
 {
     let mut work = Work::new(alloc, keeper);
@@ -129,7 +130,7 @@ fn value_alone<L: Ledger>(
     ensures { IfOk result (λ v. v ≡ value_over (application_of app.now).models model id cells.now (expression_of e.now)) }
 {
     let state = state_alone(alloc, model, id, cells)?;
-    let mut keeper = MemoryKeeper::new(state, Calls::empty(alloc), Calls::empty(alloc));
+    let mut keeper = MemoryKeeper::attached(state, Calls::empty(alloc), Calls::empty(alloc));
     match value_in(alloc, &mut keeper, app, id, e, splits) {
         Ok(value) => Ok(value),
         // No call of this keeper is to fail.

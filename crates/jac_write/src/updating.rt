@@ -72,7 +72,7 @@ fn update_alternatives<K: Keeper, L: Ledger>(
     sets: &Sets,
     splits: &mut Steps<L>,
 ) -> Result<(), Stop>
-    requires attached { IsTrue (K.seen work.old.keeper.now).attached }
+    requires attached { IsTrue (K.seen work.old.keeper.now).store.attached }
     requires a_table { IsTrue (K.seen work.old.keeper.now).tells → model < length (K.seen work.old.keeper.now).state.tables }
     requires model { model < length app.now.models }
     requires fields { All (λ (s : ℕ × Shape Plain). s.0 < length (fields_at (application_of app.now).models model)) sets.now }
@@ -103,7 +103,7 @@ fn update_record<K: Keeper, L: Ledger>(
     sets: &Sets,
     splits: &mut Steps<L>,
 ) -> Result<(), Stop>
-    requires attached { IsTrue (K.seen work.old.keeper.now).attached }
+    requires attached { IsTrue (K.seen work.old.keeper.now).store.attached }
     requires a_table { IsTrue (K.seen work.old.keeper.now).tells → model < length (K.seen work.old.keeper.now).state.tables }
     requires model { model < length app.now.models }
     requires fields { All (λ (s : ℕ × Shape Plain). s.0 < length (fields_at (application_of app.now).models model)) sets.now }
@@ -129,7 +129,7 @@ fn update_where<K: Keeper, L: Ledger>(
     sets: &Sets,
     splits: &mut Steps<L>,
 ) -> Result<(), Stop>
-    requires attached { IsTrue (K.seen work.old.keeper.now).attached }
+    requires attached { IsTrue (K.seen work.old.keeper.now).store.attached }
     requires a_table { IsTrue (K.seen work.old.keeper.now).tells → model < length (K.seen work.old.keeper.now).state.tables }
     requires model { model < length app.now.models }
     requires fields { All (λ (s : ℕ × Shape Plain). s.0 < length (fields_at (application_of app.now).models model)) sets.now }
@@ -155,7 +155,7 @@ fn update_leaves<K: Keeper, L: Ledger>(
     sets: &Sets,
     splits: &mut Steps<L>,
 ) -> Result<(), Stop>
-    requires attached { IsTrue (K.seen work.old.keeper.now).attached }
+    requires attached { IsTrue (K.seen work.old.keeper.now).store.attached }
     requires a_table { IsTrue (K.seen work.old.keeper.now).tells → model < length (K.seen work.old.keeper.now).state.tables }
     requires model { model < length app.now.models }
     requires fields { All (λ (s : ℕ × Shape Plain). s.0 < length (fields_at (application_of app.now).models model)) sets.now }
@@ -181,7 +181,7 @@ pub fn update<K: Keeper, L: Ledger>(
     sets: &Sets,
     splits: &mut Steps<L>,
 ) -> Result<(), Stop>
-    requires attached { IsTrue (K.seen work.old.keeper.now).attached }
+    requires attached { IsTrue (K.seen work.old.keeper.now).store.attached }
     requires a_table { IsTrue (K.seen work.old.keeper.now).tells → model < length (K.seen work.old.keeper.now).state.tables }
     requires model { model < length app.now.models }
     requires fields { All (λ (s : ℕ × Shape Plain). s.0 < length (fields_at (application_of app.now).models model)) sets.now }

@@ -8,7 +8,7 @@ use Rattle.jac_app.specs.Refusal.{IsStep}
 use Rattle.jac_app.specs.declared.refusal.Refusal.{Refusal}
 use Rattle.jac_app.specs.declared.refusal.Refusal.TheVariants as refusals
 use Rattle.jac_engine.proofs.PlaceLaws.{length_pages}
-use Rattle.jac_app.proofs.OpeningLemmas.{opening_on, template_steps, sited}
+use Rattle.jac_app.proofs.OpeningLemmas.{opening_on, template_steps, sited, same_models}
 use Rattle.jac_app.proofs.application.open_form.Goals as goal
 
 pub returns-in-Ok : goal.returns-in-Ok
@@ -27,5 +27,8 @@ returns-in-Err c =
 pub expand_app-requires : goal.expand_app-requires
 expand_app-requires c = record { few = subst (λ (n : ℕ). n < 2 ^ 32) (length_pages c.args.app.views) c.requires.few_views }
 
-pub open_expanded-requires : goal.open_expanded-requires
-open_expanded-requires c = sited (application_of c.args.app) (application_of c.in-Ok.app) c.requires c.in-Ok.ensures.application
+pub open_expanded-requires-clause-sited : goal.open_expanded-requires-clause-sited
+open_expanded-requires-clause-sited c = sited (application_of c.args.app) (application_of c.in-Ok.app) c.requires c.in-Ok.ensures.application
+
+pub open_expanded-requires-clause-models : goal.open_expanded-requires-clause-models
+open_expanded-requires-clause-models c = same_models (application_of c.args.app) (application_of c.in-Ok.app) c.requires c.in-Ok.ensures.application

@@ -14,8 +14,8 @@ invariant-outs g l =
     record {
       few : l.served + left (seen l.fn.hub) < 2 ^ 64 - 1;
       fewer : l.count + left (seen l.hub) ≤ l.served + left (seen l.fn.hub);
-      attached : IsTrue (K.seen l.keeper).attached;
-      same_attached : (K.seen l.keeper).attached ≡ (K.seen l.fn.keeper).attached;
+      attached : IsTrue (K.seen l.keeper).store.attached;
+      same_attached : (K.seen l.keeper).store ≡ (K.seen l.fn.keeper).store;
       start : IsTrue (K.seen l.keeper).tells → IsStart (application_of l.service) (K.seen l.keeper).state;
       went : Went (sinks (O.seen l.fn.out) (O.seen l.out) (U.seen l.fn.audit) (U.seen l.audit))
           (PutsSoFar (application_of l.service) l.sessions (seen l.fn.hub) (seen l.hub) (span (K.seen l.fn.keeper) (K.seen l.keeper)) l.served l.count);

@@ -17,6 +17,7 @@ lines-init g c =
       lines = omega arith;
       fewer = omega arith;
       attached = c.requires.attached;
+      same_store = refl;
       start = c.requires.start;
       idle = progress.idle;
       following = record { known = progress.known; like = progress.like };
@@ -54,6 +55,7 @@ lines-preserved g c =
       lines = omega (arith, before.lines, left, shorter_left _ _ c.first_part.ensures.shorter);
       fewer = omega (arith, before.fewer, c.in-Ok.ensures.count);
       attached = rw c.in-Ok.ensures.attached before.attached;
+      same_store = c.in-Ok.ensures.attached ∙ before.same_store;
       start = c.in-Ok.ensures.start;
       idle = went.holds.idle;
       following = record { known = went.holds.known; like = went.holds.like };

@@ -18,7 +18,8 @@ invariant-lines g l =
       short : length l.bytes < 2 ^ 32;
       lines : l.number + length_left (option_now l.left) ≤ length l.bytes + 1;
       fewer : l.served ≤ l.number * 2 ^ 26;
-      attached : IsTrue (K.seen l.keeper).attached;
+      attached : IsTrue (K.seen l.keeper).store.attached;
+      same_store : (K.seen l.keeper).store ≡ (K.seen l.fn.keeper).store;
       start : IsTrue (K.seen l.keeper).tells → IsStart (application_of l.service) (K.seen l.keeper).state;
       idle : (seen l.hub).turn ≡ Idle;
       following : IsFollowing (application_of l.service) l.sessions (seen l.hub);

@@ -16,7 +16,7 @@ abbrev pub invariant-cells : goal.invariant-cells
 invariant-cells g l =
     let k = g.K.Keeper in
     let fields = fields_at (application_of l.app).models l.model in
-    IsTrue (k.seen l.work.keeper.now).attached
+    IsTrue (k.seen l.work.keeper.now).store.attached
     × All (λ (x : ℕ × Shape Value). x.0 < length fields) l.sets.items
     × LoopOver k.seen l.fn.work l.work
     ((w : ℕ → Bool) → holds w l.pc ≡ true → sets_at w l.sets.items ++ placed_sets fields (λ e. mean (world_at l.app l.ctx (state_of k.seen l.fn.work) w) e (env_at w l.env)) (assigned_of l.left)

@@ -9,4 +9,4 @@ pub returns-in-Ok : goal.returns-in-Ok
 returns-in-Ok g c =
     c.in-Ok.ensures
     ∙ ap (λ ts. mean (record { models = (application_of c.args.app.now).models; this = Some c.args.id; viewer = None; tables = ts }) (expression_of c.args.e.now) [])
-    (ap (λ k. (project_at (shown []) k.state).tables) c.new-keeper.ensures ∙ c.in_ok-state.ensures.shown (shown []))
+    (ap (λ k. (project_at (shown []) k.state).tables) c.attached-keeper.ensures ∙ c.in_ok-state.ensures.shown (shown []))

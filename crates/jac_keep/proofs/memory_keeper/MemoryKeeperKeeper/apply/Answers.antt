@@ -4,9 +4,9 @@ use Rattle.jac_keep.proofs.SoundLaws.{tables_of_sound}
 use Rattle.jac_keep.proofs.memory_keeper.MemoryKeeperKeeper.apply.Goals as goal
 
 pub alter_tables-requires-clause-rising : goal.alter_tables-requires-clause-rising
-alter_tables-requires-clause-rising c = tables_of_sound c.self.inside.state c.self.invariant
+alter_tables-requires-clause-rising c = tables_of_sound c.self.inside.state c.self.invariant.sound
 
 pub alter_tables-requires-clause-stay : goal.alter_tables-requires-clause-stay
 alter_tables-requires-clause-stay c =
     let same : c.self.inside.state ≡ c.args.self.now.state = ap (λ k. k.state) c.self.view_is in
-    tables_of_sound (applied c.args.change.now c.self.inside.state) (rw same c.requires)
+    tables_of_sound (applied c.args.change.now c.self.inside.state) (rw same c.requires.good)

@@ -1,0 +1,269 @@
+-- Where nothing is missing and nothing fails, all is done.
+use Rattle.std.proofs.Common.{Bool, false, ◌≡◌, ◌∙◌, ap, sym, subst, refl, ℕ, ◌≤◌, ◌<◌, ◌⊎◌, inl, inr, is_some, IsTrue, IsSomeAnd, Result, Ok, Err, Option, Some, None, List, length, arith}
+use Rattle.jac_io.specs.Faults.{Rose}
+use Rattle.jac_io.specs.Seen.{FilesSeen, SinkSeen}
+use Rattle.jac_lang.specs.Syntax.{Application}
+use Rattle.jac_route.specs.Sessions.{sessions_in}
+use Rattle.jac_app.specs.declared.words.Command.{Command}
+use Rattle.jac_app.specs.declared.words.Command.TheVariants as commands
+use Rattle.jac_app.specs.declared.ending.Ending.{Ending}
+use Rattle.jac_app.specs.declared.ending.Ending.TheVariants as endings
+use Rattle.jac_app.specs.declared.ending.Role.{Role}
+use Rattle.jac_app.specs.declared.ending.Role.TheVariants as roles
+use Rattle.jac_app.specs.declared.summary.Summary.{Summary}
+use Rattle.jac_app.specs.declared.status.Status.{Status}
+use Rattle.jac_app.specs.declared.status.Status.TheVariants as statuses
+use Rattle.jac_app.specs.Script.{script_of}
+use Rattle.jac_app.specs.Application.{IsApplication}
+use Rattle.jac_app.specs.Outside.{Span}
+use Rattle.jac_app.specs.Commands.{file_of, name_of, name_or_empty, limit_of}
+use Rattle.jac_demo.specs.Calendar.{calendar_text}
+use Rattle.jac_app.specs.Files.{Sight, sinks_of, IsUnopened, IsRead, IsLong, HasBadLine, IsReached}
+use Rattle.jac_app.specs.Ending.{Finishes, status_of}
+use Rattle.jac_app.specs.Replay.{EndsOpening, EndsReplay}
+use Rattle.jac_app.specs.Check.{EndsCheck, PutsText, checked_text}
+use Rattle.jac_world.specs.World.{shown as shown_labels}
+use Rattle.jac_app.specs.Dump.{EndsDump, EndsDumping}
+use Rattle.jac_app.specs.Demo.{EndsDemo, EndsCounting, EndsTallying, PutsSummary, IsTold, summary_line}
+use Rattle.jac_app.specs.Run.{Ends, Runs, IsCompleted, CanHaveSessions, CanOpen, CanReplay, CanCheck, CanDemo, CanDump}
+use Rattle.jac_app.proofs.CauseLemmas.{same_ending}
+use Rattle.jac_app.proofs.OpeningLemmas.{some_same}
+
+-- a file that was read is the one that is there
+same_bytes : (seen : Sight) (command : Command) (role : Role) (there bytes : List ℕ)
+    → IsTrue seen.files.after.tells → seen.files.before.file (name_of command role) ≡ Some there → IsRead seen command role bytes → bytes ≡ there
+same_bytes seen command role there bytes told file read = some_same _ _ (sym (read.told told) ∙ file)
+
+not_long : (seen : Sight) (command : Command) (role : Role) (there : List ℕ)
+    → IsTrue seen.files.after.tells → seen.files.before.file (name_of command role) ≡ Some there → length there ≤ limit_of role → IsLong seen command role → ⊥
+not_long seen command role there told file short long =
+    let more : limit_of role < length there = subst (λ (o : Option (List ℕ)). IsSomeAnd o (λ bytes. limit_of role < length bytes)) file (long told) in
+    omega arith
+
+-- no line is refused of sessions that can be had
+no_bad_line : (files : Span FilesSeen) (name : Option (List ℕ)) (line : ℕ) → IsTrue files.after.tells → CanHaveSessions files.before name → HasBadLine files name line → ⊥
+no_bad_line files None line told can bad = bad
+no_bad_line files (Some name) line told can bad =
+    let same = some_same _ _ (sym (bad.1.told told) ∙ can.2) in
+    let ok = sym can.4 ∙ ap sessions_in (sym same) ∙ bad.2 in
+    cc
+
+-- nor is their file too long
+not_long_named : (files : Span FilesSeen) (name : Option (List ℕ)) → IsTrue (is_some name) → CanHaveSessions files.before name
+    → IsSomeAnd (files.before.file (name_or_empty name)) (λ bytes. 1048576 < length bytes) → ⊥
+not_long_named files None is can long = cc
+not_long_named files (Some name) is can long =
+    let more : 1048576 < length can.0 = subst (λ (o : Option (List ℕ)). IsSomeAnd o (λ bytes. 1048576 < length bytes)) can.2 long in
+    omega (arith, more, can.3)
+
+-- where an application can be opened, only memory ends the opening
+module _ (seen : Sight) (command : Command) (app : Application) (can : CanOpen seen command app) where
+  no_opening_fault : (ending : Ending) → EndsOpening seen command ending
+      → ((role : Role) → IsReached seen command role → IsLong seen command role → ⊥) → ((line : ℕ) → HasBadLine seen.files (file_of command roles.Sessions) line → ⊥)
+      → status_of ending ≡ statuses.Memory
+  no_opening_fault (endings.ReadFault role) h long bad = absurd (can.no_read_fault h.1)
+  no_opening_fault (endings.TooLong role) h long bad = absurd (long role h.0 h.1)
+  no_opening_fault (endings.SessionsRefused line) h long bad = absurd (bad line h.1)
+  no_opening_fault (endings.AppRefused line) h long bad =
+      let same = same_bytes seen command roles.App can.bytes h.0 can.told can.file h.1 in
+      absurd (h.2.none app (subst (λ (b : List ℕ). IsApplication b app) (sym same) can.application))
+  no_opening_fault endings.Memory h long bad = refl
+  no_opening_fault (endings.LineRefused lapse) h long bad = absurd h
+  no_opening_fault endings.WriteFault h long bad = absurd h
+  no_opening_fault endings.StoreFault h long bad = absurd h
+  no_opening_fault (endings.OtherStore stored wanted) h long bad = absurd h
+
+  app_not_long : IsLong seen command roles.App → ⊥
+  app_not_long long = not_long seen command roles.App can.bytes can.told can.file can.application.1.short long
+
+-- all ended by want of memory, or the store failed or has another schema
+abbrev completed : Ending → Type 0
+completed ending = (status_of ending ≡ statuses.Memory) ⊎ ((status_of ending ≡ statuses.StoreFault) ⊎ (status_of ending ≡ statuses.OtherStore))
+
+complete_ending : (ending : Ending) (answer : Status) → answer ≡ status_of ending → completed ending → IsCompleted answer
+complete_ending ending answer is (inl h) = inr (inl (is ∙ h))
+complete_ending ending answer is (inr (inl h)) = inr (inr (inl (is ∙ h)))
+complete_ending ending answer is (inr (inr h)) = inr (inr (inr (is ∙ h)))
+
+-- where no put fails, a text is put
+no_text_fault : (sink : Span SinkSeen) → (Rose sink.before.faults sink.after.faults → ⊥) → (text put : List ℕ) (ending : Ending) → PutsText sink text (Err ending) put → ⊥
+no_text_fault sink none text put endings.WriteFault h = none h.1
+no_text_fault sink none text put endings.Memory h = h
+no_text_fault sink none text put endings.StoreFault h = h
+no_text_fault sink none text put (endings.OtherStore stored wanted) h = h
+no_text_fault sink none text put (endings.ReadFault role) h = h
+no_text_fault sink none text put (endings.TooLong role) h = h
+no_text_fault sink none text put (endings.AppRefused line) h = h
+no_text_fault sink none text put (endings.LineRefused lapse) h = h
+no_text_fault sink none text put (endings.SessionsRefused line) h = h
+
+-- a replay that can be served ends by want of memory or the store's refusal alone
+module _ (seen : Sight) (words : List (List ℕ)) (can : CanReplay seen words) where
+  abbrev its : Command
+  its = commands.Replay can.replay
+
+  no_long : (role : Role) → IsReached seen its role → IsLong seen its role → ⊥
+  no_long roles.App reached long = app_not_long seen its can.app can.opens long
+  no_long roles.Sessions reached long = not_long_named seen.files can.replay.sessions reached.1 can.sessions_file (long can.opens.told)
+  no_long roles.Events reached long = not_long seen its roles.Events can.events can.opens.told can.events_file can.short long
+
+  no_ending : (out audit : List ℕ) (ending : Ending) → EndsReplay seen its (Err ending) out audit → completed ending
+  no_ending out audit ending (inl h) =
+      inl (no_opening_fault seen its can.app can.opens ending h.0 no_long (λ line bad. no_bad_line seen.files can.replay.sessions line can.opens.told can.sessions_file bad))
+  no_ending out audit endings.WriteFault (inr h) = absurd (can.opens.no_write_fault h.ends.0)
+  no_ending out audit endings.Memory (inr h) = inl refl
+  no_ending out audit endings.StoreFault (inr h) = inr (inl refl)
+  no_ending out audit (endings.OtherStore stored wanted) (inr h) = inr (inr refl)
+  no_ending out audit (endings.LineRefused lapse) (inr h) =
+      let same = same_bytes seen its roles.Events can.events h.events can.opens.told can.events_file h.opened.events_read in
+      let none = sym can.forms ∙ ap (λ (b : List ℕ). (script_of b).refused) (sym same) ∙ h.ends.1.ends.0 in
+      cc
+  no_ending out audit (endings.ReadFault role) (inr h) = absurd h.ends.1.ends
+  no_ending out audit (endings.TooLong role) (inr h) = absurd h.ends.1.ends
+  no_ending out audit (endings.AppRefused line) (inr h) = absurd h.ends.1.ends
+  no_ending out audit (endings.SessionsRefused line) (inr h) = absurd h.ends.1.ends
+
+  completes : (out audit : List ℕ) (ended : Result (Unit {0}) Ending) (last : List ℕ) (answer : Status)
+      → EndsReplay seen its ended out audit → Finishes seen.out its ended last answer → IsCompleted answer
+  completes out audit (Ok done) last answer ends h = inl h.1
+  completes out audit (Err ending) last answer ends (inl h) = complete_ending ending answer h.1 (no_ending out audit ending ends)
+  completes out audit (Err ending) last answer ends (inr h) = absurd (can.opens.no_write_fault (inl h.2))
+
+  -- where nothing is missing and no read or put fails, all is served, unless memory runs out or the store refuses
+  pub is_served : (answer : Status) (out audit : List ℕ) → Runs seen words answer out audit → IsCompleted answer
+  is_served answer out audit (inl r) =
+      let same : r.command ≡ its = some_same _ _ (sym r.is_command ∙ can.is_command) in
+      completes r.served audit r.ended r.last answer
+      (subst (λ (c : Command). Ends seen c r.ended r.served audit) same r.ends)
+      (subst (λ (c : Command). Finishes seen.out c r.ended r.last answer) same r.finishes)
+  is_served answer out audit (inr (inl r)) = let none = sym r.no_command ∙ can.is_command in cc
+  is_served answer out audit (inr (inr r)) = elim r.closes [ inl h ↦ inr (inl h.1) | inr h ↦ absurd (can.opens.no_write_fault (inl h.2)) ]
+
+none_there : IsTrue false → ⊥
+none_there is = cc
+
+-- the same of a check
+module _ (seen : Sight) (words : List (List ℕ)) (can : CanCheck seen words) where
+  abbrev checked : Command
+  checked = commands.Check can.name
+
+  check_long : (role : Role) → IsReached seen checked role → IsLong seen checked role → ⊥
+  check_long roles.App reached long = app_not_long seen checked can.app can.opens long
+  check_long roles.Sessions reached long = none_there reached.1
+  check_long roles.Events reached long = none_there reached.2
+
+  no_check_ending : (out audit : List ℕ) (ending : Ending) → EndsCheck seen checked (Err ending) out audit → status_of ending ≡ statuses.Memory
+  no_check_ending out audit ending (inl h) = no_opening_fault seen checked can.app can.opens ending h.0 check_long (λ line bad. absurd bad)
+  no_check_ending out audit ending (inr h) = absurd (no_text_fault seen.out (λ rose. can.opens.no_write_fault (inl rose)) (checked_text h.app) out ending h.text)
+
+  check_completes : (out audit : List ℕ) (ended : Result (Unit {0}) Ending) (last : List ℕ) (answer : Status)
+      → EndsCheck seen checked ended out audit → Finishes seen.out checked ended last answer → (answer ≡ statuses.Done) ⊎ (answer ≡ statuses.Memory)
+  check_completes out audit (Ok done) last answer ends h = inl h.1
+  check_completes out audit (Err ending) last answer ends (inl h) = inr (h.1 ∙ no_check_ending out audit ending ends)
+  check_completes out audit (Err ending) last answer ends (inr h) = absurd (can.opens.no_write_fault (inl h.2))
+
+  -- where the application is there and no read or put fails, it is checked, unless memory runs out
+  pub is_checked : (answer : Status) (out audit : List ℕ) → Runs seen words answer out audit → (answer ≡ statuses.Done) ⊎ (answer ≡ statuses.Memory)
+  is_checked answer out audit (inl r) =
+      let same : r.command ≡ checked = some_same _ _ (sym r.is_command ∙ can.is_command) in
+      check_completes r.served audit r.ended r.last answer
+      (subst (λ (c : Command). Ends seen c r.ended r.served audit) same r.ends)
+      (subst (λ (c : Command). Finishes seen.out c r.ended r.last answer) same r.finishes)
+  is_checked answer out audit (inr (inl r)) = let none = sym r.no_command ∙ can.is_command in cc
+  is_checked answer out audit (inr (inr r)) = elim r.closes [ inl h ↦ inr h.1 | inr h ↦ absurd (can.opens.no_write_fault (inl h.2)) ]
+
+-- the same of a demo
+module _ (seen : Sight) (words : List (List ℕ)) (can : CanDemo seen words) where
+  abbrev shown : Command
+  shown = commands.Demo can.count
+
+  not_opened : (ending : Ending) → IsUnopened calendar_text ending → completed ending
+  not_opened ending (inl h) = absurd (h.2.none can.app can.calendar)
+  not_opened ending (inr memory) = inl (ap status_of memory)
+
+  not_tallied : (app : Application) (audit : List ℕ) (ending : Ending)
+      → (◌≡◌ {A = Result Summary Ending} (Err ending) (Err endings.WriteFault) → Rose seen.audit.before.faults seen.audit.after.faults)
+      → EndsTallying app seen.keeper can.count (Err ending) audit → completed ending
+  not_tallied app audit endings.WriteFault rose h = absurd (can.no_write_fault (inr (rose refl)))
+  not_tallied app audit endings.Memory rose h = inl refl
+  not_tallied app audit endings.StoreFault rose h = inr (inl refl)
+  not_tallied app audit (endings.OtherStore stored wanted) rose h = inr (inr refl)
+  not_tallied app audit (endings.ReadFault role) rose h = absurd h
+  not_tallied app audit (endings.TooLong role) rose h = absurd h
+  not_tallied app audit (endings.AppRefused line) rose h = absurd h
+  not_tallied app audit (endings.LineRefused lapse) rose h = absurd h
+  not_tallied app audit (endings.SessionsRefused line) rose h = absurd h
+
+  not_told : (app : Application) (ended : Result Summary Ending) (out audit : List ℕ) (ending : Ending)
+      → (ended ≡ Err endings.WriteFault → Rose seen.audit.before.faults seen.audit.after.faults)
+      → EndsTallying app seen.keeper can.count ended audit → PutsSummary seen.out ended (Err ending) out → completed ending
+  not_told app (Ok summary) out audit ending rose ends told =
+      absurd (no_text_fault seen.out (λ torn. can.no_write_fault (inl torn)) (summary_line summary) out ending told)
+  not_told app (Err fault) out audit ending rose ends told =
+      subst completed (sym (same_ending ending fault told.0)) (not_tallied app audit fault rose ends)
+
+  not_counted : (app : Application) (out audit : List ℕ) (ending : Ending) → EndsCounting (sinks_of seen) app seen.keeper can.count (Err ending) out audit → completed ending
+  not_counted app out audit ending (inl h) = absurd (can.no_write_fault (inr h.rose))
+  not_counted app out audit ending (inr h) = not_told app h.1.ended out audit ending h.1.rose h.1.ends h.1.told
+
+  no_demo_ending : (out audit : List ℕ) (ending : Ending) → EndsDemo (sinks_of seen) seen.keeper can.count (Err ending) out audit → completed ending
+  no_demo_ending out audit ending (inl h) = not_opened ending h.0
+  no_demo_ending out audit ending (inr h) = not_counted h.app out audit ending h.ends
+
+  demo_completes : (out audit : List ℕ) (ended : Result (Unit {0}) Ending) (last : List ℕ) (answer : Status)
+      → EndsDemo (sinks_of seen) seen.keeper can.count ended out audit → Finishes seen.out shown ended last answer → IsCompleted answer
+  demo_completes out audit (Ok done) last answer ends h = inl h.1
+  demo_completes out audit (Err ending) last answer ends (inl h) = complete_ending ending answer h.1 (no_demo_ending out audit ending ends)
+  demo_completes out audit (Err ending) last answer ends (inr h) = absurd (can.no_write_fault (inl h.2))
+
+  -- where no put fails, all requests are answered, unless memory runs out or the store refuses
+  pub is_shown : (answer : Status) (out audit : List ℕ) → Runs seen words answer out audit → IsCompleted answer
+  is_shown answer out audit (inl r) =
+      let same : r.command ≡ shown = some_same _ _ (sym r.is_command ∙ can.is_command) in
+      demo_completes r.served audit r.ended r.last answer
+      (subst (λ (c : Command). Ends seen c r.ended r.served audit) same r.ends)
+      (subst (λ (c : Command). Finishes seen.out c r.ended r.last answer) same r.finishes)
+  is_shown answer out audit (inr (inl r)) = let none = sym r.no_command ∙ can.is_command in cc
+  is_shown answer out audit (inr (inr r)) = elim r.closes [ inl h ↦ inr (inl h.1) | inr h ↦ absurd (can.no_write_fault (inl h.2)) ]
+
+-- the same of a dump
+module _ (seen : Sight) (words : List (List ℕ)) (can : CanDump seen words) where
+  abbrev dumped : Command
+  dumped = commands.Dump can.dumping
+
+  dump_long : (role : Role) → IsReached seen dumped role → IsLong seen dumped role → ⊥
+  dump_long roles.App reached long = app_not_long seen dumped can.app can.opens long
+  dump_long roles.Sessions reached long = none_there reached.1
+  dump_long roles.Events reached long = none_there reached.2
+
+  not_dumped : (app : Application) (w : ℕ → Bool) (put : List ℕ) (ending : Ending)
+      → EndsDumping can.dumping.db app w seen.out seen.keeper (Err ending) put → completed ending
+  not_dumped app w put endings.WriteFault h = absurd (can.opens.no_write_fault (inl h.ends.puts.1))
+  not_dumped app w put endings.Memory h = inl refl
+  not_dumped app w put endings.StoreFault h = inr (inl refl)
+  not_dumped app w put (endings.OtherStore stored wanted) h = inr (inr refl)
+  not_dumped app w put (endings.ReadFault role) h = absurd h.ends.puts
+  not_dumped app w put (endings.TooLong role) h = absurd h.ends.puts
+  not_dumped app w put (endings.AppRefused line) h = absurd h.ends.puts
+  not_dumped app w put (endings.LineRefused lapse) h = absurd h.ends.puts
+  not_dumped app w put (endings.SessionsRefused line) h = absurd h.ends.puts
+
+  no_dump_ending : (out audit : List ℕ) (ending : Ending) → EndsDump seen dumped (Err ending) out audit → completed ending
+  no_dump_ending out audit ending (inl h) = inl (no_opening_fault seen dumped can.app can.opens ending h.0 dump_long (λ line bad. absurd bad))
+  no_dump_ending out audit ending (inr h) = not_dumped h.app (shown_labels can.dumping.labels) out ending h.ends
+
+  dump_completes : (out audit : List ℕ) (ended : Result (Unit {0}) Ending) (last : List ℕ) (answer : Status)
+      → EndsDump seen dumped ended out audit → Finishes seen.out dumped ended last answer → IsCompleted answer
+  dump_completes out audit (Ok done) last answer ends h = inl h.1
+  dump_completes out audit (Err ending) last answer ends (inl h) = complete_ending ending answer h.1 (no_dump_ending out audit ending ends)
+  dump_completes out audit (Err ending) last answer ends (inr h) = absurd (can.opens.no_write_fault (inl h.2))
+
+  -- where the application is there and no read or put fails, the store is dumped, unless memory runs out or the store refuses
+  pub is_dumped : (answer : Status) (out audit : List ℕ) → Runs seen words answer out audit → IsCompleted answer
+  is_dumped answer out audit (inl r) =
+      let same : r.command ≡ dumped = some_same _ _ (sym r.is_command ∙ can.is_command) in
+      dump_completes r.served audit r.ended r.last answer
+      (subst (λ (c : Command). Ends seen c r.ended r.served audit) same r.ends)
+      (subst (λ (c : Command). Finishes seen.out c r.ended r.last answer) same r.finishes)
+  is_dumped answer out audit (inr (inl r)) = let none = sym r.no_command ∙ can.is_command in cc
+  is_dumped answer out audit (inr (inr r)) = elim r.closes [ inl h ↦ inr (inl h.1) | inr h ↦ absurd (can.opens.no_write_fault (inl h.2)) ]

@@ -1,0 +1,6 @@
+use Rattle.std.proofs.Common.{◌∙◌, ap, sym, length}
+use Rattle.jac_engine.proofs.PlaceLaws.{length_pages}
+use Rattle.jac_app.proofs.check.view_count.Goals as goal
+
+pub returns : goal.returns
+returns c = ap length c.as_slice.ensures ∙ sym (length_pages c.args.app.now.views)

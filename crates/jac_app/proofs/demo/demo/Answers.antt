@@ -1,0 +1,18 @@
+use Rattle.std.proofs.Common.{inl, inr, refl}
+use Rattle.jac_lang.specs.Mirror.{application_of}
+use Rattle.jac_app.proofs.ReplayLemmas.{idle_ends, still_idle, WentAimed-on}
+use Rattle.jac_app.proofs.demo.demo.Goals as goal
+
+pub returns-in-Err : goal.returns-in-Err
+returns-in-Err g c =
+    let audit = g.U.Sink.seen c.args.audit.now in
+    idle_ends (g.O.Sink.seen c.args.out.now) audit _ (inl (c.in-Err.ensures.unopened, still_idle audit (g.K.Keeper.seen c.args.vault.now)))
+
+pub returns-in-Err-schema : goal.returns-in-Err-schema
+returns-in-Err-schema g c =
+    let audit = g.U.Sink.seen c.args.audit.now in
+    idle_ends (g.O.Sink.seen c.args.out.now) audit _ (inl (inr refl, still_idle audit (g.K.Keeper.seen c.args.vault.now)))
+
+pub returns : goal.returns
+returns g c =
+    WentAimed-on _ _ _ (λ o a h. inr (record { app = application_of c.in-Ok.service; calendar = c.in-Ok.ensures.calendar; ends = h })) c.count_calendar.ensures

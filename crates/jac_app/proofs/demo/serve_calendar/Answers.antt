@@ -1,0 +1,35 @@
+use Rattle.std.proofs.Common.{◌∙◌, ◌<◌, ◌^◌, subst, sym, List, ℕ, length, arith}
+use Rattle.std.specs.List.{All}
+use Rattle.jac_events.specs.Lines.{line_of}
+use Rattle.jac_lang.specs.Mirror.{application_of}
+use Rattle.jac_app.specs.Demo.{IsAsking, Tallies}
+use Rattle.jac_app.specs.Line.{lines_of}
+use Rattle.jac_app.specs.Outside.{span}
+use Rattle.jac_app.specs.Script.{script_of}
+use Rattle.jac_app.proofs.AskingLemmas.{text_asking, text_short}
+use Rattle.jac_app.proofs.DemoLemmas.{WentTo-none, WentTo-on, tally_none}
+use Rattle.jac_app.proofs.demo.serve_calendar.Goals as goal
+
+pub tally_events-requires-clause-short : goal.tally_events-requires-clause-short
+tally_events-requires-clause-short g c =
+    subst (λ (t : List ℕ). length t < 2 ^ 63) (sym (c.as_slice.ensures ∙ c.in-Ok.ensures)) (text_short c.args.count c.requires.few)
+
+pub tally_events-requires-clause-asking : goal.tally_events-requires-clause-asking
+tally_events-requires-clause-asking g c =
+    subst (λ (t : List ℕ). All (λ line. IsAsking (line_of line)) (lines_of t)) (sym (c.as_slice.ensures ∙ c.in-Ok.ensures))
+    (text_asking c.args.count (omega (arith, c.requires.few)))
+
+pub returns-in-Ok-clause-served : goal.returns-in-Ok-clause-served
+returns-in-Ok-clause-served g c =
+    let K = g.K.Keeper in
+    let before = K.seen c.args.keeper.now in
+    WentTo-on _ _ _
+    (λ put h.
+    subst (λ (t : List ℕ). Tallies (application_of c.args.service.now) (span before (K.seen c.tally_events.new.keeper)) before.state (script_of t) c.tally_events.result put)
+    (c.as_slice.ensures ∙ c.in-Ok.ensures) h)
+    c.tally_events.ensures.tallied
+
+pub returns-in-Err-clause-served : goal.returns-in-Err-clause-served
+returns-in-Err-clause-served g c =
+    let k = g.K.Keeper.seen c.args.keeper.now in
+    WentTo-none (g.U.Sink.seen c.args.audit.now) _ (tally_none (application_of c.args.service.now) k c.args.count c.requires.start)

@@ -1,0 +1,36 @@
+use Rattle.std.proofs.Common.{◌+◌, ap, Err, false}
+use Rattle.jac_keep.specs.declared.stop.Stop.{Stop}
+use Rattle.jac_lang.specs.Mirror.{application_of}
+use Rattle.jac_app.specs.Asked.{ask_in}
+use Rattle.jac_app.specs.Outside.{span}
+use Rattle.jac_app.proofs.DemoLemmas.{WentTo-on, ask_counted, ask_stopped, same_line}
+use Rattle.jac_app.proofs.EntryLemmas.{is_failed}
+use Rattle.jac_app.proofs.demo.tally_ask.Goals as goal
+
+pub returns-in-Ok-clause-answered : goal.returns-in-Ok-clause-answered
+returns-in-Ok-clause-answered g c =
+    let K = g.K.Keeper in
+    let app = application_of c.args.service.now in
+    let k = span (K.seen c.args.keeper.now) (K.seen c.count_ask.new.keeper) in
+    let ask = ask_in app c.args.viewer c.args.method.now c.args.path.now c.args.query.now c.args.body.now in
+    WentTo-on _ _ _
+    (λ put h.
+    ask_counted app k c.args.served ask c.in-Ok.counted.audit c.in-Ok.counted.tally c.put_counted.result put
+    c.in-Ok.ensures.counted c.in-Ok.ensures.told c.in-Ok.ensures.cause.later
+    (same_line (c.args.served + 1) _ c.in-Ok.counted.audit c.in-Ok.counted.tally c.put_counted.result put c.as_bytes.ensures h))
+    c.put_counted.ensures.put
+
+pub returns-in-Err-clause-answered : goal.returns-in-Err-clause-answered
+returns-in-Err-clause-answered g c =
+    let K = g.K.Keeper in
+    let app = application_of c.args.service.now in
+    let k = span (K.seen c.args.keeper.now) (K.seen c.count_ask.new.keeper) in
+    let ask = ask_in app c.args.viewer c.args.method.now c.args.path.now c.args.query.now c.args.body.now in
+    let stop = c.in-Err.stop in
+    WentTo-on _ _ _
+    (λ put h.
+    ask_stopped app k c.args.served ask c.viewer_in.result stop c.put_stopped.result put (rw c.app.ensures.app at c.viewer_in.ensures)
+    (is_failed app k ask false stop
+    c.in-Err.ensures.refused c.in-Err.ensures.told c.requires.start c.in-Err.ensures.cause.later (λ is. c.in-Err.ensures.cause.rose (ap (λ (s : Stop). Err s) is)))
+    h)
+    c.put_stopped.ensures.put

@@ -1,0 +1,19 @@
+use Rattle.jac_lang.specs.Mirror.{application_of}
+use Rattle.jac_app.specs.Outside.{span}
+use Rattle.jac_app.proofs.DemoLemmas.{WentTo-none, WentTo-on, tallied_on, tally_unattached}
+use Rattle.jac_app.proofs.demo.tally_attached.Goals as goal
+
+pub returns-in-Ok-serve_calendar-clause-served : goal.returns-in-Ok-serve_calendar-clause-served
+returns-in-Ok-serve_calendar-clause-served g c =
+    let K = g.K.Keeper in
+    WentTo-on _ _ _
+    (λ a served.
+    tallied_on (application_of c.args.service.now) (K.seen c.args.vault.now) (K.seen c.attach.new.vault) (K.seen c.serve_calendar.new.keeper)
+    c.args.count _ a c.in-Ok.ensures.attaches c.in-Ok-serve_calendar.ensures.store served)
+    c.in-Ok-serve_calendar.ensures.served
+
+pub returns-in-Err-clause-served : goal.returns-in-Err-clause-served
+returns-in-Err-clause-served g c =
+    let K = g.K.Keeper in
+    WentTo-none (g.U.Sink.seen c.args.audit.now) _
+    (tally_unattached (application_of c.args.service.now) (span (K.seen c.args.vault.now) (K.seen c.attach.new.vault)) c.args.count c.in-Err.ending c.in-Err.ensures.attaches)

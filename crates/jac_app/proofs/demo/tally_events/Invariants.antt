@@ -1,0 +1,29 @@
+use Rattle.std.proofs.Common.{◌≡◌, ◌+◌, ◌≤◌, ◌<◌, ◌^◌, length, IsTrue}
+use Rattle.std.specs.List.{All}
+use Rattle.jac_lang.specs.Mirror.{application_of}
+use Rattle.jac_engine.specs.Start.{IsStart}
+use Rattle.jac_events.specs.Lines.{line_of}
+use Rattle.jac_value.specs.Parts.{option_now, length_left, parts_left}
+use Rattle.jac_app.specs.Demo.{IsAsking, IsBounded, WentTo}
+use Rattle.jac_app.specs.Outside.{span}
+use Rattle.jac_app.proofs.DemoLemmas.{Tallying}
+use Rattle.jac_app.proofs.demo.tally_events.Given as goal
+
+abbrev pub invariant-lines : goal.invariant-lines
+invariant-lines g l =
+    let U = g.U.Sink in
+    let K = g.K.Keeper in
+    record {
+      short : length l.bytes < 2 ^ 63;
+      fewer : l.summary.asks + length_left (option_now l.left) ≤ length l.bytes + 1;
+      bounded : IsBounded l.summary;
+      asking : All (λ line. IsAsking (line_of line)) (parts_left 10 (option_now l.left));
+      attached : IsTrue (K.seen l.keeper).store.attached;
+      same_store : (K.seen l.keeper).store ≡ (K.seen l.fn.keeper).store;
+      start : IsTrue (K.seen l.keeper).tells → IsStart (application_of l.service) (K.seen l.keeper).state;
+      went : WentTo (span (U.seen l.fn.audit) (U.seen l.audit))
+          (Tallying (application_of l.service) (span (K.seen l.fn.keeper) (K.seen l.keeper)) l.bytes (option_now l.left) l.summary);
+    }
+
+abbrev pub decreases-lines : goal.decreases-lines
+decreases-lines g l = length_left (option_now l.left)

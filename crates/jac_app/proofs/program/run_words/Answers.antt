@@ -1,0 +1,68 @@
+use Rattle.std.proofs.Common.{◌∙◌, sym, refl, inl, inr, [], ◌++◌, arith}
+use Rattle.jac_app.specs.Files.{sight}
+use Rattle.jac_app.proofs.OutsideLemmas.{Lasts-then, Took-none, Took-then}
+use Rattle.jac_app.proofs.ReplayLemmas.{still_idle}
+use Rattle.jac_app.proofs.LaterLemmas.{Ends-later, Finishes-widen}
+use Rattle.jac_app.proofs.program.run_words.Goals as goal
+
+pub returns-in-Ok-None : goal.returns-in-Ok-None
+returns-in-Ok-None g c =
+    let closed = c.refuse_words.ensures in
+    let audit = g.U.Sink.seen c.args.audit.now in
+    record {
+      out = closed.put;
+      audit = [];
+      out_lasts = closed.lasts;
+      audit_later = omega arith;
+      out_took = closed.took;
+      audit_took = Took-none audit;
+      holds = inr (inl (record { no_command = sym c.in-Ok-None.ensures.command ∙ c.in-Ok-None.field-0-is; closes = closed.holds; idle = still_idle audit (g.K.Keeper.seen c.args.vault.now) }));
+    }
+
+pub returns-in-Err : goal.returns-in-Err
+returns-in-Err g c =
+    let closed = c.run_out.ensures in
+    let audit = g.U.Sink.seen c.args.audit.now in
+    record {
+      out = closed.put;
+      audit = [];
+      out_lasts = closed.lasts;
+      audit_later = omega arith;
+      out_took = closed.took;
+      audit_took = Took-none audit;
+      holds = inr (inr (record { closes = closed.holds; idle = still_idle audit (g.K.Keeper.seen c.args.vault.now) }));
+    }
+
+pub returns-in-Ok-Some : goal.returns-in-Ok-Some
+returns-in-Ok-Some g c =
+    let F = g.F.Files in
+    let O = g.O.Sink in
+    let U = g.U.Sink in
+    let K = g.K.Keeper in
+    let command = c.in-Ok-Some.command in
+    let before = O.seen c.args.out.now in
+    let middle = O.seen c.take_steps-ended.new.out in
+    let after = O.seen c.finish.new.out in
+    let seen =
+    sight (F.seen c.args.files.now) (F.seen c.take_steps-ended.new.files) before middle (U.seen c.args.audit.now) (U.seen c.take_steps-ended.new.audit)
+    (K.seen c.args.vault.now) (K.seen c.take_steps-ended.new.vault) in
+    let ended = c.take_steps-ended.ensures in
+    let finished = c.finish.ensures in
+    record {
+      out = ended.out ++ finished.put;
+      audit = ended.audit;
+      out_lasts = Lasts-then before middle after ended.out_lasts finished.lasts;
+      audit_later = ended.audit_later;
+      out_took = Took-then before middle after ended.out finished.put finished.lasts.told ended.out_took finished.took;
+      audit_took = ended.audit_took;
+      holds = inl (record {
+        command = command;
+        ended = c.take_steps-ended.result;
+        served = ended.out;
+        last = finished.put;
+        is_command = sym c.in-Ok-Some.ensures.command ∙ c.in-Ok-Some.field-0-is;
+        ends = Ends-later seen after finished.lasts.later command ended.out ended.audit c.take_steps-ended.result ended.holds;
+        finishes = Finishes-widen before middle after ended.out_lasts.later command c.take_steps-ended.result finished.put c.finish.result finished.holds;
+        out_text = refl;
+      });
+    }

@@ -1,0 +1,74 @@
+-- The files that commands name.
+use Rattle.std.specs.Prelude.{◌≤◌, ⊤, ℕ, Bool, true, false, is_none, if◌then◌else◌, Option, Some, None, List, [], codes}
+use Rattle.jac_app.specs.declared.words.Command.{Command}
+use Rattle.jac_app.specs.declared.words.Command.TheVariants as commands
+use Rattle.jac_app.specs.declared.ending.Role.{Role}
+use Rattle.jac_app.specs.declared.ending.Role.TheVariants as roles
+use Rattle.jac_app.specs.Words.{command_of}
+
+-- a file that isn't named has the empty name
+abbrev pub name_or_empty : Option (List ℕ) → List ℕ
+name_or_empty None = []
+name_or_empty (Some name) = name
+
+-- the file of a command that has this role
+abbrev pub file_of : Command → Role → Option (List ℕ)
+file_of (commands.Check app) roles.App = Some app
+file_of (commands.Check app) roles.Sessions = None
+file_of (commands.Check app) roles.Events = None
+file_of (commands.Replay replay) roles.App = Some replay.app
+file_of (commands.Replay replay) roles.Sessions = replay.sessions
+file_of (commands.Replay replay) roles.Events = Some replay.events
+file_of (commands.Serve serving) roles.App = Some serving.app
+file_of (commands.Serve serving) roles.Sessions = serving.sessions
+file_of (commands.Serve serving) roles.Events = None
+file_of (commands.Demo n) role = None
+file_of (commands.Dump dumping) roles.App = Some dumping.app
+file_of (commands.Dump dumping) roles.Sessions = None
+file_of (commands.Dump dumping) roles.Events = None
+
+abbrev pub name_of : Command → Role → List ℕ
+name_of command role = name_or_empty (file_of command role)
+
+-- the file that the audit is aimed at, and that of the store
+abbrev pub audit_of : Command → Option (List ℕ)
+audit_of (commands.Replay replay) = replay.audit
+audit_of (commands.Serve serving) = serving.audit
+audit_of command = None
+
+abbrev pub db_of : Command → Option (List ℕ)
+db_of (commands.Replay replay) = replay.db
+db_of (commands.Serve serving) = serving.db
+db_of (commands.Dump dumping) = dumping.db
+db_of command = None
+
+-- the commands that are served: none that names a store
+abbrev pub is_known : Command → Bool
+is_known (commands.Check app) = true
+is_known (commands.Replay replay) = is_none replay.db
+is_known (commands.Demo n) = true
+is_known (commands.Dump dumping) = is_none dumping.db
+is_known command = false
+
+-- the number of a demo is one that words may give
+abbrev pub HasCount : Command → Type 0
+HasCount (commands.Demo n) = (1 ≤ n) × (n ≤ 2000)
+HasCount command = ⊤
+
+abbrev pub known_only : Option Command → Option Command
+known_only None = None
+known_only (Some command) = if is_known command then Some command else None
+
+abbrev pub known : List (List ℕ) → Option Command
+known words = known_only (command_of words)
+
+-- how many bytes each file may hold
+abbrev pub limit_of : Role → ℕ
+limit_of roles.App = 1048576
+limit_of roles.Sessions = 1048576
+limit_of roles.Events = 16777216
+
+abbrev pub limit_text : Role → List ℕ
+limit_text roles.App = codes ", limit 1048576\n"
+limit_text roles.Sessions = codes ", limit 1048576\n"
+limit_text roles.Events = codes ", limit 16777216\n"

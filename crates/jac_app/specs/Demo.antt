@@ -1,0 +1,232 @@
+-- What `demo N` does: generated requests are answered in silence, and counted.
+use Rattle.std.specs.Prelude.{◌≡◌, ◌⊎◌, ◌≤◌, ◌+◌, ◌*◌, ◌^◌, ℕ, Bool, true, false, if◌then◌else◌, Result, Ok, Err, Option, Some, None, List, [], ◌∷◌, ◌++◌, length, ⊤, codes, decimal}
+use Rattle.std.specs.Str.{bytes_eq}
+use Rattle.jac_demo.specs.Calendar.{calendar_text}
+use Rattle.jac_demo.specs.Requests.{demo_text}
+use Rattle.jac_io.specs.Faults.{Rose}
+use Rattle.jac_io.specs.Seen.{SinkSeen, Lasts}
+use Rattle.jac_io.specs.declared.sink.Failed.{Failed}
+use Rattle.jac_lang.specs.Syntax.{Application}
+use Rattle.jac_rows.specs.declared.state.State.{State}
+use Rattle.jac_keep.specs.KeeperSeen.{KeeperSeen}
+use Rattle.jac_engine.specs.declared.answer.Answer.{Answer}
+use Rattle.jac_engine.specs.declared.answer.Ask.{Ask}
+use Rattle.jac_events.specs.declared.event.Event.{Event}
+use Rattle.jac_events.specs.declared.event.Event.TheVariants.{Ask as Asking, Begin, Piece, Finish}
+use Rattle.jac_hub.specs.Hearing.{whole}
+use Rattle.jac_app.specs.declared.answer.Via.TheVariants as ways
+use Rattle.jac_app.specs.declared.demo.DemoFault.{DemoFault}
+use Rattle.jac_app.specs.declared.demo.DemoFault.TheVariants as faults
+use Rattle.jac_app.specs.declared.ending.Ending.{Ending}
+use Rattle.jac_app.specs.declared.ending.Ending.TheVariants as endings
+use Rattle.jac_app.specs.declared.summary.Summary.{Summary}
+use Rattle.jac_app.specs.declared.summary.Tally.{Tally}
+use Rattle.jac_app.specs.Application.{IsApplication}
+use Rattle.jac_app.specs.Asked.{ask_in}
+use Rattle.jac_app.specs.Check.{PutsText}
+use Rattle.jac_app.specs.Files.{IsAimed, IsIdle, IsUnopened}
+use Rattle.jac_app.specs.Keeping.{IsStill}
+use Rattle.jac_app.specs.Log.{Entry, method_of, audit_text, audit_line, audited}
+use Rattle.jac_app.specs.Outside.{Span, span, Sinks, Took, IsFront}
+use Rattle.jac_app.specs.Replay.{schema_text, IsAttached, IsUnattached, IsOther}
+use Rattle.jac_app.specs.Script.{Script, script_of}
+use Rattle.jac_app.specs.Serve.{IsAnswerMade, IsEntryOf, IsServed}
+
+-- how many entries are of requests by this method
+abbrev pub asks_by : List ℕ → List Entry → ℕ
+asks_by method [] = 0
+asks_by method (entry ∷ log) = (if bytes_eq (method_of entry.subject) method then 1 else 0) + asks_by method log
+
+-- how many bytes their bodies have
+abbrev pub bytes_in : List Entry → ℕ
+bytes_in [] = 0
+bytes_in (entry ∷ log) = length entry.answer.body + bytes_in log
+
+-- how many labels an audit line names
+abbrev pub labels_shown : Option (List ℕ) → ℕ
+labels_shown None = 0
+labels_shown (Some labels) = length labels
+
+-- how many labels the audit lines of the pages of GET name
+abbrev pub labels_in : List Entry → ℕ
+labels_in [] = 0
+labels_in (entry ∷ log) = (if bytes_eq (method_of entry.subject) (codes "GET") then labels_shown entry.answer.shown else 0) + labels_in log
+
+-- a log in numbers
+abbrev pub summary_of : List Entry → Summary
+summary_of log = record {
+  asks = length log;
+  posts = asks_by (codes "POST") log;
+  gets = asks_by (codes "GET") log;
+  bytes = bytes_in log;
+  labels = labels_in log;
+}
+
+-- what is counted of one answer
+abbrev pub tally_of : Answer → Tally
+tally_of answer = record { bytes = length answer.body; labels = labels_shown answer.shown }
+
+-- one more request of this method was answered
+abbrev pub counted : Summary → List ℕ → Tally → Summary
+counted summary method tally = record {
+  asks = summary.asks + 1;
+  posts = summary.posts + (if bytes_eq method (codes "POST") then 1 else 0);
+  gets = summary.gets + (if bytes_eq method (codes "GET") then 1 else 0);
+  bytes = summary.bytes + tally.bytes;
+  labels = summary.labels + (if bytes_eq method (codes "GET") then tally.labels else 0);
+}
+
+-- each number of a summary has its bound by the number of its requests
+pub record IsBounded (summary : Summary) : Type 0 where
+  pub posts : summary.posts ≤ summary.asks
+  pub gets : summary.gets ≤ summary.asks
+  pub bytes : summary.bytes ≤ summary.asks * 2 ^ 64
+  pub labels : summary.labels ≤ summary.asks * 2 ^ 64
+
+-- `asks N posts P gets G bytes B labels L`
+abbrev pub counts_text : Summary → List ℕ
+counts_text summary = codes "asks " ++ decimal summary.asks ++ codes " posts " ++ decimal summary.posts ++ codes " gets "
+
+abbrev pub sizes_text : Summary → List ℕ
+sizes_text summary = decimal summary.gets ++ codes " bytes " ++ decimal summary.bytes ++ codes " labels " ++ decimal summary.labels
+
+abbrev pub summary_line : Summary → List ℕ
+summary_line summary = counts_text summary ++ sizes_text summary ++ codes "\n"
+
+-- some bytes went to a sink, and of these it holds; it isn't aimed anew
+pub record WentTo (sink : Span SinkSeen) (Holds : List ℕ → Type 0) : Type 0 where
+  pub put : List ℕ
+  pub lasts : Lasts sink.before sink.after
+  pub took : Took sink put
+  pub holds : Holds put
+
+-- a request was answered and its answer stored; this follows the number of its audit line, and this is counted of it
+pub record IsCounted (app : Application) (k : Span KeeperSeen) (ask : Ask) (audit : List ℕ) (tally : Tally) : Type 0 where
+  pub reply : List ℕ
+  pub made : IsAnswerMade app k ways.Line ask reply audit
+  pub tally_is : tally ≡ tally_of made.answer
+
+-- an audit line is put, and this is counted
+abbrev pub PutsTally : List ℕ → Tally → Result Tally Failed → List ℕ → Type 0
+PutsTally line tally (Ok counts) put = (put ≡ line) × (counts ≡ tally)
+PutsTally line tally (Err failed) put = IsFront put line
+
+-- the request of an `ask` line is answered, behind so many others, and its audit line is torn
+abbrev pub TearsAsk : Application → Span KeeperSeen → ℕ → Ask → List ℕ → Type 0
+TearsAsk app k served ask audit =
+    (answer : Answer) × IsEntryOf app k (whole ask false) answer × IsFront audit (audit_text (served + 1) answer.status ask.viewer answer.shown)
+
+-- or it is put whole, and this is counted
+abbrev pub TalliesAsk : Application → Span KeeperSeen → ℕ → Ask → Result Tally Failed → List ℕ → Type 0
+TalliesAsk app k served ask (Ok tally) audit =
+    (answer : Answer) × IsEntryOf app k (whole ask false) answer × (audit ≡ audit_text (served + 1) answer.status ask.viewer answer.shown) × (tally ≡ tally_of answer)
+TalliesAsk app k served ask (Err failed) audit = TearsAsk app k served ask audit
+
+-- the line is empty, or it writes down a request
+abbrev pub IsAsking : Option (Option Event) → Type 0
+IsAsking None = ⊥
+IsAsking (Some None) = ⊤
+IsAsking (Some (Some (Asking viewer method path query body))) = ⊤
+IsAsking (Some (Some (Begin c))) = ⊥
+IsAsking (Some (Some (Piece c bytes))) = ⊥
+IsAsking (Some (Some (Finish c))) = ⊥
+
+-- a request is answered and counted
+abbrev pub TalliesBy : Application → Span KeeperSeen → Summary → List ℕ → Ask → Result Summary DemoFault → List ℕ → Type 0
+TalliesBy app k summary method ask (Ok new) audit =
+    (tally : Tally) × TalliesAsk app k summary.asks ask (Ok tally) audit × (new ≡ counted summary method tally)
+TalliesBy app k summary method ask (Err faults.Write) audit = TearsAsk app k summary.asks ask audit
+TalliesBy app k summary method ask (Err faults.Memory) audit = ⊥
+
+abbrev pub TalliesEvent : Application → Span KeeperSeen → Summary → Event → Result Summary DemoFault → List ℕ → Type 0
+TalliesEvent app k summary (Asking viewer method path query body) result audit = TalliesBy app k summary method (ask_in app viewer method path query body) result audit
+TalliesEvent app k summary (Begin c) result audit = ⊥
+TalliesEvent app k summary (Piece c bytes) result audit = ⊥
+TalliesEvent app k summary (Finish c) result audit = ⊥
+
+-- a line by what it writes down: nothing or a request, unless memory runs out
+abbrev pub TalliesLine : Application → Span KeeperSeen → Summary → Option (Option Event) → Result Summary DemoFault → List ℕ → Type 0
+TalliesLine app k summary written (Err faults.Memory) audit = (audit ≡ []) × IsStill k
+TalliesLine app k summary None result audit = ⊥
+TalliesLine app k summary (Some None) result audit = (result ≡ Ok summary) × (audit ≡ []) × IsStill k
+TalliesLine app k summary (Some (Some event)) result audit = TalliesEvent app k summary event result audit
+
+-- these events were served from this start on, or, where it may stop early, the first of them; the audit has the lines
+-- of the log
+pub record Tallied (early : Bool) (app : Application) (k : Span KeeperSeen) (start : State) (events : List Event) (log : List Entry) (audit : List ℕ) : Type 0 where
+  pub served : IsServed early app [] k start events log
+  pub audit_text : audit ≡ audited log
+
+-- the first events were served, and the audit line of the last of these was torn
+pub record TalliedTorn (app : Application) (k : Span KeeperSeen) (start : State) (events : List Event) (audit : List ℕ) : Type 0 where
+  pub log : List Entry
+  pub entry : Entry
+  pub more : List ℕ
+  pub served : IsServed true app [] k start events (log ++ entry ∷ [])
+  pub torn : IsFront more (audit_line (length log + 1) entry)
+  pub audit_text : audit ≡ audited log ++ more
+
+-- how serving a script in silence ends
+abbrev pub Tallies : Application → Span KeeperSeen → State → Script → Result Summary DemoFault → List ℕ → Type 0
+Tallies app k start script (Ok summary) audit =
+    (script.refused ≡ None) × ((log : List Entry) × Tallied false app k start script.events log audit × (summary ≡ summary_of log))
+Tallies app k start script (Err faults.Memory) audit = (log : List Entry) × Tallied true app k start script.events log audit
+Tallies app k start script (Err faults.Write) audit = TalliedTorn app k start script.events audit
+
+-- the generated requests, none of whose lines is refused
+abbrev pub demo_script : ℕ → Script
+demo_script count = script_of (demo_text count)
+
+-- a store without a name was attached, and the requests were answered on what it keeps
+pub record IsTalliedOn (app : Application) (k : Span KeeperSeen) (count : ℕ) (result : Result Summary DemoFault) (audit : List ℕ) : Type 0 where
+  pub opened : KeeperSeen
+  pub attached : IsAttached None app k opened
+  pub tallies : Tallies app (span opened k.after) opened.state (demo_script count) result audit
+
+-- how the steps from the attaching on end
+abbrev pub EndsTallying : Application → Span KeeperSeen → ℕ → Result Summary Ending → List ℕ → Type 0
+EndsTallying app k count (Ok summary) audit = IsTalliedOn app k count (Ok summary) audit
+EndsTallying app k count (Err endings.WriteFault) audit = IsTalliedOn app k count (Err faults.Write) audit
+EndsTallying app k count (Err endings.Memory) audit = IsUnattached k [] audit ⊎ IsTalliedOn app k count (Err faults.Memory) audit
+EndsTallying app k count (Err endings.StoreFault) audit = Rose k.before.faults k.after.faults × IsUnattached k [] audit
+EndsTallying app k count (Err (endings.OtherStore stored wanted)) audit =
+    (wanted ≡ schema_text app) × IsOther k stored wanted × IsUnattached k [] audit
+EndsTallying app k count (Err ending) audit = ⊥
+
+-- the line of the summary is put, or the front of it where that put fails; no line where there is no summary
+abbrev pub PutsSummary : Span SinkSeen → Result Summary Ending → Result (Unit {0}) Ending → List ℕ → Type 0
+PutsSummary out (Ok summary) result put = PutsText out (summary_line summary) result put
+PutsSummary out (Err ending) result put = (result ≡ Err ending) × (put ≡ [])
+
+-- the requests were counted, and their summary is told
+pub record IsTold (s : Sinks) (app : Application) (k : Span KeeperSeen) (count : ℕ) (result : Result (Unit {0}) Ending) (out audit : List ℕ) : Type 0 where
+  pub ended : Result Summary Ending
+  pub ends : EndsTallying app k count ended audit
+  pub rose : ended ≡ Err endings.WriteFault → Rose s.audit.before.faults s.audit.after.faults
+  pub told : PutsSummary s.out ended result out
+
+-- the audit's aim failed
+pub record IsUnaimed (s : Sinks) (k : Span KeeperSeen) (result : Result (Unit {0}) Ending) (out audit : List ℕ) : Type 0 where
+  pub fault : result ≡ Err endings.WriteFault
+  pub rose : Rose s.audit.before.faults s.audit.after.faults
+  pub idle : IsIdle s.audit k out audit
+
+-- how the steps from the audit's aim on end
+abbrev pub EndsCounting : Sinks → Application → Span KeeperSeen → ℕ → Result (Unit {0}) Ending → List ℕ → List ℕ → Type 0
+EndsCounting s app k count result out audit =
+    IsUnaimed s k result out audit ⊎ (IsAimed None s.audit × IsTold s app k count result out audit)
+
+-- the calendar was read, and the requests were answered
+pub record IsDemo (s : Sinks) (k : Span KeeperSeen) (count : ℕ) (result : Result (Unit {0}) Ending) (out audit : List ℕ) : Type 0 where
+  pub app : Application
+  pub calendar : IsApplication calendar_text app
+  pub ends : EndsCounting s app k count result out audit
+
+-- the calendar wasn't read, or memory ran out before the audit was aimed
+abbrev pub IsUncounted : Sinks → Span KeeperSeen → Result (Unit {0}) Ending → List ℕ → List ℕ → Type 0
+IsUncounted s k (Ok done) out audit = ⊥
+IsUncounted s k (Err ending) out audit = IsUnopened calendar_text ending × IsIdle s.audit k out audit
+
+-- what the steps of a demo put, and why they ended
+abbrev pub EndsDemo : Sinks → Span KeeperSeen → ℕ → Result (Unit {0}) Ending → List ℕ → List ℕ → Type 0
+EndsDemo s k count result out audit = IsUncounted s k result out audit ⊎ IsDemo s k count result out audit

@@ -1,0 +1,67 @@
+-- Why the steps of a command end, and the line that tells it.
+use Rattle.std.specs.Prelude.{◌≡◌, ◌⊎◌, ℕ, Result, Ok, Err, List, [], ◌++◌, codes, decimal}
+use Rattle.jac_io.specs.Faults.{Rose}
+use Rattle.jac_io.specs.Seen.{SinkSeen, Lasts}
+use Rattle.jac_app.specs.declared.words.Command.{Command}
+use Rattle.jac_app.specs.declared.ending.Ending.{Ending}
+use Rattle.jac_app.specs.declared.ending.Ending.TheVariants as endings
+use Rattle.jac_app.specs.declared.serve.Lapse.{Lapse}
+use Rattle.jac_app.specs.declared.serve.Lapse.TheVariants as lapses
+use Rattle.jac_app.specs.declared.serve.Stopped.{Stopped}
+use Rattle.jac_app.specs.declared.serve.Stopped.TheVariants as stops
+use Rattle.jac_app.specs.declared.status.Status.{Status}
+use Rattle.jac_app.specs.declared.status.Status.TheVariants as statuses
+use Rattle.jac_app.specs.Commands.{name_of, limit_text}
+use Rattle.jac_app.specs.Outside.{Span, Took, IsFront}
+
+-- why serving that stopped ends the run
+abbrev pub ending_of : Stopped → Ending
+ending_of (stops.Refused lapse) = endings.LineRefused lapse
+ending_of stops.Write = endings.WriteFault
+ending_of stops.Memory = endings.Memory
+
+-- the line that tells why a line of the events is refused
+abbrev pub lapse_line : Lapse → List ℕ
+lapse_line (lapses.NoForm n) = codes "events: line " ++ decimal n ++ codes ": no form\n"
+lapse_line (lapses.NotOpen n c) = codes "events: line " ++ decimal n ++ codes ": connection " ++ decimal c ++ codes " is not open\n"
+lapse_line (lapses.AlreadyOpen n c) = codes "events: line " ++ decimal n ++ codes ": connection " ++ decimal c ++ codes " is open\n"
+
+-- the line that tells why a command ended
+abbrev pub fault_line : Command → Ending → List ℕ
+fault_line command (endings.ReadFault role) = codes "read fault: " ++ name_of command role ++ codes "\n"
+fault_line command (endings.TooLong role) = codes "too long: " ++ name_of command role ++ limit_text role
+fault_line command (endings.AppRefused line) = line
+fault_line command (endings.LineRefused lapse) = lapse_line lapse
+fault_line command (endings.SessionsRefused line) = codes "sessions: line " ++ decimal line ++ codes "\n"
+fault_line command endings.WriteFault = codes "write fault\n"
+fault_line command endings.StoreFault = codes "store fault\n"
+fault_line command (endings.OtherStore stored wanted) = codes "other schema: " ++ stored ++ codes " | " ++ wanted ++ codes "\n"
+fault_line command endings.Memory = codes "memory\n"
+
+abbrev pub status_of : Ending → Status
+status_of (endings.ReadFault role) = statuses.ReadFault
+status_of (endings.TooLong role) = statuses.TooLong
+status_of (endings.AppRefused line) = statuses.AppRefused
+status_of (endings.LineRefused lapse) = statuses.LineRefused
+status_of (endings.SessionsRefused line) = statuses.LineRefused
+status_of endings.WriteFault = statuses.WriteFault
+status_of endings.StoreFault = statuses.StoreFault
+status_of (endings.OtherStore stored wanted) = statuses.OtherStore
+status_of endings.Memory = statuses.Memory
+
+-- the last line is put, or the front of it where that put fails
+abbrev pub Closes : Span SinkSeen → List ℕ → Status → List ℕ → Status → Type 0
+Closes out line status put answer =
+    ((put ≡ line) × (answer ≡ status)) ⊎ (IsFront put line × (answer ≡ statuses.WriteFault) × Rose out.before.faults out.after.faults)
+
+-- what follows the steps of a command
+abbrev pub Finishes : Span SinkSeen → Command → Result (Unit {0}) Ending → List ℕ → Status → Type 0
+Finishes out command (Ok done) put answer = (put ≡ []) × (answer ≡ statuses.Done)
+Finishes out command (Err ending) put answer = Closes out (fault_line command ending) (status_of ending) put answer
+
+-- a put on one sink, with what follows of it
+pub record Closed (out : Span SinkSeen) (Holds : List ℕ → Type 0) : Type 0 where
+  pub put : List ℕ
+  pub lasts : Lasts out.before out.after
+  pub took : Took out put
+  pub holds : Holds put

@@ -1,0 +1,74 @@
+ghost use Rattle.std.specs.Prelude.{◌≡◌, length, IfOk};
+ghost use Rattle.jac_app.specs.declared.words.Command.TheVariants as commands;
+ghost use Rattle.jac_lang.specs.Mirror.{application_of};
+ghost use Rattle.jac_app.specs.Outside.{IsPut, WentAimed, span, sinks};
+ghost use Rattle.jac_app.specs.Files.{sight};
+ghost use Rattle.jac_app.specs.Check.{EndsCheck, checked_text};
+
+use crate::ending::{Ending, Role};
+use crate::files::{open_app, read_file};
+use crate::outside::put_five;
+use crate::service::Service;
+use itoa::Buffer;
+use jac_io::{AuditSink, Failed, Files, Sink};
+use jac_keep::Keeper;
+use jac_lang::App;
+use jac_value::Txt;
+use std::alloc::Global;
+
+/// The steps of a check: the application is read, and its counts are put.
+pub fn check<F: Files, O: Sink, U: AuditSink, K: Keeper>(
+    alloc: Global,
+    name: &Txt,
+    files: &mut F,
+    out: &mut O,
+    audit: &mut U,
+    vault: &mut K,
+) -> Result<(), Ending>
+    ensures { WentAimed (sinks (O.seen out.old) (O.seen out.new) (U.seen audit.old) (U.seen audit.new))
+        (EndsCheck (sight (F.seen files.old) (F.seen files.new) (O.seen out.old) (O.seen out.new) (U.seen audit.old) (U.seen audit.new) (K.seen vault.old) (K.seen vault.new))
+        (commands.Check name.now) result) }
+{
+    let bytes = match read_file(alloc, files, name, Role::App) {
+        Ok(bytes) => bytes,
+        Err(ending) => return Err(ending),
+    };
+    let service = match open_app(alloc, bytes.as_slice()) {
+        Ok(service) => service,
+        Err(ending) => return Err(ending),
+    };
+    match put_counts(out, &service) {
+        Ok(()) => Ok(()),
+        Err(Failed) => Err(Ending::WriteFault),
+    }
+}
+
+fn put_counts<O: Sink>(out: &mut O, service: &Service) -> Result<(), Failed>
+    ensures { IsPut (span (O.seen out.old) (O.seen out.new)) (checked_text (application_of service.now)) result }
+{
+    let app = service.app();
+    let mut models = Buffer::new();
+    let mut views = Buffer::new();
+    let model_digits = models.format(model_count(app));
+    let view_digits = views.format(view_count(app));
+    put_five(
+        out,
+        b"ok ",
+        model_digits.as_bytes(),
+        b" models, ",
+        view_digits.as_bytes(),
+        b" views\n",
+    )
+}
+
+fn model_count(app: &App) -> u64
+    ensures { result ≡ length (application_of app.now).models }
+{
+    app.models.as_slice().len() as u64
+}
+
+fn view_count(app: &App) -> u64
+    ensures { result ≡ length (application_of app.now).views }
+{
+    app.views.as_slice().len() as u64
+}

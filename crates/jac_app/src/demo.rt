@@ -1,0 +1,530 @@
+//! Generated requests to a calendar, which are answered in silence and counted.
+ghost use Rattle.std.specs.Prelude.{◌≡◌, ◌≤◌, ◌<◌, ◌+◌, ◌-◌, ◌^◌, ◌++◌, IfOk, IfErr, IsTrue, OnErr, Err, Some, None, length, decimal, false};
+ghost use Rattle.std.specs.List.{All};
+ghost use Rattle.jac_demo.specs.Calendar.{calendar_text};
+ghost use Rattle.jac_events.specs.Lines.{line_of};
+ghost use Rattle.jac_io.specs.Faults.{Rose};
+ghost use Rattle.jac_lang.specs.Mirror.{application_of};
+ghost use Rattle.jac_plain.specs.Models.{kinds_of};
+ghost use Rattle.jac_keep.specs.Cause.{HasCause};
+ghost use Rattle.jac_keep.specs.Schema.{IsSchema};
+ghost use Rattle.jac_engine.specs.Start.{IsStart};
+ghost use Rattle.jac_engine.specs.Answers.{refusal};
+ghost use Rattle.jac_app.specs.declared.ending.Ending.TheVariants as endings;
+ghost use Rattle.jac_app.specs.Application.{IsApplication};
+ghost use Rattle.jac_app.specs.Asked.{ask_in};
+ghost use Rattle.jac_app.specs.Demo.{EndsCounting, EndsDemo, EndsTallying, IsAsking, IsBounded, IsCounted, IsTold, PutsTally, Tallies, TalliesAsk, TalliesEvent, TalliesLine, WentTo, demo_script, tally_of};
+ghost use Rattle.jac_app.specs.Failed.{status_of_stop};
+ghost use Rattle.jac_app.specs.Files.{IsUnopened};
+ghost use Rattle.jac_app.specs.Line.{lines_of};
+ghost use Rattle.jac_app.specs.Log.{audit_rest, audit_text};
+ghost use Rattle.jac_app.specs.Outside.{Went, WentAimed, sinks, span};
+ghost use Rattle.jac_app.specs.Replay.{schema_text};
+ghost use Rattle.jac_app.specs.Script.{script_of};
+
+use crate::asks::{ask_in, viewer_in};
+use crate::attach::attach;
+use crate::ending::Ending;
+use crate::files::open_app;
+use crate::puts::{put_failed_audit, put_numbered};
+use crate::reply::audit_rest;
+use crate::service::Service;
+use crate::still::fixed_of;
+use crate::summary::{Summary, Tally, counted, failed_tally, none_counted, put_summary, tally_of};
+use jac_demo::{demo_app, demo_events};
+use jac_engine::{Answer, Ask, commit, prepare};
+use jac_events::{Event, LineFault, read_line};
+use jac_io::{AuditSink, Failed, Sink};
+use jac_keep::{Keeper, Stop, Vault};
+use jac_value::{Bytes, Id, Memory, Txt, first_part};
+use jac_world::Steps;
+use std::alloc::Global;
+use std::sync::ledger::Ledger;
+
+/// Why the answering of requests in silence ended early.
+#[derive(Clone, Copy, Debug, PartialEq, Eq)]
+pub enum DemoFault {
+    /// A put on the audit failed.
+    Write,
+    Memory,
+}
+
+// What follows the number in the audit line of a request, and what is counted of its answer.
+#[derive(Drop)]
+struct Counted {
+    audit: Txt,
+    tally: Tally,
+}
+
+fn count_answer(alloc: Global, ask: &Ask, answer: &Answer) -> Result<Counted, Memory>
+    ensures audit { IfOk result (λ c. c.audit ≡ audit_rest answer.now.status ask.now.viewer answer.now.shown) }
+    ensures tally { IfOk result (λ c. c.tally ≡ tally_of answer.now) }
+{
+    let audit = audit_rest(alloc, answer.status, ask.viewer, &answer.shown)?;
+    let tally = tally_of(answer);
+    Ok(Counted { audit, tally })
+}
+
+// Answers one request and stores what it leaves. What its audit line says is made before, so that nothing is stored
+// without it.
+fn answer_counted<K: Keeper, L: Ledger, M: Ledger>(
+    alloc: Global,
+    service: &Service,
+    keeper: &mut K,
+    ask: &Ask,
+    splits: &mut Steps<L>,
+    evaluations: &mut Steps<M>,
+) -> Result<Counted, Stop>
+    requires attached { IsTrue (K.seen keeper.old).store.attached }
+    requires start { IsTrue (K.seen keeper.old).tells → IsStart (application_of service.now) (K.seen keeper.old).state }
+    ensures counted { IfOk result (λ c. IsCounted (application_of service.now) (span (K.seen keeper.old) (K.seen keeper.new)) ask.now c.audit c.tally) }
+    ensures refused { IsTrue (K.seen keeper.new).tells → OnErr result ((K.seen keeper.new).state ≡ (K.seen keeper.old).state) }
+    ensures told { IsTrue (K.seen keeper.new).tells → IsTrue (K.seen keeper.old).tells }
+    ensures cause { HasCause (K.seen keeper.old).faults (K.seen keeper.new).faults result }
+    ensures attached { (K.seen keeper.new).store ≡ (K.seen keeper.old).store }
+{
+    let prepared = prepare(
+        alloc,
+        service.app(),
+        service.routes(),
+        keeper,
+        ask,
+        splits,
+        evaluations,
+    )?;
+    let counted = count_answer(alloc, ask, &prepared.answer)?;
+    commit(alloc, keeper, prepared)?;
+    Ok(counted)
+}
+
+// The same of an `ask` line.
+fn count_ask<K: Keeper, L: Ledger, M: Ledger>(
+    alloc: Global,
+    service: &Service,
+    keeper: &mut K,
+    viewer: Option<u128>,
+    method: &Txt,
+    path: &Txt,
+    query: &Bytes,
+    body: &Bytes,
+    splits: &mut Steps<L>,
+    evaluations: &mut Steps<M>,
+) -> Result<Counted, Stop>
+    requires attached { IsTrue (K.seen keeper.old).store.attached }
+    requires start { IsTrue (K.seen keeper.old).tells → IsStart (application_of service.now) (K.seen keeper.old).state }
+    ensures counted { IfOk result (λ c. IsCounted (application_of service.now) (span (K.seen keeper.old) (K.seen keeper.new))
+        (ask_in (application_of service.now) viewer method.now path.now query.now body.now) c.audit c.tally) }
+    ensures refused { IsTrue (K.seen keeper.new).tells → OnErr result ((K.seen keeper.new).state ≡ (K.seen keeper.old).state) }
+    ensures told { IsTrue (K.seen keeper.new).tells → IsTrue (K.seen keeper.old).tells }
+    ensures cause { HasCause (K.seen keeper.old).faults (K.seen keeper.new).faults result }
+    ensures attached { (K.seen keeper.new).store ≡ (K.seen keeper.old).store }
+{
+    let ask = ask_in(alloc, service.app(), viewer, method, path, query, body)?;
+    let counted = answer_counted(alloc, service, keeper, &ask, splits, evaluations)?;
+    Ok(counted)
+}
+
+// Puts the audit line of the k-th request, which is given behind its number.
+fn put_counted<U: AuditSink>(
+    audit: &mut U,
+    k: u64,
+    rest: &[u8],
+    tally: Tally,
+) -> Result<Tally, Failed>
+    ensures put { WentTo (span (U.seen audit.old) (U.seen audit.new)) (PutsTally (decimal k ++ rest.now) tally result) }
+    ensures cause { OnErr result (Rose (U.seen audit.old).faults (U.seen audit.new).faults) }
+{
+    match put_numbered(audit, k, rest) {
+        Ok(()) => Ok(tally),
+        Err(Failed) => Err(Failed),
+    }
+}
+
+// The same of a request that wasn't answered.
+fn put_stopped<U: AuditSink>(
+    audit: &mut U,
+    k: u64,
+    stop: Stop,
+    viewer: Option<Id>,
+) -> Result<Tally, Failed>
+    ensures put { WentTo (span (U.seen audit.old) (U.seen audit.new))
+        (PutsTally (audit_text k (status_of_stop stop) viewer None) (tally_of (refusal (status_of_stop stop) None)) result) }
+    ensures cause { OnErr result (Rose (U.seen audit.old).faults (U.seen audit.new).faults) }
+{
+    match put_failed_audit(audit, k, fixed_of(stop), viewer) {
+        Ok(()) => Ok(failed_tally(stop)),
+        Err(Failed) => Err(Failed),
+    }
+}
+
+// Answers the request of an `ask` line, of which so many were answered before, and puts its audit line.
+fn tally_ask<U: AuditSink, K: Keeper, L: Ledger, M: Ledger>(
+    alloc: Global,
+    service: &Service,
+    served: u64,
+    viewer: Option<u128>,
+    method: &Txt,
+    path: &Txt,
+    query: &Bytes,
+    body: &Bytes,
+    audit: &mut U,
+    keeper: &mut K,
+    splits: &mut Steps<L>,
+    evaluations: &mut Steps<M>,
+) -> Result<Tally, Failed>
+    requires few { served < 2 ^ 64 - 1 }
+    requires attached { IsTrue (K.seen keeper.old).store.attached }
+    requires start { IsTrue (K.seen keeper.old).tells → IsStart (application_of service.now) (K.seen keeper.old).state }
+    ensures answered { WentTo (span (U.seen audit.old) (U.seen audit.new))
+        (TalliesAsk (application_of service.now) (span (K.seen keeper.old) (K.seen keeper.new)) served (ask_in (application_of service.now) viewer method.now path.now query.now body.now) result) }
+    ensures cause { OnErr result (Rose (U.seen audit.old).faults (U.seen audit.new).faults) }
+    ensures start { IsTrue (K.seen keeper.new).tells → IsStart (application_of service.now) (K.seen keeper.new).state }
+    ensures attached { (K.seen keeper.new).store ≡ (K.seen keeper.old).store }
+{
+    match count_ask(
+        alloc,
+        service,
+        keeper,
+        viewer,
+        method,
+        path,
+        query,
+        body,
+        splits,
+        evaluations,
+    ) {
+        Ok(counted) => put_counted(audit, served + 1, counted.audit.as_bytes(), counted.tally),
+        Err(stop) => put_stopped(audit, served + 1, stop, viewer_in(service.app(), viewer)),
+    }
+}
+
+// Serves a request, and counts it.
+fn tally_event<U: AuditSink, K: Keeper, L: Ledger, M: Ledger>(
+    alloc: Global,
+    service: &Service,
+    summary: Summary,
+    event: &Event,
+    audit: &mut U,
+    keeper: &mut K,
+    splits: &mut Steps<L>,
+    evaluations: &mut Steps<M>,
+) -> Result<Summary, DemoFault>
+    requires few { summary.asks < 2 ^ 64 - 1 }
+    requires bounded { IsBounded summary }
+    requires asking { IsAsking (Some (Some event.now)) }
+    requires attached { IsTrue (K.seen keeper.old).store.attached }
+    requires start { IsTrue (K.seen keeper.old).tells → IsStart (application_of service.now) (K.seen keeper.old).state }
+    ensures tallied { WentTo (span (U.seen audit.old) (U.seen audit.new))
+        (TalliesEvent (application_of service.now) (span (K.seen keeper.old) (K.seen keeper.new)) summary event.now result) }
+    ensures cause { result ≡ Err DemoFault.Write → Rose (U.seen audit.old).faults (U.seen audit.new).faults }
+    ensures bounded { IfOk result (λ more. IsBounded more) }
+    ensures count { IfOk result (λ more. more.asks ≤ summary.asks + 1) }
+    ensures start { IsTrue (K.seen keeper.new).tells → IsStart (application_of service.now) (K.seen keeper.new).state }
+    ensures attached { (K.seen keeper.new).store ≡ (K.seen keeper.old).store }
+{
+    match event {
+        Event::Ask {
+            viewer,
+            method,
+            path,
+            query,
+            body,
+        } => match tally_ask(
+            alloc,
+            service,
+            summary.asks,
+            *viewer,
+            method,
+            path,
+            query,
+            body,
+            audit,
+            keeper,
+            splits,
+            evaluations,
+        ) {
+            Ok(tally) => Ok(counted(summary, method.as_bytes(), tally)),
+            Err(Failed) => Err(DemoFault::Write),
+        },
+        _ => unreachable!(),
+    }
+}
+
+// Serves a line, which is empty or writes down a request.
+fn tally_line<U: AuditSink, K: Keeper, L: Ledger, M: Ledger>(
+    alloc: Global,
+    service: &Service,
+    summary: Summary,
+    line: &[u8],
+    audit: &mut U,
+    keeper: &mut K,
+    splits: &mut Steps<L>,
+    evaluations: &mut Steps<M>,
+) -> Result<Summary, DemoFault>
+    requires few { summary.asks < 2 ^ 64 - 1 }
+    requires bounded { IsBounded summary }
+    requires asking { IsAsking (line_of line.now) }
+    requires attached { IsTrue (K.seen keeper.old).store.attached }
+    requires start { IsTrue (K.seen keeper.old).tells → IsStart (application_of service.now) (K.seen keeper.old).state }
+    ensures tallied { WentTo (span (U.seen audit.old) (U.seen audit.new))
+        (TalliesLine (application_of service.now) (span (K.seen keeper.old) (K.seen keeper.new)) summary (line_of line.now) result) }
+    ensures cause { result ≡ Err DemoFault.Write → Rose (U.seen audit.old).faults (U.seen audit.new).faults }
+    ensures bounded { IfOk result (λ more. IsBounded more) }
+    ensures count { IfOk result (λ more. more.asks ≤ summary.asks + 1) }
+    ensures start { IsTrue (K.seen keeper.new).tells → IsStart (application_of service.now) (K.seen keeper.new).state }
+    ensures attached { (K.seen keeper.new).store ≡ (K.seen keeper.old).store }
+{
+    match read_line(alloc, line) {
+        Ok(Some(event)) => tally_event(
+            alloc,
+            service,
+            summary,
+            &event,
+            audit,
+            keeper,
+            splits,
+            evaluations,
+        ),
+        Ok(None) => Ok(summary),
+        Err(LineFault::BadLine) => unreachable!(),
+        Err(LineFault::Memory) => Err(DemoFault::Memory),
+    }
+}
+
+// Serves the requests of a text, line by line.
+fn tally_events<U: AuditSink, K: Keeper, L: Ledger, M: Ledger>(
+    alloc: Global,
+    service: &Service,
+    bytes: &[u8],
+    audit: &mut U,
+    keeper: &mut K,
+    splits: &mut Steps<L>,
+    evaluations: &mut Steps<M>,
+) -> Result<Summary, DemoFault>
+    requires short { length bytes.now < 2 ^ 63 }
+    requires asking { All (λ line. IsAsking (line_of line)) (lines_of bytes.now) }
+    requires attached { IsTrue (K.seen keeper.old).store.attached }
+    requires start { IsTrue (K.seen keeper.old).tells → IsStart (application_of service.now) (K.seen keeper.old).state }
+    ensures tallied { WentTo (span (U.seen audit.old) (U.seen audit.new))
+        (Tallies (application_of service.now) (span (K.seen keeper.old) (K.seen keeper.new)) (K.seen keeper.old).state (script_of bytes.now) result) }
+    ensures cause { result ≡ Err DemoFault.Write → Rose (U.seen audit.old).faults (U.seen audit.new).faults }
+    ensures store { (K.seen keeper.new).store ≡ (K.seen keeper.old).store }
+{
+    let mut summary = none_counted();
+    let mut left = Some(bytes);
+    'lines: while let Some(rest) = left {
+        let (line, after) = first_part(rest, b'\n');
+        match tally_line(
+            alloc,
+            service,
+            summary,
+            line,
+            audit,
+            keeper,
+            splits,
+            evaluations,
+        ) {
+            Ok(more) => summary = more,
+            Err(fault) => return Err(fault),
+        }
+        left = after;
+    }
+    Ok(summary)
+}
+
+// Serves the requests to the calendar.
+fn serve_calendar<U: AuditSink, K: Keeper, L: Ledger, M: Ledger>(
+    alloc: Global,
+    service: &Service,
+    count: u64,
+    audit: &mut U,
+    keeper: &mut K,
+    splits: &mut Steps<L>,
+    evaluations: &mut Steps<M>,
+) -> Result<Summary, DemoFault>
+    requires some { 1 ≤ count }
+    requires few { count ≤ 2000 }
+    requires attached { IsTrue (K.seen keeper.old).store.attached }
+    requires start { IsTrue (K.seen keeper.old).tells → IsStart (application_of service.now) (K.seen keeper.old).state }
+    ensures served { WentTo (span (U.seen audit.old) (U.seen audit.new))
+        (Tallies (application_of service.now) (span (K.seen keeper.old) (K.seen keeper.new)) (K.seen keeper.old).state (demo_script count) result) }
+    ensures cause { result ≡ Err DemoFault.Write → Rose (U.seen audit.old).faults (U.seen audit.new).faults }
+    ensures store { (K.seen keeper.new).store ≡ (K.seen keeper.old).store }
+{
+    match demo_events(alloc, count) {
+        Ok(events) => tally_events(
+            alloc,
+            service,
+            events.as_slice(),
+            audit,
+            keeper,
+            splits,
+            evaluations,
+        ),
+        Err(Memory) => Err(DemoFault::Memory),
+    }
+}
+
+// Attaches a store without a name, and serves the requests.
+fn tally_attached<U: AuditSink, K: Vault, L: Ledger, M: Ledger>(
+    alloc: Global,
+    service: &Service,
+    schema: Txt,
+    count: u64,
+    audit: &mut U,
+    vault: &mut K,
+    splits: &mut Steps<L>,
+    evaluations: &mut Steps<M>,
+) -> Result<Summary, Ending>
+    requires some { 1 ≤ count }
+    requires few { count ≤ 2000 }
+    requires first { (K.seen vault.old).store.called ≡ false }
+    requires own { schema ≡ schema_text (application_of service.now) }
+    requires schema { IsSchema schema (kinds_of (application_of service.now)) }
+    ensures served { WentTo (span (U.seen audit.old) (U.seen audit.new))
+        (EndsTallying (application_of service.now) (span (K.seen vault.old) (K.seen vault.new)) count result) }
+    ensures cause { result ≡ Err endings.WriteFault → Rose (U.seen audit.old).faults (U.seen audit.new).faults }
+{
+    match attach(alloc, service, None, schema, vault) {
+        Ok(()) => match serve_calendar(alloc, service, count, audit, vault, splits, evaluations) {
+            Ok(summary) => Ok(summary),
+            Err(DemoFault::Write) => Err(Ending::WriteFault),
+            Err(DemoFault::Memory) => Err(Ending::Memory),
+        },
+        Err(ending) => Err(ending),
+    }
+}
+
+// The same, and the summary is put.
+fn tell_attached<O: Sink, U: AuditSink, K: Vault, L: Ledger, M: Ledger>(
+    alloc: Global,
+    service: &Service,
+    schema: Txt,
+    count: u64,
+    out: &mut O,
+    audit: &mut U,
+    vault: &mut K,
+    splits: &mut Steps<L>,
+    evaluations: &mut Steps<M>,
+) -> Result<(), Ending>
+    requires some { 1 ≤ count }
+    requires few { count ≤ 2000 }
+    requires first { (K.seen vault.old).store.called ≡ false }
+    requires own { schema ≡ schema_text (application_of service.now) }
+    requires schema { IsSchema schema (kinds_of (application_of service.now)) }
+    ensures { Went (sinks (O.seen out.old) (O.seen out.new) (U.seen audit.old) (U.seen audit.new))
+        (IsTold (sinks (O.seen out.old) (O.seen out.new) (U.seen audit.old) (U.seen audit.new)) (application_of service.now) (span (K.seen vault.old) (K.seen vault.new)) count result) }
+{
+    match tally_attached(
+        alloc,
+        service,
+        schema,
+        count,
+        audit,
+        vault,
+        splits,
+        evaluations,
+    ) {
+        Ok(summary) => match put_summary(out, &summary) {
+            Ok(()) => Ok(()),
+            Err(Failed) => Err(Ending::WriteFault),
+        },
+        Err(ending) => Err(ending),
+    }
+}
+
+// Aims the audit at none, attaches the store, and serves the requests.
+fn count_calendar<O: Sink, U: AuditSink, K: Vault, L: Ledger, M: Ledger>(
+    alloc: Global,
+    service: &Service,
+    schema: Txt,
+    count: u64,
+    out: &mut O,
+    audit: &mut U,
+    vault: &mut K,
+    splits: &mut Steps<L>,
+    evaluations: &mut Steps<M>,
+) -> Result<(), Ending>
+    requires some { 1 ≤ count }
+    requires few { count ≤ 2000 }
+    requires first { (K.seen vault.old).store.called ≡ false }
+    requires own { schema ≡ schema_text (application_of service.now) }
+    requires schema { IsSchema schema (kinds_of (application_of service.now)) }
+    ensures { WentAimed (sinks (O.seen out.old) (O.seen out.new) (U.seen audit.old) (U.seen audit.new))
+        (EndsCounting (sinks (O.seen out.old) (O.seen out.new) (U.seen audit.old) (U.seen audit.new)) (application_of service.now) (span (K.seen vault.old) (K.seen vault.new)) count result) }
+{
+    match audit.aim(None) {
+        Ok(()) => tell_attached(
+            alloc,
+            service,
+            schema,
+            count,
+            out,
+            audit,
+            vault,
+            splits,
+            evaluations,
+        ),
+        Err(Failed) => Err(Ending::WriteFault),
+    }
+}
+
+// The calendar, as it is served.
+fn open_calendar(alloc: Global) -> Result<Service, Ending>
+    ensures calendar { IfOk result (λ s. IsApplication calendar_text (application_of s)) }
+    ensures unopened { IfErr result (IsUnopened calendar_text) }
+{
+    match demo_app(alloc) {
+        Ok(text) => read_calendar(alloc, &text),
+        Err(Memory) => Err(Ending::Memory),
+    }
+}
+
+fn read_calendar(alloc: Global, text: &Bytes) -> Result<Service, Ending>
+    requires calendar { text.now ≡ calendar_text }
+    ensures calendar { IfOk result (λ s. IsApplication calendar_text (application_of s)) }
+    ensures unopened { IfErr result (IsUnopened calendar_text) }
+{
+    match open_app(alloc, text.as_slice()) {
+        Ok(service) => Ok(service),
+        Err(ending) => Err(ending),
+    }
+}
+
+/// The steps of a demo: the audit is aimed at none, a store without a name is attached, the first `count` requests of
+/// `jac_demo` are answered in silence to its calendar, and their summary is put.
+pub fn demo<O: Sink, U: AuditSink, K: Vault, L: Ledger, M: Ledger>(
+    alloc: Global,
+    count: u64,
+    out: &mut O,
+    audit: &mut U,
+    vault: &mut K,
+    splits: &mut Steps<L>,
+    evaluations: &mut Steps<M>,
+) -> Result<(), Ending>
+    requires some { 1 ≤ count }
+    requires few { count ≤ 2000 }
+    requires first { (K.seen vault.old).store.called ≡ false }
+    ensures { WentAimed (sinks (O.seen out.old) (O.seen out.new) (U.seen audit.old) (U.seen audit.new))
+        (EndsDemo (sinks (O.seen out.old) (O.seen out.new) (U.seen audit.old) (U.seen audit.new)) (span (K.seen vault.old) (K.seen vault.new)) count result) }
+{
+    let service = match open_calendar(alloc) {
+        Ok(service) => service,
+        Err(ending) => return Err(ending),
+    };
+    let schema = match service.schema(alloc) {
+        Ok(schema) => schema,
+        Err(Memory) => return Err(Ending::Memory),
+    };
+    count_calendar(
+        alloc,
+        &service,
+        schema,
+        count,
+        out,
+        audit,
+        vault,
+        splits,
+        evaluations,
+    )
+}

@@ -1,0 +1,197 @@
+ghost use Rattle.std.specs.Prelude.{◌≡◌, ◌<◌, ◌^◌, length, IsTrue, IfOk, Err, false};
+ghost use Rattle.std.specs.Option.{option_copied};
+ghost use Rattle.jac_lang.specs.Mirror.{application_of};
+ghost use Rattle.jac_plain.specs.Models.{kinds_of};
+ghost use Rattle.jac_keep.specs.Schema.{IsSchema};
+ghost use Rattle.jac_app.specs.declared.ending.Ending.TheVariants as endings;
+ghost use Rattle.jac_app.specs.Outside.{AWriteFailed, Went, WentAimed, span, sinks};
+ghost use Rattle.jac_app.specs.declared.words.Command.TheVariants as commands;
+ghost use Rattle.jac_app.specs.Script.{script_of};
+ghost use Rattle.jac_app.specs.Ending.{ending_of};
+ghost use Rattle.jac_app.specs.Files.{sight};
+ghost use Rattle.jac_app.specs.Replay.{schema_text, EndsAttaching, EndsServing, EndsReplay};
+
+use crate::attach::attach;
+use crate::ending::{Ending, Role};
+use crate::files::{open_app, read_file, read_sessions};
+use crate::serve::{Stopped, serve_events};
+use crate::service::Service;
+use crate::words::Replay;
+use jac_io::{AuditSink, Failed, Files, Sink};
+use jac_keep::Vault;
+use jac_route::Sessions;
+use jac_value::{Memory, Txt};
+use jac_world::Steps;
+use std::alloc::Global;
+use std::sync::ledger::Ledger;
+
+fn ending_of(stopped: Stopped) -> Ending
+    ensures { result ≡ ending_of stopped }
+{
+    match stopped {
+        Stopped::Refused(lapse) => Ending::LineRefused(lapse),
+        Stopped::Write => Ending::WriteFault,
+        Stopped::Memory => Ending::Memory,
+    }
+}
+
+// Attaches the store, and serves the events.
+fn serve_attached<O: Sink, U: AuditSink, K: Vault, L: Ledger, M: Ledger>(
+    alloc: Global,
+    service: &Service,
+    sessions: &Sessions,
+    db: Option<&Txt>,
+    schema: Txt,
+    events: &[u8],
+    out: &mut O,
+    audit: &mut U,
+    vault: &mut K,
+    splits: &mut Steps<L>,
+    evaluations: &mut Steps<M>,
+) -> Result<(), Ending>
+    requires short { length events.now < 2 ^ 32 }
+    requires first { (K.seen vault.old).store.called ≡ false }
+    requires own { schema ≡ schema_text (application_of service.now) }
+    requires schema { IsSchema schema (kinds_of (application_of service.now)) }
+    ensures served { Went (sinks (O.seen out.old) (O.seen out.new) (U.seen audit.old) (U.seen audit.new))
+        (EndsAttaching (option_copied db.entry) (application_of service.now) sessions.now (span (K.seen vault.old) (K.seen vault.new)) (script_of events.now) result) }
+    ensures cause { result ≡ Err endings.WriteFault → AWriteFailed (sinks (O.seen out.old) (O.seen out.new) (U.seen audit.old) (U.seen audit.new)) }
+{
+    match attach(alloc, service, db, schema, vault) {
+        Ok(()) => match serve_events(
+            alloc,
+            service,
+            sessions,
+            events,
+            out,
+            audit,
+            vault,
+            splits,
+            evaluations,
+        ) {
+            Ok(()) => Ok(()),
+            Err(stopped) => Err(ending_of(stopped)),
+        },
+        Err(ending) => Err(ending),
+    }
+}
+
+// Aims the audit, attaches the store, and serves the events.
+fn serve<O: Sink, U: AuditSink, K: Vault, L: Ledger, M: Ledger>(
+    alloc: Global,
+    service: &Service,
+    sessions: &Sessions,
+    command: &Replay,
+    aim: Option<Txt>,
+    schema: Txt,
+    events: &[u8],
+    out: &mut O,
+    audit: &mut U,
+    vault: &mut K,
+    splits: &mut Steps<L>,
+    evaluations: &mut Steps<M>,
+) -> Result<(), Ending>
+    requires short { length events.now < 2 ^ 32 }
+    requires first { (K.seen vault.old).store.called ≡ false }
+    requires aim { aim ≡ command.now.audit }
+    requires own { schema ≡ schema_text (application_of service.now) }
+    requires schema { IsSchema schema (kinds_of (application_of service.now)) }
+    ensures { WentAimed (sinks (O.seen out.old) (O.seen out.new) (U.seen audit.old) (U.seen audit.new))
+        (EndsServing (sinks (O.seen out.old) (O.seen out.new) (U.seen audit.old) (U.seen audit.new)) (commands.Replay command.now) (application_of service.now) sessions.now (span (K.seen vault.old) (K.seen vault.new)) (script_of events.now) result) }
+{
+    match audit.aim(aim) {
+        Ok(()) => serve_attached(
+            alloc,
+            service,
+            sessions,
+            named(&command.db),
+            schema,
+            events,
+            out,
+            audit,
+            vault,
+            splits,
+            evaluations,
+        ),
+        Err(Failed) => Err(Ending::WriteFault),
+    }
+}
+
+/// The steps of a replay: the application, the sessions, the events, the audit's aim, the store, and each event.
+pub fn replay<F: Files, O: Sink, U: AuditSink, K: Vault, L: Ledger, M: Ledger>(
+    alloc: Global,
+    command: &Replay,
+    files: &mut F,
+    out: &mut O,
+    audit: &mut U,
+    vault: &mut K,
+    splits: &mut Steps<L>,
+    evaluations: &mut Steps<M>,
+) -> Result<(), Ending>
+    requires first { (K.seen vault.old).store.called ≡ false }
+    ensures { WentAimed (sinks (O.seen out.old) (O.seen out.new) (U.seen audit.old) (U.seen audit.new))
+        (EndsReplay (sight (F.seen files.old) (F.seen files.new) (O.seen out.old) (O.seen out.new) (U.seen audit.old) (U.seen audit.new) (K.seen vault.old) (K.seen vault.new))
+        (commands.Replay command.now) result) }
+{
+    let bytes = match read_file(alloc, files, &command.app, Role::App) {
+        Ok(bytes) => bytes,
+        Err(ending) => return Err(ending),
+    };
+    let service = match open_app(alloc, bytes.as_slice()) {
+        Ok(service) => service,
+        Err(ending) => return Err(ending),
+    };
+    let sessions = match read_sessions(alloc, files, named(&command.sessions)) {
+        Ok(sessions) => sessions,
+        Err(ending) => return Err(ending),
+    };
+    let events = match read_file(alloc, files, &command.events, Role::Events) {
+        Ok(events) => events,
+        Err(ending) => return Err(ending),
+    };
+    let aim = match copy_name(alloc, named(&command.audit)) {
+        Ok(aim) => aim,
+        Err(Memory) => return Err(Ending::Memory),
+    };
+    let schema = match service.schema(alloc) {
+        Ok(schema) => schema,
+        Err(Memory) => return Err(Ending::Memory),
+    };
+    serve(
+        alloc,
+        &service,
+        &sessions,
+        command,
+        aim,
+        schema,
+        events.as_slice(),
+        out,
+        audit,
+        vault,
+        splits,
+        evaluations,
+    )
+}
+
+/// A copy of the name, if there is one.
+pub fn copy_name(alloc: Global, name: Option<&Txt>) -> Result<Option<Txt>, Memory>
+    ensures { IfOk result (λ copy. copy ≡ option_copied name.entry) }
+{
+    match name {
+        None => Ok(None),
+        Some(name) => {
+            let copy = name.copy(alloc)?;
+            Ok(Some(copy))
+        }
+    }
+}
+
+/// The name, if there is one.
+pub fn named(name: &Option<Txt>) -> Option<&Txt>
+    ensures { option_copied result ≡ name.now }
+{
+    match name {
+        None => None,
+        Some(name) => Some(name),
+    }
+}

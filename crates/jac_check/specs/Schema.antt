@@ -1,0 +1,55 @@
+-- The schema of an application: its models, their fields, and which fields its groups guard, as a tree.
+use Rattle.std.specs.Prelude.{ℕ, List, [], ◌∷◌, codes}
+use Rattle.jac_lang.specs.declared.field_kinds.Field.{Field}
+use Rattle.jac_lang.specs.declared.field_kinds.KindName.{KindName}
+use Rattle.jac_lang.specs.declared.field_kinds.KindName.TheVariants as kinds
+use Rattle.jac_lang.specs.Syntax.{Assigned, FieldGroup, Entity}
+use Rattle.jac_tree.specs.Plain.{PlainTree, PlainTrees}
+
+-- `(WORD ..)`
+abbrev pub headed : List ℕ → PlainTrees → PlainTree
+headed word ts = PlainTree.list (PlainTrees.more (PlainTree.atom word) ts)
+
+-- `int`, `text`, `bool` or `(ref NAME)`
+abbrev pub kind_tree : KindName → PlainTree
+kind_tree kinds.Int = PlainTree.atom (codes "int")
+kind_tree kinds.Text = PlainTree.atom (codes "text")
+kind_tree kinds.Bool = PlainTree.atom (codes "bool")
+kind_tree (kinds.Ref model) = headed (codes "ref") (PlainTrees.more (PlainTree.atom model) PlainTrees.none)
+
+-- `(NAME KIND)`
+abbrev pub field_tree : Field → PlainTree
+field_tree f = headed f.name (PlainTrees.more (kind_tree f.kind) PlainTrees.none)
+
+abbrev pub field_trees : List Field → PlainTrees
+field_trees [] = PlainTrees.none
+field_trees (f ∷ fields) = PlainTrees.more (field_tree f) (field_trees fields)
+
+-- the fields that a group guards
+abbrev pub guard_trees : List Assigned → PlainTrees
+guard_trees [] = PlainTrees.none
+guard_trees (g ∷ guards) = PlainTrees.more (PlainTree.atom g.field) (guard_trees guards)
+
+abbrev pub group_trees : List FieldGroup → PlainTrees
+group_trees [] = PlainTrees.none
+group_trees (g ∷ groups) = PlainTrees.more (PlainTree.list (guard_trees g.guards)) (group_trees groups)
+
+-- `(fields (NAME KIND) ..)`
+abbrev pub fields_tree : List Field → PlainTree
+fields_tree fields = headed (codes "fields") (field_trees fields)
+
+-- `(groups (FIELD ..) ..)`
+abbrev pub groups_tree : List FieldGroup → PlainTree
+groups_tree groups = headed (codes "groups") (group_trees groups)
+
+-- `(model NAME (fields ..) (groups ..))`
+abbrev pub model_tree : Entity → PlainTree
+model_tree m = headed (codes "model") (PlainTrees.more (PlainTree.atom m.name) (PlainTrees.more (fields_tree m.fields) (PlainTrees.more (groups_tree m.groups) PlainTrees.none)))
+
+abbrev pub model_trees : List Entity → PlainTrees
+model_trees [] = PlainTrees.none
+model_trees (m ∷ models) = PlainTrees.more (model_tree m) (model_trees models)
+
+-- `(schema (model NAME (fields (NAME KIND) ..) (groups (FIELD ..) ..)) ..)`
+abbrev pub schema_tree : List Entity → PlainTree
+schema_tree models = headed (codes "schema") (model_trees models)

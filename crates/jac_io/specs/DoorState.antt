@@ -1,0 +1,46 @@
+-- a door in memory, as contracts see it
+use Rattle.std.specs.Prelude.{ℕ, List, [], ◌∷◌, ◌++◌, length, drop, Bool, true, ◌||◌, Option, Some, if◌then◌else◌, nat_le}
+use Rattle.jac_io.specs.Faults.{risen}
+use Rattle.jac_io.specs.Calls.{listed}
+use Rattle.jac_io.specs.Linked.{DoorSeen}
+use Rattle.jac_io.specs.LinkState.{LinkState}
+
+-- the links that are still to come, the port of the last listen that was answered, the links that were handed
+-- back and the room for them, the calls that are to fail, and how many calls there were and how many failed
+pub record DoorState : Type 0 where
+  pub coming : List LinkState
+  pub port : Option ℕ
+  pub returned : List LinkState
+  pub room : ℕ
+  pub fails : List ℕ
+  pub calls : ℕ
+  pub faults : ℕ
+
+-- whether the next call fails for being listed
+abbrev pub call_fails : DoorState → Bool
+call_fails s = listed (risen s.calls) s.fails
+
+-- whether handing a link back fails: it is a listed call, or there is no room left
+abbrev pub close_fails : DoorState → Bool
+close_fails s = call_fails s || nat_le s.room (length s.returned)
+
+-- what a call on a door leaves that fails
+abbrev pub failed_door : DoorState → DoorState
+failed_door s = record s { calls = risen s.calls; faults = risen s.faults }
+
+-- what the next listen leaves
+abbrev pub after_listen : DoorState → ℕ → DoorState
+after_listen s port = if call_fails s then failed_door s else record s { calls = risen s.calls; port = Some port }
+
+-- what asking for the next link leaves
+abbrev pub after_next : DoorState → DoorState
+after_next s = if call_fails s then failed_door s else record s { calls = risen s.calls; coming = drop 1 s.coming }
+
+-- what handing a link back leaves
+abbrev pub after_close : DoorState → LinkState → DoorState
+after_close s line =
+    if close_fails s then failed_door s else record s { calls = risen s.calls; returned = s.returned ++ line ∷ [] }
+
+-- it tells what it holds
+abbrev pub seen_door : DoorState → DoorSeen LinkState
+seen_door s = record { tells = true; coming = s.coming; port = s.port; returned = s.returned; faults = s.faults }

@@ -1,0 +1,125 @@
+ghost use Rattle.std.specs.Prelude.{◌≡◌, ◌≤◌, ◌+◌, ◌-◌, ◌^◌, length};
+ghost use Rattle.jac_io.specs.LinkState.{cut, first_piece};
+
+use jac_value::Bytes;
+use std::collections::VecDeque;
+use std::marker::Model;
+
+/// What comes over a connection, a piece for each take.
+#[derive(Debug, Drop)]
+pub struct Pieces {
+    pieces: Vec<Bytes>,
+}
+
+impl Model for Pieces {
+    ghost use Rattle.std.specs.Prelude.{List, ℕ};
+
+    ghost Value = { List (List ℕ) };
+
+    ghost view = { λ p. p.pieces.items };
+}
+
+impl Pieces {
+    pub fn from_vec(pieces: Vec<Bytes>) -> Pieces
+        ensures { result ≡ pieces.items }
+    {
+        Pieces { pieces }
+    }
+
+    pub fn into_vec(self) -> Vec<Bytes>
+        ensures { result.items ≡ self }
+    {
+        self.pieces
+    }
+}
+
+// What wasn't taken yet.
+#[derive(Debug, Drop)]
+pub(crate) struct Input {
+    pieces: VecDeque<Bytes>,
+    // how much of the first piece was taken
+    from: usize,
+}
+
+impl Model for Input {
+    ghost use Rattle.std.specs.Prelude.{List, ℕ, ◌≤◌, length};
+    ghost use Rattle.jac_io.specs.LinkState.{cut, first_piece};
+
+    ghost Value = { List (List ℕ) };
+
+    ghost view = { λ i. cut i.from i.pieces.items };
+
+    ghost invariant = { λ i. i.from ≤ length (first_piece i.pieces.items) };
+}
+
+impl Input {
+    ghost use Rattle.std.specs.Prelude.{◌≤◌, take, drop};
+    ghost use Rattle.jac_io.specs.LinkState.{cut, first_piece, from_next, has_empty_front};
+
+    pub(crate) fn of_pieces(pieces: Pieces) -> Input
+        ensures { result ≡ pieces }
+    {
+        Input {
+            pieces: VecDeque::from(pieces.into_vec()),
+            from: 0,
+        }
+    }
+
+    // The rest of the first piece.
+    fn rest(&self) -> &[u8]
+        ensures { result.now ≡ first_piece self.now }
+    {
+        rest_of(&self.pieces, self.from)
+    }
+
+    fn is_at_empty(&self) -> bool
+        ensures { result ≡ has_empty_front self.now }
+    {
+        !self.pieces.is_empty() && self.rest().is_empty()
+    }
+
+    // The first piece is let go, whatever is left of it.
+    #[tactic(auto, using(crate::proofs::PieceLaws::cut_behind))]
+    fn drop_first(&mut self)
+        ensures { self.new ≡ drop 1 self.old }
+    {
+        self.pieces.pop_front();
+        self.from = 0;
+    }
+
+    #[tactic(auto, using(crate::proofs::PieceLaws::passed_empty, crate::proofs::PieceLaws::fewer_pieces, crate::proofs::PieceLaws::passed_all))]
+    fn pass_empty(&mut self)
+        ensures { self.new ≡ from_next self.old }
+    {
+        'empty: while self.is_at_empty() {
+            self.drop_first();
+        }
+    }
+
+    // Gives the front of the first piece that isn't empty, and how many bytes that is: none only at the end.
+    #[tactic(auto, using(crate::proofs::PieceLaws::cut_again))]
+    pub(crate) fn take(&mut self, into: &mut [u8]) -> usize
+        ensures left { self.new ≡ cut (length into.old) (from_next self.old) }
+        ensures within { result ≤ length into.new }
+        ensures taken { take result into.new ≡ take (length into.old) (first_piece (from_next self.old)) }
+        ensures same_length { length into.new ≡ length into.old }
+    {
+        self.pass_empty();
+        let rest = rest_of(&self.pieces, self.from);
+        let count = rest.len().min(into.len());
+        into[..count].copy_from_slice(&rest[..count]);
+        self.from += count;
+        count
+    }
+}
+
+fn rest_of(pieces: &VecDeque<Bytes>, from: usize) -> &[u8]
+    requires { from ≤ length (first_piece pieces.now.items) }
+    ensures rest { result.now ≡ first_piece (cut from pieces.now.items) }
+    ensures fits { from + length result.now ≤ 2 ^ 64 - 1 }
+{
+    match pieces.front() {
+        Some(piece) => &piece.as_slice()[from..],
+        None => &[],
+    }
+}

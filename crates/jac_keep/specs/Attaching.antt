@@ -1,0 +1,42 @@
+-- What attaching to a store leaves.
+use Rattle.std.specs.Prelude.{◌≡◌, ◌≤◌, ◌⊎◌, ℕ, List, Option, Some, None, Result, Err, OnOk, OnErr, IsTrue, length}
+use Rattle.jac_io.specs.Faults.{Rose}
+use Rattle.jac_value.specs.declared.value.Kind.{Kind}
+use Rattle.jac_rows.specs.declared.state.State.{State}
+use Rattle.jac_keep.specs.KeeperSeen.{KeeperSeen}
+use Rattle.jac_keep.specs.Schema.{IsSchema, IsFit, empties}
+use Rattle.jac_keep.specs.declared.vault.AttachFault.{AttachFault}
+use Rattle.jac_keep.specs.declared.vault.AttachFault.TheVariants.{Failed, Other}
+
+-- a new store is empty, with a table for each model, and its number stays
+pub record IsNew (before : State) (kinds : List (List Kind)) (state : State) : Type 0 where
+  pub tables : state.tables ≡ empties (length kinds)
+  pub number : state.number ≡ before.number
+
+-- it is attached under this name, with this schema: what was stored under it stands, and else the store was new
+pub record Opens (old new : KeeperSeen) (name : Option (List ℕ)) (schema : List ℕ) : Type 0 where
+  pub attached : IsTrue new.store.attached
+  pub named : new.store.name ≡ name
+  pub stored : new.store.schema ≡ Some schema
+  pub fit : IsTrue new.tells → (kinds : List (List Kind)) → IsSchema schema kinds → IsFit kinds new.state
+  pub known : IsTrue new.tells → IsTrue old.tells → (old.store.schema ≡ None) ⊎ (old.store.schema ≡ Some schema)
+  pub kept : IsTrue new.tells → IsTrue old.tells → old.store.schema ≡ Some schema → new.state ≡ old.state
+  pub made : IsTrue new.tells → IsTrue old.tells → old.store.schema ≡ None → (kinds : List (List Kind)) → IsSchema schema kinds → IsNew old.state kinds new.state
+
+-- nothing is changed
+pub record IsRefused (old new : KeeperSeen) : Type 0 where
+  pub told : IsTrue old.tells
+  pub same_state : new.state ≡ old.state
+  pub same_schema : new.store.schema ≡ old.store.schema
+
+-- what attaching leaves: it fails only where the count of faults rose, and another schema is told where the one that
+-- is stored differs; a refused store isn't attached
+pub record Attaches (old new : KeeperSeen) (name : Option (List ℕ)) (schema : List ℕ) (result : Result (Unit {0}) AttachFault) : Type 0 where
+  pub later : old.faults ≤ new.faults
+  pub called : IsTrue new.store.called
+  pub ok : OnOk result (Opens old new name schema)
+  pub err : IsTrue new.tells → OnErr result (IsRefused old new)
+  pub unattached : OnErr result (new.store.attached ≡ old.store.attached)
+  pub rose : result ≡ Err Failed → Rose old.faults new.faults
+  pub other : (stored : List ℕ) → result ≡ Err (Other stored) → ¬ (stored ≡ schema)
+  pub known_other : (stored : List ℕ) → result ≡ Err (Other stored) → new.store.schema ≡ Some stored

@@ -1,0 +1,144 @@
+-- The schema of a store: the text that says which models and fields it has.
+use Rattle.std.specs.Prelude.{◌≡◌, ◌≤◌, ℕ, zero, suc, ◌+◌, Bool, true, false, nat_le, ◌&&◌, if◌then◌else◌, List, [], ◌∷◌, Option, Some, None, length, codes}
+use Rattle.std.specs.Option.{option_map, option_and_then}
+use Rattle.std.specs.Str.{bytes_eq}
+use Rattle.jac_value.specs.Names.{is_name}
+use Rattle.jac_value.specs.declared.value.Kind.{Kind}
+use Rattle.jac_value.specs.declared.value.Kind.TheVariants as kinds
+use Rattle.jac_rows.specs.declared.row.Row.{Row}
+use Rattle.jac_rows.specs.declared.state.State.{State}
+use Rattle.jac_rows.specs.Good.{IsGoodByGuards}
+use Rattle.jac_tree.specs.Plain.{PlainTree, PlainTrees, nesting}
+use Rattle.jac_tree.specs.Printed.{printed, HasAtoms}
+
+-- how many trees stand in a list
+abbrev pub count : PlainTrees → ℕ
+count PlainTrees.none = 0
+count (PlainTrees.more t ts) = count ts + 1
+
+-- what each tree is read as, where all can be read
+abbrev pub each_of : {A : Type 0} → (PlainTree → Option A) → PlainTrees → Option (List A)
+each_of read PlainTrees.none = Some []
+each_of read (PlainTrees.more t ts) = option_and_then (λ first. option_map (λ rest. first ∷ rest) (each_of read ts)) (read t)
+
+-- the tree is this word, as an atom
+abbrev pub is_word : List ℕ → PlainTree → Bool
+is_word word (PlainTree.atom a) = bytes_eq a word
+is_word word (PlainTree.text x) = false
+is_word word (PlainTree.list ts) = false
+
+-- the trees of a list behind its head, where that is this word
+abbrev pub behind : List ℕ → PlainTree → Option PlainTrees
+behind word (PlainTree.atom a) = None
+behind word (PlainTree.text x) = None
+behind word (PlainTree.list PlainTrees.none) = None
+behind word (PlainTree.list (PlainTrees.more w ts)) = if is_word word w then Some ts else None
+
+-- NAME
+abbrev pub is_named : PlainTree → Bool
+is_named (PlainTree.atom a) = is_name a
+is_named (PlainTree.text x) = false
+is_named (PlainTree.list ts) = false
+
+abbrev pub are_named : PlainTrees → Bool
+are_named PlainTrees.none = true
+are_named (PlainTrees.more t ts) = is_named t && are_named ts
+
+-- `NAME ..` of a model that has this name
+abbrev pub begins_with : List ℕ → Option PlainTrees → Bool
+begins_with name None = false
+begins_with name (Some PlainTrees.none) = false
+begins_with name (Some (PlainTrees.more x parts)) = is_word name x
+
+-- the place of the first model of this name, where the first of these trees has the place k
+abbrev pub place_from : ℕ → List ℕ → PlainTrees → Option ℕ
+place_from k name PlainTrees.none = None
+place_from k name (PlainTrees.more t ts) = if begins_with name (behind (codes "model") t) then Some k else place_from (k + 1) name ts
+
+-- the place of the model that a tree names
+abbrev pub place_named : PlainTrees → PlainTree → Option ℕ
+place_named models (PlainTree.atom a) = place_from 0 a models
+place_named models (PlainTree.text x) = None
+place_named models (PlainTree.list ts) = None
+
+-- `int`, `text` or `bool`
+abbrev pub plain_kind : List ℕ → Option Kind
+plain_kind a =
+    if bytes_eq a (codes "int") then Some kinds.Int else
+    if bytes_eq a (codes "text") then Some kinds.Text else
+    if bytes_eq a (codes "bool") then Some kinds.Bool else None
+
+-- a reference by the one name behind `ref`
+abbrev pub reference : PlainTrees → PlainTrees → Option Kind
+reference models (PlainTrees.more x PlainTrees.none) = option_map kinds.Ref (place_named models x)
+reference models ts = None
+
+-- a kind: one of those words, or `(ref NAME)`, by the place of the first model of that name
+abbrev pub kind_of : PlainTrees → PlainTree → Option Kind
+kind_of models (PlainTree.atom a) = plain_kind a
+kind_of models t = option_and_then (reference models) (behind (codes "ref") t)
+
+-- `(NAME KIND)`
+abbrev pub kind_of_field : PlainTrees → PlainTree → Option Kind
+kind_of_field models (PlainTree.list (PlainTrees.more x (PlainTrees.more k PlainTrees.none))) = if is_named x then kind_of models k else None
+kind_of_field models t = None
+
+-- `(fields (NAME KIND) ..)`
+abbrev pub kinds_of_fields : PlainTrees → PlainTree → Option (List Kind)
+kinds_of_fields models t = option_and_then (each_of (kind_of_field models)) (behind (codes "fields") t)
+
+-- `(FIELD ..)`: the fields that a group guards
+abbrev pub is_group : PlainTree → Bool
+is_group (PlainTree.atom a) = false
+is_group (PlainTree.text x) = false
+is_group (PlainTree.list names) = are_named names
+
+abbrev pub are_groups : PlainTrees → Bool
+are_groups PlainTrees.none = true
+are_groups (PlainTrees.more t ts) = is_group t && are_groups ts
+
+-- `(groups (FIELD ..) ..)`, by the trees behind its head
+abbrev pub have_groups : Option PlainTrees → Bool
+have_groups None = false
+have_groups (Some ts) = are_groups ts
+
+-- `NAME (fields ..) (groups ..)`
+abbrev pub kinds_of_parts : PlainTrees → PlainTrees → Option (List Kind)
+kinds_of_parts models (PlainTrees.more x (PlainTrees.more fields (PlainTrees.more groups PlainTrees.none))) =
+    if is_named x && have_groups (behind (codes "groups") groups) then kinds_of_fields models fields else None
+kinds_of_parts models ts = None
+
+-- `(model NAME (fields ..) (groups ..))`
+abbrev pub kinds_of_model : PlainTrees → PlainTree → Option (List Kind)
+kinds_of_model models t = option_and_then (kinds_of_parts models) (behind (codes "model") t)
+
+-- at most 64 models
+abbrev pub kinds_of_models : PlainTrees → Option (List (List Kind))
+kinds_of_models models = if nat_le (count models) 64 then each_of (kinds_of_model models) models else None
+
+-- the kinds of the fields of each model of `(schema (model NAME (fields (NAME KIND) ..) (groups (FIELD ..) ..)) ..)`
+abbrev pub kinds_of_schema : PlainTree → Option (List (List Kind))
+kinds_of_schema t = option_and_then kinds_of_models (behind (codes "schema") t)
+
+-- a schema text, which is a printed tree, and the kinds of the fields of its models
+pub record IsSchema (text : List ℕ) (kinds : List (List Kind)) : Type 0 where
+  pub tree : PlainTree
+  pub atoms : HasAtoms tree
+  pub shallow : nesting tree ≤ 64
+  pub spelled : text ≡ printed tree
+  pub read : kinds_of_schema tree ≡ Some kinds
+
+-- no model stands under another one
+abbrev pub all_apart : List (List Kind) → List Bool
+all_apart [] = []
+all_apart (ks ∷ kinds) = false ∷ all_apart kinds
+
+-- so many empty tables
+abbrev pub empties : ℕ → List (List Row)
+empties zero = []
+empties (suc n) = [] ∷ empties n
+
+-- a state of these models, and no others: good by its guards
+pub record IsFit (kinds : List (List Kind)) (s : State) : Type 0 where
+  pub good : IsGoodByGuards kinds s
+  pub tables : length s.tables ≡ length kinds

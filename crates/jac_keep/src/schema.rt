@@ -1,0 +1,384 @@
+ghost use Rattle.std.specs.Prelude.{◌≡◌, ◌≤◌, ℕ, List, None, Some, IfOk, IfSome, codes, if◌then◌else◌, nat_le};
+ghost use Rattle.std.specs.Str.{bytes_eq};
+ghost use Rattle.std.specs.Option.{option_map};
+ghost use Rattle.jac_value.specs.declared.value.Kind.{Kind as FieldKind};
+ghost use Rattle.jac_tree.specs.Mirror.{plain, plain_all};
+ghost use Rattle.jac_tree.specs.Printed.{printed};
+ghost use Rattle.jac_tree.specs.declared.fault.TreeFault.TheVariants as faults;
+ghost use Rattle.jac_keep.specs.Schema.{IsSchema, all_apart, are_groups, are_named, begins_with, behind, count, each_of, have_groups, is_group, is_named, is_word, kind_of, kind_of_field, kinds_of_fields, kinds_of_model, kinds_of_models, kinds_of_parts, kinds_of_schema, place_from, place_named, plain_kind, reference};
+
+use jac_rows::{Flags, KindLists, Shape};
+use jac_tree::{Tree, TreeFault, Trees, print_tree, read_text};
+use jac_value::{Kind, Kinds, Memory, Txt, is_name};
+use std::alloc::Global;
+
+// The most models that a schema has.
+const MODEL_LIMIT: u8 = 64;
+
+/// The shape of the stores that have this schema, where the text is one: a printed tree
+/// `(schema (model NAME (fields (NAME KIND) ..) (groups (FIELD ..) ..)) ..)` of at most 64 models, in which a KIND is
+/// `int`, `text`, `bool` or `(ref NAME)`.
+pub fn shape_of(alloc: Global, schema: &Txt) -> Result<Option<Shape>, Memory>
+    ensures kinds { IfOk result (λ found. IfSome found (λ shape. IsSchema schema.now shape.kinds)) }
+    ensures nested { IfOk result (λ found. IfSome found (λ shape. shape.nested ≡ all_apart shape.kinds)) }
+    ensures none { IfOk result (λ found. found ≡ None → (kinds : List (List FieldKind)) → ¬ (IsSchema schema.now kinds)) }
+{
+    match kinds_of_text(alloc, schema)? {
+        Some(kinds) => {
+            let nested = all_apart(alloc, kinds.as_slice())?;
+            Ok(Some(Shape { kinds, nested }))
+        }
+        None => Ok(None),
+    }
+}
+
+/// A law, with nothing to run: a text is the schema of one list of kinds at most.
+pub fn one_schema()
+    ensures { (text : List ℕ) (kinds others : List (List FieldKind)) → IsSchema text kinds → IsSchema text others → kinds ≡ others }
+{}
+
+fn all_apart(alloc: Global, kinds: &[Kinds]) -> Result<Flags, Memory>
+    ensures { IfOk result (λ flags. flags ≡ all_apart kinds.now) }
+{
+    let mut flags = Vec::new(alloc);
+    'models: for _model in kinds {
+        flags.push(false)?;
+    }
+    Ok(Flags::from_vec(flags))
+}
+
+fn kinds_of_text(alloc: Global, schema: &Txt) -> Result<Option<KindLists>, Memory>
+    ensures kinds { IfOk result (λ found. IfSome found (λ kinds. IsSchema schema.now kinds)) }
+    ensures none { IfOk result (λ found. found ≡ None → (kinds : List (List FieldKind)) → ¬ (IsSchema schema.now kinds)) }
+{
+    match read_text(alloc, schema) {
+        Ok(tree) => {
+            let kinds = kinds_of_printed(alloc, schema, &tree)?;
+            Ok(kinds)
+        }
+        Err(fault) => without_tree(fault),
+    }
+}
+
+// A text that spells no tree of at most 64 levels is no schema.
+fn without_tree(fault: TreeFault) -> Result<Option<KindLists>, Memory>
+    ensures none { IfOk result (λ found. found ≡ None) }
+    ensures spelled { IfOk result (λ _. ¬ (fault ≡ faults.Memory)) }
+{
+    match fault {
+        TreeFault::Memory => Err(Memory),
+        TreeFault::Long => Ok(None),
+        TreeFault::NotUtf8(_) => Ok(None),
+        TreeFault::Stray(_) => Ok(None),
+        TreeFault::Deep(_) => Ok(None),
+        TreeFault::Unclosed(_) => Ok(None),
+    }
+}
+
+// The kinds that a tree gives, where the text is what it is printed as.
+fn kinds_of_printed(alloc: Global, text: &Txt, tree: &Tree) -> Result<Option<KindLists>, Memory>
+    ensures { IfOk result (λ found. found ≡ (if bytes_eq text.now (printed (plain tree.now)) then kinds_of_schema (plain tree.now) else None)) }
+{
+    let printed = print_tree(alloc, tree)?;
+    if text.as_bytes() == printed.as_slice() {
+        let kinds = kinds_of_schema(alloc, tree)?;
+        Ok(kinds)
+    } else {
+        Ok(None)
+    }
+}
+
+fn kinds_of_schema(alloc: Global, tree: &Tree) -> Result<Option<KindLists>, Memory>
+    ensures { IfOk result (λ kinds. kinds ≡ kinds_of_schema (plain tree.now)) }
+{
+    match behind(tree, b"schema") {
+        Some(models) => {
+            let kinds = kinds_of_models(alloc, models)?;
+            Ok(kinds)
+        }
+        None => Ok(None),
+    }
+}
+
+fn kinds_of_models(alloc: Global, models: &Trees) -> Result<Option<KindLists>, Memory>
+    ensures { IfOk result (λ kinds. kinds ≡ kinds_of_models (plain_all models.now)) }
+{
+    if is_up_to(models, MODEL_LIMIT) {
+        let kinds = kinds_of_each(alloc, models)?;
+        Ok(kinds)
+    } else {
+        Ok(None)
+    }
+}
+
+fn is_up_to(trees: &Trees, most: u8) -> bool
+    ensures { result ≡ nat_le (count (plain_all trees.now)) most }
+{
+    let mut room = most;
+    let mut left = trees;
+    'trees: while let Trees::More(_, rest) = left {
+        if room == 0 {
+            return false;
+        }
+        room -= 1;
+        left = rest;
+    }
+    true
+}
+
+fn kinds_of_each(alloc: Global, models: &Trees) -> Result<Option<KindLists>, Memory>
+    requires { count (plain_all models.now) ≤ 64 }
+    ensures { IfOk result (λ kinds. kinds ≡ each_of (kinds_of_model (plain_all models.now)) (plain_all models.now)) }
+{
+    let mut lists = Vec::new(alloc);
+    let mut left = models;
+    'models: while let Trees::More(first, rest) = left {
+        let Some(kinds) = kinds_of_model(alloc, models, first)? else {
+            return Ok(None);
+        };
+        lists.push(kinds)?;
+        left = rest;
+    }
+    Ok(Some(KindLists::from_vec(lists)))
+}
+
+fn kinds_of_model(alloc: Global, models: &Trees, tree: &Tree) -> Result<Option<Kinds>, Memory>
+    requires { count (plain_all models.now) ≤ 64 }
+    ensures { IfOk result (λ kinds. kinds ≡ kinds_of_model (plain_all models.now) (plain tree.now)) }
+{
+    match behind(tree, b"model") {
+        Some(parts) => {
+            let kinds = kinds_of_parts(alloc, models, parts)?;
+            Ok(kinds)
+        }
+        None => Ok(None),
+    }
+}
+
+fn kinds_of_parts(alloc: Global, models: &Trees, parts: &Trees) -> Result<Option<Kinds>, Memory>
+    requires { count (plain_all models.now) ≤ 64 }
+    ensures { IfOk result (λ kinds. kinds ≡ kinds_of_parts (plain_all models.now) (plain_all parts.now)) }
+{
+    let Trees::More(name, rest) = parts else {
+        return Ok(None);
+    };
+    let Trees::More(fields, rest) = &**rest else {
+        return Ok(None);
+    };
+    let Trees::More(groups, rest) = &**rest else {
+        return Ok(None);
+    };
+    let Trees::End = &**rest else {
+        return Ok(None);
+    };
+    if is_named(name) && have_groups(groups) {
+        let kinds = kinds_of_fields(alloc, models, fields)?;
+        Ok(kinds)
+    } else {
+        Ok(None)
+    }
+}
+
+fn kinds_of_fields(alloc: Global, models: &Trees, tree: &Tree) -> Result<Option<Kinds>, Memory>
+    requires { count (plain_all models.now) ≤ 64 }
+    ensures { IfOk result (λ kinds. kinds ≡ kinds_of_fields (plain_all models.now) (plain tree.now)) }
+{
+    match behind(tree, b"fields") {
+        Some(fields) => {
+            let kinds = kind_of_each(alloc, models, fields)?;
+            Ok(kinds)
+        }
+        None => Ok(None),
+    }
+}
+
+fn kind_of_each(alloc: Global, models: &Trees, fields: &Trees) -> Result<Option<Kinds>, Memory>
+    requires { count (plain_all models.now) ≤ 64 }
+    ensures { IfOk result (λ kinds. kinds ≡ each_of (kind_of_field (plain_all models.now)) (plain_all fields.now)) }
+{
+    let mut kinds = Vec::new(alloc);
+    let mut left = fields;
+    'fields: while let Trees::More(first, rest) = left {
+        let Some(kind) = kind_of_field(models, first) else {
+            return Ok(None);
+        };
+        kinds.push(kind)?;
+        left = rest;
+    }
+    Ok(Some(Kinds::from_vec(kinds)))
+}
+
+fn kind_of_field(models: &Trees, tree: &Tree) -> Option<Kind>
+    requires { count (plain_all models.now) ≤ 64 }
+    ensures { result ≡ kind_of_field (plain_all models.now) (plain tree.now) }
+{
+    let Tree::List(Trees::More(name, rest)) = tree else {
+        return None;
+    };
+    let Trees::More(kind, rest) = &**rest else {
+        return None;
+    };
+    let Trees::End = &**rest else {
+        return None;
+    };
+    if is_named(name) {
+        kind_of(models, kind)
+    } else {
+        None
+    }
+}
+
+fn kind_of(models: &Trees, tree: &Tree) -> Option<Kind>
+    requires { count (plain_all models.now) ≤ 64 }
+    ensures { result ≡ kind_of (plain_all models.now) (plain tree.now) }
+{
+    match tree {
+        Tree::Atom(word) => plain_kind(word.as_str()),
+        _ => match behind(tree, b"ref") {
+            Some(trees) => reference(models, trees),
+            None => None,
+        },
+    }
+}
+
+fn plain_kind(word: &str) -> Option<Kind>
+    ensures { result ≡ plain_kind word.now }
+{
+    if word == "int" {
+        Some(Kind::Int)
+    } else if word == "text" {
+        Some(Kind::Text)
+    } else if word == "bool" {
+        Some(Kind::Bool)
+    } else {
+        None
+    }
+}
+
+fn reference(models: &Trees, trees: &Trees) -> Option<Kind>
+    requires { count (plain_all models.now) ≤ 64 }
+    ensures { result ≡ reference (plain_all models.now) (plain_all trees.now) }
+{
+    let Trees::More(name, rest) = trees else {
+        return None;
+    };
+    let Trees::End = &**rest else {
+        return None;
+    };
+    match place_named(models, name) {
+        Some(place) => Some(Kind::Ref(place)),
+        None => None,
+    }
+}
+
+fn place_named(models: &Trees, name: &Tree) -> Option<u8>
+    requires { count (plain_all models.now) ≤ 64 }
+    ensures { result ≡ place_named (plain_all models.now) (plain name.now) }
+{
+    match name {
+        Tree::Atom(name) => place_of(models, name.as_bytes()),
+        Tree::Text(_) => None,
+        Tree::List(_) => None,
+    }
+}
+
+fn place_of(models: &Trees, name: &[u8]) -> Option<u8>
+    requires { count (plain_all models.now) ≤ 64 }
+    ensures { result ≡ place_from 0 name.now (plain_all models.now) }
+{
+    let mut place: u8 = 0;
+    let mut left = models;
+    'models: while let Trees::More(first, rest) = left {
+        if begins_with(behind(first, b"model"), name) {
+            return Some(place);
+        }
+        place += 1;
+        left = rest;
+    }
+    None
+}
+
+fn begins_with(parts: Option<&Trees>, name: &[u8]) -> bool
+    ensures { result ≡ begins_with name.now (option_map (λ ts. plain_all ts.now) parts.entry) }
+{
+    match parts {
+        Some(Trees::More(first, _)) => is_word(first, name),
+        _ => false,
+    }
+}
+
+fn have_groups(tree: &Tree) -> bool
+    ensures { result ≡ have_groups (behind (codes "groups") (plain tree.now)) }
+{
+    match behind(tree, b"groups") {
+        Some(groups) => are_groups(groups),
+        None => false,
+    }
+}
+
+fn are_groups(groups: &Trees) -> bool
+    ensures { result ≡ are_groups (plain_all groups.now) }
+{
+    let mut left = groups;
+    'groups: while let Trees::More(first, rest) = left {
+        if !is_group(first) {
+            return false;
+        }
+        left = rest;
+    }
+    true
+}
+
+fn is_group(tree: &Tree) -> bool
+    ensures { result ≡ is_group (plain tree.now) }
+{
+    match tree {
+        Tree::List(names) => are_named(names),
+        _ => false,
+    }
+}
+
+fn are_named(trees: &Trees) -> bool
+    ensures { result ≡ are_named (plain_all trees.now) }
+{
+    let mut left = trees;
+    'names: while let Trees::More(first, rest) = left {
+        if !is_named(first) {
+            return false;
+        }
+        left = rest;
+    }
+    true
+}
+
+fn is_named(tree: &Tree) -> bool
+    ensures { result ≡ is_named (plain tree.now) }
+{
+    match tree {
+        Tree::Atom(name) => is_name(name.as_bytes()),
+        _ => false,
+    }
+}
+
+fn is_word(tree: &Tree, word: &[u8]) -> bool
+    ensures { result ≡ is_word word.now (plain tree.now) }
+{
+    match tree {
+        Tree::Atom(atom) => atom.as_bytes() == word,
+        _ => false,
+    }
+}
+
+// What stands behind the head of a list, where that is this word.
+fn behind<'t>(tree: &'t Tree, word: &[u8]) -> Option<&'t Trees>
+    ensures { option_map (λ ts. plain_all ts.now) result ≡ behind word.now (plain tree.now) }
+{
+    match tree {
+        Tree::List(Trees::More(head, rest)) => if is_word(head, word) {
+            Some(&**rest)
+        } else {
+            None
+        },
+        _ => None,
+    }
+}

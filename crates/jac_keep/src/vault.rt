@@ -1,0 +1,38 @@
+ghost use Rattle.std.specs.Prelude.{◌≡◌, List, Option, IsTrue, IfOk, false};
+ghost use Rattle.std.specs.Option.{option_copied};
+ghost use Rattle.jac_value.specs.declared.value.Kind.{Kind};
+ghost use Rattle.jac_keep.specs.Schema.{IsSchema};
+ghost use Rattle.jac_keep.specs.Attaching.{Attaches};
+ghost use Rattle.jac_keep.specs.declared.vault.AttachFault.TheVariants as faults;
+
+use crate::Keeper;
+use jac_value::{Memory, Txt};
+use std::alloc::Global;
+
+/// Why a store wasn't attached.
+#[derive(Debug, Drop)]
+pub enum AttachFault {
+    /// The store failed, and counted it.
+    Failed,
+    Memory,
+    /// Another schema is stored: this one.
+    Other(Txt),
+}
+
+impl From<Memory> for AttachFault {
+    ghost from_gives = { λ _ fault. fault ≡ faults.Memory };
+
+    fn from(_: Memory) -> AttachFault {
+        AttachFault::Memory
+    }
+}
+
+/// A keeper over a store, which is attached before it is called.
+pub trait Vault: Keeper {
+    /// Opens the store of this name for states of this schema; without a name a store that lasts as long as the
+    /// program. A new store keeps the schema, and has one empty table for each of its models.
+    fn attach(&mut self, alloc: Global, name: Option<&Txt>, schema: &Txt) -> Result<(), AttachFault>
+        requires first { (Self.seen self.old).store.called ≡ false }
+        requires schema { (kinds : List (List Kind)) × IsSchema schema.now kinds }
+        ensures { Attaches (Self.seen self.old) (Self.seen self.new) (option_copied name.entry) schema.now result };
+}

@@ -1,0 +1,45 @@
+-- The bytes that a tree is printed as: one of its spellings, with nothing between that needn't be.
+use Rattle.std.specs.Prelude.{◌≡◌, ◌≢◌, ℕ, ◌==◌, true, List, [], ◌∷◌, ◌++◌, if◌then◌else◌}
+use Rattle.jac_tree.specs.Grammar.{are_atom_bytes}
+use Rattle.jac_tree.specs.Plain.{PlainTree, PlainTrees}
+
+-- a byte of a text as it stands between quotes: \n \r \t \\ \" or the byte itself
+abbrev pub piece_of : ℕ → List ℕ
+piece_of b =
+    if b == 10 then 92 ∷ 110 ∷ []
+    else if b == 13 then 92 ∷ 114 ∷ []
+    else if b == 9 then 92 ∷ 116 ∷ []
+    else if b == 92 then 92 ∷ 92 ∷ []
+    else if b == 34 then 92 ∷ 34 ∷ []
+    else b ∷ []
+
+abbrev pub pieces_of : List ℕ → List ℕ
+pieces_of [] = []
+pieces_of (b ∷ bs) = piece_of b ++ pieces_of bs
+
+-- an atom raw, a text in quotes, a list in brackets with one space between neighbours
+abbrev mutual
+  pub printed : PlainTree → List ℕ
+  printed (PlainTree.atom a) = a
+  printed (PlainTree.text x) = 34 ∷ (pieces_of x ++ 34 ∷ [])
+  printed (PlainTree.list ts) = 40 ∷ (printed_all ts ++ 41 ∷ [])
+
+  pub printed_all : PlainTrees → List ℕ
+  printed_all PlainTrees.none = []
+  printed_all (PlainTrees.more t ts) = printed t ++ printed_after ts
+
+  -- the trees that stand behind another one
+  pub printed_after : PlainTrees → List ℕ
+  printed_after PlainTrees.none = []
+  printed_after (PlainTrees.more t ts) = 32 ∷ (printed t ++ printed_after ts)
+
+-- each atom of the tree is one: a byte or more, all of them atom bytes
+abbrev mutual
+  pub HasAtoms : PlainTree → Type 0
+  HasAtoms (PlainTree.atom a) = (a ≢ []) × (are_atom_bytes a ≡ true)
+  HasAtoms (PlainTree.text x) = Unit {0}
+  HasAtoms (PlainTree.list ts) = HaveAtoms ts
+
+  pub HaveAtoms : PlainTrees → Type 0
+  HaveAtoms PlainTrees.none = Unit {0}
+  HaveAtoms (PlainTrees.more t ts) = HasAtoms t × HaveAtoms ts
