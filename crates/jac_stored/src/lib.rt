@@ -1,0 +1,20 @@
+//! The bytes of rows as a database has them.
+#![tactic(auto)]
+
+mod body;
+mod cell;
+mod decode;
+mod encode;
+mod guard;
+mod id;
+mod laws;
+mod number;
+mod stop;
+#[cfg(test)]
+mod tests;
+mod text;
+
+pub use decode::{RowFault, decode_row};
+pub use encode::{Stored, encode_row};
+pub use id::{decode_id, encode_id};
+pub use laws::{cells_are_spelled_once, guards_are_spelled_once, rows_are_spelled_once};
