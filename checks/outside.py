@@ -13,6 +13,14 @@ PROGRAM = os.path.abspath(sys.argv[1])
 HELLO = b'(app (view get "/" (params) (put "hello")))'
 ASK = b'ask - GET "/" ""\n'
 PAGE = b'reply 200 "" "hello"\n'
+DONE = b'reply 200 "" ""\n'
+
+# Each note has a label that nobody is shown, and which note is the first one with the key depends on all of them.
+NOTES = b'''(app (model Note (fields (body text)) (group (guards (body "locked")) (policy false)))
+ (view post "/some" (params)%s)
+ (view post "/one" (params) (create n Note (set (body "key"))))
+ (view get "/" (params) (put (eq (none Note) (first (from ((n Note)) (eq (get Note body n) "key") key))))))
+''' % (b' (create n Note (set (body "key")))' * 64)
 
 
 def run(words, folder, **options):
@@ -100,10 +108,19 @@ def directory():
         return None if (done.returncode, done.stdout) == (4, b'read fault: a\n') else 'a directory: %r' % (done,)
 
 
+def many_labels():
+    """1,024 labels one behind the other have a page; one more wants memory, and the run goes on."""
+    some, one, first = b'ask - POST "/some" ""\n', b'ask - POST "/one" ""\n', b'ask - GET "/" ""\n'
+    failed = b'reply 500 "" "500 Internal Server Error\\n"\n'
+    return replay('many labels', NOTES, some * 16 + first + one + first + one, 0,
+                  DONE * 16 + b'reply 200 "" "true"\n' + DONE + failed + DONE)
+
+
 def main():
     padded = HELLO + b' ' * (1048576 - len(HELLO))
     lines = b'\n' * (16777216 - len(ASK)) + ASK
     line = b'events: line 1: no form\n'
+    tags = b'(app (view get "/" (params) (template "%s")))' % (b'a{{ (str 1) }}' * 10000)
     results = [example(folder, prefix) for folder, prefix in examples()]
     results += [
         case('a missing application', {}, ['replay', 'a', 'e'], 4, b'read fault: a\n'),
@@ -118,6 +135,10 @@ def main():
         replay('a NUL', HELLO, b'ask - GET "/\0" ""\n', 0, b'reply 404 "" "404 Not Found\\n"\n'),
         replay('a target that is not UTF-8', HELLO, b'ask - GET "/\xff" ""\n', 3, line),
         replay('an application that is not UTF-8', HELLO + b'\xff', ASK, 2, b'app: not UTF-8 at 43\n'),
+        case('a list of 100,000 atoms', {'a': b'(' + b'atom ' * 100000 + b')'}, ['check', 'a'], 2,
+             b'app: form at top: expected app\n'),
+        replay('a template of 10,000 tags', tags, ASK, 0, b'reply 200 "" "%s"\n' % (b'a1' * 10000)),
+        many_labels(),
         closed_output(),
     ]
     for wrong in filter(None, results):

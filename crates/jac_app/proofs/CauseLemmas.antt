@@ -1,165 +1,176 @@
 -- Each status of a run comes for its cause.
-use Rattle.std.proofs.Common.{Bool, ◌≡◌, ◌∙◌, ap, sym, subst, refl, ℕ, ◌≤◌, ◌<◌, ◌⊎◌, inl, inr, is_some, IsTrue, IsSomeAnd, Result, Ok, Err, Option, Some, None, List, [], ◌++◌, append-nil, length, arith}
-use Rattle.jac_io.specs.Faults.{Rose}
-use Rattle.jac_io.specs.Seen.{FilesSeen, SinkSeen, Lasts, Aims}
-use Rattle.jac_io.specs.declared.sink.Failed.{Failed}
+use Rattle.std.proofs.Common.{Bool, ◌≡◌, sym, subst, refl, ℕ, inl, inr, Result, Ok, Err, Some, List}
+use Rattle.jac_io.specs.Linked.{LinkSeen, DoorSeen}
 use Rattle.jac_lang.specs.Syntax.{Application}
-use Rattle.jac_rows.specs.declared.state.State.{State}
-use Rattle.jac_keep.specs.KeeperSeen.{KeeperSeen}
 use Rattle.jac_route.specs.declared.sessions.Session.{Session}
-use Rattle.jac_route.specs.Sessions.{sessions_in}
 use Rattle.jac_app.specs.declared.words.Command.{Command}
 use Rattle.jac_app.specs.declared.words.Command.TheVariants as commands
-use Rattle.jac_app.specs.declared.words.Replay.{Replay}
+use Rattle.jac_app.specs.declared.words.Serving.{Serving}
 use Rattle.jac_app.specs.declared.ending.Ending.{Ending}
 use Rattle.jac_app.specs.declared.ending.Ending.TheVariants as endings
-use Rattle.jac_app.specs.declared.ending.Role.{Role}
 use Rattle.jac_app.specs.declared.ending.Role.TheVariants as roles
-use Rattle.jac_app.specs.declared.serve.Stopped.{Stopped}
-use Rattle.jac_app.specs.declared.serve.Stopped.TheVariants as stops
 use Rattle.jac_app.specs.declared.status.Status.{Status}
 use Rattle.jac_app.specs.declared.status.Status.TheVariants as statuses
-use Rattle.jac_app.specs.Script.{Script, script_of}
+use Rattle.jac_app.specs.Script.{script_of}
 use Rattle.jac_app.specs.Application.{IsApplication}
-use Rattle.jac_app.specs.Refusal.{HasRefusal, refusal_text}
-use Rattle.jac_app.specs.declared.refusal.Refusal.{Refusal}
-use Rattle.jac_app.specs.declared.refusal.Refusal.TheVariants as refusals
-use Rattle.jac_app.specs.Outside.{Span, span, Sinks, sinks, Took, IsFront, IsPut, Went, WentAimed, AWriteFailed}
-use Rattle.jac_app.specs.Serve.{ServesAs, PutsServed, PutsTorn}
-use Rattle.jac_app.specs.Commands.{file_of, name_of, audit_of, db_of, name_or_empty, limit_of, known}
-use Rattle.jac_app.specs.Files.{Sight, sinks_of, IsReadAs, IsRead, IsLong, HasSessions, HasBadLine, IsSessionless, HasApplication, IsOpened, IsReached, IsAimed, IsIdle, IsUnread, IsUnopened}
-use Rattle.jac_app.specs.Ending.{ending_of, Closes, Finishes, fault_line, status_of}
-use Rattle.jac_app.specs.Replay.{schema_text, IsAttached, IsUnattached, IsOther, AttachesAs, EndsServed, IsServedOn, EndsAttaching, EndsServing, IsServing, EndsOpening, IsEndedEarly, EndsReplay}
-use Rattle.jac_app.specs.Check.{EndsCheck, PutsChecked, PutsText, checked_text}
-use Rattle.jac_app.specs.Run.{Ends, Runs, IsSource, Sources, ComesFor, IsCompleted, CanHaveSessions, CanOpen, CanReplay, CanCheck, usage_line}
+use Rattle.jac_app.specs.Outside.{Span, AWriteFailed}
+use Rattle.jac_app.specs.Words.{command_of}
+use Rattle.jac_app.specs.Commands.{db_of}
+use Rattle.jac_app.specs.Files.{Sight, sinks_of, IsRead, HasApplication, IsOpened, IsUnopened}
+use Rattle.jac_app.specs.Ending.{Closes, Finishes, fault_line, status_of}
+use Rattle.jac_app.specs.Replay.{IsOther, EndsServing, EndsOpening}
+use Rattle.jac_app.specs.Server.{EndsAimed}
+use Rattle.jac_app.specs.Check.{PutsText, checked_text}
+use Rattle.jac_app.specs.Run.{Ends, Runs, IsSource, Sources, ComesFor, usage_line}
 use Rattle.jac_demo.specs.Calendar.{calendar_text}
 use Rattle.jac_app.specs.declared.summary.Summary.{Summary}
 use Rattle.jac_world.specs.World.{shown}
 use Rattle.jac_app.specs.Dump.{EndsDumping}
-use Rattle.jac_app.specs.Demo.{EndsDemo, IsDemo, EndsCounting, EndsTallying, PutsSummary, IsTold, summary_line}
-use Rattle.jac_app.proofs.OpeningLemmas.{some_same}
-use Rattle.jac_app.proofs.OutsideLemmas.{Lasts-none, Took-none, Rose-widen, failed_later}
-
-cause_of_closing : (seen : Sight) (words : List (List ℕ)) (line : List ℕ) (status : Status) (put : List ℕ) (answer : Status)
-    → ComesFor seen words status → Closes seen.out line status put answer → ComesFor seen words answer
-cause_of_closing seen words line status put answer cause (inl h) = subst (λ (s : Status). ComesFor seen words s) (sym h.1) cause
-cause_of_closing seen words line status put answer cause (inr h) = subst (λ (s : Status). ComesFor seen words s) (sym h.1) (inl h.2)
-
-cause_of_opening : (seen : Sight) (words : List (List ℕ)) (command : Command) (ending : Ending)
-    → ((bytes : List ℕ) → IsRead seen command roles.App bytes → IsSource seen command bytes) → known words ≡ Some command → EndsOpening seen command ending → ComesFor seen words (status_of ending)
-cause_of_opening seen words command (endings.ReadFault role) source is h = h.1
-cause_of_opening seen words command (endings.TooLong role) source is h = (command, is, (role, h.0, h.1))
-cause_of_opening seen words command (endings.AppRefused line) source is h = (command, is, (h.0, source h.0 h.1, h.2.none))
-cause_of_opening seen words command (endings.SessionsRefused line) source is h = (command, is, inr (h.0, (line, h.1)))
-cause_of_opening seen words command endings.Memory source is h = tt
-cause_of_opening seen words command (endings.LineRefused lapse) source is h = absurd h
-cause_of_opening seen words command endings.WriteFault source is h = absurd h
-cause_of_opening seen words command endings.StoreFault source is h = absurd h
-cause_of_opening seen words command (endings.OtherStore stored wanted) source is h = absurd h
-
--- the cause of an ending behind the files
-cause_of_serving : (seen : Sight) (words : List (List ℕ)) (command : Command) (app : Application) (sessions : List Session) (events out audit : List ℕ) (ending : Ending)
-    → (HasApplication seen command app → Sources seen command app) → known words ≡ Some command → IsOpened seen command app sessions events
-    → EndsServing (sinks_of seen) command app sessions seen.keeper (script_of events) (Err ending) out audit → ComesFor seen words (status_of ending)
-cause_of_serving seen words command app sessions events out audit endings.WriteFault source is opened h = h.0
-cause_of_serving seen words command app sessions events out audit endings.Memory source is opened h = tt
-cause_of_serving seen words command app sessions events out audit endings.StoreFault source is opened h = h.1.0
-cause_of_serving seen words command app sessions events out audit (endings.OtherStore stored wanted) source is opened h =
-    (command, is, (app, source opened.application, (stored, subst (λ (text : List ℕ). IsOther seen.keeper stored text) h.1.0 h.1.1)))
-cause_of_serving seen words command app sessions events out audit (endings.LineRefused lapse) source is opened h =
-    (command, is, inl (app, sessions, events, opened, (lapse, h.1.ends.0)))
-cause_of_serving seen words command app sessions events out audit (endings.ReadFault role) source is opened h = absurd h.1.ends
-cause_of_serving seen words command app sessions events out audit (endings.TooLong role) source is opened h = absurd h.1.ends
-cause_of_serving seen words command app sessions events out audit (endings.AppRefused line) source is opened h = absurd h.1.ends
-cause_of_serving seen words command app sessions events out audit (endings.SessionsRefused line) source is opened h = absurd h.1.ends
-
-cause_of_text : (seen : Sight) (words : List (List ℕ)) (text out : List ℕ) (ending : Ending) → PutsText seen.out text (Err ending) out → ComesFor seen words (status_of ending)
-cause_of_text seen words text out endings.WriteFault h = inl h.1
-cause_of_text seen words text out endings.Memory h = absurd h
-cause_of_text seen words text out endings.StoreFault h = absurd h
-cause_of_text seen words text out (endings.OtherStore stored wanted) h = absurd h
-cause_of_text seen words text out (endings.ReadFault role) h = absurd h
-cause_of_text seen words text out (endings.TooLong role) h = absurd h
-cause_of_text seen words text out (endings.AppRefused line) h = absurd h
-cause_of_text seen words text out (endings.LineRefused lapse) h = absurd h
-cause_of_text seen words text out (endings.SessionsRefused line) h = absurd h
-
--- the causes of a demo's endings
-cause_of_uncounted : (seen : Sight) (words : List (List ℕ)) (n : ℕ) (out audit : List ℕ) (ending : Ending)
-    → known words ≡ Some (commands.Demo n) → IsUnopened calendar_text ending → ComesFor seen words (status_of ending)
-cause_of_uncounted seen words n out audit ending is (inl h) =
-    subst (λ (e : Ending). ComesFor seen words (status_of e)) (sym h.1) (commands.Demo n, is, (calendar_text, refl, h.2.none))
-cause_of_uncounted seen words n out audit ending is (inr memory) = subst (λ (e : Ending). ComesFor seen words (status_of e)) (sym memory) tt
-
-cause_of_tallying : (seen : Sight) (words : List (List ℕ)) (n : ℕ) (app : Application) (audit : List ℕ) (ending : Ending)
-    → known words ≡ Some (commands.Demo n) → IsApplication calendar_text app
-    → (◌≡◌ {A = Result Summary Ending} (Err ending) (Err endings.WriteFault) → AWriteFailed (sinks_of seen)) → EndsTallying app seen.keeper n (Err ending) audit
-    → ComesFor seen words (status_of ending)
-cause_of_tallying seen words n app audit endings.WriteFault is calendar rose h = rose refl
-cause_of_tallying seen words n app audit endings.Memory is calendar rose h = tt
-cause_of_tallying seen words n app audit endings.StoreFault is calendar rose h = h.0
-cause_of_tallying seen words n app audit (endings.OtherStore stored wanted) is calendar rose h =
-    (commands.Demo n, is, (app, calendar, (stored, subst (λ (text : List ℕ). IsOther seen.keeper stored text) h.0 h.1)))
-cause_of_tallying seen words n app audit (endings.ReadFault role) is calendar rose h = absurd h
-cause_of_tallying seen words n app audit (endings.TooLong role) is calendar rose h = absurd h
-cause_of_tallying seen words n app audit (endings.AppRefused line) is calendar rose h = absurd h
-cause_of_tallying seen words n app audit (endings.LineRefused lapse) is calendar rose h = absurd h
-cause_of_tallying seen words n app audit (endings.SessionsRefused line) is calendar rose h = absurd h
+use Rattle.jac_app.specs.Demo.{EndsCounting, EndsTallying, PutsSummary, summary_line}
 
 pub same_ending : (x y : Ending) → ◌≡◌ {A = Result (Unit {0}) Ending} (Err x) (Err y) → x ≡ y
 same_ending x y e = cc
 
-cause_of_told : (seen : Sight) (words : List (List ℕ)) (n : ℕ) (app : Application) (ended : Result Summary Ending) (out audit : List ℕ) (ending : Ending)
-    → known words ≡ Some (commands.Demo n) → IsApplication calendar_text app
-    → EndsTallying app seen.keeper n ended audit → (ended ≡ Err endings.WriteFault → AWriteFailed (sinks_of seen)) → PutsSummary seen.out ended (Err ending) out
-    → ComesFor seen words (status_of ending)
-cause_of_told seen words n app (Ok summary) out audit ending is calendar ends rose told = cause_of_text seen words (summary_line summary) out ending told
-cause_of_told seen words n app (Err fault) out audit ending is calendar ends rose told =
-    subst (λ (e : Ending). ComesFor seen words (status_of e)) (sym (same_ending ending fault told.0)) (cause_of_tallying seen words n app audit fault is calendar rose ends)
+module _ {L : Type 0} (line : L → LinkSeen) (seen : Sight) (door : Span (DoorSeen L)) (words : List (List ℕ)) where
+  cause_of_closing : (line : List ℕ) (status : Status) (put : List ℕ) (answer : Status)
+      → ComesFor seen door words status → Closes seen.out line status put answer → ComesFor seen door words answer
+  cause_of_closing line status put answer cause (inl h) = subst (λ (s : Status). ComesFor seen door words s) (sym h.1) cause
+  cause_of_closing line status put answer cause (inr h) = subst (λ (s : Status). ComesFor seen door words s) (sym h.1) (inl h.2)
 
-cause_of_counting : (seen : Sight) (words : List (List ℕ)) (n : ℕ) (app : Application) (out audit : List ℕ) (ending : Ending)
-    → known words ≡ Some (commands.Demo n) → IsApplication calendar_text app → EndsCounting (sinks_of seen) app seen.keeper n (Err ending) out audit → ComesFor seen words (status_of ending)
-cause_of_counting seen words n app out audit ending is calendar (inl h) =
-    subst (λ (e : Ending). ComesFor seen words (status_of e)) (sym (same_ending ending endings.WriteFault h.fault)) (inr h.rose)
-cause_of_counting seen words n app out audit ending is calendar (inr h) =
-    cause_of_told seen words n app h.1.ended out audit ending is calendar h.1.ends (λ failed. inr (h.1.rose failed)) h.1.told
+  cause_of_opening : (command : Command) (ending : Ending)
+      → ((bytes : List ℕ) → IsRead seen command roles.App bytes → IsSource seen command bytes) → command_of words ≡ Some command → EndsOpening seen command ending → ComesFor seen door words (status_of ending)
+  cause_of_opening command (endings.ReadFault role) source is h = h.1
+  cause_of_opening command (endings.TooLong role) source is h = (command, is, (role, h.0, h.1))
+  cause_of_opening command (endings.AppRefused line) source is h = (command, is, (h.0, source h.0 h.1, h.2.none))
+  cause_of_opening command (endings.SessionsRefused line) source is h = (command, is, inr (h.0, (line, h.1)))
+  cause_of_opening command endings.Memory source is h = tt
+  cause_of_opening command (endings.LineRefused lapse) source is h = absurd h
+  cause_of_opening command endings.WriteFault source is h = absurd h
+  cause_of_opening command endings.StoreFault source is h = absurd h
+  cause_of_opening command endings.DoorFault source is h = absurd h
+  cause_of_opening command (endings.OtherStore stored wanted) source is h = absurd h
 
--- the cause of an ending behind the application, which a store was attached for
-cause_of_dumping : (seen : Sight) (words : List (List ℕ)) (command : Command) (app : Application) (w : ℕ → Bool) (put : List ℕ) (ending : Ending)
-    → known words ≡ Some command → Sources seen command app → EndsDumping (db_of command) app w seen.out seen.keeper (Err ending) put → ComesFor seen words (status_of ending)
-cause_of_dumping seen words command app w put endings.WriteFault is source h = inl h.ends.puts.1
-cause_of_dumping seen words command app w put endings.Memory is source h = tt
-cause_of_dumping seen words command app w put endings.StoreFault is source h = h.0
-cause_of_dumping seen words command app w put (endings.OtherStore stored wanted) is source h =
-    (command, is, (app, source, (stored, subst (λ (text : List ℕ). IsOther seen.keeper stored text) h.0 h.1)))
-cause_of_dumping seen words command app w put (endings.ReadFault role) is source h = absurd h.ends.puts
-cause_of_dumping seen words command app w put (endings.TooLong role) is source h = absurd h.ends.puts
-cause_of_dumping seen words command app w put (endings.AppRefused line) is source h = absurd h.ends.puts
-cause_of_dumping seen words command app w put (endings.LineRefused lapse) is source h = absurd h.ends.puts
-cause_of_dumping seen words command app w put (endings.SessionsRefused line) is source h = absurd h.ends.puts
+  -- the cause of an ending behind the files
+  cause_of_serving : (command : Command) (app : Application) (sessions : List Session) (events out audit : List ℕ) (ending : Ending)
+      → (HasApplication seen command app → Sources seen command app) → command_of words ≡ Some command → IsOpened seen command app sessions events
+      → EndsServing (sinks_of seen) command app sessions seen.keeper (script_of events) (Err ending) out audit → ComesFor seen door words (status_of ending)
+  cause_of_serving command app sessions events out audit endings.WriteFault source is opened h = h.0
+  cause_of_serving command app sessions events out audit endings.Memory source is opened h = tt
+  cause_of_serving command app sessions events out audit endings.StoreFault source is opened h = h.1.0
+  cause_of_serving command app sessions events out audit endings.DoorFault source is opened h = absurd h.1.ends
+  cause_of_serving command app sessions events out audit (endings.OtherStore stored wanted) source is opened h =
+      (command, is, (app, source opened.application, (stored, subst (λ (text : List ℕ). IsOther seen.keeper stored text) h.1.0 h.1.1)))
+  cause_of_serving command app sessions events out audit (endings.LineRefused lapse) source is opened h =
+      (command, is, inl (app, sessions, events, opened, (lapse, h.1.ends.0)))
+  cause_of_serving command app sessions events out audit (endings.ReadFault role) source is opened h = absurd h.1.ends
+  cause_of_serving command app sessions events out audit (endings.TooLong role) source is opened h = absurd h.1.ends
+  cause_of_serving command app sessions events out audit (endings.AppRefused line) source is opened h = absurd h.1.ends
+  cause_of_serving command app sessions events out audit (endings.SessionsRefused line) source is opened h = absurd h.1.ends
 
-cause_of_ending : (seen : Sight) (words : List (List ℕ)) (command : Command) (out audit : List ℕ) (ending : Ending)
-    → known words ≡ Some command → Ends seen command (Err ending) out audit → ComesFor seen words (status_of ending)
-cause_of_ending seen words (commands.Check app) out audit ending is (inl h) = cause_of_opening seen words (commands.Check app) ending (λ bytes read. read) is h.0
-cause_of_ending seen words (commands.Check app) out audit ending is (inr h) = cause_of_text seen words (checked_text h.app) out ending h.text
-cause_of_ending seen words (commands.Replay replay) out audit ending is (inl h) = cause_of_opening seen words (commands.Replay replay) ending (λ bytes read. read) is h.0
-cause_of_ending seen words (commands.Replay replay) out audit ending is (inr h) =
-    cause_of_serving seen words (commands.Replay replay) h.app h.sessions h.events out audit ending (λ had. had) is h.opened h.ends
-cause_of_ending seen words (commands.Serve serving) out audit ending is h = absurd h
-cause_of_ending seen words (commands.Demo n) out audit ending is (inl h) = cause_of_uncounted seen words n out audit ending is h.0
-cause_of_ending seen words (commands.Demo n) out audit ending is (inr h) = cause_of_counting seen words n h.app out audit ending is h.calendar h.ends
-cause_of_ending seen words (commands.Dump dumping) out audit ending is (inl h) = cause_of_opening seen words (commands.Dump dumping) ending (λ bytes read. read) is h.0
-cause_of_ending seen words (commands.Dump dumping) out audit ending is (inr h) =
-    cause_of_dumping seen words (commands.Dump dumping) h.app (shown dumping.labels) out ending is h.application h.ends
+  cause_of_text : (text out : List ℕ) (ending : Ending) → PutsText seen.out text (Err ending) out → ComesFor seen door words (status_of ending)
+  cause_of_text text out endings.WriteFault h = inl h.1
+  cause_of_text text out endings.Memory h = absurd h
+  cause_of_text text out endings.StoreFault h = absurd h
+  cause_of_text text out endings.DoorFault h = absurd h
+  cause_of_text text out (endings.OtherStore stored wanted) h = absurd h
+  cause_of_text text out (endings.ReadFault role) h = absurd h
+  cause_of_text text out (endings.TooLong role) h = absurd h
+  cause_of_text text out (endings.AppRefused line) h = absurd h
+  cause_of_text text out (endings.LineRefused lapse) h = absurd h
+  cause_of_text text out (endings.SessionsRefused line) h = absurd h
 
-cause_of_finish : (seen : Sight) (words : List (List ℕ)) (command : Command) (out audit : List ℕ) (ended : Result (Unit {0}) Ending) (last : List ℕ) (answer : Status)
-    → known words ≡ Some command → Ends seen command ended out audit → Finishes seen.out command ended last answer → ComesFor seen words answer
-cause_of_finish seen words command out audit (Ok done) last answer is ends h = subst (λ (s : Status). ComesFor seen words s) (sym h.1) (command, is)
-cause_of_finish seen words command out audit (Err ending) last answer is ends h =
-    cause_of_closing seen words (fault_line command ending) (status_of ending) last answer (cause_of_ending seen words command out audit ending is ends) h
+  -- the causes of a demo's endings
+  cause_of_uncounted : (n : ℕ) (out audit : List ℕ) (ending : Ending)
+      → command_of words ≡ Some (commands.Demo n) → IsUnopened calendar_text ending → ComesFor seen door words (status_of ending)
+  cause_of_uncounted n out audit ending is (inl h) =
+      subst (λ (e : Ending). ComesFor seen door words (status_of e)) (sym h.1) (commands.Demo n, is, (calendar_text, refl, h.2.none))
+  cause_of_uncounted n out audit ending is (inr memory) = subst (λ (e : Ending). ComesFor seen door words (status_of e)) (sym memory) tt
 
--- each status comes for its cause
-pub comes_for : (seen : Sight) (words : List (List ℕ)) (answer : Status) (out audit : List ℕ) → Runs seen words answer out audit → ComesFor seen words answer
-comes_for seen words answer out audit (inl r) = cause_of_finish seen words r.command r.served audit r.ended r.last answer r.is_command r.ends r.finishes
-comes_for seen words answer out audit (inr (inl r)) = cause_of_closing seen words usage_line statuses.Usage out answer r.no_command r.closes
-comes_for seen words answer out audit (inr (inr r)) = cause_of_closing seen words _ statuses.Memory out answer tt r.closes
+  cause_of_tallying : (n : ℕ) (app : Application) (audit : List ℕ) (ending : Ending)
+      → command_of words ≡ Some (commands.Demo n) → IsApplication calendar_text app
+      → (◌≡◌ {A = Result Summary Ending} (Err ending) (Err endings.WriteFault) → AWriteFailed (sinks_of seen)) → EndsTallying app seen.keeper n (Err ending) audit
+      → ComesFor seen door words (status_of ending)
+  cause_of_tallying n app audit endings.WriteFault is calendar rose h = rose refl
+  cause_of_tallying n app audit endings.Memory is calendar rose h = tt
+  cause_of_tallying n app audit endings.StoreFault is calendar rose h = h.0
+  cause_of_tallying n app audit (endings.OtherStore stored wanted) is calendar rose h =
+      (commands.Demo n, is, (app, calendar, (stored, subst (λ (text : List ℕ). IsOther seen.keeper stored text) h.0 h.1)))
+  cause_of_tallying n app audit (endings.ReadFault role) is calendar rose h = absurd h
+  cause_of_tallying n app audit (endings.TooLong role) is calendar rose h = absurd h
+  cause_of_tallying n app audit (endings.AppRefused line) is calendar rose h = absurd h
+  cause_of_tallying n app audit endings.DoorFault is calendar rose h = absurd h
+  cause_of_tallying n app audit (endings.LineRefused lapse) is calendar rose h = absurd h
+  cause_of_tallying n app audit (endings.SessionsRefused line) is calendar rose h = absurd h
+
+  cause_of_told : (n : ℕ) (app : Application) (ended : Result Summary Ending) (out audit : List ℕ) (ending : Ending)
+      → command_of words ≡ Some (commands.Demo n) → IsApplication calendar_text app
+      → EndsTallying app seen.keeper n ended audit → (ended ≡ Err endings.WriteFault → AWriteFailed (sinks_of seen)) → PutsSummary seen.out ended (Err ending) out
+      → ComesFor seen door words (status_of ending)
+  cause_of_told n app (Ok summary) out audit ending is calendar ends rose told = cause_of_text (summary_line summary) out ending told
+  cause_of_told n app (Err fault) out audit ending is calendar ends rose told =
+      subst (λ (e : Ending). ComesFor seen door words (status_of e)) (sym (same_ending ending fault told.0)) (cause_of_tallying n app audit fault is calendar rose ends)
+
+  cause_of_counting : (n : ℕ) (app : Application) (out audit : List ℕ) (ending : Ending)
+      → command_of words ≡ Some (commands.Demo n) → IsApplication calendar_text app → EndsCounting (sinks_of seen) app seen.keeper n (Err ending) out audit → ComesFor seen door words (status_of ending)
+  cause_of_counting n app out audit ending is calendar (inl h) =
+      subst (λ (e : Ending). ComesFor seen door words (status_of e)) (sym (same_ending ending endings.WriteFault h.fault)) (inr h.rose)
+  cause_of_counting n app out audit ending is calendar (inr h) =
+      cause_of_told n app h.1.ended out audit ending is calendar h.1.ends (λ failed. inr (h.1.rose failed)) h.1.told
+
+  -- the cause of an ending behind the application, which a store was attached for
+  cause_of_dumping : (command : Command) (app : Application) (w : ℕ → Bool) (put : List ℕ) (ending : Ending)
+      → command_of words ≡ Some command → Sources seen command app → EndsDumping (db_of command) app w seen.out seen.keeper (Err ending) put → ComesFor seen door words (status_of ending)
+  cause_of_dumping command app w put endings.WriteFault is source h = inl h.ends.puts.1
+  cause_of_dumping command app w put endings.Memory is source h = tt
+  cause_of_dumping command app w put endings.StoreFault is source h = h.0
+  cause_of_dumping command app w put (endings.OtherStore stored wanted) is source h =
+      (command, is, (app, source, (stored, subst (λ (text : List ℕ). IsOther seen.keeper stored text) h.0 h.1)))
+  cause_of_dumping command app w put (endings.ReadFault role) is source h = absurd h.ends.puts
+  cause_of_dumping command app w put (endings.TooLong role) is source h = absurd h.ends.puts
+  cause_of_dumping command app w put (endings.AppRefused line) is source h = absurd h.ends.puts
+  cause_of_dumping command app w put endings.DoorFault is source h = absurd h.ends.puts
+  cause_of_dumping command app w put (endings.LineRefused lapse) is source h = absurd h.ends.puts
+  cause_of_dumping command app w put (endings.SessionsRefused line) is source h = absurd h.ends.puts
+
+  -- the cause of an ending behind the audit's aim, where a door is served
+  cause_of_aimed : (serving : Serving) (app : Application) (sessions : List Session) (out audit : List ℕ) (ending : Ending)
+      → command_of words ≡ Some (commands.Serve serving) → HasApplication seen (commands.Serve serving) app
+      → EndsAimed line (sinks_of seen) app sessions serving door seen.keeper (Err ending) out audit → ComesFor seen door words (status_of ending)
+  cause_of_aimed serving app sessions out audit endings.WriteFault is had h = h.0
+  cause_of_aimed serving app sessions out audit endings.Memory is had h = tt
+  cause_of_aimed serving app sessions out audit endings.StoreFault is had h = h.1.0
+  cause_of_aimed serving app sessions out audit endings.DoorFault is had h = h.1.ends.0
+  cause_of_aimed serving app sessions out audit (endings.OtherStore stored wanted) is had h =
+      (commands.Serve serving, is, (app, had, (stored, subst (λ (text : List ℕ). IsOther seen.keeper stored text) h.1.0 h.1.1)))
+  cause_of_aimed serving app sessions out audit (endings.ReadFault role) is had h = absurd h.1.ends.ends
+  cause_of_aimed serving app sessions out audit (endings.TooLong role) is had h = absurd h.1.ends.ends
+  cause_of_aimed serving app sessions out audit (endings.AppRefused text) is had h = absurd h.1.ends.ends
+  cause_of_aimed serving app sessions out audit (endings.LineRefused lapse) is had h = absurd h.1.ends.ends
+  cause_of_aimed serving app sessions out audit (endings.SessionsRefused n) is had h = absurd h.1.ends.ends
+
+  cause_of_ending : (command : Command) (out audit : List ℕ) (ending : Ending)
+      → command_of words ≡ Some command → Ends line seen door command (Err ending) out audit → ComesFor seen door words (status_of ending)
+  cause_of_ending (commands.Check app) out audit ending is (inl h, uncalled) = cause_of_opening (commands.Check app) ending (λ bytes read. read) is h.0
+  cause_of_ending (commands.Check app) out audit ending is (inr h, uncalled) = cause_of_text (checked_text h.app) out ending h.text
+  cause_of_ending (commands.Replay replay) out audit ending is (inl h, uncalled) = cause_of_opening (commands.Replay replay) ending (λ bytes read. read) is h.0
+  cause_of_ending (commands.Replay replay) out audit ending is (inr h, uncalled) =
+      cause_of_serving (commands.Replay replay) h.app h.sessions h.events out audit ending (λ had. had) is h.opened h.ends
+  cause_of_ending (commands.Serve serving) out audit ending is (inl h) = cause_of_opening (commands.Serve serving) ending (λ bytes read. read) is h.0.0
+  cause_of_ending (commands.Serve serving) out audit ending is (inr h) = cause_of_aimed serving h.app h.sessions out audit ending is h.application h.ends
+  cause_of_ending (commands.Demo n) out audit ending is (inl h, uncalled) = cause_of_uncounted n out audit ending is h.0
+  cause_of_ending (commands.Demo n) out audit ending is (inr h, uncalled) = cause_of_counting n h.app out audit ending is h.calendar h.ends
+  cause_of_ending (commands.Dump dumping) out audit ending is (inl h, uncalled) = cause_of_opening (commands.Dump dumping) ending (λ bytes read. read) is h.0
+  cause_of_ending (commands.Dump dumping) out audit ending is (inr h, uncalled) =
+      cause_of_dumping (commands.Dump dumping) h.app (shown dumping.labels) out ending is h.application h.ends
+
+  cause_of_finish : (command : Command) (out audit : List ℕ) (ended : Result (Unit {0}) Ending) (last : List ℕ) (answer : Status)
+      → command_of words ≡ Some command → Ends line seen door command ended out audit → Finishes seen.out command ended last answer → ComesFor seen door words answer
+  cause_of_finish command out audit (Ok done) last answer is ends h = subst (λ (s : Status). ComesFor seen door words s) (sym h.1) (command, is)
+  cause_of_finish command out audit (Err ending) last answer is ends h =
+      cause_of_closing (fault_line command ending) (status_of ending) last answer (cause_of_ending command out audit ending is ends) h
+
+  -- each status comes for its cause
+  pub comes_for : (answer : Status) (out audit : List ℕ) → Runs line seen door words answer out audit → ComesFor seen door words answer
+  comes_for answer out audit (inl r) = cause_of_finish r.command r.served audit r.ended r.last answer r.is_command r.ends r.finishes
+  comes_for answer out audit (inr (inl r)) = cause_of_closing usage_line statuses.Usage out answer r.no_command r.closes
+  comes_for answer out audit (inr (inr r)) = cause_of_closing _ statuses.Memory out answer tt r.closes

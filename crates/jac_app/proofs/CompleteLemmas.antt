@@ -2,6 +2,7 @@
 use Rattle.std.proofs.Common.{Bool, false, ◌≡◌, ◌∙◌, ap, sym, subst, refl, ℕ, ◌≤◌, ◌<◌, ◌⊎◌, inl, inr, is_some, IsTrue, IsSomeAnd, Result, Ok, Err, Option, Some, None, List, length, arith}
 use Rattle.jac_io.specs.Faults.{Rose}
 use Rattle.jac_io.specs.Seen.{FilesSeen, SinkSeen}
+use Rattle.jac_io.specs.Linked.{LinkSeen, DoorSeen}
 use Rattle.jac_lang.specs.Syntax.{Application}
 use Rattle.jac_route.specs.Sessions.{sessions_in}
 use Rattle.jac_app.specs.declared.words.Command.{Command}
@@ -15,17 +16,20 @@ use Rattle.jac_app.specs.declared.status.Status.{Status}
 use Rattle.jac_app.specs.declared.status.Status.TheVariants as statuses
 use Rattle.jac_app.specs.Script.{script_of}
 use Rattle.jac_app.specs.Application.{IsApplication}
-use Rattle.jac_app.specs.Outside.{Span}
+use Rattle.jac_app.specs.Outside.{Span, AWriteFailed}
+use Rattle.jac_app.specs.Words.{command_of}
 use Rattle.jac_app.specs.Commands.{file_of, name_of, name_or_empty, limit_of}
 use Rattle.jac_demo.specs.Calendar.{calendar_text}
 use Rattle.jac_app.specs.Files.{Sight, sinks_of, IsUnopened, IsRead, IsLong, HasBadLine, IsReached}
 use Rattle.jac_app.specs.Ending.{Finishes, status_of}
 use Rattle.jac_app.specs.Replay.{EndsOpening, EndsReplay}
+use Rattle.jac_app.specs.Server.{EndsServer}
 use Rattle.jac_app.specs.Check.{EndsCheck, PutsText, checked_text}
 use Rattle.jac_world.specs.World.{shown as shown_labels}
 use Rattle.jac_app.specs.Dump.{EndsDump, EndsDumping}
-use Rattle.jac_app.specs.Demo.{EndsDemo, EndsCounting, EndsTallying, PutsSummary, IsTold, summary_line}
-use Rattle.jac_app.specs.Run.{Ends, Runs, IsCompleted, CanHaveSessions, CanOpen, CanReplay, CanCheck, CanDemo, CanDump}
+use Rattle.jac_app.specs.Demo.{EndsDemo, EndsCounting, EndsTallying, PutsSummary, summary_line}
+use Rattle.jac_app.specs.Run.{Ends, Runs, IsCompleted, CanHaveSessions, CanOpen, CanReplay, CanServe, CanCheck, CanDemo, CanDump}
+use Rattle.jac_app.proofs.CalendarOpens.{calendar, calendar_is}
 use Rattle.jac_app.proofs.CauseLemmas.{same_ending}
 use Rattle.jac_app.proofs.OpeningLemmas.{some_same}
 
@@ -71,19 +75,30 @@ module _ (seen : Sight) (command : Command) (app : Application) (can : CanOpen s
   no_opening_fault (endings.LineRefused lapse) h long bad = absurd h
   no_opening_fault endings.WriteFault h long bad = absurd h
   no_opening_fault endings.StoreFault h long bad = absurd h
+  no_opening_fault endings.DoorFault h long bad = absurd h
   no_opening_fault (endings.OtherStore stored wanted) h long bad = absurd h
 
   app_not_long : IsLong seen command roles.App → ⊥
   app_not_long long = not_long seen command roles.App can.bytes can.told can.file can.application.1.short long
 
--- all ended by want of memory, or the store failed or has another schema
-abbrev completed : Ending → Type 0
-completed ending = (status_of ending ≡ statuses.Memory) ⊎ ((status_of ending ≡ statuses.StoreFault) ⊎ (status_of ending ≡ statuses.OtherStore))
+-- a command of which no put fails has a status that is done, want of memory or that of an ending of its steps
+module _ {L : Type 0} (line : L → LinkSeen) (seen : Sight) (door : Span (DoorSeen L)) (words : List (List ℕ)) (command : Command) (is_command : command_of words ≡ Some command)
+    (no_write_fault : AWriteFailed (sinks_of seen) → ⊥) (Is : Status → Type 0) (done : Is statuses.Done) (memory : Is statuses.Memory)
+    (ends : (out audit : List ℕ) (ending : Ending) → Ends line seen door command (Err ending) out audit → Is (status_of ending)) where
+  finished_so : (out audit : List ℕ) (ended : Result (Unit {0}) Ending) (last : List ℕ) (answer : Status)
+      → Ends line seen door command ended out audit → Finishes seen.out command ended last answer → Is answer
+  finished_so out audit (Ok finished) last answer ended h = subst Is (sym h.1) done
+  finished_so out audit (Err ending) last answer ended (inl h) = subst Is (sym h.1) (ends out audit ending ended)
+  finished_so out audit (Err ending) last answer ended (inr h) = absurd (no_write_fault (inl h.2))
 
-complete_ending : (ending : Ending) (answer : Status) → answer ≡ status_of ending → completed ending → IsCompleted answer
-complete_ending ending answer is (inl h) = inr (inl (is ∙ h))
-complete_ending ending answer is (inr (inl h)) = inr (inr (inl (is ∙ h)))
-complete_ending ending answer is (inr (inr h)) = inr (inr (inr (is ∙ h)))
+  ran_so : (answer : Status) (out audit : List ℕ) → Runs line seen door words answer out audit → Is answer
+  ran_so answer out audit (inl r) =
+      let same : r.command ≡ command = some_same _ _ (sym r.is_command ∙ is_command) in
+      finished_so r.served audit r.ended r.last answer
+      (subst (λ (c : Command). Ends line seen door c r.ended r.served audit) same r.ends)
+      (subst (λ (c : Command). Finishes seen.out c r.ended r.last answer) same r.finishes)
+  ran_so answer out audit (inr (inl r)) = let none = sym r.no_command ∙ is_command in cc
+  ran_so answer out audit (inr (inr r)) = elim r.closes [ inl h ↦ subst Is (sym h.1) memory | inr h ↦ absurd (no_write_fault (inl h.2)) ]
 
 -- where no put fails, a text is put
 no_text_fault : (sink : Span SinkSeen) → (Rose sink.before.faults sink.after.faults → ⊥) → (text put : List ℕ) (ending : Ending) → PutsText sink text (Err ending) put → ⊥
@@ -94,11 +109,12 @@ no_text_fault sink none text put (endings.OtherStore stored wanted) h = h
 no_text_fault sink none text put (endings.ReadFault role) h = h
 no_text_fault sink none text put (endings.TooLong role) h = h
 no_text_fault sink none text put (endings.AppRefused line) h = h
+no_text_fault sink none text put endings.DoorFault h = h
 no_text_fault sink none text put (endings.LineRefused lapse) h = h
 no_text_fault sink none text put (endings.SessionsRefused line) h = h
 
 -- a replay that can be served ends by want of memory or the store's refusal alone
-module _ (seen : Sight) (words : List (List ℕ)) (can : CanReplay seen words) where
+module _ {L : Type 0} (line : L → LinkSeen) (seen : Sight) (door : Span (DoorSeen L)) (words : List (List ℕ)) (can : CanReplay seen words) where
   abbrev its : Command
   its = commands.Replay can.replay
 
@@ -107,13 +123,14 @@ module _ (seen : Sight) (words : List (List ℕ)) (can : CanReplay seen words) w
   no_long roles.Sessions reached long = not_long_named seen.files can.replay.sessions reached.1 can.sessions_file (long can.opens.told)
   no_long roles.Events reached long = not_long seen its roles.Events can.events can.opens.told can.events_file can.short long
 
-  no_ending : (out audit : List ℕ) (ending : Ending) → EndsReplay seen its (Err ending) out audit → completed ending
+  no_ending : (out audit : List ℕ) (ending : Ending) → EndsReplay seen its (Err ending) out audit → IsCompleted (status_of ending)
   no_ending out audit ending (inl h) =
-      inl (no_opening_fault seen its can.app can.opens ending h.0 no_long (λ line bad. no_bad_line seen.files can.replay.sessions line can.opens.told can.sessions_file bad))
+      inr (inl (no_opening_fault seen its can.app can.opens ending h.0 no_long (λ line bad. no_bad_line seen.files can.replay.sessions line can.opens.told can.sessions_file bad)))
   no_ending out audit endings.WriteFault (inr h) = absurd (can.opens.no_write_fault h.ends.0)
-  no_ending out audit endings.Memory (inr h) = inl refl
-  no_ending out audit endings.StoreFault (inr h) = inr (inl refl)
-  no_ending out audit (endings.OtherStore stored wanted) (inr h) = inr (inr refl)
+  no_ending out audit endings.Memory (inr h) = inr (inl refl)
+  no_ending out audit endings.StoreFault (inr h) = inr (inr (inl refl))
+  no_ending out audit endings.DoorFault (inr h) = absurd h.ends.1.ends
+  no_ending out audit (endings.OtherStore stored wanted) (inr h) = inr (inr (inr refl))
   no_ending out audit (endings.LineRefused lapse) (inr h) =
       let same = same_bytes seen its roles.Events can.events h.events can.opens.told can.events_file h.opened.events_read in
       let none = sym can.forms ∙ ap (λ (b : List ℕ). (script_of b).refused) (sym same) ∙ h.ends.1.ends.0 in
@@ -123,27 +140,15 @@ module _ (seen : Sight) (words : List (List ℕ)) (can : CanReplay seen words) w
   no_ending out audit (endings.AppRefused line) (inr h) = absurd h.ends.1.ends
   no_ending out audit (endings.SessionsRefused line) (inr h) = absurd h.ends.1.ends
 
-  completes : (out audit : List ℕ) (ended : Result (Unit {0}) Ending) (last : List ℕ) (answer : Status)
-      → EndsReplay seen its ended out audit → Finishes seen.out its ended last answer → IsCompleted answer
-  completes out audit (Ok done) last answer ends h = inl h.1
-  completes out audit (Err ending) last answer ends (inl h) = complete_ending ending answer h.1 (no_ending out audit ending ends)
-  completes out audit (Err ending) last answer ends (inr h) = absurd (can.opens.no_write_fault (inl h.2))
-
   -- where nothing is missing and no read or put fails, all is served, unless memory runs out or the store refuses
-  pub is_served : (answer : Status) (out audit : List ℕ) → Runs seen words answer out audit → IsCompleted answer
-  is_served answer out audit (inl r) =
-      let same : r.command ≡ its = some_same _ _ (sym r.is_command ∙ can.is_command) in
-      completes r.served audit r.ended r.last answer
-      (subst (λ (c : Command). Ends seen c r.ended r.served audit) same r.ends)
-      (subst (λ (c : Command). Finishes seen.out c r.ended r.last answer) same r.finishes)
-  is_served answer out audit (inr (inl r)) = let none = sym r.no_command ∙ can.is_command in cc
-  is_served answer out audit (inr (inr r)) = elim r.closes [ inl h ↦ inr (inl h.1) | inr h ↦ absurd (can.opens.no_write_fault (inl h.2)) ]
+  pub is_served : (answer : Status) (out audit : List ℕ) → Runs line seen door words answer out audit → IsCompleted answer
+  is_served = ran_so line seen door words its can.is_command can.opens.no_write_fault IsCompleted (inl refl) (inr (inl refl)) (λ out audit ending ends. no_ending out audit ending ends.0)
 
 none_there : IsTrue false → ⊥
 none_there is = cc
 
 -- the same of a check
-module _ (seen : Sight) (words : List (List ℕ)) (can : CanCheck seen words) where
+module _ {L : Type 0} (line : L → LinkSeen) (seen : Sight) (door : Span (DoorSeen L)) (words : List (List ℕ)) (can : CanCheck seen words) where
   abbrev checked : Command
   checked = commands.Check can.name
 
@@ -156,78 +161,57 @@ module _ (seen : Sight) (words : List (List ℕ)) (can : CanCheck seen words) wh
   no_check_ending out audit ending (inl h) = no_opening_fault seen checked can.app can.opens ending h.0 check_long (λ line bad. absurd bad)
   no_check_ending out audit ending (inr h) = absurd (no_text_fault seen.out (λ rose. can.opens.no_write_fault (inl rose)) (checked_text h.app) out ending h.text)
 
-  check_completes : (out audit : List ℕ) (ended : Result (Unit {0}) Ending) (last : List ℕ) (answer : Status)
-      → EndsCheck seen checked ended out audit → Finishes seen.out checked ended last answer → (answer ≡ statuses.Done) ⊎ (answer ≡ statuses.Memory)
-  check_completes out audit (Ok done) last answer ends h = inl h.1
-  check_completes out audit (Err ending) last answer ends (inl h) = inr (h.1 ∙ no_check_ending out audit ending ends)
-  check_completes out audit (Err ending) last answer ends (inr h) = absurd (can.opens.no_write_fault (inl h.2))
-
   -- where the application is there and no read or put fails, it is checked, unless memory runs out
-  pub is_checked : (answer : Status) (out audit : List ℕ) → Runs seen words answer out audit → (answer ≡ statuses.Done) ⊎ (answer ≡ statuses.Memory)
-  is_checked answer out audit (inl r) =
-      let same : r.command ≡ checked = some_same _ _ (sym r.is_command ∙ can.is_command) in
-      check_completes r.served audit r.ended r.last answer
-      (subst (λ (c : Command). Ends seen c r.ended r.served audit) same r.ends)
-      (subst (λ (c : Command). Finishes seen.out c r.ended r.last answer) same r.finishes)
-  is_checked answer out audit (inr (inl r)) = let none = sym r.no_command ∙ can.is_command in cc
-  is_checked answer out audit (inr (inr r)) = elim r.closes [ inl h ↦ inr h.1 | inr h ↦ absurd (can.opens.no_write_fault (inl h.2)) ]
+  pub is_checked : (answer : Status) (out audit : List ℕ) → Runs line seen door words answer out audit → (answer ≡ statuses.Done) ⊎ (answer ≡ statuses.Memory)
+  is_checked =
+      ran_so line seen door words checked can.is_command can.opens.no_write_fault (λ status. (status ≡ statuses.Done) ⊎ (status ≡ statuses.Memory)) (inl refl) (inr refl)
+      (λ out audit ending ends. inr (no_check_ending out audit ending ends.0))
 
 -- the same of a demo
-module _ (seen : Sight) (words : List (List ℕ)) (can : CanDemo seen words) where
+module _ {L : Type 0} (line : L → LinkSeen) (seen : Sight) (door : Span (DoorSeen L)) (words : List (List ℕ)) (can : CanDemo seen words) where
   abbrev shown : Command
   shown = commands.Demo can.count
 
-  not_opened : (ending : Ending) → IsUnopened calendar_text ending → completed ending
-  not_opened ending (inl h) = absurd (h.2.none can.app can.calendar)
-  not_opened ending (inr memory) = inl (ap status_of memory)
+  not_opened : (ending : Ending) → IsUnopened calendar_text ending → IsCompleted (status_of ending)
+  not_opened ending (inl h) = absurd (h.2.none calendar calendar_is)
+  not_opened ending (inr memory) = inr (inl (ap status_of memory))
 
   not_tallied : (app : Application) (audit : List ℕ) (ending : Ending)
       → (◌≡◌ {A = Result Summary Ending} (Err ending) (Err endings.WriteFault) → Rose seen.audit.before.faults seen.audit.after.faults)
-      → EndsTallying app seen.keeper can.count (Err ending) audit → completed ending
+      → EndsTallying app seen.keeper can.count (Err ending) audit → IsCompleted (status_of ending)
   not_tallied app audit endings.WriteFault rose h = absurd (can.no_write_fault (inr (rose refl)))
-  not_tallied app audit endings.Memory rose h = inl refl
-  not_tallied app audit endings.StoreFault rose h = inr (inl refl)
-  not_tallied app audit (endings.OtherStore stored wanted) rose h = inr (inr refl)
+  not_tallied app audit endings.Memory rose h = inr (inl refl)
+  not_tallied app audit endings.StoreFault rose h = inr (inr (inl refl))
+  not_tallied app audit (endings.OtherStore stored wanted) rose h = inr (inr (inr refl))
   not_tallied app audit (endings.ReadFault role) rose h = absurd h
   not_tallied app audit (endings.TooLong role) rose h = absurd h
   not_tallied app audit (endings.AppRefused line) rose h = absurd h
+  not_tallied app audit endings.DoorFault rose h = absurd h
   not_tallied app audit (endings.LineRefused lapse) rose h = absurd h
   not_tallied app audit (endings.SessionsRefused line) rose h = absurd h
 
   not_told : (app : Application) (ended : Result Summary Ending) (out audit : List ℕ) (ending : Ending)
       → (ended ≡ Err endings.WriteFault → Rose seen.audit.before.faults seen.audit.after.faults)
-      → EndsTallying app seen.keeper can.count ended audit → PutsSummary seen.out ended (Err ending) out → completed ending
+      → EndsTallying app seen.keeper can.count ended audit → PutsSummary seen.out ended (Err ending) out → IsCompleted (status_of ending)
   not_told app (Ok summary) out audit ending rose ends told =
       absurd (no_text_fault seen.out (λ torn. can.no_write_fault (inl torn)) (summary_line summary) out ending told)
   not_told app (Err fault) out audit ending rose ends told =
-      subst completed (sym (same_ending ending fault told.0)) (not_tallied app audit fault rose ends)
+      subst (λ (e : Ending). IsCompleted (status_of e)) (sym (same_ending ending fault told.0)) (not_tallied app audit fault rose ends)
 
-  not_counted : (app : Application) (out audit : List ℕ) (ending : Ending) → EndsCounting (sinks_of seen) app seen.keeper can.count (Err ending) out audit → completed ending
+  not_counted : (app : Application) (out audit : List ℕ) (ending : Ending) → EndsCounting (sinks_of seen) app seen.keeper can.count (Err ending) out audit → IsCompleted (status_of ending)
   not_counted app out audit ending (inl h) = absurd (can.no_write_fault (inr h.rose))
   not_counted app out audit ending (inr h) = not_told app h.1.ended out audit ending h.1.rose h.1.ends h.1.told
 
-  no_demo_ending : (out audit : List ℕ) (ending : Ending) → EndsDemo (sinks_of seen) seen.keeper can.count (Err ending) out audit → completed ending
+  no_demo_ending : (out audit : List ℕ) (ending : Ending) → EndsDemo (sinks_of seen) seen.keeper can.count (Err ending) out audit → IsCompleted (status_of ending)
   no_demo_ending out audit ending (inl h) = not_opened ending h.0
   no_demo_ending out audit ending (inr h) = not_counted h.app out audit ending h.ends
 
-  demo_completes : (out audit : List ℕ) (ended : Result (Unit {0}) Ending) (last : List ℕ) (answer : Status)
-      → EndsDemo (sinks_of seen) seen.keeper can.count ended out audit → Finishes seen.out shown ended last answer → IsCompleted answer
-  demo_completes out audit (Ok done) last answer ends h = inl h.1
-  demo_completes out audit (Err ending) last answer ends (inl h) = complete_ending ending answer h.1 (no_demo_ending out audit ending ends)
-  demo_completes out audit (Err ending) last answer ends (inr h) = absurd (can.no_write_fault (inl h.2))
-
   -- where no put fails, all requests are answered, unless memory runs out or the store refuses
-  pub is_shown : (answer : Status) (out audit : List ℕ) → Runs seen words answer out audit → IsCompleted answer
-  is_shown answer out audit (inl r) =
-      let same : r.command ≡ shown = some_same _ _ (sym r.is_command ∙ can.is_command) in
-      demo_completes r.served audit r.ended r.last answer
-      (subst (λ (c : Command). Ends seen c r.ended r.served audit) same r.ends)
-      (subst (λ (c : Command). Finishes seen.out c r.ended r.last answer) same r.finishes)
-  is_shown answer out audit (inr (inl r)) = let none = sym r.no_command ∙ can.is_command in cc
-  is_shown answer out audit (inr (inr r)) = elim r.closes [ inl h ↦ inr (inl h.1) | inr h ↦ absurd (can.no_write_fault (inl h.2)) ]
+  pub is_shown : (answer : Status) (out audit : List ℕ) → Runs line seen door words answer out audit → IsCompleted answer
+  is_shown = ran_so line seen door words shown can.is_command can.no_write_fault IsCompleted (inl refl) (inr (inl refl)) (λ out audit ending ends. no_demo_ending out audit ending ends.0)
 
 -- the same of a dump
-module _ (seen : Sight) (words : List (List ℕ)) (can : CanDump seen words) where
+module _ {L : Type 0} (line : L → LinkSeen) (seen : Sight) (door : Span (DoorSeen L)) (words : List (List ℕ)) (can : CanDump seen words) where
   abbrev dumped : Command
   dumped = commands.Dump can.dumping
 
@@ -237,33 +221,50 @@ module _ (seen : Sight) (words : List (List ℕ)) (can : CanDump seen words) whe
   dump_long roles.Events reached long = none_there reached.2
 
   not_dumped : (app : Application) (w : ℕ → Bool) (put : List ℕ) (ending : Ending)
-      → EndsDumping can.dumping.db app w seen.out seen.keeper (Err ending) put → completed ending
+      → EndsDumping can.dumping.db app w seen.out seen.keeper (Err ending) put → IsCompleted (status_of ending)
   not_dumped app w put endings.WriteFault h = absurd (can.opens.no_write_fault (inl h.ends.puts.1))
-  not_dumped app w put endings.Memory h = inl refl
-  not_dumped app w put endings.StoreFault h = inr (inl refl)
-  not_dumped app w put (endings.OtherStore stored wanted) h = inr (inr refl)
+  not_dumped app w put endings.Memory h = inr (inl refl)
+  not_dumped app w put endings.StoreFault h = inr (inr (inl refl))
+  not_dumped app w put (endings.OtherStore stored wanted) h = inr (inr (inr refl))
   not_dumped app w put (endings.ReadFault role) h = absurd h.ends.puts
   not_dumped app w put (endings.TooLong role) h = absurd h.ends.puts
   not_dumped app w put (endings.AppRefused line) h = absurd h.ends.puts
+  not_dumped app w put endings.DoorFault h = absurd h.ends.puts
   not_dumped app w put (endings.LineRefused lapse) h = absurd h.ends.puts
   not_dumped app w put (endings.SessionsRefused line) h = absurd h.ends.puts
 
-  no_dump_ending : (out audit : List ℕ) (ending : Ending) → EndsDump seen dumped (Err ending) out audit → completed ending
-  no_dump_ending out audit ending (inl h) = inl (no_opening_fault seen dumped can.app can.opens ending h.0 dump_long (λ line bad. absurd bad))
+  no_dump_ending : (out audit : List ℕ) (ending : Ending) → EndsDump seen dumped (Err ending) out audit → IsCompleted (status_of ending)
+  no_dump_ending out audit ending (inl h) = inr (inl (no_opening_fault seen dumped can.app can.opens ending h.0 dump_long (λ line bad. absurd bad)))
   no_dump_ending out audit ending (inr h) = not_dumped h.app (shown_labels can.dumping.labels) out ending h.ends
 
-  dump_completes : (out audit : List ℕ) (ended : Result (Unit {0}) Ending) (last : List ℕ) (answer : Status)
-      → EndsDump seen dumped ended out audit → Finishes seen.out dumped ended last answer → IsCompleted answer
-  dump_completes out audit (Ok done) last answer ends h = inl h.1
-  dump_completes out audit (Err ending) last answer ends (inl h) = complete_ending ending answer h.1 (no_dump_ending out audit ending ends)
-  dump_completes out audit (Err ending) last answer ends (inr h) = absurd (can.opens.no_write_fault (inl h.2))
-
   -- where the application is there and no read or put fails, the store is dumped, unless memory runs out or the store refuses
-  pub is_dumped : (answer : Status) (out audit : List ℕ) → Runs seen words answer out audit → IsCompleted answer
-  is_dumped answer out audit (inl r) =
-      let same : r.command ≡ dumped = some_same _ _ (sym r.is_command ∙ can.is_command) in
-      dump_completes r.served audit r.ended r.last answer
-      (subst (λ (c : Command). Ends seen c r.ended r.served audit) same r.ends)
-      (subst (λ (c : Command). Finishes seen.out c r.ended r.last answer) same r.finishes)
-  is_dumped answer out audit (inr (inl r)) = let none = sym r.no_command ∙ can.is_command in cc
-  is_dumped answer out audit (inr (inr r)) = elim r.closes [ inl h ↦ inr (inl h.1) | inr h ↦ absurd (can.opens.no_write_fault (inl h.2)) ]
+  pub is_dumped : (answer : Status) (out audit : List ℕ) → Runs line seen door words answer out audit → IsCompleted answer
+  is_dumped = ran_so line seen door words dumped can.is_command can.opens.no_write_fault IsCompleted (inl refl) (inr (inl refl)) (λ out audit ending ends. no_dump_ending out audit ending ends.0)
+
+-- the same of serving a door
+module _ {L : Type 0} (line : L → LinkSeen) (seen : Sight) (door : Span (DoorSeen L)) (words : List (List ℕ)) (can : CanServe seen door words) where
+  abbrev listening : Command
+  listening = commands.Serve can.serving
+
+  serve_long : (role : Role) → IsReached seen listening role → IsLong seen listening role → ⊥
+  serve_long roles.App reached long = app_not_long seen listening can.app can.opens long
+  serve_long roles.Sessions reached long = not_long_named seen.files can.serving.sessions reached.1 can.sessions_file (long can.opens.told)
+  serve_long roles.Events reached long = none_there reached.2
+
+  no_serve_ending : (out audit : List ℕ) (ending : Ending) → EndsServer line seen door can.serving (Err ending) out audit → IsCompleted (status_of ending)
+  no_serve_ending out audit ending (inl h) =
+      inr (inl (no_opening_fault seen listening can.app can.opens ending h.0.0 serve_long (λ n bad. no_bad_line seen.files can.serving.sessions n can.opens.told can.sessions_file bad)))
+  no_serve_ending out audit endings.WriteFault (inr h) = absurd (can.opens.no_write_fault h.ends.0)
+  no_serve_ending out audit endings.DoorFault (inr h) = absurd (can.no_door_fault h.ends.1.ends.0)
+  no_serve_ending out audit endings.Memory (inr h) = inr (inl refl)
+  no_serve_ending out audit endings.StoreFault (inr h) = inr (inr (inl refl))
+  no_serve_ending out audit (endings.OtherStore stored wanted) (inr h) = inr (inr (inr refl))
+  no_serve_ending out audit (endings.ReadFault role) (inr h) = absurd h.ends.1.ends.ends
+  no_serve_ending out audit (endings.TooLong role) (inr h) = absurd h.ends.1.ends.ends
+  no_serve_ending out audit (endings.AppRefused text) (inr h) = absurd h.ends.1.ends.ends
+  no_serve_ending out audit (endings.LineRefused lapse) (inr h) = absurd h.ends.1.ends.ends
+  no_serve_ending out audit (endings.SessionsRefused n) (inr h) = absurd h.ends.1.ends.ends
+
+  -- where nothing is missing and no read, put or call of the door fails, it is served, unless memory runs out or the store refuses
+  pub is_listened : (answer : Status) (out audit : List ℕ) → Runs line seen door words answer out audit → IsCompleted answer
+  is_listened = ran_so line seen door words listening can.is_command can.opens.no_write_fault IsCompleted (inl refl) (inr (inl refl)) no_serve_ending

@@ -1,5 +1,5 @@
 -- The number of a demo is within the bounds that its words have.
-use Rattle.std.proofs.Common.{arith, ◌≡◌, ap, sym, subst, refl, ℕ, ◌≤◌, ◌&&◌, Bool, true, false, nat_le, if◌then◌else◌, Option, Some, None, List, [], ◌∷◌, codes}
+use Rattle.std.proofs.Common.{arith, ◌≡◌, sym, subst, refl, ℕ, ◌≤◌, ◌&&◌, Bool, true, false, nat_le, if◌then◌else◌, Option, Some, None, List, [], ◌∷◌, codes}
 use Rattle.std.specs.Prelude.{⊤}
 use Rattle.std.specs.Option.{option_map, option_and_then}
 use Rattle.std.proofs.lemmas.Bool.Decides.{nat_tests}
@@ -7,7 +7,6 @@ use Rattle.clap.specs.Words.{Kinds, Row, fault_of, first_of, subcommand_of}
 use Rattle.jac_app.specs.Grammar.{jac}
 use Rattle.jac_app.specs.declared.words.Command.{Command}
 use Rattle.jac_app.specs.declared.words.Command.TheVariants as commands
-use Rattle.jac_app.specs.declared.words.Options.{Options}
 use Rattle.jac_app.specs.Commands.{HasCount}
 use Rattle.jac_app.specs.Words.{between, number_within, number_in, is_number, labels_of, file_in, option_in, options_in, check_in, replay_in, serve_in, demo_in, dump_in, command_named, entered_command, unless_fault, command_of}
 use Rattle.std.specs.Str.Parse.{digits_value}

@@ -1,5 +1,5 @@
 -- Requests that are answered in silence, one after another.
-use Rattle.std.proofs.Common.{◌≡◌, ◌∙◌, ap, sym, subst, refl, inl, inr, ℕ, ◌+◌, ◌≤◌, ◌⊎◌, Bool, true, false, IsTrue, if◌then◌else◌, Option, Some, None, Result, Ok, Err, List, [], ◌∷◌, ◌++◌, length, append-nil, length-append, decimal, arith, codes}
+use Rattle.std.proofs.Common.{◌≡◌, ◌∙◌, ap, sym, subst, refl, inl, inr, ℕ, ◌+◌, ◌≤◌, Bool, true, false, IsTrue, if◌then◌else◌, Option, Some, None, Result, Ok, Err, List, [], ◌∷◌, ◌++◌, length, append-nil, length-append, decimal, arith, codes}
 use denote.Ref.{Bor}
 use Rattle.std.specs.Str.{bytes_eq}
 use Rattle.jac_demo.specs.Calendar.{calendar_text}
@@ -8,7 +8,6 @@ use Rattle.jac_io.specs.Seen.{SinkSeen, Aims}
 use Rattle.jac_io.specs.Faults.{Rose}
 use Rattle.jac_io.specs.declared.sink.Failed.{Failed}
 use Rattle.jac_lang.specs.Syntax.{Application}
-use Rattle.jac_rows.specs.declared.state.State.{State}
 use Rattle.jac_keep.specs.KeeperSeen.{KeeperSeen}
 use Rattle.jac_keep.specs.declared.stop.Stop.{Stop}
 use Rattle.jac_value.specs.Parts.{parts_left, option_now}
@@ -32,7 +31,7 @@ use Rattle.jac_app.specs.Asked.{ask_in}
 use Rattle.jac_app.specs.Demo.{asks_by, bytes_in, labels_shown, labels_in, summary_of, tally_of, counted, WentTo, IsCounted, PutsTally, TalliesAsk, TearsAsk, TalliesLine, Tallied, TalliedTorn, Tallies, IsTalliedOn, EndsTallying, PutsSummary, IsTold, EndsCounting, summary_line, demo_script}
 use Rattle.jac_app.specs.Failed.{status_of_stop}
 use Rattle.jac_app.specs.Log.{Entry, Brings, IsHeardBy, method_of, audit_text, audit_line, audited}
-use Rattle.jac_app.specs.Outside.{Span, span, Sinks, sinks, IsFront, IsPut, Went, WentAimed}
+use Rattle.jac_app.specs.Outside.{Span, span, sinks, IsFront, IsPut, Went, WentAimed}
 use Rattle.jac_app.specs.Replay.{AttachesAs}
 use Rattle.jac_app.specs.Script.{Script, script_from, script_of, script_step}
 use Rattle.jac_app.specs.Serve.{IsEntryOf, AreEntries}
@@ -330,6 +329,7 @@ tally_unattached app k count endings.Memory h = inl h
 tally_unattached app k count (endings.ReadFault role) h = absurd h
 tally_unattached app k count (endings.TooLong role) h = absurd h
 tally_unattached app k count (endings.AppRefused line) h = absurd h
+tally_unattached app k count endings.DoorFault h = absurd h
 tally_unattached app k count (endings.LineRefused lapse) h = absurd h
 tally_unattached app k count (endings.SessionsRefused line) h = absurd h
 tally_unattached app k count endings.WriteFault h = absurd h

@@ -1,5 +1,5 @@
 -- The text of a store, table by table, and how the steps of a dump end.
-use Rattle.std.proofs.Common.{◌≡◌, ◌≤◌, ◌⊎◌, inl, inr, ◌∙◌, ap, sym, subst, refl, ℕ, ◌+◌, Bool, true, false, if◌then◌else◌, IsTrue, Result, Ok, Err, arith, List, [], ◌∷◌, ◌++◌, append_assoc, append-nil, length, map, Option, Some, None, slice_get}
+use Rattle.std.proofs.Common.{◌≡◌, inl, inr, ◌∙◌, ap, sym, subst, refl, ℕ, ◌+◌, Bool, true, false, if◌then◌else◌, IsTrue, Result, Ok, Err, arith, List, [], ◌∷◌, ◌++◌, append_assoc, append-nil, length, map, Option, Some, None, slice_get}
 use Rattle.std.specs.Option.{option_map}
 use Rattle.std.proofs.lemmas.Option.{slice_get-map}
 use Rattle.jac_io.specs.Seen.{SinkSeen}
@@ -119,6 +119,7 @@ unattached_ends db app w out k endings.Memory h = inl h
 unattached_ends db app w out k (endings.ReadFault role) h = absurd h
 unattached_ends db app w out k (endings.TooLong role) h = absurd h
 unattached_ends db app w out k (endings.AppRefused line) h = absurd h
+unattached_ends db app w out k endings.DoorFault h = absurd h
 unattached_ends db app w out k (endings.LineRefused lapse) h = absurd h
 unattached_ends db app w out k (endings.SessionsRefused line) h = absurd h
 unattached_ends db app w out k endings.WriteFault h = absurd h
@@ -138,5 +139,6 @@ module _ (db : Option (List ℕ)) (app : Application) (w : ℕ → Bool) (out : 
   read_ends (Err (endings.ReadFault role)) put h = dumped (Err (endings.ReadFault role)) put h
   read_ends (Err (endings.TooLong role)) put h = dumped (Err (endings.TooLong role)) put h
   read_ends (Err (endings.AppRefused line)) put h = dumped (Err (endings.AppRefused line)) put h
+  read_ends (Err endings.DoorFault) put h = dumped (Err endings.DoorFault) put h
   read_ends (Err (endings.LineRefused lapse)) put h = dumped (Err (endings.LineRefused lapse)) put h
   read_ends (Err (endings.SessionsRefused line)) put h = dumped (Err (endings.SessionsRefused line)) put h

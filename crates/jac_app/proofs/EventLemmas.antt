@@ -28,6 +28,7 @@ use Rattle.jac_app.specs.declared.serve.Lapse.{Lapse}
 use Rattle.jac_app.specs.declared.serve.Lapse.TheVariants as lapses
 use Rattle.jac_app.specs.declared.serve.Stopped.{Stopped}
 use Rattle.jac_app.specs.declared.serve.Stopped.TheVariants as stops
+use Rattle.jac_app.specs.declared.reply.Spelling.TheVariants as spellings
 use Rattle.jac_app.specs.Asked.{ask_in}
 use Rattle.jac_app.specs.Log.{Entry, hearing, reply_to, reply_line, replies_text, closed_text, closing_text, audit_text, audit_line}
 use Rattle.jac_app.specs.Outside.{span, IsFront, IsTorn}
@@ -36,7 +37,7 @@ use Rattle.jac_app.specs.Serve.{IsHandled, handled, IsEntryOf, outs_text, outs_a
 use Rattle.jac_app.proofs.EntriesLemmas.{entries-one}
 use Rattle.jac_app.proofs.HubLemmas.{handled-tells, lines_all, torn_reply}
 
-err_same : (x y : HubFault) → ◌≡◌ {A = Result (Unit {0}) HubFault} (Err x) (Err y) → x ≡ y
+pub err_same : (x y : HubFault) → ◌≡◌ {A = Result (Unit {0}) HubFault} (Err x) (Err y) → x ≡ y
 err_same x y e = cc
 
 none_some : (X : Type 0) (lapse : Lapse) → None ≡ Some lapse → X
@@ -45,7 +46,7 @@ none_some X lapse e = absurd cc
 by_memory : (X : Type 0) (line : ℕ) (fault : HubFault) (lapse : Lapse) → ◌≡◌ {A = Result (Unit {0}) HubFault} (Err fault) (Err faults.Memory) → lapse_by line fault ≡ Some lapse → X
 by_memory X line fault lapse e h = none_some X lapse (sym (ap (lapse_by line) (err_same fault faults.Memory e)) ∙ h)
 
-by_ok : (X : Type 0) (fault : HubFault) → ◌≡◌ {A = Result (Unit {0}) HubFault} (Err fault) (Ok tt) → X
+pub by_ok : (X : Type 0) (fault : HubFault) → ◌≡◌ {A = Result (Unit {0}) HubFault} (Err fault) (Ok tt) → X
 by_ok X fault e = absurd cc
 
 by_fault : (line : ℕ) (fault named : HubFault) (lapse : Lapse) → ◌≡◌ {A = Result (Unit {0}) HubFault} (Err fault) (Err named) → lapse_by line fault ≡ Some lapse → lapse_by line named ≡ Some lapse
@@ -249,7 +250,7 @@ last_same (a ∷ xs) (b ∷ ys) x y e =
 -- what was torn, by what the hub gave
 module _ (app : Application) (sessions : List Session) (n served : ℕ) (event : Event) (known : Connections Ask) (a b : KeeperSeen) (mine : List Entry) (replies outs : List HubOut) (last : HubOut)
     (out audit out_torn audit_torn : List ℕ) (start : IsTrue a.tells → IsStart app a.state)
-    (answered : AreAnswered (hearing app sessions) (IsHandled app sessions) (refusal 500 None) a mine replies b)
+    (answered : AreAnswered (hearing app sessions) (IsHandled spellings.Quoted app sessions) (refusal 500 None) a mine replies b)
     (torn : IsOutTorn (served + replies_in outs + 1) last out_torn audit_torn)
     (out_text : out ≡ outs_text outs ++ out_torn) (audit_text : audit ≡ outs_audited (served + 1) outs ++ audit_torn) where
   by_reply : replies ≡ outs ++ last ∷ [] → IsEntryTorn served mine out audit
@@ -264,7 +265,7 @@ module _ (app : Application) (sessions : List Session) (n served : ℕ) (event :
       let same = last_same outs replies last (Closed one.0) (parts ∙ ap (λ (t : List HubOut). replies ++ t) one.1.out) in
       let closed : IsOutTorn (served + replies_in outs + 1) (Closed one.0) out_torn audit_torn =
       subst (λ (l : HubOut). IsOutTorn (served + replies_in outs + 1) l out_torn audit_torn) same.1 torn in
-      let lines = lines_all app sessions mine replies a b start answered in
+      let lines = lines_all spellings.Quoted app sessions mine replies a b start answered in
       inr (record {
         out_torn = out_torn;
         brought = brought;
@@ -286,9 +287,9 @@ pub event_torn : (app : Application) (sessions : List Session) → IsReading IsT
     → old.turn ≡ turns.Idle → AreLike (hearing app sessions) old.channels known → Steps old event taken stepped → (IsTrue a.tells → IsStart app a.state)
     → PutsSome app sessions stepped (span a b) served out audit → IsEventTorn app sessions (span a b) served n event known out audit
 event_torn app sessions law n served event known taken old stepped a b out audit idle like steps start p =
-    let s = event-served_in_part (hearing app sessions) law (handled app sessions) (IsHandled app sessions) (refusal 500 None) n (handled-tells app sessions) tt
+    let s = event-served_in_part (hearing app sessions) law (handled spellings.Quoted app sessions) (IsHandled spellings.Quoted app sessions) (refusal 500 None) n (handled-tells spellings.Quoted app sessions) tt
     event known taken old stepped p.left (p.outs ++ p.last ∷ []) a b idle like steps p.given in
-    let lines = lines_all app sessions s.mine s.replies a b start s.answered in
+    let lines = lines_all spellings.Quoted app sessions s.mine s.replies a b start s.answered in
     record {
       mine = s.mine;
       begun = s.begun;

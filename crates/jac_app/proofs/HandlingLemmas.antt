@@ -20,11 +20,12 @@ use Rattle.jac_hub.specs.Hearing.{refused}
 use Rattle.jac_hub.specs.Refusals.{is_refusal}
 use Rattle.jac_route.specs.declared.sessions.Session.{Session}
 use Rattle.jac_app.specs.declared.answer.Via.TheVariants as ways
+use Rattle.jac_app.specs.declared.reply.Spelling.{Spelling}
 use Rattle.jac_app.specs.Asked.{request_in}
 use Rattle.jac_app.specs.Failed.{status_of_stop}
-use Rattle.jac_app.specs.Log.{is_failure, refused_with, sent_text, audit_text}
+use Rattle.jac_app.specs.Log.{is_failure, refused_with, spelled, audit_text}
 use Rattle.jac_app.specs.Outside.{span}
-use Rattle.jac_app.specs.Serve.{IsAnswerMade, IsRefusalSent, handled, sent_line, sent_audit}
+use Rattle.jac_app.specs.Serve.{IsAnswerMade, IsRefusalSent, handled, sent_on, sent_audit}
 use Rattle.jac_app.proofs.EntryLemmas.{is_made, is_failed, is_wanting, is_refused, servable}
 
 either : (a b : Bool) (P : Type 0) → (a || b) ≡ true → (a ≡ true → P) → (b ≡ true → P) → P
@@ -71,56 +72,56 @@ refusal_goes_on : (status : ℕ) → is_refusal status ≡ true → (status == 5
 refusal_goes_on status named = grind (arith, nat_tests)
 
 -- what is refused is told so, or memory ran out
-pub refused-handled : (app : Application) (sessions : List Session) (k : KeeperSeen) (c status : ℕ) (sent : Sent) → is_refusal status ≡ true
-    → (IsTrue k.tells → IsStart app k.state) → IsRefusalSent c status sent → handled app sessions k c (Refused status) sent k
-refused-handled app sessions k c status sent named start (inl is) = subst (λ (s : Sent). handled app sessions k c (Refused status) s k) (sym is) (
+pub refused-handled : (spelling : Spelling) (app : Application) (sessions : List Session) (k : KeeperSeen) (c status : ℕ) (sent : Sent) → is_refusal status ≡ true
+    → (IsTrue k.tells → IsStart app k.state) → IsRefusalSent spelling c status sent → handled spelling app sessions k c (Refused status) sent k
+refused-handled spelling app sessions k c status sent named start (inl is) = subst (λ (s : Sent). handled spelling app sessions k c (Refused status) s k) (sym is) (
   refused_with status,
   record { line = refl; audit = λ n. refl; closing = sym (refusal_goes_on status named); entry = is_refused app k status named start },
 )
-refused-handled app sessions k c status sent named start (inr is) = subst (λ (s : Sent). handled app sessions k c (Refused status) s k) (sym is) (
+refused-handled spelling app sessions k c status sent named start (inr is) = subst (λ (s : Sent). handled spelling app sessions k c (Refused status) s k) (sym is) (
   refusal 500 None,
   record { line = refl; audit = λ n. refl; closing = refl; entry = is_wanting app k (refused status) (inl refl) (λ worlds. inl refl) (λ w t. refl) start },
 )
 
 -- a request was answered
-pub request-handled : (app : Application) (sessions : List Session) (a b : KeeperSeen) (c : ℕ) (request : Request) (reply audit : List ℕ) (sent : Sent)
-    → IsAnswerMade app (span a b) (ways.Connection c request.close) (request_in app sessions request) reply audit → (IsTrue b.tells → IsTrue a.tells) → a.faults ≤ b.faults
-    → sent ≡ Made reply audit false → handled app sessions a c (Whole request) sent b
-request-handled app sessions a b c request reply audit sent made told later is = (
+pub request-handled : (spelling : Spelling) (app : Application) (sessions : List Session) (a b : KeeperSeen) (c : ℕ) (request : Request) (reply audit : List ℕ) (sent : Sent)
+    → IsAnswerMade app (span a b) (ways.Connection c request.close spelling) (request_in app sessions request) reply audit → (IsTrue b.tells → IsTrue a.tells) → a.faults ≤ b.faults
+    → sent ≡ Made reply audit false → handled spelling app sessions a c (Whole request) sent b
+request-handled spelling app sessions a b c request reply audit sent made told later is = (
   made.answer,
   record {
-    line = ap (sent_line c) is ∙ made.reply_made;
+    line = ap (sent_on spelling c) is ∙ made.reply_made;
     audit = λ n. ap (sent_audit n) is ∙ ap (λ (t : List ℕ). decimal n ++ t) made.audit_made;
     closing = ap sent_closes is ∙ sym (servable app (request_in app sessions request) made.answer made.form).answered;
-    entry = is_made app (span a b) (ways.Connection c request.close) (request_in app sessions request) request.close reply audit made told later;
+    entry = is_made app (span a b) (ways.Connection c request.close spelling) (request_in app sessions request) request.close reply audit made told later;
   },
 )
 
-failed_bytes : (stop : Stop) (close : Bool) (c : ℕ) (head : Bool)
-    → sent_text c (reply_bytes (status_of_stop stop) None None [] false head true)
-    ≡ sent_text c (reply_bytes (status_of_stop stop) None None (refusal (status_of_stop stop) None).body false head (close || is_failure (refusal (status_of_stop stop) None)))
-failed_bytes stops.Keeper true c head = refl
-failed_bytes stops.Keeper false c head = refl
-failed_bytes stops.Memory true c head = refl
-failed_bytes stops.Memory false c head = refl
+failed_bytes : (spelling : Spelling) (stop : Stop) (close : Bool) (c : ℕ) (head : Bool)
+    → spelled spelling c (reply_bytes (status_of_stop stop) None None [] false head true)
+    ≡ spelled spelling c (reply_bytes (status_of_stop stop) None None (refusal (status_of_stop stop) None).body false head (close || is_failure (refusal (status_of_stop stop) None)))
+failed_bytes spelling stops.Keeper true c head = refl
+failed_bytes spelling stops.Keeper false c head = refl
+failed_bytes spelling stops.Memory true c head = refl
+failed_bytes spelling stops.Memory false c head = refl
 
 failed_closes : (stop : Stop) → true ≡ is_failure (refusal (status_of_stop stop) None)
 failed_closes stops.Keeper = refl
 failed_closes stops.Memory = refl
 
 -- a request wasn't answered
-pub failed-handled : (app : Application) (sessions : List Session) (a b : KeeperSeen) (c : ℕ) (request : Request) (stop : Stop) (status : Fixed) (head : Bool) (viewer : Option ℕ)
+pub failed-handled : (spelling : Spelling) (app : Application) (sessions : List Session) (a b : KeeperSeen) (c : ℕ) (request : Request) (stop : Stop) (status : Fixed) (head : Bool) (viewer : Option ℕ)
     → status_of_fixed status ≡ status_of_stop stop → head ≡ bytes_eq request.method (codes "HEAD") → viewer ≡ (request_in app sessions request).viewer
     → (IsTrue b.tells → b.state ≡ a.state) → (IsTrue b.tells → IsTrue a.tells) → (IsTrue a.tells → IsStart app a.state)
     → a.faults ≤ b.faults → (stop ≡ stops.Keeper → Rose a.faults b.faults)
-    → handled app sessions a c (Whole request) (Still status head viewer) b
-failed-handled app sessions a b c request stop status head viewer is is_head looks same told start later rose = (
+    → handled spelling app sessions a c (Whole request) (Still status head viewer) b
+failed-handled spelling app sessions a b c request stop status head viewer is is_head looks same told start later rose = (
   refusal (status_of_stop stop) None,
   record {
     line =
-        ap (λ (s : ℕ). sent_text c (reply_bytes s None None [] false head true)) is
-        ∙ failed_bytes stop request.close c head
-        ∙ ap (λ (h : Bool). sent_text c (reply_bytes (status_of_stop stop) None None (refusal (status_of_stop stop) None).body false h (request.close || is_failure (refusal (status_of_stop stop) None)))) is_head;
+        ap (λ (s : ℕ). spelled spelling c (reply_bytes s None None [] false head true)) is
+        ∙ failed_bytes spelling stop request.close c head
+        ∙ ap (λ (h : Bool). spelled spelling c (reply_bytes (status_of_stop stop) None None (refusal (status_of_stop stop) None).body false h (request.close || is_failure (refusal (status_of_stop stop) None)))) is_head;
     audit = λ n. ap (λ (s : ℕ). audit_text n s viewer None) is ∙ ap (λ (v : Option ℕ). audit_text n (status_of_stop stop) v None) looks;
     closing = failed_closes stop;
     entry = is_failed app (span a b) (request_in app sessions request) request.close stop same told start later rose;

@@ -24,80 +24,83 @@ use Rattle.jac_hub.specs.Served.{AreLike, AreAnswered, IsAnswered, Agrees, IsLos
 use Rattle.jac_hub.proofs.Following.{Tells}
 use Rattle.jac_hub.proofs.Events.{event-served}
 use Rattle.jac_route.specs.declared.sessions.Session.{Session}
-use Rattle.jac_app.specs.Log.{Subject, Entry, hearing, reply_line, replies_text, closed_text, closing_text, reply_to, audit_line, audit_text, audited_from, viewer_of}
+use Rattle.jac_app.specs.declared.reply.Spelling.{Spelling}
+use Rattle.jac_app.specs.declared.reply.Spelling.TheVariants as spellings
+use Rattle.jac_app.specs.Log.{Subject, Entry, hearing, reply_on, entry_on, replies_on, reply_line, replies_text, closed_text, closing_text, reply_to, audit_line, audit_text, audited_from, viewer_of}
 use Rattle.jac_app.specs.Outside.{Span, span, IsTorn}
-use Rattle.jac_app.specs.Serve.{IsHandled, handled, sent_line, sent_audit, IsEntryOf, AreEntries, outs_text, out_text, outs_audited, replies_in, IsOutTorn, PutsAll, IsEventServed, IsEntryTorn}
+use Rattle.jac_app.specs.Serve.{IsHandled, handled, sent_on, sent_line, sent_audit, IsEntryOf, AreEntries, out_on, outs_on, outs_text, out_text, outs_audited, replies_in, IsOutTorn, PutsAll, IsEventServed, IsEntryTorn}
 use Rattle.jac_app.proofs.EntriesLemmas.{entries-none, entries-one, entries-then}
 use Rattle.jac_app.proofs.EntryLemmas.{is_wanting}
 
-agrees : (app : Application) (sessions : List Session) (before after : KeeperSeen) (c : ℕ) (heard : Heard) (sent : Sent) (answer : Answer)
-    → IsHandled app sessions before c heard sent after answer → Agrees (hearing app sessions) heard sent answer
-agrees app sessions before after c (HeardWhole request) sent answer h = (h.closing, tt)
-agrees app sessions before after c (HeardRefused status) sent answer h = tt
+agrees : (spelling : Spelling) (app : Application) (sessions : List Session) (before after : KeeperSeen) (c : ℕ) (heard : Heard) (sent : Sent) (answer : Answer)
+    → IsHandled spelling app sessions before c heard sent after answer → Agrees (hearing app sessions) heard sent answer
+agrees spelling app sessions before after c (HeardWhole request) sent answer h = (h.closing, tt)
+agrees spelling app sessions before after c (HeardRefused status) sent answer h = tt
 
 -- what is handled is told with its answer
-pub handled-tells : (app : Application) (sessions : List Session) → Tells (hearing app sessions) (handled app sessions) (IsHandled app sessions)
-handled-tells app sessions = λ before after c heard sent h. (h.0, h.1, agrees app sessions before after c heard sent h.0 h.1)
+pub handled-tells : (spelling : Spelling) (app : Application) (sessions : List Session) → Tells (hearing app sessions) (handled spelling app sessions) (IsHandled spelling app sessions)
+handled-tells spelling app sessions = λ before after c heard sent h. (h.0, h.1, agrees spelling app sessions before after c heard sent h.0 h.1)
 
 -- what is put for entries, and what they leave
-pub record AreLines (app : Application) (k : Span KeeperSeen) (mine : List Entry) (outs : List HubOut) : Type 0 where
+pub record AreLines (spelling : Spelling) (app : Application) (k : Span KeeperSeen) (mine : List Entry) (outs : List HubOut) : Type 0 where
   pub entries : AreEntries app k mine
-  pub text : outs_text outs ≡ replies_text mine
+  pub text : outs_on spelling outs ≡ replies_on spelling mine
   pub audited : (n : ℕ) → outs_audited n outs ≡ audited_from n mine
   pub replies : replies_in outs ≡ length mine
 
 -- the reply to one subject of a connection
-pub record IsLine (app : Application) (c : ℕ) (k : Span KeeperSeen) (subject : Subject) (answer : Answer) (sent : Sent) : Type 0 where
+pub record IsLine (spelling : Spelling) (app : Application) (c : ℕ) (k : Span KeeperSeen) (subject : Subject) (answer : Answer) (sent : Sent) : Type 0 where
   pub one : IsEntryOf app k subject answer
-  pub line : sent_line c sent ≡ reply_to (connection c) subject answer
+  pub line : sent_on spelling c sent ≡ reply_on spelling (connection c) subject answer
   pub audit : (n : ℕ) → sent_audit n sent ≡ audit_text n answer.status (viewer_of subject) answer.shown
 
-line_of : (app : Application) (sessions : List Session) (c : ℕ) (subject : Subject) (answer : Answer) (sent : Sent) (before between : KeeperSeen)
+line_of : (spelling : Spelling) (app : Application) (sessions : List Session) (c : ℕ) (subject : Subject) (answer : Answer) (sent : Sent) (before between : KeeperSeen)
     → (IsTrue before.tells → IsStart app before.state)
-    → IsAnswered (hearing app sessions) (IsHandled app sessions) (refusal 500 None) c subject answer sent before between
-    → IsLine app c (span before between) subject answer sent
-line_of app sessions c (whole ask close) answer sent before between start (request, is, closes, h) =
-    subst (λ (s : Subject). IsLine app c (span before between) s answer sent) (λ i. whole (sym is i) (sym closes i))
+    → IsAnswered (hearing app sessions) (IsHandled spelling app sessions) (refusal 500 None) c subject answer sent before between
+    → IsLine spelling app c (span before between) subject answer sent
+line_of spelling app sessions c (whole ask close) answer sent before between start (request, is, closes, h) =
+    subst (λ (s : Subject). IsLine spelling app c (span before between) s answer sent) (λ i. whole (sym is i) (sym closes i))
     (record { one = h.entry; line = h.line; audit = h.audit })
-line_of app sessions c (refused status) answer sent before between start h = record { one = h.entry; line = h.line; audit = h.audit }
-line_of app sessions c broken answer sent before between start (same, is, put) =
-    subst (λ (k : KeeperSeen). IsLine app c (span before k) broken answer sent) (sym same)
-    (subst (λ (a : Answer). IsLine app c (span before before) broken a sent) (sym is)
-    (subst (λ (s : Sent). IsLine app c (span before before) broken (refusal 500 None) s) (sym put)
+line_of spelling app sessions c (refused status) answer sent before between start h = record { one = h.entry; line = h.line; audit = h.audit }
+line_of spelling app sessions c broken answer sent before between start (same, is, put) =
+    subst (λ (k : KeeperSeen). IsLine spelling app c (span before k) broken answer sent) (sym same)
+    (subst (λ (a : Answer). IsLine spelling app c (span before before) broken a sent) (sym is)
+    (subst (λ (s : Sent). IsLine spelling app c (span before before) broken (refusal 500 None) s) (sym put)
     (record { one = is_wanting app before broken refl (λ worlds. refl) (λ w t. refl) start; line = refl; audit = λ n. refl })))
 
-lines_none : (app : Application) (k : KeeperSeen) → (IsTrue k.tells → IsStart app k.state) → AreLines app (span k k) [] []
-lines_none app k start = record { entries = entries-none app k start; text = refl; audited = λ n. refl; replies = refl }
+lines_none : (spelling : Spelling) (app : Application) (k : KeeperSeen) → (IsTrue k.tells → IsStart app k.state) → AreLines spelling app (span k k) [] []
+lines_none spelling app k start = record { entries = entries-none app k start; text = refl; audited = λ n. refl; replies = refl }
 
-lines_more : (app : Application) (c : ℕ) (entry : Entry) (sent : Sent) (mine : List Entry) (rest : List HubOut) (before between after : KeeperSeen)
-    → entry.source ≡ connection c → IsLine app c (span before between) entry.subject entry.answer sent → AreLines app (span between after) mine rest
-    → AreLines app (span before after) (entry ∷ mine) (Reply c sent ∷ rest)
-lines_more app c entry sent mine rest before between after is line more =
-    let same : sent_line c sent ≡ reply_line entry = line.line ∙ ap (λ (s : Source). reply_to s entry.subject entry.answer) (sym is) in
+lines_more : (spelling : Spelling) (app : Application) (c : ℕ) (entry : Entry) (sent : Sent) (mine : List Entry) (rest : List HubOut) (before between after : KeeperSeen)
+    → entry.source ≡ connection c → IsLine spelling app c (span before between) entry.subject entry.answer sent → AreLines spelling app (span between after) mine rest
+    → AreLines spelling app (span before after) (entry ∷ mine) (Reply c sent ∷ rest)
+lines_more spelling app c entry sent mine rest before between after is line more =
+    let same : sent_on spelling c sent ≡ entry_on spelling entry = line.line ∙ ap (λ (s : Source). reply_on spelling s entry.subject entry.answer) (sym is) in
     record {
       entries = entries-then app before between after (entry ∷ []) mine (entries-one app before between entry line.one) more.entries;
-      text = ap (λ (t : List ℕ). t ++ outs_text rest) same ∙ ap (λ (t : List ℕ). reply_line entry ++ t) more.text;
+      text = ap (λ (t : List ℕ). t ++ outs_on spelling rest) same ∙ ap (λ (t : List ℕ). entry_on spelling entry ++ t) more.text;
       audited = λ n.
           ap (λ (t : List ℕ). t ++ outs_audited (n + 1) rest) (line.audit n) ∙ ap (λ (t : List ℕ). audit_line n entry ++ t) (more.audited (n + 1));
       replies = let r = more.replies in omega (arith, r);
     }
 
 -- the entries of an event beside the replies that were put out for them
-pub lines_all : (app : Application) (sessions : List Session) (mine : List Entry) (outs : List HubOut) (before after : KeeperSeen)
+pub lines_all : (spelling : Spelling) (app : Application) (sessions : List Session) (mine : List Entry) (outs : List HubOut) (before after : KeeperSeen)
     → (IsTrue before.tells → IsStart app before.state)
-    → AreAnswered (hearing app sessions) (IsHandled app sessions) (refusal 500 None) before mine outs after → AreLines app (span before after) mine outs
-lines_all app sessions [] outs before after start (none, same) =
-    subst (λ (k : KeeperSeen). AreLines app (span before k) [] outs) (sym same)
-    (subst (λ (os : List HubOut). AreLines app (span before before) [] os) (sym none) (lines_none app before start))
-lines_all app sessions (entry ∷ mine) outs before after start (c, sent, rest, between, is, parts, answered, more) =
-    let line = line_of app sessions c entry.subject entry.answer sent before between start answered in
-    subst (λ (os : List HubOut). AreLines app (span before after) (entry ∷ mine) os) (sym parts)
-    (lines_more app c entry sent mine rest before between after is line
-    (lines_all app sessions mine rest between after line.one.goes_on more))
+    → AreAnswered (hearing app sessions) (IsHandled spelling app sessions) (refusal 500 None) before mine outs after → AreLines spelling app (span before after) mine outs
+lines_all spelling app sessions [] outs before after start (none, same) =
+    subst (λ (k : KeeperSeen). AreLines spelling app (span before k) [] outs) (sym same)
+    (subst (λ (os : List HubOut). AreLines spelling app (span before before) [] os) (sym none) (lines_none spelling app before start))
+lines_all spelling app sessions (entry ∷ mine) outs before after start (c, sent, rest, between, is, parts, answered, more) =
+    let line = line_of spelling app sessions c entry.subject entry.answer sent before between start answered in
+    subst (λ (os : List HubOut). AreLines spelling app (span before after) (entry ∷ mine) os) (sym parts)
+    (lines_more spelling app c entry sent mine rest before between after is line
+    (lines_all spelling app sessions mine rest between after line.one.goes_on more))
 
-pub outs_text-append : (xs ys : List HubOut) → outs_text (xs ++ ys) ≡ outs_text xs ++ outs_text ys
-outs_text-append [] ys = refl
-outs_text-append (x ∷ xs) ys = ap (λ (rest : List ℕ). out_text x ++ rest) (outs_text-append xs ys) ∙ sym (append_assoc (out_text x) (outs_text xs) (outs_text ys))
+pub outs_on-append : (spelling : Spelling) (xs ys : List HubOut) → outs_on spelling (xs ++ ys) ≡ outs_on spelling xs ++ outs_on spelling ys
+outs_on-append spelling [] ys = refl
+outs_on-append spelling (x ∷ xs) ys =
+    ap (λ (rest : List ℕ). out_on spelling x ++ rest) (outs_on-append spelling xs ys) ∙ sym (append_assoc (out_on spelling x) (outs_on spelling xs) (outs_on spelling ys))
 
 pub outs_audited-append : (k : ℕ) (xs ys : List HubOut) → outs_audited k (xs ++ ys) ≡ outs_audited k xs ++ outs_audited (k + replies_in xs) ys
 outs_audited-append k [] ys = ap (λ (n : ℕ). outs_audited n ys) (omega arith)
@@ -127,13 +130,13 @@ closed_silent : (c : ℕ) (closed : Bool) (k : ℕ) → (outs_audited k (closing
 closed_silent c true k = (refl, refl)
 closed_silent c false k = (refl, refl)
 
-closings_silent : (event : Event) (before after : Connections Ask) (k : ℕ) → (outs_audited k (closings event before after) ≡ []) × (replies_in (closings event before after) ≡ 0)
+pub closings_silent : (event : Event) (before after : Connections Ask) (k : ℕ) → (outs_audited k (closings event before after) ≡ []) × (replies_in (closings event before after) ≡ 0)
 closings_silent (Asking viewer method path query body) before after k = (refl, refl)
 closings_silent (Begin c) before after k = (refl, refl)
 closings_silent (Piece c bytes) before after k = closed_silent c (not (is_shut (before c)) && is_shut (after c)) k
 closings_silent (Finish c) before after k = (refl, refl)
 
-right_none : (m : ℕ) → m + 0 ≡ m
+pub right_none : (m : ℕ) → m + 0 ≡ m
 right_none m = omega arith
 
 -- all that a hub gave for an event was put: the event was served
@@ -144,10 +147,10 @@ pub event_whole : (app : Application) (sessions : List Session) → IsReading Is
     → IsEventServed app sessions new (span a b) served count n event known out audit
 event_whole app sessions law n served count event known taken old stepped new a b out audit idle like steps kept start p =
     let h = hearing app sessions in
-    let s = event-served h law (handled app sessions) (IsHandled app sessions) (refusal 500 None) n (handled-tells app sessions) tt
+    let s = event-served h law (handled spellings.Quoted app sessions) (IsHandled spellings.Quoted app sessions) (refusal 500 None) n (handled-tells spellings.Quoted app sessions) tt
     event known taken old stepped new p.outs a b idle like steps kept p.emptied in
     let later = after_both h event s.mine known in
-    let lines = lines_all app sessions s.mine s.replies a b start s.answered in
+    let lines = lines_all spellings.Quoted app sessions s.mine s.replies a b start s.answered in
     let silent = closings_silent event known later in
     record {
       mine = s.mine;
@@ -161,7 +164,7 @@ event_whole app sessions law n served count event known taken old stepped new a 
       like = s.like;
       idle = s.idle;
       out_text =
-          p.out_text ∙ ap outs_text s.put ∙ outs_text-append s.replies (closings event known later)
+          p.out_text ∙ ap outs_text s.put ∙ outs_on-append spellings.Quoted s.replies (closings event known later)
           ∙ ap (λ (t : List ℕ). t ++ outs_text (closings event known later)) lines.text
           ∙ ap (λ (t : List ℕ). replies_text s.mine ++ t) (closings_text event known later);
       audit_text =
@@ -198,13 +201,13 @@ tail_same x y xs ys e = cc
 -- replies that end with the torn one
 cut_last : (app : Application) (sessions : List Session) (mine : List Entry) (replies outs : List HubOut) (last : HubOut) (before after : KeeperSeen)
     → (IsTrue before.tells → IsStart app before.state)
-    → AreAnswered (hearing app sessions) (IsHandled app sessions) (refusal 500 None) before mine replies after → replies ≡ outs ++ last ∷ []
+    → AreAnswered (hearing app sessions) (IsHandled spellings.Quoted app sessions) (refusal 500 None) before mine replies after → replies ≡ outs ++ last ∷ []
     → IsCut app (span before after) mine outs last
 cut_last app sessions [] replies outs last before after start (none, same) parts = no_replies _ outs last (sym none ∙ parts)
 cut_last app sessions (entry ∷ mine) replies [] last before after start (c, sent, rest, between, is, whole_ones, answered, more) parts =
-    let line = line_of app sessions c entry.subject entry.answer sent before between start answered in
+    let line = line_of spellings.Quoted app sessions c entry.subject entry.answer sent before between start answered in
     let both = sym whole_ones ∙ parts in
-    let lines = lines_all app sessions mine rest between after line.one.goes_on more in
+    let lines = lines_all spellings.Quoted app sessions mine rest between after line.one.goes_on more in
     let none : mine ≡ [] = no_entries mine (sym lines.replies ∙ ap replies_in (tail_same (Reply c sent) last rest [] both)) in
     let same : sent_line c sent ≡ reply_line entry = line.line ∙ ap (λ (s : Source). reply_to s entry.subject entry.answer) (sym is) in
     record {
@@ -221,7 +224,7 @@ cut_last app sessions (entry ∷ mine) replies [] last before after start (c, se
           (subst (λ (l : HubOut). IsOutTorn n l o a) (sym (head_same (Reply c sent) last rest [] both)) torn));
     }
 cut_last app sessions (entry ∷ mine) replies (first ∷ outs) last before after start (c, sent, rest, between, is, whole_ones, answered, more) parts =
-    let line = line_of app sessions c entry.subject entry.answer sent before between start answered in
+    let line = line_of spellings.Quoted app sessions c entry.subject entry.answer sent before between start answered in
     let both = sym whole_ones ∙ parts in
     let cut = cut_last app sessions mine rest outs last between after line.one.goes_on more (tail_same (Reply c sent) first rest (outs ++ last ∷ []) both) in
     let same : sent_line c sent ≡ reply_line entry = line.line ∙ ap (λ (s : Source). reply_to s entry.subject entry.answer) (sym is) in
@@ -241,7 +244,7 @@ cut_last app sessions (entry ∷ mine) replies (first ∷ outs) last before afte
 -- where the replies are torn, or the line behind them all
 pub torn_reply : (app : Application) (sessions : List Session) (n served : ℕ) (event : Event) (known : Connections Ask) (a b : KeeperSeen) (mine : List Entry) (replies outs : List HubOut) (last : HubOut)
     (out audit out_torn audit_torn : List ℕ) → (IsTrue a.tells → IsStart app a.state)
-    → AreAnswered (hearing app sessions) (IsHandled app sessions) (refusal 500 None) a mine replies b → replies ≡ outs ++ last ∷ []
+    → AreAnswered (hearing app sessions) (IsHandled spellings.Quoted app sessions) (refusal 500 None) a mine replies b → replies ≡ outs ++ last ∷ []
     → IsOutTorn (served + replies_in outs + 1) last out_torn audit_torn → out ≡ outs_text outs ++ out_torn → audit ≡ outs_audited (served + 1) outs ++ audit_torn
     → IsEntryTorn served mine out audit
 torn_reply app sessions n served event known a b mine replies outs last out audit out_torn audit_torn start answered parts torn text audited =

@@ -1,44 +1,34 @@
 -- The endings of a run, seen when another line was put.
-use Rattle.std.proofs.Common.{Bool, ◌≡◌, ◌∙◌, ap, sym, subst, refl, ℕ, ◌≤◌, ◌<◌, ◌⊎◌, inl, inr, is_some, IsTrue, IsSomeAnd, Result, Ok, Err, Option, Some, None, List, [], ◌++◌, append-nil, length, arith}
+use Rattle.std.proofs.Common.{Bool, ℕ, ◌≤◌, ◌⊎◌, inl, inr, Result, Ok, Err, Option, List, [], arith}
 use Rattle.jac_io.specs.Faults.{Rose}
-use Rattle.jac_io.specs.Seen.{FilesSeen, SinkSeen, Lasts, Aims}
-use Rattle.jac_io.specs.declared.sink.Failed.{Failed}
+use Rattle.jac_io.specs.Seen.{SinkSeen}
+use Rattle.jac_io.specs.Linked.{LinkSeen, DoorSeen}
 use Rattle.jac_lang.specs.Syntax.{Application}
-use Rattle.jac_rows.specs.declared.state.State.{State}
 use Rattle.jac_keep.specs.KeeperSeen.{KeeperSeen}
 use Rattle.jac_route.specs.declared.sessions.Session.{Session}
-use Rattle.jac_route.specs.Sessions.{sessions_in}
 use Rattle.jac_app.specs.declared.words.Command.{Command}
 use Rattle.jac_app.specs.declared.words.Command.TheVariants as commands
-use Rattle.jac_app.specs.declared.words.Replay.{Replay}
+use Rattle.jac_app.specs.declared.words.Serving.{Serving}
 use Rattle.jac_app.specs.declared.ending.Ending.{Ending}
 use Rattle.jac_app.specs.declared.ending.Ending.TheVariants as endings
 use Rattle.jac_app.specs.declared.ending.Role.{Role}
 use Rattle.jac_app.specs.declared.ending.Role.TheVariants as roles
-use Rattle.jac_app.specs.declared.serve.Stopped.{Stopped}
-use Rattle.jac_app.specs.declared.serve.Stopped.TheVariants as stops
 use Rattle.jac_app.specs.declared.status.Status.{Status}
-use Rattle.jac_app.specs.declared.status.Status.TheVariants as statuses
 use Rattle.jac_app.specs.Script.{Script, script_of}
-use Rattle.jac_app.specs.Application.{IsApplication}
-use Rattle.jac_app.specs.Refusal.{HasRefusal, refusal_text}
-use Rattle.jac_app.specs.declared.refusal.Refusal.{Refusal}
-use Rattle.jac_app.specs.declared.refusal.Refusal.TheVariants as refusals
-use Rattle.jac_app.specs.Outside.{Span, span, Sinks, sinks, Took, IsFront, IsPut, Went, WentAimed, AWriteFailed}
-use Rattle.jac_app.specs.Serve.{ServesAs, PutsServed, PutsTorn}
-use Rattle.jac_app.specs.Commands.{file_of, name_of, audit_of, db_of, name_or_empty, limit_of, known}
-use Rattle.jac_app.specs.Files.{Sight, sinks_of, IsReadAs, IsRead, IsLong, HasSessions, HasBadLine, IsSessionless, HasApplication, IsOpened, IsReached, IsAimed, IsIdle, IsUnread, IsUnopened}
-use Rattle.jac_app.specs.Ending.{ending_of, Closes, Finishes, fault_line, status_of}
-use Rattle.jac_app.specs.Replay.{schema_text, IsAttached, IsUnattached, IsOther, AttachesAs, EndsServed, IsServedOn, EndsAttaching, EndsServing, IsServing, EndsOpening, IsEndedEarly, EndsReplay}
-use Rattle.jac_app.specs.Check.{EndsCheck, PutsChecked, PutsText, checked_text}
-use Rattle.jac_app.specs.Run.{Ends, Runs, ComesFor, IsCompleted, CanHaveSessions, CanOpen, CanReplay, CanCheck, usage_line}
+use Rattle.jac_app.specs.Outside.{Span, span, AWriteFailed}
+use Rattle.jac_app.specs.Commands.{db_of}
+use Rattle.jac_app.specs.Files.{Sight, sinks_of, IsRead, HasApplication, IsOpened, IsReached}
+use Rattle.jac_app.specs.Ending.{Closes, Finishes, fault_line, status_of}
+use Rattle.jac_app.specs.Replay.{IsUnattached, EndsServing, EndsOpening, IsEndedEarly, EndsReplay}
+use Rattle.jac_app.specs.Server.{EndsAimed, EndsServer}
+use Rattle.jac_app.specs.Check.{EndsCheck, checked_text}
+use Rattle.jac_app.specs.Run.{Ends}
 use Rattle.jac_app.specs.Dump.{IsPrinted, EndsRead, IsDumped, EndsDumping, EndsDump, labels_in}
 use Rattle.jac_world.specs.World.{shown}
-use Rattle.jac_app.specs.Demo.{EndsDemo, IsDemo, IsUncounted, EndsCounting, IsTold}
+use Rattle.jac_app.specs.Demo.{EndsDemo, IsUncounted, EndsCounting, IsTold}
 use Rattle.jac_app.proofs.DemoLemmas.{summary_on}
 use Rattle.jac_app.proofs.ReplayLemmas.{text_on}
-use Rattle.jac_app.proofs.OpeningLemmas.{some_same}
-use Rattle.jac_app.proofs.OutsideLemmas.{Lasts-none, Took-none, Rose-widen, failed_later}
+use Rattle.jac_app.proofs.OutsideLemmas.{Rose-widen, failed_later}
 
 -- the same, seen when out is a later one
 abbrev pub at_later : Sight → SinkSeen → Sight
@@ -73,6 +63,7 @@ opening_later seen later command endings.Memory h = tt
 opening_later seen later command (endings.LineRefused lapse) h = absurd h
 opening_later seen later command endings.WriteFault h = absurd h
 opening_later seen later command endings.StoreFault h = absurd h
+opening_later seen later command endings.DoorFault h = absurd h
 opening_later seen later command (endings.OtherStore stored wanted) h = absurd h
 
 early_later : (seen : Sight) (later : SinkSeen) (command : Command) (ended : Result (Unit {0}) Ending) (out audit : List ℕ)
@@ -94,6 +85,7 @@ serving_later seen later le command app sessions script (Ok done) out audit h = 
 serving_later seen later le command app sessions script (Err endings.WriteFault) out audit h = (write_later seen later le h.0, h.1)
 serving_later seen later le command app sessions script (Err endings.Memory) out audit h = h
 serving_later seen later le command app sessions script (Err endings.StoreFault) out audit h = h
+serving_later seen later le command app sessions script (Err endings.DoorFault) out audit h = h
 serving_later seen later le command app sessions script (Err (endings.OtherStore stored wanted)) out audit h = h
 serving_later seen later le command app sessions script (Err (endings.ReadFault role)) out audit h = h
 serving_later seen later le command app sessions script (Err (endings.TooLong role)) out audit h = h
@@ -160,6 +152,7 @@ reads_later app w before after later le k (Ok done) put h = printed_later app w 
 reads_later app w before after later le k (Err (endings.ReadFault role)) put h = printed_later app w before after later le k.after (Err (endings.ReadFault role)) put h
 reads_later app w before after later le k (Err (endings.TooLong role)) put h = printed_later app w before after later le k.after (Err (endings.TooLong role)) put h
 reads_later app w before after later le k (Err (endings.AppRefused line)) put h = printed_later app w before after later le k.after (Err (endings.AppRefused line)) put h
+reads_later app w before after later le k (Err endings.DoorFault) put h = printed_later app w before after later le k.after (Err endings.DoorFault) put h
 reads_later app w before after later le k (Err (endings.LineRefused lapse)) put h = printed_later app w before after later le k.after (Err (endings.LineRefused lapse)) put h
 reads_later app w before after later le k (Err (endings.SessionsRefused line)) put h = printed_later app w before after later le k.after (Err (endings.SessionsRefused line)) put h
 reads_later app w before after later le k (Err endings.WriteFault) put h = printed_later app w before after later le k.after (Err endings.WriteFault) put h
@@ -187,6 +180,7 @@ dumping_later db app w before after later le k (Ok done) put h = dumped_later db
 dumping_later db app w before after later le k (Err (endings.ReadFault role)) put h = dumped_later db app w before after later le k (Err (endings.ReadFault role)) put h
 dumping_later db app w before after later le k (Err (endings.TooLong role)) put h = dumped_later db app w before after later le k (Err (endings.TooLong role)) put h
 dumping_later db app w before after later le k (Err (endings.AppRefused line)) put h = dumped_later db app w before after later le k (Err (endings.AppRefused line)) put h
+dumping_later db app w before after later le k (Err endings.DoorFault) put h = dumped_later db app w before after later le k (Err endings.DoorFault) put h
 dumping_later db app w before after later le k (Err (endings.LineRefused lapse)) put h = dumped_later db app w before after later le k (Err (endings.LineRefused lapse)) put h
 dumping_later db app w before after later le k (Err (endings.SessionsRefused line)) put h = dumped_later db app w before after later le k (Err (endings.SessionsRefused line)) put h
 dumping_later db app w before after later le k (Err endings.WriteFault) put h = dumped_later db app w before after later le k (Err endings.WriteFault) put h
@@ -205,13 +199,40 @@ dump_later seen later le command out audit ended (inr h) = inr (record {
   ends = dumping_later (db_of command) h.app (shown (labels_in command)) seen.out.before seen.out.after later le seen.keeper ended out h.ends;
 })
 
-pub Ends-later : (seen : Sight) (later : SinkSeen) → seen.out.after.faults ≤ later.faults → (command : Command) (out audit : List ℕ) (ended : Result (Unit {0}) Ending)
-    → Ends seen command ended out audit → Ends (at_later seen later) command ended out audit
-Ends-later seen later le (commands.Check app) out audit ended h = check_later seen later le (commands.Check app) out audit ended h
-Ends-later seen later le (commands.Replay replay) out audit ended h = replay_later seen later le (commands.Replay replay) out audit ended h
-Ends-later seen later le (commands.Serve serving) out audit ended h = absurd h
-Ends-later seen later le (commands.Demo n) out audit ended h = demo_later seen later le n out audit ended h
-Ends-later seen later le (commands.Dump dumping) out audit ended h = dump_later seen later le (commands.Dump dumping) out audit ended h
+aimed_later : {L : Type 0} (line : L → LinkSeen) (seen : Sight) (later : SinkSeen) → seen.out.after.faults ≤ later.faults → (door : Span (DoorSeen L)) (app : Application) (sessions : List Session)
+    (serving : Serving) (ended : Result (Unit {0}) Ending) (out audit : List ℕ)
+    → EndsAimed line (sinks_of seen) app sessions serving door seen.keeper ended out audit
+    → EndsAimed line (sinks_of (at_later seen later)) app sessions serving door seen.keeper ended out audit
+aimed_later line seen later le door app sessions serving (Ok done) out audit h = h
+aimed_later line seen later le door app sessions serving (Err endings.WriteFault) out audit h = (write_later seen later le h.0, h.1)
+aimed_later line seen later le door app sessions serving (Err endings.Memory) out audit h = h
+aimed_later line seen later le door app sessions serving (Err endings.StoreFault) out audit h = h
+aimed_later line seen later le door app sessions serving (Err endings.DoorFault) out audit h = h
+aimed_later line seen later le door app sessions serving (Err (endings.OtherStore stored wanted)) out audit h = h
+aimed_later line seen later le door app sessions serving (Err (endings.ReadFault role)) out audit h = h
+aimed_later line seen later le door app sessions serving (Err (endings.TooLong role)) out audit h = h
+aimed_later line seen later le door app sessions serving (Err (endings.AppRefused text)) out audit h = h
+aimed_later line seen later le door app sessions serving (Err (endings.LineRefused lapse)) out audit h = h
+aimed_later line seen later le door app sessions serving (Err (endings.SessionsRefused n)) out audit h = h
+
+server_later : {L : Type 0} (line : L → LinkSeen) (seen : Sight) (later : SinkSeen) → seen.out.after.faults ≤ later.faults → (door : Span (DoorSeen L)) (serving : Serving) (out audit : List ℕ)
+    (ended : Result (Unit {0}) Ending) → EndsServer line seen door serving ended out audit → EndsServer line (at_later seen later) door serving ended out audit
+server_later line seen later le door serving out audit ended (inl h) = inl (early_later seen later (commands.Serve serving) ended out audit h.0, h.1)
+server_later line seen later le door serving out audit ended (inr h) = inr (record {
+  app = h.app;
+  sessions = h.sessions;
+  application = application_later seen later (commands.Serve serving) h.app h.application;
+  sessions_had = h.sessions_had;
+  ends = aimed_later line seen later le door h.app h.sessions serving ended out audit h.ends;
+})
+
+pub Ends-later : {L : Type 0} (line : L → LinkSeen) (seen : Sight) (later : SinkSeen) → seen.out.after.faults ≤ later.faults → (door : Span (DoorSeen L)) (command : Command) (out audit : List ℕ)
+    (ended : Result (Unit {0}) Ending) → Ends line seen door command ended out audit → Ends line (at_later seen later) door command ended out audit
+Ends-later line seen later le door (commands.Check app) out audit ended h = (check_later seen later le (commands.Check app) out audit ended h.0, h.1)
+Ends-later line seen later le door (commands.Replay replay) out audit ended h = (replay_later seen later le (commands.Replay replay) out audit ended h.0, h.1)
+Ends-later line seen later le door (commands.Serve serving) out audit ended h = server_later line seen later le door serving out audit ended h
+Ends-later line seen later le door (commands.Demo n) out audit ended h = (demo_later seen later le n out audit ended h.0, h.1)
+Ends-later line seen later le door (commands.Dump dumping) out audit ended h = (dump_later seen later le (commands.Dump dumping) out audit ended h.0, h.1)
 
 Closes-widen : (a b c : SinkSeen) → a.faults ≤ b.faults → (line : List ℕ) (status : Status) (put : List ℕ) (answer : Status)
     → Closes (span b c) line status put answer → Closes (span a c) line status put answer

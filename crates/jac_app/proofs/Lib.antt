@@ -12,6 +12,12 @@ pub mod ReplayLemmas
 pub mod LaterLemmas
 pub mod CauseLemmas
 pub mod CompleteLemmas
+pub mod LinkPuts
+pub mod LinkEvents
+pub mod LinkProgress
+pub mod LinkEnds
+pub mod DoorProgress
+pub mod ServerLemmas
 mod OpeningLemmas
 pub mod WordsLemmas
 pub mod AttachLemmas
@@ -19,3 +25,5 @@ pub mod DumpLemmas
 pub mod AskingLemmas
 pub mod DemoLemmas
 pub mod CountLemmas
+mod ReadTexts
+mod CalendarOpens

@@ -17,9 +17,10 @@ use Rattle.jac_hub.specs.Channel.{ChannelSeen, AnswersFront, NextOfChannel}
 use Rattle.jac_hub.specs.Hub.{HubSeen, Nexts, NextServing}
 use Rattle.jac_hub.proofs.Giving.{given-push, given-all}
 use Rattle.jac_route.specs.declared.sessions.Session.{Session}
+use Rattle.jac_app.specs.declared.reply.Spelling.TheVariants as spellings
 use Rattle.jac_app.specs.Outside.{span}
 use Rattle.jac_app.specs.Serve.{handled, out_text, outs_text, outs_audited, replies_in, IsOutTorn, PutsOut, PutsSoFar, PutsSome, PutsAll}
-use Rattle.jac_app.proofs.HubLemmas.{outs_text-append, outs_audited-append, replies_in-append}
+use Rattle.jac_app.proofs.HubLemmas.{outs_on-append, outs_audited-append, replies_in-append}
 
 -- a call of a hub calls its handler once, or not at all
 module _ {H : Type 0} (reads : List ℕ → Taken → Type 0) (before after : H) (handles : H → ℕ → Heard → Sent → H → Type 0) where
@@ -81,7 +82,7 @@ pub few_replies : (given : HubOut) → replies_in (given ∷ []) ≤ 1
 few_replies (Reply c sent) = omega arith
 few_replies (Closed c) = omega arith
 
-audited_next : (served count : ℕ) (outs : List HubOut) (given : HubOut) → count ≡ served + replies_in outs
+pub audited_next : (served count : ℕ) (outs : List HubOut) (given : HubOut) → count ≡ served + replies_in outs
     → outs_audited (served + 1) outs ++ outs_audited (count + 1) (given ∷ []) ≡ outs_audited (served + 1) (outs ++ given ∷ [])
 audited_next served count outs given count_is =
     ap (λ (n : ℕ). outs_audited (served + 1) outs ++ outs_audited n (given ∷ [])) (omega (arith, count_is))
@@ -92,18 +93,18 @@ out_alone given = sym (append-nil (out_text given))
 
 -- one more was put
 pub so_far_more : (app : Application) (sessions : List Session) (hub between new : HubSeen) (a b c : KeeperSeen) (served count more : ℕ) (given : HubOut) (o au p bu : List ℕ)
-    → Nexts IsTaken (handled app sessions) between between.turn (Some given) new b c
+    → Nexts IsTaken (handled spellings.Quoted app sessions) between between.turn (Some given) new b c
     → PutsSoFar app sessions hub between (span a b) served count o au → PutsOut {E = Unit {0}} count given (Ok more) p bu
     → PutsSoFar app sessions hub new (span a c) served more (o ++ p) (au ++ bu)
 so_far_more app sessions hub between new a b c served count more given o au p bu next s put = record {
   outs = s.outs ++ given ∷ [];
-  given = given-push IsTaken (handled app sessions) s.outs hub between new given a b c s.given next;
+  given = given-push IsTaken (handled spellings.Quoted app sessions) s.outs hub between new given a b c s.given next;
   count_is =
       put.0 ∙ ap (λ (n : ℕ). n + replies_in (given ∷ [])) s.count_is
       ∙ (let r = replies_in-append s.outs (given ∷ []) in omega (arith, r));
   out_text =
       ap (λ (t : List ℕ). t ++ p) s.out_text ∙ ap (λ (t : List ℕ). outs_text s.outs ++ t) (put.1 ∙ out_alone given)
-      ∙ sym (outs_text-append s.outs (given ∷ []));
+      ∙ sym (outs_on-append spellings.Quoted s.outs (given ∷ []));
   audit_text =
       ap (λ (t : List ℕ). t ++ bu) s.audit_text ∙ ap (λ (t : List ℕ). outs_audited (served + 1) s.outs ++ t) put.2
       ∙ audited_next served count s.outs given s.count_is;
@@ -111,7 +112,7 @@ so_far_more app sessions hub between new a b c served count more given o au p bu
 
 -- the next one was torn
 pub so_far_torn : (app : Application) (sessions : List Session) (hub between new : HubSeen) (a b c : KeeperSeen) (served count : ℕ) (given : HubOut) (o au p bu : List ℕ)
-    → Nexts IsTaken (handled app sessions) between between.turn (Some given) new b c
+    → Nexts IsTaken (handled spellings.Quoted app sessions) between between.turn (Some given) new b c
     → PutsSoFar app sessions hub between (span a b) served count o au → IsOutTorn (count + 1) given p bu
     → PutsSome app sessions hub (span a c) served (o ++ p) (au ++ bu)
 so_far_torn app sessions hub between new a b c served count given o au p bu next s torn = record {
@@ -120,7 +121,7 @@ so_far_torn app sessions hub between new a b c served count given o au p bu next
   left = new;
   out_torn = p;
   audit_torn = bu;
-  given = given-push IsTaken (handled app sessions) s.outs hub between new given a b c s.given next;
+  given = given-push IsTaken (handled spellings.Quoted app sessions) s.outs hub between new given a b c s.given next;
   torn = subst (λ (n : ℕ). IsOutTorn (n + 1) given p bu) s.count_is torn;
   out_text = ap (λ (t : List ℕ). t ++ p) s.out_text;
   audit_text = ap (λ (t : List ℕ). t ++ bu) s.audit_text;
@@ -128,11 +129,11 @@ so_far_torn app sessions hub between new a b c served count given o au p bu next
 
 -- nothing more is given
 pub so_far_all : (app : Application) (sessions : List Session) (hub between new : HubSeen) (a b c : KeeperSeen) (served count : ℕ) (o au : List ℕ)
-    → Nexts IsTaken (handled app sessions) between between.turn None new b c
+    → Nexts IsTaken (handled spellings.Quoted app sessions) between between.turn None new b c
     → PutsSoFar app sessions hub between (span a b) served count o au → PutsAll app sessions hub new (span a c) served count o au
 so_far_all app sessions hub between new a b c served count o au next s = record {
   outs = s.outs;
-  emptied = given-all IsTaken (handled app sessions) s.outs hub between new a b c s.given next;
+  emptied = given-all IsTaken (handled spellings.Quoted app sessions) s.outs hub between new a b c s.given next;
   count_is = s.count_is;
   out_text = s.out_text;
   audit_text = s.audit_text;

@@ -3,7 +3,7 @@ use Rattle.std.proofs.Common.{◌≡◌, ◌≤◌, ◌∙◌, ap, sym, subst, r
 use Rattle.jac_io.specs.Faults.{Rose}
 use Rattle.jac_io.specs.Put.{AddsPrefix}
 use Rattle.jac_io.specs.Seen.{SinkSeen, Lasts}
-use Rattle.jac_app.specs.Outside.{Span, span, Took, IsFront, Put, IsPut, PutBoth, Sinks, sinks, Went, AWriteFailed}
+use Rattle.jac_app.specs.Outside.{Span, span, Took, IsFront, Put, IsPut, PutBoth, Sinks, sinks, Went, WentTo, AWriteFailed}
 
 -- a put that failed left the front of its bytes
 pub torn_put : (tells : Bool) (before after bytes : List ℕ) → (IsTrue tells → AddsPrefix before after bytes)
@@ -32,10 +32,10 @@ Took-then a b c first second back one two = λ told.
 pub Rose-widen : (a b c d : ℕ) → a ≤ b → c ≤ d → Rose b c → Rose a d
 Rose-widen a b c d before after rose = omega (arith, before, after, rose)
 
-IsFront-append : (front bytes more : List ℕ) → IsFront front bytes → IsFront front (bytes ++ more)
+pub IsFront-append : (front bytes more : List ℕ) → IsFront front bytes → IsFront front (bytes ++ more)
 IsFront-append front bytes more h = (h.0 ++ more, ap (λ (b : List ℕ). b ++ more) h.1 ∙ append_assoc front h.0 more)
 
-append-IsFront : (done front bytes : List ℕ) → IsFront front bytes → IsFront (done ++ front) (done ++ bytes)
+pub append-IsFront : (done front bytes : List ℕ) → IsFront front bytes → IsFront (done ++ front) (done ++ bytes)
 append-IsFront done front bytes h = (h.0, ap (λ (b : List ℕ). done ++ b) h.1 ∙ sym (append_assoc done front h.0))
 
 Put-then : (E : Type 0) (first second one two : List ℕ) (result : Result (Unit {0}) E) → one ≡ first → Put second two result → Put (first ++ second) (one ++ two) result
@@ -165,3 +165,47 @@ Went-then out_a out_b out_c audit_a audit_b audit_c P Q R f one two = record {
   audit_took = Took-then audit_a audit_b audit_c one.audit two.audit two.audit_lasts.told one.audit_took two.audit_took;
   holds = f one.out one.audit two.out two.audit one.holds two.holds;
 }
+
+-- a step that puts nothing, before one that does
+pub Went-after : (out_a out_b out_c audit_a audit_b : SinkSeen) (P Q : List ℕ → List ℕ → Type 0) → Lasts out_a out_b → Took (span out_a out_b) [] → ((out audit : List ℕ) → P out audit → Q out audit)
+    → Went (sinks out_b out_c audit_a audit_b) P → Went (sinks out_a out_c audit_a audit_b) Q
+Went-after out_a out_b out_c audit_a audit_b P Q lasts took f went = record {
+  out = went.out;
+  audit = went.audit;
+  out_lasts = Lasts-then out_a out_b out_c lasts went.out_lasts;
+  audit_lasts = went.audit_lasts;
+  out_took = Took-then out_a out_b out_c [] went.out went.out_lasts.told took went.out_took;
+  audit_took = went.audit_took;
+  holds = f went.out went.audit went.holds;
+}
+
+-- nothing was put on either
+pub Went-quiet : (out_a out_b audit : SinkSeen) (P : List ℕ → List ℕ → Type 0) → Lasts out_a out_b → Took (span out_a out_b) [] → P [] [] → Went (sinks out_a out_b audit audit) P
+Went-quiet out_a out_b audit P lasts took h = record {
+  out = [];
+  audit = [];
+  out_lasts = lasts;
+  audit_lasts = Lasts-none audit;
+  out_took = took;
+  audit_took = Took-none audit;
+  holds = h;
+}
+
+-- the same of one sink
+pub WentTo-none : (sink : SinkSeen) (P : List ℕ → Type 0) → P [] → WentTo (span sink sink) P
+WentTo-none sink P h = record { put = []; lasts = Lasts-none sink; took = Took-none sink; holds = h }
+
+pub WentTo-on : (sink : Span SinkSeen) (P Q : List ℕ → Type 0) → ((put : List ℕ) → P put → Q put) → WentTo sink P → WentTo sink Q
+WentTo-on sink P Q f went = record { put = went.put; lasts = went.lasts; took = went.took; holds = f went.put went.holds }
+
+pub WentTo-then : (a b c : SinkSeen) (P Q R : List ℕ → Type 0) → ((o p : List ℕ) → P o → Q p → R (o ++ p)) → WentTo (span a b) P → WentTo (span b c) Q → WentTo (span a c) R
+WentTo-then a b c P Q R f one two = record {
+  put = one.put ++ two.put;
+  lasts = Lasts-then a b c one.lasts two.lasts;
+  took = Took-then a b c one.put two.put two.lasts.told one.took two.took;
+  holds = f one.put two.put one.holds two.holds;
+}
+
+-- of two sinks, what went to the second
+pub Went-second : (s : Sinks) (P : List ℕ → List ℕ → Type 0) (Q : List ℕ → Type 0) → ((out audit : List ℕ) → Took s.out out → P out audit → Q audit) → Went s P → WentTo s.audit Q
+Went-second s P Q f went = record { put = went.audit; lasts = went.audit_lasts; took = went.audit_took; holds = f went.out went.audit went.out_took went.holds }

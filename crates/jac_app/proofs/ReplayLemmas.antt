@@ -55,6 +55,7 @@ unread_ends seen command role part (endings.LineRefused n) reached within h = ab
 unread_ends seen command role part (endings.SessionsRefused line) reached within h = absurd h
 unread_ends seen command role part endings.WriteFault reached within h = absurd h
 unread_ends seen command role part endings.StoreFault reached within h = absurd h
+unread_ends seen command role part endings.DoorFault reached within h = absurd h
 unread_ends seen command role part (endings.OtherStore stored wanted) reached within h = absurd h
 
 -- what was read between two moments of a run was read in the run
@@ -110,6 +111,7 @@ unopened_ends seen command bytes ending read (inr memory) = subst (λ (e : Endin
 pub attach_ends : (db : Option (List ℕ)) (app : Application) (sessions : List Session) (k : Span KeeperSeen) (script : Script) (ending : Ending)
     → AttachesAs db app k (Err ending) → EndsAttaching db app sessions k script (Err ending) [] []
 attach_ends db app sessions k script endings.StoreFault h = h
+attach_ends db app sessions k script endings.DoorFault h = absurd h
 attach_ends db app sessions k script (endings.OtherStore stored wanted) h = h
 attach_ends db app sessions k script endings.Memory h = inl h
 attach_ends db app sessions k script (endings.ReadFault role) h = absurd h
@@ -190,6 +192,7 @@ serving_behind s command app sessions k script (Ok done) o a failed aimed h = (a
 serving_behind s command app sessions k script (Err endings.WriteFault) o a failed aimed h = (failed refl, inr (aimed, h))
 serving_behind s command app sessions k script (Err endings.Memory) o a failed aimed h = (aimed, h)
 serving_behind s command app sessions k script (Err endings.StoreFault) o a failed aimed h = (aimed, h)
+serving_behind s command app sessions k script (Err endings.DoorFault) o a failed aimed h = (aimed, h)
 serving_behind s command app sessions k script (Err (endings.OtherStore stored wanted)) o a failed aimed h = (aimed, h)
 serving_behind s command app sessions k script (Err (endings.ReadFault role)) o a failed aimed h = (aimed, h)
 serving_behind s command app sessions k script (Err (endings.TooLong role)) o a failed aimed h = (aimed, h)
@@ -253,5 +256,6 @@ text_on s t f text (Err (endings.OtherStore stored wanted)) put h = absurd h
 text_on s t f text (Err (endings.ReadFault role)) put h = absurd h
 text_on s t f text (Err (endings.TooLong role)) put h = absurd h
 text_on s t f text (Err (endings.AppRefused line)) put h = absurd h
+text_on s t f text (Err endings.DoorFault) put h = absurd h
 text_on s t f text (Err (endings.LineRefused lapse)) put h = absurd h
 text_on s t f text (Err (endings.SessionsRefused line)) put h = absurd h

@@ -1,10 +1,9 @@
 -- The files that commands name.
-use Rattle.std.specs.Prelude.{◌≤◌, ⊤, ℕ, Bool, true, false, is_none, if◌then◌else◌, Option, Some, None, List, [], codes}
+use Rattle.std.specs.Prelude.{◌≤◌, ⊤, ℕ, Option, Some, None, List, [], codes}
 use Rattle.jac_app.specs.declared.words.Command.{Command}
 use Rattle.jac_app.specs.declared.words.Command.TheVariants as commands
 use Rattle.jac_app.specs.declared.ending.Role.{Role}
 use Rattle.jac_app.specs.declared.ending.Role.TheVariants as roles
-use Rattle.jac_app.specs.Words.{command_of}
 
 -- a file that isn't named has the empty name
 abbrev pub name_or_empty : Option (List ℕ) → List ℕ
@@ -42,25 +41,10 @@ db_of (commands.Serve serving) = serving.db
 db_of (commands.Dump dumping) = dumping.db
 db_of command = None
 
--- the commands that are served: none that names a store
-abbrev pub is_known : Command → Bool
-is_known (commands.Check app) = true
-is_known (commands.Replay replay) = is_none replay.db
-is_known (commands.Demo n) = true
-is_known (commands.Dump dumping) = is_none dumping.db
-is_known command = false
-
 -- the number of a demo is one that words may give
 abbrev pub HasCount : Command → Type 0
 HasCount (commands.Demo n) = (1 ≤ n) × (n ≤ 2000)
 HasCount command = ⊤
-
-abbrev pub known_only : Option Command → Option Command
-known_only None = None
-known_only (Some command) = if is_known command then Some command else None
-
-abbrev pub known : List (List ℕ) → Option Command
-known words = known_only (command_of words)
 
 -- how many bytes each file may hold
 abbrev pub limit_of : Role → ℕ

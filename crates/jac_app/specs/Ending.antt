@@ -35,6 +35,7 @@ fault_line command (endings.LineRefused lapse) = lapse_line lapse
 fault_line command (endings.SessionsRefused line) = codes "sessions: line " ++ decimal line ++ codes "\n"
 fault_line command endings.WriteFault = codes "write fault\n"
 fault_line command endings.StoreFault = codes "store fault\n"
+fault_line command endings.DoorFault = codes "door fault\n"
 fault_line command (endings.OtherStore stored wanted) = codes "other schema: " ++ stored ++ codes " | " ++ wanted ++ codes "\n"
 fault_line command endings.Memory = codes "memory\n"
 
@@ -46,6 +47,7 @@ status_of (endings.LineRefused lapse) = statuses.LineRefused
 status_of (endings.SessionsRefused line) = statuses.LineRefused
 status_of endings.WriteFault = statuses.WriteFault
 status_of endings.StoreFault = statuses.StoreFault
+status_of endings.DoorFault = statuses.DoorFault
 status_of (endings.OtherStore stored wanted) = statuses.OtherStore
 status_of endings.Memory = statuses.Memory
 

@@ -99,6 +99,7 @@ IsUnread files name role (endings.LineRefused lapse) = ⊥
 IsUnread files name role (endings.SessionsRefused line) = ⊥
 IsUnread files name role endings.WriteFault = ⊥
 IsUnread files name role endings.StoreFault = ⊥
+IsUnread files name role endings.DoorFault = ⊥
 IsUnread files name role (endings.OtherStore stored wanted) = ⊥
 
 -- why bytes gave no application

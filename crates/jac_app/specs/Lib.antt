@@ -16,6 +16,11 @@ pub mod Ending
 pub mod Replay
 pub mod Check
 pub mod Dump
+pub mod Link
+pub mod LinkSteps
+pub mod Door
+pub mod DoorSteps
+pub mod Server
 pub mod Run
 pub mod Refusal
 pub mod Status

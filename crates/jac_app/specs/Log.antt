@@ -24,6 +24,8 @@ use Rattle.jac_hub.specs.Heard.{Connections, IsHeard, IsHeardInPart, IsBroughtBy
 use Rattle.jac_hub.specs.Served.{is_shut}
 use Rattle.jac_route.specs.declared.sessions.Session.{Session}
 use Rattle.jac_app.specs.Asked.{ask_in, request_in}
+use Rattle.jac_app.specs.declared.reply.Spelling.{Spelling}
+use Rattle.jac_app.specs.declared.reply.Spelling.TheVariants as spellings
 use Rattle.jac_app.specs.Keeping.{Grew}
 
 -- what was answered: a request, and whether it closes its connection; what is refused; or that memory ran out
@@ -140,6 +142,11 @@ reply_text method status location body =
 abbrev pub sent_text : ℕ → List ℕ → List ℕ
 sent_text c bytes = codes "sent " ++ decimal c ++ codes " " ++ quoted bytes ++ 10 ∷ []
 
+-- bytes on a connection, as the line of a text or as they are
+abbrev pub spelled : Spelling → ℕ → List ℕ → List ℕ
+spelled spellings.Quoted c bytes = sent_text c bytes
+spelled spellings.Raw c bytes = bytes
+
 -- the method of a request, whose body isn't sent where it is HEAD
 abbrev pub method_of : Subject → List ℕ
 method_of (whole ask closes) = ask.method
@@ -156,16 +163,27 @@ abbrev pub bytes_of : Subject → Answer → List ℕ
 bytes_of subject answer =
     reply_bytes answer.status answer.location answer.allow answer.body (is_some answer.shown) (bytes_eq (method_of subject) (codes "HEAD")) (closes_behind subject answer)
 
+-- the reply, which on a connection is spelled so
+abbrev pub reply_on : Spelling → Source → Subject → Answer → List ℕ
+reply_on spelling asked subject answer = reply_text (method_of subject) answer.status answer.location answer.body
+reply_on spelling (connection c) subject answer = spelled spelling c (bytes_of subject answer)
+
+abbrev pub entry_on : Spelling → Entry → List ℕ
+entry_on spelling entry = reply_on spelling entry.source entry.subject entry.answer
+
+abbrev pub replies_on : Spelling → List Entry → List ℕ
+replies_on spelling log = flat_map (entry_on spelling) log
+
+-- the reply in a text
 abbrev pub reply_to : Source → Subject → Answer → List ℕ
-reply_to asked subject answer = reply_text (method_of subject) answer.status answer.location answer.body
-reply_to (connection c) subject answer = sent_text c (bytes_of subject answer)
+reply_to source subject answer = reply_on spellings.Quoted source subject answer
 
 abbrev pub reply_line : Entry → List ℕ
-reply_line entry = reply_to entry.source entry.subject entry.answer
+reply_line entry = entry_on spellings.Quoted entry
 
 -- the lines of the replies, in order
 abbrev pub replies_text : List Entry → List ℕ
-replies_text log = flat_map reply_line log
+replies_text log = replies_on spellings.Quoted log
 
 abbrev pub closed_text : ℕ → List ℕ
 closed_text c = codes "closed " ++ decimal c ++ 10 ∷ []

@@ -53,6 +53,13 @@ pub record Went (s : Sinks) (Holds : List ℕ → List ℕ → Type 0) : Type 0 
   pub audit_took : Took s.audit audit
   pub holds : Holds out audit
 
+-- some bytes went to one sink, which isn't aimed anew, and of these it holds
+pub record WentTo (sink : Span SinkSeen) (Holds : List ℕ → Type 0) : Type 0 where
+  pub put : List ℕ
+  pub lasts : Lasts sink.before sink.after
+  pub took : Took sink put
+  pub holds : Holds put
+
 -- the audit's line was torn, or it was whole and the reply's was torn
 abbrev pub IsTorn : List ℕ → List ℕ → List ℕ → List ℕ → Type 0
 IsTorn reply line out audit = ((out ≡ []) × IsFront audit line) ⊎ (IsFront out reply × (audit ≡ line))

@@ -2,6 +2,7 @@
 use Rattle.std.specs.Prelude.{◌≡◌, ◌≤◌, ◌⊎◌, ⊤, ℕ, IsTrue, Result, Ok, Option, Some, None, List, [], ◌++◌, length, codes}
 use Rattle.jac_io.specs.Faults.{Rose}
 use Rattle.jac_io.specs.Seen.{FilesSeen}
+use Rattle.jac_io.specs.Linked.{LinkSeen, DoorSeen}
 use Rattle.jac_lang.specs.Syntax.{Application}
 use Rattle.jac_route.specs.declared.sessions.Session.{Session}
 use Rattle.jac_route.specs.Sessions.{sessions_in}
@@ -14,54 +15,64 @@ use Rattle.jac_app.specs.declared.serve.Lapse.{Lapse}
 use Rattle.jac_app.specs.declared.status.Status.{Status}
 use Rattle.jac_app.specs.declared.status.Status.TheVariants as statuses
 use Rattle.jac_app.specs.Application.{IsApplication}
-use Rattle.jac_app.specs.Outside.{AWriteFailed, WentAimed}
-use Rattle.jac_app.specs.Commands.{file_of, name_of, known}
+use Rattle.jac_app.specs.Outside.{Span, AWriteFailed, WentAimed}
+use Rattle.jac_app.specs.Words.{command_of}
+use Rattle.jac_app.specs.Commands.{file_of, name_of}
 use Rattle.jac_app.specs.Files.{Sight, sinks_of, IsRead, IsLong, HasApplication, HasBadLine, IsOpened, IsReached, IsIdle}
 use Rattle.jac_app.specs.Script.{script_of}
 use Rattle.jac_app.specs.declared.words.Dumping.{Dumping}
 use Rattle.jac_app.specs.declared.words.Replay.{Replay}
+use Rattle.jac_app.specs.declared.words.Serving.{Serving}
 use Rattle.jac_app.specs.Ending.{Closes, Finishes}
 use Rattle.jac_app.specs.Check.{EndsCheck}
 use Rattle.jac_app.specs.Demo.{EndsDemo}
 use Rattle.jac_app.specs.Dump.{EndsDump}
 use Rattle.jac_demo.specs.Calendar.{calendar_text}
 use Rattle.jac_app.specs.Replay.{schema_text, IsOther, EndsReplay}
+use Rattle.jac_app.specs.Server.{EndsServer}
 
 abbrev pub usage_line : List ℕ
 usage_line = codes "usage: jac check APP, replay APP EVENTS, serve APP PORT COUNT, demo N, dump APP LABELS; options --db FILE --sessions FILE --audit FILE\n"
 
--- what the steps of a command put, and why they ended
-abbrev pub Ends : Sight → Command → Result (Unit {0}) Ending → List ℕ → List ℕ → Type 0
-Ends seen (commands.Check app) result out audit = EndsCheck seen (commands.Check app) result out audit
-Ends seen (commands.Replay replay) result out audit = EndsReplay seen (commands.Replay replay) result out audit
-Ends seen (commands.Demo n) result out audit = EndsDemo (sinks_of seen) seen.keeper n result out audit
-Ends seen (commands.Dump dumping) result out audit = EndsDump seen (commands.Dump dumping) result out audit
-Ends seen command result out audit = ⊥
+-- the door wasn't called
+abbrev pub IsUncalled : {L : Type 0} → Span (DoorSeen L) → Type 0
+IsUncalled door = door.after ≡ door.before
+
+-- what the steps of a command put, and why they ended; those of `serve` alone call the door
+abbrev pub Ends : {L : Type 0} → (L → LinkSeen) → Sight → Span (DoorSeen L) → Command → Result (Unit {0}) Ending → List ℕ → List ℕ → Type 0
+Ends line seen door (commands.Check app) result out audit = EndsCheck seen (commands.Check app) result out audit × IsUncalled door
+Ends line seen door (commands.Replay replay) result out audit = EndsReplay seen (commands.Replay replay) result out audit × IsUncalled door
+Ends line seen door (commands.Serve serving) result out audit = EndsServer line seen door serving result out audit
+Ends line seen door (commands.Demo n) result out audit = EndsDemo (sinks_of seen) seen.keeper n result out audit × IsUncalled door
+Ends line seen door (commands.Dump dumping) result out audit = EndsDump seen (commands.Dump dumping) result out audit × IsUncalled door
 
 -- the words are a command whose steps were run
-pub record RunsCommand (seen : Sight) (words : List (List ℕ)) (status : Status) (out audit : List ℕ) : Type 0 where
+pub record RunsCommand {L : Type 0} (line : L → LinkSeen) (seen : Sight) (door : Span (DoorSeen L)) (words : List (List ℕ)) (status : Status) (out audit : List ℕ) : Type 0 where
   pub command : Command
   pub ended : Result (Unit {0}) Ending
   pub served : List ℕ
   pub last : List ℕ
-  pub is_command : known words ≡ Some command
-  pub ends : Ends seen command ended served audit
+  pub is_command : command_of words ≡ Some command
+  pub ends : Ends line seen door command ended served audit
   pub finishes : Finishes seen.out command ended last status
   pub out_text : out ≡ served ++ last
 
 -- the words are no command
-pub record RunsNothing (seen : Sight) (words : List (List ℕ)) (status : Status) (out audit : List ℕ) : Type 0 where
-  pub no_command : known words ≡ None
+pub record RunsNothing {L : Type 0} (seen : Sight) (door : Span (DoorSeen L)) (words : List (List ℕ)) (status : Status) (out audit : List ℕ) : Type 0 where
+  pub no_command : command_of words ≡ None
   pub closes : Closes seen.out usage_line statuses.Usage out status
   pub idle : IsIdle seen.audit seen.keeper [] audit
+  pub uncalled : IsUncalled door
 
 -- memory ran out as the words were read
-pub record RunsOut (seen : Sight) (status : Status) (out audit : List ℕ) : Type 0 where
+pub record RunsOut {L : Type 0} (seen : Sight) (door : Span (DoorSeen L)) (status : Status) (out audit : List ℕ) : Type 0 where
   pub closes : Closes seen.out (codes "memory\n") statuses.Memory out status
   pub idle : IsIdle seen.audit seen.keeper [] audit
+  pub uncalled : IsUncalled door
 
-abbrev pub Runs : Sight → List (List ℕ) → Status → List ℕ → List ℕ → Type 0
-Runs seen words status out audit = RunsCommand seen words status out audit ⊎ (RunsNothing seen words status out audit ⊎ RunsOut seen status out audit)
+abbrev pub Runs : {L : Type 0} → (L → LinkSeen) → Sight → Span (DoorSeen L) → List (List ℕ) → Status → List ℕ → List ℕ → Type 0
+Runs line seen door words status out audit =
+    RunsCommand line seen door words status out audit ⊎ (RunsNothing seen door words status out audit ⊎ RunsOut seen door status out audit)
 
 -- where a sessions file is named it is there, isn't too long, and each of its lines has a form
 abbrev pub CanHaveSessions : FilesSeen → Option (List ℕ) → Type 0
@@ -83,33 +94,40 @@ pub record CanReplay (seen : Sight) (words : List (List ℕ)) : Type 0 where
   pub replay : Replay
   pub app : Application
   pub events : List ℕ
-  pub is_command : known words ≡ Some (commands.Replay replay)
+  pub is_command : command_of words ≡ Some (commands.Replay replay)
   pub opens : CanOpen seen (commands.Replay replay) app
   pub sessions_file : CanHaveSessions seen.files.before replay.sessions
   pub events_file : seen.files.before.file replay.events ≡ Some events
   pub short : length events ≤ 16777216
   pub forms : (script_of events).refused ≡ None
 
+-- the same of serving a door, of which no call fails
+pub record CanServe {L : Type 0} (seen : Sight) (door : Span (DoorSeen L)) (words : List (List ℕ)) : Type 0 where
+  pub serving : Serving
+  pub app : Application
+  pub is_command : command_of words ≡ Some (commands.Serve serving)
+  pub opens : CanOpen seen (commands.Serve serving) app
+  pub sessions_file : CanHaveSessions seen.files.before serving.sessions
+  pub no_door_fault : Rose door.before.faults door.after.faults → ⊥
+
 -- the same of a check
 pub record CanCheck (seen : Sight) (words : List (List ℕ)) : Type 0 where
   pub name : List ℕ
   pub app : Application
-  pub is_command : known words ≡ Some (commands.Check name)
+  pub is_command : command_of words ≡ Some (commands.Check name)
   pub opens : CanOpen seen (commands.Check name) app
 
 -- the same of a dump
 pub record CanDump (seen : Sight) (words : List (List ℕ)) : Type 0 where
   pub dumping : Dumping
   pub app : Application
-  pub is_command : known words ≡ Some (commands.Dump dumping)
+  pub is_command : command_of words ≡ Some (commands.Dump dumping)
   pub opens : CanOpen seen (commands.Dump dumping) app
 
--- no put of a demo fails, and the calendar spells an application
+-- no put of a demo fails
 pub record CanDemo (seen : Sight) (words : List (List ℕ)) : Type 0 where
   pub count : ℕ
-  pub app : Application
-  pub is_command : known words ≡ Some (commands.Demo count)
-  pub calendar : IsApplication calendar_text app
+  pub is_command : command_of words ≡ Some (commands.Demo count)
   pub no_write_fault : AWriteFailed (sinks_of seen) → ⊥
 
 -- the bytes that a command reads its application in: those of its file, or the calendar's
@@ -123,25 +141,26 @@ Sources seen (commands.Demo n) app = IsApplication calendar_text app
 Sources seen command app = HasApplication seen command app
 
 -- each status comes for its cause alone
-abbrev pub ComesFor : Sight → List (List ℕ) → Status → Type 0
-ComesFor seen words statuses.Done = (command : Command) × (known words ≡ Some command)
-ComesFor seen words statuses.Usage = known words ≡ None
-ComesFor seen words statuses.AppRefused =
-    (command : Command) × (known words ≡ Some command)
+abbrev pub ComesFor : {L : Type 0} → Sight → Span (DoorSeen L) → List (List ℕ) → Status → Type 0
+ComesFor seen door words statuses.Done = (command : Command) × (command_of words ≡ Some command)
+ComesFor seen door words statuses.Usage = command_of words ≡ None
+ComesFor seen door words statuses.AppRefused =
+    (command : Command) × (command_of words ≡ Some command)
     × ((bytes : List ℕ) × IsSource seen command bytes × ((app : Application) → IsApplication bytes app → ⊥))
-ComesFor seen words statuses.LineRefused =
-    (command : Command) × (known words ≡ Some command)
+ComesFor seen door words statuses.LineRefused =
+    (command : Command) × (command_of words ≡ Some command)
     × (((app : Application) × (sessions : List Session) × (events : List ℕ) × IsOpened seen command app sessions events × ((lapse : Lapse) × ((script_of events).refused ≡ Some lapse)))
     ⊎ (((app : Application) × HasApplication seen command app) × ((line : ℕ) × HasBadLine seen.files (file_of command roles.Sessions) line)))
-ComesFor seen words statuses.ReadFault = Rose seen.files.before.faults seen.files.after.faults
-ComesFor seen words statuses.WriteFault = AWriteFailed (sinks_of seen)
-ComesFor seen words statuses.StoreFault = Rose seen.keeper.before.faults seen.keeper.after.faults
-ComesFor seen words statuses.OtherStore =
-    (command : Command) × (known words ≡ Some command)
+ComesFor seen door words statuses.ReadFault = Rose seen.files.before.faults seen.files.after.faults
+ComesFor seen door words statuses.WriteFault = AWriteFailed (sinks_of seen)
+ComesFor seen door words statuses.StoreFault = Rose seen.keeper.before.faults seen.keeper.after.faults
+ComesFor seen door words statuses.DoorFault = Rose door.before.faults door.after.faults
+ComesFor seen door words statuses.OtherStore =
+    (command : Command) × (command_of words ≡ Some command)
     × ((app : Application) × Sources seen command app × ((stored : List ℕ) × IsOther seen.keeper stored (schema_text app)))
-ComesFor seen words statuses.Memory = ⊤
-ComesFor seen words statuses.TooLong =
-    (command : Command) × (known words ≡ Some command) × ((role : Role) × IsReached seen command role × IsLong seen command role)
+ComesFor seen door words statuses.Memory = ⊤
+ComesFor seen door words statuses.TooLong =
+    (command : Command) × (command_of words ≡ Some command) × ((role : Role) × IsReached seen command role × IsLong seen command role)
 
 -- all was served, or memory ran out, or the store failed or has another schema
 abbrev pub IsCompleted : Status → Type 0
@@ -150,10 +169,11 @@ IsCompleted status = (status ≡ statuses.Done) ⊎ (status ≡ statuses.Memory)
 -- a run: what was put on both sinks is what the command's steps put, by the status, and what the keeper keeps
 -- at the end shows under every assignment the world that the ordinary interpreter leaves; the status has its
 -- cause; and where nothing is missing and nothing fails, all is done, unless memory runs out
-pub record IsRun (seen : Sight) (words : List (List ℕ)) (status : Status) : Type 0 where
-  pub ran : WentAimed (sinks_of seen) (Runs seen words status)
-  pub cause : ComesFor seen words status
+pub record IsRun {L : Type 0} (line : L → LinkSeen) (seen : Sight) (door : Span (DoorSeen L)) (words : List (List ℕ)) (status : Status) : Type 0 where
+  pub ran : WentAimed (sinks_of seen) (Runs line seen door words status)
+  pub cause : ComesFor seen door words status
   pub replays : CanReplay seen words → IsCompleted status
+  pub serves : CanServe seen door words → IsCompleted status
   pub dumps : CanDump seen words → IsCompleted status
   pub demos : CanDemo seen words → IsCompleted status
   pub checks : CanCheck seen words → (status ≡ statuses.Done) ⊎ (status ≡ statuses.Memory)

@@ -32,23 +32,29 @@ use Rattle.jac_hub.specs.Served.{AreLike, IsEmptied, IsGiven, IsLost}
 use Rattle.jac_route.specs.declared.sessions.Session.{Session}
 use Rattle.jac_app.specs.declared.answer.Via.{Via}
 use Rattle.jac_app.specs.declared.answer.Via.TheVariants as ways
+use Rattle.jac_app.specs.declared.reply.Spelling.{Spelling}
+use Rattle.jac_app.specs.declared.reply.Spelling.TheVariants as spellings
 use Rattle.jac_app.specs.declared.serve.Lapse.{Lapse}
 use Rattle.jac_app.specs.declared.serve.Lapse.TheVariants as lapses
 use Rattle.jac_app.specs.declared.serve.Stopped.{Stopped}
 use Rattle.jac_app.specs.declared.serve.Stopped.TheVariants as stops
 use Rattle.jac_app.specs.Asked.{request_in}
 use Rattle.jac_app.specs.Keeping.{IsStill, Grew}
-use Rattle.jac_app.specs.Log.{Subject, Entry, hearing, is_failure, Brings, IsAnswer, IsFormed, AreFormed, AreAnswered, Serves, IsCaused, left_of, after_log, faults_in, is_fault, reply_to, reply_line, sent_text, closed_text, closing_text, event_text, replies_text, viewer_of, audit_rest, audit_text, audit_line, audited, audited_from}
+use Rattle.jac_app.specs.Log.{Subject, Entry, hearing, is_failure, Brings, IsAnswer, IsFormed, AreFormed, AreAnswered, Serves, IsCaused, left_of, after_log, faults_in, is_fault, reply_on, reply_to, reply_line, spelled, closed_text, closing_text, event_text, replies_text, viewer_of, audit_rest, audit_text, audit_line, audited, audited_from}
 use Rattle.jac_app.specs.Outside.{Span, PutBoth, IsTorn, IsFront}
 use Rattle.jac_app.specs.Script.{Script, script_of, lapse_of}
 
 abbrev pub source_of : Via → Source
 source_of ways.Line = asked
-source_of (ways.Connection conn close) = connection conn
+source_of (ways.Connection conn close spelling) = connection conn
 
 abbrev pub close_of : Via → Bool
 close_of ways.Line = false
-close_of (ways.Connection conn close) = close
+close_of (ways.Connection conn close spelling) = close
+
+abbrev pub spelling_of : Via → Spelling
+spelling_of ways.Line = spellings.Quoted
+spelling_of (ways.Connection conn close spelling) = spelling
 
 -- a request was answered, and its answer stored; these are the line of its reply and what follows the number of its
 -- audit line
@@ -59,7 +65,7 @@ pub record IsAnswerMade (app : Application) (k : Span KeeperSeen) (via : Via) (a
   pub worlds : IsTrue k.after.tells → (w : ℕ → Bool) → project_at w k.after.state ≡ left w app ask answer (project_at w k.before.state)
   pub goes_on : IsTrue k.after.tells → IsStart app k.after.state
   pub good : IsTrue k.after.tells → IsGood (kinds_of app) k.before.state → IsGood (kinds_of app) k.after.state
-  pub reply_made : reply ≡ reply_to (source_of via) (whole ask (close_of via)) answer
+  pub reply_made : reply ≡ reply_on (spelling_of via) (source_of via) (whole ask (close_of via)) answer
   pub audit_made : audit ≡ audit_rest answer.status ask.viewer answer.shown
 
 -- the subject has this answer, and what that leaves
@@ -92,38 +98,53 @@ abbrev pub subject_of : Application → List Session → Heard → Subject
 subject_of app sessions (Whole request) = whole (request_in app sessions request) request.close
 subject_of app sessions (Refused status) = refused status
 
--- the line that is put for what was sent on a connection
+-- what is put for what was sent on a connection
+abbrev pub sent_on : Spelling → ℕ → Sent → List ℕ
+sent_on spelling c (Made line audit close) = line
+sent_on spelling c (Still status head viewer) = spelled spelling c (reply_bytes (status_of_fixed status) None None [] false head true)
+
+-- the line for it in a text
 abbrev pub sent_line : ℕ → Sent → List ℕ
-sent_line c (Made line audit close) = line
-sent_line c (Still status head viewer) = sent_text c (reply_bytes (status_of_fixed status) None None [] false head true)
+sent_line c sent = sent_on spellings.Quoted c sent
 
 -- the audit's line for it, of the k-th reply
 abbrev pub sent_audit : ℕ → Sent → List ℕ
 sent_audit k (Made line audit close) = decimal k ++ audit
 sent_audit k (Still status head viewer) = audit_text k (status_of_fixed status) viewer None
 
--- what was heard of a connection has this answer, and what was sent is its line
-pub record IsHandled (app : Application) (sessions : List Session) (before : KeeperSeen) (c : ℕ) (heard : Heard) (sent : Sent) (after : KeeperSeen) (answer : Answer) : Type 0 where
-  pub line : sent_line c sent ≡ reply_to (connection c) (subject_of app sessions heard) answer
+-- what was heard of a connection has this answer, and what was sent is its reply
+pub record IsHandled (spelling : Spelling) (app : Application) (sessions : List Session) (before : KeeperSeen) (c : ℕ) (heard : Heard) (sent : Sent) (after : KeeperSeen) (answer : Answer) : Type 0 where
+  pub line : sent_on spelling c sent ≡ reply_on spelling (connection c) (subject_of app sessions heard) answer
   pub audit : (k : ℕ) → sent_audit k sent ≡ audit_text k answer.status (viewer_of (subject_of app sessions heard)) answer.shown
   pub closing : sent_closes sent ≡ is_failure answer
   pub entry : IsEntryOf app (record { before = before; after = after }) (subject_of app sessions heard) answer
 
 -- what is sent for what is refused with this status, unless memory runs out
-abbrev pub IsRefusalSent : ℕ → ℕ → Sent → Type 0
-IsRefusalSent c status sent =
-    (sent ≡ Made (sent_text c (reply_bytes status None None [] false false true)) (audit_rest status None None) false) ⊎ (sent ≡ fixed_500)
+abbrev pub IsRefusalSent : Spelling → ℕ → ℕ → Sent → Type 0
+IsRefusalSent spelling c status sent =
+    (sent ≡ Made (spelled spelling c (reply_bytes status None None [] false false true)) (audit_rest status None None) false) ⊎ (sent ≡ fixed_500)
 
-abbrev pub handled : Application → List Session → KeeperSeen → ℕ → Heard → Sent → KeeperSeen → Type 0
-handled app sessions before c heard sent after = (answer : Answer) × IsHandled app sessions before c heard sent after answer
+abbrev pub handled : Spelling → Application → List Session → KeeperSeen → ℕ → Heard → Sent → KeeperSeen → Type 0
+handled spelling app sessions before c heard sent after = (answer : Answer) × IsHandled spelling app sessions before c heard sent after answer
+
+-- that a connection was closed is told in a text alone
+abbrev pub closed_on : Spelling → ℕ → List ℕ
+closed_on spellings.Quoted c = closed_text c
+closed_on spellings.Raw c = []
 
 -- what is put for what a hub gives
+abbrev pub out_on : Spelling → HubOut → List ℕ
+out_on spelling (Reply c sent) = sent_on spelling c sent
+out_on spelling (Closed c) = closed_on spelling c
+
+abbrev pub outs_on : Spelling → List HubOut → List ℕ
+outs_on spelling outs = flat_map (out_on spelling) outs
+
 abbrev pub out_text : HubOut → List ℕ
-out_text (Reply c sent) = sent_line c sent
-out_text (Closed c) = closed_text c
+out_text given = out_on spellings.Quoted given
 
 abbrev pub outs_text : List HubOut → List ℕ
-outs_text outs = flat_map out_text outs
+outs_text outs = outs_on spellings.Quoted outs
 
 -- so many replies are among them
 abbrev pub replies_in : List HubOut → ℕ
@@ -151,7 +172,7 @@ PutsOut served given (Err failed) out audit = IsOutTorn (served + 1) given out a
 -- what a hub gave so far was put
 pub record PutsSoFar (app : Application) (sessions : List Session) (hub now : HubSeen) (k : Span KeeperSeen) (served count : ℕ) (out audit : List ℕ) : Type 0 where
   pub outs : List HubOut
-  pub given : IsGiven IsTaken (handled app sessions) hub outs now k.before k.after
+  pub given : IsGiven IsTaken (handled spellings.Quoted app sessions) hub outs now k.before k.after
   pub count_is : count ≡ served + replies_in outs
   pub out_text : out ≡ outs_text outs
   pub audit_text : audit ≡ outs_audited (served + 1) outs
@@ -163,7 +184,7 @@ pub record PutsSome (app : Application) (sessions : List Session) (hub : HubSeen
   pub left : HubSeen
   pub out_torn : List ℕ
   pub audit_torn : List ℕ
-  pub given : IsGiven IsTaken (handled app sessions) hub (outs ++ last ∷ []) left k.before k.after
+  pub given : IsGiven IsTaken (handled spellings.Quoted app sessions) hub (outs ++ last ∷ []) left k.before k.after
   pub torn : IsOutTorn (served + replies_in outs + 1) last out_torn audit_torn
   pub out_text : out ≡ outs_text outs ++ out_torn
   pub audit_text : audit ≡ outs_audited (served + 1) outs ++ audit_torn
@@ -171,7 +192,7 @@ pub record PutsSome (app : Application) (sessions : List Session) (hub : HubSeen
 -- all that a hub gave was put
 pub record PutsAll (app : Application) (sessions : List Session) (hub new : HubSeen) (k : Span KeeperSeen) (served count : ℕ) (out audit : List ℕ) : Type 0 where
   pub outs : List HubOut
-  pub emptied : IsEmptied IsTaken (handled app sessions) hub outs new k.before k.after
+  pub emptied : IsEmptied IsTaken (handled spellings.Quoted app sessions) hub outs new k.before k.after
   pub count_is : count ≡ served + replies_in outs
   pub out_text : out ≡ outs_text outs
   pub audit_text : audit ≡ outs_audited (served + 1) outs

@@ -1,7 +1,7 @@
--- The numbers of the statuses. 8 is of a command that is to come.
+-- The numbers of the statuses.
 use Rattle.std.specs.Prelude.{ℕ}
 use Rattle.jac_app.specs.declared.status.Status.{Status}
-use Rattle.jac_app.specs.declared.status.Status.TheVariants.{Done, Usage, AppRefused, LineRefused, ReadFault, WriteFault, StoreFault, Memory, OtherStore, TooLong}
+use Rattle.jac_app.specs.declared.status.Status.TheVariants.{Done, Usage, AppRefused, LineRefused, ReadFault, WriteFault, StoreFault, Memory, DoorFault, OtherStore, TooLong}
 
 abbrev pub number_of : Status → ℕ
 number_of Done = 0
@@ -12,5 +12,6 @@ number_of ReadFault = 4
 number_of WriteFault = 5
 number_of StoreFault = 6
 number_of Memory = 7
+number_of DoorFault = 8
 number_of OtherStore = 9
 number_of TooLong = 10

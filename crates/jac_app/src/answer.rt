@@ -4,15 +4,15 @@ ghost use Rattle.jac_keep.specs.Cause.{HasCause};
 ghost use Rattle.jac_engine.specs.Start.{IsStart};
 ghost use Rattle.jac_http.specs.Replies.{phrase_of};
 ghost use Rattle.jac_hub.specs.Hearing.{whole};
-ghost use Rattle.jac_app.specs.Log.{reply_to, audit_rest, is_failure};
+ghost use Rattle.jac_app.specs.Log.{reply_on, audit_rest, is_failure};
 ghost use Rattle.jac_app.specs.Outside.{span};
-ghost use Rattle.jac_app.specs.Serve.{source_of, close_of, IsAnswerMade};
+ghost use Rattle.jac_app.specs.Serve.{source_of, close_of, spelling_of, IsAnswerMade};
 
-use crate::reply::{audit_rest, is_head, reply_line, sent_line};
+use crate::reply::{Spelling, audit_rest, is_head, reply_line, sent_reply, text_bytes};
 use crate::service::Service;
 use jac_engine::{Answer, Ask, commit, prepare};
 use jac_keep::{Keeper, Stop};
-use jac_value::{Memory, Txt};
+use jac_value::{Bytes, Memory, Txt};
 use jac_world::Steps;
 use std::alloc::Global;
 use std::sync::ledger::Ledger;
@@ -26,25 +26,34 @@ pub enum Via {
         conn: u32,
         /// The connection ends behind the reply.
         close: bool,
+        spelling: Spelling,
     },
 }
 
-/// The line of the reply to a request, and what follows the number in its audit line.
+/// The reply to a request, and what follows the number in its audit line.
 #[derive(Drop)]
 pub struct Lines {
-    pub reply: Txt,
+    pub reply: Bytes,
     pub audit: Txt,
 }
 
-fn reply_via(alloc: Global, via: Via, ask: &Ask, answer: &Answer) -> Result<Txt, Memory>
+fn reply_via(alloc: Global, via: Via, ask: &Ask, answer: &Answer) -> Result<Bytes, Memory>
     requires status { IsSome (phrase_of answer.now.status) }
     requires answered { is_failure answer.now ≡ false }
-    ensures { IfOk result (λ line. line ≡ reply_to (source_of via) (whole ask.now (close_of via)) answer.now) }
+    ensures { IfOk result (λ reply. reply ≡ reply_on (spelling_of via) (source_of via) (whole ask.now (close_of via)) answer.now) }
 {
     match via {
-        Via::Line => reply_line(alloc, ask.method.as_bytes(), answer),
-        Via::Connection { conn, close } => sent_line(
+        Via::Line => {
+            let line = reply_line(alloc, ask.method.as_bytes(), answer)?;
+            Ok(text_bytes(line))
+        }
+        Via::Connection {
+            conn,
+            close,
+            spelling,
+        } => sent_reply(
             alloc,
+            spelling,
             conn,
             answer,
             is_head(ask.method.as_bytes()),
@@ -56,7 +65,7 @@ fn reply_via(alloc: Global, via: Via, ask: &Ask, answer: &Answer) -> Result<Txt,
 fn make_lines(alloc: Global, via: Via, ask: &Ask, answer: &Answer) -> Result<Lines, Memory>
     requires status { IsSome (phrase_of answer.now.status) }
     requires answered { is_failure answer.now ≡ false }
-    ensures reply { IfOk result (λ lines. lines.reply ≡ reply_to (source_of via) (whole ask.now (close_of via)) answer.now) }
+    ensures reply { IfOk result (λ lines. lines.reply ≡ reply_on (spelling_of via) (source_of via) (whole ask.now (close_of via)) answer.now) }
     ensures audit { IfOk result (λ lines. lines.audit ≡ audit_rest answer.now.status ask.now.viewer answer.now.shown) }
 {
     let reply = reply_via(alloc, via, ask, answer)?;
@@ -85,7 +94,7 @@ pub fn answer_ask<K: Keeper, L: Ledger, M: Ledger>(
 {
     let prepared = prepare(
         alloc,
-        service.app(),
+        service.checked(),
         service.routes(),
         keeper,
         ask,

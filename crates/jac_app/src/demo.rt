@@ -85,7 +85,7 @@ fn answer_counted<K: Keeper, L: Ledger, M: Ledger>(
 {
     let prepared = prepare(
         alloc,
-        service.app(),
+        service.checked(),
         service.routes(),
         keeper,
         ask,

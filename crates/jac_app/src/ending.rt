@@ -33,6 +33,8 @@ pub enum Ending {
     WriteFault,
     /// The store failed as it was attached or read.
     StoreFault,
+    /// The door failed.
+    DoorFault,
     /// Another schema is stored than the application's.
     OtherStore { stored: Txt, wanted: Txt },
     Memory,
@@ -136,6 +138,7 @@ pub fn put_fault<O: Sink>(out: &mut O, command: &Command, ending: &Ending) -> Re
         Ending::SessionsRefused(line) => put_bad_line(out, *line),
         Ending::WriteFault => put(out, b"write fault\n"),
         Ending::StoreFault => put(out, b"store fault\n"),
+        Ending::DoorFault => put(out, b"door fault\n"),
         Ending::OtherStore { stored, wanted } => put_five(
             out,
             b"other schema: ",
@@ -202,6 +205,7 @@ pub fn status_of(ending: &Ending) -> Status
         Ending::LineRefused(_) | Ending::SessionsRefused(_) => Status::LineRefused,
         Ending::WriteFault => Status::WriteFault,
         Ending::StoreFault => Status::StoreFault,
+        Ending::DoorFault => Status::DoorFault,
         Ending::OtherStore { .. } => Status::OtherStore,
         Ending::Memory => Status::Memory,
     }

@@ -10,20 +10,20 @@ ghost use Rattle.jac_hub.specs.declared.hub.Turn.TheVariants.{Idle};
 ghost use Rattle.jac_hub.specs.Hub.{seen, Nexts, left};
 ghost use Rattle.jac_hub.specs.Refusals.{is_refusal};
 ghost use Rattle.jac_app.specs.Asked.{request_in};
-ghost use Rattle.jac_app.specs.Log.{sent_text, audit_rest};
+ghost use Rattle.jac_app.specs.Log.{spelled, audit_rest};
 ghost use Rattle.jac_app.specs.Outside.{span};
 ghost use Rattle.jac_app.specs.Serve.{IsAnswerMade, IsRefusalSent, handled};
 
 use crate::answer::{Lines, Via, answer_ask};
 use crate::asks::{request_in, request_viewer};
-use crate::reply::{audit_rest, is_head, refusal_line};
+use crate::reply::{Spelling, audit_rest, is_head, refusal_reply, text_bytes};
 use crate::service::Service;
 use crate::still::fixed_of;
 use jac_http::{Fixed, Request};
 use jac_hub::{Handler, Heard, Hub, HubOut, Sent};
 use jac_keep::{Keeper, Stop};
 use jac_route::Sessions;
-use jac_value::{Bytes, Memory, Txt};
+use jac_value::Memory;
 use jac_world::Steps;
 use std::alloc::Global;
 use std::sync::ledger::Ledger;
@@ -34,6 +34,7 @@ pub struct Answerer<'k, 's, 'e, 'a, 'b, K: Keeper, L: Ledger, M: Ledger> {
     pub splits: &'s mut Steps<L>,
     pub evaluations: &'e mut Steps<M>,
     pub alloc: Global,
+    pub spelling: Spelling,
     pub service: &'a Service,
     pub sessions: &'b Sessions,
 }
@@ -47,6 +48,7 @@ impl<K: Keeper, L: Ledger, M: Ledger> Drop for Answerer<'_, '_, '_, '_, '_, K, L
             splits: _,
             evaluations: _,
             alloc: _,
+            spelling: _,
             service: _,
             sessions: _,
         } = self;
@@ -63,12 +65,13 @@ impl<K: Keeper, L: Ledger, M: Ledger> Handler for Answerer<'_, '_, '_, '_, '_, K
 
     ghost handles = { λ before conn heard sent after. (after.keeper.ghost_name ≡ before.keeper.ghost_name)
         × ((K.seen after.keeper.now).store ≡ (K.seen before.keeper.now).store)
-        × handled (application_of before.service.now) before.sessions.now (K.seen before.keeper.now) conn heard sent (K.seen after.keeper.now) };
+        × handled before.spelling (application_of before.service.now) before.sessions.now (K.seen before.keeper.now) conn heard sent (K.seen after.keeper.now) };
 
     fn handle(&mut self, conn: u32, heard: &Heard) -> Sent {
         match heard {
             Heard::Whole(request) => answer_request(
                 self.alloc,
+                self.spelling,
                 self.service,
                 self.sessions,
                 self.keeper,
@@ -77,7 +80,7 @@ impl<K: Keeper, L: Ledger, M: Ledger> Handler for Answerer<'_, '_, '_, '_, '_, K
                 self.splits,
                 self.evaluations,
             ),
-            Heard::Refused(status) => answer_refused(self.alloc, conn, *status),
+            Heard::Refused(status) => answer_refused(self.alloc, self.spelling, conn, *status),
         }
     }
 }
@@ -85,6 +88,7 @@ impl<K: Keeper, L: Ledger, M: Ledger> Handler for Answerer<'_, '_, '_, '_, '_, K
 /// The next thing that a hub gives.
 pub fn next_out<K: Keeper, L: Ledger, M: Ledger>(
     alloc: Global,
+    spelling: Spelling,
     service: &Service,
     sessions: &Sessions,
     hub: &mut Hub,
@@ -94,7 +98,7 @@ pub fn next_out<K: Keeper, L: Ledger, M: Ledger>(
 ) -> Option<HubOut>
     requires attached { IsTrue (K.seen keeper.old).store.attached }
     requires start { IsTrue (K.seen keeper.old).tells → IsStart (application_of service.now) (K.seen keeper.old).state }
-    ensures next { Nexts IsTaken (handled (application_of service.now) sessions.now) (seen hub.old) (seen hub.old).turn result (seen hub.new) (K.seen keeper.old) (K.seen keeper.new) }
+    ensures next { Nexts IsTaken (handled spelling (application_of service.now) sessions.now) (seen hub.old) (seen hub.old).turn result (seen hub.new) (K.seen keeper.old) (K.seen keeper.new) }
     ensures idle { result ≡ None → (seen hub.new).turn ≡ Idle }
     ensures nearer { IfSome result (λ out. left (seen hub.new) < left (seen hub.old)) }
     ensures start { IsTrue (K.seen keeper.new).tells → IsStart (application_of service.now) (K.seen keeper.new).state }
@@ -105,6 +109,7 @@ pub fn next_out<K: Keeper, L: Ledger, M: Ledger>(
         splits,
         evaluations,
         alloc,
+        spelling,
         service,
         sessions,
     };
@@ -119,7 +124,7 @@ fn ask_hub<K: Keeper, L: Ledger, M: Ledger>(
     requires attached { IsTrue (K.seen answerer.old.keeper.now).store.attached }
     requires start { IsTrue (K.seen answerer.old.keeper.now).tells → IsStart (application_of answerer.old.service.now) (K.seen answerer.old.keeper.now).state }
     ensures same_reference { answerer.new.keeper.ghost_name ≡ answerer.old.keeper.ghost_name }
-    ensures next { Nexts IsTaken (handled (application_of answerer.old.service.now) answerer.old.sessions.now) (seen hub.old) (seen hub.old).turn result (seen hub.new) (K.seen answerer.old.keeper.now) (K.seen answerer.new.keeper.now) }
+    ensures next { Nexts IsTaken (handled answerer.old.spelling (application_of answerer.old.service.now) answerer.old.sessions.now) (seen hub.old) (seen hub.old).turn result (seen hub.new) (K.seen answerer.old.keeper.now) (K.seen answerer.new.keeper.now) }
     ensures idle { result ≡ None → (seen hub.new).turn ≡ Idle }
     ensures nearer { IfSome result (λ out. left (seen hub.new) < left (seen hub.old)) }
     ensures start { IsTrue (K.seen answerer.new.keeper.now).tells → IsStart (application_of answerer.old.service.now) (K.seen answerer.new.keeper.now).state }
@@ -130,6 +135,7 @@ fn ask_hub<K: Keeper, L: Ledger, M: Ledger>(
 
 fn request_lines<K: Keeper, L: Ledger, M: Ledger>(
     alloc: Global,
+    spelling: Spelling,
     service: &Service,
     sessions: &Sessions,
     keeper: &mut K,
@@ -140,7 +146,7 @@ fn request_lines<K: Keeper, L: Ledger, M: Ledger>(
 ) -> Result<Lines, Stop>
     requires attached { IsTrue (K.seen keeper.old).store.attached }
     requires start { IsTrue (K.seen keeper.old).tells → IsStart (application_of service.now) (K.seen keeper.old).state }
-    ensures made { IfOk result (λ lines. IsAnswerMade (application_of service.now) (span (K.seen keeper.old) (K.seen keeper.new)) (Via.Connection conn request.now.close)
+    ensures made { IfOk result (λ lines. IsAnswerMade (application_of service.now) (span (K.seen keeper.old) (K.seen keeper.new)) (Via.Connection conn request.now.close spelling)
         (request_in (application_of service.now) sessions.now request.now) lines.reply lines.audit) }
     ensures refused { IsTrue (K.seen keeper.new).tells → OnErr result ((K.seen keeper.new).state ≡ (K.seen keeper.old).state) }
     ensures told { IsTrue (K.seen keeper.new).tells → IsTrue (K.seen keeper.old).tells }
@@ -151,6 +157,7 @@ fn request_lines<K: Keeper, L: Ledger, M: Ledger>(
     let via = Via::Connection {
         conn,
         close: request.close,
+        spelling,
     };
     let lines = answer_ask(alloc, service, keeper, via, &ask, splits, evaluations)?;
     Ok(lines)
@@ -158,6 +165,7 @@ fn request_lines<K: Keeper, L: Ledger, M: Ledger>(
 
 fn answer_request<K: Keeper, L: Ledger, M: Ledger>(
     alloc: Global,
+    spelling: Spelling,
     service: &Service,
     sessions: &Sessions,
     keeper: &mut K,
@@ -168,11 +176,12 @@ fn answer_request<K: Keeper, L: Ledger, M: Ledger>(
 ) -> Sent
     requires attached { IsTrue (K.seen keeper.old).store.attached }
     requires start { IsTrue (K.seen keeper.old).tells → IsStart (application_of service.now) (K.seen keeper.old).state }
-    ensures handled { handled (application_of service.now) sessions.now (K.seen keeper.old) conn (whole_heard request.now) result (K.seen keeper.new) }
+    ensures handled { handled spelling (application_of service.now) sessions.now (K.seen keeper.old) conn (whole_heard request.now) result (K.seen keeper.new) }
     ensures attached { (K.seen keeper.new).store ≡ (K.seen keeper.old).store }
 {
     match request_lines(
         alloc,
+        spelling,
         service,
         sessions,
         keeper,
@@ -194,24 +203,18 @@ fn made(lines: Lines) -> Sent
     ensures { result ≡ made_sent lines.reply lines.audit false }
 {
     Sent::Made {
-        line: text_bytes(lines.reply),
+        line: lines.reply,
         audit: text_bytes(lines.audit),
         close: false,
     }
 }
 
-fn text_bytes(text: Txt) -> Bytes
-    ensures { result ≡ text }
-{
-    Bytes::from_vec(text.into_string().into_bytes())
-}
-
 // What is sent for what is refused.
-fn answer_refused(alloc: Global, conn: u32, status: u16) -> Sent
+fn answer_refused(alloc: Global, spelling: Spelling, conn: u32, status: u16) -> Sent
     requires refusal { is_refusal status ≡ true }
-    ensures { IsRefusalSent conn status result }
+    ensures { IsRefusalSent spelling conn status result }
 {
-    match refused_lines(alloc, conn, status) {
+    match refused_lines(alloc, spelling, conn, status) {
         Ok(lines) => made(lines),
         Err(Memory) => Sent::Still {
             status: Fixed::Memory500,
@@ -221,12 +224,12 @@ fn answer_refused(alloc: Global, conn: u32, status: u16) -> Sent
     }
 }
 
-fn refused_lines(alloc: Global, conn: u32, status: u16) -> Result<Lines, Memory>
+fn refused_lines(alloc: Global, spelling: Spelling, conn: u32, status: u16) -> Result<Lines, Memory>
     requires refusal { is_refusal status ≡ true }
-    ensures reply { IfOk result (λ lines. lines.reply ≡ sent_text conn (reply_bytes status None None [] false false true)) }
+    ensures reply { IfOk result (λ lines. lines.reply ≡ spelled spelling conn (reply_bytes status None None [] false false true)) }
     ensures audit { IfOk result (λ lines. lines.audit ≡ audit_rest status None None) }
 {
-    let reply = refusal_line(alloc, conn, status)?;
+    let reply = refusal_reply(alloc, spelling, conn, status)?;
     let audit = audit_rest(alloc, status, None, &None)?;
     Ok(Lines { reply, audit })
 }

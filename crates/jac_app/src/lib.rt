@@ -1,5 +1,5 @@
 //! The program's work between the outside and its bytes: an application is read, and each request of an
-//! events file is answered over a keeper.
+//! events file, or of a door's connections, is answered over a keeper.
 #![tactic(auto)]
 
 mod answer;
@@ -8,10 +8,13 @@ mod asks;
 mod attach;
 mod check;
 mod demo;
+mod door;
 mod dump;
 mod ending;
 mod files;
 mod handler;
+mod link;
+mod onto;
 mod outside;
 mod program;
 mod puts;
@@ -19,11 +22,14 @@ mod refusal;
 mod replay;
 mod reply;
 mod serve;
+mod server;
 mod service;
 mod status;
 mod still;
 mod summary;
 mod words;
 
+pub use door::{DoorHalt, Tally, serve_links};
+pub use link::{Halt, serve_link};
 pub use program::run;
 pub use status::Status;

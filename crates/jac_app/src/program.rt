@@ -1,6 +1,6 @@
 ghost use Rattle.std.specs.Prelude.{◌≡◌, IsTrue, IfOk, IfSome, codes, false};
 ghost use Rattle.jac_app.specs.Outside.{WentAimed, span, sinks};
-ghost use Rattle.jac_app.specs.Commands.{HasCount, is_known, known, known_only};
+ghost use Rattle.jac_app.specs.Commands.{HasCount};
 ghost use Rattle.jac_app.specs.Files.{sight};
 ghost use Rattle.jac_app.specs.Ending.{Closed, Closes, Finishes};
 ghost use Rattle.jac_app.specs.Run.{Ends, Runs, IsRun, usage_line};
@@ -11,9 +11,10 @@ use crate::dump::dump;
 use crate::ending::{Ending, put_fault, status_of};
 use crate::outside::put;
 use crate::replay::replay;
+use crate::server::serve;
 use crate::status::Status;
 use crate::words::{Command, command_of};
-use jac_io::{AuditSink, Failed, Files, Sink};
+use jac_io::{AuditSink, Door, Failed, Files, Sink};
 use jac_keep::Vault;
 use jac_value::{Memory, Txt};
 use jac_world::Steps;
@@ -54,60 +55,23 @@ fn run_out<O: Sink>(out: &mut O) -> Status
     }
 }
 
-// The command that the words give, where it is one that is served.
-fn known(alloc: Global, words: &[Txt]) -> Result<Option<Command>, Memory>
-    ensures command { IfOk result (λ command. command ≡ known words.now) }
-    ensures known { IfOk result (λ command. IfSome command (λ c. IsTrue (is_known c))) }
-    ensures count { IfOk result (λ command. IfSome command (HasCount)) }
-{
-    match command_of(alloc, words) {
-        Ok(Some(command)) => Ok(known_only(command)),
-        Ok(None) => Ok(None),
-        Err(Memory) => Err(Memory),
-    }
-}
-
-fn known_only(command: Command) -> Option<Command>
-    requires { HasCount command }
-    ensures command { result ≡ known_only (Some command) }
-    ensures known { IfSome result (λ c. IsTrue (is_known c)) }
-    ensures count { IfSome result (HasCount) }
-{
-    if is_known(&command) {
-        Some(command)
-    } else {
-        None
-    }
-}
-
-// A store that is named isn't served yet.
-fn is_known(command: &Command) -> bool
-    ensures { result ≡ is_known command.now }
-{
-    match command {
-        Command::Check(_) | Command::Demo(_) => true,
-        Command::Replay(replay) => replay.db.is_none(),
-        Command::Dump(dumping) => dumping.db.is_none(),
-        _ => false,
-    }
-}
-
 // The steps of the command.
-fn take_steps<F: Files, O: Sink, U: AuditSink, K: Vault, L: Ledger, M: Ledger>(
+fn take_steps<F: Files, O: Sink, U: AuditSink, K: Vault, D: Door, L: Ledger, M: Ledger>(
     alloc: Global,
     command: &Command,
     files: &mut F,
     out: &mut O,
     audit: &mut U,
     vault: &mut K,
+    door: &mut D,
     splits: &mut Steps<L>,
     evaluations: &mut Steps<M>,
 ) -> Result<(), Ending>
-    requires known { IsTrue (is_known command.now) }
     requires count { HasCount command.now }
     requires first { (K.seen vault.old).store.called ≡ false }
     ensures { WentAimed (sinks (O.seen out.old) (O.seen out.new) (U.seen audit.old) (U.seen audit.new))
-        (Ends (sight (F.seen files.old) (F.seen files.new) (O.seen out.old) (O.seen out.new) (U.seen audit.old) (U.seen audit.new) (K.seen vault.old) (K.seen vault.new)) command.now result) }
+        (Ends D.Line.seen (sight (F.seen files.old) (F.seen files.new) (O.seen out.old) (O.seen out.new) (U.seen audit.old) (U.seen audit.new) (K.seen vault.old) (K.seen vault.new))
+        (span (D.seen door.old) (D.seen door.new)) command.now result) }
 {
     match command {
         Command::Check(app) => check(alloc, app, files, out, audit, vault),
@@ -121,28 +85,40 @@ fn take_steps<F: Files, O: Sink, U: AuditSink, K: Vault, L: Ledger, M: Ledger>(
             splits,
             evaluations,
         ),
+        Command::Serve(serving) => serve(
+            alloc,
+            serving,
+            files,
+            out,
+            audit,
+            vault,
+            door,
+            splits,
+            evaluations,
+        ),
         Command::Demo(count) => demo(alloc, *count, out, audit, vault, splits, evaluations),
         Command::Dump(dumping) => dump(alloc, dumping, files, out, audit, vault),
-        Command::Serve(_) => Err(Ending::Memory),
     }
 }
 
 // The run, as one statement on all that it puts.
-fn run_words<F: Files, O: Sink, U: AuditSink, K: Vault, L: Ledger, M: Ledger>(
+fn run_words<F: Files, O: Sink, U: AuditSink, K: Vault, D: Door, L: Ledger, M: Ledger>(
     alloc: Global,
     words: &[Txt],
     files: &mut F,
     out: &mut O,
     audit: &mut U,
     vault: &mut K,
+    door: &mut D,
     splits: &mut Steps<L>,
     evaluations: &mut Steps<M>,
 ) -> Status
     requires first { (K.seen vault.old).store.called ≡ false }
     ensures { WentAimed (sinks (O.seen out.old) (O.seen out.new) (U.seen audit.old) (U.seen audit.new))
-        (Runs (sight (F.seen files.old) (F.seen files.new) (O.seen out.old) (O.seen out.new) (U.seen audit.old) (U.seen audit.new) (K.seen vault.old) (K.seen vault.new)) words.now result) }
+        (Runs D.Line.seen (sight (F.seen files.old) (F.seen files.new) (O.seen out.old) (O.seen out.new) (U.seen audit.old) (U.seen audit.new) (K.seen vault.old) (K.seen vault.new))
+        (span (D.seen door.old) (D.seen door.new)) words.now result) }
 {
-    match known(alloc, words) {
+    match command_of(alloc, words) {
         Ok(Some(command)) => {
             let ended = take_steps(
                 alloc,
@@ -151,6 +127,7 @@ fn run_words<F: Files, O: Sink, U: AuditSink, K: Vault, L: Ledger, M: Ledger>(
                 out,
                 audit,
                 vault,
+                door,
                 splits,
                 evaluations,
             );
@@ -169,19 +146,23 @@ fn run_words<F: Files, O: Sink, U: AuditSink, K: Vault, L: Ledger, M: Ledger>(
 ///   the store of `--db FILE` keeps, or on a new one that lasts as long as the program. With `--audit FILE` the audit
 ///   is aimed at that file, else at none. With `--sessions FILE` a token has the viewer that its line in that file
 ///   gives it, else nobody looks by any token.
+/// - `serve APP PORT COUNT` serves the application of a file on a port, to so many connections one after another, or
+///   to fewer where no more come, on the store and with the files of the same options as `replay`, and puts one line
+///   that counts them: `served C connections, K replies`. A connection that fails ends alone.
 /// - `demo N` serves N generated requests to a calendar on a new store, without their replies, and puts one line that
 ///   counts them: `asks N posts P gets G bytes B labels L`.
 /// - `dump APP LABELS` puts a line for each record that the labels show of the store of `--db FILE`, or of a new one,
 ///   and the number of the next request.
 ///
 /// A status other than `Done` has its line as the last one on `out`.
-pub fn run<F: Files, O: Sink, U: AuditSink, K: Vault, L: Ledger, M: Ledger>(
+pub fn run<F: Files, O: Sink, U: AuditSink, K: Vault, D: Door, L: Ledger, M: Ledger>(
     alloc: Global,
     words: &[Txt],
     files: &mut F,
     out: &mut O,
     audit: &mut U,
     vault: &mut K,
+    door: &mut D,
     splits: &mut Steps<L>,
     evaluations: &mut Steps<M>,
 ) -> Status
@@ -189,7 +170,18 @@ pub fn run<F: Files, O: Sink, U: AuditSink, K: Vault, L: Ledger, M: Ledger>(
     requires first { (K.seen vault.old).store.called ≡ false }
 
     // Every byte that is put, every page and the state at the end, by the status; each status by its cause.
-    ensures { IsRun (sight (F.seen files.old) (F.seen files.new) (O.seen out.old) (O.seen out.new) (U.seen audit.old) (U.seen audit.new) (K.seen vault.old) (K.seen vault.new)) words.now result }
+    ensures { IsRun D.Line.seen (sight (F.seen files.old) (F.seen files.new) (O.seen out.old) (O.seen out.new) (U.seen audit.old) (U.seen audit.new) (K.seen vault.old) (K.seen vault.new))
+        (span (D.seen door.old) (D.seen door.new)) words.now result }
 {
-    run_words(alloc, words, files, out, audit, vault, splits, evaluations)
+    run_words(
+        alloc,
+        words,
+        files,
+        out,
+        audit,
+        vault,
+        door,
+        splits,
+        evaluations,
+    )
 }

@@ -3,13 +3,22 @@ ghost use Rattle.std.specs.Str.{bytes_eq};
 ghost use Rattle.std.specs.String.{string_bytes};
 ghost use Rattle.jac_http.specs.Replies.{phrase_of, reply_bytes};
 ghost use Rattle.jac_value.specs.Quoted.{quoted};
-ghost use Rattle.jac_app.specs.Log.{reply_text, sent_text, audit_rest, location_text, printed_body, viewer_text, labels_text, more_labels, shown_text, refused_with};
+ghost use Rattle.jac_app.specs.Log.{reply_text, sent_text, spelled, audit_rest, location_text, printed_body, viewer_text, labels_text, more_labels, shown_text, refused_with};
 
 use jac_engine::Answer;
 use jac_http::write_reply;
 use jac_value::{Bytes, Id, Memory, Txt, escape_line};
 use jac_world::Assignment;
 use std::alloc::Global;
+
+/// How the bytes of a reply on a connection are spelled.
+#[derive(Clone, Copy, Debug, PartialEq, Eq)]
+pub enum Spelling {
+    /// As the line `sent N "BYTES"` of a text.
+    Quoted,
+    /// As they are.
+    Raw,
+}
 
 /// The line of a reply: `reply STATUS "LOCATION" "BODY"`. A reply to HEAD has no body.
 pub fn reply_line(alloc: Global, method: &[u8], answer: &Answer) -> Result<Txt, Memory>
@@ -54,16 +63,17 @@ pub fn is_head(method: &[u8]) -> bool
     method == b"HEAD".as_slice()
 }
 
-/// The line of a reply on a connection: `sent N "BYTES"`.
-pub fn sent_line(
+/// The reply on a connection.
+pub fn sent_reply(
     alloc: Global,
+    spelling: Spelling,
     conn: u32,
     answer: &Answer,
     head: bool,
     close: bool,
-) -> Result<Txt, Memory>
+) -> Result<Bytes, Memory>
     requires { IsSome (phrase_of answer.now.status) }
-    ensures { IfOk result (λ line. line ≡ sent_text conn (reply_bytes answer.now.status answer.now.location answer.now.allow answer.now.body (is_some answer.now.shown) head close)) }
+    ensures { IfOk result (λ reply. reply ≡ spelled spelling conn (reply_bytes answer.now.status answer.now.location answer.now.allow answer.now.body (is_some answer.now.shown) head close)) }
 {
     let bytes = write_reply(
         alloc,
@@ -75,19 +85,41 @@ pub fn sent_line(
         head,
         close,
     )?;
-    let line = sent_bytes(alloc, conn, &bytes)?;
-    Ok(line)
+    spell(alloc, spelling, conn, bytes)
 }
 
-/// The line of the reply to what is refused on a connection.
-pub fn refusal_line(alloc: Global, conn: u32, status: u16) -> Result<Txt, Memory>
+/// The reply to what is refused on a connection.
+pub fn refusal_reply(
+    alloc: Global,
+    spelling: Spelling,
+    conn: u32,
+    status: u16,
+) -> Result<Bytes, Memory>
     requires { IsSome (phrase_of status) }
-    ensures { IfOk result (λ line. line ≡ sent_text conn (reply_bytes status None None [] false false true)) }
+    ensures { IfOk result (λ reply. reply ≡ spelled spelling conn (reply_bytes status None None [] false false true)) }
 {
     let empty = Bytes::empty(alloc);
     let bytes = write_reply(alloc, status, None, None, &empty, false, false, true)?;
-    let line = sent_bytes(alloc, conn, &bytes)?;
-    Ok(line)
+    spell(alloc, spelling, conn, bytes)
+}
+
+fn spell(alloc: Global, spelling: Spelling, conn: u32, bytes: Bytes) -> Result<Bytes, Memory>
+    ensures { IfOk result (λ reply. reply ≡ spelled spelling conn bytes) }
+{
+    match spelling {
+        Spelling::Quoted => {
+            let line = sent_bytes(alloc, conn, &bytes)?;
+            Ok(text_bytes(line))
+        }
+        Spelling::Raw => Ok(bytes),
+    }
+}
+
+/// The bytes of a text.
+pub fn text_bytes(text: Txt) -> Bytes
+    ensures { result ≡ text }
+{
+    Bytes::from_vec(text.into_string().into_bytes())
 }
 
 fn sent_bytes(alloc: Global, conn: u32, bytes: &Bytes) -> Result<Txt, Memory>

@@ -13,6 +13,7 @@ use crate::answer::{Lines, Via, answer_ask};
 use crate::asks::{ask_in, viewer_in};
 use crate::handler::next_out;
 use crate::puts::{put_failed, put_lines, put_out};
+use crate::reply::Spelling;
 use crate::service::Service;
 use crate::still::{failed_reply, fixed_of};
 use jac_events::{Event, LineFault, read_line};
@@ -112,7 +113,7 @@ fn serve_ask<O: Sink, U: AuditSink, K: Keeper, L: Ledger, M: Ledger>(
             out,
             audit,
             served + 1,
-            lines.reply.as_bytes(),
+            lines.reply.as_slice(),
             lines.audit.as_bytes(),
         ),
         Err(stop) => put_failed(
@@ -152,6 +153,7 @@ fn put_given<O: Sink, U: AuditSink, K: Keeper, L: Ledger, M: Ledger>(
     let mut count = served;
     'outs: while let Some(given) = next_out(
         alloc,
+        Spelling::Quoted,
         service,
         sessions,
         hub,

@@ -20,6 +20,8 @@ pub enum Status {
     /// The store failed as it was attached or read.
     StoreFault,
     Memory,
+    /// The door failed: it listens at no port, gave no link, or took none back.
+    DoorFault,
     /// The store has another schema than the application's.
     OtherStore,
     /// A file holds more bytes than its limit.
@@ -40,6 +42,7 @@ impl Status {
             Status::WriteFault => 5,
             Status::StoreFault => 6,
             Status::Memory => 7,
+            Status::DoorFault => 8,
             Status::OtherStore => 9,
             Status::TooLong => 10,
         }

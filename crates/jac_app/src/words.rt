@@ -43,7 +43,7 @@ pub struct Replay {
 pub struct Serving {
     pub app: Txt,
     pub port: u16,
-    pub count: u64,
+    pub count: u32,
     pub sessions: Option<Txt>,
     pub audit: Option<Txt>,
     pub db: Option<Txt>,
@@ -173,7 +173,7 @@ fn serve_in(alloc: Global, matches: &ArgMatches<'_>) -> Result<Option<Command>, 
     let Some(port) = port_in(matches) else {
         return Ok(None);
     };
-    let Some(count) = number_in(matches, "COUNT", 1_000_000) else {
+    let Some(count) = count_in(matches) else {
         return Ok(None);
     };
     let Some(options) = options_in(alloc, matches)? else {
@@ -272,6 +272,15 @@ fn port_in(matches: &ArgMatches<'_>) -> Option<u16>
 {
     match number_in(matches, "PORT", 65_535) {
         Some(number) => Some(number as u16),
+        None => None,
+    }
+}
+
+fn count_in(matches: &ArgMatches<'_>) -> Option<u32>
+    ensures { result ≡ number_in 1_000_000 (codes "COUNT") (rows_of (found_of matches.now)) }
+{
+    match number_in(matches, "COUNT", 1_000_000) {
+        Some(number) => Some(number as u32),
         None => None,
     }
 }

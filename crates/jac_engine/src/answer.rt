@@ -18,6 +18,7 @@ ghost use Rattle.jac_engine.specs.Viewed.{IsPreparedBy, IsPreparedFor, IsShown};
 use crate::lookup::view_at;
 use crate::refusal::{refuse, refuse_method};
 use crate::visit::{Labelled, shown_page, stored_page};
+use jac_check::Checked;
 use jac_keep::{Change, Keeper, Stop};
 use jac_lang::{App, Verb, View};
 use jac_plain::Page;
@@ -61,7 +62,7 @@ pub struct Prepared {
 /// what is kept for a GET, on what the request leaves for a POST. Each policy that is asked counts in `evaluations`.
 pub fn prepare<K: Keeper, L: Ledger, M: Ledger>(
     alloc: Global,
-    app: &App,
+    checked: &Checked,
     routes: &Routes,
     keeper: &mut K,
     ask: &Ask,
@@ -69,12 +70,13 @@ pub fn prepare<K: Keeper, L: Ledger, M: Ledger>(
     evaluations: &mut Steps<M>,
 ) -> Result<Prepared, Stop>
     requires attached { IsTrue (K.seen keeper.old).store.attached }
-    requires served { are_served (application_of app.now) ≡ true }
-    requires routes { AreRoutes (application_of app.now) routes.now }
-    requires start { IsTrue (K.seen keeper.old).tells → IsStart (application_of app.now) (K.seen keeper.old).state }
-    ensures prepared { IfOk result (IsPrepared (K.seen keeper.new).tells (application_of app.now) (K.seen keeper.old).state ask.now) }
+    requires served { are_served (application_of checked.now) ≡ true }
+    requires routes { AreRoutes (application_of checked.now) routes.now }
+    requires start { IsTrue (K.seen keeper.old).tells → IsStart (application_of checked.now) (K.seen keeper.old).state }
+    ensures prepared { IfOk result (IsPrepared (K.seen keeper.new).tells (application_of checked.now) (K.seen keeper.old).state ask.now) }
     ensures reads { Reads (K.seen keeper.old) (K.seen keeper.new) result }
 {
+    let app = checked.app();
     let _models = app.models.as_slice();
     let prepared = prepare_found(alloc, app, routes, keeper, ask, splits, evaluations)?;
     Ok(prepared)

@@ -1,16 +1,14 @@
-//! The program `jac`: the host's files, its audit and standard output, and a store in memory, beneath `jac_app`.
+//! The program `jac`: the host's files, its audit, standard output and stores, beneath `jac_app`.
 #![tactic(auto)]
 
 ghost use Rattle.std.specs.Prelude.{◌≡◌, ◌<◌};
 
-mod host;
 #[cfg(test)]
 mod tests;
 
-use host::{HostAudit, HostFiles, Stdout};
 use jac_app::{Status, run};
-use jac_io::Calls;
-use jac_keep::MemoryKeeper;
+use jac_host::{HostAudit, HostDoor, HostFiles, Stdout};
+use jac_hostkeep::HostVault;
 use jac_rows::{State, Tables};
 use jac_value::{Memory, Txt};
 use jac_world::Steps;
@@ -45,10 +43,11 @@ fn run_words<L: Ledger, M: Ledger>(
         tables: Tables::empty(alloc),
         number: 1,
     };
-    let mut vault = MemoryKeeper::new(state, None, Calls::empty(alloc), Calls::empty(alloc));
+    let mut vault = HostVault::new(alloc, state, *rt);
     let mut files = HostFiles::new(rt);
     let mut out = Stdout::new(rt);
     let mut audit = HostAudit::new(rt);
+    let mut door = HostDoor::new(rt);
     let mut splits: Steps<L> = Steps::new(blank);
     let mut evaluations: Steps<M> = Steps::new(second);
     let status = run(
@@ -58,6 +57,7 @@ fn run_words<L: Ledger, M: Ledger>(
         &mut out,
         &mut audit,
         &mut vault,
+        &mut door,
         &mut splits,
         &mut evaluations,
     );

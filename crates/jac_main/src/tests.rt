@@ -1,15 +1,15 @@
-//! The program's top call over files and sinks in memory: worked examples, and each refusal once.
+//! The program's top call over files, sinks, a keeper and a door in memory that fail at chosen calls, and what is stored in
+//! each world.
 ghost use Rattle.std.specs.Prelude.{◌≡◌, ◌<◌, ◌≤◌, ◌^◌};
 
 use jac_app::{Status, run};
-use jac_io::{Calls, MemoryFiles, MemorySink, NamedFiles};
+use jac_io::{Calls, Links, MemoryDoor, MemoryFiles, MemoryLink, MemorySink, NamedFiles, Pieces};
 use jac_keep::MemoryKeeper;
 use jac_rows::{State, Tables, project};
 use jac_value::{Bytes, Memory, Txt};
 use jac_world::{Assignment, Label, Steps};
 use std::alloc::Global;
 use std::marker::Brand;
-use std::process::Abort;
 use std::sync::ledger::{Blank, Ledger};
 use std::test::Fail;
 
@@ -19,11 +19,6 @@ const PEOPLE: &str = "(app (model User (fields (name text)))
  (view post \"/join\" (params (name text)) (create u User (set (name name)) (put u)))
  (view get \"/all\" (params)
   (for (from ((u User)) true key) (put (get User name u)) (put \";\"))))";
-
-const ASKED_PEOPLE: &str = "(app (model User (fields (name text)))
- (view post \"/join\" (params (name text)) (create u User (set (name name)) (put u)))
- (view get \"/early\" (params) (put (count (from ((u User)) (lt (get User name u) \"B\") key))))
- (view get \"/last\" (params) (put (get User name (first (from ((u User)) true (down u name)))))))";
 
 const JOIN_AND_LIST: &[u8] =
     b"ask - POST \"/join\" \"name=Ann\"\nask - POST \"/join\" \"name=Bob\"\nask - GET \"/all\" \"\"\n";
@@ -65,39 +60,8 @@ const NOTED_CALENDAR: &str = "(app (viewer User)
 const ADDED: &[u8] =
     b"ask - POST \"/join\" \"name=Ann\"\nask - POST \"/join\" \"name=Bob\"\nask 4096 POST \"/add\" \"title=raid&open=0\"\n";
 
-const ADDED_OUT: &[u8] =
-    b"reply 200 \"\" \"4096\"\nreply 200 \"\" \"8192\"\nreply 200 \"\" \"12289\"\n";
-
-const ADDED_AUDIT: &[u8] = b"1 200 - -\n2 200 - -\n3 200 4096 98312\n";
-
-// Notes of which each shows its body where a policy allows it.
-const KEY_NOTES: &str = "(app (model Note (fields (body text))
-  (group (guards (body \"locked\"))
-   (policy (some (from ((n Note)) (eq (get Note body n) \"key\") key)))))
- (view post \"/new\" (params (body text)) (create n Note (set (body body))))
- (view get \"/all\" (params)
-  (for (from ((n Note)) true key) (put (get Note body n)) (put \";\"))))";
-
-const LOCKED_NOTES: &str = "(app (model Note (fields (body text))
-  (group (guards (body \"locked\"))
-   (policy (eq (count (from ((n Note)) (eq (get Note body n) \"locked\") key)) 0))))
- (view post \"/new\" (params (body text)) (create n Note (set (body body))))
- (view get \"/all\" (params)
-  (for (from ((n Note)) true key) (put (get Note body n)) (put \";\"))))";
-
-const ORDERED_NOTES: &str = "(app (model Note (fields (body text))
-  (group (guards (body \"locked\"))
-   (policy (or (eq (get Note body this) \"b\")
-    (eq (count (from ((n Note)) (not (eq (get Note body n) \"locked\")) key)) 1)))))
- (view post \"/new\" (params (body text)) (create n Note (set (body body))))
- (view get \"/all\" (params)
-  (for (from ((n Note)) true key) (put (get Note body n)) (put \";\"))))";
-
-const TWO_NOTES: &[u8] =
-    b"ask - POST \"/new\" \"body=a\"\nask - POST \"/new\" \"body=b\"\nask - GET \"/all\" \"\"\n";
-
-const USAGE: &[u8] =
-    b"usage: jac check APP, replay APP EVENTS, serve APP PORT COUNT, demo N, dump APP LABELS; options --db FILE --sessions FILE --audit FILE\n";
+const SERVED: &[u8] =
+    b"HTTP/1.1 200 OK\r\nContent-Type: text/html; charset=utf-8\r\nContent-Length: 5\r\nConnection: close\r\n\r\nhello";
 
 /// What a run leaves: the next number is that of the keeper.
 #[derive(Drop)]
@@ -106,6 +70,7 @@ struct Left {
     out: MemorySink,
     audit: MemorySink,
     keeper: MemoryKeeper,
+    door: MemoryDoor,
     number: u64,
 }
 
@@ -147,6 +112,21 @@ fn files_of(alloc: Global, app: &str, events: &[u8]) -> Result<MemoryFiles, Memo
     Ok(MemoryFiles::new(NamedFiles::from_vec(files), Calls::empty(alloc)))
 }
 
+/// A door with one link, which gives these pieces; with none where there are none.
+fn door_of(alloc: Global, pieces: &[&[u8]], fails: Calls) -> Result<MemoryDoor, Memory> {
+    let mut links = Vec::new(alloc);
+    if !pieces.is_empty() {
+        let mut all = Vec::new(alloc);
+        for piece in pieces {
+            let piece = Bytes::from_slice(alloc, piece)?;
+            all.push(piece)?;
+        }
+        let link = MemoryLink::new(alloc, Pieces::from_vec(all), 4096, Calls::empty(alloc))?;
+        links.push(link)?;
+    }
+    MemoryDoor::new(alloc, Links::from_vec(links), fails)
+}
+
 fn run_words(
     alloc: Global,
     words: &[&str],
@@ -154,6 +134,22 @@ fn run_words(
     events: &[u8],
     number: u64,
     fails: Fails,
+) -> Result<Left, Memory>
+    requires from_one { 1 ≤ number }
+    requires in_range { number ≤ 2 ^ 40 }
+{
+    let door = door_of(alloc, &[], Calls::empty(alloc))?;
+    run_at_door(alloc, words, app, events, number, fails, door)
+}
+
+fn run_at_door(
+    alloc: Global,
+    words: &[&str],
+    app: &str,
+    events: &[u8],
+    number: u64,
+    fails: Fails,
+    door: MemoryDoor,
 ) -> Result<Left, Memory>
     requires from_one { 1 ≤ number }
     requires in_range { number ≤ 2 ^ 40 }
@@ -166,6 +162,7 @@ fn run_words(
         files,
         number,
         fails,
+        door,
         Blank::new(1),
         Blank::new(1),
     )
@@ -177,6 +174,7 @@ fn run_counted<L: Ledger, M: Ledger>(
     files: MemoryFiles,
     number: u64,
     fails: Fails,
+    door: MemoryDoor,
     blank: Blank,
     second: Blank,
 ) -> Result<Left, Memory>
@@ -197,6 +195,7 @@ fn run_counted<L: Ledger, M: Ledger>(
         number,
     };
     let mut keeper = MemoryKeeper::new(state, None, fails.reads, fails.applies);
+    let mut door = door;
     let mut splits: Steps<L> = Steps::new(blank);
     let mut evaluations: Steps<M> = Steps::new(second);
     let status = run(
@@ -206,6 +205,7 @@ fn run_counted<L: Ledger, M: Ledger>(
         &mut out,
         &mut audit,
         &mut keeper,
+        &mut door,
         &mut splits,
         &mut evaluations,
     );
@@ -215,186 +215,9 @@ fn run_counted<L: Ledger, M: Ledger>(
         out,
         audit,
         keeper,
+        door,
         number,
     })
-}
-
-/// Replays the events and compares what is left.
-fn replays(
-    rt: &impl Abort,
-    alloc: Global,
-    app: &str,
-    events: &[u8],
-    status: Status,
-    out: &[u8],
-    audit: &[u8],
-) -> Result<(), Memory> {
-    let words = ["replay", "app", "events"];
-    let left = run_words(alloc, &words, app, events, 1, no_fails(alloc))?;
-    assert_eq!(rt; left.status, status);
-    assert_eq!(rt; left.out.taken(), out);
-    assert_eq!(rt; left.audit.taken(), audit);
-    Ok(())
-}
-
-#[test]
-fn a_get_has_its_page_and_its_audit_line(rt: HostRuntime) -> Result<(), Fail> {
-    let alloc = rt.alloc();
-    replays(
-        &rt,
-        alloc,
-        HELLO,
-        b"ask - GET \"/\" \"\"\n",
-        Status::Done,
-        b"reply 200 \"\" \"hello\"\n",
-        b"1 200 - -\n",
-    )?;
-    Ok(())
-}
-
-#[test]
-fn an_empty_application_serves_no_events(rt: HostRuntime) -> Result<(), Fail> {
-    let alloc = rt.alloc();
-    replays(&rt, alloc, "(app)", b"", Status::Done, b"", b"")?;
-    Ok(())
-}
-
-#[test]
-fn a_path_without_a_view_is_not_found(rt: HostRuntime) -> Result<(), Fail> {
-    let alloc = rt.alloc();
-    replays(
-        &rt,
-        alloc,
-        "(app)",
-        b"ask - GET \"/nope\" \"\"",
-        Status::Done,
-        b"reply 404 \"\" \"404 Not Found\\n\"\n",
-        b"1 404 - nopage\n",
-    )?;
-    Ok(())
-}
-
-#[test]
-fn another_method_is_refused_and_head_has_no_body(rt: HostRuntime) -> Result<(), Fail> {
-    let alloc = rt.alloc();
-    let refused = b"reply 405 \"\" \"405 Method Not Allowed\\n\"\n";
-    replays(
-        &rt,
-        alloc,
-        HELLO,
-        b"ask - POST \"/\" \"\"",
-        Status::Done,
-        refused,
-        b"1 405 - nopage\n",
-    )?;
-    replays(
-        &rt,
-        alloc,
-        HELLO,
-        b"ask 4096 HEAD \"/?a\" \"\"",
-        Status::Done,
-        b"reply 200 \"\" \"\"\n",
-        b"1 200 - -\n",
-    )?;
-    Ok(())
-}
-
-#[test]
-fn a_line_without_a_form_ends_the_run_after_those_before_it(rt: HostRuntime) -> Result<(), Fail> {
-    let alloc = rt.alloc();
-    replays(
-        &rt,
-        alloc,
-        HELLO,
-        b"ask - get \"/\" \"\"",
-        Status::LineRefused,
-        b"events: line 1: no form\n",
-        b"",
-    )?;
-    let events = b"\nask - GET \"/\" \"\"\nask - GET \"/\" \"\n";
-    let out = b"reply 200 \"\" \"hello\"\nevents: line 3: no form\n";
-    replays(
-        &rt,
-        alloc,
-        HELLO,
-        events,
-        Status::LineRefused,
-        out,
-        b"1 200 - -\n",
-    )?;
-    Ok(())
-}
-
-#[test]
-fn bytes_that_are_no_application_are_refused(rt: HostRuntime) -> Result<(), Fail> {
-    let alloc = rt.alloc();
-    refuses(&rt, alloc, "(app", b"app: unclosed at 4\n")?;
-    refuses(
-        &rt,
-        alloc,
-        "(app \"x\")",
-        b"app: form at 1: expected item\n",
-    )?;
-    refuses(
-        &rt,
-        alloc,
-        "(app (view get \"/\" (params) (template \"{{ x\")))",
-        b"app: template in view 0: unclosed at 0\n",
-    )?;
-    refuses(
-        &rt,
-        alloc,
-        "(app (view get \"/\" (params) (put (add 1 \"2\"))))",
-        b"app: view 0: wrong kind: want int, have text\n",
-    )?;
-    refuses(
-        &rt,
-        alloc,
-        "(app (view get \"/\" (params)) (view get \"/\" (params)))",
-        b"app: view 1: path clashes\n",
-    )?;
-    Ok(())
-}
-
-fn refuses(rt: &impl Abort, alloc: Global, app: &str, line: &[u8]) -> Result<(), Memory> {
-    replays(rt, alloc, app, b"", Status::AppRefused, line, b"")
-}
-
-#[test]
-fn words_that_are_no_command_give_the_usage(rt: HostRuntime) -> Result<(), Fail> {
-    let alloc = rt.alloc();
-    let left = run_words(alloc, &["replay", "a"], HELLO, b"", 1, no_fails(alloc))?;
-    assert_eq!(rt; left.status, Status::Usage);
-    assert_eq!(rt; left.out.taken(), USAGE);
-    let left = run_words(alloc, &["--help"], HELLO, b"", 1, no_fails(alloc))?;
-    assert_eq!(rt; left.status, Status::Usage);
-    Ok(())
-}
-
-#[test]
-fn a_missing_file_is_a_read_fault(rt: HostRuntime) -> Result<(), Fail> {
-    let alloc = rt.alloc();
-    let left = run_words(alloc, &["replay", "a", "b"], HELLO, b"", 1, no_fails(alloc))?;
-    assert_eq!(rt; left.status, Status::ReadFault);
-    assert_eq!(rt; left.out.taken(), b"read fault: a\n".as_slice());
-    Ok(())
-}
-
-#[test]
-fn an_events_file_past_its_limit_is_too_long(rt: HostRuntime) -> Result<(), Fail> {
-    let alloc = rt.alloc();
-    let events = vec![in alloc; 10u8; 16_777_217]?;
-    let out = b"too long: events, limit 16777216\n";
-    replays(
-        &rt,
-        alloc,
-        HELLO,
-        events.as_slice(),
-        Status::TooLong,
-        out,
-        b"",
-    )?;
-    Ok(())
 }
 
 #[test]
@@ -410,38 +233,6 @@ fn a_failed_put_ends_the_run_after_the_audit_line(rt: HostRuntime) -> Result<(),
         b"reply 200 \"\" \"hello\"\nwrite fault\n".as_slice()
     );
     assert_eq!(rt; left.audit.taken(), b"1 200 - -\n2 200 - -\n".as_slice());
-    Ok(())
-}
-
-#[test]
-fn posts_store_records_that_a_get_lists(rt: HostRuntime) -> Result<(), Fail> {
-    let alloc = rt.alloc();
-    replays(
-        &rt,
-        alloc,
-        PEOPLE,
-        JOIN_AND_LIST,
-        Status::Done,
-        b"reply 200 \"\" \"4096\"\nreply 200 \"\" \"8192\"\nreply 200 \"\" \"Ann;Bob;\"\n",
-        b"1 200 - -\n2 200 - -\n3 200 - -\n",
-    )?;
-    Ok(())
-}
-
-#[test]
-fn a_get_asks_the_stored_records(rt: HostRuntime) -> Result<(), Fail> {
-    let alloc = rt.alloc();
-    let events =
-        b"ask - POST \"/join\" \"name=Ann\"\nask - POST \"/join\" \"name=Bob\"\nask - GET \"/early\" \"\"\nask - GET \"/last\" \"\"\n";
-    replays(
-        &rt,
-        alloc,
-        ASKED_PEOPLE,
-        events,
-        Status::Done,
-        b"reply 200 \"\" \"4096\"\nreply 200 \"\" \"8192\"\nreply 200 \"\" \"1\"\nreply 200 \"\" \"Bob\"\n",
-        b"1 200 - -\n2 200 - -\n3 200 - -\n4 200 - -\n",
-    )?;
     Ok(())
 }
 
@@ -492,30 +283,6 @@ fn a_post_past_the_last_number_is_refused(rt: HostRuntime) -> Result<(), Fail> {
     Ok(())
 }
 
-/// Replays two lists of events, the first of which adds an event to the calendar, and compares what follows.
-fn goes_on(
-    rt: &impl Abort,
-    alloc: Global,
-    app: &str,
-    events: &[u8],
-    out: &[u8],
-    audit: &[u8],
-) -> Result<(), Memory> {
-    let events = joined(alloc, ADDED, events)?;
-    let out = joined(alloc, ADDED_OUT, out)?;
-    let audit = joined(alloc, ADDED_AUDIT, audit)?;
-    replays(
-        rt,
-        alloc,
-        app,
-        events.as_slice(),
-        Status::Done,
-        out.as_slice(),
-        audit.as_slice(),
-    )?;
-    Ok(())
-}
-
 fn joined(alloc: Global, first: &[u8], second: &[u8]) -> Result<Vec<u8>, Memory> {
     let mut all = Vec::from_slice(alloc, first)?;
     all.extend_from_slice(second)?;
@@ -538,62 +305,6 @@ fn count_shown(
     }
     let world = project(alloc, keeper.state(), &shown)?;
     Ok(world.tables.rows(model).len())
-}
-
-#[test]
-fn an_event_is_private_to_all_but_its_host(rt: HostRuntime) -> Result<(), Fail> {
-    let alloc = rt.alloc();
-    goes_on(
-        &rt,
-        alloc,
-        CALENDAR,
-        b"ask 4096 GET \"/list\" \"\"\nask 8192 GET \"/list\" \"\"\nask - GET \"/list\" \"\"\n",
-        b"reply 200 \"\" \"raid;\"\nreply 200 \"\" \"private;\"\nreply 200 \"\" \"private;\"\n",
-        b"4 200 4096 98312\n5 200 8192 -\n6 200 - -\n",
-    )?;
-    Ok(())
-}
-
-#[test]
-fn what_a_private_title_lets_store_is_seen_by_its_host_alone(rt: HostRuntime) -> Result<(), Fail> {
-    let alloc = rt.alloc();
-    goes_on(
-        &rt,
-        alloc,
-        NOTED_CALENDAR,
-        b"ask - POST \"/note\" \"\"\nask 4096 GET \"/notes\" \"\"\nask 8192 GET \"/notes\" \"\"\nask 4096 POST \"/rename\" \"key=12289&title=boss\"\nask 4096 GET \"/list\" \"\"\nask 8192 GET \"/list\" \"\"\n",
-        b"reply 200 \"\" \"\"\nreply 200 \"\" \"1\"\nreply 200 \"\" \"0\"\nreply 200 \"\" \"\"\nreply 200 \"\" \"boss;\"\nreply 200 \"\" \"private;\"\n",
-        b"4 200 - -\n5 200 4096 98312\n6 200 8192 -\n7 200 4096 98312\n8 200 4096 98312\n9 200 8192 -\n",
-    )?;
-    Ok(())
-}
-
-#[test]
-fn labels_of_a_dropped_record_show_nothing(rt: HostRuntime) -> Result<(), Fail> {
-    let alloc = rt.alloc();
-    goes_on(
-        &rt,
-        alloc,
-        NOTED_CALENDAR,
-        b"ask - POST \"/note\" \"\"\nask - POST \"/drop\" \"key=12289\"\nask 4096 GET \"/notes\" \"\"\nask 4096 GET \"/list\" \"\"\n",
-        b"reply 200 \"\" \"\"\nreply 200 \"\" \"\"\nreply 200 \"\" \"0\"\nreply 200 \"\" \"\"\n",
-        b"4 200 - -\n5 200 - -\n6 200 4096 -\n7 200 4096 -\n",
-    )?;
-    Ok(())
-}
-
-#[test]
-fn hosts_are_sorted_by_the_titles_that_are_shown(rt: HostRuntime) -> Result<(), Fail> {
-    let alloc = rt.alloc();
-    goes_on(
-        &rt,
-        alloc,
-        NOTED_CALENDAR,
-        b"ask 8192 POST \"/add\" \"title=queen&open=1\"\nask 4096 GET \"/hosts\" \"\"\nask 8192 GET \"/hosts\" \"\"\n",
-        b"reply 200 \"\" \"16385\"\nreply 200 \"\" \"Bob:queen;Ann:raid;\"\nreply 200 \"\" \"Ann:private;Bob:queen;\"\n",
-        b"4 200 8192 131080\n5 200 4096 98312,131080\n6 200 8192 131080\n",
-    )?;
-    Ok(())
 }
 
 #[test]
@@ -641,117 +352,55 @@ fn two_labels_make_a_note_once(rt: HostRuntime) -> Result<(), Fail> {
     Ok(())
 }
 
-#[test]
-fn policies_that_ask_the_guarded_fields_themselves(rt: HostRuntime) -> Result<(), Fail> {
-    let alloc = rt.alloc();
-    replays(
-        &rt,
+/// Serves one link that gives these pieces.
+fn serve_pieces(
+    alloc: Global,
+    app: &str,
+    pieces: &[&[u8]],
+    fails: Fails,
+    door: Calls,
+) -> Result<Left, Memory> {
+    let door = door_of(alloc, pieces, door)?;
+    run_at_door(
         alloc,
-        KEY_NOTES,
-        b"ask - POST \"/new\" \"body=key\"\nask - GET \"/all\" \"\"\n",
-        Status::Done,
-        b"reply 200 \"\" \"\"\nreply 200 \"\" \"key;\"\n",
-        b"1 200 - 32768\n2 200 - 32768\n",
-    )?;
-    let left = run_words(
-        alloc,
-        &["replay", "app", "events"],
-        LOCKED_NOTES,
-        TWO_NOTES,
-        1,
-        no_fails(alloc),
-    )?;
-    assert_eq!(rt;
-        left.out.taken(),
-        b"reply 200 \"\" \"\"\nreply 200 \"\" \"\"\nreply 200 \"\" \"locked;locked;\"\n".as_slice()
-    );
-    let left = run_words(
-        alloc,
-        &["replay", "app", "events"],
-        ORDERED_NOTES,
-        TWO_NOTES,
-        1,
-        no_fails(alloc),
-    )?;
-    assert_eq!(rt;
-        left.out.taken(),
-        b"reply 200 \"\" \"\"\nreply 200 \"\" \"\"\nreply 200 \"\" \"a;locked;\"\n".as_slice()
-    );
-    Ok(())
-}
-
-#[test]
-fn the_audit_is_aimed_at_its_file(rt: HostRuntime) -> Result<(), Fail> {
-    let alloc = rt.alloc();
-    let name = Txt::from_str(alloc, "lines")?;
-    for words in [
-        ["replay", "app", "events", "--audit", "lines"],
-        ["replay", "app", "--audit", "lines", "events"],
-        ["replay", "--audit", "lines", "app", "events"],
-    ] {
-        let left = run_words(
-            alloc,
-            &words,
-            HELLO,
-            b"ask - GET \"/\" \"\"\n",
-            1,
-            no_fails(alloc),
-        )?;
-        assert_eq!(rt; left.status, Status::Done);
-        assert_eq!(rt; left.audit.aims().len(), 1);
-        match left.audit.aims() {
-            [(Some(file), _)] => assert_eq!(rt; file.as_bytes(), name.as_bytes()),
-            _ => assert!(rt; false),
-        }
-    }
-    let left = run_words(
-        alloc,
-        &["replay", "app", "events", "--audit", "--db"],
-        HELLO,
+        &["serve", "app", "8080", "1"],
+        app,
         b"",
         1,
-        no_fails(alloc),
-    )?;
-    assert_eq!(rt; left.status, Status::Usage);
-    Ok(())
+        fails,
+        door,
+    )
 }
 
-// Two connections whose pieces are interleaved: the request that is whole first has the lower number.
-const INTERLEAVED: &[u8] = b"open 1\nopen 2\n\
-data 1 \"POST /join HTTP/1.1\\r\\nHost: a\\r\\nContent-Length: 8\\r\\n\\r\\nname\"\n\
-data 2 \"POST /join HTTP/1.1\\r\\nHost: a\\r\\nContent-Length: 8\\r\\n\\r\\nname=Bob\"\n\
-data 1 \"=Ann\"\nend 1\nend 2\n";
-
-const INTERLEAVED_OUT: &[u8] =
-    b"sent 2 \"HTTP/1.1 200 OK\\r\\nContent-Type: text/html; charset=utf-8\\r\\nContent-Length: 4\\r\\n\\r\\n4096\"\n\
-sent 1 \"HTTP/1.1 200 OK\\r\\nContent-Type: text/html; charset=utf-8\\r\\nContent-Length: 4\\r\\n\\r\\n8192\"\n";
-
 #[test]
-fn connections_are_answered_as_their_bytes_come(rt: HostRuntime) -> Result<(), Fail> {
+fn a_link_of_a_door_is_served(rt: HostRuntime) -> Result<(), Fail> {
     let alloc = rt.alloc();
-    replays(
-        &rt,
-        alloc,
-        CALENDAR,
-        INTERLEAVED,
-        Status::Done,
-        INTERLEAVED_OUT,
-        b"1 200 - -\n2 200 - -\n",
-    )?;
+    let pieces: [&[u8]; 2] = [b"GET / HTT", b"P/1.0\r\n\r\n"];
+    let left = serve_pieces(alloc, HELLO, &pieces, no_fails(alloc), Calls::empty(alloc))?;
+    assert_eq!(rt; left.status, Status::Done);
+    assert_eq!(rt;
+        left.out.taken(),
+        b"served 1 connections, 1 replies\n".as_slice()
+    );
+    match left.door.lines() {
+        [line] => assert_eq!(rt; line.taken(), SERVED),
+        _ => assert!(rt; false),
+    }
+    let first = Calls::from_vec(vec![in alloc; 1]?);
+    let left = serve_pieces(alloc, HELLO, &pieces, no_fails(alloc), first)?;
+    assert_eq!(rt; left.status, Status::DoorFault);
+    assert_eq!(rt; left.out.taken(), b"door fault\n".as_slice());
     Ok(())
 }
 
 #[test]
-fn a_connection_that_is_not_open_ends_the_run(rt: HostRuntime) -> Result<(), Fail> {
+fn a_fault_of_the_keeper_is_told_on_a_link(rt: HostRuntime) -> Result<(), Fail> {
     let alloc = rt.alloc();
-    replays(
-        &rt,
-        alloc,
-        HELLO,
-        b"ask - GET \"/\" \"\"\ndata 7 \"x\"\n",
-        Status::LineRefused,
-        b"reply 200 \"\" \"hello\"\nevents: line 2: connection 7 is not open\n",
-        b"1 200 - -\n",
-    )?;
+    let mut fails = no_fails(alloc);
+    fails.reads = Calls::from_vec(vec![in alloc; 1]?);
+    let pieces: [&[u8]; 1] = [b"GET /list HTTP/1.1\r\nHost: a\r\n\r\n"];
+    let left = serve_pieces(alloc, CALENDAR, &pieces, fails, Calls::empty(alloc))?;
+    assert_eq!(rt; left.status, Status::Done);
+    assert_eq!(rt; left.audit.taken(), b"1 503 - nopage\n".as_slice());
     Ok(())
 }

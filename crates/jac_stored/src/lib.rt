@@ -10,8 +10,6 @@ mod id;
 mod laws;
 mod number;
 mod stop;
-#[cfg(test)]
-mod tests;
 mod text;
 
 pub use decode::{RowFault, decode_row};

@@ -1,29 +1,20 @@
-//! Tests of the crates for texts, of what no clause says: each public call once on its happy path, with an answer
-//! that comes from outside. They stand here, and those of guarded rows in `jac_row_tests`, so that no crate below is
-//! proved twice.
+//! Tests of what no run of the program shows: each public call that no command makes once on its happy path, with an
+//! answer that comes from outside. All others are run by the worked cases of `checks/cases`.
 #![tactic(auto)]
 
 #[cfg(test)]
-mod check;
-#[cfg(test)]
-mod events;
-#[cfg(test)]
-mod forms;
+mod facet;
 #[cfg(test)]
 mod http;
 #[cfg(test)]
-mod hub;
-#[cfg(test)]
 mod io;
 #[cfg(test)]
-mod lang;
+mod lists;
 #[cfg(test)]
-mod route;
+mod rows;
 #[cfg(test)]
-mod template;
+mod stored;
 #[cfg(test)]
-mod tree;
-#[cfg(test)]
-mod value;
+mod texts;
 #[cfg(test)]
 mod world;

@@ -6,7 +6,5 @@ mod applications;
 mod expressions;
 mod shapes;
 mod statements;
-#[cfg(test)]
-mod tests;
 
 pub use applications::{tree_of, written_applications_are_read};

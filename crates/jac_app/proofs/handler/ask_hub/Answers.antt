@@ -12,7 +12,7 @@ returns-clause-same_reference g c =
     let before = c.args.answerer.now in
     let after = c.next.new.handler in
     next-either IsTaken before after
-    (λ x conn heard sent y. (y.keeper.ghost_name ≡ x.keeper.ghost_name) × ((g.K.Keeper.seen y.keeper.now).store ≡ (g.K.Keeper.seen x.keeper.now).store) × handled (application_of x.service.now) x.sessions.now (g.K.Keeper.seen x.keeper.now) conn heard sent (g.K.Keeper.seen y.keeper.now))
+    (λ x conn heard sent y. (y.keeper.ghost_name ≡ x.keeper.ghost_name) × ((g.K.Keeper.seen y.keeper.now).store ≡ (g.K.Keeper.seen x.keeper.now).store) × handled x.spelling (application_of x.service.now) x.sessions.now (g.K.Keeper.seen x.keeper.now) conn heard sent (g.K.Keeper.seen y.keeper.now))
     (after.keeper.ghost_name ≡ before.keeper.ghost_name)
     (λ same i. (same i).keeper.ghost_name) (λ conn heard sent h. h.0) (seen c.args.hub.now) _ _ _ c.next.ensures.next
 
@@ -21,8 +21,8 @@ returns-clause-next g c =
     let before = c.args.answerer.now in
     let after = c.next.new.handler in
     next-seen IsTaken before after (λ a. g.K.Keeper.seen a.keeper.now)
-    (λ x conn heard sent y. (y.keeper.ghost_name ≡ x.keeper.ghost_name) × ((g.K.Keeper.seen y.keeper.now).store ≡ (g.K.Keeper.seen x.keeper.now).store) × handled (application_of x.service.now) x.sessions.now (g.K.Keeper.seen x.keeper.now) conn heard sent (g.K.Keeper.seen y.keeper.now))
-    (handled (application_of before.service.now) before.sessions.now)
+    (λ x conn heard sent y. (y.keeper.ghost_name ≡ x.keeper.ghost_name) × ((g.K.Keeper.seen y.keeper.now).store ≡ (g.K.Keeper.seen x.keeper.now).store) × handled x.spelling (application_of x.service.now) x.sessions.now (g.K.Keeper.seen x.keeper.now) conn heard sent (g.K.Keeper.seen y.keeper.now))
+    (handled before.spelling (application_of before.service.now) before.sessions.now)
     (λ conn heard sent h. h.2) (seen c.args.hub.now) _ _ _ c.next.ensures.next
 
 pub returns-clause-start : goal.returns-clause-start
@@ -31,7 +31,7 @@ returns-clause-start g c =
     let before = c.args.answerer.now in
     let after = c.next.new.handler in
     next-either IsTaken before after
-    (λ x conn heard sent y. (y.keeper.ghost_name ≡ x.keeper.ghost_name) × ((g.K.Keeper.seen y.keeper.now).store ≡ (g.K.Keeper.seen x.keeper.now).store) × handled (application_of x.service.now) x.sessions.now (g.K.Keeper.seen x.keeper.now) conn heard sent (g.K.Keeper.seen y.keeper.now))
+    (λ x conn heard sent y. (y.keeper.ghost_name ≡ x.keeper.ghost_name) × ((g.K.Keeper.seen y.keeper.now).store ≡ (g.K.Keeper.seen x.keeper.now).store) × handled x.spelling (application_of x.service.now) x.sessions.now (g.K.Keeper.seen x.keeper.now) conn heard sent (g.K.Keeper.seen y.keeper.now))
     (IsTrue (K.seen after.keeper.now).tells → IsStart (application_of before.service.now) (K.seen after.keeper.now).state)
     (λ same. rw same c.requires.start)
     (λ conn heard sent h. h.2.1.entry.goes_on) (seen c.args.hub.now) _ _ _ c.next.ensures.next
@@ -42,6 +42,6 @@ returns-clause-attached g c =
     let before = c.args.answerer.now in
     let after = c.next.new.handler in
     next-either IsTaken before after
-    (λ x conn heard sent y. (y.keeper.ghost_name ≡ x.keeper.ghost_name) × ((g.K.Keeper.seen y.keeper.now).store ≡ (g.K.Keeper.seen x.keeper.now).store) × handled (application_of x.service.now) x.sessions.now (g.K.Keeper.seen x.keeper.now) conn heard sent (g.K.Keeper.seen y.keeper.now))
+    (λ x conn heard sent y. (y.keeper.ghost_name ≡ x.keeper.ghost_name) × ((g.K.Keeper.seen y.keeper.now).store ≡ (g.K.Keeper.seen x.keeper.now).store) × handled x.spelling (application_of x.service.now) x.sessions.now (g.K.Keeper.seen x.keeper.now) conn heard sent (g.K.Keeper.seen y.keeper.now))
     ((K.seen after.keeper.now).store ≡ (K.seen before.keeper.now).store)
     (λ same i. (K.seen (same i).keeper.now).store) (λ conn heard sent h. h.1) (seen c.args.hub.now) _ _ _ c.next.ensures.next

@@ -1,6 +1,7 @@
+use Rattle.jac_app.specs.Outside.{span}
 use Rattle.jac_app.specs.Files.{sight}
 use Rattle.jac_app.proofs.CauseLemmas.{comes_for}
-use Rattle.jac_app.proofs.CompleteLemmas.{is_served, is_checked, is_shown, is_dumped}
+use Rattle.jac_app.proofs.CompleteLemmas.{is_served, is_checked, is_shown, is_dumped, is_listened}
 use Rattle.jac_app.proofs.program.run.Goals as goal
 
 pub returns : goal.returns
@@ -9,15 +10,19 @@ returns g c =
     let O = g.O.Sink in
     let U = g.U.Sink in
     let K = g.K.Keeper in
+    let D = g.D.Door in
+    let line = g.D.Line.Link.seen in
+    let door = span (D.seen c.args.door.now) (D.seen c.run_words.new.door) in
     let seen =
     sight (F.seen c.args.files.now) (F.seen c.run_words.new.files) (O.seen c.args.out.now) (O.seen c.run_words.new.out)
     (U.seen c.args.audit.now) (U.seen c.run_words.new.audit) (K.seen c.args.vault.now) (K.seen c.run_words.new.vault) in
     let ran = c.run_words.ensures in
     record {
       ran = ran;
-      cause = comes_for seen c.args.words.now c.run_words.result ran.out ran.audit ran.holds;
-      replays = λ can. is_served seen c.args.words.now can c.run_words.result ran.out ran.audit ran.holds;
-      dumps = λ can. is_dumped seen c.args.words.now can c.run_words.result ran.out ran.audit ran.holds;
-      demos = λ can. is_shown seen c.args.words.now can c.run_words.result ran.out ran.audit ran.holds;
-      checks = λ can. is_checked seen c.args.words.now can c.run_words.result ran.out ran.audit ran.holds;
+      cause = comes_for line seen door c.args.words.now c.run_words.result ran.out ran.audit ran.holds;
+      replays = λ can. is_served line seen door c.args.words.now can c.run_words.result ran.out ran.audit ran.holds;
+      serves = λ can. is_listened line seen door c.args.words.now can c.run_words.result ran.out ran.audit ran.holds;
+      dumps = λ can. is_dumped line seen door c.args.words.now can c.run_words.result ran.out ran.audit ran.holds;
+      demos = λ can. is_shown line seen door c.args.words.now can c.run_words.result ran.out ran.audit ran.holds;
+      checks = λ can. is_checked line seen door c.args.words.now can c.run_words.result ran.out ran.audit ran.holds;
     }

@@ -1,9 +1,14 @@
 use Rattle.std.proofs.Common.{◌∙◌, sym, refl, inl, inr, [], ◌++◌, arith}
+use Rattle.jac_app.specs.Outside.{span}
 use Rattle.jac_app.specs.Files.{sight}
 use Rattle.jac_app.proofs.OutsideLemmas.{Lasts-then, Took-none, Took-then}
+use Rattle.jac_app.proofs.CountLemmas.{has_count}
 use Rattle.jac_app.proofs.ReplayLemmas.{still_idle}
 use Rattle.jac_app.proofs.LaterLemmas.{Ends-later, Finishes-widen}
 use Rattle.jac_app.proofs.program.run_words.Goals as goal
+
+pub take_steps-ended-requires-clause-count : goal.take_steps-ended-requires-clause-count
+take_steps-ended-requires-clause-count g c = has_count c.args.words.now c.in-Ok-Some.command (sym c.in-Ok-Some.field-0-is ∙ c.in-Ok-Some.ensures)
 
 pub returns-in-Ok-None : goal.returns-in-Ok-None
 returns-in-Ok-None g c =
@@ -16,7 +21,7 @@ returns-in-Ok-None g c =
       audit_later = omega arith;
       out_took = closed.took;
       audit_took = Took-none audit;
-      holds = inr (inl (record { no_command = sym c.in-Ok-None.ensures.command ∙ c.in-Ok-None.field-0-is; closes = closed.holds; idle = still_idle audit (g.K.Keeper.seen c.args.vault.now) }));
+      holds = inr (inl (record { no_command = sym c.in-Ok-None.ensures ∙ c.in-Ok-None.field-0-is; closes = closed.holds; idle = still_idle audit (g.K.Keeper.seen c.args.vault.now); uncalled = refl }));
     }
 
 pub returns-in-Err : goal.returns-in-Err
@@ -30,7 +35,7 @@ returns-in-Err g c =
       audit_later = omega arith;
       out_took = closed.took;
       audit_took = Took-none audit;
-      holds = inr (inr (record { closes = closed.holds; idle = still_idle audit (g.K.Keeper.seen c.args.vault.now) }));
+      holds = inr (inr (record { closes = closed.holds; idle = still_idle audit (g.K.Keeper.seen c.args.vault.now); uncalled = refl }));
     }
 
 pub returns-in-Ok-Some : goal.returns-in-Ok-Some
@@ -39,6 +44,7 @@ returns-in-Ok-Some g c =
     let O = g.O.Sink in
     let U = g.U.Sink in
     let K = g.K.Keeper in
+    let D = g.D.Door in
     let command = c.in-Ok-Some.command in
     let before = O.seen c.args.out.now in
     let middle = O.seen c.take_steps-ended.new.out in
@@ -60,8 +66,8 @@ returns-in-Ok-Some g c =
         ended = c.take_steps-ended.result;
         served = ended.out;
         last = finished.put;
-        is_command = sym c.in-Ok-Some.ensures.command ∙ c.in-Ok-Some.field-0-is;
-        ends = Ends-later seen after finished.lasts.later command ended.out ended.audit c.take_steps-ended.result ended.holds;
+        is_command = sym c.in-Ok-Some.ensures ∙ c.in-Ok-Some.field-0-is;
+        ends = Ends-later g.D.Line.Link.seen seen after finished.lasts.later (span (D.seen c.args.door.now) (D.seen c.take_steps-ended.new.door)) command ended.out ended.audit c.take_steps-ended.result ended.holds;
         finishes = Finishes-widen before middle after ended.out_lasts.later command c.take_steps-ended.result finished.put c.finish.result finished.holds;
         out_text = refl;
       });

@@ -19,8 +19,8 @@ returns-in-Ok-clause-answered g c =
     let k = span (K.seen c.args.keeper.now) (K.seen c.ask_lines.new.keeper) in
     let ask = ask_in app c.args.viewer c.args.method.now c.args.path.now c.args.query.now c.args.body.now in
     let made = c.in-Ok.ensures.made in
-    let reply = c.as_bytes.ensures ∙ made.reply_made in
-    let line = ap (λ (t : List ℕ). decimal (c.args.served + 1) ++ t) (c.as_bytes-in-Ok.ensures ∙ made.audit_made) in
+    let reply = c.as_slice.ensures ∙ made.reply_made in
+    let line = ap (λ (t : List ℕ). decimal (c.args.served + 1) ++ t) (c.as_bytes.ensures ∙ made.audit_made) in
     Went-on _ _ _
     (λ out audit put. (
       made.answer,

@@ -8,4 +8,4 @@ returns-in-Refused-clause-handled g c =
     let K = g.K.Keeper in
     let a = c.args.self.now in
     rw c.in-Refused.is
-    (refl, refl, refused-handled (application_of a.service.now) a.sessions.now (K.seen a.keeper.now) c.args.conn _ _ (rw c.in-Refused.is at c.requires.refusal) c.requires.ready.1 c.answer_refused.ensures)
+    (refl, refl, refused-handled a.spelling (application_of a.service.now) a.sessions.now (K.seen a.keeper.now) c.args.conn _ _ (rw c.in-Refused.is at c.requires.refusal) c.requires.ready.1 c.answer_refused.ensures)

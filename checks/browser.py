@@ -1,0 +1,304 @@
+#!/usr/bin/env python3
+"""Walks through the four applications of examples/ with a headless Chromium: the start page, forms that add and
+change, lists, the page of one record, what another viewer gets there, and a page that isn't there. Words: the program,
+and a folder for pictures of the pages, if they are wanted. Prints each case that fails, and ends with a count. Where
+Chromium isn't installed nothing is done, and that is said."""
+import base64
+import contextlib
+import json
+import os
+import select
+import shutil
+import subprocess
+import sys
+import tempfile
+import time
+
+from serving import served
+
+TOP = os.path.dirname(os.path.dirname(os.path.abspath(__file__)))
+PROGRAM = os.path.abspath(sys.argv[1])
+PICTURES = os.path.abspath(sys.argv[2]) if len(sys.argv) > 2 else None
+NAMES = 'chromium', 'chromium-browser', 'google-chrome'
+WAIT = 30
+
+# Fills the form whose action ends so, and sends it as its button does.
+SEND = '''((end, fields) => {
+  const form = document.querySelector(`form[action$="${end}"]`);
+  for (const [name, value] of Object.entries(fields)) {
+    const field = form.elements[name];
+    if (field.type === "checkbox") { field.checked = value; }
+    else if (field.tagName === "SELECT") {
+      field.value = Array.from(field.options).find((option) => option.text === value).value;
+    }
+    else { field.value = value; }
+  }
+  form.requestSubmit();
+})(%s, %s)'''
+FOLLOW = 'Array.from(document.links).find((link) => link.text === %s).click()'
+TEXT = 'document.body.innerText'
+
+
+class Broken(Exception):
+    pass
+
+
+class Browser:
+    """A Chromium that is spoken to in JSON over two pipes, each message ended by a NUL."""
+
+    def __init__(self, program, folder):
+        asked, self.asks = os.pipe()
+        self.answers, answered = os.pipe()
+        command = 'exec "$0" "$@" 3<&%d 4>&%d' % (asked, answered)
+        flags = ['--headless', '--no-sandbox', '--disable-gpu', '--disable-dev-shm-usage', '--no-first-run',
+                 '--remote-debugging-pipe', '--user-data-dir=' + folder, 'about:blank']
+        self.run = subprocess.Popen(['bash', '-c', command, program, *flags], pass_fds=(asked, answered),
+                                    stdin=subprocess.DEVNULL, stdout=subprocess.DEVNULL, stderr=subprocess.DEVNULL)
+        os.close(asked)
+        os.close(answered)
+        self.read, self.number, self.waiting = b'', 0, []
+
+    def receive(self):
+        while b'\0' not in self.read:
+            if not select.select([self.answers], [], [], WAIT)[0]:
+                raise Broken('the browser says nothing')
+            part = os.read(self.answers, 1 << 20)
+            if not part:
+                raise Broken('the browser went away')
+            self.read += part
+        message, _, self.read = self.read.partition(b'\0')
+        return json.loads(message)
+
+    def call(self, method, session=None, **params):
+        self.number += 1
+        message = {'id': self.number, 'method': method, 'params': params}
+        if session:
+            message['sessionId'] = session
+        os.write(self.asks, json.dumps(message).encode() + b'\0')
+        while True:
+            answer = self.receive()
+            if answer.get('id') == self.number:
+                if 'error' in answer:
+                    raise Broken('%s: %s' % (method, answer['error']['message']))
+                return answer['result']
+            self.waiting.append(answer)
+
+    def event(self, method):
+        """The next event of this kind."""
+        while True:
+            event = self.waiting.pop(0) if self.waiting else self.receive()
+            if event.get('method') == method:
+                return event['params']
+
+    def close(self):
+        with contextlib.suppress(Broken, OSError):
+            self.call('Browser.close')
+        self.run.kill()
+        self.run.wait()
+        os.close(self.asks)
+        os.close(self.answers)
+
+
+class Page:
+    """A page of the browser, at a served application."""
+
+    def __init__(self, browser, run, name):
+        self.browser, self.server, self.name, self.shots = browser, run, name, 0
+        target = browser.call('Target.createTarget', url='about:blank')['targetId']
+        self.session = browser.call('Target.attachToTarget', targetId=target, flatten=True)['sessionId']
+        self.call('Page.enable')
+        self.call('Network.enable')
+
+    def call(self, method, **params):
+        return self.browser.call(method, self.session, **params)
+
+    def run(self, script):
+        result = self.call('Runtime.evaluate', expression=script)
+        if 'exceptionDetails' in result:
+            raise Broken('%s: %s' % (script[:80], result['exceptionDetails'].get('exception', {}).get('description')))
+        return result['result'].get('value')
+
+    def loaded(self, act, *words, **params):
+        """What a step leads to: the status and the text of the page, once it is there."""
+        self.browser.waiting.clear()
+        began = time.monotonic()
+        act(*words, **params)
+        status = None
+        while status is None:
+            answer = self.browser.event('Network.responseReceived')
+            if answer['type'] == 'Document':
+                status = answer['response']['status']
+        self.browser.event('Page.loadEventFired')
+        self.picture(time.monotonic() - began)
+        return status, self.run(TEXT)
+
+    def picture(self, seconds):
+        if PICTURES:
+            self.shots += 1
+            print('%s-%02d: %.2f seconds' % (self.name, self.shots, seconds))
+            data = self.call('Page.captureScreenshot', captureBeyondViewport=True)['data']
+            with open(os.path.join(PICTURES, '%s-%02d.png' % (self.name, self.shots)), 'wb') as file:
+                file.write(base64.b64decode(data))
+
+    def be(self, token):
+        self.call('Network.clearBrowserCookies')
+        if token:
+            self.call('Network.setCookie', name='session', value=token, url=self.server.address('/'))
+
+    def go(self, path):
+        return self.loaded(self.call, 'Page.navigate', url=self.server.address(path))
+
+    def follow(self, text):
+        return self.loaded(self.run, FOLLOW % json.dumps(text))
+
+    def send(self, end, **fields):
+        return self.loaded(self.run, SEND % (json.dumps(end), json.dumps(fields)))
+
+
+def shows(name, page, *texts, but=(), status=200):
+    """The page has this status, shows these texts and none of those."""
+    if page[0] != status:
+        return '%s: status %d, not %d' % (name, page[0], status)
+    for text in texts:
+        if text not in page[1]:
+            return '%s: no %r in %r' % (name, text, page[1])
+    for text in but:
+        if text in page[1]:
+            return '%s: %r in %r' % (name, text, page[1])
+    return None
+
+
+def calendar(page):
+    yield shows('an empty calendar', page.go('/'), 'Nobody is here yet.', 'There are no events yet.')
+    yield shows('it is set up', page.send('/setup'), but=['Nobody is here yet.'])
+    page.be('ann')
+    yield shows('a viewer', page.go('/'), 'You are Ann.', 'A new event')
+    added = page.send('/events', title='Interview at <Acme>', day='2026-12-01', place='Room 2')
+    yield shows('an event', added, 'Interview at <Acme>', 'Room 2', 'The host is Ann.')
+    yield shows('a guest', page.send('/guests', person='Bob'), 'Take Bob off the list')
+    yield shows('all events', page.follow('Calendar'), 'Interview at <Acme>')
+    page.be('dan')
+    yield shows('for another', page.go('/'), 'busy', but=['Interview', 'Room 2'])
+    yield shows('one event for another', page.follow('busy'), 'a guest', but=['Interview', 'Bob'])
+    page.be('bob')
+    yield shows('for a guest', page.go('/'), 'Interview at <Acme>', 'Room 2')
+    yield shows('people', page.follow('People'), 'Cleo')
+    yield shows('no page', page.go('/nothing'), 'No such page', status=404)
+
+
+def conference(page):
+    yield shows('an empty conference', page.go('/'), 'Nobody is logged in.')
+    yield shows('it is set up', page.send('/setup'), but=['Add a chair'])
+    page.be('ann')
+    page.go('/')
+    added = page.send('/papers', title='Lattices for lunch', abstract='On meets & joins.', second='Ben', conflict='Raj')
+    yield shows('a paper', added, 'Lattices for lunch')
+    yield shows('its page', page.go('/') and page.follow('Lattices for lunch'), 'On meets & joins.', 'Ann', 'Ben')
+    page.be('rita')
+    yield shows('for a reviewer', page.go('/') and page.follow('Lattices for lunch'), 'On meets & joins.', but=['Ben'])
+    yield shows('a review', page.send('/reviews', score='5', words='Tasty.'), 'Tasty.')
+    page.be('raj')
+    yield shows('for who has a conflict', page.go('/') and page.follow('Lattices for lunch'), but=['Tasty.'])
+    page.be('carol')
+    yield shows('for the chair', page.go('/') and page.follow('Lattices for lunch'), 'Tasty.', 'Rita')
+    yield shows('a decision', page.send('/decision', accept=True), 'accepted')
+    page.be('ann')
+    yield shows('before it is published', page.go('/'), 'pending', but=['accepted'])
+    page.be('carol')
+    page.go('/')
+    yield shows('published', page.send('/publish'), 'accepted')
+    page.be(None)
+    yield shows('for everybody', page.go('/'), 'Lattices for lunch', 'accepted')
+    yield shows('no page', page.go('/nothing'), 'No such page', status=404)
+
+
+def health(page):
+    yield shows('an empty portal', page.go('/'), 'Nobody is logged in.')
+    yield shows('it is set up', page.send('/setup'), but=['Add two patients'])
+    page.be('house')
+    page.go('/people')
+    yield shows('a patient', page.follow('Ann'), 'Ann')
+    added = page.send('/entries', day='2026-11-02', title='Blood test', words='Nothing < normal.')
+    yield shows('an entry', added, 'Blood test', 'Nothing < normal.')
+    yield shows('all entries', page.follow('Records'), 'Blood test')
+    page.be('quinn')
+    yield shows('without a consent', page.go('/'), but=['Blood test'])
+    page.be('ann')
+    yield shows('the own page', page.go('/') and page.follow('your page'), 'Blood test')
+    yield shows('a consent', page.send('/consents', doctor='Dr Quinn'), 'Withdraw')
+    page.be('quinn')
+    yield shows('with a consent', page.go('/'), 'Blood test')
+    page.be('ann')
+    page.go('/')
+    page.follow('Blood test')
+    yield shows('a hidden entry', page.send('/hide'), 'Show it to my doctors again')
+    page.be('quinn')
+    yield shows('it is hidden', page.go('/'), but=['Blood test'])
+    page.be(None)
+    yield shows('for nobody', page.go('/people'), 'a patient', but=['Ann'])
+    yield shows('no page', page.go('/nothing'), 'No such page', status=404)
+
+
+def courses(page):
+    yield shows('no courses', page.go('/'), 'Nobody is logged in.')
+    yield shows('they are set up', page.send('/setup'), but=['Add two instructors'])
+    page.be('ada')
+    page.go('/')
+    yield shows('a course', page.send('/courses', title='Logic & sets'), 'Logic & sets')
+    yield shows('its page', page.go('/') and page.follow('Logic & sets'), 'Give a place')
+    yield shows('a place', page.send('/places', student='Mia'), 'Mia')
+    page.send('/places', student='Noah')
+    yield shows('a task', page.send('/tasks', title='Induction', points='10'), 'Induction')
+    page.be('mia')
+    page.go('/')
+    page.follow('Logic & sets')
+    yield shows('its page for a student', page.follow('Induction'), 'not returned yet')
+    yield shows('a submission', page.send('/submissions', words='By <induction>.'), 'By <induction>.')
+    page.be('noah')
+    page.go('/')
+    page.follow('Logic & sets')
+    yield shows('for another student', page.follow('Induction'), but=['By <induction>.'])
+    page.be('ada')
+    page.go('/')
+    page.follow('Logic & sets')
+    yield shows('for the teacher', page.follow('Induction'), 'By <induction>.', 'Grade of Mia')
+    yield shows('a grade', page.send('/grade', grade='9', remark='Neat.'), '9')
+    yield shows('returned', page.send('/return'), 'Take the grades back')
+    page.be('mia')
+    page.go('/')
+    page.follow('Logic & sets')
+    yield shows('the own grade', page.follow('Induction'), '9', 'Neat.')
+    yield shows('no page', page.go('/nothing'), 'No such page', status=404)
+
+
+def walk(browser, name, steps):
+    """What each step of a walk lacks, if anything."""
+    folder = os.path.join(TOP, 'examples', name)
+    with served(PROGRAM, 'app', 1000, folder, ('--sessions', 'sessions')) as run:
+        results = []
+        try:
+            for wrong in steps(Page(browser, run, name)):
+                results.append(wrong and '%s: %s' % (name, wrong))
+        except Broken as broken:
+            results.append('%s: %s' % (name, broken))
+        return results
+
+
+def main():
+    found = next(filter(None, map(shutil.which, NAMES)), None)
+    if not found:
+        print('left out, as Chromium is not installed: all of it\n0 passed, 0 failed')
+        return
+    results = []
+    # what the browser still writes as it ends may be left behind
+    with tempfile.TemporaryDirectory(ignore_cleanup_errors=True) as folder, contextlib.closing(Browser(found, folder)) as browser:
+        for steps in (calendar, conference, health, courses):
+            results += walk(browser, steps.__name__, steps)
+    for wrong in filter(None, results):
+        print('FAILED ' + wrong)
+    failed = sum(1 for wrong in results if wrong)
+    print('%d passed, %d failed' % (len(results) - failed, failed))
+    sys.exit(1 if failed else 0)
+
+
+main()

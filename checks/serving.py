@@ -1,0 +1,62 @@
+"""Runs of the program's command `serve` for the checks: on a port that is free, until they end or are no longer
+wanted."""
+import contextlib
+import socket
+import subprocess
+import time
+
+HOST = '127.0.0.1'
+
+
+def free_port():
+    with contextlib.closing(socket.socket()) as door:
+        door.bind((HOST, 0))
+        return door.getsockname()[1]
+
+
+def is_listening(port):
+    """Whether somebody listens on the port, without a connection to it: state 0A in Linux's table."""
+    with open('/proc/net/tcp') as table:
+        rows = [line.split() for line in table.readlines()[1:]]
+    return any(int(row[1].partition(':')[2], 16) == port and row[3] == '0A' for row in rows)
+
+
+class Served:
+    """A run under way."""
+
+    def __init__(self, run, port):
+        self.run, self.port = run, port
+
+    def connect(self):
+        line = socket.create_connection((HOST, self.port), timeout=20)
+        line.setsockopt(socket.IPPROTO_TCP, socket.TCP_NODELAY, 1)
+        return line
+
+    def address(self, path):
+        return 'http://%s:%d%s' % (HOST, self.port, path)
+
+    def end(self):
+        """The status and the output, once it ended by itself."""
+        out, _ = self.run.communicate(timeout=30)
+        return self.run.returncode, out
+
+    def kill(self):
+        self.run.kill()
+        self.run.wait()
+
+
+@contextlib.contextmanager
+def served(program, app, count, folder, options=()):
+    """The application, served on a free port to so many connections. What still runs in the end is killed."""
+    port = free_port()
+    words = [program, 'serve', app, str(port), str(count), *options]
+    run = subprocess.Popen(words, cwd=folder, stdin=subprocess.DEVNULL, stdout=subprocess.PIPE)
+    try:
+        deadline = time.monotonic() + 20
+        while run.poll() is None and not is_listening(port) and time.monotonic() < deadline:
+            time.sleep(0.01)
+        yield Served(run, port)
+    finally:
+        run.kill()
+        run.wait()
+        run.stdout.close()

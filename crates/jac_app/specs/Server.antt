@@ -1,0 +1,104 @@
+-- How the steps of `serve` end: an application is served to the connections of a door.
+use Rattle.std.specs.Prelude.{◌≡◌, ◌⊎◌, ℕ, IsTrue, Result, Ok, Err, Some, List, [], ◌++◌, codes, decimal}
+use Rattle.jac_io.specs.Faults.{Rose}
+use Rattle.jac_io.specs.Linked.{LinkSeen, DoorSeen}
+use Rattle.jac_lang.specs.Syntax.{Application}
+use Rattle.jac_keep.specs.KeeperSeen.{KeeperSeen}
+use Rattle.jac_route.specs.declared.sessions.Session.{Session}
+use Rattle.jac_app.specs.declared.words.Command.TheVariants as commands
+use Rattle.jac_app.specs.declared.words.Serving.{Serving}
+use Rattle.jac_app.specs.declared.door.DoorHalt.{DoorHalt}
+use Rattle.jac_app.specs.declared.door.DoorHalt.TheVariants as halts
+use Rattle.jac_app.specs.declared.door.Tally.{Tally}
+use Rattle.jac_app.specs.declared.ending.Ending.{Ending}
+use Rattle.jac_app.specs.declared.ending.Ending.TheVariants as endings
+use Rattle.jac_app.specs.Keeping.{IsStill}
+use Rattle.jac_app.specs.Outside.{Span, span, Sinks, IsFront, AWriteFailed}
+use Rattle.jac_app.specs.Files.{Sight, sinks_of, HasApplication, HasSessions, IsAimed, IsIdle}
+use Rattle.jac_app.specs.Replay.{schema_text, IsAttached, IsUnattached, IsOther, IsEndedEarly}
+use Rattle.jac_app.specs.Door.{AreLinksServed}
+
+-- `served C connections, K replies`
+abbrev pub served_line : Tally → List ℕ
+served_line tally = codes "served " ++ decimal tally.connections ++ codes " connections, " ++ decimal tally.replies ++ codes " replies\n"
+
+-- why serving a door that halted ends the command
+abbrev pub halted : DoorHalt → Ending
+halted halts.Door = endings.DoorFault
+halted halts.Write = endings.WriteFault
+halted halts.Memory = endings.Memory
+
+-- how serving so many connections at most ends, with the line that tells how many there were
+abbrev pub EndsConnections : {L : Type 0} → (L → LinkSeen) → Application → List Session → ℕ → Span (DoorSeen L) → Span KeeperSeen → Result (Unit {0}) Ending → List ℕ → List ℕ → Type 0
+EndsConnections line app sessions most door k (Ok done) out audit =
+    (tally : Tally) × AreLinksServed line app sessions most door k (Ok tally) audit × (out ≡ served_line tally)
+EndsConnections line app sessions most door k (Err endings.WriteFault) out audit =
+    (AreLinksServed line app sessions most door k (Err halts.Write) audit × (out ≡ []))
+    ⊎ ((tally : Tally) × AreLinksServed line app sessions most door k (Ok tally) audit × IsFront out (served_line tally))
+EndsConnections line app sessions most door k (Err endings.DoorFault) out audit = AreLinksServed line app sessions most door k (Err halts.Door) audit × (out ≡ [])
+EndsConnections line app sessions most door k (Err endings.Memory) out audit = AreLinksServed line app sessions most door k (Err halts.Memory) audit × (out ≡ [])
+EndsConnections line app sessions most door k (Err ending) out audit = ⊥
+
+-- a door that tells listened on the port, and its connections were served
+pub record IsListenedAt {L : Type 0} (line : L → LinkSeen) (app : Application) (sessions : List Session) (serving : Serving) (door : Span (DoorSeen L)) (k : Span KeeperSeen)
+    (result : Result (Unit {0}) Ending) (out audit : List ℕ) : Type 0 where
+  pub listens : IsTrue door.after.tells → door.after.port ≡ Some serving.port
+  pub ends : EndsConnections line app sessions serving.count door k result out audit
+
+-- a door listens where it did, no link of it was served, and nothing was put
+pub record IsUnheard {L : Type 0} (door : Span (DoorSeen L)) (k : Span KeeperSeen) (out audit : List ℕ) : Type 0 where
+  pub same_port : IsTrue door.after.tells → door.after.port ≡ door.before.port
+  pub same_coming : IsTrue door.after.tells → door.after.coming ≡ door.before.coming
+  pub same_returned : IsTrue door.after.tells → door.after.returned ≡ door.before.returned
+  pub still : IsStill k
+  pub no_out : out ≡ []
+  pub no_audit : audit ≡ []
+
+-- how the steps from the listening on end
+abbrev pub EndsDoor : {L : Type 0} → (L → LinkSeen) → Application → List Session → Serving → Span (DoorSeen L) → Span KeeperSeen → Result (Unit {0}) Ending → List ℕ → List ℕ → Type 0
+EndsDoor line app sessions serving door k (Err endings.DoorFault) out audit =
+    Rose door.before.faults door.after.faults × (IsUnheard door k out audit ⊎ IsListenedAt line app sessions serving door k (Err endings.DoorFault) out audit)
+EndsDoor line app sessions serving door k result out audit = IsListenedAt line app sessions serving door k result out audit
+
+-- a store was attached, and the connections were served from what it keeps
+pub record IsServedAt {L : Type 0} (line : L → LinkSeen) (app : Application) (sessions : List Session) (serving : Serving) (door : Span (DoorSeen L)) (k : Span KeeperSeen)
+    (result : Result (Unit {0}) Ending) (out audit : List ℕ) : Type 0 where
+  pub opened : KeeperSeen
+  pub attached : IsAttached serving.db app k opened
+  pub ends : EndsDoor line app sessions serving door (span opened k.after) result out audit
+
+-- no store was attached, and the door wasn't called
+pub record IsUnserved {L : Type 0} (door : Span (DoorSeen L)) (k : Span KeeperSeen) (out audit : List ℕ) : Type 0 where
+  pub unattached : IsUnattached k out audit
+  pub uncalled : door.after ≡ door.before
+
+-- how the steps from the attaching on end
+abbrev pub EndsAttached : {L : Type 0} → (L → LinkSeen) → Application → List Session → Serving → Span (DoorSeen L) → Span KeeperSeen → Result (Unit {0}) Ending → List ℕ → List ℕ → Type 0
+EndsAttached line app sessions serving door k (Err endings.StoreFault) out audit = Rose k.before.faults k.after.faults × IsUnserved door k out audit
+EndsAttached line app sessions serving door k (Err (endings.OtherStore stored wanted)) out audit =
+    (wanted ≡ schema_text app) × IsOther k stored wanted × IsUnserved door k out audit
+EndsAttached line app sessions serving door k (Err endings.Memory) out audit =
+    IsUnserved door k out audit ⊎ IsServedAt line app sessions serving door k (Err endings.Memory) out audit
+EndsAttached line app sessions serving door k result out audit = IsServedAt line app sessions serving door k result out audit
+
+-- how the steps from the audit's aim on end
+abbrev pub EndsAimed : {L : Type 0} → (L → LinkSeen) → Sinks → Application → List Session → Serving → Span (DoorSeen L) → Span KeeperSeen → Result (Unit {0}) Ending → List ℕ → List ℕ → Type 0
+EndsAimed line s app sessions serving door k (Err endings.WriteFault) out audit =
+    AWriteFailed s
+    × ((IsIdle s.audit k out audit × (door.after ≡ door.before))
+    ⊎ (IsAimed serving.audit s.audit × EndsAttached line app sessions serving door k (Err endings.WriteFault) out audit))
+EndsAimed line s app sessions serving door k result out audit =
+    IsAimed serving.audit s.audit × EndsAttached line app sessions serving door k result out audit
+
+-- the files were read, and then the connections were served
+pub record IsServer {L : Type 0} (line : L → LinkSeen) (seen : Sight) (door : Span (DoorSeen L)) (serving : Serving) (result : Result (Unit {0}) Ending) (out audit : List ℕ) : Type 0 where
+  pub app : Application
+  pub sessions : List Session
+  pub application : HasApplication seen (commands.Serve serving) app
+  pub sessions_had : HasSessions seen.files serving.sessions sessions
+  pub ends : EndsAimed line (sinks_of seen) app sessions serving door seen.keeper result out audit
+
+-- what the steps of `serve` put, and why they ended
+abbrev pub EndsServer : {L : Type 0} → (L → LinkSeen) → Sight → Span (DoorSeen L) → Serving → Result (Unit {0}) Ending → List ℕ → List ℕ → Type 0
+EndsServer line seen door serving result out audit =
+    (IsEndedEarly seen (commands.Serve serving) result out audit × (door.after ≡ door.before)) ⊎ IsServer line seen door serving result out audit

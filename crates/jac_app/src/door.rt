@@ -1,0 +1,181 @@
+//! The links of a door are served, one after another.
+ghost use Rattle.std.specs.Prelude.{◌≡◌, ◌≤◌, ◌<◌, ◌*◌, ◌-◌, ◌^◌, IfOk, IfSome, IsTrue, Err};
+ghost use Rattle.jac_io.specs.Faults.{Rose};
+ghost use Rattle.jac_io.specs.Linked.{DoorLasts};
+ghost use Rattle.jac_lang.specs.Mirror.{application_of};
+ghost use Rattle.jac_engine.specs.Start.{IsStart};
+ghost use Rattle.jac_app.specs.Door.{AreLinksServed};
+ghost use Rattle.jac_app.specs.DoorSteps.{VisitsLine, ServesNext};
+ghost use Rattle.jac_app.specs.Outside.{WentTo, span};
+
+use crate::link::{Halt, serve_link};
+use crate::service::Service;
+use jac_io::{AuditSink, Door, Failed};
+use jac_keep::Keeper;
+use jac_route::Sessions;
+use jac_world::Steps;
+use std::alloc::Global;
+use std::sync::ledger::Ledger;
+
+/// How many connections were served, and how many replies they got.
+#[derive(Clone, Copy, Debug, PartialEq, Eq)]
+pub struct Tally {
+    pub connections: u32,
+    pub replies: u64,
+}
+
+/// Why serving a door ended early.
+#[derive(Clone, Copy, Debug, PartialEq, Eq)]
+pub enum DoorHalt {
+    /// The door gave no link, or took none back.
+    Door,
+    /// A put on the audit failed.
+    Write,
+    Memory,
+}
+
+// Serves this link as the next connection, and hands it back.
+fn serve_line<D: Door, U: AuditSink, K: Keeper, L: Ledger, M: Ledger>(
+    alloc: Global,
+    service: &Service,
+    sessions: &Sessions,
+    tally: Tally,
+    line: D::Line,
+    door: &mut D,
+    audit: &mut U,
+    keeper: &mut K,
+    splits: &mut Steps<L>,
+    evaluations: &mut Steps<M>,
+) -> Result<Tally, DoorHalt>
+    requires few { tally.connections < 2 ^ 32 - 1 }
+    requires few_replies { tally.replies ≤ tally.connections * 2 ^ 25 }
+    requires attached { IsTrue (K.seen keeper.old).store.attached }
+    requires start { IsTrue (K.seen keeper.old).tells → IsStart (application_of service.now) (K.seen keeper.old).state }
+    ensures served { WentTo (span (U.seen audit.old) (U.seen audit.new))
+        (VisitsLine D.Line.seen (application_of service.now) sessions.now tally line (span (D.seen door.old) (D.seen door.new)) (span (K.seen keeper.old) (K.seen keeper.new)) result) }
+    ensures lasts { DoorLasts (D.seen door.old) (D.seen door.new) }
+    ensures same_port { IsTrue (D.seen door.new).tells → (D.seen door.new).port ≡ (D.seen door.old).port }
+    ensures same_coming { IsTrue (D.seen door.new).tells → (D.seen door.new).coming ≡ (D.seen door.old).coming }
+    ensures few_replies { IfOk result (λ more. more.replies ≤ more.connections * 2 ^ 25) }
+    ensures cause { result ≡ Err DoorHalt.Write → Rose (U.seen audit.old).faults (U.seen audit.new).faults }
+    ensures start { IsTrue (K.seen keeper.new).tells → IsStart (application_of service.now) (K.seen keeper.new).state }
+    ensures attached { (K.seen keeper.new).store ≡ (K.seen keeper.old).store }
+{
+    let mut line = line;
+    let connections = tally.connections + 1;
+    match serve_link(
+        alloc,
+        service,
+        sessions,
+        connections,
+        tally.replies,
+        &mut line,
+        audit,
+        keeper,
+        splits,
+        evaluations,
+    ) {
+        Ok(count) => match door.close(line) {
+            Ok(()) => Ok(Tally {
+                connections,
+                replies: tally.replies + count,
+            }),
+            Err(Failed) => Err(DoorHalt::Door),
+        },
+        Err(Halt::Write) => Err(DoorHalt::Write),
+        Err(Halt::Memory) => Err(DoorHalt::Memory),
+    }
+}
+
+// Serves the door's next link; none where it has no more.
+fn serve_next<D: Door, U: AuditSink, K: Keeper, L: Ledger, M: Ledger>(
+    alloc: Global,
+    service: &Service,
+    sessions: &Sessions,
+    tally: Tally,
+    door: &mut D,
+    audit: &mut U,
+    keeper: &mut K,
+    splits: &mut Steps<L>,
+    evaluations: &mut Steps<M>,
+) -> Result<Option<Tally>, DoorHalt>
+    requires few { tally.connections < 2 ^ 32 - 1 }
+    requires few_replies { tally.replies ≤ tally.connections * 2 ^ 25 }
+    requires attached { IsTrue (K.seen keeper.old).store.attached }
+    requires start { IsTrue (K.seen keeper.old).tells → IsStart (application_of service.now) (K.seen keeper.old).state }
+    ensures served { WentTo (span (U.seen audit.old) (U.seen audit.new))
+        (ServesNext D.Line.seen (application_of service.now) sessions.now tally (span (D.seen door.old) (D.seen door.new)) (span (K.seen keeper.old) (K.seen keeper.new)) result) }
+    ensures lasts { DoorLasts (D.seen door.old) (D.seen door.new) }
+    ensures same_port { IsTrue (D.seen door.new).tells → (D.seen door.new).port ≡ (D.seen door.old).port }
+    ensures few_replies { IfOk result (λ next. IfSome next (λ more. more.replies ≤ more.connections * 2 ^ 25)) }
+    ensures cause { result ≡ Err DoorHalt.Write → Rose (U.seen audit.old).faults (U.seen audit.new).faults }
+    ensures start { IsTrue (K.seen keeper.new).tells → IsStart (application_of service.now) (K.seen keeper.new).state }
+    ensures attached { (K.seen keeper.new).store ≡ (K.seen keeper.old).store }
+{
+    match door.next() {
+        Ok(Some(line)) => match serve_line(
+            alloc,
+            service,
+            sessions,
+            tally,
+            line,
+            door,
+            audit,
+            keeper,
+            splits,
+            evaluations,
+        ) {
+            Ok(more) => Ok(Some(more)),
+            Err(halt) => Err(halt),
+        },
+        Ok(None) => Ok(None),
+        Err(Failed) => Err(DoorHalt::Door),
+    }
+}
+
+/// Serves so many of the door's links at most, as connections that are numbered from 1, and hands each back. A
+/// connection within which serving ends isn't handed back.
+pub fn serve_links<D: Door, U: AuditSink, K: Keeper, L: Ledger, M: Ledger>(
+    alloc: Global,
+    service: &Service,
+    sessions: &Sessions,
+    most: u32,
+    door: &mut D,
+    audit: &mut U,
+    keeper: &mut K,
+    splits: &mut Steps<L>,
+    evaluations: &mut Steps<M>,
+) -> Result<Tally, DoorHalt>
+    requires attached { IsTrue (K.seen keeper.old).store.attached }
+    requires start { IsTrue (K.seen keeper.old).tells → IsStart (application_of service.now) (K.seen keeper.old).state }
+    ensures served { WentTo (span (U.seen audit.old) (U.seen audit.new))
+        (AreLinksServed D.Line.seen (application_of service.now) sessions.now most (span (D.seen door.old) (D.seen door.new)) (span (K.seen keeper.old) (K.seen keeper.new)) result) }
+    ensures lasts { DoorLasts (D.seen door.old) (D.seen door.new) }
+    ensures same_port { IsTrue (D.seen door.new).tells → (D.seen door.new).port ≡ (D.seen door.old).port }
+    ensures cause { result ≡ Err DoorHalt.Write → Rose (U.seen audit.old).faults (U.seen audit.new).faults }
+    ensures start { IsTrue (K.seen keeper.new).tells → IsStart (application_of service.now) (K.seen keeper.new).state }
+    ensures attached { (K.seen keeper.new).store ≡ (K.seen keeper.old).store }
+{
+    let mut tally = Tally {
+        connections: 0,
+        replies: 0,
+    };
+    'links: while tally.connections < most {
+        match serve_next(
+            alloc,
+            service,
+            sessions,
+            tally,
+            door,
+            audit,
+            keeper,
+            splits,
+            evaluations,
+        ) {
+            Ok(Some(more)) => tally = more,
+            Ok(None) => return Ok(tally),
+            Err(halt) => return Err(halt),
+        }
+    }
+    Ok(tally)
+}

@@ -1,0 +1,272 @@
+//! `serve`: an application is served on a port, to one connection after another.
+ghost use Rattle.std.specs.Prelude.{◌≡◌, IsTrue, Err, false};
+ghost use Rattle.jac_io.specs.Linked.{DoorLasts};
+ghost use Rattle.jac_lang.specs.Mirror.{application_of};
+ghost use Rattle.jac_plain.specs.Models.{kinds_of};
+ghost use Rattle.jac_keep.specs.Schema.{IsSchema};
+ghost use Rattle.jac_engine.specs.Start.{IsStart};
+ghost use Rattle.jac_app.specs.declared.ending.Ending.TheVariants as endings;
+ghost use Rattle.jac_app.specs.Outside.{AWriteFailed, IsPut, Went, WentAimed, span, sinks};
+ghost use Rattle.jac_app.specs.Files.{sight};
+ghost use Rattle.jac_app.specs.Replay.{schema_text};
+ghost use Rattle.jac_app.specs.Server.{served_line, halted, EndsConnections, EndsDoor, EndsAttached, EndsAimed, EndsServer};
+
+use crate::attach::attach;
+use crate::door::{DoorHalt, Tally, serve_links};
+use crate::ending::{Ending, Role};
+use crate::files::{open_app, read_file, read_sessions};
+use crate::outside::put_five;
+use crate::replay::{copy_name, named};
+use crate::service::Service;
+use crate::words::Serving;
+use itoa::Buffer;
+use jac_io::{AuditSink, Door, Failed, Files, Sink};
+use jac_keep::{Keeper, Vault};
+use jac_route::Sessions;
+use jac_value::{Memory, Txt};
+use jac_world::Steps;
+use std::alloc::Global;
+use std::sync::ledger::Ledger;
+
+fn halted(halt: DoorHalt) -> Ending
+    ensures { result ≡ halted halt }
+{
+    match halt {
+        DoorHalt::Door => Ending::DoorFault,
+        DoorHalt::Write => Ending::WriteFault,
+        DoorHalt::Memory => Ending::Memory,
+    }
+}
+
+// Puts how many connections were served, and how many replies they got; it takes no memory.
+fn put_served<O: Sink>(out: &mut O, tally: Tally) -> Result<(), Failed>
+    ensures { IsPut (span (O.seen out.old) (O.seen out.new)) (served_line tally) result }
+{
+    let mut connections = Buffer::new();
+    let mut replies = Buffer::new();
+    let connection_digits = connections.format(tally.connections);
+    let reply_digits = replies.format(tally.replies);
+    put_five(
+        out,
+        b"served ",
+        connection_digits.as_bytes(),
+        b" connections, ",
+        reply_digits.as_bytes(),
+        b" replies\n",
+    )
+}
+
+// Serves the door's connections, and tells how many there were.
+fn serve_connections<O: Sink, U: AuditSink, K: Keeper, D: Door, L: Ledger, M: Ledger>(
+    alloc: Global,
+    service: &Service,
+    sessions: &Sessions,
+    serving: &Serving,
+    out: &mut O,
+    audit: &mut U,
+    keeper: &mut K,
+    door: &mut D,
+    splits: &mut Steps<L>,
+    evaluations: &mut Steps<M>,
+) -> Result<(), Ending>
+    requires attached { IsTrue (K.seen keeper.old).store.attached }
+    requires start { IsTrue (K.seen keeper.old).tells → IsStart (application_of service.now) (K.seen keeper.old).state }
+    ensures served { Went (sinks (O.seen out.old) (O.seen out.new) (U.seen audit.old) (U.seen audit.new))
+        (EndsConnections D.Line.seen (application_of service.now) sessions.now serving.now.count (span (D.seen door.old) (D.seen door.new)) (span (K.seen keeper.old) (K.seen keeper.new)) result) }
+    ensures cause { result ≡ Err endings.WriteFault → AWriteFailed (sinks (O.seen out.old) (O.seen out.new) (U.seen audit.old) (U.seen audit.new)) }
+    ensures lasts { DoorLasts (D.seen door.old) (D.seen door.new) }
+    ensures same_port { IsTrue (D.seen door.new).tells → (D.seen door.new).port ≡ (D.seen door.old).port }
+    ensures store { (K.seen keeper.new).store ≡ (K.seen keeper.old).store }
+{
+    match serve_links(
+        alloc,
+        service,
+        sessions,
+        serving.count,
+        door,
+        audit,
+        keeper,
+        splits,
+        evaluations,
+    ) {
+        Ok(tally) => match put_served(out, tally) {
+            Ok(()) => Ok(()),
+            Err(Failed) => Err(Ending::WriteFault),
+        },
+        Err(halt) => Err(halted(halt)),
+    }
+}
+
+// Has the door listen, and serves its connections.
+fn serve_door<O: Sink, U: AuditSink, K: Keeper, D: Door, L: Ledger, M: Ledger>(
+    alloc: Global,
+    service: &Service,
+    sessions: &Sessions,
+    serving: &Serving,
+    out: &mut O,
+    audit: &mut U,
+    keeper: &mut K,
+    door: &mut D,
+    splits: &mut Steps<L>,
+    evaluations: &mut Steps<M>,
+) -> Result<(), Ending>
+    requires attached { IsTrue (K.seen keeper.old).store.attached }
+    requires start { IsTrue (K.seen keeper.old).tells → IsStart (application_of service.now) (K.seen keeper.old).state }
+    ensures served { Went (sinks (O.seen out.old) (O.seen out.new) (U.seen audit.old) (U.seen audit.new))
+        (EndsDoor D.Line.seen (application_of service.now) sessions.now serving.now (span (D.seen door.old) (D.seen door.new)) (span (K.seen keeper.old) (K.seen keeper.new)) result) }
+    ensures cause { result ≡ Err endings.WriteFault → AWriteFailed (sinks (O.seen out.old) (O.seen out.new) (U.seen audit.old) (U.seen audit.new)) }
+    ensures lasts { DoorLasts (D.seen door.old) (D.seen door.new) }
+    ensures store { (K.seen keeper.new).store ≡ (K.seen keeper.old).store }
+{
+    match door.listen(serving.port) {
+        Ok(()) => serve_connections(
+            alloc,
+            service,
+            sessions,
+            serving,
+            out,
+            audit,
+            keeper,
+            door,
+            splits,
+            evaluations,
+        ),
+        Err(Failed) => Err(Ending::DoorFault),
+    }
+}
+
+// Attaches the store, and serves the door.
+fn serve_attached<O: Sink, U: AuditSink, K: Vault, D: Door, L: Ledger, M: Ledger>(
+    alloc: Global,
+    service: &Service,
+    sessions: &Sessions,
+    serving: &Serving,
+    schema: Txt,
+    out: &mut O,
+    audit: &mut U,
+    vault: &mut K,
+    door: &mut D,
+    splits: &mut Steps<L>,
+    evaluations: &mut Steps<M>,
+) -> Result<(), Ending>
+    requires first { (K.seen vault.old).store.called ≡ false }
+    requires own { schema ≡ schema_text (application_of service.now) }
+    requires schema { IsSchema schema (kinds_of (application_of service.now)) }
+    ensures served { Went (sinks (O.seen out.old) (O.seen out.new) (U.seen audit.old) (U.seen audit.new))
+        (EndsAttached D.Line.seen (application_of service.now) sessions.now serving.now (span (D.seen door.old) (D.seen door.new)) (span (K.seen vault.old) (K.seen vault.new)) result) }
+    ensures cause { result ≡ Err endings.WriteFault → AWriteFailed (sinks (O.seen out.old) (O.seen out.new) (U.seen audit.old) (U.seen audit.new)) }
+    ensures lasts { DoorLasts (D.seen door.old) (D.seen door.new) }
+{
+    match attach(alloc, service, named(&serving.db), schema, vault) {
+        Ok(()) => serve_door(
+            alloc,
+            service,
+            sessions,
+            serving,
+            out,
+            audit,
+            vault,
+            door,
+            splits,
+            evaluations,
+        ),
+        Err(ending) => Err(ending),
+    }
+}
+
+// Aims the audit, attaches the store, and serves the door.
+fn serve_aimed<O: Sink, U: AuditSink, K: Vault, D: Door, L: Ledger, M: Ledger>(
+    alloc: Global,
+    service: &Service,
+    sessions: &Sessions,
+    serving: &Serving,
+    aim: Option<Txt>,
+    schema: Txt,
+    out: &mut O,
+    audit: &mut U,
+    vault: &mut K,
+    door: &mut D,
+    splits: &mut Steps<L>,
+    evaluations: &mut Steps<M>,
+) -> Result<(), Ending>
+    requires first { (K.seen vault.old).store.called ≡ false }
+    requires aim { aim ≡ serving.now.audit }
+    requires own { schema ≡ schema_text (application_of service.now) }
+    requires schema { IsSchema schema (kinds_of (application_of service.now)) }
+    ensures served { WentAimed (sinks (O.seen out.old) (O.seen out.new) (U.seen audit.old) (U.seen audit.new))
+        (EndsAimed D.Line.seen (sinks (O.seen out.old) (O.seen out.new) (U.seen audit.old) (U.seen audit.new)) (application_of service.now) sessions.now serving.now
+        (span (D.seen door.old) (D.seen door.new)) (span (K.seen vault.old) (K.seen vault.new)) result) }
+    ensures lasts { DoorLasts (D.seen door.old) (D.seen door.new) }
+{
+    match audit.aim(aim) {
+        Ok(()) => serve_attached(
+            alloc,
+            service,
+            sessions,
+            serving,
+            schema,
+            out,
+            audit,
+            vault,
+            door,
+            splits,
+            evaluations,
+        ),
+        Err(Failed) => Err(Ending::WriteFault),
+    }
+}
+
+/// The steps of `serve`: the application, the sessions, the audit's aim, the store, the door's port, each connection,
+/// and the line that tells how many there were.
+pub fn serve<F: Files, O: Sink, U: AuditSink, K: Vault, D: Door, L: Ledger, M: Ledger>(
+    alloc: Global,
+    serving: &Serving,
+    files: &mut F,
+    out: &mut O,
+    audit: &mut U,
+    vault: &mut K,
+    door: &mut D,
+    splits: &mut Steps<L>,
+    evaluations: &mut Steps<M>,
+) -> Result<(), Ending>
+    requires first { (K.seen vault.old).store.called ≡ false }
+    ensures ends { WentAimed (sinks (O.seen out.old) (O.seen out.new) (U.seen audit.old) (U.seen audit.new))
+        (EndsServer D.Line.seen (sight (F.seen files.old) (F.seen files.new) (O.seen out.old) (O.seen out.new) (U.seen audit.old) (U.seen audit.new) (K.seen vault.old) (K.seen vault.new))
+        (span (D.seen door.old) (D.seen door.new)) serving.now result) }
+    ensures lasts { DoorLasts (D.seen door.old) (D.seen door.new) }
+{
+    let bytes = match read_file(alloc, files, &serving.app, Role::App) {
+        Ok(bytes) => bytes,
+        Err(ending) => return Err(ending),
+    };
+    let service = match open_app(alloc, bytes.as_slice()) {
+        Ok(service) => service,
+        Err(ending) => return Err(ending),
+    };
+    let sessions = match read_sessions(alloc, files, named(&serving.sessions)) {
+        Ok(sessions) => sessions,
+        Err(ending) => return Err(ending),
+    };
+    let aim = match copy_name(alloc, named(&serving.audit)) {
+        Ok(aim) => aim,
+        Err(Memory) => return Err(Ending::Memory),
+    };
+    let schema = match service.schema(alloc) {
+        Ok(schema) => schema,
+        Err(Memory) => return Err(Ending::Memory),
+    };
+    serve_aimed(
+        alloc,
+        &service,
+        &sessions,
+        serving,
+        aim,
+        schema,
+        out,
+        audit,
+        vault,
+        door,
+        splits,
+        evaluations,
+    )
+}

@@ -1,0 +1,9 @@
+//! The program's stores: in memory, or in a database file. They stand in a crate of their own, so that whoever uses
+//! them doesn't prove again how a connection to a file is dropped.
+#![tactic(auto)]
+
+mod file;
+mod vault;
+
+pub use file::FileKeeper;
+pub use vault::HostVault;

@@ -1,0 +1,97 @@
+ghost use Rattle.std.specs.Prelude.{◌≡◌, None, [], false};
+ghost use Rattle.jac_keep.specs.KeeperState.{IsStored, unopened};
+
+use crate::FileKeeper;
+use jac_io::Calls;
+use jac_keep::{AttachFault, Change, Keeper, MemoryKeeper, Stop, Vault};
+use jac_rows::{Rows, State};
+use jac_value::{Id, Txt};
+use std::alloc::Global;
+use std::marker::Model;
+
+/// Where the program keeps its state: in memory, of which it tells, or in the file that it is attached to.
+#[derive(Drop)]
+pub struct HostVault {
+    rt: HostRuntime,
+    memory: MemoryKeeper,
+    file: Option<FileKeeper>,
+}
+
+impl Model for HostVault {
+    ghost use Rattle.jac_hostkeep.specs.HostSeen.{HostSeen, IsHost};
+
+    ghost Value = { HostSeen };
+
+    ghost view = { λ h. record { memory = h.memory; file = h.file } };
+
+    ghost invariant = { λ h. IsHost h.memory h.file };
+}
+
+impl HostVault {
+    /// A vault that wasn't attached yet, whose state in memory is this one.
+    pub fn new(alloc: Global, state: State, rt: HostRuntime) -> HostVault
+        requires { IsStored None state }
+        ensures { result ≡ record { memory = record { state = state; store = unopened None; fail_reads = []; fail_applies = []; reads = 0; applies = 0; faults = 0 }; file = None } }
+    {
+        HostVault {
+            rt,
+            memory: MemoryKeeper::new(state, None, Calls::empty(alloc), Calls::empty(alloc)),
+            file: None,
+        }
+    }
+}
+
+impl Keeper for HostVault {
+    ghost use Rattle.jac_hostkeep.specs.HostSeen.{seen_host};
+
+    ghost seen = { seen_host };
+
+    fn number(&mut self) -> Result<u64, Stop> {
+        match &mut self.file {
+            Some(file) => file.number(),
+            None => self.memory.number(),
+        }
+    }
+
+    fn rows(&mut self, alloc: Global, model: u8) -> Result<Rows, Stop> {
+        match &mut self.file {
+            Some(file) => file.rows(alloc, model),
+            None => self.memory.rows(alloc, model),
+        }
+    }
+
+    fn one(&mut self, alloc: Global, id: Id) -> Result<Rows, Stop> {
+        match &mut self.file {
+            Some(file) => file.one(alloc, id),
+            None => self.memory.one(alloc, id),
+        }
+    }
+
+    fn apply(&mut self, alloc: Global, change: &Change) -> Result<(), Stop> {
+        match &mut self.file {
+            Some(file) => file.apply(alloc, change),
+            None => self.memory.apply(alloc, change),
+        }
+    }
+}
+
+impl Vault for HostVault {
+    /// The store of a name is a file; without one it is in memory.
+    #[tactic(auto, using(crate::proofs::Attached::memory_first, crate::proofs::Attached::file_attached, crate::proofs::Attached::memory_attached, crate::proofs::Attached::host_of_memory))]
+    fn attach(
+        &mut self,
+        alloc: Global,
+        name: Option<&Txt>,
+        schema: &Txt,
+    ) -> Result<(), AttachFault> {
+        match name {
+            Some(name) => {
+                let mut file = FileKeeper::new(self.rt);
+                let attached = file.attach(alloc, Some(name), schema);
+                self.file = Some(file);
+                attached
+            }
+            None => self.memory.attach(alloc, None, schema),
+        }
+    }
+}

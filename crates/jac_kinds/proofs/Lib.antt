@@ -1,0 +1,14 @@
+pub mod Tests
+pub mod Tables
+pub mod Tuples
+pub mod Names
+pub mod SortKeys
+pub mod Operands
+pub mod Means
+pub mod Distinct
+pub mod Models
+pub mod GetViews
+pub mod Writes
+pub mod Bindings
+pub mod Runs
+pub mod Requests

@@ -1,0 +1,4 @@
+pub mod Fits
+pub mod Operands
+pub mod Publics
+pub mod Runs

@@ -1,5 +1,0 @@
-use Rattle.std.proofs.Common.{◌≤◌, vec_len}
-use Rattle.jac_main.proofs.host.read_file.Given as goal
-
-abbrev pub invariant-chunks : goal.invariant-chunks
-invariant-chunks l = vec_len l.bytes ≤ l.limit

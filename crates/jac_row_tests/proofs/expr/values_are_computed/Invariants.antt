@@ -1,4 +1,0 @@
-use Rattle.jac_row_tests.proofs.expr.values_are_computed.Given as goal
-
-abbrev pub ghosts-run_operations : goal.ghosts-run_operations
-ghosts-run_operations g a = record { name = a.blank.name; parts = a.blank.parts }

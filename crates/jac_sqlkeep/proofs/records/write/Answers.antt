@@ -1,0 +1,11 @@
+use Rattle.std.proofs.Common.{[], ◌∷◌}
+use Rattle.jac_sqlkeep.specs.Statements.{replacements, numbering}
+use Rattle.jac_sqlkeep.proofs.Steps.{inside_then}
+use Rattle.jac_sqlkeep.proofs.records.write.Goals as goal
+
+pub returns-clause-inside : goal.returns-clause-inside
+returns-clause-inside g c =
+    let change = c.args.change.now in
+    let written = rw c.as_slice.ensures.items at c.in_ok-write_records.ensures.inside in
+    inside_then g.S.Store (replacements change.changed) (numbering change.number ∷ []) c.args.tx.now.conn.now c.write_records.new.tx.conn.now c.set_number.new.tx.conn.now
+    c.in_ok-write_records.field-0 c.set_number.result written c.set_number.ensures.inside

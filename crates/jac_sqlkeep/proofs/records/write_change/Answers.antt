@@ -1,0 +1,24 @@
+use Rattle.std.proofs.Common.{◌≡◌, Err, subst, rules}
+use Rattle.sqlite.specs.Held.{Held}
+use Rattle.jac_sqlkeep.specs.Statements.{statements_of}
+use Rattle.jac_sqlkeep.specs.Transaction.{Transacts}
+use Rattle.jac_sqlkeep.proofs.Steps.{transacts_end, transacts_none}
+use Rattle.jac_sqlkeep.proofs.records.write_change.Goals as goal
+
+pub returns-in-Ok : goal.returns-in-Ok
+returns-in-Ok g c =
+    let xs = statements_of c.args.change.now in
+    let end = c.commit.new.self.0 in
+    let same : end ≡ c.conn-1.given.0 = search rules in
+    subst (λ (h : Held g.row.S.Denot). Transacts {T = Unit {0}} g.S.Store xs c.args.conn.now h c.commit.result) same
+    (transacts_end g.S.Store xs c.args.conn.now c.transaction-tx.result.conn.now c.write.new.tx.conn.now end tt c.commit.result c.transaction-tx.ensures.begun
+    c.in-Ok.ensures.inside (c.is_autocommit.ensures.settled (search rules)) (λ clean. search rules) c.commit.ensures.err c.commit.ensures.survives)
+
+pub returns-in-Err : goal.returns-in-Err
+returns-in-Err g c =
+    let xs = statements_of c.args.change.now in
+    let end = c.rollback.new.self.0 in
+    let same : end ≡ c.conn-in-Err-1.given.0 = search rules in
+    subst (λ (h : Held g.row.S.Denot). Transacts {T = Unit {0}} g.S.Store xs c.args.conn.now h (Err c.in-Err.error)) same
+    (transacts_none g.S.Store xs c.args.conn.now c.transaction-tx.result.conn.now c.write.new.tx.conn.now end c.in-Err.error c.transaction-tx.ensures.begun
+    c.in-Err.ensures.inside (c.is_autocommit.ensures.settled (search rules)) c.rollback.ensures.undone c.rollback.ensures.survives)

@@ -1,0 +1,27 @@
+ghost use Rattle.std.specs.Prelude.{◌≡◌, ◌≤◌};
+ghost use Rattle.jac_io.specs.Faults.{Rose};
+
+use jac_keep::Stop;
+use sqlite::{Error, ErrorCode};
+
+/// Want of memory, as the crate `sqlite` tells it.
+pub const NO_MEMORY: Error = Error::SqliteFailure(ErrorCode::OutOfMemory);
+
+/// What is stored is nothing that a keeper stores.
+pub const CORRUPT: Error = Error::SqliteFailure(ErrorCode::DatabaseCorrupt);
+
+/// Why a call stops whose statement was refused: for want of memory, or for another cause, which is counted.
+pub fn stop_of(error: Error, faults: &mut u64) -> Stop
+    ensures later { faults.old ≤ faults.new }
+    ensures rose { result ≡ Stop.Keeper → Rose faults.old faults.new }
+    ensures memory { result ≡ Stop.Memory → error ≡ Error.SqliteFailure ErrorCode.OutOfMemory }
+    ensures uncounted { result ≡ Stop.Memory → faults.new ≡ faults.old }
+{
+    match error {
+        Error::SqliteFailure(ErrorCode::OutOfMemory) => Stop::Memory,
+        _ => {
+            *faults = faults.saturating_add(1);
+            Stop::Keeper
+        }
+    }
+}

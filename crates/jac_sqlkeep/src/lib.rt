@@ -1,0 +1,12 @@
+//! A keeper over SQLite.
+#![tactic(auto)]
+
+mod cause;
+mod keeper;
+mod meta;
+mod opener;
+mod records;
+mod step;
+
+pub use keeper::SqlKeeper;
+pub use opener::{FileOpener, MemoryOpener, Opener};

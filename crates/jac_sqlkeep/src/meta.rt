@@ -1,0 +1,129 @@
+//! The table `meta`: the number of the next accepted request, and the schema of what is stored.
+ghost use Rattle.std.specs.Prelude.{◌≡◌, ◌∷◌, [], IfOk, IfSome};
+ghost use Rattle.sqlite.specs.Held.{state};
+ghost use Rattle.sqlite.specs.State.{HasCleanDisk};
+ghost use Rattle.jac_rows.specs.Good.{IsNext};
+ghost use Rattle.jac_sqlkeep.specs.Founding.{HasNumber, IsAsked, KeepsSchema, Tells};
+ghost use Rattle.jac_sqlkeep.specs.Statements.{founding, numbering};
+ghost use Rattle.jac_sqlkeep.specs.Transaction.{Inside, Transacts};
+
+use crate::cause::{CORRUPT, NO_MEMORY};
+use crate::step::run;
+use jac_value::{Txt, TxtFault};
+use sqlite::types::ValueRef;
+use sqlite::{Alter, Connection, Error, ErrorCode, Row, Transaction, params};
+use std::alloc::Global;
+
+const MAKE_META: &str =
+    "CREATE TABLE meta(k INTEGER PRIMARY KEY, number INTEGER NOT NULL, schema TEXT NOT NULL) STRICT";
+
+const MAKE_RECORDS: &str =
+    "CREATE TABLE rec(model INTEGER NOT NULL, jid BLOB NOT NULL, alt INTEGER NOT NULL, jvars BLOB NOT NULL, body BLOB NOT NULL, PRIMARY KEY(model, jid, alt)) STRICT";
+
+const START: &str = "INSERT INTO meta(k, number, schema) VALUES(0, 1, ?1)";
+
+const READ: &str = "SELECT number, schema FROM meta WHERE k = 0";
+
+const SET_NUMBER: &str = "UPDATE meta SET number = ?1 WHERE k = 0";
+
+/// The greatest number, 2^40.
+const LAST_NUMBER: i64 = 1 << 40;
+
+/// The number of the next accepted request.
+pub fn read_number<S: Alter>(conn: &mut Connection<S>) -> Result<u64, Error>
+    ensures in_range { IfOk result IsNext }
+    ensures stored { HasCleanDisk (state S.Store conn.new) → IfOk result (IsAsked S.Store conn.old conn.new) }
+{
+    let row = conn.query_row(READ, &[])?;
+    match number_of(&row) {
+        Some(number) => Ok(number),
+        None => Err(CORRUPT),
+    }
+}
+
+fn number_of(row: &Row) -> Option<u64>
+    ensures { IfSome result (HasNumber row.now) }
+{
+    match row.get_ref(0) {
+        Ok(ValueRef::Int(number)) if 1 <= number && number <= LAST_NUMBER => Some(number as u64),
+        _ => None,
+    }
+}
+
+#[tactic(auto, unfolding(crate::specs::Statements::numbering))]
+pub fn set_number<S: Alter>(tx: &mut Transaction<'_, S>, number: u64) -> Result<(), Error>
+    ensures same { tx.new.conn.ghost_name ≡ tx.old.conn.ghost_name }
+    ensures inside { Inside S.Store (numbering number ∷ []) tx.old.conn.now tx.new.conn.now result }
+{
+    match i64::try_from(number) {
+        Ok(number) => run(tx, SET_NUMBER, params![number]),
+        Err(_) => Err(Error::IntegralValueOutOfRange(0)),
+    }
+}
+
+/// Makes the tables for this schema where there are none, and gives the schema that is stored where it is
+/// another one. A database of which no schema can be read is taken as empty.
+pub fn keep_schema<S: Alter>(
+    alloc: Global,
+    conn: &mut Connection<S>,
+    schema: &Txt,
+) -> Result<Option<Txt>, Error>
+    ensures other { IfOk result (λ other. IfSome other (λ stored. ¬ (stored ≡ schema.now))) }
+    ensures kept { HasCleanDisk (state S.Store conn.new) → KeepsSchema S.Store schema.now conn.old conn.new result }
+{
+    match conn.query_row(READ, &[]) {
+        Ok(row) => other_schema(alloc, &row, schema),
+        Err(Error::SqliteFailure(ErrorCode::OutOfMemory)) => Err(NO_MEMORY),
+        Err(Error::QueryReturnedNoRows) => Err(CORRUPT),
+        Err(_) => match make_tables(conn, schema) {
+            Ok(()) => Ok(None),
+            Err(error) => Err(error),
+        },
+    }
+}
+
+// The stored schema, where it isn't this one. The number is read only where it is.
+fn other_schema(alloc: Global, row: &Row, schema: &Txt) -> Result<Option<Txt>, Error>
+    ensures { Tells schema.now row.now result }
+{
+    let Ok(ValueRef::Text(stored)) = row.get_ref(1) else {
+        return Err(CORRUPT);
+    };
+    if stored == schema.as_bytes() {
+        return match number_of(row) {
+            Some(_) => Ok(None),
+            None => Err(CORRUPT),
+        };
+    }
+    match Txt::from_bytes(alloc, stored) {
+        Ok(stored) => Ok(Some(stored)),
+        Err(TxtFault::Memory) => Err(NO_MEMORY),
+        Err(TxtFault::NotUtf8(_)) => Err(CORRUPT),
+    }
+}
+
+fn make_tables<S: Alter>(conn: &mut Connection<S>, schema: &Txt) -> Result<(), Error>
+    ensures { Transacts S.Store (founding schema.now) conn.old conn.new result }
+{
+    if !conn.is_autocommit() {
+        return Err(Error::SqliteFailure(ErrorCode::TransactionState));
+    }
+    let mut tx = conn.transaction();
+    match found(&mut tx, schema) {
+        Ok(()) => tx.commit(),
+        Err(error) => {
+            tx.rollback();
+            Err(error)
+        }
+    }
+}
+
+#[tactic(auto, unfolding(crate::specs::Statements::founding))]
+fn found<S: Alter>(tx: &mut Transaction<'_, S>, schema: &Txt) -> Result<(), Error>
+    ensures same { tx.new.conn.ghost_name ≡ tx.old.conn.ghost_name }
+    ensures inside { Inside S.Store (founding schema.now) tx.old.conn.now tx.new.conn.now result }
+{
+    run(tx, MAKE_META, &[])?;
+    run(tx, MAKE_RECORDS, &[])?;
+    run(tx, START, params![schema.as_str()])
+}

@@ -1,0 +1,233 @@
+//! The table `rec`: the alternatives of each record, numbered from 0.
+ghost use Rattle.std.specs.Prelude.{◌≡◌, ◌<◌, ◌^◌, ◌∷◌, [], IfOk};
+ghost use Rattle.sqlite_value.specs.Order.{column};
+ghost use Rattle.sqlite_value.specs.declared.value.Value.TheVariants.{Blob};
+ghost use Rattle.sqlite.specs.Held.{state};
+ghost use Rattle.sqlite.specs.State.{HasCleanDisk};
+ghost use Rattle.jac_rows.specs.declared.row.Row.{Row as Kept};
+ghost use Rattle.jac_stored.specs.Spelling.{guard_bytes, cells_bytes};
+ghost use Rattle.jac_sqlkeep.specs.Reading.{AreShown, Each, IsModelRow, IsRecordRow, IsRowIn};
+ghost use Rattle.jac_sqlkeep.specs.Statements.{model_reading, record_reading, removal, addition, replacement, replacements, statements_of};
+ghost use Rattle.jac_sqlkeep.specs.Transaction.{Inside, Transacts};
+
+use crate::cause::{CORRUPT, NO_MEMORY};
+use crate::meta::set_number;
+use crate::step::run;
+use jac_keep::{Alteration, Change};
+use jac_rows::{Row, Rows};
+use jac_stored::{RowFault, Stored, decode_id, decode_row, encode_id, encode_row};
+use jac_value::{Id, Kind, Memory, id_model};
+use sqlite::types::ValueRef;
+use sqlite::{Alter, Connection, Error, ErrorCode, Row as Found, Transaction, params};
+use std::alloc::Global;
+
+const READ_MODEL: &str = "SELECT jid, jvars, body FROM rec WHERE model = ?1 ORDER BY jid, alt";
+
+const READ_RECORD: &str = "SELECT jvars, body FROM rec WHERE model = ?1 AND jid = ?2 ORDER BY alt";
+
+const REMOVE: &str = "DELETE FROM rec WHERE model = ?1 AND jid = ?2";
+
+const ADD: &str = "INSERT INTO rec(model, jid, alt, jvars, body) VALUES(?1, ?2, ?3, ?4, ?5)";
+
+/// All rows of the model, by rising id.
+#[tactic(auto, unfolding(crate::specs::Statements::model_reading))]
+pub fn read_model<S: Alter>(
+    alloc: Global,
+    conn: &mut Connection<S>,
+    model: u8,
+    kinds: &[Kind],
+) -> Result<Rows, Error>
+    ensures { HasCleanDisk (state S.Store conn.new) → IfOk result (AreShown S.Store (model_reading model) (IsModelRow model kinds.now) conn.old conn.new) }
+{
+    let found = conn.query_all(READ_MODEL, params![u32::from(model)])?;
+    rows_of_model(alloc, found.as_slice(), model, kinds)
+}
+
+/// The alternatives of the record.
+#[tactic(auto, unfolding(crate::specs::Statements::record_reading))]
+pub fn read_record<S: Alter>(
+    alloc: Global,
+    conn: &mut Connection<S>,
+    id: Id,
+    kinds: &[Kind],
+) -> Result<Rows, Error>
+    ensures { HasCleanDisk (state S.Store conn.new) → IfOk result (AreShown S.Store (record_reading id) (IsRecordRow id kinds.now) conn.old conn.new) }
+{
+    let jid = encode_id(id);
+    let model = u32::from(id_model(id));
+    let found = conn.query_all(READ_RECORD, params![model, jid.as_slice()])?;
+    rows_of_record(alloc, found.as_slice(), id, kinds)
+}
+
+#[tactic(auto, using(crate::proofs::Read::each_start, crate::proofs::Read::each_next, crate::proofs::Read::each_end))]
+fn rows_of_model(alloc: Global, found: &[Found], model: u8, kinds: &[Kind]) -> Result<Rows, Error>
+    ensures { IfOk result (Each (IsModelRow model kinds.now) found.now) }
+{
+    let mut rows = Vec::new(alloc);
+    'found: for values in found {
+        rows.push(row_of_model(alloc, values, model, kinds)?)?;
+    }
+    Ok(Rows::from_vec(rows))
+}
+
+#[tactic(auto, using(crate::proofs::Read::each_start, crate::proofs::Read::each_next, crate::proofs::Read::each_end))]
+fn rows_of_record(alloc: Global, found: &[Found], id: Id, kinds: &[Kind]) -> Result<Rows, Error>
+    ensures { IfOk result (Each (IsRecordRow id kinds.now) found.now) }
+{
+    let mut rows = Vec::new(alloc);
+    'found: for values in found {
+        rows.push(row_in(alloc, id, kinds, values, 0, 1)?)?;
+    }
+    Ok(Rows::from_vec(rows))
+}
+
+fn row_of_model(alloc: Global, values: &Found, model: u8, kinds: &[Kind]) -> Result<Row, Error>
+    ensures { IfOk result (IsModelRow model kinds.now values.now) }
+{
+    let jid = blob_at(values, 0)?;
+    match decode_id(jid, model) {
+        Some(id) => row_in(alloc, id, kinds, values, 1, 2),
+        None => Err(CORRUPT),
+    }
+}
+
+// The row of this id whose guard and cells stand in these columns.
+fn row_in(
+    alloc: Global,
+    id: Id,
+    kinds: &[Kind],
+    values: &Found,
+    guard: usize,
+    cells: usize,
+) -> Result<Row, Error>
+    ensures { IfOk result (IsRowIn guard cells kinds.now values.now id) }
+{
+    let jvars = blob_at(values, guard)?;
+    let body = blob_at(values, cells)?;
+    match decode_row(alloc, id, kinds, jvars, body) {
+        Ok(row) => Ok(row),
+        Err(RowFault::Memory) => Err(NO_MEMORY),
+        Err(RowFault::Guard(_) | RowFault::Body(_)) => Err(CORRUPT),
+    }
+}
+
+fn blob_at(values: &Found, at: usize) -> Result<&[u8], Error>
+    ensures { IfOk result (λ bytes. column values.now at ≡ Blob bytes.now) }
+{
+    match values.get_ref(at) {
+        Ok(ValueRef::Blob(bytes)) => Ok(bytes),
+        _ => Err(CORRUPT),
+    }
+}
+
+/// Replaces the named records and sets the number, all or nothing.
+pub fn write_change<S: Alter>(
+    alloc: Global,
+    conn: &mut Connection<S>,
+    change: &Change,
+) -> Result<(), Error>
+    ensures { Transacts S.Store (statements_of change.now) conn.old conn.new result }
+{
+    if !conn.is_autocommit() {
+        return Err(Error::SqliteFailure(ErrorCode::TransactionState));
+    }
+    let mut tx = conn.transaction();
+    match write(alloc, &mut tx, change) {
+        Ok(()) => tx.commit(),
+        Err(error) => {
+            tx.rollback();
+            Err(error)
+        }
+    }
+}
+
+#[tactic(auto, using(crate::proofs::Steps::inside_then, crate::proofs::Steps::failed_of))]
+fn write<S: Alter>(alloc: Global, tx: &mut Transaction<'_, S>, change: &Change) -> Result<(), Error>
+    ensures same { tx.new.conn.ghost_name ≡ tx.old.conn.ghost_name }
+    ensures inside { Inside S.Store (statements_of change.now) tx.old.conn.now tx.new.conn.now result }
+{
+    write_records(alloc, tx, change.changed.as_slice())?;
+    set_number(tx, change.number)
+}
+
+#[tactic(auto, using(crate::proofs::Steps::halfway_start, crate::proofs::Steps::changed_next, crate::proofs::Steps::changed_end, crate::proofs::Steps::halfway_failed))]
+fn write_records<S: Alter>(
+    alloc: Global,
+    tx: &mut Transaction<'_, S>,
+    changed: &[Alteration],
+) -> Result<(), Error>
+    ensures same { tx.new.conn.ghost_name ≡ tx.old.conn.ghost_name }
+    ensures inside { Inside S.Store (replacements changed.now) tx.old.conn.now tx.new.conn.now result }
+{
+    let mut rest = changed;
+    'changed: while let Some((alteration, more)) = rest.split_first() {
+        write_record(alloc, tx, alteration)?;
+        rest = more;
+    }
+    Ok(())
+}
+
+#[tactic(auto, using(crate::proofs::Steps::replaced_start, crate::proofs::Steps::replaced_next, crate::proofs::Steps::replaced_end, crate::proofs::Steps::halfway_failed, crate::proofs::Steps::failed_of))]
+fn write_record<S: Alter>(
+    alloc: Global,
+    tx: &mut Transaction<'_, S>,
+    alteration: &Alteration,
+) -> Result<(), Error>
+    ensures same { tx.new.conn.ghost_name ≡ tx.old.conn.ghost_name }
+    ensures inside { Inside S.Store (replacement alteration.now) tx.old.conn.now tx.new.conn.now result }
+{
+    remove(tx, alteration.id)?;
+    let rows = alteration.rows.as_slice();
+    'rows: for alt in 0..rows.len() {
+        add(alloc, tx, alt, &rows[alt])?;
+    }
+    Ok(())
+}
+
+#[tactic(auto, unfolding(crate::specs::Statements::removal))]
+fn remove<S: Alter>(tx: &mut Transaction<'_, S>, id: Id) -> Result<(), Error>
+    ensures same { tx.new.conn.ghost_name ≡ tx.old.conn.ghost_name }
+    ensures inside { Inside S.Store (removal id ∷ []) tx.old.conn.now tx.new.conn.now result }
+{
+    let jid = encode_id(id);
+    run(tx, REMOVE, params![u32::from(id_model(id)), jid.as_slice()])
+}
+
+fn add<S: Alter>(
+    alloc: Global,
+    tx: &mut Transaction<'_, S>,
+    alt: usize,
+    row: &Row,
+) -> Result<(), Error>
+    requires { alt < 2 ^ 63 }
+    ensures same { tx.new.conn.ghost_name ≡ tx.old.conn.ghost_name }
+    ensures inside { Inside S.Store (addition alt row.now ∷ []) tx.old.conn.now tx.new.conn.now result }
+{
+    match encode_row(alloc, row) {
+        Ok(stored) => add_stored(tx, row.id, alt, &stored),
+        Err(Memory) => Err(NO_MEMORY),
+    }
+}
+
+#[tactic(auto, unfolding(crate::specs::Statements::addition))]
+fn add_stored<S: Alter>(
+    tx: &mut Transaction<'_, S>,
+    id: Id,
+    alt: usize,
+    stored: &Stored,
+) -> Result<(), Error>
+    requires { alt < 2 ^ 63 }
+    ensures same { tx.new.conn.ghost_name ≡ tx.old.conn.ghost_name }
+    ensures inside { (row : Kept) → row.id ≡ id → stored.now.jvars ≡ guard_bytes row.guard → stored.now.body ≡ cells_bytes row.cells
+        → Inside S.Store (addition alt row ∷ []) tx.old.conn.now tx.new.conn.now result }
+{
+    let jid = encode_id(id);
+    let model = u32::from(id_model(id));
+    let jvars = stored.jvars.as_slice();
+    let body = stored.body.as_slice();
+    run(
+        tx,
+        ADD,
+        params![model, jid.as_slice(), alt as i64, jvars, body],
+    )
+}

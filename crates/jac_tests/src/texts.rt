@@ -1,0 +1,67 @@
+//! An application that is written again, the printing of texts, and the schema that a store keeps.
+use jac_check::check;
+use jac_forms::app_of;
+use jac_lang::App;
+use jac_template::escape;
+use jac_tree::{Tree, print_tree, read_tree};
+use jac_unparse::tree_of;
+use jac_value::{Bytes, Txt};
+use std::alloc::Global;
+use std::test::Fail;
+
+const CALENDAR: &str = "(app (viewer User) (model User (fields (name text))) \
+    (model Event (fields (title text) (host (ref User)) (open bool)) \
+    (group (guards (title \"private\")) \
+    (policy (or (get Event open this) (eq (get Event host this) viewer))))) \
+    (view post \"/join\" (params (name text)) (create u User (set (name name)) (put u))) \
+    (view get \"/list\" (params) \
+    (for (from ((e Event)) true key) (put (get Event title e)) (put \";\"))))";
+
+const SCHEMA: &str = "(schema (model User (fields (name text)) (groups)) \
+    (model Event (fields (title text) (host (ref User)) (open bool)) (groups (title))))";
+
+fn app(alloc: Global, text: &str) -> Option<App> {
+    let tree = read_tree(alloc, text.as_bytes()).ok()?;
+    app_of(alloc, &tree).ok()
+}
+
+// The text that an application is written as.
+fn written(alloc: Global, app: &App) -> Option<Bytes> {
+    let tree = tree_of(alloc, app).ok()?;
+    print_tree(alloc, &tree).ok()
+}
+
+// The text of the application's schema.
+fn schema(alloc: Global, app: App) -> Option<Txt> {
+    let checked = check(alloc, app).ok()?;
+    checked.schema(alloc).ok()
+}
+
+#[test]
+fn an_application_is_written_again(rt: HostRuntime) {
+    let alloc = rt.alloc();
+    let text = app(alloc, CALENDAR).and_then(|app| written(alloc, &app));
+    assert!(rt; text.is_some_and(|text| text.as_slice() == CALENDAR.as_bytes()));
+}
+
+#[test]
+fn an_application_has_a_schema(rt: HostRuntime) {
+    let alloc = rt.alloc();
+    let text = app(alloc, CALENDAR).and_then(|app| schema(alloc, app));
+    assert!(rt; text.is_some_and(|text| text.as_str() == SCHEMA));
+}
+
+#[test]
+fn texts_are_printed(rt: HostRuntime) -> Result<(), Fail> {
+    let escaped = Tree::Text(Txt::from_str(rt.alloc(), "\t\"\\\n\r\u{1}é()")?);
+    let printed = print_tree(rt.alloc(), &escaped)?;
+    assert!(rt; printed.as_slice() == "\"\\t\\\"\\\\\\n\\r\u{1}é()\"".as_bytes());
+    Ok(())
+}
+
+#[test]
+fn markup_is_escaped(rt: HostRuntime) -> Result<(), Fail> {
+    let text = escape(rt.alloc(), b"a<b>&\"'")?;
+    assert!(rt; text.as_slice() == b"a&lt;b&gt;&amp;&quot;&#39;".as_slice());
+    Ok(())
+}
