@@ -7,6 +7,7 @@ three.
 Where Flask is installed it serves the same lists from SQLite in the same run, in one process and by its test client,
 with queries written by hand; the ratio is our time to its. Last stand the bars: what the costs are meant to keep to.
 It is no part of the gate: what a machine takes is no property of the program."""
+import concurrent.futures
 import os
 import sys
 import tempfile
@@ -24,27 +25,17 @@ APPLICATION = r"""(app (viewer User)
 
  (model Event (fields (title text) (host (ref User)) (open bool) (size int)))
 
- (model Secret (fields (title text) (host (ref User)) (open bool))
-  (group (guards (title "private"))
-   (policy (or (get Secret open this) (eq (get Secret host this) viewer)))))
-
  (view post "/join" (params (name text) (town text))
   (create u User (set (name name) (town town)) (put u)))
 
  (view post "/add" (params (title text) (host (ref User)) (open bool) (size int))
   (create e Event (set (title title) (host host) (open open) (size size)) (put e)))
 
- (view post "/hide" (params (title text) (host (ref User)) (open bool))
-  (create s Secret (set (title title) (host host) (open open)) (put s)))
-
  (view post "/rename" (params (event (ref Event)) (title text))
   (update Event event (set (title title))))
 
  (view get "/titles" (params)
   (for (from ((e Event)) true key) (put (get Event title e)) (put "\n")))
-
- (view get "/secrets" (params)
-  (for (from ((s Secret)) true key) (put (get Secret title s)) (put "\n")))
 
  (view get "/hosts" (params)
   (for (from ((e Event)) true key)
@@ -61,19 +52,17 @@ APPLICATION = r"""(app (viewer User)
    (put (get User name u)) (put " ") (put (get Event title e)) (put "\n"))))
 """
 
-# what is asked, what it reads, and the store that it is asked of
+# what is asked, and its path
 LISTS = [
-    ('one get a record', '/titles', 'events'),
-    ('one guarded get a record', '/secrets', 'secrets'),
-    ('two through a reference', '/hosts', 'events'),
-    ('a count with a condition', '/large', 'events'),
-    ('a sort', '/sizes', 'events'),
-    ('two binders, %d by N' % HOSTS, '/pairs', 'events'),
+    ('one get a record', '/titles'),
+    ('two through a reference', '/hosts'),
+    ('a count with a condition', '/large'),
+    ('a sort', '/sizes'),
+    ('two binders, %d by N' % HOSTS, '/pairs'),
 ]
 
 QUERIES = {
     '/titles': ('select title from event order by id', ()),
-    '/secrets': ("select case when open or host = ? then title else 'private' end from secret order by id", (1,)),
     '/hosts': ('select event.title, user.name from event join user on user.id = event.host order by event.id', ()),
     '/large': ('select count(*) from event where size > 500', ()),
     '/sizes': ('select size from event order by size, id', ()),
@@ -98,21 +87,34 @@ def adds(first, count, hosts):
             % (i, user_id(i % hosts), i % 2, size_of(i)) for i in range(first, first + count)]
 
 
-def hides(first, count):
-    return ['ask - POST "/hide" "title=Secret+%d&host=%d&open=%d"'
-            % (i, user_id(i % HOSTS), i % 2) for i in range(first, first + count)]
-
-
-def stored(kind, count):
+def stored(count):
     """The requests that make the store."""
-    return joins(HOSTS) + (adds(0, count, HOSTS) if kind == 'events' else hides(0, count))
+    return joins(HOSTS) + adds(0, count, HOSTS)
+
+
+def peak_of(process):
+    with open('/proc/%d/status' % process) as status:
+        return next(int(line.split()[1]) * 1024 for line in status if line.startswith('VmHWM'))
+
+
+def run_once(words):
+    """The status of a run, its processor seconds and peak bytes. The system counts the memory of the process that starts
+    a run, so a peak no greater than this process's own says nothing, and is given as that."""
+    own = peak_of(os.getpid())
+    child = os.posix_spawn(words[0], words, os.environ, file_actions=[(os.POSIX_SPAWN_OPEN, 1, '/dev/null', os.O_WRONLY, 0)])
+    _, status, usage = os.wait4(child, 0)
+    return os.waitstatus_to_exitcode(status), usage.ru_utime + usage.ru_stime, max(usage.ru_maxrss * 1024, own)
 
 
 class Bench:
-    def __init__(self, program, folder):
+    """Runs of the program, from a process of its own that stays small."""
+
+    def __init__(self, pool, program, folder):
+        self.pool = pool
         self.program = program
         self.folder = folder
         self.kept = {}
+        pool.submit(os.getpid).result()
         with open(os.path.join(folder, 'bench.app'), 'w') as file:
             file.write(APPLICATION)
 
@@ -121,27 +123,26 @@ class Bench:
         path = os.path.join(self.folder, 'bench.events')
         with open(path, 'w') as file:
             file.write('\n'.join(events) + '\n')
-        child = os.posix_spawn(self.program, [self.program, 'replay', os.path.join(self.folder, 'bench.app'), path],
-                               os.environ, file_actions=[(os.POSIX_SPAWN_OPEN, 1, '/dev/null', os.O_WRONLY, 0)])
-        _, status, usage = os.wait4(child, 0)
+        words = [self.program, 'replay', os.path.join(self.folder, 'bench.app'), path]
+        status, took, peak = self.pool.submit(run_once, words).result()
         if status:
-            sys.exit('%s ended with %d' % (self.program, os.waitstatus_to_exitcode(status)))
-        return usage.ru_utime + usage.ru_stime, usage.ru_maxrss * 1024
+            sys.exit('%s ended with %d' % (self.program, status))
+        return took, peak
 
     def best(self, events):
         runs = [self.once(events) for _ in range(3)]
         return min(took for took, _ in runs), max(peak for _, peak in runs)
 
-    def before(self, kind, count):
+    def before(self, count):
         """The run that only makes the store."""
-        if (kind, count) not in self.kept:
-            self.kept[kind, count] = self.best(stored(kind, count))
-        return self.kept[kind, count]
+        if count not in self.kept:
+            self.kept[count] = self.best(stored(count))
+        return self.kept[count]
 
-    def request(self, kind, count, asked):
+    def request(self, count, asked):
         """Seconds of a request and peak bytes, where asked(n) are n of them."""
-        base, _ = self.before(kind, count)
-        store = stored(kind, count)
+        base, _ = self.before(count)
+        store = stored(count)
         number = 1
         while True:
             took, _ = self.once(store + asked(number))
@@ -163,14 +164,12 @@ def flask_times(sizes):
     for count in sizes:
         base = sqlite3.connect(':memory:', check_same_thread=False)
         base.executescript('create table user (id integer primary key, name text, town text);'
-                           'create table event (id integer primary key, title text, host int, open int, size int);'
-                           'create table secret (id integer primary key, title text, host int, open int);')
+                           'create table event (id integer primary key, title text, host int, open int, size int);')
         app = flask.Flask('bench')
         for i in range(HOSTS):
             base.execute('insert into user values (?, ?, ?)', (i + 1, 'User %d' % i, 'Town %d' % (i % 7)))
         for i in range(count):
             base.execute('insert into event values (?, ?, ?, ?, ?)', (i + 1, 'Event %d' % i, i % HOSTS + 1, i % 2, size_of(i)))
-            base.execute('insert into secret values (?, ?, ?, ?)', (i + 1, 'Secret %d' % i, i % HOSTS + 1, i % 2))
 
         def listed(query, words):
             rows = base.execute(query, words).fetchall()
@@ -240,8 +239,8 @@ def bar(text, value, most):
 def main():
     program = os.path.abspath(sys.argv[1])
     sizes = [int(word) for word in sys.argv[2:]] or SIZES
-    with tempfile.TemporaryDirectory() as folder:
-        bench = Bench(program, folder)
+    with tempfile.TemporaryDirectory() as folder, concurrent.futures.ProcessPoolExecutor(1) as pool:
+        bench = Bench(pool, program, folder)
         table = Table(flask_times(sizes))
         slow = set()
         for count in sizes:
@@ -249,11 +248,11 @@ def main():
                 ('a POST that creates', '/add', lambda n: adds(count, n, HOSTS)),
                 ('a POST that updates', None, lambda n: rename(count, n)),
             ]
-            gets = [(name, path, kind, lambda n, path=path: ['ask - GET "%s" ""' % path] * n) for name, path, kind in LISTS]
-            for name, path, kind, asked in [(n, p, 'events', a) for n, p, a in posts] + gets:
+            gets = [(name, path, lambda n, path=path: ['ask - GET "%s" ""' % path] * n) for name, path in LISTS]
+            for name, path, asked in posts + gets:
                 if name in slow:
                     continue
-                took, peak = bench.request(kind, count, asked)
+                took, peak = bench.request(count, asked)
                 table.line(name, path, count, took, peak)
                 if took > MOST / 16:
                     slow.add(name)
@@ -276,7 +275,7 @@ def bars(table, sizes, peak):
     for name in ['a POST that creates', 'a POST that updates']:
         value = took[name, last] / took[name, first] if (name, last) in took and took.get((name, first)) else None
         bar('%s, at N = %d over N = %d' % (name, last, first), value, 1.5)
-    for name, _, _ in LISTS:
+    for name, _ in LISTS:
         for count in sizes[1:]:
             value = took[name, count] / took[name, count // 4] if (name, count) in took and took.get((name, count // 4)) else None
             bar('%s, growth from N = %d to %d' % (name, count // 4, count), value, 4.6)

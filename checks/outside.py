@@ -16,11 +16,25 @@ PAGE = b'reply 200 "" "hello"\n'
 DONE = b'reply 200 "" ""\n'
 
 # Each note has a label that nobody is shown, and which note is the first one with the key depends on all of them.
+FIRST = b'(put (eq (none Note) (first (from ((n Note)) (eq (get Note body n) "key") key))))'
 NOTES = b'''(app (model Note (fields (body text)) (group (guards (body "locked")) (policy false)))
  (view post "/some" (params)%s)
  (view post "/one" (params) (create n Note (set (body "key"))))
- (view get "/" (params) (put (eq (none Note) (first (from ((n Note)) (eq (get Note body n) "key") key))))))
-''' % (b' (create n Note (set (body "key")))' * 64)
+ (view post "/first" (params) %s)
+ (view get "/first" (params) %s))
+''' % (b' (create n Note (set (body "key")))' * 64, FIRST, FIRST)
+
+WORDS = b'''(app (model Word (fields (text text)))
+ (view post "/words" (params (word text)) (put word))
+ (view get "/words" (params (word text)) (put word)))
+'''
+# What one connection brings, and how many replies it has: one that stays open, one that is closed, one that is refused.
+FORM = b'POST /words HTTP/1.1\r\nHost: a\r\nContent-Type: application/x-www-form-urlencoded\r\nContent-Length: %d\r\n\r\n%s'
+KEPT = b'GET /words?word=one HTTP/1.1\r\nHost: a\r\n\r\nHEAD /words?word=two HTTP/1.1\r\nHost: a\r\nX: y\r\n\r\n' \
+    + FORM % (14, b'word=three%21+') + b'GET /none HTTP/1.1\r\nHost: a\r\n\r\n'
+CLOSED = FORM % (8, b'word=one') + b'GET /words HTTP/1.1\r\nHost: a\r\nConnection: close\r\n\r\nGET /words HTTP/1.1\r\n'
+REFUSED = b'GET /words?word=one HTTP/1.1\r\nHost: a\r\n\r\n' + FORM % (4, b'word') + b'GET /words HTTP/1.1\r\n Host: a\r\n\r\nGET /'
+STREAMS = (KEPT, 4), (CLOSED, 2), (REFUSED, 3)
 
 
 def run(words, folder, **options):
@@ -109,11 +123,51 @@ def directory():
 
 
 def many_labels():
-    """1,024 labels one behind the other have a page; one more wants memory, and the run goes on."""
-    some, one, first = b'ask - POST "/some" ""\n', b'ask - POST "/one" ""\n', b'ask - GET "/" ""\n'
-    failed = b'reply 500 "" "500 Internal Server Error\\n"\n'
+    """A value of a POST may hang on 1,024 labels one behind the other; one more wants memory, and the run goes on. A
+    GET makes its page in one world, whatever the number."""
+    some, one = b'ask - POST "/some" ""\n', b'ask - POST "/one" ""\n'
+    first = b'ask - POST "/first" ""\nask - GET "/first" ""\n'
+    true, failed = b'reply 200 "" "true"\n', b'reply 500 "" "500 Internal Server Error\\n"\n'
     return replay('many labels', NOTES, some * 16 + first + one + first + one, 0,
-                  DONE * 16 + b'reply 200 "" "true"\n' + DONE + failed + DONE)
+                  DONE * 16 + true + true + DONE + failed + true + DONE)
+
+
+def cuttings(stream):
+    """The stream in one piece, byte by byte, in pieces of each length up to 16, and in two at each place."""
+    for length in [len(stream), *range(1, 17)]:
+        yield [stream[at:at + length] for at in range(0, len(stream), length)]
+    for at in range(1, len(stream)):
+        yield [stream[:at], stream[at:]]
+
+
+def quoted(data):
+    """Bytes as they stand between the quotes of a line of events."""
+    return data.replace(b'\r', b'\\r').replace(b'\n', b'\\n')
+
+
+def cut():
+    """However a stream is cut in pieces, its replies are byte for byte those of the stream in one piece."""
+    for stream, replies in STREAMS:
+        ways = list(cuttings(stream))
+        lines = []
+        for number, way in enumerate(ways):
+            pieces = [b'data %d "%s"\n' % (number, quoted(piece)) for piece in way]
+            lines += [b'open %d\n' % number, *pieces, b'end %d\n' % number]
+        with tempfile.TemporaryDirectory() as folder:
+            for file, data in (('a', WORDS), ('e', b''.join(lines))):
+                with open(os.path.join(folder, file), 'wb') as handle:
+                    handle.write(data)
+            done = run(['replay', 'a', 'e'], folder, stdout=subprocess.PIPE)
+        sent = [[] for _ in ways]
+        for line in done.stdout.splitlines():
+            kind, number, rest = (line + b' ').split(b' ', 2)
+            sent[int(number)].append((kind, rest))
+        if done.returncode or sum(kind == b'sent' for kind, _ in sent[0]) != replies:
+            return 'a stream in one piece: status %r, %r' % (done.returncode, sent[0])
+        for way, have in zip(ways, sent):
+            if have != sent[0]:
+                return 'a stream cut in pieces %r: %r, not %r' % (way, have, sent[0])
+    return None
 
 
 def main():
@@ -139,6 +193,7 @@ def main():
              b'app: form at top: expected app\n'),
         replay('a template of 10,000 tags', tags, ASK, 0, b'reply 200 "" "%s"\n' % (b'a1' * 10000)),
         many_labels(),
+        cut(),
         closed_output(),
     ]
     for wrong in filter(None, results):

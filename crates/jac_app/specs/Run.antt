@@ -2,7 +2,7 @@
 use Rattle.std.specs.Prelude.{◌≡◌, ◌≤◌, ◌⊎◌, ⊤, ℕ, IsTrue, Result, Ok, Option, Some, None, List, [], ◌++◌, length, codes}
 use Rattle.jac_io.specs.Faults.{Rose}
 use Rattle.jac_io.specs.Seen.{FilesSeen}
-use Rattle.jac_io.specs.Linked.{LinkSeen, DoorSeen}
+use Rattle.jac_io.specs.Linked.{LinkSeen, DoorSeen, DoorLasts}
 use Rattle.jac_lang.specs.Syntax.{Application}
 use Rattle.jac_route.specs.declared.sessions.Session.{Session}
 use Rattle.jac_route.specs.Sessions.{sessions_in}
@@ -167,10 +167,11 @@ abbrev pub IsCompleted : Status → Type 0
 IsCompleted status = (status ≡ statuses.Done) ⊎ (status ≡ statuses.Memory) ⊎ (status ≡ statuses.StoreFault) ⊎ (status ≡ statuses.OtherStore)
 
 -- a run: what was put on both sinks is what the command's steps put, by the status, and what the keeper keeps
--- at the end shows under every assignment the world that the ordinary interpreter leaves; the status has its
--- cause; and where nothing is missing and nothing fails, all is done, unless memory runs out
+-- at the end shows under every assignment the world that the ordinary interpreter leaves; a door that tells told
+-- before, and its count didn't fall; the status has its cause; and where nothing is missing and nothing fails, all is done, unless memory runs out
 pub record IsRun {L : Type 0} (line : L → LinkSeen) (seen : Sight) (door : Span (DoorSeen L)) (words : List (List ℕ)) (status : Status) : Type 0 where
   pub ran : WentAimed (sinks_of seen) (Runs line seen door words status)
+  pub lasts : DoorLasts door.before door.after
   pub cause : ComesFor seen door words status
   pub replays : CanReplay seen words → IsCompleted status
   pub serves : CanServe seen door words → IsCompleted status

@@ -4,6 +4,7 @@ ghost use Rattle.jac_app.specs.Commands.{HasCount};
 ghost use Rattle.jac_app.specs.Files.{sight};
 ghost use Rattle.jac_app.specs.Ending.{Closed, Closes, Finishes};
 ghost use Rattle.jac_app.specs.Run.{Ends, Runs, IsRun, usage_line};
+ghost use Rattle.jac_io.specs.Linked.{DoorLasts};
 
 use crate::check::check;
 use crate::demo::demo;
@@ -69,9 +70,10 @@ fn take_steps<F: Files, O: Sink, U: AuditSink, K: Vault, D: Door, L: Ledger, M: 
 ) -> Result<(), Ending>
     requires count { HasCount command.now }
     requires first { (K.seen vault.old).store.called ≡ false }
-    ensures { WentAimed (sinks (O.seen out.old) (O.seen out.new) (U.seen audit.old) (U.seen audit.new))
+    ensures ends { WentAimed (sinks (O.seen out.old) (O.seen out.new) (U.seen audit.old) (U.seen audit.new))
         (Ends D.Line.seen (sight (F.seen files.old) (F.seen files.new) (O.seen out.old) (O.seen out.new) (U.seen audit.old) (U.seen audit.new) (K.seen vault.old) (K.seen vault.new))
         (span (D.seen door.old) (D.seen door.new)) command.now result) }
+    ensures lasts { DoorLasts (D.seen door.old) (D.seen door.new) }
 {
     match command {
         Command::Check(app) => check(alloc, app, files, out, audit, vault),
@@ -114,9 +116,10 @@ fn run_words<F: Files, O: Sink, U: AuditSink, K: Vault, D: Door, L: Ledger, M: L
     evaluations: &mut Steps<M>,
 ) -> Status
     requires first { (K.seen vault.old).store.called ≡ false }
-    ensures { WentAimed (sinks (O.seen out.old) (O.seen out.new) (U.seen audit.old) (U.seen audit.new))
+    ensures ran { WentAimed (sinks (O.seen out.old) (O.seen out.new) (U.seen audit.old) (U.seen audit.new))
         (Runs D.Line.seen (sight (F.seen files.old) (F.seen files.new) (O.seen out.old) (O.seen out.new) (U.seen audit.old) (U.seen audit.new) (K.seen vault.old) (K.seen vault.new))
         (span (D.seen door.old) (D.seen door.new)) words.now result) }
+    ensures lasts { DoorLasts (D.seen door.old) (D.seen door.new) }
 {
     match command_of(alloc, words) {
         Ok(Some(command)) => {

@@ -18,33 +18,6 @@ both_true : (a b : Bool) → a ≡ true → b ≡ true → (a && b) ≡ true
 both_true true b one two = two
 both_true false b one two = one
 
-mutual
-  -- what writes nothing runs, whatever the number
-  reading_runs : (n : ℕ) (s : Statement) → is_untemplated s ≡ true → is_reading s ≡ true → IsRunnable n s
-  reading_runs n (Statement.put e) t h = tt
-  reading_runs n (Statement.escape e) t h = tt
-  reading_runs n (Statement.bind x e body) t h = all_reading_run n body t h
-  reading_runs n (Statement.assign x e) t h = tt
-  reading_runs n (Statement.branch c first second) t h =
-      let free = and_parts (are_untemplated first) (are_untemplated second) t in
-      let read = and_parts (are_reading first) (are_reading second) h in
-      (all_reading_run n first free.0 read.0, all_reading_run n second free.1 read.1)
-  reading_runs n (Statement.each q body) t h = all_reading_run n body t h
-  reading_runs n (Statement.create x m site cells body) t h = cc
-  reading_runs n (Statement.update m e cells) t h = tt
-  reading_runs n (Statement.delete m e) t h = tt
-  reading_runs n Statement.missing t h = tt
-  reading_runs n (Statement.redirect e) t h = tt
-  reading_runs n (Statement.template b) t h = t
-  reading_runs n (Statement.block body) t h = all_reading_run n body t h
-
-  pub all_reading_run : (n : ℕ) (s : Statements) → are_untemplated s ≡ true → are_reading s ≡ true → AreRunnable n s
-  all_reading_run n Statements.none t h = tt
-  all_reading_run n (Statements.more s rest) t h =
-      let free = and_parts (is_untemplated s) (are_untemplated rest) t in
-      let read = and_parts (is_reading s) (are_reading rest) h in
-      (reading_runs n s free.0 read.0, all_reading_run n rest free.1 read.1)
-
 lt_of_test : (a b : ℕ) → nat_lt a b ≡ true → a < b
 lt_of_test a b e = grind (arith, e)
 
@@ -173,9 +146,6 @@ storing body h =
 
 pub storing_runs : (n : ℕ) (body : Statements) → 0 < n → n < 2 ^ 40 → is_served_body verbs.Post body ≡ true → AreRunnable n body
 storing_runs n body some few h = let s = storing body h in all_writing_run n body some few s.expanded s.sited
-
-pub showing_runs : (n : ℕ) (body : Statements) → is_served_body verbs.Get body ≡ true → AreRunnable n body
-showing_runs n body h = let parts = and_parts (are_untemplated body) (are_reading body) h in all_reading_run n body parts.0 parts.1
 
 body_among : (vs : List View) (n : ℕ) (v : View) → are_served_views vs ≡ true → slice_get vs n ≡ Some v → is_served_body v.method v.body ≡ true
 body_among [] n v h e = cc

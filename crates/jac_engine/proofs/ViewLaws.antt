@@ -4,24 +4,31 @@ use Rattle.std.specs.List.{AllByRecursion}
 use Rattle.std.proofs.lemmas.Bool.{and_parts}
 use Rattle.std.proofs.lemmas.Bool.Decides.{nat_tests}
 use Rattle.jac_value.specs.Ids.{record_id}
+use Rattle.jac_lang.specs.Mirror.{application_of}
 use Rattle.jac_lang.specs.Syntax.{Page as View, Application}
 use Rattle.jac_lang.specs.Written.{sites}
+use Rattle.jac_lang.specs.declared.application.App.{App}
+use Rattle.jac_lang.specs.declared.bindings.Binding.{Binding}
 use Rattle.jac_lang.specs.declared.pages.Verb.TheVariants as verbs
-use Rattle.jac_world.specs.World.{holds}
+use Rattle.jac_world.specs.World.{holds, shown}
 use Rattle.jac_rows.specs.Good.{IsMade, AreSound, IsSound}
 use Rattle.jac_rows.specs.Project.{rows_at, project_at}
 use Rattle.jac_rows.specs.Tables.{rows_of}
 use Rattle.jac_rows.specs.declared.plain.PlainRow.{PlainRow}
 use Rattle.jac_rows.specs.declared.row.Row.{Row}
 use Rattle.jac_rows.specs.declared.state.State.{State}
+use Rattle.jac_plain.specs.declared.context.Ctx.{Ctx}
+use Rattle.jac_plain.specs.declared.page.Page.{Page}
 use Rattle.jac_plain.specs.Making.{IsAbsent, AreAbsent}
 use Rattle.jac_plain.specs.Reading.{are_reading}
 use Rattle.jac_plain.proofs.NewLaws.{may_loop, may_run_all}
 use Rattle.jac_keep.proofs.SoundLaws.{sound-applied}
 use Rattle.jac_keep.proofs.WorkLaws.{overlaid_none}
+use Rattle.jac_pruned.specs.Runs.{page_ran}
+use Rattle.jac_route.specs.Parameters.{parameters}
 use Rattle.jac_write.specs.Writes.{numbered}
 use Rattle.jac_engine.specs.Served.{are_untemplated, is_served_body}
-use Rattle.jac_engine.specs.Views.{setting_in, begun, MayRunView, IsReady}
+use Rattle.jac_engine.specs.Views.{setting_in, begun, MayRunView, IsReady, ShowsView}
 use Rattle.jac_engine.specs.declared.answer.Ask.{Ask}
 use Rattle.jac_engine.proofs.ServedLaws.{all_reading_unlooped, storing}
 
@@ -74,3 +81,11 @@ ready_to_show app v ask n s served sound is = record { next = n; sound = sound_n
 
 pub ready_to_store : (app : Application) (v : View) (ask : Ask) (n : ℕ) (s : State) → is_served_body verbs.Post v.body ≡ true → IsSound s → n ≡ s.number → n < 2 ^ 40 → IsReady app v ask n s
 ready_to_store app v ask n s served sound is few = record { next = n + 1; sound = sound_next s n sound is few; new = may_store app v ask n s served sound is }
+
+-- a page of a run in the one world that the labels show
+pub shows_view : (app : App) (v : View) (ask : Ask) (ctx : Ctx) (s now : State) (labels : List ℕ) (env : List Binding) (p : Page) → ctx.viewer ≡ ask.viewer → now ≡ s
+    → env ≡ parameters (application_of app).models v.params ask.pairs → p ≡ page_ran app ctx (shown labels) now env v.body
+    → ShowsView (application_of app) v ask ctx.number s labels p
+shows_view app v ask ctx s now labels env p asks same bound made = record {
+  page = λ next sound may. rw (← asks, ← same, ← bound) made;
+}

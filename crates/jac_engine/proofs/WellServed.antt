@@ -1,5 +1,5 @@
 -- A well application whose sites are their places is one that is served.
-use Rattle.std.proofs.Common.{◌≡◌, ◌∙◌, rules, refl, ap, arith, ℕ, ◌+◌, ◌≤◌, ◌<◌, nat_le, nat_lt, Bool, true, false, not, ◌&&◌, List, [], ◌∷◌, length, Option, is_some, zero, suc, IsTrue}
+use Rattle.std.proofs.Common.{◌≡◌, ◌∙◌, rules, refl, ap, arith, ℕ, ◌+◌, ◌≤◌, ◌<◌, nat_le, nat_lt, Bool, true, false, not, ◌&&◌, List, [], ◌∷◌, length, is_some, zero, suc, IsTrue}
 use Rattle.std.specs.List.{All, range_with_len}
 use Rattle.std.proofs.lemmas.Bool.Decides.{nat_tests}
 use Rattle.std.proofs.lemmas.List.Elements.{All-head, All-tail}
@@ -11,9 +11,9 @@ use Rattle.jac_plain.specs.Models.{is_unlooped, are_unlooped}
 use Rattle.jac_plain.specs.Reading.{is_reading, are_reading}
 use Rattle.jac_check.specs.Scope.{is_get}
 use Rattle.jac_check.specs.Well.{is_well}
-use Rattle.jac_check.specs.Runnable.{is_runnable, are_runnable, IsRunnable, AreRunnable}
+use Rattle.jac_check.specs.Runnable.{is_runnable, are_runnable, IsRunnable}
 use Rattle.jac_check.proofs.WellRuns.{well-runs}
-use Rattle.jac_engine.specs.Served.{is_untemplated, are_untemplated, behind_sites, have_own_sites, is_served_body, is_served_view, are_served_views, are_served, IsSited}
+use Rattle.jac_engine.specs.Served.{is_untemplated, are_untemplated, behind_sites, is_served_body, are_served_views, are_served, IsSited}
 
 both_true : (p q : Bool) → (p && q) ≡ true → (p ≡ true) × (q ≡ true)
 both_true true q h = (refl, h)

@@ -145,17 +145,7 @@ fn answer_view<K: Keeper, L: Ledger, M: Ledger>(
     let view = view_at(app, place);
     match view.method {
         Verb::Get => {
-            let prepared = show(
-                alloc,
-                app,
-                keeper,
-                ask,
-                path,
-                place,
-                view,
-                splits,
-                evaluations,
-            )?;
+            let prepared = show(alloc, app, keeper, ask, path, place, view, evaluations)?;
             Ok(prepared)
         }
         Verb::Post => {
@@ -176,7 +166,7 @@ fn answer_view<K: Keeper, L: Ledger, M: Ledger>(
 }
 
 // The page of a view that shows.
-fn show<K: Keeper, L: Ledger, M: Ledger>(
+fn show<K: Keeper, M: Ledger>(
     alloc: Global,
     app: &App,
     keeper: &mut K,
@@ -184,7 +174,6 @@ fn show<K: Keeper, L: Ledger, M: Ledger>(
     path: &Pairs,
     place: u32,
     view: &View,
-    splits: &mut Steps<L>,
     evaluations: &mut Steps<M>,
 ) -> Result<Prepared, Stop>
     requires attached { IsTrue (K.seen keeper.old).store.attached }
@@ -195,17 +184,7 @@ fn show<K: Keeper, L: Ledger, M: Ledger>(
     ensures reads { Reads (K.seen keeper.old) (K.seen keeper.new) result }
 {
     let number = keeper.number()?;
-    let shown = shown_page(
-        alloc,
-        app,
-        keeper,
-        ask,
-        path,
-        view,
-        number,
-        splits,
-        evaluations,
-    )?;
+    let shown = shown_page(alloc, app, keeper, ask, path, view, number, evaluations)?;
     Ok(Prepared {
         answer: answer_of(shown),
         change: None,

@@ -1,5 +1,5 @@
 //! One run of a view over a keeper, and the labels that its page is made under.
-ghost use Rattle.std.specs.Prelude.{◌≡◌, ◌<◌, ◌≤◌, ◌+◌, ◌^◌, length, IfOk, OnOk, IsErrOf, IsTrue};
+ghost use Rattle.std.specs.Prelude.{◌≡◌, ◌<◌, ◌≤◌, ◌+◌, ◌^◌, true, length, IfOk, OnOk, IsErrOf, IsTrue};
 ghost use Rattle.jac_io.specs.Faults.{Rose};
 ghost use Rattle.jac_keep.specs.KeeperSeen.{IsLeft};
 ghost use Rattle.jac_keep.specs.Kept.{applied};
@@ -8,6 +8,7 @@ ghost use Rattle.jac_lang.specs.Mirror.{application_of, page_of as view_of, stat
 ghost use Rattle.jac_stmt.specs.Runs.{AreRunnable};
 ghost use Rattle.jac_write.specs.Writes.{StaysTold};
 ghost use Rattle.jac_plain.specs.Policies.{IsSettled};
+ghost use Rattle.jac_plain.specs.Reading.{are_reading};
 ghost use Rattle.jac_engine.specs.Answers.{asked_with};
 ghost use Rattle.jac_engine.specs.Prepared.{worlds_of};
 ghost use Rattle.jac_engine.specs.Views.{IsMade, IsReady, ShowsView, LeavesTables, RunsView};
@@ -17,8 +18,9 @@ use crate::parameters::bind_alike;
 use jac_keep::{Change, Keeper, Stop, Work};
 use jac_lang::{App, View};
 use jac_plain::{Ctx, Page};
+use jac_pruned::{Support, run_body_at};
 use jac_resolve::{resolve, settled_by_tables};
-use jac_route::Pairs;
+use jac_route::{Pairs, bind};
 use jac_stmt::{Out, exec, page_of};
 use jac_world::{Assignment, Guard, Steps};
 use std::alloc::Global;
@@ -38,8 +40,9 @@ pub(crate) struct Stored {
     pub(crate) change: Change,
 }
 
-/// The page of the view, under labels that are settled on what the keeper keeps.
-pub(crate) fn shown_page<K: Keeper, L: Ledger, M: Ledger>(
+/// The page of the view, which writes nothing, under labels that are settled on what the keeper keeps. It is run
+/// in the one world that they show.
+pub(crate) fn shown_page<K: Keeper, M: Ledger>(
     alloc: Global,
     app: &App,
     keeper: &mut K,
@@ -47,12 +50,10 @@ pub(crate) fn shown_page<K: Keeper, L: Ledger, M: Ledger>(
     path: &Pairs,
     view: &View,
     number: u64,
-    splits: &mut Steps<L>,
     evaluations: &mut Steps<M>,
 ) -> Result<Labelled, Stop>
     requires attached { IsTrue (K.seen keeper.old).store.attached }
-    requires tables { IsTrue (K.seen keeper.old).tells → length app.now.models ≤ length (K.seen keeper.old).state.tables }
-    requires runnable { AreRunnable number (statements_of view.now.body) }
+    requires reading { are_reading (statements_of view.now.body) ≡ true }
     requires ready { IsTrue (K.seen keeper.old).tells → IsReady (application_of app.now) (view_of view.now) (asked_with path.now ask.now) number (K.seen keeper.old).state }
     ensures made { IfOk result (λ x. IsMade x.page) }
     ensures page { IsTrue (K.seen keeper.new).tells → IfOk result (λ x. ShowsView (application_of app.now) (view_of view.now) (asked_with path.now ask.now) number (K.seen keeper.old).state x.labels x.page) }
@@ -61,22 +62,12 @@ pub(crate) fn shown_page<K: Keeper, L: Ledger, M: Ledger>(
     ensures rose { IsErrOf result Stop.Keeper → Rose (K.seen keeper.old).faults (K.seen keeper.new).faults }
 {
     let mut work = Work::new(alloc, keeper);
-    let shown = show_view(
-        alloc,
-        &mut work,
-        app,
-        ask,
-        path,
-        view,
-        number,
-        splits,
-        evaluations,
-    )?;
+    let shown = show_view(alloc, &mut work, app, ask, path, view, number, evaluations)?;
     Ok(shown)
 }
 
-// Settles the labels, and makes the page that they show.
-fn show_view<K: Keeper, L: Ledger, M: Ledger>(
+// Settles the labels, and makes the page in the world that they show.
+fn show_view<K: Keeper, M: Ledger>(
     alloc: Global,
     work: &mut Work<'_, K>,
     app: &App,
@@ -84,12 +75,10 @@ fn show_view<K: Keeper, L: Ledger, M: Ledger>(
     path: &Pairs,
     view: &View,
     number: u64,
-    splits: &mut Steps<L>,
     evaluations: &mut Steps<M>,
 ) -> Result<Labelled, Stop>
     requires attached { IsTrue (K.seen work.old.keeper.now).store.attached }
-    requires tables { IsTrue (K.seen work.old.keeper.now).tells → length app.now.models ≤ length (K.seen work.old.keeper.now).state.tables }
-    requires runnable { AreRunnable number (statements_of view.now.body) }
+    requires reading { are_reading (statements_of view.now.body) ≡ true }
     requires ready { IsTold K.seen work.old → IsReady (application_of app.now) (view_of view.now) (asked_with path.now ask.now) number (state_of K.seen work.old) }
     ensures made { IfOk result (λ x. IsMade x.page) }
     ensures page { IsTold K.seen work.new → IfOk result (λ x. ShowsView (application_of app.now) (view_of view.now) (asked_with path.now ask.now) number (state_of K.seen work.old) x.labels x.page) }
@@ -98,8 +87,24 @@ fn show_view<K: Keeper, L: Ledger, M: Ledger>(
     ensures keeps { WritesWork K.seen work.old work.new result }
 {
     let labels = resolve(alloc, work, app, ask.viewer, evaluations)?;
-    let out = run_body(alloc, work, app, ask, path, view, number, splits)?;
-    let page = page_of(alloc, &out, &labels)?;
+    let env = bind(alloc, &view.params, app, path, &ask.pairs)?;
+    let ctx = Ctx {
+        viewer: ask.viewer,
+        this: None,
+        number,
+        around: None,
+    };
+    let mut support = Support::empty(alloc);
+    let page = run_body_at(
+        alloc,
+        work,
+        app,
+        &ctx,
+        &labels,
+        &view.body,
+        env,
+        &mut support,
+    )?;
     Ok(Labelled { page, labels })
 }
 

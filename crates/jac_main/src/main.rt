@@ -9,6 +9,7 @@ mod tests;
 use jac_app::{Status, run};
 use jac_host::{HostAudit, HostDoor, HostFiles, Stdout};
 use jac_hostkeep::HostVault;
+use jac_io::{Failed, Sink};
 use jac_rows::{State, Tables};
 use jac_value::{Memory, Txt};
 use jac_world::Steps;
@@ -20,9 +21,17 @@ use std::{env, io};
 fn main(rt: HostRuntime) -> ExitCode {
     let status = match run_words::<Brand, Brand>(&rt, Blank::new(1), Blank::new(1)) {
         Ok(status) => status,
-        Err(Memory) => Status::Memory,
+        Err(Memory) => run_out(&rt),
     };
     ExitCode::from(status.number())
+}
+
+// Memory ran out before the words were read.
+fn run_out(rt: &HostRuntime) -> Status {
+    match Stdout::new(rt).put(b"memory\n") {
+        Ok(()) => Status::Memory,
+        Err(Failed) => Status::WriteFault,
+    }
 }
 
 fn run_words<L: Ledger, M: Ledger>(

@@ -1,7 +1,12 @@
+pub mod Bisected
 pub mod Bound
+pub mod Going
 pub mod Growing
 pub mod Keyed
+pub mod Locations
 pub mod Names
+pub mod Places
 pub mod Products
 pub mod Rows
+pub mod Running
 pub mod Working

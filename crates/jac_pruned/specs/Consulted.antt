@@ -1,7 +1,11 @@
 -- The labels that were consulted.
-use Rattle.std.specs.Prelude.{◌≡◌, ℕ, true, List}
+use Rattle.std.specs.Prelude.{◌≡◌, ℕ, Bool, true, List}
 use Rattle.jac_world.specs.World.{shown}
 
 -- labels are only added
 pub record Grows (old new : List ℕ) : Type 0 where
   pub kept : (k : ℕ) → shown old k ≡ true → shown new k ≡ true
+
+-- the assignments show the same of the labels that were consulted
+pub record Agrees (support : List ℕ) (v w : ℕ → Bool) : Type 0 where
+  pub each : (k : ℕ) → shown support k ≡ true → v k ≡ w k

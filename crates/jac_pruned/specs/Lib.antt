@@ -1,3 +1,5 @@
 pub mod Consulted
+pub mod Places
+pub mod Runs
 pub mod Seen
 pub mod Tupled

@@ -1,15 +1,19 @@
-//! Expressions and queries in the world that one assignment shows: early pruning, in which no faceted value
-//! is made.
-#![tactic(auto, using(crate::proofs::Growing::grows_same, crate::proofs::Growing::grows_then))]
+//! Expressions, queries and statements that write nothing, in the world that one assignment shows: early
+//! pruning, in which no faceted value is made.
+#![tactic(auto, using(crate::proofs::Growing::grows_same, crate::proofs::Growing::grows_then, crate::proofs::Growing::agrees_less, crate::proofs::Growing::holds_alike))]
 
+mod assigning;
 mod binding;
 mod choosing;
 mod evaluation;
 mod memory;
 mod naming;
 mod operations;
+mod page;
+mod pieces;
 mod product;
 mod reading;
+mod run;
 mod sorting;
 mod standing;
 mod support;
@@ -17,7 +21,8 @@ mod texts;
 
 pub use evaluation::eval_at;
 pub use jac_lang::PlainEnv;
-pub use jac_plain::Ctx;
+pub use jac_plain::{Ctx, Page};
 pub use operations::is_true;
+pub use run::run_body_at;
 pub use standing::record_stands;
 pub use support::Support;

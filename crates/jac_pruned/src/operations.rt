@@ -1,5 +1,6 @@
 //! Operations on values.
-ghost use Rattle.std.specs.Prelude.{◌≡◌};
+ghost use Rattle.std.specs.Prelude.{◌≡◌, IfSome};
+ghost use Rattle.jac_value.specs.declared.value.Value.{Value as Seen};
 ghost use Rattle.jac_plain.specs.Expressions.{int_of, is_true, less_of, two};
 
 use jac_lang::Op;
@@ -16,6 +17,18 @@ pub(crate) fn two_values(op: Op, first: &Value, second: &Value) -> Value
         Op::Lt => Value::Bool(is_less(first, second)),
         Op::And => Value::Bool(is_true(first) && is_true(second)),
         Op::Or => Value::Bool(is_true(first) || is_true(second)),
+    }
+}
+
+/// The result where the first operand decides it: a false one of `and`, a true one of `or`. The other operand is then
+/// not asked for, and what it would consult isn't.
+pub(crate) fn decided(op: Op, first: &Value) -> Option<Value>
+    ensures { IfSome result (λ v. (second : Seen) → v ≡ two op first.now second) }
+{
+    match op {
+        Op::And if !is_true(first) => Some(Value::Bool(false)),
+        Op::Or if is_true(first) => Some(Value::Bool(true)),
+        _ => None,
     }
 }
 

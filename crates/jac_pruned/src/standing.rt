@@ -1,5 +1,5 @@
 //! Whether the record that a reference refers to is in the tables.
-ghost use Rattle.std.specs.Prelude.{◌≡◌, IfOk, IsTrue};
+ghost use Rattle.std.specs.Prelude.{◌≡◌, ℕ, Bool, IfOk, IsTrue};
 ghost use Rattle.jac_world.specs.World.{shown};
 ghost use Rattle.jac_rows.specs.Project.{rows_at, project_at};
 ghost use Rattle.jac_keep.specs.Worked.{state_of, IsTold, ReadsWork};
@@ -8,7 +8,7 @@ ghost use Rattle.jac_plain.specs.Expressions.{is_live, stands};
 ghost use Rattle.jac_plain.specs.Policies.{has_id};
 ghost use Rattle.jac_plain.specs.World.{record_with};
 ghost use Rattle.jac_plain.specs.declared.context.Ctx.{Ctx as Context};
-ghost use Rattle.jac_pruned.specs.Consulted.{Grows};
+ghost use Rattle.jac_pruned.specs.Consulted.{Agrees, Grows};
 ghost use Rattle.jac_pruned.specs.Seen.{world_at};
 
 use crate::Support;
@@ -28,7 +28,7 @@ pub(crate) fn stand<K: Keeper>(
     support: &mut Support,
 ) -> Result<bool, Stop>
     requires { IsTrue (K.seen work.old.keeper.now).store.attached }
-    ensures value { IsTold K.seen work.new → IfOk result (λ b. (app : App) (ctx : Context) → b ≡ is_live (world_at app ctx (state_of K.seen work.old) (shown a.now)) value.now) }
+    ensures value { IsTold K.seen work.new → IfOk result (λ b. (app : App) (ctx : Context) (w : ℕ → Bool) → Agrees support.new (shown a.now) w → b ≡ is_live (world_at app ctx (state_of K.seen work.old) w) value.now) }
     ensures reads { ReadsWork K.seen work.old work.new result }
     ensures grows { Grows support.old support.new }
 {
@@ -41,7 +41,8 @@ pub(crate) fn stand<K: Keeper>(
     }
 }
 
-/// Whether the assignment shows the record. The labels that were consulted are added to the support.
+/// Whether the assignment shows the record. The labels that were consulted are added to the support: under
+/// each assignment that shows the same of the support, the answer is the same.
 pub fn record_stands<K: Keeper>(
     alloc: Global,
     work: &mut Work<'_, K>,
@@ -50,25 +51,19 @@ pub fn record_stands<K: Keeper>(
     support: &mut Support,
 ) -> Result<bool, Stop>
     requires attached { IsTrue (K.seen work.old.keeper.now).store.attached }
-    ensures value { IsTold K.seen work.new → IfOk result (λ b. b ≡ has_id (project_at (shown a.now) (state_of K.seen work.old)) id) }
+    ensures value { IsTold K.seen work.new → IfOk result (λ b. (w : ℕ → Bool) → Agrees support.new (shown a.now) w → b ≡ has_id (project_at w (state_of K.seen work.old)) id) }
     ensures reads { ReadsWork K.seen work.old work.new result }
     ensures grows { Grows support.old support.new }
 {
     let rows = work.one(alloc, id)?;
-    let found = has_row(alloc, rows.as_slice(), a, id, support)?;
+    let found = has_row(rows.as_slice(), a, id, support)?;
     Ok(found)
 }
 
-fn has_row(
-    alloc: Global,
-    rows: &[Row],
-    a: &Assignment,
-    id: Id,
-    support: &mut Support,
-) -> Result<bool, Memory>
-    ensures value { IfOk result (λ b. b ≡ stands (record_with id (rows_at (shown a.now) rows.now))) }
+fn has_row(rows: &[Row], a: &Assignment, id: Id, support: &mut Support) -> Result<bool, Memory>
+    ensures value { IfOk result (λ b. (w : ℕ → Bool) → Agrees support.new (shown a.now) w → b ≡ stands (record_with id (rows_at w rows.now))) }
     ensures grows { Grows support.old support.new }
 {
-    let row = shown_row(alloc, rows, a, id, support)?;
+    let row = shown_row(rows, a, id, support)?;
     Ok(row.is_some())
 }

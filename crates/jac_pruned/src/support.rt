@@ -1,26 +1,29 @@
 //! The labels that were consulted.
-ghost use Rattle.std.specs.Prelude.{◌≡◌, ◌==◌, ◌||◌, ℕ, [], true, IfOk, OnOk};
+ghost use Rattle.std.specs.Prelude.{◌≡◌, ◌==◌, ◌||◌, ℕ, [], Bool, true, IfOk, OnOk};
 ghost use Rattle.jac_world.specs.World.{shown, holds, names, IsAscending};
-ghost use Rattle.jac_pruned.specs.Consulted.{Grows};
+ghost use Rattle.jac_pruned.specs.Consulted.{Agrees, Grows};
 
-use crate::memory::from_world;
 use jac_value::Memory;
 use jac_world::{Assignment, Guard, Label};
 use std::alloc::Global;
 use std::marker::Model;
 
-/// The labels that were consulted, by rising number. None is taken away.
+/// The labels that were consulted, by rising number. None is taken away. What was found stays right under
+/// each assignment that shows the same of them.
 #[derive(Debug, Drop)]
 pub struct Support {
-    labels: Assignment,
+    labels: Vec<Label>,
 }
 
 impl Model for Support {
     ghost use Rattle.std.specs.Prelude.{List, ℕ};
+    ghost use Rattle.jac_world.specs.World.{IsAscending};
 
     ghost Value = { List ℕ };
 
-    ghost view = { λ s. s.labels };
+    ghost view = { λ s. s.labels.items };
+
+    ghost invariant = { λ s. IsAscending s.labels.items };
 }
 
 impl Support {
@@ -28,7 +31,7 @@ impl Support {
         ensures { result ≡ [] }
     {
         Support {
-            labels: Assignment::empty(alloc),
+            labels: Vec::new(alloc),
         }
     }
 
@@ -39,40 +42,65 @@ impl Support {
         self.labels.as_slice()
     }
 
+    /// Whether the label was consulted.
+    pub fn has(&self, label: Label) -> bool
+        ensures { result ≡ shown self.now label }
+    {
+        is_among(self.as_slice(), label)
+    }
+
     /// The same labels and this one.
-    pub fn add(&mut self, alloc: Global, label: Label) -> Result<(), Memory>
+    pub fn add(&mut self, label: Label) -> Result<(), Memory>
         ensures added { OnOk result ((k : ℕ) → shown self.new k ≡ (label == k || shown self.old k)) }
         ensures grows { Grows self.old self.new }
     {
-        if self.labels.shows(label) {
-            return Ok(());
-        }
-        self.labels = from_world(self.labels.with(alloc, label))?;
-        Ok(())
+        add_label(&mut self.labels, label)
     }
 }
 
-/// Whether the guard holds. All its labels are consulted.
+fn is_among(labels: &[Label], label: Label) -> bool
+    requires { IsAscending labels.now }
+    ensures { result ≡ shown labels.now label }
+{
+    labels.binary_search(&label).is_ok()
+}
+
+fn add_label(labels: &mut Vec<Label>, label: Label) -> Result<(), Memory>
+    requires { IsAscending labels.old.items }
+    ensures added { OnOk result ((k : ℕ) → shown labels.new.items k ≡ (label == k || shown labels.old.items k)) }
+    ensures ascending { IsAscending labels.new.items }
+    ensures grows { Grows labels.old.items labels.new.items }
+{
+    match labels.as_slice().binary_search(&label) {
+        Ok(_) => Ok(()),
+        Err(place) => {
+            labels.insert(place, label)?;
+            Ok(())
+        }
+    }
+}
+
+/// Whether the guard holds. All its labels are consulted: under each assignment that shows the same of the
+/// support, the answer is the same.
 pub(crate) fn consult(
-    alloc: Global,
     guard: &Guard,
     assignment: &Assignment,
     support: &mut Support,
 ) -> Result<bool, Memory>
-    ensures value { IfOk result (λ b. b ≡ holds (shown assignment.now) guard.now) }
+    ensures value { IfOk result (λ b. (w : ℕ → Bool) → Agrees support.new (shown assignment.now) w → b ≡ holds w guard.now) }
     ensures consulted { OnOk result ((k : ℕ) → names guard.now k ≡ true → shown support.new k ≡ true) }
     ensures grows { Grows support.old support.new }
 {
-    add_labels(alloc, guard.pairs(), support)?;
+    add_labels(guard.pairs(), support)?;
     Ok(guard.holds(assignment))
 }
 
-fn add_labels(alloc: Global, pairs: &[(Label, bool)], support: &mut Support) -> Result<(), Memory>
+fn add_labels(pairs: &[(Label, bool)], support: &mut Support) -> Result<(), Memory>
     ensures consulted { OnOk result ((k : ℕ) → names pairs.now k ≡ true → shown support.new k ≡ true) }
     ensures grows { Grows support.old support.new }
 {
     'pairs: for pair in pairs {
-        support.add(alloc, pair.0)?;
+        support.add(pair.0)?;
     }
     Ok(())
 }

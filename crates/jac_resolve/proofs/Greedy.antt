@@ -8,7 +8,9 @@ use Rattle.jac_lang.specs.Syntax.{Application}
 use Rattle.jac_plain.specs.Requests.{Worlds}
 use Rattle.jac_plain.specs.Policies.{is_allowed, with_label, ShowsForbidden, AreAllowed}
 use Rattle.jac_pruned.proofs.Working.{next}
-use Rattle.jac_resolve.specs.Rounds.{all_allowed, hidden_count, MayAdd, Tries, Advances, Within}
+use Rattle.jac_resolve.specs.declared.recall.Remembered.{Remembered}
+use Rattle.jac_resolve.specs.Recalled.{AreRight}
+use Rattle.jac_resolve.specs.Rounds.{all_allowed, hidden_count, MayAdd, Tries, Advances, Within, Fills}
 
 left_true : (a b : Bool) → (a && b) ≡ true → a ≡ true
 left_true true b p = refl
@@ -54,15 +56,26 @@ one_fails f [] h = absurd cc
 one_fails f (x ∷ xs) h = fails_if f x xs (f x) refl h (one_fails f xs)
 
 module _ (app : Application) (worlds : Worlds) (viewer : Option ℕ) where
-  pub all_are : (labels : List ℕ) → true ≡ all_allowed app (worlds (shown labels)) viewer labels → AreAllowed app worlds viewer labels
-  all_are labels h k s = each_meets (λ j. is_allowed app (worlds (shown labels)) viewer j) labels (sym h) k s
+  -- the label that was added is allowed, and so are those before it
+  pub all_are : (k : ℕ) (old more : List ℕ) → ((j : ℕ) → shown more j ≡ with_label k (shown old) j) → is_allowed app (worlds (shown more)) viewer k ≡ true →
+      all_allowed app (worlds (shown more)) viewer old ≡ true → AreAllowed app worlds viewer more
+  all_are k old more grown own before j s = allowed_if (k == j) refl (sym (grown j) ∙ s)
+    where
+      allowed_if : (same : Bool) → (k == j) ≡ same → (same || shown old j) ≡ true → is_allowed app (worlds (shown more)) viewer j ≡ true
+      allowed_if true e h = ap (is_allowed app (worlds (shown more)) viewer) (sym ((Decides-eqb k j).0 e)) ∙ own
+      allowed_if false e h = each_meets (λ i. is_allowed app (worlds (shown more)) viewer i) old before j h
 
-  pub one_is_refused : (k : ℕ) (old more : List ℕ) → ((j : ℕ) → shown more j ≡ with_label k (shown old) j) → false ≡ all_allowed app (worlds (shown more)) viewer more →
+  -- one of those before it isn't allowed
+  pub one_is_refused : (k : ℕ) (old more : List ℕ) → ((j : ℕ) → shown more j ≡ with_label k (shown old) j) → all_allowed app (worlds (shown more)) viewer old ≡ false →
       ShowsForbidden app worlds viewer (with_label k (shown old))
   one_is_refused k old more grown h =
       let same : shown more ≡ with_label k (shown old) = λ i j. grown j i in
-      let found = one_fails (λ j. is_allowed app (worlds (shown more)) viewer j) more (sym h) in
-      let refusing : ShowsForbidden app worlds viewer (shown more) = record { label = found.label; is_shown = found.is_shown; forbidden = found.fails } in
+      let found = one_fails (λ j. is_allowed app (worlds (shown more)) viewer j) old h in
+      let refusing : ShowsForbidden app worlds viewer (shown more) = record {
+        label = found.label;
+        is_shown = grown found.label ∙ or_right (k == found.label) (shown old found.label) found.is_shown;
+        forbidden = found.fails;
+      } in
       subst (λ (w : ℕ → Bool). ShowsForbidden app worlds viewer w) same refusing
 
   -- the label that was added isn't allowed itself
@@ -135,8 +148,13 @@ module _ (app : Application) (worlds : Worlds) (viewer : Option ℕ) where
   FillsBut labels left new true = ⊤
   FillsBut labels left new false = (k : ℕ) → shown labels k ≡ true → shown left k ≡ false → shown new k ≡ false → ShowsForbidden app worlds viewer (with_label k (shown new))
 
-  -- what is known of the labels that are shown, before those that are left are tried
-  pub record Round (labels left start new : List ℕ) (added : Bool) : Type 0 where
+  pub filled : (labels left new : List ℕ) (added : Bool) → left ≡ [] → FillsBut labels left new added → Fills app worlds viewer labels new added
+  filled labels left new true none fills = tt
+  filled labels left new false none fills = λ k among hidden. fills k among (ap (λ l. shown l k) none) hidden
+
+  -- what is known of the labels that are shown, and of what is remembered, before those that are left are tried
+  pub record Round (labels left start new : List ℕ) (answers : List Remembered) (added : Bool) : Type 0 where
+    pub right : AreRight app worlds viewer (shown new) answers
     pub allowed : AreAllowed app worlds viewer start → AreAllowed app worlds viewer new
     pub fills : FillsBut labels left new added
 
@@ -163,12 +181,36 @@ module _ (app : Application) (worlds : Worlds) (viewer : Option ℕ) where
   allowed_on old new x false before g t = subst (λ (n : List ℕ). AreAllowed app worlds viewer n) (sym g) before
 
   -- one label more was tried
-  pub round_on : (labels left start old new : List ℕ) (x : ℕ) (more : List ℕ) (added one : Bool) → left ≡ x ∷ more → Round labels left start old added →
-      MayAdd x old new one → Tries app worlds viewer x old new one → Round labels more start new (added || one)
-  round_on labels left start old new x more added one is before g t = record {
+  pub round_on : (labels left start old new : List ℕ) (answers known : List Remembered) (x : ℕ) (more : List ℕ) (added one : Bool) → left ≡ x ∷ more → Round labels left start old answers added →
+      MayAdd x old new one → Tries app worlds viewer x old new one → AreRight app worlds viewer (shown new) known → Round labels more start new known (added || one)
+  round_on labels left start old new answers known x more added one is before g t right = record {
+    right = right;
     allowed = λ a. allowed_on old new x one (before.allowed a) g t;
     fills = fills_on labels more old new x added one (subst (λ (l : List ℕ). FillsBut labels l old added) is before.fills) g t;
   }
+
+-- of the labels that are left to ask, the first one's answer is yes
+pub asked_on : (f : ℕ → Bool) (xs rest : List ℕ) (x : ℕ) (all answer : Bool) → xs ≡ x ∷ rest → answer ≡ f x → answer ≡ true → list_all f xs ≡ all → list_all f rest ≡ all
+asked_on f xs rest x all answer is says holds so_far = ap (λ b. b && list_all f rest) (sym holds ∙ says) ∙ ap (list_all f) (sym is) ∙ so_far
+
+-- it is no
+pub asked_no : (f : ℕ → Bool) (xs rest : List ℕ) (x : ℕ) (all answer : Bool) → xs ≡ x ∷ rest → answer ≡ f x → answer ≡ false → list_all f xs ≡ all → false ≡ all
+asked_no f xs rest x all answer is says fails so_far = ap (λ b. b && list_all f rest) (sym fails ∙ says) ∙ ap (list_all f) (sym is) ∙ so_far
+
+pub none_left : (xs : List ℕ) (i : ℕ) → length xs ≤ i → drop i xs ≡ []
+none_left [] zero past = refl
+none_left [] (suc i) past = refl
+none_left (x ∷ xs) zero past = absurd (omega (arith, past))
+none_left (x ∷ xs) (suc i) past = none_left xs i (omega (arith, past))
+
+-- none is left
+pub asked_all : (f : ℕ → Bool) (xs : List ℕ) (all : Bool) → xs ≡ [] → list_all f xs ≡ all → true ≡ all
+asked_all f xs all none so_far = ap (list_all f) (sym none) ∙ so_far
+
+-- what is remembered is right, and what was asked so far
+pub record SoFar (right asked : Type 0) : Type 0 where
+  pub remembered : right
+  pub so_far : asked
 
 -- what is known in a round, told or not, with a count that doesn't fall, and what is known beside
 pub record InRound (labels start new : List ℕ) (added : Bool) (before now : ℕ) (beside : Type 0) : Type 0 where

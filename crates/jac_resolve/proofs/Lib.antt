@@ -1,5 +1,6 @@
 pub mod Alike
 pub mod Collecting
 pub mod Greedy
+pub mod Recalling
 pub mod Rising
 pub mod Standing

@@ -7,6 +7,7 @@ mod live;
 mod memory;
 mod pass;
 mod permission;
+mod recall;
 
 pub use labels::Labels;
 pub use laws::{live_by_rows, settled_by_tables};

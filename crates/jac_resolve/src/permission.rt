@@ -1,11 +1,12 @@
 //! Whether a label may be shown under an assignment.
-ghost use Rattle.std.specs.Prelude.{◌≡◌, ◌≤◌, ◌+◌, ◌&&◌, [], if◌then◌else◌, slice_get, option_map, IfOk, OnOk, IsTrue};
+ghost use Rattle.std.specs.Prelude.{◌≡◌, ◌≤◌, ◌+◌, ◌&&◌, [], ℕ, Bool, if◌then◌else◌, slice_get, option_map, IfOk, OnOk, IsTrue};
 ghost use Rattle.jac_value.specs.Ids.{record_of_label};
 ghost use Rattle.jac_world.specs.World.{shown};
 ghost use Rattle.jac_lang.specs.Mirror.{application_of, entity_of, entities_of, field_group_of, groups_of, expression_of};
 ghost use Rattle.jac_keep.specs.Worked.{state_of, IsTold, ReadsWork};
 ghost use Rattle.jac_plain.specs.Expressions.{mean, is_true};
 ghost use Rattle.jac_plain.specs.Policies.{labelled_group, has_group, has_record, policy_world, is_allowed};
+ghost use Rattle.jac_pruned.specs.Consulted.{Agrees, Grows};
 ghost use Rattle.jac_resolve.specs.Rounds.{worlds_of};
 
 use jac_keep::{Keeper, Stop, Work};
@@ -18,7 +19,7 @@ use std::alloc::Global;
 use std::sync::ledger::Ledger;
 
 /// Whether the record of the label stands under the assignment, and the policy of its group is true there;
-/// and the labels that were consulted for this answer.
+/// and the labels that were consulted for this answer, which is the same wherever they are shown as here.
 pub fn allowed<K: Keeper, M: Ledger>(
     alloc: Global,
     work: &mut Work<'_, K>,
@@ -29,7 +30,7 @@ pub fn allowed<K: Keeper, M: Ledger>(
     evaluations: &mut Steps<M>,
 ) -> Result<(bool, Support), Stop>
     requires attached { IsTrue (K.seen work.old.keeper.now).store.attached }
-    ensures value { IsTold K.seen work.new → IfOk result (λ r. r.0 ≡ is_allowed (application_of app.now) (worlds_of (state_of K.seen work.old) (shown a.now)) viewer label) }
+    ensures value { IsTold K.seen work.new → IfOk result (λ r. (w : ℕ → Bool) → Agrees r.1 (shown a.now) w → r.0 ≡ is_allowed (application_of app.now) (worlds_of (state_of K.seen work.old) w) viewer label) }
     ensures ticks { IsTold K.seen work.new → OnOk result (evaluations.new ≡ evaluations.old + (if has_group (application_of app.now) label && has_record (worlds_of (state_of K.seen work.old) (shown a.now)) label then 1 else 0)) }
     ensures later { evaluations.old ≤ evaluations.new }
     ensures once { evaluations.new ≤ evaluations.old + 1 }
@@ -64,7 +65,8 @@ fn policy_holds<K: Keeper>(
     support: &mut Support,
 ) -> Result<bool, Stop>
     requires attached { IsTrue (K.seen work.old.keeper.now).store.attached }
-    ensures value { IsTold K.seen work.new → IfOk result (λ b. b ≡ is_true (mean (policy_world (application_of app.now) (worlds_of (state_of K.seen work.old) (shown a.now)) viewer id) (expression_of policy.now) [])) }
+    ensures value { IsTold K.seen work.new → IfOk result (λ b. (w : ℕ → Bool) → Agrees support.new (shown a.now) w → b ≡ is_true (mean (policy_world (application_of app.now) (worlds_of (state_of K.seen work.old) w) viewer id) (expression_of policy.now) [])) }
+    ensures grows { Grows support.old support.new }
     ensures reads { ReadsWork K.seen work.old work.new result }
 {
     let ctx = Ctx {

@@ -16,9 +16,10 @@ returns g c =
     let seen =
     sight (F.seen c.args.files.now) (F.seen c.run_words.new.files) (O.seen c.args.out.now) (O.seen c.run_words.new.out)
     (U.seen c.args.audit.now) (U.seen c.run_words.new.audit) (K.seen c.args.vault.now) (K.seen c.run_words.new.vault) in
-    let ran = c.run_words.ensures in
+    let ran = c.run_words.ensures.ran in
     record {
       ran = ran;
+      lasts = c.run_words.ensures.lasts;
       cause = comes_for line seen door c.args.words.now c.run_words.result ran.out ran.audit ran.holds;
       replays = λ can. is_served line seen door c.args.words.now can c.run_words.result ran.out ran.audit ran.holds;
       serves = λ can. is_listened line seen door c.args.words.now can c.run_words.result ran.out ran.audit ran.holds;

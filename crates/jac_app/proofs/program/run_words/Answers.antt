@@ -10,8 +10,8 @@ use Rattle.jac_app.proofs.program.run_words.Goals as goal
 pub take_steps-ended-requires-clause-count : goal.take_steps-ended-requires-clause-count
 take_steps-ended-requires-clause-count g c = has_count c.args.words.now c.in-Ok-Some.command (sym c.in-Ok-Some.field-0-is ∙ c.in-Ok-Some.ensures)
 
-pub returns-in-Ok-None : goal.returns-in-Ok-None
-returns-in-Ok-None g c =
+pub returns-in-Ok-None-clause-ran : goal.returns-in-Ok-None-clause-ran
+returns-in-Ok-None-clause-ran g c =
     let closed = c.refuse_words.ensures in
     let audit = g.U.Sink.seen c.args.audit.now in
     record {
@@ -24,8 +24,8 @@ returns-in-Ok-None g c =
       holds = inr (inl (record { no_command = sym c.in-Ok-None.ensures ∙ c.in-Ok-None.field-0-is; closes = closed.holds; idle = still_idle audit (g.K.Keeper.seen c.args.vault.now); uncalled = refl }));
     }
 
-pub returns-in-Err : goal.returns-in-Err
-returns-in-Err g c =
+pub returns-in-Err-clause-ran : goal.returns-in-Err-clause-ran
+returns-in-Err-clause-ran g c =
     let closed = c.run_out.ensures in
     let audit = g.U.Sink.seen c.args.audit.now in
     record {
@@ -38,8 +38,8 @@ returns-in-Err g c =
       holds = inr (inr (record { closes = closed.holds; idle = still_idle audit (g.K.Keeper.seen c.args.vault.now); uncalled = refl }));
     }
 
-pub returns-in-Ok-Some : goal.returns-in-Ok-Some
-returns-in-Ok-Some g c =
+pub returns-in-Ok-Some-clause-ran : goal.returns-in-Ok-Some-clause-ran
+returns-in-Ok-Some-clause-ran g c =
     let F = g.F.Files in
     let O = g.O.Sink in
     let U = g.U.Sink in
@@ -52,7 +52,7 @@ returns-in-Ok-Some g c =
     let seen =
     sight (F.seen c.args.files.now) (F.seen c.take_steps-ended.new.files) before middle (U.seen c.args.audit.now) (U.seen c.take_steps-ended.new.audit)
     (K.seen c.args.vault.now) (K.seen c.take_steps-ended.new.vault) in
-    let ended = c.take_steps-ended.ensures in
+    let ended = c.take_steps-ended.ensures.ends in
     let finished = c.finish.ensures in
     record {
       out = ended.out ++ finished.put;

@@ -1,20 +1,17 @@
 use Rattle.std.proofs.Common.{◌∙◌, refl, ap}
-use Rattle.jac_lang.specs.Mirror.{application_of, page_of}
-use Rattle.jac_lang.proofs.Places.{length-entities}
+use Rattle.std.proofs.lemmas.Bool.{and_parts}
+use Rattle.jac_lang.specs.Mirror.{application_of, page_of, statements_of}
+use Rattle.jac_plain.specs.Reading.{are_reading}
 use Rattle.jac_engine.specs.Answers.{asked_with, page_answer}
+use Rattle.jac_engine.specs.Served.{are_untemplated}
 use Rattle.jac_engine.proofs.AnswerLaws.{page_shown}
-use Rattle.jac_engine.proofs.ServedLaws.{showing_runs}
 use Rattle.jac_engine.proofs.ViewLaws.{ready_to_show}
 use Rattle.jac_engine.proofs.answer.show.Goals as goal
 
-pub shown_page-requires-clause-tables : goal.shown_page-requires-clause-tables
-shown_page-requires-clause-tables g c = λ told.
-    let left = c.in_ok-number.ensures.reads.left in
-    let start = c.requires.start (left.told told) in
-    rw (left.same_state told, ← length-entities c.args.app.now.models) start.tables
-
-pub shown_page-requires-clause-runnable : goal.shown_page-requires-clause-runnable
-shown_page-requires-clause-runnable g c = showing_runs c.in_ok-number.number _ c.requires.served
+pub shown_page-requires-clause-reading : goal.shown_page-requires-clause-reading
+shown_page-requires-clause-reading g c =
+    let body = statements_of c.args.view.now.body in
+    (and_parts (are_untemplated body) (are_reading body) c.requires.served).1
 
 pub shown_page-requires-clause-ready : goal.shown_page-requires-clause-ready
 shown_page-requires-clause-ready g c = λ told.

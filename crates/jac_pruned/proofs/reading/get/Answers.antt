@@ -1,11 +1,10 @@
 use Rattle.std.proofs.Common.{◌∙◌, ap}
-use Rattle.jac_world.specs.World.{shown}
 use Rattle.jac_keep.specs.Worked.{state_of}
 use Rattle.jac_plain.specs.World.{got_of}
 use Rattle.jac_pruned.specs.Seen.{world_at}
 use Rattle.jac_pruned.proofs.reading.get.Goals as goal
 
 pub returns-in_ok-read-in-Some-clause-value : goal.returns-in_ok-read-in-Some-clause-value
-returns-in_ok-read-in-Some-clause-value g c told ctx =
-    c.in_ok-read-in-Some.ensures.value told ctx
-    ∙ ap (λ place. got_of (world_at c.args.app.now ctx (state_of g.K.Keeper.seen c.args.work.now) (shown c.args.a.now)) place c.args.field.now c.args.value.now) c.in-Some.ensures.place
+returns-in_ok-read-in-Some-clause-value g c told ctx w agree =
+    c.in_ok-read-in-Some.ensures.value told ctx w agree
+    ∙ ap (λ place. got_of (world_at c.args.app.now ctx (state_of g.K.Keeper.seen c.args.work.now) w) place c.args.field.now c.args.value.now) c.in-Some.ensures.place

@@ -1,11 +1,10 @@
 use Rattle.std.proofs.Common.{◌∙◌, ap}
-use Rattle.jac_world.specs.World.{shown}
 use Rattle.jac_keep.specs.Worked.{state_of}
 use Rattle.jac_plain.specs.World.{got}
 use Rattle.jac_pruned.specs.Seen.{world_at}
 use Rattle.jac_pruned.proofs.sorting.key_at.Goals as goal
 
 pub returns-clause-key : goal.returns-clause-key
-returns-clause-key g c told ctx =
-    c.in_ok-key.ensures.value told ctx
-    ∙ ap (got (world_at c.args.app.now ctx (state_of g.K.Keeper.seen c.args.work.now) (shown c.args.a.now)) c.args.model.now c.args.field.now) c.in_ok-record.ensures
+returns-clause-key g c told ctx w agree =
+    c.in_ok-key.ensures.value told ctx w agree
+    ∙ ap (got (world_at c.args.app.now ctx (state_of g.K.Keeper.seen c.args.work.now) w) c.args.model.now c.args.field.now) c.in_ok-record.ensures

@@ -1,12 +1,11 @@
 use Rattle.std.proofs.Common.{rules, ◌+◌, ◌∙◌, ap, [], drop}
 use Rattle.std.proofs.lemmas.List.{drop_all}
 use Rattle.jac_lang.specs.Mirror.{binders_of}
-use Rattle.jac_world.specs.World.{shown}
 use Rattle.jac_keep.specs.Worked.{state_of}
 use Rattle.jac_plain.specs.Expressions.{bound, look, key_of}
 use Rattle.jac_plain.specs.World.{got}
 use Rattle.jac_pruned.specs.Seen.{world_at}
-use Rattle.jac_pruned.proofs.Growing.{grows_then}
+use Rattle.jac_pruned.proofs.Growing.{agrees_less, grows_then}
 use Rattle.jac_pruned.proofs.Keyed.{keyed-more, keyed-all}
 use Rattle.jac_pruned.proofs.Working.{next}
 use Rattle.jac_pruned.proofs.sorting.with_keys.Goals as goal
@@ -21,24 +20,24 @@ tuples-preserved g c =
     record {
       grown = grows_then _ _ _ before.grown c.in_ok-key.ensures.grows;
       read = record {
-        told = λ told ctx.
+        told = λ told ctx w agree.
             let bs = binders_of c.args.binders.now in
-            let world = world_at c.args.app.now ctx (state_of k.seen c.args.work.now) (shown c.args.a.now) in
+            let world = world_at c.args.app.now ctx (state_of k.seen c.args.work.now) w in
             let before_told = c.in_ok-key.ensures.reads.same.told told in
             let record_of = look (bound bs ids []) c.args.name.now in
             keyed-more (key_of world bs c.args.name.now c.args.field.now)
             c.tuples.keyed.items c.push_keyed.new.keyed.items ids c.in_ok-key.key
             (drop i tuples) (drop (i + 1) tuples) tuples
             (next tuples ids i c.ids-item.is c.tuples-test.true) c.in_ok-push_keyed.ensures
-            (c.in_ok-key.ensures.key told ctx
-            ∙ ap (λ s. got (world_at c.args.app.now ctx s (shown c.args.a.now)) c.in_ok-model.model c.args.field.now record_of) (before.read.same.same_state before_told)
+            (c.in_ok-key.ensures.key told ctx w agree
+            ∙ ap (λ s. got (world_at c.args.app.now ctx s w) c.in_ok-model.model c.args.field.now record_of) (before.read.same.same_state before_told)
             ∙ ap (λ m. got world m c.args.field.now record_of) c.in_ok-model.ensures)
-            (before.read.told before_told ctx);
+            (before.read.told before_told ctx w (agrees_less _ _ _ _ c.in_ok-key.ensures.grows agree));
         same = search rules;
       };
     }
 
 pub returns-clause-keys : goal.returns-clause-keys
-returns-clause-keys g c told ctx =
-    keyed-all (key_of (world_at c.args.app.now ctx (state_of g.K.Keeper.seen c.args.work.now) (shown c.args.a.now)) (binders_of c.args.binders.now) c.args.name.now c.args.field.now)
-    c.tuples.keyed.items (drop c.tuples.ids-index c.args.tuples.now) c.args.tuples.now (drop_all c.tuples.ids-index c.args.tuples.now c.tuples-test.false) (c.tuples.invariant.read.told told ctx)
+returns-clause-keys g c told ctx w agree =
+    keyed-all (key_of (world_at c.args.app.now ctx (state_of g.K.Keeper.seen c.args.work.now) w) (binders_of c.args.binders.now) c.args.name.now c.args.field.now)
+    c.tuples.keyed.items (drop c.tuples.ids-index c.args.tuples.now) c.args.tuples.now (drop_all c.tuples.ids-index c.args.tuples.now c.tuples-test.false) (c.tuples.invariant.read.told told ctx w agree)

@@ -1,11 +1,11 @@
-use Rattle.std.proofs.Common.{◌≡◌, ◌++◌, List, ℕ, drop}
+use Rattle.std.proofs.Common.{◌≡◌, ◌++◌, List, ℕ, Bool, drop}
 use Rattle.jac_value.specs.declared.value.Value.{Value}
 use Rattle.jac_lang.specs.Mirror.{binders_of}
 use Rattle.jac_world.specs.World.{shown}
 use Rattle.jac_keep.specs.Worked.{state_of}
 use Rattle.jac_plain.specs.Expressions.{key_of}
 use Rattle.jac_plain.specs.declared.context.Ctx.{Ctx}
-use Rattle.jac_pruned.specs.Consulted.{Grows}
+use Rattle.jac_pruned.specs.Consulted.{Agrees, Grows}
 use Rattle.jac_pruned.specs.Seen.{world_at}
 use Rattle.jac_pruned.specs.Tupled.{keyed_by}
 use Rattle.jac_pruned.proofs.Working.{LoopOver}
@@ -18,7 +18,7 @@ invariant-tuples g l =
     record {
       grown : Grows l.fn.support l.support;
       read : LoopOver k.seen l.fn.work l.work
-          ((ctx : Ctx) →
-          let key : List ℕ → Value = key_of (world_at l.app ctx (state_of k.seen l.fn.work) (shown l.a)) (binders_of l.binders) l.name l.field in
+          ((ctx : Ctx) (w : ℕ → Bool) → Agrees l.support (shown l.a) w →
+          let key : List ℕ → Value = key_of (world_at l.app ctx (state_of k.seen l.fn.work) w) (binders_of l.binders) l.name l.field in
           l.keyed.items ++ keyed_by key (drop l.ids-index l.tuples) ≡ keyed_by key l.tuples);
     }

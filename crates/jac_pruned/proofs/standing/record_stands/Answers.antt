@@ -1,14 +1,13 @@
 use Rattle.std.proofs.Common.{◌∙◌, ap}
 use Rattle.jac_value.specs.Ids.{model_of_id}
-use Rattle.jac_world.specs.World.{shown}
 use Rattle.jac_keep.specs.Worked.{state_of}
 use Rattle.jac_plain.specs.Expressions.{stands}
 use Rattle.jac_pruned.proofs.Rows.{record_of_alternatives}
 use Rattle.jac_pruned.proofs.standing.record_stands.Goals as goal
 
 pub returns-clause-value : goal.returns-clause-value
-returns-clause-value g c told =
-    c.in_ok-found.ensures.value
+returns-clause-value g c told w agree =
+    c.in_ok-found.ensures.value w agree
     ∙ ap stands
-    (record_of_alternatives (shown c.args.a.now) c.args.id (model_of_id c.args.id) (state_of g.K.Keeper.seen c.args.work.now).tables c.as_slice.result.now
+    (record_of_alternatives w c.args.id (model_of_id c.args.id) (state_of g.K.Keeper.seen c.args.work.now).tables c.as_slice.result.now
     (c.as_slice.ensures ∙ c.in_ok-rows.ensures.exact told))

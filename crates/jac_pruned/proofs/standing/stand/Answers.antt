@@ -1,13 +1,12 @@
 use Rattle.std.proofs.Common.{rules, ◌≡◌, ◌∙◌, ap, sym, Some}
 use Rattle.jac_value.specs.declared.value.Value.TheVariants as value
-use Rattle.jac_world.specs.World.{shown}
 use Rattle.jac_keep.specs.Worked.{state_of}
 use Rattle.jac_plain.specs.Expressions.{is_live}
 use Rattle.jac_pruned.specs.Seen.{world_at}
 use Rattle.jac_pruned.proofs.standing.stand.Goals as goal
 
 pub returns-in_ok-found-in-Ref-Some-clause-value : goal.returns-in_ok-found-in-Ref-Some-clause-value
-returns-in_ok-found-in-Ref-Some-clause-value g c told app ctx =
+returns-in_ok-found-in-Ref-Some-clause-value g c told app ctx w agree =
     let reference : c.args.value.now ≡ value.Ref (Some c.in-Ref-Some.id) = search rules in
-    c.in_ok-found-in-Ref-Some.ensures.value told
-    ∙ ap (is_live (world_at app ctx (state_of g.K.Keeper.seen c.args.work.now) (shown c.args.a.now))) (sym reference)
+    c.in_ok-found-in-Ref-Some.ensures.value told w agree
+    ∙ ap (is_live (world_at app ctx (state_of g.K.Keeper.seen c.args.work.now) w)) (sym reference)

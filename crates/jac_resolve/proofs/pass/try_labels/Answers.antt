@@ -1,16 +1,19 @@
-use Rattle.std.proofs.Common.{◌≡◌, ◌+◌, true, drop, subst, rules, arith}
+use Rattle.std.proofs.Common.{◌≡◌, ◌+◌, ◌≤◌, true, drop, length, sym, subst, rules, arith}
 use Rattle.jac_world.specs.World.{shown}
 use Rattle.jac_lang.specs.Mirror.{application_of}
 use Rattle.jac_rows.specs.declared.state.State.{State}
 use Rattle.jac_keep.specs.Worked.{state_of}
+use Rattle.jac_resolve.specs.Recalled.{AreRight}
 use Rattle.jac_resolve.specs.Rounds.{worlds_of, Tries}
 use Rattle.jac_pruned.proofs.Working.{next}
-use Rattle.jac_resolve.proofs.Greedy.{first_is_shown, advances, stays_within, round_on}
+use Rattle.jac_resolve.proofs.Greedy.{first_is_shown, advances, filled, none_left, stays_within, round_on}
 use Rattle.jac_resolve.proofs.pass.try_labels.Goals as goal
 
 pub labels-preserved : goal.labels-preserved
 labels-preserved g c =
     let k = g.K.Keeper in
+    let app = application_of c.args.app.now in
+    let viewer = c.args.viewer.now in
     let x = c.label-item.result in
     let labels = c.args.labels.now in
     let i = c.labels.label-index in
@@ -25,12 +28,25 @@ labels-preserved g c =
       advances = advances labels start old new x c.labels.added c.in_ok-one.one among c.labels.invariant.advances grows;
       within = stays_within labels start old new x c.in_ok-one.one among c.labels.invariant.within grows;
       working = record {
-        told = λ told.
+        told = λ told right.
             let before = c.in_ok-one.ensures.reads.same.told told in
-            round_on (application_of c.args.app.now) (worlds_of (state_of k.seen c.args.work.now)) c.args.viewer.now labels (drop i labels) start old new x (drop (i + 1) labels)
-            c.labels.added c.in_ok-one.one (next labels x i c.label-item.is c.labels-test.true) (c.labels.invariant.working.told before) grows
-            (subst (λ (s : State). Tries (application_of c.args.app.now) (worlds_of s) c.args.viewer.now x old new c.in_ok-one.one)
-            (same.same_state before) (c.in_ok-one.ensures.tries told));
+            let moved = same.same_state before in
+            let round = c.labels.invariant.working.told before right in
+            let known = subst (λ (s : State). AreRight app (worlds_of s) viewer (shown old) c.labels.answers.items) (sym moved) round.right in
+            round_on app (worlds_of (state_of k.seen c.args.work.now)) viewer labels (drop i labels) start old new c.labels.answers.items c.try_label.new.answers.items x (drop (i + 1) labels)
+            c.labels.added c.in_ok-one.one (next labels x i c.label-item.is c.labels-test.true) round grows
+            (subst (λ (s : State). Tries app (worlds_of s) viewer x old new c.in_ok-one.one) moved (c.in_ok-one.ensures.tries told known))
+            (subst (λ (s : State). AreRight app (worlds_of s) viewer (shown new) c.try_label.new.answers.items) moved (c.in_ok-one.ensures.right told known));
         same = search rules;
       };
     }
+
+pub returns-clause-fills : goal.returns-clause-fills
+returns-clause-fills g c told right =
+    let labels = c.args.labels.now in
+    let past : length labels ≤ c.labels.label-index = search rules in
+    filled (application_of c.args.app.now) (worlds_of (state_of g.K.Keeper.seen c.args.work.now)) c.args.viewer.now labels (drop c.labels.label-index labels) c.labels.a c.labels.added
+    (none_left labels c.labels.label-index past) (c.labels.invariant.working.told told right).fills
+
+pub returns-clause-right : goal.returns-clause-right
+returns-clause-right g c told right = (c.labels.invariant.working.told told right).right

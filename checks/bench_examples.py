@@ -1,0 +1,234 @@
+#!/usr/bin/env python3
+"""Measures the lists of the four larger applications in examples/. Words: the program, and the numbers of records that
+the main model of each has, or none for 16, 63, 250 and 1,000. The records are made by the application's own forms,
+spread over its users, one for 20 records, and mostly guarded. Making them isn't what is measured: they are made with
+policies that are always true, in the file of a store, and the application with its own policies is then served over
+that file. The list is asked by somebody who may see much of it, by somebody who may see little, and by nobody. A time
+is that which the client waits for the page; the memory is the most that the program held meanwhile, and the labels are
+those that the page shows. A page that takes longer than a minute is left, and its application with it.
+It is no part of the gate: what a machine takes is no property of the program."""
+import contextlib
+import http.client
+import itertools
+import os
+import re
+import sys
+import tempfile
+import time
+import urllib.parse
+
+from serving import served
+
+TOP = os.path.dirname(os.path.dirname(os.path.abspath(__file__)))
+SIZES = [16, 63, 250, 1000]
+MOST = 60       # seconds for one page
+FORM = {'Content-Type': 'application/x-www-form-urlencoded'}
+SHARE = 20      # records of a user
+PEOPLE = 'Ann Bob Cleo Dan Eve Finn Gwen Hugo Iris Jon Kim Lea Max Nina Otto Pia Quin Ruth Sam Tess'.split()
+
+
+class Left(Exception):
+    """Why an application is left."""
+
+
+def id_of(number, site=0, model=0):
+    """The id that docs/LANGUAGE.md gives a record."""
+    return (number * 64 + site) * 64 + model
+
+
+def users_file(requests):
+    """A line for each record of the first model that so many requests may make."""
+    ids = [id_of(1, site) for site in range(64)] + [id_of(number) for number in range(2, requests)]
+    return ''.join('%d %d\n' % (one, one) for one in ids)
+
+
+def name_of(place):
+    return '%s %d' % (PEOPLE[place % len(PEOPLE)], place)
+
+
+def day_of(place):
+    return '2026-%02d-%02d' % (place * 7 % 12 + 1, place * 11 % 28 + 1)
+
+
+class Site:
+    """An application that is served on one connection, which is kept."""
+
+    def __init__(self, run, audit):
+        self.line = http.client.HTTPConnection('127.0.0.1', run.port, timeout=MOST)
+        self.process, self.audit, self.number = run.run.pid, audit, 0
+
+    def ask(self, method, viewer, path, body=None):
+        """The status, the location, the body and the seconds of a reply."""
+        headers = dict(FORM) if method == 'POST' else {}
+        if viewer is not None:
+            headers['Cookie'] = 'session=%d' % viewer
+        began = time.perf_counter()
+        try:
+            self.line.request(method, path, body, headers)
+            answer = self.line.getresponse()
+            return answer.status, answer.getheader('Location'), answer.read(), time.perf_counter() - began
+        except TimeoutError:
+            raise Left('%s %s takes more than %d seconds' % (method, path, MOST))
+
+    def post(self, viewer, path, **fields):
+        """Sends a form, and gives the path that it leads to."""
+        status, to, body, _ = self.ask('POST', viewer, path, urllib.parse.urlencode(fields).encode())
+        if status != 303:
+            raise Left('POST %s, request %d: %d %s' % (path, self.number + 1, status, body[:200].decode()))
+        self.number += 1
+        return to
+
+    def person(self, viewer, **fields):
+        self.post(viewer, '/people', **fields)
+        return id_of(self.number)
+
+    def page(self, viewer, path):
+        """The status, seconds, bytes, peak bytes of memory and labels of a page."""
+        with open('/proc/%d/clear_refs' % self.process, 'w') as refs:
+            refs.write('5')
+        status, _, body, took = self.ask('GET', viewer, path)
+        with open('/proc/%d/status' % self.process) as table:
+            peak = next(int(line.split()[1]) * 1024 for line in table if line.startswith('VmHWM'))
+        return status, took, len(body), peak, self.shown()
+
+    def shown(self):
+        """How many labels the last line of the audit names."""
+        with open(self.audit) as audit:
+            last = audit.read().splitlines()[-1].split()[3]
+        return 0 if last in ('-', 'nopage') else last.count(',') + 1
+
+
+def calendar(site):
+    """Events, of which a tenth is open: one user hosts a quarter of them, and each fifth has a guest."""
+    site.post(None, '/setup')
+    people = [id_of(1, place) for place in range(4)]
+    for place in itertools.count():
+        if place % SHARE == SHARE - 1:
+            people.append(site.person(people[0], name=name_of(place)))
+        host = people[0] if place % 4 == 0 else people[place % len(people)]
+        fields = {'title': 'Meeting %d' % (place * 7919 % 1009), 'place': 'Room %d' % (place % 9), 'day': day_of(place)}
+        if place % 10 == 9:
+            fields['open'] = '1'
+        event = site.post(host, '/events', **fields)
+        if place % 5 == 0:
+            site.post(host, event + '/guests', person=people[(place + 1) % len(people)])
+        yield [('hosts a quarter', people[0], '/'), ('hosts a few', people[2], '/'), ('nobody', None, '/')]
+
+
+def conference(site):
+    """Papers, of which each third has a second author and each tenth a conflict; each twentieth has a review."""
+    site.post(None, '/setup')
+    chair, first, second, reviewer, other = (id_of(1, place) for place in range(5))
+    people = [first, second]
+    for place in itertools.count():
+        if place % SHARE == SHARE - 1:
+            people.append(site.person(chair, name=name_of(place)))
+        fields = {'title': 'On topic %d' % (place * 7919 % 1009), 'abstract': 'It is shown that %d.' % place}
+        if place % 3 == 0:
+            fields['second'] = people[(place + 1) % len(people)]
+        if place % 10 == 0:
+            fields['conflict'] = other
+        paper = site.post(people[place % len(people)], '/papers', **fields)
+        if place % 20 == 1:
+            site.post(reviewer, paper + '/reviews', score=place % 5 + 1, words='Sound.')
+        yield [('the chair', chair, '/'), ('an author', first, '/'), ('nobody', None, '/')]
+
+
+def health(site):
+    """Entries of patients by two doctors, of which one has the consent of all; each twelfth is hidden."""
+    site.post(None, '/setup')
+    people, house, quinn = [id_of(1, 0), id_of(1, 1)], id_of(1, 2), id_of(1, 3)
+    for patient in people:
+        site.post(patient, '/consents', doctor=house)
+    for place in itertools.count():
+        if place % SHARE == SHARE - 1:
+            people.append(site.person(house, name=name_of(place), born=day_of(place)))
+            site.post(people[-1], '/consents', doctor=house)
+        patient = people[place % len(people)]
+        fields = {'day': day_of(place), 'title': 'Visit %d' % place, 'words': 'Nothing new.'}
+        entry = site.post(quinn if place % 4 == 3 else house, '/person/%d/entries' % patient, **fields)
+        if place % 12 == 0:
+            site.post(patient, entry + '/hide', hidden='1')
+        yield [('a doctor', house, '/'), ('a patient', people[0], '/'), ('nobody', None, '/')]
+
+
+def courses(site):
+    """Submissions of the students of two courses to ten tasks each. The list is that of a course, which counts them."""
+    site.post(None, '/setup')
+    teachers, student = [id_of(1, 0), id_of(1, 1)], None
+    given = [site.post(teacher, '/courses', title='Course of %d' % teacher) for teacher in teachers]
+    tasks = [[site.post(teacher, course + '/tasks', title='Task %d' % place, points=10) for place in range(10)]
+             for teacher, course in zip(teachers, given)]
+    first = None
+    for place in itertools.count():
+        turn = place // 10 % 2
+        if place % 10 == 0:
+            student = site.person(teachers[0], name=name_of(place))
+            site.post(teachers[turn], given[turn] + '/places', student=student)
+            first = first or student
+        site.post(student, tasks[turn][place % 10] + '/submissions', words='By induction on %d.' % place)
+        yield [('the teacher', teachers[0], given[0]), ('a student', first, given[0]), ('nobody', None, given[0])]
+
+
+def without_policies(text):
+    """The application with policies that are always true."""
+    parts, place = [], 0
+    for found in re.finditer(r'\(policy\b', text):
+        depth, end = 1, found.end()
+        while depth:
+            end = re.compile(r'[()]|"(?:[^"\\]|\\.)*"').search(text, end).end()
+            depth += {'(': 1, ')': -1}.get(text[end - 1], 0)
+        parts += [text[place:found.start()], '(policy true)']
+        place = end
+    return ''.join(parts) + text[place:]
+
+
+@contextlib.contextmanager
+def site_of(program, app, folder):
+    """The application, served over the file of a store in the folder."""
+    options = '--sessions', 'sessions', '--audit', 'audit', '--db', 'store'
+    with served(program, app, 1000, folder, options) as run:
+        site = Site(run, os.path.join(folder, 'audit'))
+        with contextlib.closing(site.line):
+            yield site
+
+
+def made(program, make, count, folder):
+    """Makes so many records, and gives who asks for which list."""
+    with site_of(program, 'open', folder) as site:
+        return next(itertools.islice(make(site), count - 1, None))
+
+
+def measure(program, make, sizes):
+    with open(os.path.join(TOP, 'examples', make.__name__, 'app')) as file:
+        text = file.read()
+    for count in sizes:
+        with tempfile.TemporaryDirectory() as folder:
+            for name, data in (('app', text), ('open', without_policies(text)), ('sessions', users_file(3 * count + 500))):
+                with open(os.path.join(folder, name), 'w') as file:
+                    file.write(data)
+            try:
+                pages = made(program, make, count, folder)
+                with site_of(program, 'app', folder) as site:
+                    for who, viewer, path in pages:
+                        line(make.__name__, count, who, *site.page(viewer, path))
+            except Left as left:
+                print('%-11s is left at %d records: %s' % (make.__name__, count, left), flush=True)
+                return
+
+
+def line(name, count, who, status, took, size, peak, shown):
+    print('%-11s %7d  %-16s %6d %9.4f %9d %8.1f %7d' % (name, count, who, status, took, size, peak / 2 ** 20, shown), flush=True)
+
+
+def main():
+    program = os.path.abspath(sys.argv[1])
+    sizes = [int(word) for word in sys.argv[2:]] or SIZES
+    print('%-11s %7s  %-16s %6s %9s %9s %8s %7s' % (
+        'application', 'records', 'who asks', 'status', 'seconds', 'bytes', 'peak MB', 'labels'))
+    for make in (calendar, conference, health, courses):
+        measure(program, make, sizes)
+
+
+if __name__ == '__main__':
+    main()

@@ -1,0 +1,316 @@
+#!/usr/bin/env python3
+"""Runs the built program while one of its allocations fails, or one and all behind it. A run ends with status 0 or 7;
+each reply is 500, or that of an undisturbed run of the requests that weren't answered with 500; the audit tells the
+same; and a store in a file holds what the answered requests left, no more and no less. A check of an application and a
+dump end as an undisturbed one does, or with status 7. Words: the program, and for how many seconds allocations are
+taken, 90 if not said. They are taken spread over the run, each once, as long as there is time. Prints each case that
+fails, and ends with a count. Where there is no C compiler nothing is done, and that is said.
+
+A library that is loaded before the program counts its allocations, and fails those that it is told to."""
+import collections
+import contextlib
+import glob
+import os
+import random
+import re
+import shutil
+import sqlite3
+import subprocess
+import sys
+import tempfile
+import time
+
+
+def program_behind(path):
+    """The program itself: where the script `jac` is named, which runs it, allocations of the shell are none of its own."""
+    with open(path, 'rb') as file:
+        is_script = file.read(2) == b'#!'
+    return os.path.join(os.path.dirname(path), 'crates', 'jac_main', 'out', 'jac_main') if is_script else path
+
+
+PROGRAM = program_behind(os.path.abspath(sys.argv[1]))
+SECONDS = float(sys.argv[2]) if len(sys.argv) > 2 else 90
+COMPILERS = 'cc', 'gcc', 'clang'
+SHOWN = 20      # failures that are printed
+LIBRARY = r'''
+#include <errno.h>
+#include <fcntl.h>
+#include <stdio.h>
+#include <stdlib.h>
+#include <unistd.h>
+
+void *__libc_malloc(size_t);
+void *__libc_calloc(size_t, size_t);
+void *__libc_realloc(void *, size_t);
+
+static unsigned long first, last, count;
+static int counts;
+
+static int fails(void) {
+    if (!counts) return 0;
+    count++;
+    if (count < first || last < count) return 0;
+    errno = ENOMEM;
+    return 1;
+}
+
+void *malloc(size_t size) { return fails() ? NULL : __libc_malloc(size); }
+void *calloc(size_t number, size_t size) { return fails() ? NULL : __libc_calloc(number, size); }
+void *realloc(void *old, size_t size) { return fails() ? NULL : __libc_realloc(old, size); }
+
+__attribute__((constructor)) static void begin(void) {
+    first = strtoul(getenv("FAIL_FIRST"), NULL, 10);
+    last = strtoul(getenv("FAIL_LAST"), NULL, 10);
+    counts = 1;
+}
+
+__attribute__((destructor)) static void end(void) {
+    char text[32];
+    int file, size;
+    counts = 0;
+    size = snprintf(text, sizeof text, "%lu\n", count);
+    file = open(getenv("FAIL_COUNT"), O_WRONLY | O_CREAT | O_TRUNC, 0600);
+    if (file < 0 || write(file, text, size) != size) _exit(99);
+    close(file);
+}
+'''
+APPLICATION = '''(app (viewer User)
+ (model User (fields (name text)))
+ (model Event (fields (title text) (host (ref User)) (open bool))
+  (group (guards (title "private"))
+   (policy (or (get Event open this) (eq (get Event host this) viewer)))))
+ (view post "/join" (params (name text))
+  (create u User (set (name name)) (put u)))
+ (view post "/add" (params (title text) (open bool))
+  (create e Event (set (title title) (host viewer) (open open)) (redirect (cat "/event/" (str e)))))
+ (view post "/event/{id}" (params (id (ref Event)) (title text))
+  (if (eq (get Event host id) viewer) ((update Event id (set (title title))) (put "changed")) ((missing))))
+ (view post "/remove" (params (title text))
+  (for (from ((e Event)) (eq (get Event title e) title) key) (delete Event e)) (put "removed"))
+ (view get "/list" (params)
+  (template "<ul>{% (for (from ((e Event)) true (up e title))) %}<li>{{ (get Event title e) }} by {{ (get User name (get Event host e)) }}{% end %}</ul>"))
+ (view get "/count" (params) (put (count (from ((e Event)) (eq (get Event title e) "raid") key)))))
+'''
+SESSIONS = 'ann 4096\nbob 8192\n'
+
+
+def ask(viewer, method, target, body=''):
+    return ['ask %s %s "%s" "%s"' % (viewer, method, target, body)]
+
+
+def sent(number, token, method, target, body=''):
+    """A request on a connection of its own, in two pieces."""
+    head = r'%s %s HTTP/1.1\r\nHost: a\r\nCookie: session=%s\r\n' % (method, target, token)
+    if method == 'POST':
+        head += r'Content-Type: application/x-www-form-urlencoded\r\nContent-Length: %d\r\n' % len(body)
+    return ['open %d' % number, 'data %d "%s"' % (number, head), r'data %d "\r\n%s"' % (number, body), 'end %d' % number]
+
+
+# Each is one request, whose lines have no reply but one.
+REQUESTS = [
+    ask('-', 'POST', '/join', 'name=Ann'),
+    ask('-', 'POST', '/join', 'name=Bob'),
+    ask('4096', 'POST', '/add', 'title=raid&open=0'),
+    sent(1, 'bob', 'POST', '/add', 'title=feast&open=1'),
+    ask('4096', 'POST', '/add', 'title=nap'),
+    ask('4096', 'GET', '/list'),
+    sent(2, 'bob', 'GET', '/list'),
+    ask('4096', 'POST', '/event/12289', 'title=raid+two'),
+    ask('8192', 'POST', '/event/12289', 'title=stolen'),
+    ask('8192', 'GET', '/count'),
+    ask('4096', 'POST', '/remove', 'title=nap'),
+    ask('-', 'GET', '/nothing'),
+    ask('4096', 'GET', '/list'),
+    ask('-', 'GET', '/list'),
+]
+
+
+# What is asked of a store by a next run, which changes nothing.
+AFTERWARDS = [ask('4096', 'GET', '/list'), ask('8192', 'GET', '/list')]
+FAILED = re.compile(rb'reply 500 |sent \d+ "HTTP/1.1 500 ')
+OUT_OF_MEMORY = 7, b'memory'
+
+
+class Run:
+    """What a replay left: its status, its last line where that isn't 0, its replies, its audit and its store."""
+
+    def __init__(self, status, out, audit, store, count):
+        self.status, self.audit, self.store, self.count = status, audit.splitlines(), store, count
+        lines = out.splitlines()
+        self.last = lines.pop() if status > 0 and lines else b''
+        self.replies = [line for line in lines if not line.startswith(b'closed ')]
+
+    def refused(self):
+        """The places of the replies that are 500."""
+        return [place for place, line in enumerate(self.replies) if FAILED.match(line)]
+
+
+class Runs:
+    """Runs in a folder, with the library loaded before the program."""
+
+    def __init__(self, folder, library, stored):
+        self.folder, self.library, self.stored, self.known = folder, library, stored, {}
+        self.write('app', APPLICATION)
+        self.write('sessions', SESSIONS)
+
+    def write(self, name, text):
+        with open(os.path.join(self.folder, name), 'w') as file:
+            file.write(text)
+
+    def read(self, name):
+        path = os.path.join(self.folder, name)
+        if not os.path.exists(path):
+            return b''
+        with open(path, 'rb') as file:
+            return file.read()
+
+    def program(self, words, first=0, last=0):
+        """The status and the output of a run in which the allocations from the first to the last fail, and their count."""
+        given = dict(os.environ, LD_PRELOAD=self.library, FAIL_FIRST=str(first), FAIL_LAST=str(last), FAIL_COUNT='count')
+        done = subprocess.run([PROGRAM] + words, cwd=self.folder, env=given, stdin=subprocess.DEVNULL,
+                              stdout=subprocess.PIPE, stderr=subprocess.DEVNULL, timeout=60)
+        return done.returncode, done.stdout, int(self.read('count') or 0)
+
+    def content(self):
+        """The next number and the rows of the store, and what a next run of the program reads of it."""
+        self.write('events', ''.join(line + '\n' for lines in AFTERWARDS for line in lines))
+        read = self.program(['replay', 'app', 'events', '--db', 'store'])[:2]
+        with contextlib.closing(sqlite3.connect(os.path.join(self.folder, 'store'))) as database:
+            rows = database.execute('SELECT * FROM rec ORDER BY 1, 2, 3').fetchall()
+            return database.execute('SELECT number FROM meta').fetchall(), rows, read
+
+    def replay(self, requests, first=0, last=0):
+        for file in glob.glob(os.path.join(self.folder, 'store*')) + glob.glob(os.path.join(self.folder, 'audit')):
+            os.remove(file)
+        self.write('events', ''.join(line + '\n' for lines in requests for line in lines))
+        words = ['replay', 'app', 'events', '--sessions', 'sessions', '--audit', 'audit']
+        status, out, count = self.program(words + ['--db', 'store'] * self.stored, first, last)
+        audit = self.read('audit')
+        return Run(status, out, audit, self.content() if self.stored else None, count)
+
+    def undisturbed(self, places):
+        """The run of the requests at these places, in which nothing fails."""
+        if places not in self.known:
+            self.known[places] = self.replay([REQUESTS[place] for place in places])
+        return self.known[places]
+
+
+def with_refusals(lines, refused, audit):
+    """The audit of the undisturbed run, where the lines of the refused requests stand between its own."""
+    lines, merged = list(lines), []
+    for place, line in enumerate(audit, 1):
+        if place - 1 in refused:
+            merged.append(b'%d 500 %s nopage' % (place, line.split(b' ')[2]))
+        else:
+            merged.append(b'%d %s' % (place, lines.pop(0).partition(b' ')[2]))
+    return merged
+
+
+def wrong(runs, run):
+    """What is wrong in a disturbed replay, or nothing."""
+    if (run.status, run.last) not in ((0, b''), OUT_OF_MEMORY):
+        return 'status %d, %r' % (run.status, run.last)
+    if run.status == 0 and len(run.replies) != len(REQUESTS):
+        return 'status 0 behind %d replies' % len(run.replies)
+    refused = run.refused()
+    answered = tuple(place for place in range(len(run.replies)) if place not in refused)
+    plain = runs.undisturbed(answered)
+    have = [line for place, line in enumerate(run.replies) if place not in refused]
+    if have != plain.replies:
+        return 'replies %r, not %r' % next((a, b) for a, b in zip(have, plain.replies) if a != b)
+    # A line of the audit is put before its reply, so that there may be one more.
+    if len(run.audit) not in (len(run.replies), len(run.replies) + 1):
+        return '%d lines of the audit for %d replies' % (len(run.audit), len(run.replies))
+    audit = run.audit[:len(run.replies)]
+    if audit != with_refusals(plain.audit, refused, audit):
+        return 'the audit %r, not %r' % (audit, plain.audit)
+    if run.store != plain.store:
+        return 'the store after %d replies: %r, not %r' % (len(run.replies), run.store, plain.store)
+    return None
+
+
+def spread(count):
+    """All numbers from 1 to the count, in an order in which each first part is spread over them."""
+    step, randomness = max(1, count // 64), random.Random(7)
+    parts = [list(range(first, min(first + step, count + 1))) for first in range(1, count + 1, step)]
+    for part in parts:
+        randomness.shuffle(part)
+    while any(parts):
+        yield from [part.pop() for part in parts if part]
+
+
+class Tally:
+    """What was tried and went wrong."""
+
+    def __init__(self):
+        self.passed = self.failed = 0
+
+    def try_all(self, name, count, seconds, one):
+        """Tries one(first, last) for as many allocations as there is time: it gives what is wrong, and a mark."""
+        deadline, marks, tried = time.monotonic() + seconds, collections.Counter(), 0
+        for first in spread(count):
+            if time.monotonic() > deadline:
+                break
+            tried += 1
+            for last, how in ((first, 'alone'), (2 ** 60, 'and all behind it')):
+                fault, *seen = one(first, last)
+                marks.update(seen)
+                self.count('%s, allocation %d of %d %s' % (name, first, count, how), fault)
+        print('%s: %d of %d allocations were made to fail, alone and with all behind them; %s' % (
+            name, tried, count, ', '.join('%d %s' % (number, mark) for mark, number in marks.most_common())), flush=True)
+
+    def count(self, name, fault):
+        self.passed, self.failed = self.passed + (not fault), self.failed + bool(fault)
+        if fault and self.failed <= SHOWN:
+            print('FAILED %s: %s' % (name, fault), flush=True)
+
+
+def replays(tally, name, runs, seconds):
+    plain = runs.undisturbed(tuple(range(len(REQUESTS))))
+    well = plain.status == 0 and plain.count and not plain.refused() and len(plain.replies) == len(REQUESTS)
+    tally.count(name, None if well else 'where nothing fails: status %d, %d allocations, %r' % (
+        plain.status, plain.count, plain.replies))
+
+    def one(first, last):
+        run = runs.replay(REQUESTS, first, last)
+        return (wrong(runs, run), 'runs with status %d' % run.status, *['replies of 500' for _ in run.refused()])
+
+    tally.try_all(name, plain.count, seconds, one)
+
+
+def commands(tally, name, runs, words, seconds):
+    """A command that changes nothing ends as it does where nothing fails, or for want of memory."""
+    *plain, count = runs.program(words)
+    tally.count(name, None if plain[0] == 0 and count else 'where nothing fails: %r' % plain)
+
+    def one(first, last):
+        status, out, _ = runs.program(words, first, last)
+        fault = [status, out] != plain and (status, out.splitlines()[-1:]) != (7, [b'memory'])
+        return 'status %d, %r' % (status, out) if fault else None, 'runs with status %d' % status
+
+    tally.try_all(name, count, seconds, one)
+
+
+def main():
+    compiler = next(filter(None, map(shutil.which, COMPILERS)), None)
+    if not compiler:
+        print('left out, as no C compiler is installed: all of it\n0 passed, 0 failed')
+        return
+    tally = Tally()
+    # Files in memory, where there are some, spare the time that a disk takes.
+    with tempfile.TemporaryDirectory(dir='/dev/shm' if os.access('/dev/shm', os.W_OK) else None) as folder:
+        source, library = os.path.join(folder, 'fails.c'), os.path.join(folder, 'fails.so')
+        with open(source, 'w') as file:
+            file.write(LIBRARY)
+        subprocess.run([compiler, '-O1', '-fPIC', '-shared', '-o', library, source], check=True)
+        runs = Runs(folder, library, True)
+        replays(tally, 'a replay with --db', runs, SECONDS * 0.6)
+        runs.replay(REQUESTS)
+        commands(tally, 'a dump', runs, ['dump', 'app', '98312', '--db', 'store'], SECONDS * 0.05)
+        commands(tally, 'a check', runs, ['check', 'app'], SECONDS * 0.05)
+        replays(tally, 'a replay in memory', Runs(folder, library, False), SECONDS * 0.3)
+    print('%d passed, %d failed' % (tally.passed, tally.failed))
+    sys.exit(1 if tally.failed or not tally.passed else 0)
+
+
+main()

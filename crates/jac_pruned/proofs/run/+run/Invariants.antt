@@ -1,0 +1,64 @@
+use Rattle.std.proofs.Common.{◌≡◌, ◌≤◌, ◌+◌, ◌*◌, ℕ, Bool, max, drop}
+use Rattle.jac_lang.specs.declared.statements.Stmt.{size-Stmt}
+use Rattle.jac_lang.specs.declared.statements.Stmts.{size-Stmts}
+use Rattle.jac_lang.specs.Mirror.{binders_of, statements_of}
+use Rattle.jac_world.specs.World.{shown}
+use Rattle.jac_keep.specs.Worked.{state_of}
+use Rattle.jac_plain.specs.Statements.{for_each, leaves_all}
+use Rattle.jac_pruned.specs.Consulted.{Agrees, Grows}
+use Rattle.jac_pruned.specs.Runs.{setting_at, run_in, AreReading}
+use Rattle.jac_pruned.proofs.Working.{LoopOver}
+use Rattle.jac_pruned.proofs.run.+run.Given as goal
+
+-- what the statements that are left leave from here, all leave from the start
+abbrev pub invariant-execute_all-body : goal.invariant-execute_all-body
+invariant-execute_all-body g l =
+    let k = g.K.Keeper in
+    record {
+      no_deeper : size-Stmts l.left ≤ size-Stmts l.stmts;
+      reading : AreReading (statements_of l.left);
+      grown : Grows l.fn.support l.support;
+      read : LoopOver k.seen l.fn.work l.work
+          ((w : ℕ → Bool) → Agrees l.support (shown l.a) w →
+          let setting = setting_at l.app l.ctx w in
+          let s = state_of k.seen l.fn.work in
+          leaves_all setting (statements_of l.left) (run_in w s l.env.items l.pieces.items) ≡ leaves_all setting (statements_of l.stmts) (run_in w s l.fn.env.items l.fn.pieces.items));
+    }
+
+-- what the tuples that are left leave from here, all leave from the start
+abbrev pub invariant-execute_tuples-tuples : goal.invariant-execute_tuples-tuples
+invariant-execute_tuples-tuples g l =
+    let k = g.K.Keeper in
+    record {
+      grown : Grows l.fn.support l.support;
+      read : LoopOver k.seen l.fn.work l.work
+          ((w : ℕ → Bool) → Agrees l.support (shown l.a) w →
+          let body = leaves_all (setting_at l.app l.ctx w) (statements_of l.body) in
+          let bs = binders_of l.binders in
+          let s = state_of k.seen l.fn.work in
+          for_each bs body (drop l.ids-index l.tuples) (run_in w s l.env.items l.pieces.items) ≡ for_each bs body l.tuples (run_in w s l.fn.env.items l.fn.pieces.items));
+    }
+
+abbrev pub decreases-execute_all : goal.decreases-execute_all
+decreases-execute_all g l = 8 * size-Stmts l.stmts.now
+
+abbrev pub decreases-execute : goal.decreases-execute
+decreases-execute g l = 8 * size-Stmt l.stmt.now
+
+abbrev pub decreases-execute_let : goal.decreases-execute_let
+decreases-execute_let g l = 8 * size-Stmts l.body.now + 2
+
+abbrev pub decreases-execute_named : goal.decreases-execute_named
+decreases-execute_named g l = 8 * size-Stmts l.body.now + 1
+
+abbrev pub decreases-execute_if : goal.decreases-execute_if
+decreases-execute_if g l = 8 * max (size-Stmts l.first.now) (size-Stmts l.second.now) + 1
+
+abbrev pub decreases-execute_for : goal.decreases-execute_for
+decreases-execute_for g l = 8 * size-Stmts l.body.now + 3
+
+abbrev pub decreases-execute_tuples : goal.decreases-execute_tuples
+decreases-execute_tuples g l = 8 * size-Stmts l.body.now + 2
+
+abbrev pub decreases-execute_bound : goal.decreases-execute_bound
+decreases-execute_bound g l = 8 * size-Stmts l.body.now + 1

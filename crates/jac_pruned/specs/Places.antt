@@ -1,0 +1,15 @@
+-- Where a name is bound.
+use Rattle.std.specs.Prelude.{ℕ, suc, Bool, true, false, List, [], ◌∷◌, Option, Some, None}
+use Rattle.jac_lang.specs.declared.bindings.Binding.{Binding}
+use Rattle.jac_lang.specs.Lookup.{same_text}
+
+-- a place behind the first binding, or the first where it is the one and there is none behind
+abbrev pub place_after : Bool → Option ℕ → Option ℕ
+place_after is_one (Some i) = Some (suc i)
+place_after true None = Some 0
+place_after false None = None
+
+-- the place of the innermost binding of the name, which stands last
+abbrev pub last_place : List ℕ → List Binding → Option ℕ
+last_place name [] = None
+last_place name (b ∷ bs) = place_after (same_text b.name name) (last_place name bs)
