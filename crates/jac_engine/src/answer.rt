@@ -1,4 +1,4 @@
-ghost use Rattle.std.specs.Prelude.{◌≡◌, ◌<◌, true, length, slice_get, IfOk, OnOk, OnErr, IfSome, IsTrue, Some};
+ghost use Rattle.std.specs.Prelude.{◌≡◌, ◌<◌, true, length, slice_get, IfOk, IsNone, OnOk, OnErr, IfSome, IsTrue, Some};
 ghost use Rattle.jac_lang.specs.Mirror.{application_of, page_of, statements_of};
 ghost use Rattle.jac_lang.specs.declared.pages.Verb.TheVariants as verbs;
 ghost use Rattle.jac_plain.specs.Requests.{method_in};
@@ -59,7 +59,8 @@ pub struct Prepared {
 }
 
 /// Answers the request on what the keeper keeps, and changes nothing. The labels of a page are settled for who looks: on
-/// what is kept for a GET, on what the request leaves for a POST. Each policy that is asked counts in `evaluations`.
+/// what is kept for a GET, on what the request leaves for a POST. Each policy that is asked counts in `evaluations`. Where nothing is to be stored no
+/// facet was split.
 pub fn prepare<K: Keeper, L: Ledger, M: Ledger>(
     alloc: Global,
     checked: &Checked,
@@ -74,6 +75,7 @@ pub fn prepare<K: Keeper, L: Ledger, M: Ledger>(
     requires routes { AreRoutes (application_of checked.now) routes.now }
     requires start { IsTrue (K.seen keeper.old).tells → IsStart (application_of checked.now) (K.seen keeper.old).state }
     ensures prepared { IfOk result (IsPrepared (K.seen keeper.new).tells (application_of checked.now) (K.seen keeper.old).state ask.now) }
+    ensures unsplit { IfOk result (λ p. IsNone p.change → splits.new ≡ splits.old) }
     ensures reads { Reads (K.seen keeper.old) (K.seen keeper.new) result }
 {
     let app = checked.app();
@@ -97,6 +99,7 @@ fn prepare_found<K: Keeper, L: Ledger, M: Ledger>(
     requires routes { AreRoutes (application_of app.now) routes.now }
     requires start { IsTrue (K.seen keeper.old).tells → IsStart (application_of app.now) (K.seen keeper.old).state }
     ensures prepared { IfOk result (IsPreparedFor (found (application_of app.now) ask.now.method ask.now.path) (K.seen keeper.new).tells (application_of app.now) (K.seen keeper.old).state ask.now) }
+    ensures unsplit { IfOk result (λ p. IsNone p.change → splits.new ≡ splits.old) }
     ensures reads { Reads (K.seen keeper.old) (K.seen keeper.new) result }
 {
     let found = find_view(alloc, app, routes, ask)?;
@@ -140,6 +143,7 @@ fn answer_view<K: Keeper, L: Ledger, M: Ledger>(
     requires start { IsTrue (K.seen keeper.old).tells → IsStart (application_of app.now) (K.seen keeper.old).state }
     requires within { place < length app.now.views }
     ensures prepared { IfOk result (IsPreparedBy (method_in (slice_get (application_of app.now).views place)) (K.seen keeper.new).tells (application_of app.now) (K.seen keeper.old).state (visit_of (application_of app.now) (asked_with path.now ask.now) place)) }
+    ensures unsplit { IfOk result (λ p. IsNone p.change → splits.new ≡ splits.old) }
     ensures reads { Reads (K.seen keeper.old) (K.seen keeper.new) result }
 {
     let view = view_at(app, place);
@@ -209,6 +213,7 @@ fn store<K: Keeper, L: Ledger, M: Ledger>(
     requires method { view.now.method ≡ verbs.Post }
     requires served { is_served_body verbs.Post (statements_of view.now.body) ≡ true }
     ensures stored { IfOk result (λ p. IsPreparedBy verbs.Post (K.seen keeper.new).tells (application_of app.now) (K.seen keeper.old).state (visit_of (application_of app.now) (asked_with path.now ask.now) place) p) }
+    ensures unsplit { IfOk result (λ p. IsNone p.change → splits.new ≡ splits.old) }
     ensures reads { Reads (K.seen keeper.old) (K.seen keeper.new) result }
 {
     let number = keeper.number()?;

@@ -2,6 +2,7 @@ ghost use Rattle.std.specs.Prelude.{◌≡◌, None, [], false};
 ghost use Rattle.jac_keep.specs.KeeperState.{IsStored, unopened};
 
 use crate::FileKeeper;
+use jac_cached::CachedKeeper;
 use jac_io::Calls;
 use jac_keep::{AttachFault, Change, Keeper, MemoryKeeper, Stop, Vault};
 use jac_rows::{Rows, State};
@@ -9,12 +10,13 @@ use jac_value::{Id, Txt};
 use std::alloc::Global;
 use std::marker::Model;
 
-/// Where the program keeps its state: in memory, of which it tells, or in the file that it is attached to.
+/// Where the program keeps its state: in memory, of which it tells, or in the file that it is attached to. The tables
+/// of a file that were read are held in memory until they are changed.
 #[derive(Drop)]
 pub struct HostVault {
     rt: HostRuntime,
     memory: MemoryKeeper,
-    file: Option<FileKeeper>,
+    file: Option<CachedKeeper<FileKeeper>>,
 }
 
 impl Model for HostVault {
@@ -86,7 +88,7 @@ impl Vault for HostVault {
     ) -> Result<(), AttachFault> {
         match name {
             Some(name) => {
-                let mut file = FileKeeper::new(self.rt);
+                let mut file = CachedKeeper::new(alloc, FileKeeper::new(self.rt));
                 let attached = file.attach(alloc, Some(name), schema);
                 self.file = Some(file);
                 attached

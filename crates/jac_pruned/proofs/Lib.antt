@@ -2,6 +2,7 @@ pub mod Bisected
 pub mod Bound
 pub mod Going
 pub mod Growing
+pub mod Joining
 pub mod Keyed
 pub mod Locations
 pub mod Names

@@ -1,3 +1,4 @@
+pub mod Alike
 pub mod Consulted
 pub mod Places
 pub mod Runs

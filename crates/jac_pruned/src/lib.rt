@@ -2,6 +2,7 @@
 //! pruning, in which no faceted value is made.
 #![tactic(auto, using(crate::proofs::Growing::grows_same, crate::proofs::Growing::grows_then, crate::proofs::Growing::agrees_less, crate::proofs::Growing::holds_alike))]
 
+mod alike;
 mod assigning;
 mod binding;
 mod choosing;

@@ -56,14 +56,20 @@ pub fn record_stands<K: Keeper>(
     ensures grows { Grows support.old support.new }
 {
     let rows = work.one(alloc, id)?;
-    let found = has_row(rows.as_slice(), a, id, support)?;
+    let found = has_row(alloc, rows.as_slice(), a, id, support)?;
     Ok(found)
 }
 
-fn has_row(rows: &[Row], a: &Assignment, id: Id, support: &mut Support) -> Result<bool, Memory>
+fn has_row(
+    alloc: Global,
+    rows: &[Row],
+    a: &Assignment,
+    id: Id,
+    support: &mut Support,
+) -> Result<bool, Memory>
     ensures value { IfOk result (λ b. (w : ℕ → Bool) → Agrees support.new (shown a.now) w → b ≡ stands (record_with id (rows_at w rows.now))) }
     ensures grows { Grows support.old support.new }
 {
-    let row = shown_row(rows, a, id, support)?;
+    let row = shown_row(alloc, rows, a, id, None, support)?;
     Ok(row.is_some())
 }

@@ -4,7 +4,7 @@ ghost use Rattle.jac_world.specs.World.{shown, holds, names, IsAscending};
 ghost use Rattle.jac_pruned.specs.Consulted.{Agrees, Grows};
 
 use jac_value::Memory;
-use jac_world::{Assignment, Guard, Label};
+use jac_world::{Assignment, Label};
 use std::alloc::Global;
 use std::marker::Model;
 
@@ -80,19 +80,25 @@ fn add_label(labels: &mut Vec<Label>, label: Label) -> Result<(), Memory>
     }
 }
 
-/// Whether the guard holds. All its labels are consulted: under each assignment that shows the same of the
-/// support, the answer is the same.
+/// Whether the guard of these pairs holds. All its labels are consulted: under each assignment that shows the
+/// same of the support, the answer is the same.
 pub(crate) fn consult(
-    guard: &Guard,
+    pairs: &[(Label, bool)],
     assignment: &Assignment,
     support: &mut Support,
 ) -> Result<bool, Memory>
-    ensures value { IfOk result (λ b. (w : ℕ → Bool) → Agrees support.new (shown assignment.now) w → b ≡ holds w guard.now) }
-    ensures consulted { OnOk result ((k : ℕ) → names guard.now k ≡ true → shown support.new k ≡ true) }
+    ensures value { IfOk result (λ b. (w : ℕ → Bool) → Agrees support.new (shown assignment.now) w → b ≡ holds w pairs.now) }
+    ensures consulted { OnOk result ((k : ℕ) → names pairs.now k ≡ true → shown support.new k ≡ true) }
     ensures grows { Grows support.old support.new }
 {
-    add_labels(guard.pairs(), support)?;
-    Ok(guard.holds(assignment))
+    add_labels(pairs, support)?;
+    Ok(are_met(pairs, assignment))
+}
+
+fn are_met(pairs: &[(Label, bool)], assignment: &Assignment) -> bool
+    ensures { result ≡ holds (shown assignment.now) pairs.now }
+{
+    pairs.iter().all(|pair| pair.1 == assignment.shows(pair.0))
 }
 
 fn add_labels(pairs: &[(Label, bool)], support: &mut Support) -> Result<(), Memory>

@@ -1,8 +1,9 @@
-use Rattle.std.proofs.Common.{◌≡◌, ℕ, Bool, drop}
+use Rattle.std.proofs.Common.{◌≡◌, ℕ, Bool, length}
 use Rattle.jac_world.specs.World.{shown}
 use Rattle.jac_rows.specs.Project.{rows_at}
 use Rattle.jac_plain.specs.World.{record_with}
 use Rattle.jac_pruned.specs.Consulted.{Agrees, Grows}
+use Rattle.jac_pruned.proofs.Joining.{answer_of}
 use Rattle.jac_pruned.proofs.reading.shown_row.Given as goal
 
 -- no row before those that are left is the record's
@@ -10,5 +11,8 @@ abbrev pub invariant-rows : goal.invariant-rows
 invariant-rows l =
     record {
       grown : Grows l.fn.support l.support;
-      left : (w : ℕ → Bool) → Agrees l.support (shown l.a) w → record_with l.id (rows_at w (drop l.row-index l.rows)) ≡ record_with l.id (rows_at w l.rows);
+      left : (w : ℕ → Bool) → Agrees l.support (shown l.a) w → answer_of l.field (record_with l.id (rows_at w l.left)) ≡ answer_of l.field (record_with l.id (rows_at w l.rows));
     }
+
+abbrev pub decreases-rows : goal.decreases-rows
+decreases-rows l = length l.left

@@ -1,0 +1,12 @@
+use Rattle.std.proofs.Common.{nat_le, rules, of_calls}
+use Rattle.std.proofs.lemmas.List.Sorted.{IsPartitionPoint-from_clause, IsPartitionedBy-leb}
+use Rattle.jac_rows.specs.declared.row.Row.{Row}
+use Rattle.jac_keep.proofs.Bisection.{IsPoint, rows_rise, taken}
+use Rattle.jac_cached.proofs.places.count_through.Goals as goal
+
+pub returns-clause-low : goal.returns-clause-low
+returns-clause-low c = λ ordered.
+    let parted = IsPartitionedBy-leb (λ (r : Row). r.id) _ c.args.id (rows_rise _ ordered) in
+    let point : IsPoint (λ i. nat_le i c.args.id) c.args.rows.now c.partition_point.result =
+    IsPartitionPoint-from_clause (λ (r : Row). nat_le r.id c.args.id) _ _ c.partition_point.ensures.partitioned parted (λ a r q k. search (rules, of_calls)) in
+    taken (λ i. nat_le i c.args.id) c.args.rows.now c.partition_point.result point

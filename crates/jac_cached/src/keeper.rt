@@ -1,0 +1,94 @@
+ghost use Rattle.std.specs.Prelude.{◌≡◌, ◌≤◌, ◌^◌, List, IfOk, OnOk, OnErr, IsTrue, false};
+ghost use Rattle.std.specs.Option.{option_copied};
+ghost use Rattle.jac_value.specs.Ids.{model_of_id};
+ghost use Rattle.jac_value.specs.declared.value.Kind.{Kind};
+ghost use Rattle.jac_rows.specs.Good.{IsSound};
+ghost use Rattle.jac_rows.specs.Tables.{rows_of};
+ghost use Rattle.jac_keep.specs.Records.{alternatives};
+ghost use Rattle.jac_keep.specs.KeeperSeen.{Keeps, Reads};
+ghost use Rattle.jac_keep.specs.Kept.{applied};
+ghost use Rattle.jac_keep.specs.Schema.{IsSchema};
+ghost use Rattle.jac_keep.specs.Attaching.{Attaches};
+
+use crate::held::HeldTables;
+use crate::places::own_rows;
+use jac_keep::{AttachFault, Change, Keeper, Stop, Vault};
+use jac_rows::Rows;
+use jac_value::{Id, Txt, id_model};
+use std::alloc::Global;
+use std::marker::Model;
+
+/// A keeper over another one, seen as that one. It holds each table that was read, and reads the table and its
+/// records there, until a change names a record of the model.
+#[derive(Drop)]
+pub struct CachedKeeper<K: Keeper> {
+    keeper: K,
+    tables: HeldTables,
+}
+
+impl<K: Keeper> Model for CachedKeeper<K> {
+    ghost use Rattle.jac_cached.specs.Held.{AreHeld};
+
+    ghost Value = { K };
+
+    ghost view = { λ c. c.keeper };
+
+    ghost invariant = { λ c. AreHeld (K.seen c.keeper) c.tables };
+}
+
+impl<K: Keeper> CachedKeeper<K> {
+    /// A keeper that holds nothing yet.
+    pub fn new(alloc: Global, keeper: K) -> CachedKeeper<K>
+        ensures { result ≡ keeper }
+    {
+        CachedKeeper {
+            keeper,
+            tables: HeldTables::none(alloc),
+        }
+    }
+}
+
+impl<K: Keeper> Keeper for CachedKeeper<K> {
+    ghost seen = { K.seen };
+
+    fn number(&mut self) -> Result<u64, Stop> {
+        self.keeper.number()
+    }
+
+    fn rows(&mut self, alloc: Global, model: u8) -> Result<Rows, Stop> {
+        if let Some(rows) = self.tables.find(model) {
+            let rows = rows.copy(alloc)?;
+            return Ok(rows);
+        }
+        let rows = self.keeper.rows(alloc, model)?;
+        let held = rows.copy(alloc)?;
+        self.tables.hold(model, held)?;
+        Ok(rows)
+    }
+
+    fn one(&mut self, alloc: Global, id: Id) -> Result<Rows, Stop> {
+        if let Some(rows) = self.tables.find(id_model(id)) {
+            let rows = own_rows(alloc, rows.as_slice(), id)?;
+            return Ok(rows);
+        }
+        self.keeper.one(alloc, id)
+    }
+
+    fn apply(&mut self, alloc: Global, change: &Change) -> Result<(), Stop> {
+        self.tables.forget(change.changed.as_slice());
+        self.keeper.apply(alloc, change)
+    }
+}
+
+impl<K: Vault> Vault for CachedKeeper<K> {
+    /// It holds nothing afterwards.
+    fn attach(
+        &mut self,
+        alloc: Global,
+        name: Option<&Txt>,
+        schema: &Txt,
+    ) -> Result<(), AttachFault> {
+        self.tables.forget_all();
+        self.keeper.attach(alloc, name, schema)
+    }
+}

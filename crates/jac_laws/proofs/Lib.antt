@@ -1,0 +1,3 @@
+pub mod SameSubjects
+pub mod SameAnswers
+pub mod SideBySide

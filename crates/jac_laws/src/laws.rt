@@ -1,0 +1,59 @@
+ghost use Rattle.std.specs.Prelude.{◌≡◌, ℕ, Bool, List};
+ghost use Rattle.jac_lang.specs.Syntax.{Application};
+ghost use Rattle.jac_rows.specs.Project.{project_at};
+ghost use Rattle.jac_route.specs.declared.sessions.Session.{Session};
+ghost use Rattle.jac_events.specs.declared.event.Event.{Event};
+ghost use Rattle.jac_hub.specs.Hearing.{Source};
+ghost use Rattle.jac_app.specs.Log.{Subject};
+ghost use Rattle.jac_laws.specs.TwoRuns.{OneRun, IsServed, LookSame, NoneFailed, AgreeAfterEach, EndAlike, AreSameWhereShown, AreSeenAlike, seen_by};
+
+/// A law: where an assignment shows the same of two starts, two runs of the same events over them are asked the same,
+/// entry by entry; both answer with a page or neither does; and behind each entry the assignment shows the same of
+/// both. So what it hides at the start never changes what it shows later.
+///
+/// This holds until an entry of either run has failed, for want of memory or by a fault of the keeper: hidden data
+/// may be what memory ran out for. Where a run may stop early, it may do so at an entry of its own. Nothing is said of
+/// time, nor of how much memory is used.
+///
+/// It is the projection of evaluation of faceted values, for whole runs: Austin and Flanagan, POPL 2012; Yang and
+/// others, PLDI 2016.
+pub fn worlds_agree()
+    ensures { (w : ℕ → Bool) (app : Application) (sessions : List Session) (events : List Event) (one two : OneRun) →
+        IsServed app sessions events one → IsServed app sessions events two → LookSame w one.start two.start →
+        AgreeAfterEach w app one.early two.early one.log two.log (project_at w one.start) (project_at w two.start) }
+{}
+
+/// A law: where no entry of such runs failed, they are asked the same as far as both go, which is to the end where
+/// neither may stop early; and where they have as many entries, the assignment shows the same of what they leave.
+///
+/// A run that may stop early leaves what its own entries leave, so of two that stopped at different entries nothing is
+/// said here.
+pub fn ends_agree()
+    ensures { (w : ℕ → Bool) (app : Application) (sessions : List Session) (events : List Event) (one two : OneRun) →
+        IsServed app sessions events one → IsServed app sessions events two → LookSame w one.start two.start →
+        NoneFailed one.log → NoneFailed two.log → EndAlike w one two }
+{}
+
+/// A law: of two runs of the same events, replies to the same that have no page are the same; and so are those whose
+/// pages were made under the same labels, where these labels show the same of both starts. So what labels hide
+/// changes no byte of a page that is made under them.
+///
+/// As above this holds until an entry of either run has failed. It is not promised that both runs make a page under
+/// the same labels, which the audit tells: a policy may read what is hidden, so that which labels are shown, and
+/// with them the page, may tell of it.
+///
+/// It is noninterference, as it is called of faceted values: Austin and Flanagan, POPL 2012; Yang and others, PLDI
+/// 2016.
+pub fn pages_agree()
+    ensures { (app : Application) (sessions : List Session) (events : List Event) (one two : OneRun) →
+        IsServed app sessions events one → IsServed app sessions events two → AreSameWhereShown one.start two.start one.log two.log }
+{}
+
+/// A law: somebody sees some of the entries of two whole runs in which nothing failed, those of one connection or of
+/// one viewer. Where the labels of their pages are the same in both, and show the same of both starts, what is seen
+/// is the same in both, whatever else is hidden and whatever is shown to others. That the labels are the same is a
+/// premise, for the reason above; and the events are the same, so that nobody asks otherwise for what she was shown.
+pub fn views_agree()
+    ensures { (sees : Source → Subject → Bool) (app : Application) (sessions : List Session) (events : List Event) (one two : OneRun) →
+        IsServed app sessions events one → IsServed app sessions events two → AreSeenAlike sees one two → seen_by sees one.log ≡ seen_by sees two.log }
+{}

@@ -1,0 +1,7 @@
+//! The laws of two runs: what an assignment can't tell apart at the start it can't tell apart later, and the pages
+//! that are made under it are the same.
+#![tactic(auto)]
+
+mod laws;
+
+pub use laws::{ends_agree, pages_agree, views_agree, worlds_agree};

@@ -1,0 +1,39 @@
+use Rattle.std.proofs.Common.{rules, ◌≡◌, ◌∙◌, ◌∷◌, ◌==◌, ◌&&◌, if◌then◌else◌, true, false, Some, ap, sym}
+use Rattle.jac_world.specs.World.{holds}
+use Rattle.jac_rows.specs.Project.{rows_at}
+use Rattle.jac_plain.specs.World.{record_with}
+use Rattle.jac_pruned.specs.Alike.{asked}
+use Rattle.jac_pruned.proofs.Growing.{agrees_less, grows_then}
+use Rattle.jac_pruned.proofs.Joining.{answer_of, answer_joined}
+use Rattle.jac_pruned.proofs.reading.shown_row.Goals as goal
+
+pub returns-then-branch-clause-row : goal.returns-then-branch-clause-row
+returns-then-branch-clause-row c w agree =
+    let row = c.in-Some.row.now in
+    let alike = c.in_ok-alike.alike in
+    let left : c.rows.left.now ≡ row ∷ c.in-Some.more.now = search rules in
+    let shows : true ≡ ((row.id == c.args.id) && holds w c.as_slice.result.now) = rw c.if-branch.true at (c.in_ok-shows.ensures.value w agree) in
+    sym
+    (sym (c.rows.invariant.left w (agrees_less _ _ _ _ c.in_ok-shows.ensures.grows agree))
+    ∙ ap (λ l. answer_of c.args.field (record_with c.args.id (rows_at w l))) left
+    ∙ answer_joined w c.args.id c.args.field alike.guard.items row c.in-Some.more.now alike.behind.now (c.in_ok-alike.ensures.same w)
+    ∙ ap (λ b. if b then Some (asked c.args.field row.id row.cells) else answer_of c.args.field (record_with c.args.id (rows_at w alike.behind.now)))
+    (ap (λ g. (row.id == c.args.id) && holds w g) (sym c.as_slice.ensures.value) ∙ sym shows))
+
+pub rows-preserved : goal.rows-preserved
+rows-preserved c =
+    let before = c.rows.invariant in
+    let row = c.in-Some.row.now in
+    let alike = c.in_ok-alike.alike in
+    let left : c.rows.left.now ≡ row ∷ c.in-Some.more.now = search rules in
+    record {
+      grown = grows_then _ _ _ before.grown c.in_ok-shows.ensures.grows;
+      left = λ w agree.
+          let shows : false ≡ ((row.id == c.args.id) && holds w c.as_slice.result.now) = rw c.if-branch.false at (c.in_ok-shows.ensures.value w agree) in
+          sym
+          (ap (λ l. answer_of c.args.field (record_with c.args.id (rows_at w l))) left
+          ∙ answer_joined w c.args.id c.args.field alike.guard.items row c.in-Some.more.now alike.behind.now (c.in_ok-alike.ensures.same w)
+          ∙ ap (λ b. if b then Some (asked c.args.field row.id row.cells) else answer_of c.args.field (record_with c.args.id (rows_at w alike.behind.now)))
+          (ap (λ g. (row.id == c.args.id) && holds w g) (sym c.as_slice.ensures.value) ∙ sym shows))
+          ∙ before.left w (agrees_less _ _ _ _ c.in_ok-shows.ensures.grows agree);
+    }
