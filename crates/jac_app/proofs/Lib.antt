@@ -19,11 +19,9 @@ pub mod LinkEnds
 pub mod DoorProgress
 pub mod ServerLemmas
 mod OpeningLemmas
-pub mod WordsLemmas
 pub mod AttachLemmas
 pub mod DumpLemmas
 pub mod AskingLemmas
 pub mod DemoLemmas
-pub mod CountLemmas
 mod ReadTexts
 mod CalendarOpens

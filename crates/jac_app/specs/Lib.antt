@@ -8,9 +8,6 @@ pub mod Asked
 pub mod Failed
 pub mod Outside
 pub mod Serve
-pub mod Words
-pub mod Grammar
-pub mod Commands
 pub mod Files
 pub mod Ending
 pub mod Replay

@@ -10,13 +10,13 @@ use Rattle.jac_keep.specs.KeeperSeen.{KeeperSeen}
 use Rattle.jac_plain.specs.Models.{kinds_of}
 use Rattle.jac_check.specs.Schema.{schema_tree}
 use Rattle.jac_route.specs.declared.sessions.Session.{Session}
-use Rattle.jac_app.specs.declared.words.Command.{Command}
+use Rattle.jac_words.specs.declared.words.Command.{Command}
 use Rattle.jac_app.specs.declared.ending.Ending.{Ending}
 use Rattle.jac_app.specs.declared.ending.Ending.TheVariants as endings
-use Rattle.jac_app.specs.declared.ending.Role.TheVariants as roles
+use Rattle.jac_words.specs.declared.role.Role.TheVariants as roles
 use Rattle.jac_app.specs.Refusal.{IsRefusedBy}
 use Rattle.jac_app.specs.Outside.{Span, span, Sinks, AWriteFailed}
-use Rattle.jac_app.specs.Commands.{file_of, audit_of, db_of}
+use Rattle.jac_words.specs.Commands.{file_of, audit_of, db_of}
 use Rattle.jac_app.specs.Files.{Sight, sinks_of, IsRead, IsLong, HasApplication, HasBadLine, IsOpened, IsReached, IsAimed, IsIdle}
 use Rattle.jac_app.specs.Script.{Script, script_of}
 use Rattle.jac_app.specs.Serve.{PutsServed, PutsTorn}

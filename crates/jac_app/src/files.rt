@@ -6,16 +6,17 @@ ghost use Rattle.jac_route.specs.Sessions.{sessions_in};
 ghost use Rattle.jac_app.specs.Application.{IsApplication};
 ghost use Rattle.jac_app.specs.Refusal.{refusal_text};
 ghost use Rattle.jac_app.specs.Outside.{span};
-ghost use Rattle.jac_app.specs.Commands.{limit_of};
+ghost use Rattle.jac_words.specs.Commands.{limit_of};
 ghost use Rattle.jac_app.specs.Files.{HasSessions, IsUnread, IsUnopened, IsUnlisted, IsSessionless};
 
 use crate::application::read_application;
-use crate::ending::{Ending, Role, limit};
+use crate::ending::{Ending, limit};
 use crate::refusal::{Refusal, refusal_line};
 use crate::service::Service;
 use jac_io::{FileFault, Files};
 use jac_route::{SessionFault, Sessions, sessions_of};
 use jac_value::{Bytes, Memory, Txt};
+use jac_words::Role;
 use std::alloc::Global;
 
 pub fn read_file<F: Files>(

@@ -27,7 +27,6 @@ mod service;
 mod status;
 mod still;
 mod summary;
-mod words;
 
 pub use door::{DoorHalt, Tally, serve_links};
 pub use link::{Halt, serve_link};

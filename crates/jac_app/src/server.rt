@@ -13,17 +13,17 @@ ghost use Rattle.jac_app.specs.Server.{served_line, halted, EndsConnections, End
 
 use crate::attach::attach;
 use crate::door::{DoorHalt, Tally, serve_links};
-use crate::ending::{Ending, Role};
+use crate::ending::Ending;
 use crate::files::{open_app, read_file, read_sessions};
 use crate::outside::put_five;
 use crate::replay::{copy_name, named};
 use crate::service::Service;
-use crate::words::Serving;
 use itoa::Buffer;
 use jac_io::{AuditSink, Door, Failed, Files, Sink};
 use jac_keep::{Keeper, Vault};
 use jac_route::Sessions;
 use jac_value::{Memory, Txt};
+use jac_words::{Role, Serving};
 use jac_world::Steps;
 use std::alloc::Global;
 use std::sync::ledger::Ledger;
