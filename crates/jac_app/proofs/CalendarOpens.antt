@@ -9,7 +9,7 @@ use Rattle.jac_forms.specs.Applications.{application_in_tree}
 use Rattle.jac_forms.specs.Reads.{Read, got, refused}
 use Rattle.jac_template.specs.Applications.{Expanded, ExpandsApplication}
 use Rattle.matchit.specs.Route.{scan}
-use Rattle.jac_app.specs.Application.{Opened, Opens, IsApplication}
+use Rattle.jac_opening.specs.Application.{Opened, Opens, IsApplication}
 use Rattle.jac_app.proofs.AskingLemmas.{ascii_at}
 use Rattle.jac_app.proofs.ReadTexts.{Front, front, tree_at, is_tree}
 

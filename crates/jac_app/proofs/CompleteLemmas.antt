@@ -15,7 +15,7 @@ use Rattle.jac_app.specs.declared.summary.Summary.{Summary}
 use Rattle.jac_app.specs.declared.status.Status.{Status}
 use Rattle.jac_app.specs.declared.status.Status.TheVariants as statuses
 use Rattle.jac_app.specs.Script.{script_of}
-use Rattle.jac_app.specs.Application.{IsApplication}
+use Rattle.jac_opening.specs.Application.{IsApplication}
 use Rattle.jac_app.specs.Outside.{Span, AWriteFailed}
 use Rattle.jac_words.specs.Words.{command_of}
 use Rattle.jac_words.specs.Commands.{file_of, name_of, name_or_empty, limit_of}
@@ -31,7 +31,7 @@ use Rattle.jac_app.specs.Demo.{EndsDemo, EndsCounting, EndsTallying, PutsSummary
 use Rattle.jac_app.specs.Run.{Ends, Runs, IsCompleted, CanHaveSessions, CanOpen, CanReplay, CanServe, CanCheck, CanDemo, CanDump}
 use Rattle.jac_app.proofs.CalendarOpens.{calendar, calendar_is}
 use Rattle.jac_app.proofs.CauseLemmas.{same_ending}
-use Rattle.jac_app.proofs.OpeningLemmas.{some_same}
+use Rattle.jac_opening.proofs.OpeningLemmas.{some_same}
 
 -- a file that was read is the one that is there
 same_bytes : (seen : Sight) (command : Command) (role : Role) (there bytes : List ℕ)

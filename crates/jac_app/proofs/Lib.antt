@@ -18,7 +18,6 @@ pub mod LinkProgress
 pub mod LinkEnds
 pub mod DoorProgress
 pub mod ServerLemmas
-mod OpeningLemmas
 pub mod AttachLemmas
 pub mod DumpLemmas
 pub mod AskingLemmas

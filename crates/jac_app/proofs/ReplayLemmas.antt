@@ -14,10 +14,10 @@ use Rattle.jac_words.specs.declared.role.Role.TheVariants as roles
 use Rattle.jac_app.specs.declared.serve.Stopped.{Stopped}
 use Rattle.jac_app.specs.declared.serve.Stopped.TheVariants as stops
 use Rattle.jac_app.specs.Script.{Script, script_of}
-use Rattle.jac_app.specs.Application.{IsApplication}
-use Rattle.jac_app.specs.Refusal.{HasRefusal, refusal_text}
-use Rattle.jac_app.specs.declared.refusal.Refusal.{Refusal}
-use Rattle.jac_app.specs.declared.refusal.Refusal.TheVariants as refusals
+use Rattle.jac_opening.specs.Application.{IsApplication}
+use Rattle.jac_opening.specs.Refusal.{HasRefusal, refusal_text}
+use Rattle.jac_opening.specs.declared.refusal.Refusal.{Refusal}
+use Rattle.jac_opening.specs.declared.refusal.Refusal.TheVariants as refusals
 use Rattle.jac_app.specs.Outside.{Span, span, Sinks, sinks, Took, Went, WentAimed, AWriteFailed}
 use Rattle.jac_app.specs.Serve.{ServesAs}
 use Rattle.jac_words.specs.Commands.{file_of, name_of, audit_of, db_of, name_or_empty, limit_of}

@@ -21,14 +21,14 @@ use Rattle.jac_app.specs.declared.ending.Ending.{Ending}
 use Rattle.jac_app.specs.declared.ending.Ending.TheVariants as endings
 use Rattle.jac_app.specs.declared.summary.Summary.{Summary}
 use Rattle.jac_app.specs.declared.summary.Tally.{Tally}
-use Rattle.jac_app.specs.Application.{IsApplication}
+use Rattle.jac_opening.specs.Application.{IsApplication, schema_text}
 use Rattle.jac_app.specs.Asked.{ask_in}
 use Rattle.jac_app.specs.Check.{PutsText}
 use Rattle.jac_app.specs.Files.{IsAimed, IsIdle, IsUnopened}
 use Rattle.jac_app.specs.Keeping.{IsStill}
 use Rattle.jac_app.specs.Log.{Entry, method_of, audit_text, audit_line, audited}
 use Rattle.jac_app.specs.Outside.{Span, span, Sinks, Took, IsFront}
-use Rattle.jac_app.specs.Replay.{schema_text, IsAttached, IsUnattached, IsOther}
+use Rattle.jac_app.specs.Replay.{IsAttached, IsUnattached, IsOther}
 use Rattle.jac_app.specs.Script.{Script, script_of}
 use Rattle.jac_app.specs.Serve.{IsAnswerMade, IsEntryOf, IsServed}
 

@@ -22,7 +22,8 @@ use Rattle.jac_app.specs.Outside.{Span, span}
 use Rattle.jac_words.specs.Commands.{db_of}
 use Rattle.jac_app.specs.Files.{Sight, HasApplication}
 use Rattle.jac_app.specs.Check.{PutsText}
-use Rattle.jac_app.specs.Replay.{schema_text, IsAttached, IsUnattached, IsOther, IsEndedEarly}
+use Rattle.jac_opening.specs.Application.{schema_text}
+use Rattle.jac_app.specs.Replay.{IsAttached, IsUnattached, IsOther, IsEndedEarly}
 
 -- ---- the text
 

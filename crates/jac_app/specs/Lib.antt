@@ -1,4 +1,3 @@
-pub mod Application
 pub mod Keeping
 pub mod Line
 pub mod Script
@@ -19,6 +18,5 @@ pub mod Door
 pub mod DoorSteps
 pub mod Server
 pub mod Run
-pub mod Refusal
 pub mod Status
 pub mod Demo

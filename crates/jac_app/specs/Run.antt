@@ -14,7 +14,7 @@ use Rattle.jac_words.specs.declared.role.Role.TheVariants as roles
 use Rattle.jac_app.specs.declared.serve.Lapse.{Lapse}
 use Rattle.jac_app.specs.declared.status.Status.{Status}
 use Rattle.jac_app.specs.declared.status.Status.TheVariants as statuses
-use Rattle.jac_app.specs.Application.{IsApplication}
+use Rattle.jac_opening.specs.Application.{IsApplication, schema_text}
 use Rattle.jac_app.specs.Outside.{Span, AWriteFailed, WentAimed}
 use Rattle.jac_words.specs.Words.{command_of}
 use Rattle.jac_words.specs.Commands.{file_of, name_of}
@@ -28,7 +28,7 @@ use Rattle.jac_app.specs.Check.{EndsCheck}
 use Rattle.jac_app.specs.Demo.{EndsDemo}
 use Rattle.jac_app.specs.Dump.{EndsDump}
 use Rattle.jac_demo.specs.Calendar.{calendar_text}
-use Rattle.jac_app.specs.Replay.{schema_text, IsOther, EndsReplay}
+use Rattle.jac_app.specs.Replay.{IsOther, EndsReplay}
 use Rattle.jac_app.specs.Server.{EndsServer}
 
 abbrev pub usage_line : List ℕ

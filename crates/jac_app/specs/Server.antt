@@ -15,7 +15,8 @@ use Rattle.jac_app.specs.declared.ending.Ending.TheVariants as endings
 use Rattle.jac_app.specs.Keeping.{IsStill}
 use Rattle.jac_app.specs.Outside.{Span, span, Sinks, IsFront, AWriteFailed}
 use Rattle.jac_app.specs.Files.{Sight, sinks_of, HasApplication, HasSessions, IsAimed, IsIdle}
-use Rattle.jac_app.specs.Replay.{schema_text, IsAttached, IsUnattached, IsOther, IsEndedEarly}
+use Rattle.jac_opening.specs.Application.{schema_text}
+use Rattle.jac_app.specs.Replay.{IsAttached, IsUnattached, IsOther, IsEndedEarly}
 use Rattle.jac_app.specs.Door.{AreLinksServed}
 
 -- `served C connections, K replies`

@@ -9,9 +9,9 @@ ghost use Rattle.jac_app.specs.Outside.{span};
 ghost use Rattle.jac_app.specs.Serve.{source_of, close_of, spelling_of, IsAnswerMade};
 
 use crate::reply::{Spelling, audit_rest, is_head, reply_line, sent_reply, text_bytes};
-use crate::service::Service;
 use jac_engine::{Answer, Ask, commit, prepare};
 use jac_keep::{Keeper, Stop};
+use jac_opening::Service;
 use jac_value::{Bytes, Memory, Txt};
 use jac_world::Steps;
 use std::alloc::Global;

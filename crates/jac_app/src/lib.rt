@@ -3,7 +3,6 @@
 #![tactic(auto)]
 
 mod answer;
-mod application;
 mod asks;
 mod attach;
 mod check;
@@ -18,12 +17,10 @@ mod onto;
 mod outside;
 mod program;
 mod puts;
-mod refusal;
 mod replay;
 mod reply;
 mod serve;
 mod server;
-mod service;
 mod status;
 mod still;
 mod summary;

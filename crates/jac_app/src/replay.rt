@@ -9,15 +9,16 @@ ghost use Rattle.jac_words.specs.declared.words.Command.TheVariants as commands;
 ghost use Rattle.jac_app.specs.Script.{script_of};
 ghost use Rattle.jac_app.specs.Ending.{ending_of};
 ghost use Rattle.jac_app.specs.Files.{sight};
-ghost use Rattle.jac_app.specs.Replay.{schema_text, EndsAttaching, EndsServing, EndsReplay};
+ghost use Rattle.jac_opening.specs.Application.{schema_text};
+ghost use Rattle.jac_app.specs.Replay.{EndsAttaching, EndsServing, EndsReplay};
 
 use crate::attach::attach;
 use crate::ending::Ending;
 use crate::files::{open_app, read_file, read_sessions};
 use crate::serve::{Stopped, serve_events};
-use crate::service::Service;
 use jac_io::{AuditSink, Failed, Files, Sink};
 use jac_keep::Vault;
+use jac_opening::Service;
 use jac_route::Sessions;
 use jac_value::{Memory, Txt};
 use jac_words::{Replay, Role};

@@ -11,7 +11,7 @@ ghost use Rattle.jac_route.specs.Found.{found, IsWithin};
 ghost use Rattle.jac_route.specs.Routes.{AreRoutes};
 ghost use Rattle.jac_engine.specs.Answers.{asked_with, visit_of, page_answer};
 ghost use Rattle.jac_engine.specs.Prepared.{IsPrepared, applied_if};
-ghost use Rattle.jac_engine.specs.Served.{are_served, is_served_body};
+ghost use Rattle.jac_opening.specs.Served.{are_served, is_served_body};
 ghost use Rattle.jac_engine.specs.Start.{IsStart};
 ghost use Rattle.jac_engine.specs.Viewed.{IsPreparedBy, IsPreparedFor, IsShown};
 

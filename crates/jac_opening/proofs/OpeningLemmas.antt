@@ -18,13 +18,13 @@ use Rattle.jac_forms.specs.Applications.{application_in_tree}
 use Rattle.jac_forms.specs.Reads.{Read, got, refused, value_of}
 use Rattle.jac_template.specs.Applications.{Expanded, ExpandsApplication, ExpandsView, ExpandsViews}
 use Rattle.jac_template.proofs.SiteLaws.{view_keeps_sites}
-use Rattle.jac_engine.specs.Served.{IsSited}
+use Rattle.jac_opening.specs.Served.{IsSited}
 use Rattle.jac_template.specs.Faults.{fault_of, refuses}
 use Rattle.jac_template.specs.declared.application.ViewFault.{ViewFault}
-use Rattle.jac_app.specs.Application.{Opened, OpensExpanded, OpensForm, Opens, IsApplication}
-use Rattle.jac_app.specs.Refusal.{IsStep, HasRefusal, IsOpening, text_refusal, form_refusal, template_refusal}
-use Rattle.jac_app.specs.declared.refusal.Refusal.{Refusal}
-use Rattle.jac_app.specs.declared.refusal.Refusal.TheVariants as refusals
+use Rattle.jac_opening.specs.Application.{Opened, OpensExpanded, OpensForm, Opens, IsApplication}
+use Rattle.jac_opening.specs.Refusal.{IsStep, HasRefusal, IsOpening, text_refusal, form_refusal, template_refusal}
+use Rattle.jac_opening.specs.declared.refusal.Refusal.{Refusal}
+use Rattle.jac_opening.specs.declared.refusal.Refusal.TheVariants as refusals
 
 -- an application expands to one thing
 abbrev pub ExpandsToOne : Type 0

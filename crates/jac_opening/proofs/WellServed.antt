@@ -13,7 +13,7 @@ use Rattle.jac_check.specs.Scope.{is_get}
 use Rattle.jac_check.specs.Well.{is_well}
 use Rattle.jac_check.specs.Runnable.{is_runnable, are_runnable, IsRunnable}
 use Rattle.jac_check.proofs.WellRuns.{well-runs}
-use Rattle.jac_engine.specs.Served.{is_untemplated, are_untemplated, behind_sites, is_served_body, are_served_views, are_served, IsSited}
+use Rattle.jac_opening.specs.Served.{is_untemplated, are_untemplated, behind_sites, is_served_body, are_served_views, are_served, IsSited}
 
 both_true : (p q : Bool) → (p && q) ≡ true → (p ≡ true) × (q ≡ true)
 both_true true q h = (refl, h)

@@ -3,12 +3,14 @@ use Rattle.std.specs.Prelude.{◌≡◌, ℕ, List, [], Option, Some, None, Resu
 use Rattle.jac_lang.specs.Syntax.{Application}
 use Rattle.jac_tree.specs.Grammar.{Accepted}
 use Rattle.jac_tree.specs.Plain.{PlainTree}
+use Rattle.jac_tree.specs.Printed.{printed}
 use Rattle.jac_forms.specs.Applications.{application_in_tree}
 use Rattle.jac_forms.specs.Reads.{Read, got, refused}
 use Rattle.jac_forms.specs.declared.fault.FormFault.{FormFault}
 use Rattle.jac_template.specs.Applications.{Expanded, ExpandsApplication}
 use Rattle.jac_template.specs.Faults.{Fault}
 use Rattle.jac_check.specs.Applications.{first_fault}
+use Rattle.jac_check.specs.Schema.{schema_tree}
 use Rattle.jac_check.specs.declared.fault.CheckFault.{CheckFault}
 use Rattle.jac_route.specs.Routes.{Table, table_of}
 
@@ -46,3 +48,7 @@ Opens t o = OpensForm (application_in_tree [] t) o
 -- the bytes spell this application
 abbrev pub IsApplication : List ℕ → Application → Type 0
 IsApplication bytes app = (t : PlainTree) × Accepted bytes t × Opens t (Opened.application app)
+
+-- the schema that an application's records are stored under
+abbrev pub schema_text : Application → List ℕ
+schema_text app = printed (schema_tree app.models)

@@ -28,9 +28,9 @@ use Rattle.jac_template.specs.declared.application.ViewFault.{ViewFault}
 use Rattle.jac_check.specs.Applications.{is_fault}
 use Rattle.jac_template.specs.declared.fault.TemplateFault.{TemplateFault}
 use Rattle.jac_template.specs.declared.fault.TemplateFault.TheVariants as untemplated
-use Rattle.jac_app.specs.Application.{IsApplication, Opened, Opens}
-use Rattle.jac_app.specs.declared.refusal.Refusal.{Refusal}
-use Rattle.jac_app.specs.declared.refusal.Refusal.TheVariants as refusals
+use Rattle.jac_opening.specs.Application.{IsApplication, Opened, Opens}
+use Rattle.jac_opening.specs.declared.refusal.Refusal.{Refusal}
+use Rattle.jac_opening.specs.declared.refusal.Refusal.TheVariants as refusals
 
 -- the bytes spell no tree, for this fault; a file that is too long is told before
 abbrev pub HasTextFault : List ℕ → TreeFault → Type 0

@@ -7,7 +7,7 @@ ghost use Rattle.jac_plain.specs.Models.{kinds_of};
 ghost use Rattle.jac_keep.specs.Schema.{IsSchema};
 ghost use Rattle.jac_check.specs.Schema.{schema_tree};
 ghost use Rattle.jac_check.specs.Well.{is_well};
-ghost use Rattle.jac_engine.specs.Served.{IsSited, are_served};
+ghost use Rattle.jac_opening.specs.Served.{IsSited, are_served};
 
 /// A law: a well application whose sites are their places in the text is served.
 pub fn well_is_served()

@@ -1,10 +1,10 @@
 ghost use Rattle.std.specs.Prelude.{◌≡◌, ◌≤◌, length, true, IfOk};
 ghost use Rattle.jac_lang.specs.Mirror.{application_of};
-ghost use Rattle.jac_engine.specs.Served.{are_served};
+ghost use Rattle.jac_opening.specs.Served.{are_served};
 ghost use Rattle.jac_route.specs.Routes.{AreRoutes};
 ghost use Rattle.jac_plain.specs.Models.{kinds_of};
 ghost use Rattle.jac_keep.specs.Schema.{IsSchema};
-ghost use Rattle.jac_app.specs.Replay.{schema_text};
+ghost use Rattle.jac_opening.specs.Application.{schema_text};
 
 use jac_check::Checked;
 use jac_lang::App;
@@ -26,11 +26,11 @@ impl Model for Service {
     ghost use Rattle.jac_lang.specs.Mirror.{application_of};
     ghost use Rattle.jac_lang.specs.declared.application.App.{App as Item};
     ghost use Rattle.jac_lang.specs.contracts.application.App as item;
-    ghost use Rattle.jac_engine.specs.Served.{are_served};
+    ghost use Rattle.jac_opening.specs.Served.{are_served};
     ghost use Rattle.jac_route.specs.Routes.{AreRoutes};
     ghost use Rattle.jac_plain.specs.Models.{kinds_of};
     ghost use Rattle.jac_keep.specs.Schema.{IsSchema};
-    ghost use Rattle.jac_app.specs.Replay.{schema_text};
+    ghost use Rattle.jac_opening.specs.Application.{schema_text};
 
     ghost Value = { Item };
 

@@ -3,13 +3,13 @@ use Rattle.jac_lang.specs.Mirror.{application_of}
 use Rattle.jac_check.specs.Applications.{first_fault}
 use Rattle.jac_forms.specs.Reads.{got}
 use Rattle.jac_template.specs.Applications.{Expanded}
-use Rattle.jac_app.specs.Application.{OpensForm, opened_checked}
-use Rattle.jac_app.specs.Refusal.{IsStep}
-use Rattle.jac_app.specs.declared.refusal.Refusal.{Refusal}
-use Rattle.jac_app.specs.declared.refusal.Refusal.TheVariants as refusals
-use Rattle.jac_engine.proofs.PlaceLaws.{length_pages}
-use Rattle.jac_app.proofs.OpeningLemmas.{opening_on, template_steps, sited, same_models}
-use Rattle.jac_app.proofs.application.open_form.Goals as goal
+use Rattle.jac_opening.specs.Application.{OpensForm, opened_checked}
+use Rattle.jac_opening.specs.Refusal.{IsStep}
+use Rattle.jac_opening.specs.declared.refusal.Refusal.{Refusal}
+use Rattle.jac_opening.specs.declared.refusal.Refusal.TheVariants as refusals
+use Rattle.jac_opening.proofs.PlaceLaws.{length_pages}
+use Rattle.jac_opening.proofs.OpeningLemmas.{opening_on, template_steps, sited, same_models}
+use Rattle.jac_opening.proofs.application.open_form.Goals as goal
 
 pub returns-in-Ok : goal.returns-in-Ok
 returns-in-Ok c =

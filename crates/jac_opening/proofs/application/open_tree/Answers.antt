@@ -4,12 +4,12 @@ use Rattle.jac_lang.specs.Syntax.{Application}
 use Rattle.jac_tree.specs.Mirror.{plain}
 use Rattle.jac_forms.specs.Applications.{application_in_tree}
 use Rattle.jac_forms.specs.Reads.{Read}
-use Rattle.jac_app.specs.Application.{Opened, OpensForm, Opens}
-use Rattle.jac_app.specs.Refusal.{IsStep, IsOpening}
-use Rattle.jac_app.specs.declared.refusal.Refusal.{Refusal}
-use Rattle.jac_app.specs.declared.refusal.Refusal.TheVariants as refusals
-use Rattle.jac_app.proofs.OpeningLemmas.{form_steps, read_is}
-use Rattle.jac_app.proofs.application.open_tree.Goals as goal
+use Rattle.jac_opening.specs.Application.{Opened, OpensForm, Opens}
+use Rattle.jac_opening.specs.Refusal.{IsStep, IsOpening}
+use Rattle.jac_opening.specs.declared.refusal.Refusal.{Refusal}
+use Rattle.jac_opening.specs.declared.refusal.Refusal.TheVariants as refusals
+use Rattle.jac_opening.proofs.OpeningLemmas.{form_steps, read_is}
+use Rattle.jac_opening.proofs.application.open_tree.Goals as goal
 
 pub returns-in-Ok : goal.returns-in-Ok
 returns-in-Ok c =

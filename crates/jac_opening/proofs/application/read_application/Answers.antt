@@ -1,12 +1,12 @@
 use Rattle.std.proofs.Common.{◌≡◌, sym, subst, ◌⊎◌}
 use Rattle.jac_lang.specs.Syntax.{Application}
 use Rattle.jac_tree.specs.Mirror.{plain}
-use Rattle.jac_app.specs.Application.{IsApplication}
-use Rattle.jac_app.specs.Refusal.{HasRefusal}
-use Rattle.jac_app.specs.declared.refusal.Refusal.{Refusal}
-use Rattle.jac_app.specs.declared.refusal.Refusal.TheVariants as refusals
-use Rattle.jac_app.proofs.OpeningLemmas.{opening_is, opening_has, opening_none, text_has, text_none}
-use Rattle.jac_app.proofs.application.read_application.Goals as goal
+use Rattle.jac_opening.specs.Application.{IsApplication}
+use Rattle.jac_opening.specs.Refusal.{HasRefusal}
+use Rattle.jac_opening.specs.declared.refusal.Refusal.{Refusal}
+use Rattle.jac_opening.specs.declared.refusal.Refusal.TheVariants as refusals
+use Rattle.jac_opening.proofs.OpeningLemmas.{opening_is, opening_has, opening_none, text_has, text_none}
+use Rattle.jac_opening.proofs.application.read_application.Goals as goal
 
 pub returns-in-Ok-clause-app : goal.returns-in-Ok-clause-app
 returns-in-Ok-clause-app c = opening_is c.args.bytes.now (plain c.in-Ok.tree) c.open_tree.result c.in-Ok.ensures.tree c.open_tree.ensures

@@ -1,7 +1,7 @@
 use Rattle.std.proofs.Common.{◌≡◌, ◌++◌, drop}
 use Rattle.std.specs.String.{string_bytes}
-use Rattle.jac_app.specs.Refusal.{path_text, more_steps}
-use Rattle.jac_app.proofs.refusal.path_text.Given as goal
+use Rattle.jac_opening.specs.Refusal.{path_text, more_steps}
+use Rattle.jac_opening.proofs.refusal.path_text.Given as goal
 
 -- the steps so far, before those of the rest, are those of all
 abbrev pub invariant-steps : goal.invariant-steps
