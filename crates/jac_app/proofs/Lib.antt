@@ -1,5 +1,4 @@
 pub mod OutsideLemmas
-pub mod FailedLemmas
 pub mod EntryLemmas
 pub mod EntriesLemmas
 pub mod BringsLemmas

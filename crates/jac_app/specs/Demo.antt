@@ -9,8 +9,8 @@ use Rattle.jac_io.specs.declared.sink.Failed.{Failed}
 use Rattle.jac_lang.specs.Syntax.{Application}
 use Rattle.jac_rows.specs.declared.state.State.{State}
 use Rattle.jac_keep.specs.KeeperSeen.{KeeperSeen}
-use Rattle.jac_engine.specs.declared.answer.Answer.{Answer}
-use Rattle.jac_engine.specs.declared.answer.Ask.{Ask}
+use Rattle.jac_replies.specs.declared.answer.Answer.{Answer}
+use Rattle.jac_replies.specs.declared.answer.Ask.{Ask}
 use Rattle.jac_events.specs.declared.event.Event.{Event}
 use Rattle.jac_events.specs.declared.event.Event.TheVariants.{Ask as Asking, Begin, Piece, Finish}
 use Rattle.jac_hub.specs.Hearing.{whole}
@@ -26,7 +26,8 @@ use Rattle.jac_app.specs.Asked.{ask_in}
 use Rattle.jac_app.specs.Check.{PutsText}
 use Rattle.jac_app.specs.Files.{IsAimed, IsIdle, IsUnopened}
 use Rattle.jac_app.specs.Keeping.{IsStill}
-use Rattle.jac_app.specs.Log.{Entry, method_of, audit_text, audit_line, audited}
+use Rattle.jac_app.specs.Log.{Entry, method_of, audit_line, audited}
+use Rattle.jac_replies.specs.Spelled.{audit_text}
 use Rattle.jac_app.specs.Outside.{Span, span, Sinks, Took, IsFront}
 use Rattle.jac_app.specs.Replay.{IsAttached, IsUnattached, IsOther}
 use Rattle.jac_app.specs.Script.{Script, script_of}

@@ -4,7 +4,6 @@ pub mod Script
 pub mod Made
 pub mod Log
 pub mod Asked
-pub mod Failed
 pub mod Outside
 pub mod Serve
 pub mod Files

@@ -18,11 +18,9 @@ mod outside;
 mod program;
 mod puts;
 mod replay;
-mod reply;
 mod serve;
 mod server;
 mod status;
-mod still;
 mod summary;
 
 pub use door::{DoorHalt, Tally, serve_links};

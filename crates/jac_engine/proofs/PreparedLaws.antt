@@ -22,8 +22,8 @@ use Rattle.jac_opening.specs.Served.{are_served}
 use Rattle.jac_engine.specs.Start.{IsStart}
 use Rattle.jac_engine.specs.Viewed.{IsPreparedBy, IsPreparedFor}
 use Rattle.jac_engine.proofs.ServedLaws.{sited_view}
-use Rattle.jac_engine.specs.declared.answer.Answer.{Answer}
-use Rattle.jac_engine.specs.declared.answer.Ask.{Ask}
+use Rattle.jac_replies.specs.declared.answer.Answer.{Answer}
+use Rattle.jac_replies.specs.declared.answer.Ask.{Ask}
 use Rattle.jac_engine.specs.declared.answer.Prepared.{Prepared}
 
 shown_in : (answer : Answer) (page : IsSomePage answer) → answer.shown ≡ Some page.labels

@@ -22,34 +22,14 @@ use jac_check::Checked;
 use jac_keep::{Change, Keeper, Stop};
 use jac_lang::{App, Verb, View};
 use jac_plain::Page;
+use jac_replies::{Answer, Ask};
 use jac_route::{Found, Pairs, Routes, find};
-use jac_value::{Bytes, Id, Memory, Txt};
-use jac_world::{Assignment, Steps};
+use jac_value::Memory;
+use jac_world::Steps;
 use std::alloc::Global;
 use std::sync::ledger::Ledger;
 
 const LAST_NUMBER: u64 = 1 << 40;
-
-/// A request: who looks, and what is asked. The pairs are those of the query and, for a POST, then those of
-/// the form body.
-#[derive(Debug, Drop)]
-pub struct Ask {
-    pub viewer: Option<Id>,
-    pub method: Txt,
-    pub path: Txt,
-    pub pairs: Pairs,
-}
-
-/// What answers a request: a page and the labels that it was made under, or a refusal without labels.
-#[derive(Debug, Drop)]
-pub struct Answer {
-    pub status: u16,
-    pub location: Option<Txt>,
-    /// The methods that the path has, where it hasn't that of the request.
-    pub allow: Option<Txt>,
-    pub body: Bytes,
-    pub shown: Option<Assignment>,
-}
 
 /// An answer, and what is to be stored with it.
 #[derive(Debug, Drop)]

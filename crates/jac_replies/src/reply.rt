@@ -3,9 +3,9 @@ ghost use Rattle.std.specs.Str.{bytes_eq};
 ghost use Rattle.std.specs.String.{string_bytes};
 ghost use Rattle.jac_http.specs.Replies.{phrase_of, reply_bytes};
 ghost use Rattle.jac_value.specs.Quoted.{quoted};
-ghost use Rattle.jac_app.specs.Log.{reply_text, sent_text, spelled, audit_rest, location_text, printed_body, viewer_text, labels_text, more_labels, shown_text, refused_with};
+ghost use Rattle.jac_replies.specs.Spelled.{reply_text, sent_text, spelled, audit_rest, location_text, printed_body, viewer_text, labels_text, more_labels, shown_text};
 
-use jac_engine::Answer;
+use crate::answer::Answer;
 use jac_http::write_reply;
 use jac_value::{Bytes, Id, Memory, Txt, escape_line};
 use jac_world::Assignment;

@@ -1,6 +1,6 @@
 use Rattle.std.proofs.Common.{◌∙◌, sym}
-use Rattle.jac_app.proofs.FailedLemmas.{keeper_head, keeper_body, memory_head, memory_body}
-use Rattle.jac_app.proofs.still.failed_reply.Goals as goal
+use Rattle.jac_replies.proofs.FailedLemmas.{keeper_head, keeper_body, memory_head, memory_body}
+use Rattle.jac_replies.proofs.still.failed_reply.Goals as goal
 
 pub returns-then-is_head : goal.returns-then-is_head
 returns-then-is_head c = rw c.in-Keeper.is (keeper_head c.args.method.now (sym c.is_head.ensures ∙ c.if-is_head.true))

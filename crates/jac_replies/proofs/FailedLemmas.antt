@@ -2,8 +2,8 @@
 use Rattle.std.proofs.Common.{◌≡◌, refl, ℕ, true, false, Option, None, List, ◌++◌, append_assoc, codes}
 use Rattle.std.specs.Fmt.{decimal, digits}
 use Rattle.std.specs.Str.{bytes_eq}
-use Rattle.jac_engine.specs.Answers.{refusal}
-use Rattle.jac_app.specs.Log.{reply_text, audit_text, viewer_text}
+use Rattle.jac_replies.specs.Refused.{refusal}
+use Rattle.jac_replies.specs.Spelled.{reply_text, audit_text, viewer_text}
 
 decimal-500 : decimal 500 ≡ codes "500"
 unfolding digits

@@ -1,7 +1,7 @@
 use Rattle.std.proofs.Common.{◌≡◌, ◌++◌, drop}
 use Rattle.std.specs.String.{string_bytes}
-use Rattle.jac_app.specs.Log.{labels_text, more_labels}
-use Rattle.jac_app.proofs.reply.labels_text.Given as goal
+use Rattle.jac_replies.specs.Spelled.{labels_text, more_labels}
+use Rattle.jac_replies.proofs.reply.labels_text.Given as goal
 
 -- the labels so far, before those of the rest, are those of all
 abbrev pub invariant-labels : goal.invariant-labels

@@ -2,9 +2,9 @@
 ghost use Rattle.std.specs.Prelude.{◌≡◌, ◌++◌, ◌∷◌, [], true, false, ℕ, Option, None, List, codes, decimal};
 ghost use Rattle.jac_value.specs.Quoted.{quoted};
 ghost use Rattle.jac_http.specs.Replies.{reply_bytes, status_of_fixed};
-ghost use Rattle.jac_engine.specs.Answers.{refusal};
-ghost use Rattle.jac_app.specs.Failed.{status_of_stop};
-ghost use Rattle.jac_app.specs.Log.{reply_text, viewer_text};
+ghost use Rattle.jac_replies.specs.Refused.{refusal};
+ghost use Rattle.jac_replies.specs.Failed.{status_of_stop};
+ghost use Rattle.jac_replies.specs.Spelled.{reply_text, viewer_text};
 
 use crate::reply::is_head;
 use itoa::Buffer;

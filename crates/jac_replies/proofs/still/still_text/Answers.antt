@@ -1,7 +1,7 @@
 use Rattle.std.proofs.Common.{refl}
 use Rattle.std.specs.Fmt.{digits}
 use Rattle.jac_http.specs.Replies.{phrase_of, status_line, content_lines, further_lines}
-use Rattle.jac_app.proofs.still.still_text.Goals as goal
+use Rattle.jac_replies.proofs.still.still_text.Goals as goal
 
 pub returns-in-Memory500-true : goal.returns-in-Memory500-true
 unfolding phrase_of status_line content_lines further_lines digits
