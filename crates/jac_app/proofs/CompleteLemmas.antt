@@ -29,7 +29,7 @@ use Rattle.jac_world.specs.World.{shown as shown_labels}
 use Rattle.jac_app.specs.Dump.{EndsDump, EndsDumping}
 use Rattle.jac_app.specs.Demo.{EndsDemo, EndsCounting, EndsTallying, PutsSummary, summary_line}
 use Rattle.jac_app.specs.Run.{Ends, Runs, IsCompleted, CanHaveSessions, CanOpen, CanReplay, CanServe, CanCheck, CanDemo, CanDump}
-use Rattle.jac_app.proofs.CalendarOpens.{calendar, calendar_is}
+use Rattle.jac_calendar.proofs.CalendarOpens.{calendar, calendar_is}
 use Rattle.jac_app.proofs.CauseLemmas.{same_ending}
 use Rattle.jac_opening.proofs.OpeningLemmas.{some_same}
 

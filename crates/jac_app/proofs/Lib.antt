@@ -19,7 +19,4 @@ pub mod DoorProgress
 pub mod ServerLemmas
 pub mod AttachLemmas
 pub mod DumpLemmas
-pub mod AskingLemmas
 pub mod DemoLemmas
-mod ReadTexts
-mod CalendarOpens

@@ -1,5 +1,5 @@
 -- What `demo N` does: generated requests are answered in silence, and counted.
-use Rattle.std.specs.Prelude.{◌≡◌, ◌⊎◌, ◌≤◌, ◌+◌, ◌*◌, ◌^◌, ℕ, Bool, true, false, if◌then◌else◌, Result, Ok, Err, Option, Some, None, List, [], ◌∷◌, ◌++◌, length, ⊤, codes, decimal}
+use Rattle.std.specs.Prelude.{◌≡◌, ◌⊎◌, ◌≤◌, ◌+◌, ◌*◌, ◌^◌, ℕ, Bool, true, false, if◌then◌else◌, Result, Ok, Err, Option, Some, None, List, [], ◌∷◌, ◌++◌, length, codes, decimal}
 use Rattle.std.specs.Str.{bytes_eq}
 use Rattle.jac_demo.specs.Calendar.{calendar_text}
 use Rattle.jac_demo.specs.Requests.{demo_text}
@@ -122,15 +122,6 @@ abbrev pub TalliesAsk : Application → Span KeeperSeen → ℕ → Ask → Resu
 TalliesAsk app k served ask (Ok tally) audit =
     (answer : Answer) × IsEntryOf app k (whole ask false) answer × (audit ≡ audit_text (served + 1) answer.status ask.viewer answer.shown) × (tally ≡ tally_of answer)
 TalliesAsk app k served ask (Err failed) audit = TearsAsk app k served ask audit
-
--- the line is empty, or it writes down a request
-abbrev pub IsAsking : Option (Option Event) → Type 0
-IsAsking None = ⊥
-IsAsking (Some None) = ⊤
-IsAsking (Some (Some (Asking viewer method path query body))) = ⊤
-IsAsking (Some (Some (Begin c))) = ⊥
-IsAsking (Some (Some (Piece c bytes))) = ⊥
-IsAsking (Some (Some (Finish c))) = ⊥
 
 -- a request is answered and counted
 abbrev pub TalliesBy : Application → Span KeeperSeen → Summary → List ℕ → Ask → Result Summary DemoFault → List ℕ → Type 0

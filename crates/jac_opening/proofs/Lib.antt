@@ -1,4 +1,4 @@
 pub mod PlaceLaws
 mod WellServed
 mod SchemaKinds
-mod OpeningLemmas
+pub mod OpeningLemmas

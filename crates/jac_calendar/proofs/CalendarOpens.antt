@@ -10,8 +10,8 @@ use Rattle.jac_forms.specs.Reads.{Read, got, refused}
 use Rattle.jac_template.specs.Applications.{Expanded, ExpandsApplication}
 use Rattle.matchit.specs.Route.{scan}
 use Rattle.jac_opening.specs.Application.{Opened, Opens, IsApplication}
-use Rattle.jac_app.proofs.AskingLemmas.{ascii_at}
-use Rattle.jac_app.proofs.ReadTexts.{Front, front, tree_at, is_tree}
+use Rattle.jac_calendar.proofs.AskingLemmas.{ascii_at}
+use Rattle.jac_calendar.proofs.ReadTexts.{Front, front, tree_at, is_tree}
 
 -- all of the calendar, read in fewer steps than it has bytes
 abbrev pub read_calendar : Option (Front PlainTree)

@@ -6,14 +6,13 @@ use Rattle.std.proofs.lemmas.List.Elements.{All-nil, All-cons}
 use Rattle.std.proofs.lemmas.List.Splits.{slice_split_at}
 use Rattle.std.proofs.lemmas.Str.{is_utf8-from_IsUtf8, IsUtf8-from_ascii}
 use Rattle.std.specs.Fmt.{digits}
-use Rattle.std.specs.List.{All, list_all, position_or_len, slice_index}
+use Rattle.std.specs.List.{All, list_all, position_or_len, slice_index, slice_split}
 use Rattle.std.specs.Option.{option_map}
 use Rattle.std.specs.Str.{is_utf8}
 use Rattle.jac_demo.specs.Requests.{viewer_number, open_digit, join_line, add_line, list_line, demo_line, lines_from, demo_text}
 use Rattle.jac_events.specs.Lines.{viewer_of, is_method, is_target, asked, ask_of, line_of}
 use Rattle.jac_events.specs.Words.{word_at, unquoted, with_byte}
-use Rattle.jac_app.specs.Demo.{IsAsking}
-use Rattle.jac_app.specs.Line.{lines_of}
+use Rattle.jac_calendar.specs.Asking.{IsAsking, AreAsking}
 
 -- a byte that stands for itself in a word and between quotes
 abbrev pub is_quiet : ℕ → Bool
@@ -274,19 +273,22 @@ none_feed (x ∷ xs) h =
     All-cons (λ b. (b == 10) ≡ false) x xs (no_feed x (and_left (is_inside x) (list_all is_inside xs) h))
     (none_feed xs (and_right (is_inside x) (list_all is_inside xs) h))
 
-request_then : (line rest : List ℕ) → IsRequest line → All (λ line. IsAsking (line_of line)) (lines_of rest) → All (λ line. IsAsking (line_of line)) (lines_of (line ++ rest))
+abbrev lines_of : List ℕ → List (List ℕ)
+lines_of text = slice_split (λ b. b == 10) text
+
+request_then : (line rest : List ℕ) → IsRequest line → AreAsking rest → AreAsking (line ++ rest)
 request_then line rest r more =
     let same : line ++ rest ≡ r.part ++ 10 ∷ rest = ap (λ (t : List ℕ). t ++ rest) r.is ∙ append_assoc r.part (10 ∷ []) rest in
     let split = ap lines_of same ∙ slice_split_at (λ b. b == 10) r.part 10 rest (none_feed r.part r.within) refl in
     subst (λ (lines : List (List ℕ)). All (λ line. IsAsking (line_of line)) lines) (sym split)
     (All-cons (λ line. IsAsking (line_of line)) r.part (lines_of rest) r.asking more)
 
-lines_asking : (i count : ℕ) → i + count < 2 ^ 64 → All (λ line. IsAsking (line_of line)) (lines_of (lines_from i count))
+lines_asking : (i count : ℕ) → i + count < 2 ^ 64 → AreAsking (lines_from i count)
 lines_asking i zero h = All-cons (λ line. IsAsking (line_of line)) [] [] tt (All-nil (λ line. IsAsking (line_of line)))
 lines_asking i (suc count) h = request_then (demo_line i) (lines_from (i + 1) count) (demo_request i (omega (arith, h))) (lines_asking (i + 1) count (omega (arith, h)))
 
 -- each line of the generated requests has the form of one; behind the last line feed stands an empty line
-pub text_asking : (count : ℕ) → count < 2 ^ 63 → All (λ line. IsAsking (line_of line)) (lines_of (demo_text count))
+pub text_asking : (count : ℕ) → count < 2 ^ 63 → AreAsking (demo_text count)
 text_asking count h = lines_asking 1 count (omega (arith, h))
 
 -- how long a line may be
