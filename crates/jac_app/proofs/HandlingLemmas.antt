@@ -23,10 +23,12 @@ use Rattle.jac_app.specs.declared.answer.Via.TheVariants as ways
 use Rattle.jac_replies.specs.declared.reply.Spelling.{Spelling}
 use Rattle.jac_app.specs.Asked.{request_in}
 use Rattle.jac_replies.specs.Failed.{status_of_stop}
-use Rattle.jac_app.specs.Log.{is_failure, refused_with}
+use Rattle.jac_serving.specs.Answering.{is_failure}
+use Rattle.jac_app.specs.Log.{refused_with}
 use Rattle.jac_replies.specs.Spelled.{spelled, audit_text}
-use Rattle.jac_app.specs.Outside.{span}
-use Rattle.jac_app.specs.Serve.{IsAnswerMade, IsRefusalSent, handled, sent_on, sent_audit}
+use Rattle.jac_serving.specs.Outside.{span}
+use Rattle.jac_app.specs.Answered.{IsAnswerMade, IsRefusalSent}
+use Rattle.jac_serving.specs.Serve.{handled, sent_on, sent_audit}
 use Rattle.jac_app.proofs.EntryLemmas.{is_made, is_failed, is_wanting, is_refused, servable}
 
 either : (a b : Bool) (P : Type 0) → (a || b) ≡ true → (a ≡ true → P) → (b ≡ true → P) → P

@@ -11,7 +11,7 @@ ghost use Rattle.jac_keep.specs.Schema.{IsSchema};
 ghost use Rattle.jac_keep.specs.KeeperSeen.{IsLeft};
 ghost use Rattle.jac_keep.specs.declared.stop.Stop.TheVariants.{Keeper as Failing};
 ghost use Rattle.jac_words.specs.declared.words.Command.TheVariants as commands;
-ghost use Rattle.jac_app.specs.Outside.{WentAimed, span, sinks};
+ghost use Rattle.jac_serving.specs.Outside.{WentAimed, span, sinks};
 ghost use Rattle.jac_app.specs.Files.{sight};
 ghost use Rattle.jac_app.specs.Ending.{Closed};
 ghost use Rattle.jac_opening.specs.Application.{schema_text};
@@ -20,7 +20,7 @@ ghost use Rattle.jac_app.specs.Dump.{cell_text, cells_text, record_line, table_t
 use crate::attach::attach;
 use crate::ending::Ending;
 use crate::files::{open_app, read_file};
-use crate::outside::put;
+use jac_serving::put;
 use crate::replay::named;
 use itoa::Buffer;
 use jac_io::{AuditSink, Failed, Files, Sink};

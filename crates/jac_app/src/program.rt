@@ -1,5 +1,5 @@
 ghost use Rattle.std.specs.Prelude.{◌≡◌, IsTrue, IfOk, IfSome, codes, false};
-ghost use Rattle.jac_app.specs.Outside.{WentAimed, span, sinks};
+ghost use Rattle.jac_serving.specs.Outside.{WentAimed, span, sinks};
 ghost use Rattle.jac_words.specs.Commands.{HasCount};
 ghost use Rattle.jac_app.specs.Files.{sight};
 ghost use Rattle.jac_app.specs.Ending.{Closed, Closes, Finishes};
@@ -10,7 +10,7 @@ use crate::check::check;
 use crate::demo::demo;
 use crate::dump::dump;
 use crate::ending::{Ending, put_fault, status_of};
-use crate::outside::put;
+use jac_serving::put;
 use crate::replay::replay;
 use crate::server::serve;
 use crate::status::Status;

@@ -1,5 +1,5 @@
 use Rattle.jac_lang.specs.Mirror.{application_of}
-use Rattle.jac_app.specs.Outside.{span}
+use Rattle.jac_serving.specs.Outside.{span}
 use Rattle.jac_app.proofs.DemoLemmas.{WentTo-none, WentTo-on, tallied_on, tally_unattached}
 use Rattle.jac_app.proofs.demo.tally_attached.Goals as goal
 

@@ -3,8 +3,8 @@ use Rattle.jac_lang.specs.Mirror.{application_of}
 use Rattle.jac_engine.specs.Start.{IsStart}
 use Rattle.jac_http.specs.Requests.{IsTaken}
 use Rattle.jac_hub.specs.Hub.{seen}
-use Rattle.jac_app.specs.Serve.{handled}
-use Rattle.jac_app.proofs.NextLemmas.{next-either, next-seen}
+use Rattle.jac_serving.specs.Serve.{handled}
+use Rattle.jac_serving.proofs.NextLemmas.{next-either, next-seen}
 use Rattle.jac_app.proofs.handler.ask_hub.Goals as goal
 
 pub returns-clause-same_reference : goal.returns-clause-same_reference

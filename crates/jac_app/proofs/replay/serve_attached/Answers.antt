@@ -1,8 +1,8 @@
 use Rattle.std.specs.Option.{option_copied}
 use Rattle.jac_lang.specs.Mirror.{application_of}
-use Rattle.jac_app.specs.Outside.{span}
-use Rattle.jac_app.specs.Script.{script_of}
-use Rattle.jac_app.proofs.OutsideLemmas.{Went-none, Went-on}
+use Rattle.jac_serving.specs.Outside.{span}
+use Rattle.jac_serving.specs.Script.{script_of}
+use Rattle.jac_serving.proofs.OutsideLemmas.{Went-none, Went-on}
 use Rattle.jac_app.proofs.ReplayLemmas.{attach_ends, serve_whole, serve_stopped}
 use Rattle.jac_app.proofs.replay.serve_attached.Goals as goal
 

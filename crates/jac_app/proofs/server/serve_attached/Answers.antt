@@ -1,6 +1,6 @@
 use Rattle.jac_lang.specs.Mirror.{application_of}
-use Rattle.jac_app.specs.Outside.{span}
-use Rattle.jac_app.proofs.OutsideLemmas.{Went-none, Went-on}
+use Rattle.jac_serving.specs.Outside.{span}
+use Rattle.jac_serving.proofs.OutsideLemmas.{Went-none, Went-on}
 use Rattle.jac_app.proofs.ServerLemmas.{attached_ends, unattached_ends}
 use Rattle.jac_app.proofs.server.serve_attached.Goals as goal
 

@@ -1,6 +1,6 @@
 use Rattle.std.proofs.Common.{inl}
 use Rattle.jac_lang.specs.Mirror.{application_of}
-use Rattle.jac_app.specs.Outside.{span, sinks}
+use Rattle.jac_serving.specs.Outside.{span, sinks}
 use Rattle.jac_app.proofs.ServerLemmas.{write_failed, served_told, served_torn, served_part}
 use Rattle.jac_app.proofs.server.serve_connections.Goals as goal
 

@@ -1,0 +1,31 @@
+use Rattle.std.proofs.Common.{refl}
+use Rattle.jac_hub.specs.Hub.{seen}
+use Rattle.jac_serving.proofs.OutsideLemmas.{Went-on}
+use Rattle.jac_serving.proofs.EventLemmas.{ask_served, ask_torn}
+use Rattle.jac_serving.proofs.serve.serve_event.Goals as goal
+
+pub returns-in-Ok-clause-answered : goal.returns-in-Ok-clause-answered
+returns-in-Ok-clause-answered g c =
+    let D = g.D.Desk in
+    let desk = D.seen c.args.desk.now in
+    rw c.in-Ask.is
+    (Went-on _ _ _
+    (λ out audit put n known like. (
+      refl,
+      ask_served (D.answering desk.of) (g.met.D.Desk.lawful desk.of) (seen c.args.hub.now) desk.keeper (D.seen c.ask.new.self).keeper c.args.served n
+          c.in-Ask.viewer c.in-Ask.method c.in-Ask.path c.in-Ask.query c.in-Ask.body out audit known c.ask.result c.requires.idle like c.ask.ensures.asked put,
+    ))
+    c.in-Ok.ensures.put)
+
+pub returns-in-Err-clause-answered : goal.returns-in-Err-clause-answered
+returns-in-Err-clause-answered g c =
+    let D = g.D.Desk in
+    let desk = D.seen c.args.desk.now in
+    rw c.in-Ask.is
+    (Went-on _ _ _
+    (λ out audit torn n known like. (
+      refl,
+      ask_torn (D.answering desk.of) (g.met.D.Desk.lawful desk.of) desk.keeper (D.seen c.ask.new.self).keeper c.args.served n
+          c.in-Ask.viewer c.in-Ask.method c.in-Ask.path c.in-Ask.query c.in-Ask.body out audit known c.ask.result c.ask.ensures.asked torn,
+    ))
+    c.in-Err.ensures.put)
