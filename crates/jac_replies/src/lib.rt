@@ -6,7 +6,5 @@ mod reply;
 mod still;
 
 pub use answer::{Answer, Ask};
-pub use reply::{
-    Spelling, audit_rest, is_head, refusal_reply, reply_line, sent_reply, text_bytes,
-};
+pub use reply::{Spelling, audit_rest, is_head, refusal_reply, reply_line, sent_reply, text_bytes};
 pub use still::{failed_reply, fixed_of, still_status, still_text, viewer_bytes};
