@@ -28,39 +28,24 @@ use Rattle.jac_app.specs.declared.ending.Ending.TheVariants as endings
 use Rattle.jac_app.specs.declared.summary.Summary.{Summary}
 use Rattle.jac_app.specs.declared.summary.Tally.{Tally}
 use Rattle.jac_app.specs.Asked.{ask_in}
-use Rattle.jac_app.specs.Demo.{asks_by, bytes_in, labels_shown, labels_in, summary_of, tally_of, counted, WentTo, IsCounted, PutsTally, TalliesAsk, TearsAsk, TalliesLine, Tallied, TalliedTorn, Tallies, IsTalliedOn, EndsTallying, PutsSummary, IsTold, EndsCounting, summary_line, demo_script}
+use Rattle.jac_app.specs.Demo.{asks_by, bytes_in, labels_shown, labels_in, summary_of, tally_of, counted, IsCounted, PutsTally, TalliesAsk, TearsAsk, TalliesLine, Tallied, TalliedTorn, Tallies, IsTalliedOn, EndsTallying, PutsSummary, IsTold, EndsCounting, summary_line, demo_script}
 use Rattle.jac_replies.specs.Failed.{status_of_stop}
+use Rattle.jac_app.specs.Log.{hearing}
 use Rattle.jac_serving.specs.Answering.{Entry, IsHeardBy}
 use Rattle.jac_serving.specs.Log.{Brings, method_of, audit_line, audited}
 use Rattle.jac_replies.specs.Spelled.{audit_text}
-use Rattle.jac_serving.specs.Outside.{Span, span, sinks, IsFront, IsPut, Went, WentAimed}
+use Rattle.jac_serving.specs.Outside.{Span, span, sinks, IsFront, IsPut, Went, WentAimed, WentTo}
 use Rattle.jac_app.specs.Replay.{AttachesAs}
 use Rattle.jac_serving.specs.Script.{Script, script_from, script_of, script_step}
-use Rattle.jac_app.specs.Answered.{IsEntryOf, AreEntries}
+use Rattle.jac_app.specs.Answered.{IsEntryOf, AreEntries, answering_of}
 use Rattle.jac_serving.proofs.OutsideLemmas.{Lasts-none, Lasts-then, Took-none, Took-then, Rose-widen}
 use Rattle.jac_app.proofs.ReplayLemmas.{is_attached, text_on}
 use Rattle.jac_app.proofs.EntryLemmas.{is_made}
-use Rattle.jac_app.proofs.EntriesLemmas.{entries-none, entries-one, entries-then, entries-still}
+use Rattle.jac_app.proofs.EntriesLemmas.{entries-none, entries-one, entries-then}
+use Rattle.jac_serving.proofs.EntriesLemmas.{entries-still}
 use Rattle.jac_serving.proofs.BringsLemmas.{brings-push, brings-begun}
 use Rattle.jac_serving.proofs.EventLemmas.{ask_entry}
 use Rattle.jac_serving.proofs.ProgressLemmas.{served_before, served_push, audited_more, heard_by, is_served_by, nothing_more, early_is_not_whole}
-
--- what follows of the bytes that went to a sink
-pub WentTo-on : (s : Span SinkSeen) (P Q : List ℕ → Type 0) → ((put : List ℕ) → P put → Q put) → WentTo s P → WentTo s Q
-WentTo-on s P Q f went = record { put = went.put; lasts = went.lasts; took = went.took; holds = f went.put went.holds }
-
--- nothing was put
-pub WentTo-none : (a : SinkSeen) (P : List ℕ → Type 0) → P [] → WentTo (span a a) P
-WentTo-none a P h = record { put = []; lasts = Lasts-none a; took = Took-none a; holds = h }
-
--- two steps, of which the bytes are joined
-pub WentTo-then : (a b c : SinkSeen) (P Q R : List ℕ → Type 0) → ((x y : List ℕ) → P x → Q y → R (x ++ y)) → WentTo (span a b) P → WentTo (span b c) Q → WentTo (span a c) R
-WentTo-then a b c P Q R f one two = record {
-  put = one.put ++ two.put;
-  lasts = Lasts-then a b c one.lasts two.lasts;
-  took = Took-then a b c one.put two.put two.lasts.told one.took two.took;
-  holds = f one.put two.put one.holds two.holds;
-}
 
 -- a whole put, and a torn one
 pub WentTo-whole : (s : Span SinkSeen) (line : List ℕ) (tally : Tally) (done : Unit {0}) → IsPut {E = Failed} s line (Ok done) → WentTo s (PutsTally line tally (Ok tally))

@@ -18,6 +18,7 @@ use Rattle.jac_opening.specs.Application.{IsApplication}
 use Rattle.jac_opening.specs.Refusal.{HasRefusal, refusal_text}
 use Rattle.jac_opening.specs.declared.refusal.Refusal.{Refusal}
 use Rattle.jac_opening.specs.declared.refusal.Refusal.TheVariants as refusals
+use Rattle.jac_app.specs.Answered.{answering_of}
 use Rattle.jac_serving.specs.Outside.{Span, span, Sinks, sinks, Took, Went, WentAimed, AWriteFailed}
 use Rattle.jac_serving.specs.Serve.{ServesAs}
 use Rattle.jac_words.specs.Commands.{file_of, name_of, audit_of, db_of, name_or_empty, limit_of}

@@ -14,6 +14,7 @@ use Rattle.jac_links.specs.declared.door.DoorHalt.TheVariants as halts
 use Rattle.jac_links.specs.declared.door.Tally.{Tally}
 use Rattle.jac_app.specs.declared.ending.Ending.{Ending}
 use Rattle.jac_app.specs.declared.ending.Ending.TheVariants as endings
+use Rattle.jac_app.specs.Answered.{answering_of}
 use Rattle.jac_serving.specs.Outside.{Span, span, Sinks, sinks, IsPut, Went, WentTo, WentAimed, AWriteFailed}
 use Rattle.jac_app.specs.Files.{Sight, sinks_of, HasApplication, HasSessions, IsAimed}
 use Rattle.jac_app.specs.Replay.{AttachesAs}

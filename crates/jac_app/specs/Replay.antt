@@ -2,7 +2,6 @@
 use Rattle.std.specs.Prelude.{◌≡◌, ◌⊎◌, ⊤, ℕ, true, false, IsTrue, Result, Ok, Err, Option, Some, None, List, []}
 use Rattle.jac_io.specs.Faults.{Rose}
 use Rattle.jac_lang.specs.Syntax.{Application}
-use Rattle.jac_rows.specs.declared.state.State.{State}
 use Rattle.jac_keep.specs.Schema.{IsFit}
 use Rattle.jac_keep.specs.Attaching.{Attaches, IsRefused}
 use Rattle.jac_keep.specs.KeeperSeen.{KeeperSeen}
@@ -14,6 +13,7 @@ use Rattle.jac_app.specs.declared.ending.Ending.TheVariants as endings
 use Rattle.jac_words.specs.declared.role.Role.TheVariants as roles
 use Rattle.jac_opening.specs.Application.{schema_text}
 use Rattle.jac_opening.specs.Refusal.{IsRefusedBy}
+use Rattle.jac_app.specs.Answered.{answering_of}
 use Rattle.jac_serving.specs.Outside.{Span, span, Sinks, AWriteFailed}
 use Rattle.jac_words.specs.Commands.{file_of, audit_of, db_of}
 use Rattle.jac_app.specs.Files.{Sight, sinks_of, IsRead, IsLong, HasApplication, HasBadLine, IsOpened, IsReached, IsAimed, IsIdle}

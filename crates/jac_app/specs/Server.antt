@@ -13,6 +13,7 @@ use Rattle.jac_links.specs.declared.door.Tally.{Tally}
 use Rattle.jac_app.specs.declared.ending.Ending.{Ending}
 use Rattle.jac_app.specs.declared.ending.Ending.TheVariants as endings
 use Rattle.jac_serving.specs.Keeping.{IsStill}
+use Rattle.jac_app.specs.Answered.{answering_of}
 use Rattle.jac_serving.specs.Outside.{Span, span, Sinks, IsFront, AWriteFailed}
 use Rattle.jac_app.specs.Files.{Sight, sinks_of, HasApplication, HasSessions, IsAimed, IsIdle}
 use Rattle.jac_opening.specs.Application.{schema_text}

@@ -7,12 +7,12 @@ ghost use Rattle.jac_app.specs.Check.{EndsCheck, checked_text};
 
 use crate::ending::Ending;
 use crate::files::{open_app, read_file};
-use jac_serving::put_five;
 use itoa::Buffer;
 use jac_io::{AuditSink, Failed, Files, Sink};
 use jac_keep::Keeper;
 use jac_lang::App;
 use jac_opening::Service;
+use jac_serving::put_five;
 use jac_value::Txt;
 use jac_words::Role;
 use std::alloc::Global;

@@ -20,7 +20,6 @@ ghost use Rattle.jac_app.specs.Dump.{cell_text, cells_text, record_line, table_t
 use crate::attach::attach;
 use crate::ending::Ending;
 use crate::files::{open_app, read_file};
-use jac_serving::put;
 use crate::replay::named;
 use itoa::Buffer;
 use jac_io::{AuditSink, Failed, Files, Sink};
@@ -28,6 +27,7 @@ use jac_keep::{Stop, Vault};
 use jac_lang::{App, Field, ModelDef};
 use jac_opening::Service;
 use jac_rows::Row;
+use jac_serving::put;
 use jac_value::{Bytes, Memory, Txt, Value, escape_line};
 use jac_words::{Dumping, Role};
 use jac_world::Assignment;

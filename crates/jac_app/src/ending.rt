@@ -4,11 +4,10 @@ ghost use Rattle.jac_serving.specs.Outside.{IsPut, span};
 ghost use Rattle.jac_words.specs.Commands.{file_of, name_or_empty, name_of, limit_of, limit_text};
 ghost use Rattle.jac_app.specs.Ending.{fault_line, lapse_line, status_of};
 
-use jac_serving::{put, put_five, put_three};
-use jac_serving::Lapse;
 use crate::status::Status;
 use itoa::Buffer;
 use jac_io::{Failed, Sink};
+use jac_serving::{Lapse, put, put_five, put_three};
 use jac_value::Txt;
 use jac_words::{Command, Role};
 

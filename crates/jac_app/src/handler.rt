@@ -84,7 +84,6 @@ impl<K: Keeper, L: Ledger, M: Ledger> Handler for Answerer<'_, '_, '_, '_, '_, K
 impl<K: Keeper, L: Ledger, M: Ledger> Desk for Answerer<'_, '_, '_, '_, '_, K, L, M> {
     ghost use Rattle.jac_lang.specs.Mirror.{application_of};
     ghost use Rattle.jac_app.specs.Answered.{DeskOf, answering, desk_of};
-    ghost use Rattle.jac_app.proofs.DeskLaws.{lawful};
 
     ghost Of = { DeskOf };
 
@@ -92,11 +91,11 @@ impl<K: Keeper, L: Ledger, M: Ledger> Desk for Answerer<'_, '_, '_, '_, '_, K, L
 
     ghost seen = { λ a. desk_of (application_of a.service.now) a.sessions.now a.keeper.ghost_name (K.seen a.keeper.now) };
 
-    ghost lawful = { lawful };
-
     fn alloc(&self) -> Global {
         self.alloc
     }
+
+    fn lawful(&self) {}
 
     fn next_out(&mut self, spelling: Spelling, hub: &mut Hub) -> Option<HubOut> {
         self.spelling = spelling;
@@ -156,7 +155,15 @@ fn ask_lines<K: Keeper, L: Ledger, M: Ledger>(
     ensures cause { HasCause (K.seen desk.old.keeper.now).faults (K.seen desk.new.keeper.now).faults result }
     ensures keeps { Keeps answering (desk_of (application_of desk.old.service.now) desk.old.sessions.now desk.old.keeper.ghost_name (K.seen desk.old.keeper.now)) (desk_of (application_of desk.new.service.now) desk.new.sessions.now desk.new.keeper.ghost_name (K.seen desk.new.keeper.now)) }
 {
-    let ask = ask_in(desk.alloc, desk.service.app(), viewer, method, path, query, body)?;
+    let ask = ask_in(
+        desk.alloc,
+        desk.service.app(),
+        viewer,
+        method,
+        path,
+        query,
+        body,
+    )?;
     let lines = answer_ask(
         desk.alloc,
         desk.service,

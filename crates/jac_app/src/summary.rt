@@ -5,11 +5,11 @@ ghost use Rattle.jac_app.specs.Demo.{IsBounded, summary_of, counted, tally_of, l
 ghost use Rattle.jac_replies.specs.Failed.{status_of_stop};
 ghost use Rattle.jac_serving.specs.Outside.{IsPut, span};
 
-use jac_serving::{put, put_five};
 use itoa::Buffer;
 use jac_io::{Failed, Sink};
 use jac_keep::Stop;
 use jac_replies::Answer;
+use jac_serving::{put, put_five};
 use jac_world::Assignment;
 
 /// A log in numbers: requests, those of POST and of GET, the bytes of all bodies, and the labels in the audit lines of

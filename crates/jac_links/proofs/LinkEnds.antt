@@ -12,6 +12,7 @@ use Rattle.jac_links.specs.declared.link.Halt.TheVariants as halts
 use Rattle.jac_links.specs.declared.link.Standing.TheVariants as standings
 use Rattle.jac_links.specs.Link.{IsLinkServed}
 use Rattle.jac_links.specs.LinkSteps.{IsLast, IsPieceOn, IsPieceTorn, ServesPiece}
+use Rattle.jac_serving.specs.Answering.{Answering, IsAnswering}
 use Rattle.jac_serving.specs.Outside.{Span, span}
 use Rattle.jac_links.proofs.LinkProgress.{LinkProgress, taken_by, place, link_on, link_nearer, link_quiet, link_whole, link_missed, link_wanting, link_cut, link_torn, limit_is}
 use Rattle.jac_serving.proofs.OutsideLemmas.{Rose-widen}

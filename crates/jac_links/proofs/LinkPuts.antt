@@ -17,6 +17,7 @@ use Rattle.jac_links.specs.declared.onto.Lost.TheVariants as losses
 use Rattle.jac_replies.specs.declared.reply.Spelling.TheVariants as spellings
 use Rattle.jac_links.specs.Link.{as_sink}
 use Rattle.jac_links.specs.LinkSteps.{PutsReply, PutsOutOn, PutsSoFarOn, PutsAllOn, PutsSomeOn, PutsOutsOn, is_closed_out, has_closed}
+use Rattle.jac_serving.specs.Answering.{Answering}
 use Rattle.jac_serving.specs.Outside.{span, Took, IsFront, IsPut, sinks, Went}
 use Rattle.jac_serving.specs.Serve.{handled, sent_on, sent_audit, out_on, outs_on, outs_audited, replies_in}
 use Rattle.jac_serving.proofs.HubLemmas.{outs_on-append, replies_in-append}

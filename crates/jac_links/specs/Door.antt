@@ -12,7 +12,6 @@ use Rattle.jac_links.specs.Link.{as_sink, IsPart, IsLinkServed}
 use Rattle.jac_serving.specs.Answering.{Entry, Answering, IsAnswering}
 use Rattle.jac_serving.specs.Log.{audited}
 use Rattle.jac_serving.specs.Outside.{Span, span, Took}
-use Rattle.jac_serving.specs.Serve.{AreEntries}
 
 -- a link as it came, as serving it left it, and what the call answered
 pub record Visit (L : Type 0) : Type 0 where

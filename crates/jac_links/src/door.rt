@@ -50,13 +50,7 @@ fn serve_line<K: Desk, D: Door, U: AuditSink>(
 {
     let mut line = line;
     let connections = tally.connections + 1;
-    match serve_link(
-        desk,
-        connections,
-        tally.replies,
-        &mut line,
-        audit,
-    ) {
+    match serve_link(desk, connections, tally.replies, &mut line, audit) {
         Ok(count) => match door.close(line) {
             Ok(()) => Ok(Tally {
                 connections,
@@ -88,13 +82,7 @@ fn serve_next<K: Desk, D: Door, U: AuditSink>(
     ensures keeps { Keeps K.answering (K.seen desk.old) (K.seen desk.new) }
 {
     match door.next() {
-        Ok(Some(line)) => match serve_line(
-        desk,
-            tally,
-            line,
-            door,
-            audit,
-        ) {
+        Ok(Some(line)) => match serve_line(desk, tally, line, door, audit) {
             Ok(more) => Ok(Some(more)),
             Err(halt) => Err(halt),
         },
@@ -119,17 +107,13 @@ pub fn serve_links<K: Desk, D: Door, U: AuditSink>(
     ensures cause { result ≡ Err DoorHalt.Write → Rose (U.seen audit.old).faults (U.seen audit.new).faults }
     ensures keeps { Keeps K.answering (K.seen desk.old) (K.seen desk.new) }
 {
+    desk.lawful();
     let mut tally = Tally {
         connections: 0,
         replies: 0,
     };
     'links: while tally.connections < most {
-        match serve_next(
-        desk,
-            tally,
-            door,
-            audit,
-        ) {
+        match serve_next(desk, tally, door, audit) {
             Ok(Some(more)) => tally = more,
             Ok(None) => return Ok(tally),
             Err(halt) => return Err(halt),

@@ -146,14 +146,9 @@ fn serve_event<D: Desk, N: Link, U: AuditSink>(
     ensures keeps { Keeps D.answering (D.seen desk.old) (D.seen desk.new) }
 {
     requests_are_read();
+    desk.lawful();
     take_in(desk.alloc(), hub, event);
-    put_outs(
-        desk,
-        served,
-        hub,
-        link,
-        audit,
-    )
+    put_outs(desk, served, hub, link, audit)
 }
 
 // How a connection stands behind a piece.
@@ -193,14 +188,7 @@ fn serve_piece<D: Desk, N: Link, U: AuditSink>(
     match take_piece(desk.alloc(), link) {
         Ok(Some(bytes)) => {
             let event = Event::Piece { conn, bytes };
-            match serve_event(
-        desk,
-                served,
-                &event,
-                hub,
-                link,
-                audit,
-            ) {
+            match serve_event(desk, served, &event, hub, link, audit) {
                 Ok(brought) => Ok(stands(brought)),
                 Err(Cut::Link { count }) => Ok(Standing::Over { count }),
                 Err(Cut::Audit) => Err(Halt::Write),
@@ -213,11 +201,7 @@ fn serve_piece<D: Desk, N: Link, U: AuditSink>(
 }
 
 // Begins a connection, of which nothing comes yet.
-fn begin<D: Desk>(
-    desk: &mut D,
-    conn: u32,
-    hub: &mut Hub,
-) -> Result<(), Memory>
+fn begin<D: Desk>(desk: &mut D, conn: u32, hub: &mut Hub) -> Result<(), Memory>
     requires new { seen hub.old ≡ new_hub }
     requires desk { MayServe D.answering (D.seen desk.old) }
     ensures begun { OnOk result (seen hub.new ≡ begun_hub conn) }
@@ -251,16 +235,10 @@ fn serve_pieces<D: Desk, N: Link, U: AuditSink>(
     ensures keeps { Keeps D.answering (D.seen desk.old) (D.seen desk.new) }
 {
     requests_are_read();
+    desk.lawful();
     let mut count = first;
     'pieces: loop {
-        match serve_piece(
-        desk,
-            conn,
-            count,
-            hub,
-            link,
-            audit,
-        ) {
+        match serve_piece(desk, conn, count, hub, link, audit) {
             Ok(Standing::Open { count: more }) => count = more,
             Ok(Standing::Over { count: last }) => return Ok(last - first),
             Err(halt) => return Err(halt),
@@ -284,20 +262,10 @@ pub fn serve_link<D: Desk, N: Link, U: AuditSink>(
     ensures cause { result ≡ Err Halt.Write → Rose (U.seen audit.old).faults (U.seen audit.new).faults }
     ensures keeps { Keeps D.answering (D.seen desk.old) (D.seen desk.new) }
 {
+    desk.lawful();
     let mut hub = Hub::new(desk.alloc());
-    match begin(
-        desk,
-        conn,
-        &mut hub,
-    ) {
-        Ok(()) => serve_pieces(
-        desk,
-            conn,
-            first,
-            &mut hub,
-            link,
-            audit,
-        ),
+    match begin(desk, conn, &mut hub) {
+        Ok(()) => serve_pieces(desk, conn, first, &mut hub, link, audit),
         Err(Memory) => Err(Halt::Memory),
     }
 }

@@ -51,7 +51,7 @@ pub record IsLine (spelling : Spelling) (x : Answering) (c : ℕ) (k : Span Keep
   pub line : sent_on spelling c sent ≡ reply_on spelling (connection c) subject answer
   pub audit : (n : ℕ) → sent_audit n sent ≡ audit_text n answer.status (viewer_of subject) answer.shown
 
-line_of : (spelling : Spelling) (x : Answering) (c : ℕ) (subject : Subject) (answer : Answer) (sent : Sent) (before between : KeeperSeen)
+line_of : (spelling : Spelling) (x : Answering) (lawful : IsAnswering x) (c : ℕ) (subject : Subject) (answer : Answer) (sent : Sent) (before between : KeeperSeen)
     → x.ready before
     → IsAnswered (hearing x) (IsHandled spelling x) (refusal 500 None) c subject answer sent before between
     → IsLine spelling x c (span before between) subject answer sent
@@ -65,10 +65,10 @@ line_of spelling x lawful c broken answer sent before between start (same, is, p
     (subst (λ (s : Sent). IsLine spelling x c (span before before) broken (refusal 500 None) s) (sym put)
     (record { one = lawful.wanting before start; line = refl; audit = λ n. refl })))
 
-lines_none : (spelling : Spelling) (x : Answering) (k : KeeperSeen) → x.ready k → AreLines spelling x (span k k) [] []
+lines_none : (spelling : Spelling) (x : Answering) (lawful : IsAnswering x) (k : KeeperSeen) → x.ready k → AreLines spelling x (span k k) [] []
 lines_none spelling x lawful k start = record { entries = lawful.none k start; text = refl; audited = λ n. refl; replies = refl }
 
-lines_more : (spelling : Spelling) (x : Answering) (c : ℕ) (entry : Entry) (sent : Sent) (mine : List Entry) (rest : List HubOut) (before between after : KeeperSeen)
+lines_more : (spelling : Spelling) (x : Answering) (lawful : IsAnswering x) (c : ℕ) (entry : Entry) (sent : Sent) (mine : List Entry) (rest : List HubOut) (before between after : KeeperSeen)
     → entry.source ≡ connection c → IsLine spelling x c (span before between) entry.subject entry.answer sent → AreLines spelling x (span between after) mine rest
     → AreLines spelling x (span before after) (entry ∷ mine) (Reply c sent ∷ rest)
 lines_more spelling x lawful c entry sent mine rest before between after is line more =
@@ -82,7 +82,7 @@ lines_more spelling x lawful c entry sent mine rest before between after is line
     }
 
 -- the entries of an event beside the replies that were put out for them
-pub lines_all : (spelling : Spelling) (x : Answering) (mine : List Entry) (outs : List HubOut) (before after : KeeperSeen)
+pub lines_all : (spelling : Spelling) (x : Answering) (lawful : IsAnswering x) (mine : List Entry) (outs : List HubOut) (before after : KeeperSeen)
     → x.ready before
     → AreAnswered (hearing x) (IsHandled spelling x) (refusal 500 None) before mine outs after → AreLines spelling x (span before after) mine outs
 lines_all spelling x lawful [] outs before after start (none, same) =

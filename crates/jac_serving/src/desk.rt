@@ -54,5 +54,7 @@ pub trait Desk {
         ensures asked { IsAsked (answering (seen self.old).of) (kept (seen self.old) (seen self.new)) ((answering (seen self.old).of).asks viewer method.now path.now query.now body.now) result }
         ensures keeps { Keeps answering (seen self.old) (seen self.new) };
 
-    ghost lawful: { (of : Of) → IsAnswering (answering of) };
+    /// A law: what serves a desk may rest on how its application answers.
+    fn lawful(&self)
+        ensures { IsAnswering (answering (seen self.now).of) };
 }

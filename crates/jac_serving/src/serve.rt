@@ -103,6 +103,7 @@ fn serve_connection<D: Desk, O: Sink, U: AuditSink>(
     ensures keeps { Keeps D.answering (D.seen desk.old) (D.seen desk.new) }
 {
     requests_are_read();
+    desk.lawful();
     match take_event(desk.alloc(), hub, line, event) {
         Ok(()) => match put_given(desk, served, hub, out, audit) {
             Ok(count) => Ok(count),
@@ -132,6 +133,7 @@ fn serve_event<D: Desk, O: Sink, U: AuditSink>(
     ensures count { IfOk result (λ count. count ≤ served + 2 ^ 26) }
     ensures keeps { Keeps D.answering (D.seen desk.old) (D.seen desk.new) }
 {
+    desk.lawful();
     match event {
         Event::Ask {
             viewer,
@@ -192,6 +194,7 @@ pub fn serve_events<D: Desk, O: Sink, U: AuditSink>(
     ensures cause { result ≡ Err Stopped.Write → AWriteFailed (sinks (O.seen out.old) (O.seen out.new) (U.seen audit.old) (U.seen audit.new)) }
     ensures keeps { Keeps D.answering (D.seen desk.old) (D.seen desk.new) }
 {
+    desk.lawful();
     let mut hub = Hub::new(desk.alloc());
     let mut left = Some(bytes);
     let mut number: u64 = 0;

@@ -143,7 +143,7 @@ returns g c =
     let files = F.seen c.args.files.now in
     let later = F.seen c.read_file-2.new.files in
     let seen =
-    sight files later (O.seen c.args.out.now) (O.seen c.serve.new.out) (U.seen c.args.audit.now) (U.seen c.serve.new.audit) (K.seen c.args.vault.now) (K.seen c.serve.new.vault) in
+    sight files later (O.seen c.args.out.now) (O.seen c.serve.new.out) (U.seen c.args.audit.now) (U.seen c.serve.new.audit) (K.seen c.args.vault.now) (K.seen c.serve.new.desk.keeper.now) in
     let opened = F.seen c.read_file.new.files in
     let middle = F.seen c.read_sessions.new.files in
     let first = c.in-Ok.ensures.lasts in
@@ -170,4 +170,4 @@ returns g c =
       };
     })
     (rw c.as_slice-2.ensures at served))
-    c.serve.ensures
+    c.serve.ensures.served

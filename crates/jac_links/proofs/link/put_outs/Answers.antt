@@ -26,8 +26,8 @@ returns-in-Err-clause-put g c =
     let U = g.U.Sink in
     let D = g.D.Desk in
     let next =
-        next-of D.answering (D.seen c.args.desk.now) (D.seen c.outs.desk) spellings.Raw (seen c.outs.hub) (seen c.next_out.new.hub) (Some c.in-Some.given)
-        (D.seen c.outs.desk).keeper (D.seen c.next_out.new.self).keeper c.outs.invariant.keeps c.in-Some.ensures.next in
+    next-of D.answering (D.seen c.args.desk.now) (D.seen c.outs.desk) spellings.Raw (seen c.outs.hub) (seen c.next_out.new.hub) (Some c.in-Some.given)
+    (D.seen c.outs.desk).keeper (D.seen c.next_out.new.self).keeper c.outs.invariant.keeps c.in-Some.ensures.next in
     Went-then (as_sink (N.seen c.args.link.now)) (as_sink (N.seen c.outs.link)) (as_sink (N.seen c.put_out.new.link)) (U.seen c.args.audit.now) (U.seen c.outs.audit) (U.seen c.put_out.new.audit) _ _ _
     (λ o au p bu so_far cut.
     so_far_on_cut (D.answering (D.seen c.args.desk.now).of) (seen c.args.hub.now) (seen c.outs.hub) (seen c.next_out.new.hub)
@@ -38,8 +38,8 @@ pub returns-clause-put : goal.returns-clause-put
 returns-clause-put g c =
     let D = g.D.Desk in
     let next =
-        next-of D.answering (D.seen c.args.desk.now) (D.seen c.outs.desk) spellings.Raw (seen c.outs.hub) (seen c.next_out.new.hub) None
-        (D.seen c.outs.desk).keeper (D.seen c.next_out.new.self).keeper c.outs.invariant.keeps c.in_default.ensures.next in
+    next-of D.answering (D.seen c.args.desk.now) (D.seen c.outs.desk) spellings.Raw (seen c.outs.hub) (seen c.next_out.new.hub) None
+    (D.seen c.outs.desk).keeper (D.seen c.next_out.new.self).keeper c.outs.invariant.keeps c.in_default.ensures.next in
     Went-on _ _ _
     (λ o au so_far.
     so_far_on_all (D.answering (D.seen c.args.desk.now).of) (seen c.args.hub.now) (seen c.outs.hub) (seen c.next_out.new.hub)
@@ -60,8 +60,8 @@ outs-preserved g c =
     let U = g.U.Sink in
     let D = g.D.Desk in
     let next =
-        next-of D.answering (D.seen c.args.desk.now) (D.seen c.outs.desk) spellings.Raw (seen c.outs.hub) (seen c.next_out.new.hub) (Some c.in-Some.given)
-        (D.seen c.outs.desk).keeper (D.seen c.next_out.new.self).keeper c.outs.invariant.keeps c.in-Some.ensures.next in
+    next-of D.answering (D.seen c.args.desk.now) (D.seen c.outs.desk) spellings.Raw (seen c.outs.hub) (seen c.next_out.new.hub) (Some c.in-Some.given)
+    (D.seen c.outs.desk).keeper (D.seen c.next_out.new.self).keeper c.outs.invariant.keeps c.in-Some.ensures.next in
     let before = c.outs.invariant in
     record {
       few = before.few;

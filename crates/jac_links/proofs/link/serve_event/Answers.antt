@@ -18,6 +18,6 @@ returns-clause-answered g c =
     let D = g.D.Desk in
     Went-on _ _ _
     (λ out audit puts.
-    answers_on (D.answering (D.seen c.args.desk.now).of) (g.met.D.Desk.lawful (D.seen c.args.desk.now).of) c.requests_are_read.ensures c.args.served c.args.event.now (seen c.args.hub.now) (seen c.take_in.new.hub) (seen c.put_outs.new.hub)
+    answers_on (D.answering (D.seen c.args.desk.now).of) c.lawful.ensures c.requests_are_read.ensures c.args.served c.args.event.now (seen c.args.hub.now) (seen c.take_in.new.hub) (seen c.put_outs.new.hub)
     (D.seen c.args.desk.now).keeper (D.seen c.put_outs.new.desk).keeper out audit c.requires.idle c.requires.piece c.take_in.ensures c.requires.desk.ready c.put_outs.result puts)
     c.put_outs.ensures.put

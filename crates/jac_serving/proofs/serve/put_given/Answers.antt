@@ -32,7 +32,7 @@ returns-in-Err-clause-put g c =
     let b = D.seen c.outs.desk in
     let d = D.seen c.next_out.new.self in
     let next =
-        next-of D.answering a b spellings.Quoted between new (Some c.in-Some.given) b.keeper d.keeper c.outs.invariant.keeps c.in-Some.ensures.next in
+    next-of D.answering a b spellings.Quoted between new (Some c.in-Some.given) b.keeper d.keeper c.outs.invariant.keeps c.in-Some.ensures.next in
     Went-then (O.seen c.args.out.now) (O.seen c.outs.out) (O.seen c.put_out.new.out) (U.seen c.args.audit.now) (U.seen c.outs.audit) (U.seen c.put_out.new.audit) _ _ _
     (λ o au p bu so_far torn.
     so_far_torn (D.answering a.of) hub between new a.keeper b.keeper d.keeper c.args.served c.outs.count c.in-Some.given o au p bu next so_far torn)
@@ -48,7 +48,7 @@ returns-clause-put g c =
     let b = D.seen c.outs.desk in
     let d = D.seen c.next_out.new.self in
     let next =
-        next-of D.answering a b spellings.Quoted between new None b.keeper d.keeper c.outs.invariant.keeps c.in_default.ensures.next in
+    next-of D.answering a b spellings.Quoted between new None b.keeper d.keeper c.outs.invariant.keeps c.in_default.ensures.next in
     Went-on _ _ _
     (λ o au so_far. so_far_all (D.answering a.of) hub between new a.keeper b.keeper d.keeper c.args.served c.outs.count o au next so_far)
     c.outs.invariant.went
@@ -66,7 +66,7 @@ outs-preserved g c =
     let d = D.seen c.next_out.new.self in
     let before = c.outs.invariant in
     let next =
-        next-of D.answering a b spellings.Quoted between new (Some c.in-Some.given) b.keeper d.keeper before.keeps c.in-Some.ensures.next in
+    next-of D.answering a b spellings.Quoted between new (Some c.in-Some.given) b.keeper d.keeper before.keeps c.in-Some.ensures.next in
     record {
       few = before.few;
       fewer = omega (arith, before.fewer, c.in-Some.ensures.nearer, c.in-Ok.ensures.put.holds.0, few_replies c.in-Some.given);

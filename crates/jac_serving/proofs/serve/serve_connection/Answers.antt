@@ -12,8 +12,8 @@ put_given-requires-clause-few g c =
     let D = g.D.Desk in
     let x = D.answering (D.seen c.args.desk.now).of in
     let most =
-        step_left (hearing x) c.args.event.now c.requires.following.known c.in-Ok.ensures.0 (seen c.args.hub.now) (seen c.take_event.new.hub)
-        c.requires.idle c.requires.following.like c.in-Ok.ensures.1 in
+    step_left (hearing x) c.args.event.now c.requires.following.known c.in-Ok.ensures.0 (seen c.args.hub.now) (seen c.take_event.new.hub)
+    c.requires.idle c.requires.following.like c.in-Ok.ensures.1 in
     omega (arith, c.requires.few, most)
 
 pub returns-in-Ok-put_given-clause-count : goal.returns-in-Ok-put_given-clause-count
@@ -21,8 +21,8 @@ returns-in-Ok-put_given-clause-count g c =
     let D = g.D.Desk in
     let x = D.answering (D.seen c.args.desk.now).of in
     let most =
-        step_left (hearing x) c.args.event.now c.requires.following.known c.in-Ok.ensures.0 (seen c.args.hub.now) (seen c.take_event.new.hub)
-        c.requires.idle c.requires.following.like c.in-Ok.ensures.1 in
+    step_left (hearing x) c.args.event.now c.requires.following.known c.in-Ok.ensures.0 (seen c.args.hub.now) (seen c.take_event.new.hub)
+    c.requires.idle c.requires.following.like c.in-Ok.ensures.1 in
     omega (arith, c.in-Ok-put_given.ensures.count, most)
 
 pub returns-in-Ok-put_given-clause-answered : goal.returns-in-Ok-put_given-clause-answered
@@ -36,7 +36,7 @@ returns-in-Ok-put_given-clause-answered g c =
     Went-on _ _ _
     (λ out audit puts n known like. (
       step_kept (hearing x) c.args.line c.args.event.now known taken.0 old stepped like taken.1 taken.3,
-      event_whole x (g.met.D.Desk.lawful desk.of) c.requests_are_read.ensures n c.args.served c.in-Ok-put_given.count c.args.event.now known taken.0 old stepped (seen c.put_given.new.hub)
+      event_whole x c.lawful.ensures c.requests_are_read.ensures n c.args.served c.in-Ok-put_given.count c.args.event.now known taken.0 old stepped (seen c.put_given.new.hub)
           desk.keeper (D.seen c.put_given.new.desk).keeper out audit c.requires.idle like taken.1 taken.2 c.requires.desk.ready puts,
     ))
     c.in-Ok-put_given.ensures.put
@@ -52,7 +52,7 @@ returns-in-Err-put_given-clause-answered g c =
     Went-on _ _ _
     (λ out audit puts n known like. (
       step_kept (hearing x) c.args.line c.args.event.now known taken.0 old stepped like taken.1 taken.3,
-      event_torn x (g.met.D.Desk.lawful desk.of) c.requests_are_read.ensures n c.args.served c.args.event.now known taken.0 old stepped
+      event_torn x c.lawful.ensures c.requests_are_read.ensures n c.args.served c.args.event.now known taken.0 old stepped
           desk.keeper (D.seen c.put_given.new.desk).keeper out audit c.requires.idle like taken.1 c.requires.desk.ready puts,
     ))
     c.in-Err-put_given.ensures.put

@@ -12,7 +12,7 @@ returns-in-Ok-clause-answered g c =
     (Went-on _ _ _
     (λ out audit put n known like. (
       refl,
-      ask_served (D.answering desk.of) (g.met.D.Desk.lawful desk.of) (seen c.args.hub.now) desk.keeper (D.seen c.ask.new.self).keeper c.args.served n
+      ask_served (D.answering desk.of) c.lawful.ensures (seen c.args.hub.now) desk.keeper (D.seen c.ask.new.self).keeper c.args.served n
           c.in-Ask.viewer c.in-Ask.method c.in-Ask.path c.in-Ask.query c.in-Ask.body out audit known c.ask.result c.requires.idle like c.ask.ensures.asked put,
     ))
     c.in-Ok.ensures.put)
@@ -25,7 +25,7 @@ returns-in-Err-clause-answered g c =
     (Went-on _ _ _
     (λ out audit torn n known like. (
       refl,
-      ask_torn (D.answering desk.of) (g.met.D.Desk.lawful desk.of) desk.keeper (D.seen c.ask.new.self).keeper c.args.served n
+      ask_torn (D.answering desk.of) c.lawful.ensures desk.keeper (D.seen c.ask.new.self).keeper c.args.served n
           c.in-Ask.viewer c.in-Ask.method c.in-Ask.path c.in-Ask.query c.in-Ask.body out audit known c.ask.result c.ask.ensures.asked torn,
     ))
     c.in-Err.ensures.put)

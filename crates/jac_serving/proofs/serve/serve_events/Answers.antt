@@ -14,7 +14,7 @@ pub lines-init : goal.lines-init
 lines-init g c =
     let D = g.D.Desk in
     let desk = D.seen c.args.desk.now in
-    let progress = start (D.answering desk.of) (g.met.D.Desk.lawful desk.of) (seen c.new-hub.result) desk.keeper c.args.bytes.now c.new-hub.ensures c.requires.desk.ready in
+    let progress = start (D.answering desk.of) c.lawful.ensures (seen c.new-hub.result) desk.keeper c.args.bytes.now c.new-hub.ensures c.requires.desk.ready in
     record {
       short = c.requires.short;
       lines = omega arith;
@@ -37,7 +37,7 @@ returns-in-Err-clause-served g c =
     let parts = ap (λ (o : Option (Bor (List ℕ))). parts_left 10 (option_now o)) c.in-Some.is ∙ c.first_part.ensures.parts in
     Went-then (O.seen c.args.out.now) (O.seen c.lines.out) (O.seen c.serve_line.new.out) (U.seen c.args.audit.now) (U.seen c.lines.audit) (U.seen c.serve_line.new.audit) _ _ _
     (λ o au p bu progress line.
-    stop_at (D.answering a.of) (g.met.D.Desk.lawful a.of) (seen c.lines.hub) (seen c.serve_line.new.hub) a.keeper b.keeper d.keeper
+    stop_at (D.answering a.of) c.lawful.ensures (seen c.lines.hub) (seen c.serve_line.new.hub) a.keeper b.keeper d.keeper
     _ _ (option_now c.first_part.result.1) _ _ _ _ _ _ _ progress parts (line_of c.first_part.result.0.now) refl c.in-Err.stopped
     (line-of D.answering a b _ _ _ _ _ _ _ _ _ c.lines.invariant.keeps line))
     c.lines.invariant.went c.in-Err.ensures.answered
@@ -55,12 +55,12 @@ lines-preserved g c =
     let parts = ap (λ (o : Option (Bor (List ℕ))). parts_left 10 (option_now o)) c.in-Some.is ∙ c.first_part.ensures.parts in
     let keeps = keeps-then D.answering a b d before.keeps c.in-Ok.ensures.keeps in
     let went =
-        Went-then (O.seen c.args.out.now) (O.seen c.lines.out) (O.seen c.serve_line.new.out) (U.seen c.args.audit.now) (U.seen c.lines.audit) (U.seen c.serve_line.new.audit) _ _ _
-        (λ o au p bu progress line.
-        go_on (D.answering a.of) (g.met.D.Desk.lawful a.of) (seen c.lines.hub) (seen c.serve_line.new.hub) a.keeper b.keeper d.keeper
-        _ _ (option_now c.first_part.result.1) _ _ c.in-Ok.count _ _ _ _ _ progress parts (line_of c.first_part.result.0.now) refl
-        (line-of D.answering a b _ _ _ _ _ _ _ _ _ before.keeps line))
-        before.went c.in-Ok.ensures.answered in
+    Went-then (O.seen c.args.out.now) (O.seen c.lines.out) (O.seen c.serve_line.new.out) (U.seen c.args.audit.now) (U.seen c.lines.audit) (U.seen c.serve_line.new.audit) _ _ _
+    (λ o au p bu progress line.
+    go_on (D.answering a.of) c.lawful.ensures (seen c.lines.hub) (seen c.serve_line.new.hub) a.keeper b.keeper d.keeper
+    _ _ (option_now c.first_part.result.1) _ _ c.in-Ok.count _ _ _ _ _ progress parts (line_of c.first_part.result.0.now) refl
+    (line-of D.answering a b _ _ _ _ _ _ _ _ _ before.keeps line))
+    before.went c.in-Ok.ensures.answered in
     record {
       short = before.short;
       lines = omega (arith, before.lines, left, shorter_left _ _ c.first_part.ensures.shorter);

@@ -1,0 +1,54 @@
+//! One link is served, as `run` serves each link of a door.
+ghost use Rattle.std.specs.Prelude.{◌≡◌, ◌<◌, ◌^◌, Err, IsTrue};
+ghost use Rattle.jac_io.specs.Faults.{Rose};
+ghost use Rattle.jac_lang.specs.Mirror.{application_of};
+ghost use Rattle.jac_engine.specs.Start.{IsStart};
+ghost use Rattle.jac_links.specs.Link.{as_sink, IsLinkServed};
+ghost use Rattle.jac_serving.specs.Outside.{Went, sinks, span};
+ghost use Rattle.jac_app.specs.Answered.{answering_of};
+
+use crate::handler::Answerer;
+use jac_io::{AuditSink, Link};
+use jac_keep::Keeper;
+use jac_links::Halt;
+use jac_opening::Service;
+use jac_replies::Spelling;
+use jac_route::Sessions;
+use jac_world::Steps;
+use std::alloc::Global;
+use std::sync::ledger::Ledger;
+
+/// Serves the connection of this number, behind so many replies, over an attached keeper: the count of its own. What
+/// fails of the link ends this connection alone. `run` does the same for each link of a door.
+pub fn serve_link<N: Link, U: AuditSink, K: Keeper, L: Ledger, M: Ledger>(
+    alloc: Global,
+    service: &Service,
+    sessions: &Sessions,
+    conn: u32,
+    first: u64,
+    link: &mut N,
+    audit: &mut U,
+    keeper: &mut K,
+    splits: &mut Steps<L>,
+    evaluations: &mut Steps<M>,
+) -> Result<u64, Halt>
+    requires few { first < 2 ^ 63 }
+    requires attached { IsTrue (K.seen keeper.old).store.attached }
+    requires start { IsTrue (K.seen keeper.old).tells → IsStart (application_of service.now) (K.seen keeper.old).state }
+    ensures served { Went (sinks (as_sink (N.seen link.old)) (as_sink (N.seen link.new)) (U.seen audit.old) (U.seen audit.new))
+        (IsLinkServed (answering_of (application_of service.now) sessions.now) conn first (span (N.seen link.old) (N.seen link.new)) (span (K.seen keeper.old) (K.seen keeper.new)) result) }
+    ensures cause { result ≡ Err Halt.Write → Rose (U.seen audit.old).faults (U.seen audit.new).faults }
+    ensures start { IsTrue (K.seen keeper.new).tells → IsStart (application_of service.now) (K.seen keeper.new).state }
+    ensures attached { (K.seen keeper.new).store ≡ (K.seen keeper.old).store }
+{
+    let mut desk = Answerer {
+        keeper,
+        splits,
+        evaluations,
+        alloc,
+        spelling: Spelling::Raw,
+        service,
+        sessions,
+    };
+    jac_links::serve_link(&mut desk, conn, first, link, audit)
+}
