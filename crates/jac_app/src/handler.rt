@@ -153,7 +153,10 @@ fn ask_lines<K: Keeper, L: Ledger, M: Ledger>(
     ensures refused { IsTrue (K.seen desk.new.keeper.now).tells → OnErr result ((K.seen desk.new.keeper.now).state ≡ (K.seen desk.old.keeper.now).state) }
     ensures told { IsTrue (K.seen desk.new.keeper.now).tells → IsTrue (K.seen desk.old.keeper.now).tells }
     ensures cause { HasCause (K.seen desk.old.keeper.now).faults (K.seen desk.new.keeper.now).faults result }
-    ensures keeps { Keeps answering (desk_of (application_of desk.old.service.now) desk.old.sessions.now desk.old.keeper.ghost_name (K.seen desk.old.keeper.now)) (desk_of (application_of desk.new.service.now) desk.new.sessions.now desk.new.keeper.ghost_name (K.seen desk.new.keeper.now)) }
+    ensures same_reference { desk.new.keeper.ghost_name ≡ desk.old.keeper.ghost_name }
+    ensures same_service { desk.new.service ≡ desk.old.service }
+    ensures same_sessions { desk.new.sessions ≡ desk.old.sessions }
+    ensures attached { (K.seen desk.new.keeper.now).store ≡ (K.seen desk.old.keeper.now).store }
 {
     let ask = ask_in(
         desk.alloc,
@@ -187,7 +190,10 @@ fn request_lines<K: Keeper, L: Ledger, M: Ledger>(
     ensures refused { IsTrue (K.seen desk.new.keeper.now).tells → OnErr result ((K.seen desk.new.keeper.now).state ≡ (K.seen desk.old.keeper.now).state) }
     ensures told { IsTrue (K.seen desk.new.keeper.now).tells → IsTrue (K.seen desk.old.keeper.now).tells }
     ensures cause { HasCause (K.seen desk.old.keeper.now).faults (K.seen desk.new.keeper.now).faults result }
-    ensures keeps { Keeps answering (desk_of (application_of desk.old.service.now) desk.old.sessions.now desk.old.keeper.ghost_name (K.seen desk.old.keeper.now)) (desk_of (application_of desk.new.service.now) desk.new.sessions.now desk.new.keeper.ghost_name (K.seen desk.new.keeper.now)) }
+    ensures same_reference { desk.new.keeper.ghost_name ≡ desk.old.keeper.ghost_name }
+    ensures same_service { desk.new.service ≡ desk.old.service }
+    ensures same_sessions { desk.new.sessions ≡ desk.old.sessions }
+    ensures attached { (K.seen desk.new.keeper.now).store ≡ (K.seen desk.old.keeper.now).store }
 {
     let ask = request_in(desk.alloc, desk.service.app(), desk.sessions, request)?;
     let via = Via::Connection {

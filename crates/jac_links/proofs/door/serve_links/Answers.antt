@@ -1,4 +1,6 @@
-use Rattle.std.proofs.Common.{◌∙◌, arith, inl}
+use Rattle.std.proofs.Common.{◌∙◌, arith, inl, Ok, Err, Some, None}
+use Rattle.jac_serving.specs.Desk.{kept}
+use Rattle.jac_serving.specs.Outside.{span}
 use Rattle.jac_serving.proofs.DeskLemmas.{keeps-none, keeps-may, keeps-then}
 use Rattle.jac_serving.proofs.OutsideLemmas.{WentTo-none, WentTo-on, WentTo-then}
 use Rattle.jac_links.proofs.DeskSteps.{next_link-of}
@@ -38,7 +40,8 @@ returns-in-Ok-None-clause-served g c =
     (λ o au so_far next.
     next_none N.seen (K.answering (K.seen c.args.desk.now).of) c.lawful.ensures (D.seen c.args.door.now) (D.seen c.links.door) (D.seen c.serve_next.new.door)
     (K.seen c.args.desk.now).keeper (K.seen c.links.desk).keeper (K.seen c.serve_next.new.desk).keeper c.links.tally o au c.in-Ok-None.ensures.lasts.told so_far c.args.most c.links.invariant.few
-    (next_link-of K.answering (K.seen c.args.desk.now) (K.seen c.links.desk) c.links.invariant.keeps _ _ _ _ _ _ next))
+    (next_link-of K.answering (K.seen c.args.desk.now) (K.seen c.links.desk) c.links.invariant.keeps N.seen c.links.tally (span (D.seen c.links.door) (D.seen c.serve_next.new.door))
+    (kept (K.seen c.links.desk) (K.seen c.serve_next.new.desk)) (Ok None) au next))
     c.links.invariant.went (rw c.in-Ok-None.field-0-is at c.in-Ok-None.ensures.served)
 
 pub returns-in-Err-clause-served : goal.returns-in-Err-clause-served
@@ -51,7 +54,8 @@ returns-in-Err-clause-served g c =
     (λ o au so_far next.
     next_halt N.seen (K.answering (K.seen c.args.desk.now).of) c.lawful.ensures (D.seen c.args.door.now) (D.seen c.links.door) (D.seen c.serve_next.new.door)
     (K.seen c.args.desk.now).keeper (K.seen c.links.desk).keeper (K.seen c.serve_next.new.desk).keeper c.links.tally o au c.in-Err.ensures.lasts.told so_far c.args.most c.links.invariant.lasts.later c.in-Err.halt
-    (next_link-of K.answering (K.seen c.args.desk.now) (K.seen c.links.desk) c.links.invariant.keeps _ _ _ _ _ _ next))
+    (next_link-of K.answering (K.seen c.args.desk.now) (K.seen c.links.desk) c.links.invariant.keeps N.seen c.links.tally (span (D.seen c.links.door) (D.seen c.serve_next.new.door))
+    (kept (K.seen c.links.desk) (K.seen c.serve_next.new.desk)) (Err c.in-Err.halt) au next))
     c.links.invariant.went c.in-Err.ensures.served
 
 pub links-preserved : goal.links-preserved
@@ -75,7 +79,8 @@ links-preserved g c =
           (λ o au so_far next_one.
           next_on N.seen (K.answering (K.seen c.args.desk.now).of) c.lawful.ensures (D.seen c.args.door.now) (D.seen c.links.door) (D.seen c.serve_next.new.door)
           (K.seen c.args.desk.now).keeper (K.seen c.links.desk).keeper (K.seen c.serve_next.new.desk).keeper c.links.tally o au next.lasts.told so_far c.in-Ok-Some.more
-          (next_link-of K.answering (K.seen c.args.desk.now) (K.seen c.links.desk) c.links.invariant.keeps _ _ _ _ _ _ next_one))
+          (next_link-of K.answering (K.seen c.args.desk.now) (K.seen c.links.desk) c.links.invariant.keeps N.seen c.links.tally (span (D.seen c.links.door) (D.seen c.serve_next.new.door))
+          (kept (K.seen c.links.desk) (K.seen c.serve_next.new.desk)) (Ok (Some c.in-Ok-Some.more)) au next_one))
           before.went served;
     }
 

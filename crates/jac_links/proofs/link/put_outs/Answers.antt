@@ -54,6 +54,52 @@ pub returns-in-Err-clause-audit : goal.returns-in-Err-clause-audit
 returns-in-Err-clause-audit g c = λ is.
     Rose-widen _ _ _ _ c.outs.invariant.went.audit_lasts.later (omega arith) (c.in-Err.ensures.audit is)
 
+pub outs-preserved-in-Ok : goal.outs-preserved-in-Ok
+outs-preserved-in-Ok g c =
+    let N = g.N.Link in
+    let U = g.U.Sink in
+    let D = g.D.Desk in
+    let next =
+    next-of D.answering (D.seen c.args.desk.now) (D.seen c.outs.desk) spellings.Raw (seen c.outs.hub) (seen c.next_out.new.hub) (Some c.in-Some.given)
+    (D.seen c.outs.desk).keeper (D.seen c.next_out.new.self).keeper c.outs.invariant.keeps c.in-Some.ensures.next in
+    let before = c.outs.invariant in
+    record {
+      few = before.few;
+      fewer = omega (arith, before.fewer, c.in-Some.ensures.nearer, c.in-Ok.ensures.put.holds.0, few_replies c.in-Some.given);
+      may_serve = keeps-may D.answering (D.seen c.outs.desk) (D.seen c.next_out.new.self) before.may_serve c.in-Some.ensures.keeps;
+      keeps = keeps-then D.answering (D.seen c.args.desk.now) (D.seen c.outs.desk) (D.seen c.next_out.new.self) before.keeps c.in-Some.ensures.keeps;
+      same_left = λ told. c.in-Ok.ensures.left told ∙ before.same_left (c.in-Ok.ensures.put.out_lasts.told told);
+      went =
+          Went-then (as_sink (N.seen c.args.link.now)) (as_sink (N.seen c.outs.link)) (as_sink (N.seen c.put_out.new.link)) (U.seen c.args.audit.now) (U.seen c.outs.audit) (U.seen c.put_out.new.audit) _ _ _
+          (λ o au p bu so_far put.
+          so_far_on_more (D.answering (D.seen c.args.desk.now).of) (seen c.args.hub.now) (seen c.outs.hub) (seen c.next_out.new.hub)
+          (D.seen c.args.desk.now).keeper (D.seen c.outs.desk).keeper (D.seen c.next_out.new.self).keeper c.args.served c.outs.so_far c.in-Ok.more c.in-Some.given o au p bu next so_far put)
+          before.went c.in-Ok.ensures.put;
+    }
+
+pub outs-preserved-in-Ok-2 : goal.outs-preserved-in-Ok-2
+outs-preserved-in-Ok-2 g c =
+    let N = g.N.Link in
+    let U = g.U.Sink in
+    let D = g.D.Desk in
+    let next =
+    next-of D.answering (D.seen c.args.desk.now) (D.seen c.outs.desk) spellings.Raw (seen c.outs.hub) (seen c.next_out.new.hub) (Some c.in-Some.given)
+    (D.seen c.outs.desk).keeper (D.seen c.next_out.new.self).keeper c.outs.invariant.keeps c.in-Some.ensures.next in
+    let before = c.outs.invariant in
+    record {
+      few = before.few;
+      fewer = omega (arith, before.fewer, c.in-Some.ensures.nearer, c.in-Ok.ensures.put.holds.0, few_replies c.in-Some.given);
+      may_serve = keeps-may D.answering (D.seen c.outs.desk) (D.seen c.next_out.new.self) before.may_serve c.in-Some.ensures.keeps;
+      keeps = keeps-then D.answering (D.seen c.args.desk.now) (D.seen c.outs.desk) (D.seen c.next_out.new.self) before.keeps c.in-Some.ensures.keeps;
+      same_left = λ told. c.in-Ok.ensures.left told ∙ before.same_left (c.in-Ok.ensures.put.out_lasts.told told);
+      went =
+          Went-then (as_sink (N.seen c.args.link.now)) (as_sink (N.seen c.outs.link)) (as_sink (N.seen c.put_out.new.link)) (U.seen c.args.audit.now) (U.seen c.outs.audit) (U.seen c.put_out.new.audit) _ _ _
+          (λ o au p bu so_far put.
+          so_far_on_more (D.answering (D.seen c.args.desk.now).of) (seen c.args.hub.now) (seen c.outs.hub) (seen c.next_out.new.hub)
+          (D.seen c.args.desk.now).keeper (D.seen c.outs.desk).keeper (D.seen c.next_out.new.self).keeper c.args.served c.outs.so_far c.in-Ok.more c.in-Some.given o au p bu next so_far put)
+          before.went c.in-Ok.ensures.put;
+    }
+
 pub outs-preserved : goal.outs-preserved
 outs-preserved g c =
     let N = g.N.Link in

@@ -1,5 +1,8 @@
-use Rattle.std.proofs.Common.{refl, arith}
+use Rattle.std.proofs.Common.{arith, Ok, Err}
 use Rattle.jac_hub.specs.Hub.{seen}
+use Rattle.jac_serving.specs.Desk.{kept}
+use Rattle.jac_serving.specs.Outside.{span}
+use Rattle.jac_links.specs.declared.link.Standing.TheVariants as standings
 use Rattle.jac_links.specs.Link.{as_sink}
 use Rattle.jac_serving.specs.Answering.{Answering}
 use Rattle.jac_serving.specs.Serve.{IsFollowing}
@@ -42,10 +45,12 @@ pub pieces-smaller : goal.pieces-smaller
 pieces-smaller g c =
     let N = g.N.Link in
     let D = g.D.Desk in
+    let served = rw c.in-Ok-Open.field-0-is at c.in-Ok-Open.ensures.served in
     pieces_less (D.answering (D.seen c.args.desk.now).of) c.lawful.ensures c.requests_are_read.ensures c.args.conn c.args.first (seen c.pieces.hub) (seen c.serve_piece.new.hub)
     (N.seen c.args.link.now) (N.seen c.pieces.link) (N.seen c.serve_piece.new.link) (D.seen c.args.desk.now).keeper (D.seen c.pieces.desk).keeper (D.seen c.serve_piece.new.desk).keeper
-    c.pieces.count c.in-Ok-Open.more _ _ _ _ (rw c.in-Ok-Open.field-0-is at c.in-Ok-Open.ensures.served).out_lasts.told c.pieces.invariant.went.holds
-    (piece-of D.answering (D.seen c.args.desk.now) (D.seen c.pieces.desk) c.pieces.invariant.keeps _ _ _ _ _ _ _ _ _ (rw c.in-Ok-Open.field-0-is at c.in-Ok-Open.ensures.served).holds)
+    c.pieces.count c.in-Ok-Open.more _ _ _ _ served.out_lasts.told c.pieces.invariant.went.holds
+    (piece-of D.answering (D.seen c.args.desk.now) (D.seen c.pieces.desk) c.pieces.invariant.keeps c.args.conn (seen c.pieces.hub) (seen c.serve_piece.new.hub)
+    (span (N.seen c.pieces.link) (N.seen c.serve_piece.new.link)) (kept (D.seen c.pieces.desk) (D.seen c.serve_piece.new.desk)) c.pieces.count (Ok (standings.Open c.in-Ok-Open.more)) served.out served.audit served.holds)
 
 pub pieces-preserved : goal.pieces-preserved
 pieces-preserved g c =
@@ -64,7 +69,8 @@ pieces-preserved g c =
           pieces_open (D.answering (D.seen c.args.desk.now).of) c.lawful.ensures c.requests_are_read.ensures c.args.conn c.args.first (seen c.pieces.hub) (seen c.serve_piece.new.hub)
           (N.seen c.args.link.now) (N.seen c.pieces.link) (N.seen c.serve_piece.new.link) (D.seen c.args.desk.now).keeper (D.seen c.pieces.desk).keeper (D.seen c.serve_piece.new.desk).keeper
           c.pieces.count c.in-Ok-Open.more o au p bu served.out_lasts.told so_far
-          (piece-of D.answering (D.seen c.args.desk.now) (D.seen c.pieces.desk) c.pieces.invariant.keeps _ _ _ _ _ _ _ _ _ piece))
+          (piece-of D.answering (D.seen c.args.desk.now) (D.seen c.pieces.desk) c.pieces.invariant.keeps c.args.conn (seen c.pieces.hub) (seen c.serve_piece.new.hub)
+          (span (N.seen c.pieces.link) (N.seen c.serve_piece.new.link)) (kept (D.seen c.pieces.desk) (D.seen c.serve_piece.new.desk)) c.pieces.count (Ok (standings.Open c.in-Ok-Open.more)) p bu piece))
           before.went served;
     }
 
@@ -76,7 +82,8 @@ overflow_sub-result g c =
     pieces_last (D.answering (D.seen c.args.desk.now).of) c.lawful.ensures c.requests_are_read.ensures c.args.conn c.args.first (seen c.pieces.hub) (seen c.serve_piece.new.hub)
     (N.seen c.args.link.now) (N.seen c.pieces.link) (N.seen c.serve_piece.new.link) (D.seen c.args.desk.now).keeper (D.seen c.pieces.desk).keeper (D.seen c.serve_piece.new.desk).keeper
     c.pieces.count c.in-Ok-Over.last _ _ _ _ served.out_lasts.told c.pieces.invariant.went.holds
-    (piece-of D.answering (D.seen c.args.desk.now) (D.seen c.pieces.desk) c.pieces.invariant.keeps _ _ _ _ _ _ _ _ _ served.holds)
+    (piece-of D.answering (D.seen c.args.desk.now) (D.seen c.pieces.desk) c.pieces.invariant.keeps c.args.conn (seen c.pieces.hub) (seen c.serve_piece.new.hub)
+    (span (N.seen c.pieces.link) (N.seen c.serve_piece.new.link)) (kept (D.seen c.pieces.desk) (D.seen c.serve_piece.new.desk)) c.pieces.count (Ok (standings.Over c.in-Ok-Over.last)) served.out served.audit served.holds)
 
 pub returns-in-Ok-Over-clause-served : goal.returns-in-Ok-Over-clause-served
 returns-in-Ok-Over-clause-served g c =
@@ -89,7 +96,8 @@ returns-in-Ok-Over-clause-served g c =
     pieces_over (D.answering (D.seen c.args.desk.now).of) c.lawful.ensures c.requests_are_read.ensures c.args.conn c.args.first (seen c.pieces.hub) (seen c.serve_piece.new.hub)
     (N.seen c.args.link.now) (N.seen c.pieces.link) (N.seen c.serve_piece.new.link) (D.seen c.args.desk.now).keeper (D.seen c.pieces.desk).keeper (D.seen c.serve_piece.new.desk).keeper
     c.pieces.count c.in-Ok-Over.last o au p bu served.out_lasts.told c.pieces.invariant.went.out_lasts.later so_far
-    (piece-of D.answering (D.seen c.args.desk.now) (D.seen c.pieces.desk) c.pieces.invariant.keeps _ _ _ _ _ _ _ _ _ piece))
+    (piece-of D.answering (D.seen c.args.desk.now) (D.seen c.pieces.desk) c.pieces.invariant.keeps c.args.conn (seen c.pieces.hub) (seen c.serve_piece.new.hub)
+    (span (N.seen c.pieces.link) (N.seen c.serve_piece.new.link)) (kept (D.seen c.pieces.desk) (D.seen c.serve_piece.new.desk)) c.pieces.count (Ok (standings.Over c.in-Ok-Over.last)) p bu piece))
     c.pieces.invariant.went served
 
 pub returns-in-Err-clause-served : goal.returns-in-Err-clause-served
@@ -102,7 +110,8 @@ returns-in-Err-clause-served g c =
     pieces_halt (D.answering (D.seen c.args.desk.now).of) c.lawful.ensures c.requests_are_read.ensures c.args.conn c.args.first (seen c.pieces.hub) (seen c.serve_piece.new.hub)
     (N.seen c.args.link.now) (N.seen c.pieces.link) (N.seen c.serve_piece.new.link) (D.seen c.args.desk.now).keeper (D.seen c.pieces.desk).keeper (D.seen c.serve_piece.new.desk).keeper
     c.pieces.count o au p bu c.in-Err.ensures.served.out_lasts.told so_far c.in-Err.halt
-    (piece-of D.answering (D.seen c.args.desk.now) (D.seen c.pieces.desk) c.pieces.invariant.keeps _ _ _ _ _ _ _ _ _ piece))
+    (piece-of D.answering (D.seen c.args.desk.now) (D.seen c.pieces.desk) c.pieces.invariant.keeps c.args.conn (seen c.pieces.hub) (seen c.serve_piece.new.hub)
+    (span (N.seen c.pieces.link) (N.seen c.serve_piece.new.link)) (kept (D.seen c.pieces.desk) (D.seen c.serve_piece.new.desk)) c.pieces.count (Err c.in-Err.halt) p bu piece))
     c.pieces.invariant.went c.in-Err.ensures.served
 
 pub returns-in-Ok-Over-clause-keeps : goal.returns-in-Ok-Over-clause-keeps

@@ -53,6 +53,58 @@ returns-clause-put g c =
     (λ o au so_far. so_far_all (D.answering a.of) hub between new a.keeper b.keeper d.keeper c.args.served c.outs.count o au next so_far)
     c.outs.invariant.went
 
+pub outs-preserved-in-Ok : goal.outs-preserved-in-Ok
+outs-preserved-in-Ok g c =
+    let O = g.O.Sink in
+    let U = g.U.Sink in
+    let D = g.D.Desk in
+    let hub = seen c.args.hub.now in
+    let between = seen c.outs.hub in
+    let new = seen c.next_out.new.hub in
+    let a = D.seen c.args.desk.now in
+    let b = D.seen c.outs.desk in
+    let d = D.seen c.next_out.new.self in
+    let before = c.outs.invariant in
+    let next =
+    next-of D.answering a b spellings.Quoted between new (Some c.in-Some.given) b.keeper d.keeper before.keeps c.in-Some.ensures.next in
+    record {
+      few = before.few;
+      fewer = omega (arith, before.fewer, c.in-Some.ensures.nearer, c.in-Ok.ensures.put.holds.0, few_replies c.in-Some.given);
+      may_serve = keeps-may D.answering b d before.may_serve c.in-Some.ensures.keeps;
+      keeps = keeps-then D.answering a b d before.keeps c.in-Some.ensures.keeps;
+      went =
+          Went-then (O.seen c.args.out.now) (O.seen c.outs.out) (O.seen c.put_out.new.out) (U.seen c.args.audit.now) (U.seen c.outs.audit) (U.seen c.put_out.new.audit) _ _ _
+          (λ o au p bu so_far put.
+          so_far_more (D.answering a.of) hub between new a.keeper b.keeper d.keeper c.args.served c.outs.count c.in-Ok.more c.in-Some.given o au p bu next so_far put)
+          before.went c.in-Ok.ensures.put;
+    }
+
+pub outs-preserved-in-Ok-2 : goal.outs-preserved-in-Ok-2
+outs-preserved-in-Ok-2 g c =
+    let O = g.O.Sink in
+    let U = g.U.Sink in
+    let D = g.D.Desk in
+    let hub = seen c.args.hub.now in
+    let between = seen c.outs.hub in
+    let new = seen c.next_out.new.hub in
+    let a = D.seen c.args.desk.now in
+    let b = D.seen c.outs.desk in
+    let d = D.seen c.next_out.new.self in
+    let before = c.outs.invariant in
+    let next =
+    next-of D.answering a b spellings.Quoted between new (Some c.in-Some.given) b.keeper d.keeper before.keeps c.in-Some.ensures.next in
+    record {
+      few = before.few;
+      fewer = omega (arith, before.fewer, c.in-Some.ensures.nearer, c.in-Ok.ensures.put.holds.0, few_replies c.in-Some.given);
+      may_serve = keeps-may D.answering b d before.may_serve c.in-Some.ensures.keeps;
+      keeps = keeps-then D.answering a b d before.keeps c.in-Some.ensures.keeps;
+      went =
+          Went-then (O.seen c.args.out.now) (O.seen c.outs.out) (O.seen c.put_out.new.out) (U.seen c.args.audit.now) (U.seen c.outs.audit) (U.seen c.put_out.new.audit) _ _ _
+          (λ o au p bu so_far put.
+          so_far_more (D.answering a.of) hub between new a.keeper b.keeper d.keeper c.args.served c.outs.count c.in-Ok.more c.in-Some.given o au p bu next so_far put)
+          before.went c.in-Ok.ensures.put;
+    }
+
 pub outs-preserved : goal.outs-preserved
 outs-preserved g c =
     let O = g.O.Sink in

@@ -12,20 +12,20 @@ returns-in-Ok-clause-answered g c =
     (Went-on _ _ _
     (λ out audit put n known like. (
       refl,
-      ask_served (D.answering desk.of) c.lawful.ensures (seen c.args.hub.now) desk.keeper (D.seen c.ask.new.self).keeper c.args.served n
-          c.in-Ask.viewer c.in-Ask.method c.in-Ask.path c.in-Ask.query c.in-Ask.body out audit known c.ask.result c.requires.idle like c.ask.ensures.asked put,
+      ask_served (D.answering desk.of) c.lawful.ensures (seen c.args.hub.now) desk.keeper (D.seen c.ask-asked.new.self).keeper c.args.served n
+          c.in-Ask.viewer c.in-Ask.method c.in-Ask.path c.in-Ask.query c.in-Ask.body out audit known c.ask-asked.result c.requires.idle like c.ask-asked.ensures.asked put,
     ))
-    c.in-Ok.ensures.put)
+    (rw c.as_bytes.ensures at c.in-Ok.ensures.put))
 
-pub returns-in-Err-clause-answered : goal.returns-in-Err-clause-answered
-returns-in-Err-clause-answered g c =
+pub returns-in-Ask-clause-answered : goal.returns-in-Ask-clause-answered
+returns-in-Ask-clause-answered g c =
     let D = g.D.Desk in
     let desk = D.seen c.args.desk.now in
     rw c.in-Ask.is
     (Went-on _ _ _
     (λ out audit torn n known like. (
       refl,
-      ask_torn (D.answering desk.of) c.lawful.ensures desk.keeper (D.seen c.ask.new.self).keeper c.args.served n
-          c.in-Ask.viewer c.in-Ask.method c.in-Ask.path c.in-Ask.query c.in-Ask.body out audit known c.ask.result c.ask.ensures.asked torn,
+      ask_torn (D.answering desk.of) c.lawful.ensures desk.keeper (D.seen c.ask-asked.new.self).keeper c.args.served n
+          c.in-Ask.viewer c.in-Ask.method c.in-Ask.path c.in-Ask.query c.in-Ask.body out audit known c.ask-asked.result c.ask-asked.ensures.asked torn,
     ))
-    c.in-Err.ensures.put)
+    (rw c.as_bytes.ensures at c.in-Err.ensures.put))

@@ -1,9 +1,10 @@
-use Rattle.std.proofs.Common.{◌∙◌, ap, List, ℕ, arith, Option, refl}
+use Rattle.std.proofs.Common.{◌∙◌, ◌+◌, ap, List, ℕ, arith, Option, Ok, Err, refl}
 use denote.Ref.{Bor}
 use Rattle.jac_events.specs.Lines.{line_of}
 use Rattle.jac_hub.specs.Hub.{seen}
 use Rattle.jac_value.specs.Parts.{parts_left, option_now, length_left}
 use Rattle.jac_serving.specs.Answering.{Answering}
+use Rattle.jac_serving.specs.Desk.{kept}
 use Rattle.jac_serving.specs.Serve.{IsFollowing}
 use Rattle.jac_serving.proofs.DeskLemmas.{keeps-none, keeps-may, keeps-then, line-of, of-keeps}
 use Rattle.jac_serving.proofs.OutsideLemmas.{Went-none, Went-on, Went-then}
@@ -39,7 +40,7 @@ returns-in-Err-clause-served g c =
     (λ o au p bu progress line.
     stop_at (D.answering a.of) c.lawful.ensures (seen c.lines.hub) (seen c.serve_line.new.hub) a.keeper b.keeper d.keeper
     _ _ (option_now c.first_part.result.1) _ _ _ _ _ _ _ progress parts (line_of c.first_part.result.0.now) refl c.in-Err.stopped
-    (line-of D.answering a b _ _ _ _ _ _ _ _ _ c.lines.invariant.keeps line))
+    (line-of D.answering a b (seen c.lines.hub) (seen c.serve_line.new.hub) (kept b d) c.lines.served (c.lines.number + 1) (line_of c.first_part.result.0.now) (Err c.in-Err.stopped) p bu c.lines.invariant.keeps line))
     c.lines.invariant.went c.in-Err.ensures.answered
 
 pub lines-preserved : goal.lines-preserved
@@ -59,7 +60,7 @@ lines-preserved g c =
     (λ o au p bu progress line.
     go_on (D.answering a.of) c.lawful.ensures (seen c.lines.hub) (seen c.serve_line.new.hub) a.keeper b.keeper d.keeper
     _ _ (option_now c.first_part.result.1) _ _ c.in-Ok.count _ _ _ _ _ progress parts (line_of c.first_part.result.0.now) refl
-    (line-of D.answering a b _ _ _ _ _ _ _ _ _ before.keeps line))
+    (line-of D.answering a b (seen c.lines.hub) (seen c.serve_line.new.hub) (kept b d) c.lines.served (c.lines.number + 1) (line_of c.first_part.result.0.now) (Ok c.in-Ok.count) p bu before.keeps line))
     before.went c.in-Ok.ensures.answered in
     record {
       short = before.short;
