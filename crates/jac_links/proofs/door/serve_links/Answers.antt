@@ -1,4 +1,4 @@
-use Rattle.std.proofs.Common.{◌∙◌, arith, inl, Ok, Err, Some, None}
+use Rattle.std.proofs.Common.{◌∙◌, arith, refl, inl, Ok, Err, Some, None}
 use Rattle.jac_serving.specs.Desk.{kept}
 use Rattle.jac_serving.specs.Outside.{span}
 use Rattle.jac_serving.proofs.DeskLemmas.{keeps-none, keeps-may, keeps-then}

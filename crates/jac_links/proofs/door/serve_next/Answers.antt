@@ -27,6 +27,7 @@ returns-in-Err-serve_line-clause-served g c =
 pub returns-in-Ok-None-clause-served : goal.returns-in-Ok-None-clause-served
 returns-in-Ok-None-clause-served g c =
     let D = g.D.Door in
+    let K = g.K.Desk in
     let N = g.D.Line.Link in
     WentTo-none (g.U.Sink.seen c.args.audit.now) _
     (next_no_more N.seen (K.answering (K.seen c.args.desk.now).of) c.args.tally (D.seen c.args.door.now) (D.seen c.next.new.self) (g.K.Desk.seen c.args.desk.now).keeper
@@ -35,6 +36,7 @@ returns-in-Ok-None-clause-served g c =
 pub returns-in-Err-clause-served : goal.returns-in-Err-clause-served
 returns-in-Err-clause-served g c =
     let D = g.D.Door in
+    let K = g.K.Desk in
     let N = g.D.Line.Link in
     WentTo-none (g.U.Sink.seen c.args.audit.now) _
     (next_failed N.seen (K.answering (K.seen c.args.desk.now).of) c.args.tally (D.seen c.args.door.now) (D.seen c.next.new.self) (g.K.Desk.seen c.args.desk.now).keeper _ c.in-Err.ensures)

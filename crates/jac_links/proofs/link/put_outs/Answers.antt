@@ -1,4 +1,4 @@
-use Rattle.std.proofs.Common.{arith, Some, None}
+use Rattle.std.proofs.Common.{◌∙◌, arith, refl, Some, None}
 use Rattle.jac_hub.specs.Hub.{seen}
 use Rattle.jac_replies.specs.declared.reply.Spelling.TheVariants as spellings
 use Rattle.jac_links.specs.Link.{as_sink}

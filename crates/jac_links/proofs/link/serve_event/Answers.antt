@@ -8,6 +8,7 @@ use Rattle.jac_links.proofs.link.serve_event.Goals as goal
 
 pub put_outs-requires-clause-few : goal.put_outs-requires-clause-few
 put_outs-requires-clause-few g c =
+    let D = g.D.Desk in
     let most =
     step_left (hearing (D.answering (D.seen c.args.desk.now).of)) c.args.event.now c.requires.following.known c.take_in.ensures.0 (seen c.args.hub.now) (seen c.take_in.new.hub)
     c.requires.idle c.requires.following.like c.take_in.ensures.1 in
