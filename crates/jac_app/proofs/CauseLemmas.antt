@@ -11,9 +11,9 @@ use Rattle.jac_app.specs.declared.ending.Ending.TheVariants as endings
 use Rattle.jac_words.specs.declared.role.Role.TheVariants as roles
 use Rattle.jac_app.specs.declared.status.Status.{Status}
 use Rattle.jac_app.specs.declared.status.Status.TheVariants as statuses
-use Rattle.jac_app.specs.Script.{script_of}
+use Rattle.jac_serving.specs.Script.{script_of}
 use Rattle.jac_opening.specs.Application.{IsApplication}
-use Rattle.jac_app.specs.Outside.{Span, AWriteFailed}
+use Rattle.jac_serving.specs.Outside.{Span, AWriteFailed}
 use Rattle.jac_words.specs.Words.{command_of}
 use Rattle.jac_words.specs.Commands.{db_of}
 use Rattle.jac_app.specs.Files.{Sight, sinks_of, IsRead, HasApplication, IsOpened, IsUnopened}

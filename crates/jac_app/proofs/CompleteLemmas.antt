@@ -14,9 +14,9 @@ use Rattle.jac_words.specs.declared.role.Role.TheVariants as roles
 use Rattle.jac_app.specs.declared.summary.Summary.{Summary}
 use Rattle.jac_app.specs.declared.status.Status.{Status}
 use Rattle.jac_app.specs.declared.status.Status.TheVariants as statuses
-use Rattle.jac_app.specs.Script.{script_of}
+use Rattle.jac_serving.specs.Script.{script_of}
 use Rattle.jac_opening.specs.Application.{IsApplication}
-use Rattle.jac_app.specs.Outside.{Span, AWriteFailed}
+use Rattle.jac_serving.specs.Outside.{Span, AWriteFailed}
 use Rattle.jac_words.specs.Words.{command_of}
 use Rattle.jac_words.specs.Commands.{file_of, name_of, name_or_empty, limit_of}
 use Rattle.jac_demo.specs.Calendar.{calendar_text}

@@ -28,38 +28,24 @@ use Rattle.jac_app.specs.declared.ending.Ending.TheVariants as endings
 use Rattle.jac_app.specs.declared.summary.Summary.{Summary}
 use Rattle.jac_app.specs.declared.summary.Tally.{Tally}
 use Rattle.jac_app.specs.Asked.{ask_in}
-use Rattle.jac_app.specs.Demo.{asks_by, bytes_in, labels_shown, labels_in, summary_of, tally_of, counted, WentTo, IsCounted, PutsTally, TalliesAsk, TearsAsk, TalliesLine, Tallied, TalliedTorn, Tallies, IsTalliedOn, EndsTallying, PutsSummary, IsTold, EndsCounting, summary_line, demo_script}
+use Rattle.jac_app.specs.Demo.{asks_by, bytes_in, labels_shown, labels_in, summary_of, tally_of, counted, IsCounted, PutsTally, TalliesAsk, TearsAsk, TalliesLine, Tallied, TalliedTorn, Tallies, IsTalliedOn, EndsTallying, PutsSummary, IsTold, EndsCounting, summary_line, demo_script}
 use Rattle.jac_replies.specs.Failed.{status_of_stop}
-use Rattle.jac_app.specs.Log.{Entry, Brings, IsHeardBy, method_of, audit_line, audited}
+use Rattle.jac_app.specs.Log.{hearing}
+use Rattle.jac_serving.specs.Answering.{Entry, IsHeardBy}
+use Rattle.jac_serving.specs.Log.{Brings, method_of, audit_line, audited}
 use Rattle.jac_replies.specs.Spelled.{audit_text}
-use Rattle.jac_app.specs.Outside.{Span, span, sinks, IsFront, IsPut, Went, WentAimed}
+use Rattle.jac_serving.specs.Outside.{Span, span, sinks, IsFront, IsPut, Went, WentAimed, WentTo}
 use Rattle.jac_app.specs.Replay.{AttachesAs}
-use Rattle.jac_app.specs.Script.{Script, script_from, script_of, script_step}
-use Rattle.jac_app.specs.Serve.{IsEntryOf, AreEntries}
-use Rattle.jac_app.proofs.OutsideLemmas.{Lasts-none, Lasts-then, Took-none, Took-then, Rose-widen}
+use Rattle.jac_serving.specs.Script.{Script, script_from, script_of, script_step}
+use Rattle.jac_app.specs.Answered.{IsEntryOf, AreEntries, answering_of}
+use Rattle.jac_serving.proofs.OutsideLemmas.{Lasts-none, Lasts-then, Took-none, Took-then, Rose-widen}
 use Rattle.jac_app.proofs.ReplayLemmas.{is_attached, text_on}
 use Rattle.jac_app.proofs.EntryLemmas.{is_made}
-use Rattle.jac_app.proofs.EntriesLemmas.{entries-none, entries-one, entries-then, entries-still}
-use Rattle.jac_app.proofs.BringsLemmas.{brings-push, brings-begun}
-use Rattle.jac_app.proofs.EventLemmas.{ask_entry}
-use Rattle.jac_app.proofs.ProgressLemmas.{served_before, served_push, audited_more, heard_by, is_served_by, nothing_more, early_is_not_whole}
-
--- what follows of the bytes that went to a sink
-pub WentTo-on : (s : Span SinkSeen) (P Q : List ℕ → Type 0) → ((put : List ℕ) → P put → Q put) → WentTo s P → WentTo s Q
-WentTo-on s P Q f went = record { put = went.put; lasts = went.lasts; took = went.took; holds = f went.put went.holds }
-
--- nothing was put
-pub WentTo-none : (a : SinkSeen) (P : List ℕ → Type 0) → P [] → WentTo (span a a) P
-WentTo-none a P h = record { put = []; lasts = Lasts-none a; took = Took-none a; holds = h }
-
--- two steps, of which the bytes are joined
-pub WentTo-then : (a b c : SinkSeen) (P Q R : List ℕ → Type 0) → ((x y : List ℕ) → P x → Q y → R (x ++ y)) → WentTo (span a b) P → WentTo (span b c) Q → WentTo (span a c) R
-WentTo-then a b c P Q R f one two = record {
-  put = one.put ++ two.put;
-  lasts = Lasts-then a b c one.lasts two.lasts;
-  took = Took-then a b c one.put two.put two.lasts.told one.took two.took;
-  holds = f one.put two.put one.holds two.holds;
-}
+use Rattle.jac_app.proofs.EntriesLemmas.{entries-none, entries-one, entries-then}
+use Rattle.jac_serving.proofs.EntriesLemmas.{entries-still}
+use Rattle.jac_serving.proofs.BringsLemmas.{brings-push, brings-begun}
+use Rattle.jac_serving.proofs.EventLemmas.{ask_entry}
+use Rattle.jac_serving.proofs.ProgressLemmas.{served_before, served_push, audited_more, heard_by, is_served_by, nothing_more, early_is_not_whole}
 
 -- a whole put, and a torn one
 pub WentTo-whole : (s : Span SinkSeen) (line : List ℕ) (tally : Tally) (done : Unit {0}) → IsPut {E = Failed} s line (Ok done) → WentTo s (PutsTally line tally (Ok tally))
@@ -145,7 +131,7 @@ pub record Tallying (app : Application) (k : Span KeeperSeen) (bytes : List ℕ)
   pub text : List ℕ
   pub script : served_before events (script_from (parts_left 10 left) (lines + 1) (λ c. false)) ≡ script_of bytes
   pub entries : AreEntries app k log
-  pub brought : Brings app [] no_connections 0 events log text no_connections
+  pub brought : Brings (answering_of app []) no_connections 0 events log text no_connections
   pub audit_text : audit ≡ audited log
   pub summary_is : summary ≡ summary_of log
 
@@ -184,7 +170,7 @@ tally_more : (app : Application) (a b c : KeeperSeen) (bytes : List ℕ) (left a
 tally_more app a b c bytes left after summary audit line au viewer method path query body tally p parts is h =
     let event = Asking viewer method path query body in
     let answer = h.0 in
-    let entry = ask_entry app (0 + length p.events) (ask_in app viewer method path query body) answer in
+    let entry = ask_entry (0 + length p.events) (ask_in app viewer method path query body) answer in
     let asks = asks_counted summary p.log p.summary_is in
     record {
       lines = p.lines + 1;
@@ -195,7 +181,7 @@ tally_more app a b c bytes left after summary audit line au viewer method path q
           served_push p.events event (script_from (parts_left 10 after) (p.lines + 1 + 1) (λ c. false))
           ∙ written_next p line (parts_left 10 after) (Some (Some event)) parts is;
       entries = entries-then app a b c p.log (entry ∷ []) p.entries (entries-one app b c entry h.1);
-      brought = brings-push app [] p.events no_connections no_connections 0 p.log (entry ∷ []) p.text event p.brought (answer, refl);
+      brought = brings-push (answering_of app []) p.events no_connections no_connections 0 p.log (entry ∷ []) p.text event p.brought (answer, refl);
       audit_text = audited_more p.log (entry ∷ []) summary.asks audit au asks p.audit_text (h.2 ∙ sym (append-nil (audit_line (summary.asks + 1) entry)));
       summary_is =
           ap (λ (s : Summary). counted s method tally) p.summary_is ∙ ap (λ (t : Tally). counted (summary_of p.log) method t) h.3
@@ -212,7 +198,7 @@ tally_same app a b c bytes left after summary audit line p parts is still = reco
   log = p.log;
   text = p.text;
   script = written_next p line (parts_left 10 after) (Some None) parts is;
-  entries = entries-still app a b c p.log p.entries still;
+  entries = entries-still (answering_of app []) a b c p.log p.entries still;
   brought = p.brought;
   audit_text = p.audit_text;
   summary_is = p.summary_is;
@@ -243,11 +229,11 @@ tally_on app a b c bytes left after summary new audit line au (Some (Some (Finis
 -- the lines so far were served, and no more
 tallied_with : (early : Bool) (app : Application) (a b c : KeeperSeen) (bytes : List ℕ) (left : Option (List ℕ)) (summary : Summary) (audit : List ℕ) (unserved : List Event)
     → (p : Tallying app (span a b) bytes left summary audit) → c ≡ b → (script_of bytes).events ≡ p.events ++ unserved → (early ≡ false → unserved ≡ [])
-    → Tallied early app (span a c) a.state (script_of bytes).events p.log audit
+    → Tallied early app (span a c) (script_of bytes).events p.log audit
 tallied_with early app a b c bytes left summary audit unserved p still parts ended = record {
   served =
-      is_served_by early app [] a c (script_of bytes).events p.log
-      (heard_by early app [] p.events unserved (script_of bytes).events p.log p.text no_connections p.brought parts ended) (entries-still app a b c p.log p.entries still);
+      is_served_by early (answering_of app []) a c (script_of bytes).events p.log
+      (heard_by early (answering_of app []) p.events unserved (script_of bytes).events p.log p.text no_connections p.brought parts ended) (entries-still (answering_of app []) a b c p.log p.entries still);
   audit_text = p.audit_text;
 }
 
@@ -257,11 +243,11 @@ tally_torn : (app : Application) (a b c : KeeperSeen) (bytes : List ℕ) (left a
     → Tallying app (span a b) bytes left summary audit → parts_left 10 left ≡ line ∷ parts_left 10 after
     → line_of line ≡ Some (Some (Asking viewer method path query body))
     → TearsAsk app (span b c) summary.asks (ask_in app viewer method path query body) au
-    → TalliedTorn app (span a c) a.state (script_of bytes).events (audit ++ au)
+    → TalliedTorn app (span a c) (script_of bytes).events (audit ++ au)
 tally_torn app a b c bytes left after summary audit line au viewer method path query body p parts is h =
     let event = Asking viewer method path query body in
     let answer = h.0 in
-    let entry = ask_entry app (0 + length p.events) (ask_in app viewer method path query body) answer in
+    let entry = ask_entry (0 + length p.events) (ask_in app viewer method path query body) answer in
     let unserved = (script_from (parts_left 10 after) (p.lines + 1 + 1) (λ c. false)).events in
     let all : (script_of bytes).events ≡ p.events ++ event ∷ unserved =
     ap (λ (s : Script). s.events) (sym (written_next p line (parts_left 10 after) (Some (Some event)) parts is)) in
@@ -270,9 +256,9 @@ tally_torn app a b c bytes left after summary audit line au viewer method path q
       entry = entry;
       more = au;
       served =
-          is_served_by true app [] a c (script_of bytes).events (p.log ++ entry ∷ [])
-          (subst (λ (es : List Event). IsHeardBy true app [] es (p.log ++ entry ∷ [])) (sym all)
-          (brings-begun app [] p.events unserved event no_connections no_connections 0 p.log (entry ∷ []) p.text p.brought (inr (answer, refl))))
+          is_served_by true (answering_of app []) a c (script_of bytes).events (p.log ++ entry ∷ [])
+          (subst (λ (es : List Event). IsHeardBy true (hearing app []) es (p.log ++ entry ∷ [])) (sym all)
+          (brings-begun (answering_of app []) p.events unserved event no_connections no_connections 0 p.log (entry ∷ []) p.text p.brought (inr (answer, refl))))
           (entries-then app a b c p.log (entry ∷ []) p.entries (entries-one app b c entry h.1));
       torn = subst (λ (n : ℕ). IsFront au (audit_line (n + 1) entry)) (sym (asks_counted summary p.log p.summary_is)) h.2;
       audit_text = ap (λ (t : List ℕ). t ++ au) p.audit_text;
@@ -281,10 +267,10 @@ tally_torn app a b c bytes left after summary audit line au viewer method path q
 -- serving stopped at a line
 pub tally_stop : (app : Application) (a b c : KeeperSeen) (bytes : List ℕ) (left after : Option (List ℕ)) (summary : Summary) (audit line au : List ℕ) (written : Option (Option Event)) (fault : DemoFault)
     → Tallying app (span a b) bytes left summary audit → parts_left 10 left ≡ line ∷ parts_left 10 after → line_of line ≡ written
-    → TalliesLine app (span b c) summary written (Err fault) au → Tallies app (span a c) a.state (script_of bytes) (Err fault) (audit ++ au)
+    → TalliesLine app (span b c) summary written (Err fault) au → Tallies app (span a c) (script_of bytes) (Err fault) (audit ++ au)
 tally_stop app a b c bytes left after summary audit line au written faults.Memory p parts is h = (
   p.log,
-  subst (λ (t : List ℕ). Tallied true app (span a c) a.state (script_of bytes).events p.log t) (nothing_more audit au h.0)
+  subst (λ (t : List ℕ). Tallied true app (span a c) (script_of bytes).events p.log t) (nothing_more audit au h.0)
       (tallied_with true app a b c bytes left summary audit _ p h.1 (ap (λ (s : Script). s.events) (sym p.script)) early_is_not_whole),
 )
 tally_stop app a b c bytes left after summary audit line au None faults.Write p parts is h = absurd h
@@ -298,7 +284,7 @@ tally_stop app a b c bytes left after summary audit line au (Some (Some (Finish 
 -- no line is left
 pub tally_all : (app : Application) (a b : KeeperSeen) (bytes : List ℕ) (left : Option (Bor (List ℕ))) (summary : Summary) (audit : List ℕ)
     → ((rest : Bor (List ℕ)) → left ≡ Some rest → ⊥) → Tallying app (span a b) bytes (option_now left) summary audit
-    → Tallies app (span a b) a.state (script_of bytes) (Ok summary) audit
+    → Tallies app (span a b) (script_of bytes) (Ok summary) audit
 tally_all app a b bytes None summary audit none p = (
   ap (λ (s : Script). s.refused) (sym p.script),
   (
@@ -316,7 +302,7 @@ short_calendar = omega arith
 
 -- memory ran out before the first request
 pub tally_none : (app : Application) (k : KeeperSeen) (count : ℕ) → (IsTrue k.tells → IsStart app k.state)
-    → Tallies app (span k k) k.state (demo_script count) (Err faults.Memory) []
+    → Tallies app (span k k) (demo_script count) (Err faults.Memory) []
 tally_none app k count start =
     let none = summary_of [] in
     let p = tally_start app k (demo_text count) none refl start in
@@ -338,7 +324,7 @@ tally_unattached app k count endings.WriteFault h = absurd h
 -- the requests were answered on an attached store
 pub tallied_on : (app : Application) (before opened after : KeeperSeen) (count : ℕ) (result : Result Summary DemoFault) (audit : List ℕ)
     → AttachesAs None app (span before opened) (Ok tt) → after.store ≡ opened.store
-    → Tallies app (span opened after) opened.state (demo_script count) result audit → IsTalliedOn app (span before after) count result audit
+    → Tallies app (span opened after) (demo_script count) result audit → IsTalliedOn app (span before after) count result audit
 tallied_on app before opened after count result audit attaches stays h = record {
   opened = opened;
   attached = is_attached None app before opened after attaches stays;

@@ -16,11 +16,11 @@ use Rattle.jac_rows.specs.Tables.{rows_of, rows_or_none}
 use Rattle.jac_keep.specs.KeeperSeen.{KeeperSeen, Store, IsLeft}
 use Rattle.jac_app.specs.declared.ending.Ending.{Ending}
 use Rattle.jac_app.specs.declared.ending.Ending.TheVariants as endings
-use Rattle.jac_app.specs.Outside.{Span, span}
+use Rattle.jac_serving.specs.Outside.{Span, span}
 use Rattle.jac_app.specs.Ending.{Closed}
 use Rattle.jac_app.specs.Replay.{AttachesAs}
 use Rattle.jac_app.specs.Dump.{record_line, table_text, tables_text, number_line, dump_text, EndsRead, IsDumped, EndsDumping}
-use Rattle.jac_app.proofs.OutsideLemmas.{Lasts-none, Took-none, Rose-widen}
+use Rattle.jac_serving.proofs.OutsideLemmas.{Lasts-none, Took-none, Rose-widen}
 use Rattle.jac_app.proofs.ReplayLemmas.{is_attached}
 
 -- the text of the tables from one on

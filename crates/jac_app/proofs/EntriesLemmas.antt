@@ -7,21 +7,12 @@ use Rattle.jac_keep.specs.KeeperSeen.{KeeperSeen}
 use Rattle.jac_plain.specs.Requests.{Worlds}
 use Rattle.jac_engine.specs.Prepared.{worlds_of}
 use Rattle.jac_engine.specs.Start.{IsStart}
-use Rattle.jac_app.specs.Keeping.{Grew}
-use Rattle.jac_app.specs.Log.{Entry, AreFormed, AreAnswered, after_entry, after_log, faults_in, reply_line, audit_line, replies_text, audited_from}
-use Rattle.jac_app.specs.Outside.{span}
-use Rattle.jac_app.specs.Serve.{IsEntryOf, AreEntries}
-
-pub replies-append : (xs ys : List Entry) → replies_text (xs ++ ys) ≡ replies_text xs ++ replies_text ys
-replies-append [] ys = refl
-replies-append (x ∷ xs) ys = ap (λ (rest : List ℕ). reply_line x ++ rest) (replies-append xs ys) ∙ sym (append_assoc (reply_line x) (replies_text xs) (replies_text ys))
-
-pub audited-append : (k : ℕ) (xs ys : List Entry) → audited_from k (xs ++ ys) ≡ audited_from k xs ++ audited_from (k + length xs) ys
-audited-append k [] ys = ap (λ (n : ℕ). audited_from n ys) (omega arith)
-audited-append k (x ∷ xs) ys =
-    ap (λ (rest : List ℕ). audit_line k x ++ rest)
-    (audited-append (k + 1) xs ys ∙ ap (λ (n : ℕ). audited_from (k + 1) xs ++ audited_from n ys) (omega arith))
-    ∙ sym (append_assoc (audit_line k x) (audited_from (k + 1) xs) (audited_from (k + length (x ∷ xs)) ys))
+use Rattle.jac_serving.specs.Keeping.{Grew}
+use Rattle.jac_serving.specs.Answering.{Entry}
+use Rattle.jac_serving.specs.Log.{reply_line, audit_line, replies_text, audited_from}
+use Rattle.jac_app.specs.Log.{AreFormed, AreAnswered, after_entry, after_log, faults_in}
+use Rattle.jac_serving.specs.Outside.{span}
+use Rattle.jac_app.specs.Answered.{IsEntryOf, AreEntries}
 
 after_log-append : (w : ℕ → Bool) (app : Application) (xs ys : List Entry) (t : PlainState) → after_log w app (xs ++ ys) t ≡ after_log w app ys (after_log w app xs t)
 after_log-append w app [] ys t = refl
@@ -89,7 +80,3 @@ entries-then app a b c xs ys one two = record {
       subst (λ (n : ℕ). Grew a.faults n c.faults) (sym (faults_in-append xs ys))
       (grew_then a.faults b.faults c.faults (faults_in xs) (faults_in ys) one.faults two.faults);
 }
-
--- the keeper wasn't called
-pub entries-still : (app : Application) (a b c : KeeperSeen) (log : List Entry) → AreEntries app (span a b) log → c ≡ b → AreEntries app (span a c) log
-entries-still app a b c log entries still = subst (λ (k : KeeperSeen). AreEntries app (span a k) log) (sym still) entries

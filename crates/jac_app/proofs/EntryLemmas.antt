@@ -31,10 +31,11 @@ use Rattle.jac_hub.specs.Hearing.{whole, refused}
 use Rattle.jac_hub.specs.Refusals.{is_refusal}
 use Rattle.jac_app.specs.declared.answer.Via.{Via}
 use Rattle.jac_replies.specs.Failed.{status_of_stop}
-use Rattle.jac_app.specs.Keeping.{Grew}
-use Rattle.jac_app.specs.Log.{Subject, HasFailed, IsAnswer, IsFormed, left_of, refused_with, is_fault, is_failure}
-use Rattle.jac_app.specs.Outside.{Span}
-use Rattle.jac_app.specs.Serve.{IsAnswerMade, IsEntryOf}
+use Rattle.jac_serving.specs.Keeping.{Grew}
+use Rattle.jac_serving.specs.Answering.{Subject, is_failure}
+use Rattle.jac_app.specs.Log.{HasFailed, IsAnswer, IsFormed, left_of, refused_with, is_fault}
+use Rattle.jac_serving.specs.Outside.{Span}
+use Rattle.jac_app.specs.Answered.{IsAnswerMade, IsEntryOf}
 
 -- what leaves a start may be stored
 pub sound_if : (app : Application) (s : State) (change : Option Change) → IsStart app (applied_if change s) → IfSome change (λ c. IsSound (applied c s))

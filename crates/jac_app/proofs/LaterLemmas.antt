@@ -14,8 +14,8 @@ use Rattle.jac_app.specs.declared.ending.Ending.TheVariants as endings
 use Rattle.jac_words.specs.declared.role.Role.{Role}
 use Rattle.jac_words.specs.declared.role.Role.TheVariants as roles
 use Rattle.jac_app.specs.declared.status.Status.{Status}
-use Rattle.jac_app.specs.Script.{Script, script_of}
-use Rattle.jac_app.specs.Outside.{Span, span, AWriteFailed}
+use Rattle.jac_serving.specs.Script.{Script, script_of}
+use Rattle.jac_serving.specs.Outside.{Span, span, AWriteFailed}
 use Rattle.jac_words.specs.Commands.{db_of}
 use Rattle.jac_app.specs.Files.{Sight, sinks_of, IsRead, HasApplication, IsOpened, IsReached}
 use Rattle.jac_app.specs.Ending.{Closes, Finishes, fault_line, status_of}
@@ -28,7 +28,7 @@ use Rattle.jac_world.specs.World.{shown}
 use Rattle.jac_app.specs.Demo.{EndsDemo, IsUncounted, EndsCounting, IsTold}
 use Rattle.jac_app.proofs.DemoLemmas.{summary_on}
 use Rattle.jac_app.proofs.ReplayLemmas.{text_on}
-use Rattle.jac_app.proofs.OutsideLemmas.{Rose-widen, failed_later}
+use Rattle.jac_serving.proofs.OutsideLemmas.{Rose-widen, failed_later}
 
 -- the same, seen when out is a later one
 abbrev pub at_later : Sight → SinkSeen → Sight

@@ -11,21 +11,22 @@ use Rattle.jac_app.specs.declared.ending.Ending.{Ending}
 use Rattle.jac_app.specs.declared.ending.Ending.TheVariants as endings
 use Rattle.jac_words.specs.declared.role.Role.{Role}
 use Rattle.jac_words.specs.declared.role.Role.TheVariants as roles
-use Rattle.jac_app.specs.declared.serve.Stopped.{Stopped}
-use Rattle.jac_app.specs.declared.serve.Stopped.TheVariants as stops
-use Rattle.jac_app.specs.Script.{Script, script_of}
+use Rattle.jac_serving.specs.declared.serve.Stopped.{Stopped}
+use Rattle.jac_serving.specs.declared.serve.Stopped.TheVariants as stops
+use Rattle.jac_serving.specs.Script.{Script, script_of}
 use Rattle.jac_opening.specs.Application.{IsApplication}
 use Rattle.jac_opening.specs.Refusal.{HasRefusal, refusal_text}
 use Rattle.jac_opening.specs.declared.refusal.Refusal.{Refusal}
 use Rattle.jac_opening.specs.declared.refusal.Refusal.TheVariants as refusals
-use Rattle.jac_app.specs.Outside.{Span, span, Sinks, sinks, Took, Went, WentAimed, AWriteFailed}
-use Rattle.jac_app.specs.Serve.{ServesAs}
+use Rattle.jac_app.specs.Answered.{answering_of}
+use Rattle.jac_serving.specs.Outside.{Span, span, Sinks, sinks, Took, Went, WentAimed, AWriteFailed}
+use Rattle.jac_serving.specs.Serve.{ServesAs}
 use Rattle.jac_words.specs.Commands.{file_of, name_of, audit_of, db_of, name_or_empty, limit_of}
 use Rattle.jac_app.specs.Files.{Sight, sinks_of, IsReadAs, IsRead, HasSessions, HasBadLine, IsSessionless, HasApplication, IsOpened, IsReached, IsAimed, IsIdle, IsUnread, IsUnopened}
 use Rattle.jac_app.specs.Ending.{ending_of}
 use Rattle.jac_app.specs.Check.{PutsText}
 use Rattle.jac_app.specs.Replay.{IsAttached, AttachesAs, EndsServed, IsServedOn, EndsAttaching, EndsServing, EndsOpening, IsEndedEarly, EndsReplay}
-use Rattle.jac_app.proofs.OutsideLemmas.{Lasts-none, Took-none, Rose-widen, failed_later}
+use Rattle.jac_serving.proofs.OutsideLemmas.{Lasts-none, Took-none, Rose-widen, failed_later}
 
 -- what is seen of files between two moments of a run
 pub record IsWithin (files part : Span FilesSeen) : Type 0 where
@@ -134,15 +135,15 @@ is_attached db app before opened after h stays = record { attaches = h.0; fit = 
 module _ (db : Option (List ℕ)) (app : Application) (sessions : List Session) (before opened after : KeeperSeen) (events : List ℕ)
     (attaches : AttachesAs db app (span before opened) (Ok tt)) (stays : after.store ≡ opened.store) where
   on : (result : Result (Unit {0}) Ending) (o a : List ℕ)
-      → EndsServed app sessions (span opened after) opened.state (script_of events) result o a
+      → EndsServed app sessions (span opened after) (script_of events) result o a
       → IsServedOn db app sessions (span before after) (script_of events) result o a
   on result o a ends = record { opened = opened; attached = is_attached db app before opened after attaches stays; ends = ends }
 
-  pub serve_whole : (done : Unit {0}) (o a : List ℕ) → ServesAs app sessions (span opened after) opened.state events (Ok done) o a
+  pub serve_whole : (done : Unit {0}) (o a : List ℕ) → ServesAs (answering_of app sessions) (span opened after) events (Ok done) o a
       → EndsAttaching db app sessions (span before after) (script_of events) (Ok done) o a
   serve_whole done o a h = on (Ok done) o a h
 
-  pub serve_stopped : (stopped : Stopped) (o a : List ℕ) → ServesAs app sessions (span opened after) opened.state events (Err stopped) o a
+  pub serve_stopped : (stopped : Stopped) (o a : List ℕ) → ServesAs (answering_of app sessions) (span opened after) events (Err stopped) o a
       → EndsAttaching db app sessions (span before after) (script_of events) (Err (ending_of stopped)) o a
   serve_stopped (stops.Refused lapse) o a h = on (Err (endings.LineRefused lapse)) o a h
   serve_stopped stops.Write o a h = on (Err endings.WriteFault) o a h

@@ -9,18 +9,19 @@ use Rattle.jac_keep.specs.KeeperSeen.{KeeperSeen}
 use Rattle.jac_route.specs.declared.sessions.Session.{Session}
 use Rattle.jac_words.specs.declared.words.Command.TheVariants as commands
 use Rattle.jac_words.specs.declared.words.Serving.{Serving}
-use Rattle.jac_app.specs.declared.door.DoorHalt.{DoorHalt}
-use Rattle.jac_app.specs.declared.door.DoorHalt.TheVariants as halts
-use Rattle.jac_app.specs.declared.door.Tally.{Tally}
+use Rattle.jac_links.specs.declared.door.DoorHalt.{DoorHalt}
+use Rattle.jac_links.specs.declared.door.DoorHalt.TheVariants as halts
+use Rattle.jac_links.specs.declared.door.Tally.{Tally}
 use Rattle.jac_app.specs.declared.ending.Ending.{Ending}
 use Rattle.jac_app.specs.declared.ending.Ending.TheVariants as endings
-use Rattle.jac_app.specs.Outside.{Span, span, Sinks, sinks, IsPut, Went, WentTo, WentAimed, AWriteFailed}
+use Rattle.jac_app.specs.Answered.{answering_of}
+use Rattle.jac_serving.specs.Outside.{Span, span, Sinks, sinks, IsPut, Went, WentTo, WentAimed, AWriteFailed}
 use Rattle.jac_app.specs.Files.{Sight, sinks_of, HasApplication, HasSessions, IsAimed}
 use Rattle.jac_app.specs.Replay.{AttachesAs}
-use Rattle.jac_app.specs.Door.{Visit, IsEnding, AreLinksServed}
-use Rattle.jac_app.specs.Log.{Entry}
+use Rattle.jac_links.specs.Door.{Visit, IsEnding, AreLinksServed}
+use Rattle.jac_serving.specs.Answering.{Entry}
 use Rattle.jac_app.specs.Server.{served_line, halted, EndsConnections, IsListenedAt, EndsDoor, IsServedAt, EndsAttached, EndsAimed, EndsServer}
-use Rattle.jac_app.proofs.OutsideLemmas.{Lasts-none, Took-none, Rose-widen}
+use Rattle.jac_serving.proofs.OutsideLemmas.{Lasts-none, Took-none, Rose-widen}
 use Rattle.jac_app.proofs.ReplayLemmas.{is_attached}
 
 -- a door that halted ends the command by a write fault only where a put on the audit failed
@@ -33,7 +34,7 @@ write_failed s halts.Memory ending is rose same = cc
 module _ {L : Type 0} (line : L → LinkSeen) (app : Application) (sessions : List Session) where
   -- the connections were served, and it was told how many
   pub served_told : (most : ℕ) (door : Span (DoorSeen L)) (k : Span KeeperSeen) (out_before out_after audit_before audit_after : SinkSeen) (tally : Tally) (put done : Unit {0})
-      → WentTo (span audit_before audit_after) (AreLinksServed line app sessions most door k (Ok tally)) → IsPut {E = Failed} (span out_before out_after) (served_line tally) (Ok put)
+      → WentTo (span audit_before audit_after) (AreLinksServed line (answering_of app sessions) most door k (Ok tally)) → IsPut {E = Failed} (span out_before out_after) (served_line tally) (Ok put)
       → Went (sinks out_before out_after audit_before audit_after) (EndsConnections line app sessions most door k (Ok done))
   served_told most door k out_before out_after audit_before audit_after tally put done went told = record {
     out = told.put;
@@ -47,7 +48,7 @@ module _ {L : Type 0} (line : L → LinkSeen) (app : Application) (sessions : Li
 
   -- that put failed
   pub served_torn : (most : ℕ) (door : Span (DoorSeen L)) (k : Span KeeperSeen) (out_before out_after audit_before audit_after : SinkSeen) (tally : Tally) (failed : Failed)
-      → WentTo (span audit_before audit_after) (AreLinksServed line app sessions most door k (Ok tally)) → IsPut {E = Failed} (span out_before out_after) (served_line tally) (Err failed)
+      → WentTo (span audit_before audit_after) (AreLinksServed line (answering_of app sessions) most door k (Ok tally)) → IsPut {E = Failed} (span out_before out_after) (served_line tally) (Err failed)
       → Went (sinks out_before out_after audit_before audit_after) (EndsConnections line app sessions most door k (Err endings.WriteFault))
   served_torn most door k out_before out_after audit_before audit_after tally failed went told = record {
     out = told.put;
@@ -59,7 +60,7 @@ module _ {L : Type 0} (line : L → LinkSeen) (app : Application) (sessions : Li
     holds = inr (tally, went.holds, told.is_put);
   }
 
-  halted_as : (most : ℕ) (door : Span (DoorSeen L)) (k : Span KeeperSeen) (halt : DoorHalt) (audit : List ℕ) → AreLinksServed line app sessions most door k (Err halt) audit
+  halted_as : (most : ℕ) (door : Span (DoorSeen L)) (k : Span KeeperSeen) (halt : DoorHalt) (audit : List ℕ) → AreLinksServed line (answering_of app sessions) most door k (Err halt) audit
       → EndsConnections line app sessions most door k (Err (halted halt)) [] audit
   halted_as most door k halts.Door audit h = (h, refl)
   halted_as most door k halts.Write audit h = inl (h, refl)
@@ -67,7 +68,7 @@ module _ {L : Type 0} (line : L → LinkSeen) (app : Application) (sessions : Li
 
   -- serving them ended early
   pub served_part : (most : ℕ) (door : Span (DoorSeen L)) (k : Span KeeperSeen) (out audit_before audit_after : SinkSeen) (halt : DoorHalt)
-      → WentTo (span audit_before audit_after) (AreLinksServed line app sessions most door k (Err halt))
+      → WentTo (span audit_before audit_after) (AreLinksServed line (answering_of app sessions) most door k (Err halt))
       → Went (sinks out out audit_before audit_after) (EndsConnections line app sessions most door k (Err (halted halt)))
   served_part most door k out audit_before audit_after halt went = record {
     out = [];
@@ -90,7 +91,7 @@ module _ {L : Type 0} (line : L → LinkSeen) (app : Application) (sessions : Li
     ending_from most visits last log (Err halts.Memory) h = h
 
     links_from : (most : ℕ) (k : Span KeeperSeen) (result : Result Tally DoorHalt) (audit : List ℕ)
-        → AreLinksServed line app sessions most (span db dc) k result audit → AreLinksServed line app sessions most (span da dc) k result audit
+        → AreLinksServed line (answering_of app sessions) most (span db dc) k result audit → AreLinksServed line (answering_of app sessions) most (span da dc) k result audit
     links_from most k result audit s = record {
       visits = s.visits;
       last = s.last;

@@ -6,7 +6,7 @@ use Rattle.jac_lang.specs.Syntax.{Application}
 use Rattle.jac_words.specs.declared.words.Command.{Command}
 use Rattle.jac_app.specs.declared.ending.Ending.{Ending}
 use Rattle.jac_app.specs.declared.ending.Ending.TheVariants as endings
-use Rattle.jac_app.specs.Outside.{Span, IsFront}
+use Rattle.jac_serving.specs.Outside.{Span, IsFront}
 use Rattle.jac_app.specs.Files.{Sight, HasApplication, IsIdle}
 use Rattle.jac_app.specs.Replay.{IsEndedEarly}
 

@@ -4,10 +4,9 @@ use Rattle.std.specs.Str.{bytes_eq}
 use Rattle.jac_demo.specs.Calendar.{calendar_text}
 use Rattle.jac_demo.specs.Requests.{demo_text}
 use Rattle.jac_io.specs.Faults.{Rose}
-use Rattle.jac_io.specs.Seen.{SinkSeen, Lasts}
+use Rattle.jac_io.specs.Seen.{SinkSeen}
 use Rattle.jac_io.specs.declared.sink.Failed.{Failed}
 use Rattle.jac_lang.specs.Syntax.{Application}
-use Rattle.jac_rows.specs.declared.state.State.{State}
 use Rattle.jac_keep.specs.KeeperSeen.{KeeperSeen}
 use Rattle.jac_replies.specs.declared.answer.Answer.{Answer}
 use Rattle.jac_replies.specs.declared.answer.Ask.{Ask}
@@ -25,13 +24,15 @@ use Rattle.jac_opening.specs.Application.{IsApplication, schema_text}
 use Rattle.jac_app.specs.Asked.{ask_in}
 use Rattle.jac_app.specs.Check.{PutsText}
 use Rattle.jac_app.specs.Files.{IsAimed, IsIdle, IsUnopened}
-use Rattle.jac_app.specs.Keeping.{IsStill}
-use Rattle.jac_app.specs.Log.{Entry, method_of, audit_line, audited}
+use Rattle.jac_serving.specs.Keeping.{IsStill}
+use Rattle.jac_serving.specs.Answering.{Entry}
+use Rattle.jac_serving.specs.Log.{method_of, audit_line, audited}
 use Rattle.jac_replies.specs.Spelled.{audit_text}
-use Rattle.jac_app.specs.Outside.{Span, span, Sinks, Took, IsFront}
+use Rattle.jac_serving.specs.Outside.{Span, span, Sinks, Took, IsFront}
 use Rattle.jac_app.specs.Replay.{IsAttached, IsUnattached, IsOther}
-use Rattle.jac_app.specs.Script.{Script, script_of}
-use Rattle.jac_app.specs.Serve.{IsAnswerMade, IsEntryOf, IsServed}
+use Rattle.jac_serving.specs.Script.{Script, script_of}
+use Rattle.jac_app.specs.Answered.{IsAnswerMade, IsEntryOf, answering_of}
+use Rattle.jac_serving.specs.Serve.{IsServed}
 
 -- how many entries are of requests by this method
 abbrev pub asks_by : List ℕ → List Entry → ℕ
@@ -94,13 +95,6 @@ sizes_text summary = decimal summary.gets ++ codes " bytes " ++ decimal summary.
 abbrev pub summary_line : Summary → List ℕ
 summary_line summary = counts_text summary ++ sizes_text summary ++ codes "\n"
 
--- some bytes went to a sink, and of these it holds; it isn't aimed anew
-pub record WentTo (sink : Span SinkSeen) (Holds : List ℕ → Type 0) : Type 0 where
-  pub put : List ℕ
-  pub lasts : Lasts sink.before sink.after
-  pub took : Took sink put
-  pub holds : Holds put
-
 -- a request was answered and its answer stored; this follows the number of its audit line, and this is counted of it
 pub record IsCounted (app : Application) (k : Span KeeperSeen) (ask : Ask) (audit : List ℕ) (tally : Tally) : Type 0 where
   pub reply : List ℕ
@@ -143,27 +137,27 @@ TalliesLine app k summary None result audit = ⊥
 TalliesLine app k summary (Some None) result audit = (result ≡ Ok summary) × (audit ≡ []) × IsStill k
 TalliesLine app k summary (Some (Some event)) result audit = TalliesEvent app k summary event result audit
 
--- these events were served from this start on, or, where it may stop early, the first of them; the audit has the lines
+-- these events were served, or, where it may stop early, the first of them; the audit has the lines
 -- of the log
-pub record Tallied (early : Bool) (app : Application) (k : Span KeeperSeen) (start : State) (events : List Event) (log : List Entry) (audit : List ℕ) : Type 0 where
-  pub served : IsServed early app [] k start events log
+pub record Tallied (early : Bool) (app : Application) (k : Span KeeperSeen) (events : List Event) (log : List Entry) (audit : List ℕ) : Type 0 where
+  pub served : IsServed early (answering_of app []) k events log
   pub audit_text : audit ≡ audited log
 
 -- the first events were served, and the audit line of the last of these was torn
-pub record TalliedTorn (app : Application) (k : Span KeeperSeen) (start : State) (events : List Event) (audit : List ℕ) : Type 0 where
+pub record TalliedTorn (app : Application) (k : Span KeeperSeen) (events : List Event) (audit : List ℕ) : Type 0 where
   pub log : List Entry
   pub entry : Entry
   pub more : List ℕ
-  pub served : IsServed true app [] k start events (log ++ entry ∷ [])
+  pub served : IsServed true (answering_of app []) k events (log ++ entry ∷ [])
   pub torn : IsFront more (audit_line (length log + 1) entry)
   pub audit_text : audit ≡ audited log ++ more
 
 -- how serving a script in silence ends
-abbrev pub Tallies : Application → Span KeeperSeen → State → Script → Result Summary DemoFault → List ℕ → Type 0
-Tallies app k start script (Ok summary) audit =
-    (script.refused ≡ None) × ((log : List Entry) × Tallied false app k start script.events log audit × (summary ≡ summary_of log))
-Tallies app k start script (Err faults.Memory) audit = (log : List Entry) × Tallied true app k start script.events log audit
-Tallies app k start script (Err faults.Write) audit = TalliedTorn app k start script.events audit
+abbrev pub Tallies : Application → Span KeeperSeen → Script → Result Summary DemoFault → List ℕ → Type 0
+Tallies app k script (Ok summary) audit =
+    (script.refused ≡ None) × ((log : List Entry) × Tallied false app k script.events log audit × (summary ≡ summary_of log))
+Tallies app k script (Err faults.Memory) audit = (log : List Entry) × Tallied true app k script.events log audit
+Tallies app k script (Err faults.Write) audit = TalliedTorn app k script.events audit
 
 -- the generated requests, none of whose lines is refused
 abbrev pub demo_script : ℕ → Script
@@ -173,7 +167,7 @@ demo_script count = script_of (demo_text count)
 pub record IsTalliedOn (app : Application) (k : Span KeeperSeen) (count : ℕ) (result : Result Summary DemoFault) (audit : List ℕ) : Type 0 where
   pub opened : KeeperSeen
   pub attached : IsAttached None app k opened
-  pub tallies : Tallies app (span opened k.after) opened.state (demo_script count) result audit
+  pub tallies : Tallies app (span opened k.after) (demo_script count) result audit
 
 -- how the steps from the attaching on end
 abbrev pub EndsTallying : Application → Span KeeperSeen → ℕ → Result Summary Ending → List ℕ → Type 0

@@ -18,7 +18,7 @@ use Rattle.jac_words.specs.declared.words.Command.{Command}
 use Rattle.jac_words.specs.declared.words.Command.TheVariants as commands
 use Rattle.jac_app.specs.declared.ending.Ending.{Ending}
 use Rattle.jac_app.specs.declared.ending.Ending.TheVariants as endings
-use Rattle.jac_app.specs.Outside.{Span, span}
+use Rattle.jac_serving.specs.Outside.{Span, span}
 use Rattle.jac_words.specs.Commands.{db_of}
 use Rattle.jac_app.specs.Files.{Sight, HasApplication}
 use Rattle.jac_app.specs.Check.{PutsText}

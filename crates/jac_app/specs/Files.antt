@@ -13,8 +13,8 @@ use Rattle.jac_words.specs.declared.role.Role.{Role}
 use Rattle.jac_words.specs.declared.role.Role.TheVariants as roles
 use Rattle.jac_opening.specs.Application.{IsApplication}
 use Rattle.jac_opening.specs.Refusal.{IsRefusedBy}
-use Rattle.jac_app.specs.Keeping.{IsStill}
-use Rattle.jac_app.specs.Outside.{Span, span, Sinks}
+use Rattle.jac_serving.specs.Keeping.{IsStill}
+use Rattle.jac_serving.specs.Outside.{Span, span, Sinks}
 use Rattle.jac_words.specs.Commands.{file_of, name_of, limit_of}
 
 -- what a run sees of the outside, before and after

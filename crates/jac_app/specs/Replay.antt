@@ -2,7 +2,6 @@
 use Rattle.std.specs.Prelude.{◌≡◌, ◌⊎◌, ⊤, ℕ, true, false, IsTrue, Result, Ok, Err, Option, Some, None, List, []}
 use Rattle.jac_io.specs.Faults.{Rose}
 use Rattle.jac_lang.specs.Syntax.{Application}
-use Rattle.jac_rows.specs.declared.state.State.{State}
 use Rattle.jac_keep.specs.Schema.{IsFit}
 use Rattle.jac_keep.specs.Attaching.{Attaches, IsRefused}
 use Rattle.jac_keep.specs.KeeperSeen.{KeeperSeen}
@@ -14,11 +13,12 @@ use Rattle.jac_app.specs.declared.ending.Ending.TheVariants as endings
 use Rattle.jac_words.specs.declared.role.Role.TheVariants as roles
 use Rattle.jac_opening.specs.Application.{schema_text}
 use Rattle.jac_opening.specs.Refusal.{IsRefusedBy}
-use Rattle.jac_app.specs.Outside.{Span, span, Sinks, AWriteFailed}
+use Rattle.jac_app.specs.Answered.{answering_of}
+use Rattle.jac_serving.specs.Outside.{Span, span, Sinks, AWriteFailed}
 use Rattle.jac_words.specs.Commands.{file_of, audit_of, db_of}
 use Rattle.jac_app.specs.Files.{Sight, sinks_of, IsRead, IsLong, HasApplication, HasBadLine, IsOpened, IsReached, IsAimed, IsIdle}
-use Rattle.jac_app.specs.Script.{Script, script_of}
-use Rattle.jac_app.specs.Serve.{PutsServed, PutsTorn}
+use Rattle.jac_serving.specs.Script.{Script, script_of}
+use Rattle.jac_serving.specs.Serve.{PutsServed, PutsTorn}
 
 -- a store of this name was attached for the application, of whose kinds its cells are, and no other since
 pub record IsAttached (db : Option (List ℕ)) (app : Application) (k : Span KeeperSeen) (opened : KeeperSeen) : Type 0 where
@@ -48,19 +48,19 @@ AttachesAs db app k (Err endings.Memory) = IsUnattached k [] []
 AttachesAs db app k (Err ending) = ⊥
 
 -- how the events of a script are served on an attached store
-abbrev pub EndsServed : Application → List Session → Span KeeperSeen → State → Script → Result (Unit {0}) Ending → List ℕ → List ℕ → Type 0
-EndsServed app sessions k start script (Ok done) out audit = (script.refused ≡ None) × PutsServed false app sessions k start script out audit
-EndsServed app sessions k start script (Err (endings.LineRefused lapse)) out audit =
-    (script.refused ≡ Some lapse) × PutsServed false app sessions k start script out audit
-EndsServed app sessions k start script (Err endings.WriteFault) out audit = PutsTorn app sessions k start script out audit
-EndsServed app sessions k start script (Err endings.Memory) out audit = PutsServed true app sessions k start script out audit
-EndsServed app sessions k start script (Err ending) out audit = ⊥
+abbrev pub EndsServed : Application → List Session → Span KeeperSeen → Script → Result (Unit {0}) Ending → List ℕ → List ℕ → Type 0
+EndsServed app sessions k script (Ok done) out audit = (script.refused ≡ None) × PutsServed false (answering_of app sessions) k script out audit
+EndsServed app sessions k script (Err (endings.LineRefused lapse)) out audit =
+    (script.refused ≡ Some lapse) × PutsServed false (answering_of app sessions) k script out audit
+EndsServed app sessions k script (Err endings.WriteFault) out audit = PutsTorn (answering_of app sessions) k script out audit
+EndsServed app sessions k script (Err endings.Memory) out audit = PutsServed true (answering_of app sessions) k script out audit
+EndsServed app sessions k script (Err ending) out audit = ⊥
 
 -- a store was attached, and the events were served from what it keeps
 pub record IsServedOn (db : Option (List ℕ)) (app : Application) (sessions : List Session) (k : Span KeeperSeen) (script : Script) (result : Result (Unit {0}) Ending) (out audit : List ℕ) : Type 0 where
   pub opened : KeeperSeen
   pub attached : IsAttached db app k opened
-  pub ends : EndsServed app sessions (span opened k.after) opened.state script result out audit
+  pub ends : EndsServed app sessions (span opened k.after) script result out audit
 
 -- how the steps from the attaching on end
 abbrev pub EndsAttaching : Option (List ℕ) → Application → List Session → Span KeeperSeen → Script → Result (Unit {0}) Ending → List ℕ → List ℕ → Type 0

@@ -11,15 +11,15 @@ use Rattle.jac_words.specs.declared.words.Command.TheVariants as commands
 use Rattle.jac_app.specs.declared.ending.Ending.{Ending}
 use Rattle.jac_words.specs.declared.role.Role.{Role}
 use Rattle.jac_words.specs.declared.role.Role.TheVariants as roles
-use Rattle.jac_app.specs.declared.serve.Lapse.{Lapse}
+use Rattle.jac_serving.specs.declared.serve.Lapse.{Lapse}
 use Rattle.jac_app.specs.declared.status.Status.{Status}
 use Rattle.jac_app.specs.declared.status.Status.TheVariants as statuses
 use Rattle.jac_opening.specs.Application.{IsApplication, schema_text}
-use Rattle.jac_app.specs.Outside.{Span, AWriteFailed, WentAimed}
+use Rattle.jac_serving.specs.Outside.{Span, AWriteFailed, WentAimed}
 use Rattle.jac_words.specs.Words.{command_of}
 use Rattle.jac_words.specs.Commands.{file_of, name_of}
 use Rattle.jac_app.specs.Files.{Sight, sinks_of, IsRead, IsLong, HasApplication, HasBadLine, IsOpened, IsReached, IsIdle}
-use Rattle.jac_app.specs.Script.{script_of}
+use Rattle.jac_serving.specs.Script.{script_of}
 use Rattle.jac_words.specs.declared.words.Dumping.{Dumping}
 use Rattle.jac_words.specs.declared.words.Replay.{Replay}
 use Rattle.jac_words.specs.declared.words.Serving.{Serving}

@@ -7,17 +7,18 @@ use Rattle.jac_keep.specs.KeeperSeen.{KeeperSeen}
 use Rattle.jac_route.specs.declared.sessions.Session.{Session}
 use Rattle.jac_words.specs.declared.words.Command.TheVariants as commands
 use Rattle.jac_words.specs.declared.words.Serving.{Serving}
-use Rattle.jac_app.specs.declared.door.DoorHalt.{DoorHalt}
-use Rattle.jac_app.specs.declared.door.DoorHalt.TheVariants as halts
-use Rattle.jac_app.specs.declared.door.Tally.{Tally}
+use Rattle.jac_links.specs.declared.door.DoorHalt.{DoorHalt}
+use Rattle.jac_links.specs.declared.door.DoorHalt.TheVariants as halts
+use Rattle.jac_links.specs.declared.door.Tally.{Tally}
 use Rattle.jac_app.specs.declared.ending.Ending.{Ending}
 use Rattle.jac_app.specs.declared.ending.Ending.TheVariants as endings
-use Rattle.jac_app.specs.Keeping.{IsStill}
-use Rattle.jac_app.specs.Outside.{Span, span, Sinks, IsFront, AWriteFailed}
+use Rattle.jac_serving.specs.Keeping.{IsStill}
+use Rattle.jac_app.specs.Answered.{answering_of}
+use Rattle.jac_serving.specs.Outside.{Span, span, Sinks, IsFront, AWriteFailed}
 use Rattle.jac_app.specs.Files.{Sight, sinks_of, HasApplication, HasSessions, IsAimed, IsIdle}
 use Rattle.jac_opening.specs.Application.{schema_text}
 use Rattle.jac_app.specs.Replay.{IsAttached, IsUnattached, IsOther, IsEndedEarly}
-use Rattle.jac_app.specs.Door.{AreLinksServed}
+use Rattle.jac_links.specs.Door.{AreLinksServed}
 
 -- `served C connections, K replies`
 abbrev pub served_line : Tally → List ℕ
@@ -32,12 +33,12 @@ halted halts.Memory = endings.Memory
 -- how serving so many connections at most ends, with the line that tells how many there were
 abbrev pub EndsConnections : {L : Type 0} → (L → LinkSeen) → Application → List Session → ℕ → Span (DoorSeen L) → Span KeeperSeen → Result (Unit {0}) Ending → List ℕ → List ℕ → Type 0
 EndsConnections line app sessions most door k (Ok done) out audit =
-    (tally : Tally) × AreLinksServed line app sessions most door k (Ok tally) audit × (out ≡ served_line tally)
+    (tally : Tally) × AreLinksServed line (answering_of app sessions) most door k (Ok tally) audit × (out ≡ served_line tally)
 EndsConnections line app sessions most door k (Err endings.WriteFault) out audit =
-    (AreLinksServed line app sessions most door k (Err halts.Write) audit × (out ≡ []))
-    ⊎ ((tally : Tally) × AreLinksServed line app sessions most door k (Ok tally) audit × IsFront out (served_line tally))
-EndsConnections line app sessions most door k (Err endings.DoorFault) out audit = AreLinksServed line app sessions most door k (Err halts.Door) audit × (out ≡ [])
-EndsConnections line app sessions most door k (Err endings.Memory) out audit = AreLinksServed line app sessions most door k (Err halts.Memory) audit × (out ≡ [])
+    (AreLinksServed line (answering_of app sessions) most door k (Err halts.Write) audit × (out ≡ []))
+    ⊎ ((tally : Tally) × AreLinksServed line (answering_of app sessions) most door k (Ok tally) audit × IsFront out (served_line tally))
+EndsConnections line app sessions most door k (Err endings.DoorFault) out audit = AreLinksServed line (answering_of app sessions) most door k (Err halts.Door) audit × (out ≡ [])
+EndsConnections line app sessions most door k (Err endings.Memory) out audit = AreLinksServed line (answering_of app sessions) most door k (Err halts.Memory) audit × (out ≡ [])
 EndsConnections line app sessions most door k (Err ending) out audit = ⊥
 
 -- a door that tells listened on the port, and its connections were served

@@ -4,10 +4,11 @@ ghost use Rattle.jac_keep.specs.Cause.{HasCause};
 ghost use Rattle.jac_engine.specs.Start.{IsStart};
 ghost use Rattle.jac_http.specs.Replies.{phrase_of};
 ghost use Rattle.jac_hub.specs.Hearing.{whole};
-ghost use Rattle.jac_app.specs.Log.{reply_on, is_failure};
+ghost use Rattle.jac_serving.specs.Answering.{is_failure};
+ghost use Rattle.jac_serving.specs.Log.{reply_on};
 ghost use Rattle.jac_replies.specs.Spelled.{audit_rest};
-ghost use Rattle.jac_app.specs.Outside.{span};
-ghost use Rattle.jac_app.specs.Serve.{source_of, close_of, spelling_of, IsAnswerMade};
+ghost use Rattle.jac_serving.specs.Outside.{span};
+ghost use Rattle.jac_app.specs.Answered.{source_of, close_of, spelling_of, IsAnswerMade};
 
 use jac_engine::{commit, prepare};
 use jac_keep::{Keeper, Stop};

@@ -4,7 +4,7 @@ ghost use Rattle.jac_lang.specs.Mirror.{application_of};
 ghost use Rattle.jac_plain.specs.Models.{kinds_of};
 ghost use Rattle.jac_keep.specs.Schema.{IsSchema};
 ghost use Rattle.jac_engine.specs.Start.{IsStart};
-ghost use Rattle.jac_app.specs.Outside.{span};
+ghost use Rattle.jac_serving.specs.Outside.{span};
 ghost use Rattle.jac_opening.specs.Application.{schema_text};
 ghost use Rattle.jac_app.specs.Replay.{AttachesAs};
 

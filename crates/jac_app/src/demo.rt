@@ -14,19 +14,18 @@ ghost use Rattle.jac_app.specs.declared.ending.Ending.TheVariants as endings;
 ghost use Rattle.jac_opening.specs.Application.{IsApplication, schema_text};
 ghost use Rattle.jac_app.specs.Asked.{ask_in};
 ghost use Rattle.jac_calendar.specs.Asking.{IsAsking};
-ghost use Rattle.jac_app.specs.Demo.{EndsCounting, EndsDemo, EndsTallying, IsBounded, IsCounted, IsTold, PutsTally, Tallies, TalliesAsk, TalliesEvent, TalliesLine, WentTo, demo_script, tally_of};
+ghost use Rattle.jac_app.specs.Demo.{EndsCounting, EndsDemo, EndsTallying, IsBounded, IsCounted, IsTold, PutsTally, Tallies, TalliesAsk, TalliesEvent, TalliesLine, demo_script, tally_of};
 ghost use Rattle.jac_replies.specs.Failed.{status_of_stop};
 ghost use Rattle.jac_app.specs.Files.{IsUnopened};
-ghost use Rattle.jac_app.specs.Line.{lines_of};
+ghost use Rattle.jac_serving.specs.Line.{lines_of};
 ghost use Rattle.jac_replies.specs.Spelled.{audit_rest, audit_text};
-ghost use Rattle.jac_app.specs.Outside.{Went, WentAimed, sinks, span};
-ghost use Rattle.jac_app.specs.Script.{script_of};
+ghost use Rattle.jac_serving.specs.Outside.{Went, WentAimed, WentTo, sinks, span};
+ghost use Rattle.jac_serving.specs.Script.{script_of};
 
 use crate::asks::{ask_in, viewer_in};
 use crate::attach::attach;
 use crate::ending::Ending;
 use crate::files::open_app;
-use crate::puts::{put_failed_audit, put_numbered};
 use crate::summary::{Summary, Tally, counted, failed_tally, none_counted, put_summary, tally_of};
 use jac_demo::{demo_app, demo_events};
 use jac_engine::{commit, prepare};
@@ -35,6 +34,7 @@ use jac_io::{AuditSink, Failed, Sink};
 use jac_keep::{Keeper, Stop, Vault};
 use jac_opening::Service;
 use jac_replies::{Answer, Ask, audit_rest, fixed_of};
+use jac_serving::{put_failed_audit, put_numbered};
 use jac_value::{Bytes, Id, Memory, Txt, first_part};
 use jac_world::Steps;
 use std::alloc::Global;
@@ -297,7 +297,7 @@ fn tally_events<U: AuditSink, K: Keeper, L: Ledger, M: Ledger>(
     requires attached { IsTrue (K.seen keeper.old).store.attached }
     requires start { IsTrue (K.seen keeper.old).tells → IsStart (application_of service.now) (K.seen keeper.old).state }
     ensures tallied { WentTo (span (U.seen audit.old) (U.seen audit.new))
-        (Tallies (application_of service.now) (span (K.seen keeper.old) (K.seen keeper.new)) (K.seen keeper.old).state (script_of bytes.now) result) }
+        (Tallies (application_of service.now) (span (K.seen keeper.old) (K.seen keeper.new)) (script_of bytes.now) result) }
     ensures cause { result ≡ Err DemoFault.Write → Rose (U.seen audit.old).faults (U.seen audit.new).faults }
     ensures store { (K.seen keeper.new).store ≡ (K.seen keeper.old).store }
 {
@@ -338,7 +338,7 @@ fn serve_calendar<U: AuditSink, K: Keeper, L: Ledger, M: Ledger>(
     requires attached { IsTrue (K.seen keeper.old).store.attached }
     requires start { IsTrue (K.seen keeper.old).tells → IsStart (application_of service.now) (K.seen keeper.old).state }
     ensures served { WentTo (span (U.seen audit.old) (U.seen audit.new))
-        (Tallies (application_of service.now) (span (K.seen keeper.old) (K.seen keeper.new)) (K.seen keeper.old).state (demo_script count) result) }
+        (Tallies (application_of service.now) (span (K.seen keeper.old) (K.seen keeper.new)) (demo_script count) result) }
     ensures cause { result ≡ Err DemoFault.Write → Rose (U.seen audit.old).faults (U.seen audit.new).faults }
     ensures store { (K.seen keeper.new).store ≡ (K.seen keeper.old).store }
 {

@@ -5,7 +5,7 @@ ghost use Rattle.jac_lang.specs.Mirror.{application_of};
 ghost use Rattle.jac_route.specs.Sessions.{sessions_in};
 ghost use Rattle.jac_opening.specs.Application.{IsApplication};
 ghost use Rattle.jac_opening.specs.Refusal.{refusal_text};
-ghost use Rattle.jac_app.specs.Outside.{span};
+ghost use Rattle.jac_serving.specs.Outside.{span};
 ghost use Rattle.jac_words.specs.Commands.{limit_of};
 ghost use Rattle.jac_app.specs.Files.{HasSessions, IsUnread, IsUnopened, IsUnlisted, IsSessionless};
 

@@ -4,9 +4,9 @@ ghost use Rattle.jac_lang.specs.Mirror.{application_of};
 ghost use Rattle.jac_plain.specs.Models.{kinds_of};
 ghost use Rattle.jac_keep.specs.Schema.{IsSchema};
 ghost use Rattle.jac_app.specs.declared.ending.Ending.TheVariants as endings;
-ghost use Rattle.jac_app.specs.Outside.{AWriteFailed, Went, WentAimed, span, sinks};
+ghost use Rattle.jac_serving.specs.Outside.{AWriteFailed, Went, WentAimed, span, sinks};
 ghost use Rattle.jac_words.specs.declared.words.Command.TheVariants as commands;
-ghost use Rattle.jac_app.specs.Script.{script_of};
+ghost use Rattle.jac_serving.specs.Script.{script_of};
 ghost use Rattle.jac_app.specs.Ending.{ending_of};
 ghost use Rattle.jac_app.specs.Files.{sight};
 ghost use Rattle.jac_opening.specs.Application.{schema_text};
@@ -15,11 +15,11 @@ ghost use Rattle.jac_app.specs.Replay.{EndsAttaching, EndsServing, EndsReplay};
 use crate::attach::attach;
 use crate::ending::Ending;
 use crate::files::{open_app, read_file, read_sessions};
-use crate::serve::{Stopped, serve_events};
+use crate::handler::Answerer;
 use jac_io::{AuditSink, Failed, Files, Sink};
 use jac_keep::Vault;
-use jac_opening::Service;
-use jac_route::Sessions;
+use jac_replies::Spelling;
+use jac_serving::{Stopped, serve_events};
 use jac_value::{Memory, Txt};
 use jac_words::{Replay, Role};
 use jac_world::Steps;
@@ -38,38 +38,24 @@ fn ending_of(stopped: Stopped) -> Ending
 
 // Attaches the store, and serves the events.
 fn serve_attached<O: Sink, U: AuditSink, K: Vault, L: Ledger, M: Ledger>(
-    alloc: Global,
-    service: &Service,
-    sessions: &Sessions,
+    desk: &mut Answerer<'_, '_, '_, '_, '_, K, L, M>,
     db: Option<&Txt>,
     schema: Txt,
     events: &[u8],
     out: &mut O,
     audit: &mut U,
-    vault: &mut K,
-    splits: &mut Steps<L>,
-    evaluations: &mut Steps<M>,
 ) -> Result<(), Ending>
     requires short { length events.now < 2 ^ 32 }
-    requires first { (K.seen vault.old).store.called ≡ false }
-    requires own { schema ≡ schema_text (application_of service.now) }
-    requires schema { IsSchema schema (kinds_of (application_of service.now)) }
+    requires first { (K.seen desk.old.keeper.now).store.called ≡ false }
+    requires own { schema ≡ schema_text (application_of desk.old.service.now) }
+    requires schema { IsSchema schema (kinds_of (application_of desk.old.service.now)) }
     ensures served { Went (sinks (O.seen out.old) (O.seen out.new) (U.seen audit.old) (U.seen audit.new))
-        (EndsAttaching (option_copied db.entry) (application_of service.now) sessions.now (span (K.seen vault.old) (K.seen vault.new)) (script_of events.now) result) }
+        (EndsAttaching (option_copied db.entry) (application_of desk.old.service.now) desk.old.sessions.now (span (K.seen desk.old.keeper.now) (K.seen desk.new.keeper.now)) (script_of events.now) result) }
     ensures cause { result ≡ Err endings.WriteFault → AWriteFailed (sinks (O.seen out.old) (O.seen out.new) (U.seen audit.old) (U.seen audit.new)) }
+    ensures same_reference { desk.new.keeper.ghost_name ≡ desk.old.keeper.ghost_name }
 {
-    match attach(alloc, service, db, schema, vault) {
-        Ok(()) => match serve_events(
-            alloc,
-            service,
-            sessions,
-            events,
-            out,
-            audit,
-            vault,
-            splits,
-            evaluations,
-        ) {
+    match attach(desk.alloc, desk.service, db, schema, desk.keeper) {
+        Ok(()) => match serve_events(desk, events, out, audit) {
             Ok(()) => Ok(()),
             Err(stopped) => Err(ending_of(stopped)),
         },
@@ -79,41 +65,25 @@ fn serve_attached<O: Sink, U: AuditSink, K: Vault, L: Ledger, M: Ledger>(
 
 // Aims the audit, attaches the store, and serves the events.
 fn serve<O: Sink, U: AuditSink, K: Vault, L: Ledger, M: Ledger>(
-    alloc: Global,
-    service: &Service,
-    sessions: &Sessions,
+    desk: &mut Answerer<'_, '_, '_, '_, '_, K, L, M>,
     command: &Replay,
     aim: Option<Txt>,
     schema: Txt,
     events: &[u8],
     out: &mut O,
     audit: &mut U,
-    vault: &mut K,
-    splits: &mut Steps<L>,
-    evaluations: &mut Steps<M>,
 ) -> Result<(), Ending>
     requires short { length events.now < 2 ^ 32 }
-    requires first { (K.seen vault.old).store.called ≡ false }
+    requires first { (K.seen desk.old.keeper.now).store.called ≡ false }
     requires aim { aim ≡ command.now.audit }
-    requires own { schema ≡ schema_text (application_of service.now) }
-    requires schema { IsSchema schema (kinds_of (application_of service.now)) }
-    ensures { WentAimed (sinks (O.seen out.old) (O.seen out.new) (U.seen audit.old) (U.seen audit.new))
-        (EndsServing (sinks (O.seen out.old) (O.seen out.new) (U.seen audit.old) (U.seen audit.new)) (commands.Replay command.now) (application_of service.now) sessions.now (span (K.seen vault.old) (K.seen vault.new)) (script_of events.now) result) }
+    requires own { schema ≡ schema_text (application_of desk.old.service.now) }
+    requires schema { IsSchema schema (kinds_of (application_of desk.old.service.now)) }
+    ensures served { WentAimed (sinks (O.seen out.old) (O.seen out.new) (U.seen audit.old) (U.seen audit.new))
+        (EndsServing (sinks (O.seen out.old) (O.seen out.new) (U.seen audit.old) (U.seen audit.new)) (commands.Replay command.now) (application_of desk.old.service.now) desk.old.sessions.now (span (K.seen desk.old.keeper.now) (K.seen desk.new.keeper.now)) (script_of events.now) result) }
+    ensures same_reference { desk.new.keeper.ghost_name ≡ desk.old.keeper.ghost_name }
 {
     match audit.aim(aim) {
-        Ok(()) => serve_attached(
-            alloc,
-            service,
-            sessions,
-            named(&command.db),
-            schema,
-            events,
-            out,
-            audit,
-            vault,
-            splits,
-            evaluations,
-        ),
+        Ok(()) => serve_attached(desk, named(&command.db), schema, events, out, audit),
         Err(Failed) => Err(Ending::WriteFault),
     }
 }
@@ -158,19 +128,23 @@ pub fn replay<F: Files, O: Sink, U: AuditSink, K: Vault, L: Ledger, M: Ledger>(
         Ok(schema) => schema,
         Err(Memory) => return Err(Ending::Memory),
     };
-    serve(
+    let mut desk = Answerer {
+        keeper: vault,
+        splits,
+        evaluations,
         alloc,
-        &service,
-        &sessions,
+        spelling: Spelling::Quoted,
+        service: &service,
+        sessions: &sessions,
+    };
+    serve(
+        &mut desk,
         command,
         aim,
         schema,
         events.as_slice(),
         out,
         audit,
-        vault,
-        splits,
-        evaluations,
     )
 }
 

@@ -4,24 +4,25 @@ ghost use Rattle.jac_io.specs.Linked.{DoorLasts};
 ghost use Rattle.jac_lang.specs.Mirror.{application_of};
 ghost use Rattle.jac_plain.specs.Models.{kinds_of};
 ghost use Rattle.jac_keep.specs.Schema.{IsSchema};
-ghost use Rattle.jac_engine.specs.Start.{IsStart};
+ghost use Rattle.jac_serving.specs.Desk.{MayServe, Keeps};
+ghost use Rattle.jac_app.specs.Answered.{answering, desk_of};
 ghost use Rattle.jac_app.specs.declared.ending.Ending.TheVariants as endings;
-ghost use Rattle.jac_app.specs.Outside.{AWriteFailed, IsPut, Went, WentAimed, span, sinks};
+ghost use Rattle.jac_serving.specs.Outside.{AWriteFailed, IsPut, Went, WentAimed, span, sinks};
 ghost use Rattle.jac_app.specs.Files.{sight};
 ghost use Rattle.jac_opening.specs.Application.{schema_text};
 ghost use Rattle.jac_app.specs.Server.{served_line, halted, EndsConnections, EndsDoor, EndsAttached, EndsAimed, EndsServer};
 
 use crate::attach::attach;
-use crate::door::{DoorHalt, Tally, serve_links};
 use crate::ending::Ending;
 use crate::files::{open_app, read_file, read_sessions};
-use crate::outside::put_five;
+use crate::handler::Answerer;
 use crate::replay::{copy_name, named};
 use itoa::Buffer;
 use jac_io::{AuditSink, Door, Failed, Files, Sink};
 use jac_keep::{Keeper, Vault};
-use jac_opening::Service;
-use jac_route::Sessions;
+use jac_links::{DoorHalt, Tally, serve_links};
+use jac_replies::Spelling;
+use jac_serving::put_five;
 use jac_value::{Memory, Txt};
 use jac_words::{Role, Serving};
 use jac_world::Steps;
@@ -58,37 +59,21 @@ fn put_served<O: Sink>(out: &mut O, tally: Tally) -> Result<(), Failed>
 
 // Serves the door's connections, and tells how many there were.
 fn serve_connections<O: Sink, U: AuditSink, K: Keeper, D: Door, L: Ledger, M: Ledger>(
-    alloc: Global,
-    service: &Service,
-    sessions: &Sessions,
+    desk: &mut Answerer<'_, '_, '_, '_, '_, K, L, M>,
     serving: &Serving,
     out: &mut O,
     audit: &mut U,
-    keeper: &mut K,
     door: &mut D,
-    splits: &mut Steps<L>,
-    evaluations: &mut Steps<M>,
 ) -> Result<(), Ending>
-    requires attached { IsTrue (K.seen keeper.old).store.attached }
-    requires start { IsTrue (K.seen keeper.old).tells → IsStart (application_of service.now) (K.seen keeper.old).state }
+    requires desk { MayServe answering (desk_of (application_of desk.old.service.now) desk.old.sessions.now desk.old.keeper.ghost_name (K.seen desk.old.keeper.now)) }
     ensures served { Went (sinks (O.seen out.old) (O.seen out.new) (U.seen audit.old) (U.seen audit.new))
-        (EndsConnections D.Line.seen (application_of service.now) sessions.now serving.now.count (span (D.seen door.old) (D.seen door.new)) (span (K.seen keeper.old) (K.seen keeper.new)) result) }
+        (EndsConnections D.Line.seen (application_of desk.old.service.now) desk.old.sessions.now serving.now.count (span (D.seen door.old) (D.seen door.new)) (span (K.seen desk.old.keeper.now) (K.seen desk.new.keeper.now)) result) }
     ensures cause { result ≡ Err endings.WriteFault → AWriteFailed (sinks (O.seen out.old) (O.seen out.new) (U.seen audit.old) (U.seen audit.new)) }
     ensures lasts { DoorLasts (D.seen door.old) (D.seen door.new) }
     ensures same_port { IsTrue (D.seen door.new).tells → (D.seen door.new).port ≡ (D.seen door.old).port }
-    ensures store { (K.seen keeper.new).store ≡ (K.seen keeper.old).store }
+    ensures keeps { Keeps answering (desk_of (application_of desk.old.service.now) desk.old.sessions.now desk.old.keeper.ghost_name (K.seen desk.old.keeper.now)) (desk_of (application_of desk.new.service.now) desk.new.sessions.now desk.new.keeper.ghost_name (K.seen desk.new.keeper.now)) }
 {
-    match serve_links(
-        alloc,
-        service,
-        sessions,
-        serving.count,
-        door,
-        audit,
-        keeper,
-        splits,
-        evaluations,
-    ) {
+    match serve_links(desk, serving.count, door, audit) {
         Ok(tally) => match put_served(out, tally) {
             Ok(()) => Ok(()),
             Err(Failed) => Err(Ending::WriteFault),
@@ -99,119 +84,77 @@ fn serve_connections<O: Sink, U: AuditSink, K: Keeper, D: Door, L: Ledger, M: Le
 
 // Has the door listen, and serves its connections.
 fn serve_door<O: Sink, U: AuditSink, K: Keeper, D: Door, L: Ledger, M: Ledger>(
-    alloc: Global,
-    service: &Service,
-    sessions: &Sessions,
+    desk: &mut Answerer<'_, '_, '_, '_, '_, K, L, M>,
     serving: &Serving,
     out: &mut O,
     audit: &mut U,
-    keeper: &mut K,
     door: &mut D,
-    splits: &mut Steps<L>,
-    evaluations: &mut Steps<M>,
 ) -> Result<(), Ending>
-    requires attached { IsTrue (K.seen keeper.old).store.attached }
-    requires start { IsTrue (K.seen keeper.old).tells → IsStart (application_of service.now) (K.seen keeper.old).state }
+    requires desk { MayServe answering (desk_of (application_of desk.old.service.now) desk.old.sessions.now desk.old.keeper.ghost_name (K.seen desk.old.keeper.now)) }
     ensures served { Went (sinks (O.seen out.old) (O.seen out.new) (U.seen audit.old) (U.seen audit.new))
-        (EndsDoor D.Line.seen (application_of service.now) sessions.now serving.now (span (D.seen door.old) (D.seen door.new)) (span (K.seen keeper.old) (K.seen keeper.new)) result) }
+        (EndsDoor D.Line.seen (application_of desk.old.service.now) desk.old.sessions.now serving.now (span (D.seen door.old) (D.seen door.new)) (span (K.seen desk.old.keeper.now) (K.seen desk.new.keeper.now)) result) }
     ensures cause { result ≡ Err endings.WriteFault → AWriteFailed (sinks (O.seen out.old) (O.seen out.new) (U.seen audit.old) (U.seen audit.new)) }
     ensures lasts { DoorLasts (D.seen door.old) (D.seen door.new) }
-    ensures store { (K.seen keeper.new).store ≡ (K.seen keeper.old).store }
+    ensures keeps { Keeps answering (desk_of (application_of desk.old.service.now) desk.old.sessions.now desk.old.keeper.ghost_name (K.seen desk.old.keeper.now)) (desk_of (application_of desk.new.service.now) desk.new.sessions.now desk.new.keeper.ghost_name (K.seen desk.new.keeper.now)) }
 {
     match door.listen(serving.port) {
-        Ok(()) => serve_connections(
-            alloc,
-            service,
-            sessions,
-            serving,
-            out,
-            audit,
-            keeper,
-            door,
-            splits,
-            evaluations,
-        ),
+        Ok(()) => serve_connections(desk, serving, out, audit, door),
         Err(Failed) => Err(Ending::DoorFault),
     }
 }
 
 // Attaches the store, and serves the door.
 fn serve_attached<O: Sink, U: AuditSink, K: Vault, D: Door, L: Ledger, M: Ledger>(
-    alloc: Global,
-    service: &Service,
-    sessions: &Sessions,
+    desk: &mut Answerer<'_, '_, '_, '_, '_, K, L, M>,
     serving: &Serving,
     schema: Txt,
     out: &mut O,
     audit: &mut U,
-    vault: &mut K,
     door: &mut D,
-    splits: &mut Steps<L>,
-    evaluations: &mut Steps<M>,
 ) -> Result<(), Ending>
-    requires first { (K.seen vault.old).store.called ≡ false }
-    requires own { schema ≡ schema_text (application_of service.now) }
-    requires schema { IsSchema schema (kinds_of (application_of service.now)) }
+    requires first { (K.seen desk.old.keeper.now).store.called ≡ false }
+    requires own { schema ≡ schema_text (application_of desk.old.service.now) }
+    requires schema { IsSchema schema (kinds_of (application_of desk.old.service.now)) }
     ensures served { Went (sinks (O.seen out.old) (O.seen out.new) (U.seen audit.old) (U.seen audit.new))
-        (EndsAttached D.Line.seen (application_of service.now) sessions.now serving.now (span (D.seen door.old) (D.seen door.new)) (span (K.seen vault.old) (K.seen vault.new)) result) }
+        (EndsAttached D.Line.seen (application_of desk.old.service.now) desk.old.sessions.now serving.now (span (D.seen door.old) (D.seen door.new)) (span (K.seen desk.old.keeper.now) (K.seen desk.new.keeper.now)) result) }
     ensures cause { result ≡ Err endings.WriteFault → AWriteFailed (sinks (O.seen out.old) (O.seen out.new) (U.seen audit.old) (U.seen audit.new)) }
     ensures lasts { DoorLasts (D.seen door.old) (D.seen door.new) }
+    ensures same_reference { desk.new.keeper.ghost_name ≡ desk.old.keeper.ghost_name }
 {
-    match attach(alloc, service, named(&serving.db), schema, vault) {
-        Ok(()) => serve_door(
-            alloc,
-            service,
-            sessions,
-            serving,
-            out,
-            audit,
-            vault,
-            door,
-            splits,
-            evaluations,
-        ),
+    match attach(
+        desk.alloc,
+        desk.service,
+        named(&serving.db),
+        schema,
+        desk.keeper,
+    ) {
+        Ok(()) => serve_door(desk, serving, out, audit, door),
         Err(ending) => Err(ending),
     }
 }
 
 // Aims the audit, attaches the store, and serves the door.
 fn serve_aimed<O: Sink, U: AuditSink, K: Vault, D: Door, L: Ledger, M: Ledger>(
-    alloc: Global,
-    service: &Service,
-    sessions: &Sessions,
+    desk: &mut Answerer<'_, '_, '_, '_, '_, K, L, M>,
     serving: &Serving,
     aim: Option<Txt>,
     schema: Txt,
     out: &mut O,
     audit: &mut U,
-    vault: &mut K,
     door: &mut D,
-    splits: &mut Steps<L>,
-    evaluations: &mut Steps<M>,
 ) -> Result<(), Ending>
-    requires first { (K.seen vault.old).store.called ≡ false }
+    requires first { (K.seen desk.old.keeper.now).store.called ≡ false }
     requires aim { aim ≡ serving.now.audit }
-    requires own { schema ≡ schema_text (application_of service.now) }
-    requires schema { IsSchema schema (kinds_of (application_of service.now)) }
+    requires own { schema ≡ schema_text (application_of desk.old.service.now) }
+    requires schema { IsSchema schema (kinds_of (application_of desk.old.service.now)) }
     ensures served { WentAimed (sinks (O.seen out.old) (O.seen out.new) (U.seen audit.old) (U.seen audit.new))
-        (EndsAimed D.Line.seen (sinks (O.seen out.old) (O.seen out.new) (U.seen audit.old) (U.seen audit.new)) (application_of service.now) sessions.now serving.now
-        (span (D.seen door.old) (D.seen door.new)) (span (K.seen vault.old) (K.seen vault.new)) result) }
+        (EndsAimed D.Line.seen (sinks (O.seen out.old) (O.seen out.new) (U.seen audit.old) (U.seen audit.new)) (application_of desk.old.service.now) desk.old.sessions.now serving.now
+        (span (D.seen door.old) (D.seen door.new)) (span (K.seen desk.old.keeper.now) (K.seen desk.new.keeper.now)) result) }
     ensures lasts { DoorLasts (D.seen door.old) (D.seen door.new) }
+    ensures same_reference { desk.new.keeper.ghost_name ≡ desk.old.keeper.ghost_name }
 {
     match audit.aim(aim) {
-        Ok(()) => serve_attached(
-            alloc,
-            service,
-            sessions,
-            serving,
-            schema,
-            out,
-            audit,
-            vault,
-            door,
-            splits,
-            evaluations,
-        ),
+        Ok(()) => serve_attached(desk, serving, schema, out, audit, door),
         Err(Failed) => Err(Ending::WriteFault),
     }
 }
@@ -255,18 +198,14 @@ pub fn serve<F: Files, O: Sink, U: AuditSink, K: Vault, D: Door, L: Ledger, M: L
         Ok(schema) => schema,
         Err(Memory) => return Err(Ending::Memory),
     };
-    serve_aimed(
-        alloc,
-        &service,
-        &sessions,
-        serving,
-        aim,
-        schema,
-        out,
-        audit,
-        vault,
-        door,
+    let mut desk = Answerer {
+        keeper: vault,
         splits,
         evaluations,
-    )
+        alloc,
+        spelling: Spelling::Raw,
+        service: &service,
+        sessions: &sessions,
+    };
+    serve_aimed(&mut desk, serving, aim, schema, out, audit, door)
 }

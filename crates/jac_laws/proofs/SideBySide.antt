@@ -12,7 +12,9 @@ use Rattle.jac_http.proofs.ReadingLaws.{reading}
 use Rattle.jac_hub.specs.Hearing.{Source}
 use Rattle.jac_hub.specs.Heard.{no_connections}
 use Rattle.jac_route.specs.declared.sessions.Session.{Session}
-use Rattle.jac_app.specs.Log.{Subject, Entry, is_failure, hearing, IsHeardBy, IsAnswer, left_of, after_entry, after_log, AreAnswered, reply_on}
+use Rattle.jac_serving.specs.Answering.{Subject, Entry, is_failure, IsHeardBy}
+use Rattle.jac_serving.specs.Log.{reply_on}
+use Rattle.jac_app.specs.Log.{hearing, IsAnswer, left_of, after_entry, after_log, AreAnswered}
 use Rattle.jac_laws.specs.TwoRuns.{OneRun, IsServed, LookSame, NoneFailed, NeitherFailed, IsSameAsked, HaveSameSubjects, IsSameStep, AgreeAfterEach, EndAlike, IsSameReply, IsSameWhereShown, AreSameWhereShown, seen_by, labels_of, LookSameFor, AreSeenAlike}
 use Rattle.jac_laws.proofs.SameSubjects.{Stands, AskedAlike, HeardFrom, asked_alike}
 use Rattle.jac_laws.proofs.SameAnswers.{LookAlike, legible, left_same, look_same}
@@ -165,7 +167,7 @@ seen_from sees early early' start start' (one ∷ log) (two ∷ others) whole wh
 
 -- ---- over runs
 
-heard : (early : Bool) (app : Application) (sessions : List Session) (events : List Event) (log : List Entry) → IsHeardBy early app sessions events log
+heard : (early : Bool) (app : Application) (sessions : List Session) (events : List Event) (log : List Entry) → IsHeardBy early (hearing app sessions) events log
     → HeardFrom early (hearing app sessions) no_connections 0 events log
 heard false app sessions events log is = is
 heard true app sessions events log is = is

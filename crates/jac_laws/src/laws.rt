@@ -4,7 +4,7 @@ ghost use Rattle.jac_rows.specs.Project.{project_at};
 ghost use Rattle.jac_route.specs.declared.sessions.Session.{Session};
 ghost use Rattle.jac_events.specs.declared.event.Event.{Event};
 ghost use Rattle.jac_hub.specs.Hearing.{Source};
-ghost use Rattle.jac_app.specs.Log.{Subject};
+ghost use Rattle.jac_serving.specs.Answering.{Subject};
 ghost use Rattle.jac_laws.specs.TwoRuns.{OneRun, IsServed, LookSame, NoneFailed, AgreeAfterEach, EndAlike, AreSameWhereShown, AreSeenAlike, seen_by};
 
 /// A law: where an assignment shows the same of two starts, two runs of the same events over them are asked the same,

@@ -1,10 +1,12 @@
 //! The program's top call over files, sinks, a keeper and a door in memory that fail at chosen calls, and what is stored in
 //! each world.
-ghost use Rattle.std.specs.Prelude.{◌≡◌, ◌<◌, ◌≤◌, ◌^◌};
+ghost use Rattle.std.specs.Prelude.{◌≡◌, ◌<◌, ◌≤◌, ◌^◌, length};
 
-use jac_app::{Status, run};
+use jac_app::{Status, attach, run, serve_link};
 use jac_io::{Calls, Links, MemoryDoor, MemoryFiles, MemoryLink, MemorySink, NamedFiles, Pieces};
 use jac_keep::MemoryKeeper;
+use jac_opening::read_application;
+use jac_route::Sessions;
 use jac_rows::{State, Tables, project};
 use jac_value::{Bytes, Memory, Txt};
 use jac_world::{Assignment, Label, Steps};
@@ -390,6 +392,89 @@ fn a_link_of_a_door_is_served(rt: HostRuntime) -> Result<(), Fail> {
     let left = serve_pieces(alloc, HELLO, &pieces, no_fails(alloc), first)?;
     assert_eq!(rt; left.status, Status::DoorFault);
     assert_eq!(rt; left.out.taken(), b"door fault\n".as_slice());
+    Ok(())
+}
+
+/// What a link that was served leaves: the count of its replies, what is on it, and the audit.
+#[derive(Drop)]
+struct Served {
+    count: u64,
+    link: MemoryLink,
+    audit: MemorySink,
+}
+
+/// Attaches a new keeper for the application, and serves one link that gives this piece.
+fn serve_one<L: Ledger, M: Ledger>(
+    alloc: Global,
+    app: &[u8],
+    piece: &[u8],
+    blank: Blank,
+    second: Blank,
+) -> Result<Option<Served>, Memory>
+    requires short { length app.now ≤ 1048576 }
+    requires name { blank.name ≡ L.name }
+    requires parts { blank.parts ≡ L.parts }
+    requires some { 0 < blank.parts }
+    requires second_name { second.name ≡ M.name }
+    requires second_parts { second.parts ≡ M.parts }
+    requires second_some { 0 < second.parts }
+{
+    let service = match read_application(alloc, app) {
+        Ok(service) => service,
+        Err(_) => return Ok(None),
+    };
+    let sessions = Sessions::empty(alloc);
+    let schema = service.schema(alloc)?;
+    let state = State {
+        tables: Tables::empty(alloc),
+        number: 1,
+    };
+    let mut keeper = MemoryKeeper::new(state, None, Calls::empty(alloc), Calls::empty(alloc));
+    if attach(alloc, &service, None, schema, &mut keeper).is_err() {
+        return Ok(None);
+    }
+    let mut pieces = Vec::new(alloc);
+    pieces.push(Bytes::from_slice(alloc, piece)?)?;
+    let mut link = MemoryLink::new(alloc, Pieces::from_vec(pieces), 4096, Calls::empty(alloc))?;
+    let mut audit = MemorySink::new(alloc, 4096, Calls::empty(alloc))?;
+    let mut splits: Steps<L> = Steps::new(blank);
+    let mut evaluations: Steps<M> = Steps::new(second);
+    match serve_link(
+        alloc,
+        &service,
+        &sessions,
+        1,
+        0,
+        &mut link,
+        &mut audit,
+        &mut keeper,
+        &mut splits,
+        &mut evaluations,
+    ) {
+        Ok(count) => Ok(Some(Served { count, link, audit })),
+        Err(_) => Ok(None),
+    }
+}
+
+#[test]
+fn a_link_is_served_without_a_door(rt: HostRuntime) -> Result<(), Fail> {
+    let alloc = rt.alloc();
+    let piece = b"GET / HTTP/1.0\r\n\r\n".as_slice();
+    let served = serve_one::<Brand, Brand>(
+        alloc,
+        HELLO.as_bytes(),
+        piece,
+        Blank::new(1),
+        Blank::new(1),
+    )?;
+    match served {
+        Some(served) => {
+            assert_eq!(rt; served.count, 1);
+            assert_eq!(rt; served.link.taken(), SERVED);
+            assert_eq!(rt; served.audit.taken(), b"1 200 - -\n".as_slice());
+        }
+        None => assert!(rt; false),
+    }
     Ok(())
 }
 

@@ -4,7 +4,7 @@ use Rattle.jac_rows.specs.declared.state.State.{State}
 use Rattle.jac_lang.specs.Mirror.{application_of}
 use Rattle.jac_engine.specs.Prepared.{IsPrepared, applied_if}
 use Rattle.jac_hub.specs.Hearing.{asked, whole}
-use Rattle.jac_app.specs.Log.{reply_to}
+use Rattle.jac_serving.specs.Log.{reply_to}
 use Rattle.jac_app.proofs.demo.answer_counted.Goals as goal
 
 pub returns-clause-counted : goal.returns-clause-counted

@@ -4,11 +4,12 @@ use Rattle.jac_events.specs.Lines.{line_of}
 use Rattle.jac_lang.specs.Mirror.{application_of}
 use Rattle.jac_calendar.specs.Asking.{IsAsking}
 use Rattle.jac_app.specs.Demo.{Tallies}
-use Rattle.jac_app.specs.Line.{lines_of}
-use Rattle.jac_app.specs.Outside.{span}
-use Rattle.jac_app.specs.Script.{script_of}
+use Rattle.jac_serving.specs.Line.{lines_of}
+use Rattle.jac_serving.specs.Outside.{span}
+use Rattle.jac_serving.specs.Script.{script_of}
 use Rattle.jac_calendar.proofs.AskingLemmas.{text_asking, text_short}
-use Rattle.jac_app.proofs.DemoLemmas.{WentTo-none, WentTo-on, tally_none}
+use Rattle.jac_serving.proofs.OutsideLemmas.{WentTo-none, WentTo-on}
+use Rattle.jac_app.proofs.DemoLemmas.{tally_none}
 use Rattle.jac_app.proofs.demo.serve_calendar.Goals as goal
 
 pub tally_events-requires-clause-short : goal.tally_events-requires-clause-short
@@ -26,7 +27,7 @@ returns-in-Ok-clause-served g c =
     let before = K.seen c.args.keeper.now in
     WentTo-on _ _ _
     (λ put h.
-    subst (λ (t : List ℕ). Tallies (application_of c.args.service.now) (span before (K.seen c.tally_events.new.keeper)) before.state (script_of t) c.tally_events.result put)
+    subst (λ (t : List ℕ). Tallies (application_of c.args.service.now) (span before (K.seen c.tally_events.new.keeper)) (script_of t) c.tally_events.result put)
     (c.as_slice.ensures ∙ c.in-Ok.ensures) h)
     c.tally_events.ensures.tallied
 

@@ -7,8 +7,9 @@ use Rattle.jac_events.specs.Lines.{line_of}
 use Rattle.jac_value.specs.Parts.{parts_left, option_now, length_left}
 use Rattle.jac_app.specs.declared.summary.Summary.{Summary}
 use Rattle.jac_calendar.specs.Asking.{IsAsking}
-use Rattle.jac_app.proofs.DemoLemmas.{WentTo-none, WentTo-on, WentTo-then, tally_start, tally_on, tally_stop, tally_all}
-use Rattle.jac_app.proofs.ProgressLemmas.{shorter_left}
+use Rattle.jac_serving.proofs.OutsideLemmas.{WentTo-none, WentTo-on, WentTo-then}
+use Rattle.jac_app.proofs.DemoLemmas.{tally_start, tally_on, tally_stop, tally_all}
+use Rattle.jac_serving.proofs.ProgressLemmas.{shorter_left}
 use Rattle.jac_app.proofs.demo.tally_events.Goals as goal
 
 pub lines-init : goal.lines-init

@@ -1,5 +1,5 @@
 use Rattle.jac_lang.specs.Mirror.{application_of}
-use Rattle.jac_app.specs.Outside.{span}
+use Rattle.jac_serving.specs.Outside.{span}
 use Rattle.jac_app.proofs.DemoLemmas.{told_whole, told_torn, told_none}
 use Rattle.jac_app.proofs.demo.tell_attached.Goals as goal
 

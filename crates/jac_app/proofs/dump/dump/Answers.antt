@@ -3,10 +3,10 @@ use Rattle.jac_world.specs.World.{shown}
 use Rattle.jac_lang.specs.Mirror.{application_of}
 use Rattle.jac_words.specs.declared.role.Role.TheVariants as roles
 use Rattle.jac_words.specs.declared.words.Command.TheVariants as commands
-use Rattle.jac_app.specs.Outside.{span}
+use Rattle.jac_serving.specs.Outside.{span}
 use Rattle.jac_app.specs.Files.{sight}
 use Rattle.jac_app.specs.Dump.{EndsDumping}
-use Rattle.jac_app.proofs.OutsideLemmas.{Took-none}
+use Rattle.jac_serving.proofs.OutsideLemmas.{Took-none}
 use Rattle.jac_app.proofs.ReplayLemmas.{unread_ends, unopened_ends, idle_ends, still_idle}
 use Rattle.jac_app.proofs.DumpLemmas.{same_shown}
 use Rattle.jac_app.proofs.dump.dump.Goals as goal

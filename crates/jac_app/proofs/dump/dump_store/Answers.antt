@@ -1,7 +1,7 @@
 use Rattle.std.specs.Option.{option_copied}
 use Rattle.jac_world.specs.World.{shown}
 use Rattle.jac_lang.specs.Mirror.{application_of}
-use Rattle.jac_app.specs.Outside.{span}
+use Rattle.jac_serving.specs.Outside.{span}
 use Rattle.jac_app.proofs.DumpLemmas.{Closed-on, Closed-none, unattached_ends, read_ends}
 use Rattle.jac_app.proofs.dump.dump_store.Goals as goal
 

@@ -1,4 +1,4 @@
-use Rattle.jac_app.specs.Outside.{span}
+use Rattle.jac_serving.specs.Outside.{span}
 use Rattle.jac_app.specs.Files.{sight}
 use Rattle.jac_app.proofs.CauseLemmas.{comes_for}
 use Rattle.jac_app.proofs.CompleteLemmas.{is_served, is_checked, is_shown, is_dumped, is_listened}

@@ -1,7 +1,7 @@
 use Rattle.std.proofs.Common.{◌∙◌, sym, refl, inl, inr, [], ◌++◌, arith}
-use Rattle.jac_app.specs.Outside.{span}
+use Rattle.jac_serving.specs.Outside.{span}
 use Rattle.jac_app.specs.Files.{sight}
-use Rattle.jac_app.proofs.OutsideLemmas.{Lasts-then, Took-none, Took-then}
+use Rattle.jac_serving.proofs.OutsideLemmas.{Lasts-then, Took-none, Took-then}
 use Rattle.jac_words.proofs.CountLemmas.{has_count}
 use Rattle.jac_app.proofs.ReplayLemmas.{still_idle}
 use Rattle.jac_app.proofs.LaterLemmas.{Ends-later, Finishes-widen}

@@ -1,7 +1,7 @@
 use Rattle.std.proofs.Common.{◌∙◌, ap, sym, refl, inl, ℕ, Option, List, arith}
 use Rattle.jac_lang.specs.Mirror.{application_of}
 use Rattle.jac_words.specs.declared.role.Role.TheVariants as roles
-use Rattle.jac_app.specs.Outside.{span}
+use Rattle.jac_serving.specs.Outside.{span}
 use Rattle.jac_words.specs.declared.words.Command.TheVariants as commands
 use Rattle.jac_app.specs.Files.{sight}
 use Rattle.jac_app.proofs.ReplayLemmas.{unread_ends, unopened_ends, sessionless_ends, sessions_within, served_ends, idle_ends, still_idle, WentAimed-on}
@@ -143,7 +143,7 @@ returns g c =
     let files = F.seen c.args.files.now in
     let later = F.seen c.read_file-2.new.files in
     let seen =
-    sight files later (O.seen c.args.out.now) (O.seen c.serve.new.out) (U.seen c.args.audit.now) (U.seen c.serve.new.audit) (K.seen c.args.vault.now) (K.seen c.serve.new.vault) in
+    sight files later (O.seen c.args.out.now) (O.seen c.serve.new.out) (U.seen c.args.audit.now) (U.seen c.serve.new.audit) (K.seen c.args.vault.now) (K.seen c.serve.new.desk.keeper.now) in
     let opened = F.seen c.read_file.new.files in
     let middle = F.seen c.read_sessions.new.files in
     let first = c.in-Ok.ensures.lasts in
@@ -170,4 +170,4 @@ returns g c =
       };
     })
     (rw c.as_slice-2.ensures at served))
-    c.serve.ensures
+    c.serve.ensures.served

@@ -1,12 +1,12 @@
 use Rattle.jac_lang.specs.Mirror.{application_of}
 use Rattle.jac_words.specs.declared.words.Command.TheVariants as commands
-use Rattle.jac_app.specs.Outside.{span, sinks}
-use Rattle.jac_app.specs.Script.{script_of}
+use Rattle.jac_serving.specs.Outside.{span, sinks}
+use Rattle.jac_serving.specs.Script.{script_of}
 use Rattle.jac_app.proofs.ReplayLemmas.{went_aimed, failed_behind, serving_behind, aim_failed}
 use Rattle.jac_app.proofs.replay.serve.Goals as goal
 
-pub returns-in-Ok : goal.returns-in-Ok
-returns-in-Ok g c =
+pub returns-in-Ok-clause-served : goal.returns-in-Ok-clause-served
+returns-in-Ok-clause-served g c =
     let O = g.O.Sink in
     let U = g.U.Sink in
     let K = g.K.Keeper in
@@ -19,13 +19,13 @@ returns-in-Ok g c =
     let aims = rw c.requires.aim at c.in-Ok.ensures in
     went_aimed out later before aimed after c.args.command.now.audit _ aims _ _
     (λ is_aimed o a h.
-    serving_behind (sinks out later before after) command (application_of c.args.service.now) c.args.sessions.now (span (K.seen c.args.vault.now) (K.seen c.serve_attached.new.vault))
+    serving_behind (sinks out later before after) command (application_of c.args.desk.now.service.now) c.args.desk.now.sessions.now (span (K.seen c.args.desk.now.keeper.now) (K.seen c.serve_attached.new.desk.keeper.now))
     (script_of c.args.events.now) c.serve_attached.result o a
     (λ is. failed_behind out later before aimed after c.args.command.now.audit _ aims (c.serve_attached.ensures.cause is)) is_aimed h)
     (rw c.named.ensures at c.serve_attached.ensures.served)
 
-pub returns-in-Err : goal.returns-in-Err
-returns-in-Err g c =
+pub returns-in-Err-clause-served : goal.returns-in-Err-clause-served
+returns-in-Err-clause-served g c =
     let U = g.U.Sink in
-    aim_failed (g.O.Sink.seen c.args.out.now) (U.seen c.args.audit.now) (U.seen c.aim.new.self) (commands.Replay c.args.command.now) _ (application_of c.args.service.now) c.args.sessions.now
-    (g.K.Keeper.seen c.args.vault.now) (script_of c.args.events.now) (rw c.requires.aim at c.in-Err.ensures)
+    aim_failed (g.O.Sink.seen c.args.out.now) (U.seen c.args.audit.now) (U.seen c.aim.new.self) (commands.Replay c.args.command.now) _ (application_of c.args.desk.now.service.now) c.args.desk.now.sessions.now
+    (g.K.Keeper.seen c.args.desk.now.keeper.now) (script_of c.args.events.now) (rw c.requires.aim at c.in-Err.ensures)

@@ -1,7 +1,7 @@
 use Rattle.std.proofs.Common.{refl, inl, arith}
 use Rattle.jac_lang.specs.Mirror.{application_of}
 use Rattle.jac_words.specs.declared.role.Role.TheVariants as roles
-use Rattle.jac_app.specs.Outside.{span}
+use Rattle.jac_serving.specs.Outside.{span}
 use Rattle.jac_words.specs.declared.words.Command.TheVariants as commands
 use Rattle.jac_app.specs.Files.{sight}
 use Rattle.jac_app.proofs.ReplayLemmas.{unread_ends, unopened_ends, sessionless_ends, sessions_within, idle_ends, still_idle, WentAimed-on}
@@ -107,7 +107,7 @@ returns-clause-ends g c =
     let files = F.seen c.args.files.now in
     let later = F.seen c.read_sessions.new.files in
     let seen =
-    sight files later (O.seen c.args.out.now) (O.seen c.serve_aimed.new.out) (U.seen c.args.audit.now) (U.seen c.serve_aimed.new.audit) (K.seen c.args.vault.now) (K.seen c.serve_aimed.new.vault) in
+    sight files later (O.seen c.args.out.now) (O.seen c.serve_aimed.new.out) (U.seen c.args.audit.now) (U.seen c.serve_aimed.new.audit) (K.seen c.args.vault.now) (K.seen c.serve_aimed.new.desk.keeper.now) in
     let opened = F.seen c.read_file.new.files in
     let first = c.in-Ok.ensures.lasts in
     let second = c.in-Ok-read_sessions.ensures.lasts in

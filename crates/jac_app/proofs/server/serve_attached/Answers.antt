@@ -1,6 +1,6 @@
 use Rattle.jac_lang.specs.Mirror.{application_of}
-use Rattle.jac_app.specs.Outside.{span}
-use Rattle.jac_app.proofs.OutsideLemmas.{Went-none, Went-on}
+use Rattle.jac_serving.specs.Outside.{span}
+use Rattle.jac_serving.proofs.OutsideLemmas.{Went-none, Went-on}
 use Rattle.jac_app.proofs.ServerLemmas.{attached_ends, unattached_ends}
 use Rattle.jac_app.proofs.server.serve_attached.Goals as goal
 
@@ -10,8 +10,8 @@ returns-in-Ok-clause-served g c =
     let K = g.K.Keeper in
     Went-on _ _ _
     (λ out audit served.
-    attached_ends g.D.Line.Link.seen (application_of c.args.service.now) c.args.sessions.now c.args.serving.now (span (D.seen c.args.door.now) (D.seen c.serve_door.new.door))
-    (K.seen c.args.vault.now) (K.seen c.attach.new.vault) (K.seen c.serve_door.new.keeper) (rw c.named.ensures at c.in-Ok.ensures.attaches) c.serve_door.ensures.store c.serve_door.result out audit served)
+    attached_ends g.D.Line.Link.seen (application_of c.args.desk.now.service.now) c.args.desk.now.sessions.now c.args.serving.now (span (D.seen c.args.door.now) (D.seen c.serve_door.new.door))
+    (K.seen c.args.desk.now.keeper.now) (K.seen c.attach.new.vault) (K.seen c.serve_door.new.desk.keeper.now) (rw c.named.ensures at c.in-Ok.ensures.attaches) c.serve_door.ensures.keeps.store c.serve_door.result out audit served)
     c.serve_door.ensures.served
 
 pub returns-in-Err-clause-served : goal.returns-in-Err-clause-served
@@ -19,5 +19,5 @@ returns-in-Err-clause-served g c =
     let D = g.D.Door in
     let K = g.K.Keeper in
     Went-none (g.O.Sink.seen c.args.out.now) (g.U.Sink.seen c.args.audit.now) _
-    (unattached_ends g.D.Line.Link.seen (application_of c.args.service.now) c.args.sessions.now c.args.serving.now (D.seen c.args.door.now) (span (K.seen c.args.vault.now) (K.seen c.attach.new.vault))
+    (unattached_ends g.D.Line.Link.seen (application_of c.args.desk.now.service.now) c.args.desk.now.sessions.now c.args.serving.now (D.seen c.args.door.now) (span (K.seen c.args.desk.now.keeper.now) (K.seen c.attach.new.vault))
     c.in-Err.ending c.in-Err.ensures.attaches)

@@ -1,6 +1,6 @@
 use Rattle.jac_lang.specs.Mirror.{application_of}
-use Rattle.jac_app.specs.Outside.{span}
-use Rattle.jac_app.proofs.OutsideLemmas.{Went-none, Went-on}
+use Rattle.jac_serving.specs.Outside.{span}
+use Rattle.jac_serving.proofs.OutsideLemmas.{Went-none, Went-on}
 use Rattle.jac_app.proofs.ServerLemmas.{door_ends, unheard_ends}
 use Rattle.jac_app.proofs.server.serve_door.Goals as goal
 
@@ -10,12 +10,12 @@ returns-in-Ok-clause-served g c =
     let K = g.K.Keeper in
     Went-on _ _ _
     (λ out audit served.
-    door_ends g.D.Line.Link.seen (application_of c.args.service.now) c.args.sessions.now (D.seen c.args.door.now) (D.seen c.listen.new.self) (D.seen c.serve_connections.new.door) c.args.serving.now _
-    c.in-Ok.ensures c.serve_connections.ensures.lasts c.serve_connections.ensures.same_port (span (K.seen c.args.keeper.now) (K.seen c.serve_connections.new.keeper)) c.serve_connections.result out audit served)
+    door_ends g.D.Line.Link.seen (application_of c.args.desk.now.service.now) c.args.desk.now.sessions.now (D.seen c.args.door.now) (D.seen c.listen.new.self) (D.seen c.serve_connections.new.door) c.args.serving.now _
+    c.in-Ok.ensures c.serve_connections.ensures.lasts c.serve_connections.ensures.same_port (span (K.seen c.args.desk.now.keeper.now) (K.seen c.serve_connections.new.desk.keeper.now)) c.serve_connections.result out audit served)
     c.serve_connections.ensures.served
 
 pub returns-in-Err-clause-served : goal.returns-in-Err-clause-served
 returns-in-Err-clause-served g c =
     let D = g.D.Door in
     Went-none (g.O.Sink.seen c.args.out.now) (g.U.Sink.seen c.args.audit.now) _
-    (unheard_ends g.D.Line.Link.seen (application_of c.args.service.now) c.args.sessions.now (D.seen c.args.door.now) (D.seen c.listen.new.self) c.args.serving.now (g.K.Keeper.seen c.args.keeper.now) _ c.in-Err.ensures)
+    (unheard_ends g.D.Line.Link.seen (application_of c.args.desk.now.service.now) c.args.desk.now.sessions.now (D.seen c.args.door.now) (D.seen c.listen.new.self) c.args.serving.now (g.K.Keeper.seen c.args.desk.now.keeper.now) _ c.in-Err.ensures)

@@ -1,5 +1,6 @@
-use Rattle.std.proofs.Common.{refl}
 use Rattle.jac_lang.specs.Mirror.{application_of}
+use Rattle.jac_serving.proofs.DeskLemmas.{keeps-none}
+use Rattle.jac_app.specs.Answered.{answering, desk_of}
 use Rattle.jac_app.proofs.HandlingLemmas.{refused-handled}
 use Rattle.jac_app.proofs.handler.AnswererHandler.handle.Goals as goal
 
@@ -8,4 +9,7 @@ returns-in-Refused-clause-handled g c =
     let K = g.K.Keeper in
     let a = c.args.self.now in
     rw c.in-Refused.is
-    (refl, refl, refused-handled a.spelling (application_of a.service.now) a.sessions.now (K.seen a.keeper.now) c.args.conn _ _ (rw c.in-Refused.is at c.requires.refusal) c.requires.ready.1 c.answer_refused.ensures)
+    (
+      keeps-none answering (desk_of (application_of a.service.now) a.sessions.now a.keeper.ghost_name (K.seen a.keeper.now)) c.requires.ready,
+      refused-handled a.spelling (application_of a.service.now) a.sessions.now (K.seen a.keeper.now) c.args.conn _ _ (rw c.in-Refused.is at c.requires.refusal) c.requires.ready.ready c.answer_refused.ensures,
+    )

@@ -1,0 +1,6 @@
+pub mod DeskSteps
+pub mod LinkPuts
+pub mod LinkEvents
+pub mod LinkProgress
+pub mod LinkEnds
+pub mod DoorProgress

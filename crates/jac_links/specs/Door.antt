@@ -1,0 +1,77 @@
+-- Serving the links of a door, one after another.
+use Rattle.std.specs.Prelude.{◌≡◌, ◌≤◌, ◌⊎◌, ℕ, ◌+◌, Bool, true, false, IsTrue, IsOk, Result, Ok, Err, Option, Some, None, List, [], ◌∷◌, ◌++◌, length, map}
+use Rattle.jac_io.specs.Faults.{Rose}
+use Rattle.jac_io.specs.Linked.{LinkSeen, DoorSeen}
+use Rattle.jac_keep.specs.KeeperSeen.{KeeperSeen}
+use Rattle.jac_links.specs.declared.door.DoorHalt.{DoorHalt}
+use Rattle.jac_links.specs.declared.door.DoorHalt.TheVariants as halts
+use Rattle.jac_links.specs.declared.door.Tally.{Tally}
+use Rattle.jac_links.specs.declared.link.Halt.{Halt}
+use Rattle.jac_links.specs.declared.link.Halt.TheVariants as ways
+use Rattle.jac_links.specs.Link.{as_sink, IsPart, IsLinkServed}
+use Rattle.jac_serving.specs.Answering.{Entry, Answering, IsAnswering}
+use Rattle.jac_serving.specs.Log.{audited}
+use Rattle.jac_serving.specs.Outside.{Span, span, Took}
+
+-- a link as it came, as serving it left it, and what the call answered
+pub record Visit (L : Type 0) : Type 0 where
+  pub came : L
+  pub gone : L
+  pub result : Result ℕ Halt
+
+-- connection c was served: its link holds these bytes more, these are its entries, and these its lines on the audit
+pub record IsVisited {L : Type 0} (seen : L → LinkSeen) (app : Answering) (c first : ℕ) (k : Span KeeperSeen) (visit : Visit L) (mine : List Entry) (lines : List ℕ) : Type 0 where
+  pub out : List ℕ
+  pub took : Took (span (as_sink (seen visit.came)) (as_sink (seen visit.gone))) out
+  pub served : IsLinkServed app c first (span (seen visit.came) (seen visit.gone)) k visit.result out lines
+  pub entries : served.log ≡ mine
+
+-- connections were served one after another, of which the first is the c-th, before which there were `first` replies
+abbrev pub AreVisited : {L : Type 0} → (L → LinkSeen) → Answering → ℕ → ℕ → KeeperSeen → List (Visit L) → List Entry → List ℕ → KeeperSeen → Type 0
+AreVisited seen app c first before [] log audit after = (log ≡ []) × (audit ≡ []) × (after ≡ before)
+AreVisited seen app c first before (visit ∷ visits) log audit after =
+    (between : KeeperSeen) × (mine : List Entry) × (lines : List ℕ) × (others : List Entry) × (more : List ℕ)
+    × IsVisited seen app c first (span before between) visit mine lines × (log ≡ mine ++ others) × (audit ≡ lines ++ more)
+    × AreVisited seen app (c + 1) (first + length mine) between visits others more after
+
+-- the one that wasn't handed back
+abbrev pub unreturned : {L : Type 0} → Option (Visit L) → List (Visit L)
+unreturned None = []
+unreturned (Some visit) = visit ∷ []
+
+-- each of these calls answered a count
+abbrev pub AreWhole : {L : Type 0} → List (Visit L) → Type 0
+AreWhole [] = Unit {0}
+AreWhole (visit ∷ visits) = IsOk visit.result × AreWhole visits
+
+-- serving was cut short within a connection
+abbrev pub is_cut : Result Tally DoorHalt → Bool
+is_cut (Ok tally) = false
+is_cut (Err halts.Door) = false
+is_cut (Err halts.Write) = true
+is_cut (Err halts.Memory) = true
+
+-- why serving ended, of at most so many connections: that many came, or a door that tells had no more; or the call
+-- that was served last says why
+abbrev pub IsEnding : {L : Type 0} → ℕ → Span (DoorSeen L) → List (Visit L) → Option (Visit L) → List Entry → Result Tally DoorHalt → Type 0
+IsEnding most door visits last log (Ok tally) =
+    (last ≡ None) × (tally.connections ≡ length visits) × (tally.replies ≡ length log) × (length visits ≤ most)
+    × ((length visits ≡ most) ⊎ (IsTrue door.after.tells → door.after.coming ≡ []))
+IsEnding most door visits last log (Err halts.Door) = AreWhole (unreturned last) × Rose door.before.faults door.after.faults
+IsEnding {L = L} most door visits last log (Err halts.Write) = (visit : Visit L) × (last ≡ Some visit) × (visit.result ≡ Err ways.Write)
+IsEnding {L = L} most door visits last log (Err halts.Memory) = (visit : Visit L) × (last ≡ Some visit) × (visit.result ≡ Err ways.Memory)
+
+-- at most so many connections of a door were served, numbered from 1, and their replies counted from 1: each that was
+-- served whole was handed back, in order, and the one log of all shows what they leave
+pub record AreLinksServed {L : Type 0} (seen : L → LinkSeen) (app : Answering) (most : ℕ) (door : Span (DoorSeen L)) (k : Span KeeperSeen)
+    (result : Result Tally DoorHalt) (audit : List ℕ) : Type 0 where
+  pub visits : List (Visit L)
+  pub last : Option (Visit L)
+  pub log : List Entry
+  pub came : IsTrue door.after.tells → door.before.coming ≡ map (λ visit. visit.came) (visits ++ unreturned last) ++ door.after.coming
+  pub returned : IsTrue door.after.tells → door.after.returned ≡ door.before.returned ++ map (λ visit. visit.gone) visits
+  pub visited : AreVisited seen app 1 0 k.before (visits ++ unreturned last) log audit k.after
+  pub whole : AreWhole visits
+  pub entries : app.entries k log
+  pub audit_text : IsPart (is_cut result) audit (audited log)
+  pub ended : IsEnding most door visits last log result

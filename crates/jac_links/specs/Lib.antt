@@ -1,0 +1,4 @@
+pub mod Link
+pub mod LinkSteps
+pub mod Door
+pub mod DoorSteps

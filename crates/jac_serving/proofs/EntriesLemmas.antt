@@ -1,0 +1,21 @@
+-- The lines of entries, one after another.
+use Rattle.std.proofs.Common.{◌≡◌, ◌∙◌, ap, sym, subst, refl, ℕ, ◌+◌, List, [], ◌∷◌, ◌++◌, length, append_assoc, arith}
+use Rattle.jac_keep.specs.KeeperSeen.{KeeperSeen}
+use Rattle.jac_serving.specs.Answering.{Entry, Answering}
+use Rattle.jac_serving.specs.Log.{reply_line, audit_line, replies_text, audited_from}
+use Rattle.jac_serving.specs.Outside.{span}
+
+pub replies-append : (xs ys : List Entry) → replies_text (xs ++ ys) ≡ replies_text xs ++ replies_text ys
+replies-append [] ys = refl
+replies-append (x ∷ xs) ys = ap (λ (rest : List ℕ). reply_line x ++ rest) (replies-append xs ys) ∙ sym (append_assoc (reply_line x) (replies_text xs) (replies_text ys))
+
+pub audited-append : (k : ℕ) (xs ys : List Entry) → audited_from k (xs ++ ys) ≡ audited_from k xs ++ audited_from (k + length xs) ys
+audited-append k [] ys = ap (λ (n : ℕ). audited_from n ys) (omega arith)
+audited-append k (x ∷ xs) ys =
+    ap (λ (rest : List ℕ). audit_line k x ++ rest)
+    (audited-append (k + 1) xs ys ∙ ap (λ (n : ℕ). audited_from (k + 1) xs ++ audited_from n ys) (omega arith))
+    ∙ sym (append_assoc (audit_line k x) (audited_from (k + 1) xs) (audited_from (k + length (x ∷ xs)) ys))
+
+-- the keeper wasn't called
+pub entries-still : (x : Answering) (a b c : KeeperSeen) (log : List Entry) → x.entries (span a b) log → c ≡ b → x.entries (span a c) log
+entries-still x a b c log entries still = subst (λ (k : KeeperSeen). x.entries (span a k) log) (sym still) entries

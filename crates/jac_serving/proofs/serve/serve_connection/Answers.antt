@@ -1,0 +1,71 @@
+use Rattle.std.proofs.Common.{arith}
+use Rattle.jac_hub.specs.Hub.{seen}
+use Rattle.jac_serving.specs.Answering.{hearing}
+use Rattle.jac_serving.proofs.DeskLemmas.{keeps-none}
+use Rattle.jac_serving.proofs.OutsideLemmas.{Went-none, Went-on}
+use Rattle.jac_serving.proofs.HubLemmas.{event_whole}
+use Rattle.jac_serving.proofs.EventLemmas.{step_left, step_kept, event_torn, stopped_answers}
+use Rattle.jac_serving.proofs.serve.serve_connection.Goals as goal
+
+pub put_given-requires-clause-few : goal.put_given-requires-clause-few
+put_given-requires-clause-few g c =
+    let D = g.D.Desk in
+    let x = D.answering (D.seen c.args.desk.now).of in
+    let most =
+    step_left (hearing x) c.args.event.now c.requires.following.known c.in-Ok.ensures.0 (seen c.args.hub.now) (seen c.take_event.new.hub)
+    c.requires.idle c.requires.following.like c.in-Ok.ensures.1 in
+    omega (arith, c.requires.few, most)
+
+pub returns-in-Ok-put_given-clause-count : goal.returns-in-Ok-put_given-clause-count
+returns-in-Ok-put_given-clause-count g c =
+    let D = g.D.Desk in
+    let x = D.answering (D.seen c.args.desk.now).of in
+    let most =
+    step_left (hearing x) c.args.event.now c.requires.following.known c.in-Ok.ensures.0 (seen c.args.hub.now) (seen c.take_event.new.hub)
+    c.requires.idle c.requires.following.like c.in-Ok.ensures.1 in
+    omega (arith, c.in-Ok-put_given.ensures.count, most)
+
+pub returns-in-Ok-put_given-clause-answered : goal.returns-in-Ok-put_given-clause-answered
+returns-in-Ok-put_given-clause-answered g c =
+    let D = g.D.Desk in
+    let desk = D.seen c.args.desk.now in
+    let x = D.answering desk.of in
+    let old = seen c.args.hub.now in
+    let stepped = seen c.take_event.new.hub in
+    let taken = c.in-Ok.ensures in
+    Went-on _ _ _
+    (λ out audit puts n known like. (
+      step_kept (hearing x) c.args.line c.args.event.now known taken.0 old stepped like taken.1 taken.3,
+      event_whole x c.lawful.ensures c.requests_are_read.ensures n c.args.served c.in-Ok-put_given.count c.args.event.now known taken.0 old stepped (seen c.put_given.new.hub)
+          desk.keeper (D.seen c.put_given.new.desk).keeper out audit c.requires.idle like taken.1 taken.2 c.requires.desk.ready puts,
+    ))
+    c.in-Ok-put_given.ensures.put
+
+pub returns-in-Err-put_given-clause-answered : goal.returns-in-Err-put_given-clause-answered
+returns-in-Err-put_given-clause-answered g c =
+    let D = g.D.Desk in
+    let desk = D.seen c.args.desk.now in
+    let x = D.answering desk.of in
+    let old = seen c.args.hub.now in
+    let stepped = seen c.take_event.new.hub in
+    let taken = c.in-Ok.ensures in
+    Went-on _ _ _
+    (λ out audit puts n known like. (
+      step_kept (hearing x) c.args.line c.args.event.now known taken.0 old stepped like taken.1 taken.3,
+      event_torn x c.lawful.ensures c.requests_are_read.ensures n c.args.served c.args.event.now known taken.0 old stepped
+          desk.keeper (D.seen c.put_given.new.desk).keeper out audit c.requires.idle like taken.1 c.requires.desk.ready puts,
+    ))
+    c.in-Err-put_given.ensures.put
+
+pub returns-in-Err-clause-answered : goal.returns-in-Err-clause-answered
+returns-in-Err-clause-answered g c =
+    let D = g.D.Desk in
+    let desk = D.seen c.args.desk.now in
+    Went-none (g.O.Sink.seen c.args.out.now) (g.U.Sink.seen c.args.audit.now) _
+    (stopped_answers (D.answering desk.of) (seen c.args.hub.now) (seen c.take_event.new.hub) desk.keeper c.args.served c.args.line
+    c.args.event.now c.in-Err.stopped c.in-Err.ensures)
+
+pub returns-in-Err-clause-keeps : goal.returns-in-Err-clause-keeps
+returns-in-Err-clause-keeps g c =
+    let D = g.D.Desk in
+    keeps-none D.answering (D.seen c.args.desk.now) c.requires.desk

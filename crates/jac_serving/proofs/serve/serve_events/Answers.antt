@@ -1,0 +1,86 @@
+use Rattle.std.proofs.Common.{◌∙◌, ◌+◌, ap, List, ℕ, arith, Option, Ok, Err, refl}
+use denote.Ref.{Bor}
+use Rattle.jac_events.specs.Lines.{line_of}
+use Rattle.jac_hub.specs.Hub.{seen}
+use Rattle.jac_value.specs.Parts.{parts_left, option_now, length_left}
+use Rattle.jac_serving.specs.Answering.{Answering}
+use Rattle.jac_serving.specs.Desk.{kept}
+use Rattle.jac_serving.specs.Serve.{IsFollowing}
+use Rattle.jac_serving.proofs.DeskLemmas.{keeps-none, keeps-may, keeps-then, line-of, of-keeps}
+use Rattle.jac_serving.proofs.OutsideLemmas.{Went-none, Went-on, Went-then}
+use Rattle.jac_serving.proofs.ProgressLemmas.{start, go_on, stop_at, finish_left, shorter_left}
+use Rattle.jac_serving.proofs.serve.serve_events.Goals as goal
+
+pub lines-init : goal.lines-init
+lines-init g c =
+    let D = g.D.Desk in
+    let desk = D.seen c.args.desk.now in
+    let progress = start (D.answering desk.of) c.lawful.ensures (seen c.new-hub.result) desk.keeper c.args.bytes.now c.new-hub.ensures c.requires.desk.ready in
+    record {
+      short = c.requires.short;
+      lines = omega arith;
+      fewer = omega arith;
+      may_serve = c.requires.desk;
+      keeps = keeps-none D.answering desk c.requires.desk;
+      idle = progress.idle;
+      following = record { known = progress.known; like = progress.like };
+      went = Went-none (g.O.Sink.seen c.args.out.now) (g.U.Sink.seen c.args.audit.now) _ progress;
+    }
+
+pub returns-in-Err-clause-served : goal.returns-in-Err-clause-served
+returns-in-Err-clause-served g c =
+    let O = g.O.Sink in
+    let U = g.U.Sink in
+    let D = g.D.Desk in
+    let a = D.seen c.args.desk.now in
+    let b = D.seen c.lines.desk in
+    let d = D.seen c.serve_line.new.desk in
+    let parts = ap (λ (o : Option (Bor (List ℕ))). parts_left 10 (option_now o)) c.in-Some.is ∙ c.first_part.ensures.parts in
+    Went-then (O.seen c.args.out.now) (O.seen c.lines.out) (O.seen c.serve_line.new.out) (U.seen c.args.audit.now) (U.seen c.lines.audit) (U.seen c.serve_line.new.audit) _ _ _
+    (λ o au p bu progress line.
+    stop_at (D.answering a.of) c.lawful.ensures (seen c.lines.hub) (seen c.serve_line.new.hub) a.keeper b.keeper d.keeper
+    _ _ (option_now c.first_part.result.1) _ _ _ _ _ _ _ progress parts (line_of c.first_part.result.0.now) refl c.in-Err.stopped
+    (line-of D.answering a b (seen c.lines.hub) (seen c.serve_line.new.hub) (kept b d) c.lines.served (c.lines.number + 1) (line_of c.first_part.result.0.now) (Err c.in-Err.stopped) p bu c.lines.invariant.keeps line))
+    c.lines.invariant.went c.in-Err.ensures.answered
+
+pub lines-preserved : goal.lines-preserved
+lines-preserved g c =
+    let O = g.O.Sink in
+    let U = g.U.Sink in
+    let D = g.D.Desk in
+    let before = c.lines.invariant in
+    let a = D.seen c.args.desk.now in
+    let b = D.seen c.lines.desk in
+    let d = D.seen c.serve_line.new.desk in
+    let left = ap (λ (o : Option (Bor (List ℕ))). length_left (option_now o)) c.in-Some.is in
+    let parts = ap (λ (o : Option (Bor (List ℕ))). parts_left 10 (option_now o)) c.in-Some.is ∙ c.first_part.ensures.parts in
+    let keeps = keeps-then D.answering a b d before.keeps c.in-Ok.ensures.keeps in
+    let went =
+    Went-then (O.seen c.args.out.now) (O.seen c.lines.out) (O.seen c.serve_line.new.out) (U.seen c.args.audit.now) (U.seen c.lines.audit) (U.seen c.serve_line.new.audit) _ _ _
+    (λ o au p bu progress line.
+    go_on (D.answering a.of) c.lawful.ensures (seen c.lines.hub) (seen c.serve_line.new.hub) a.keeper b.keeper d.keeper
+    _ _ (option_now c.first_part.result.1) _ _ c.in-Ok.count _ _ _ _ _ progress parts (line_of c.first_part.result.0.now) refl
+    (line-of D.answering a b (seen c.lines.hub) (seen c.serve_line.new.hub) (kept b d) c.lines.served (c.lines.number + 1) (line_of c.first_part.result.0.now) (Ok c.in-Ok.count) p bu before.keeps line))
+    before.went c.in-Ok.ensures.answered in
+    record {
+      short = before.short;
+      lines = omega (arith, before.lines, left, shorter_left _ _ c.first_part.ensures.shorter);
+      fewer = omega (arith, before.fewer, c.in-Ok.ensures.count);
+      may_serve = keeps-may D.answering b d before.may_serve c.in-Ok.ensures.keeps;
+      keeps = keeps;
+      idle = went.holds.idle;
+      following =
+          of-keeps D.answering a d (λ (x : Answering). IsFollowing x (seen c.serve_line.new.hub)) keeps
+          (record { known = went.holds.known; like = went.holds.like });
+      went = went;
+    }
+
+pub returns-clause-served : goal.returns-clause-served
+returns-clause-served g c =
+    let D = g.D.Desk in
+    let a = D.seen c.args.desk.now in
+    Went-on _ _ _
+    (λ o au progress.
+    finish_left (D.answering a.of) (seen c.lines.hub) a.keeper (D.seen c.lines.desk).keeper c.args.bytes.now c.lines.left _ _ o au
+    c.in_default.not-Some progress)
+    c.lines.invariant.went

@@ -1,0 +1,29 @@
+use Rattle.std.proofs.Common.{◌≡◌, ◌+◌, ◌*◌, ◌≤◌, ◌<◌, ◌^◌, length}
+use Rattle.jac_hub.specs.declared.hub.Turn.TheVariants.{Idle}
+use Rattle.jac_hub.specs.Hub.{seen}
+use Rattle.jac_value.specs.Parts.{option_now, length_left}
+use Rattle.jac_serving.specs.Desk.{MayServe, Keeps, kept}
+use Rattle.jac_serving.specs.Outside.{Went, sinks}
+use Rattle.jac_serving.specs.Serve.{IsFollowing}
+use Rattle.jac_serving.proofs.ProgressLemmas.{Progress}
+use Rattle.jac_serving.proofs.serve.serve_events.Given as goal
+
+abbrev pub invariant-lines : goal.invariant-lines
+invariant-lines g l =
+    let O = g.O.Sink in
+    let U = g.U.Sink in
+    let D = g.D.Desk in
+    record {
+      short : length l.bytes < 2 ^ 32;
+      lines : l.number + length_left (option_now l.left) ≤ length l.bytes + 1;
+      fewer : l.served ≤ l.number * 2 ^ 26;
+      may_serve : MayServe D.answering (D.seen l.desk);
+      keeps : Keeps D.answering (D.seen l.fn.desk) (D.seen l.desk);
+      idle : (seen l.hub).turn ≡ Idle;
+      following : IsFollowing (D.answering (D.seen l.desk).of) (seen l.hub);
+      went : Went (sinks (O.seen l.fn.out) (O.seen l.out) (U.seen l.fn.audit) (U.seen l.audit))
+          (Progress (D.answering (D.seen l.fn.desk).of) (seen l.hub) (kept (D.seen l.fn.desk) (D.seen l.desk)) l.bytes (option_now l.left) l.number l.served);
+    }
+
+abbrev pub decreases-lines : goal.decreases-lines
+decreases-lines g l = length_left (option_now l.left)

@@ -1,0 +1,285 @@
+-- What serving the lines of an events file puts on the two sinks.
+use Rattle.std.specs.Prelude.{◌≡◌, ℕ, ◌+◌, ◌⊎◌, Bool, IsTrue, length, true, false, is_some, decimal, Result, Ok, Err, Option, Some, None, List, [], ◌∷◌, ◌++◌, ⊤}
+use Rattle.std.specs.List.{flat_map}
+use Rattle.jac_keep.specs.KeeperSeen.{KeeperSeen}
+use Rattle.jac_events.specs.declared.event.Event.{Event}
+use Rattle.jac_http.specs.Requests.{IsTaken}
+use Rattle.jac_http.specs.Replies.{reply_bytes, status_of_fixed}
+use Rattle.jac_hub.specs.declared.handler.Heard.{Heard}
+use Rattle.jac_hub.specs.declared.handler.Heard.TheVariants.{Whole, Refused}
+use Rattle.jac_hub.specs.declared.hub.HubFault.{HubFault}
+use Rattle.jac_hub.specs.declared.hub.HubFault.TheVariants as faults
+use Rattle.jac_hub.specs.declared.hub.HubOut.{HubOut}
+use Rattle.jac_hub.specs.declared.hub.HubOut.TheVariants.{Reply, Closed}
+use Rattle.jac_hub.specs.declared.hub.Turn.TheVariants.{Idle}
+use Rattle.jac_hub.specs.declared.sent.Sent.{Sent}
+use Rattle.jac_hub.specs.declared.sent.Sent.TheVariants.{Made, Still}
+use Rattle.jac_hub.specs.Channel.{sent_closes}
+use Rattle.jac_hub.specs.Hearing.{asked, connection, whole, refused}
+use Rattle.jac_hub.specs.Heard.{Connections, no_connections, IsBroughtBy, IsBegunBy, after_both}
+use Rattle.jac_hub.specs.Hub.{HubSeen, Steps}
+use Rattle.jac_hub.specs.Served.{AreLike, IsEmptied, IsGiven, IsLost}
+use Rattle.jac_replies.specs.declared.answer.Answer.{Answer}
+use Rattle.jac_replies.specs.declared.answer.Ask.{Ask}
+use Rattle.jac_replies.specs.declared.reply.Spelling.{Spelling}
+use Rattle.jac_replies.specs.declared.reply.Spelling.TheVariants as spellings
+use Rattle.jac_replies.specs.Failed.{status_of_stop}
+use Rattle.jac_replies.specs.Refused.{refusal}
+use Rattle.jac_replies.specs.Spelled.{reply_text, spelled, closed_text, audit_rest, audit_text}
+use Rattle.jac_serving.specs.declared.desk.Asked.{Asked}
+use Rattle.jac_serving.specs.declared.desk.Asked.TheVariants.{Answered, Unanswered}
+use Rattle.jac_serving.specs.declared.serve.Lapse.{Lapse}
+use Rattle.jac_serving.specs.declared.serve.Lapse.TheVariants as lapses
+use Rattle.jac_serving.specs.declared.serve.Stopped.{Stopped}
+use Rattle.jac_serving.specs.declared.serve.Stopped.TheVariants as stops
+use Rattle.jac_serving.specs.Answering.{Subject, Entry, is_failure, Answering, hearing, IsHeardBy}
+use Rattle.jac_serving.specs.Keeping.{IsStill}
+use Rattle.jac_serving.specs.Log.{Brings, reply_on, reply_to, reply_line, closing_text, event_text, replies_text, viewer_of, audit_line, audited, audited_from}
+use Rattle.jac_serving.specs.Outside.{Span, span, PutBoth, IsTorn, IsFront}
+use Rattle.jac_serving.specs.Script.{Script, script_of, lapse_of}
+
+-- the request of an `ask` line was answered: its reply, and what follows the number of its audit line; or it wasn't, and
+-- this says why
+abbrev pub IsAsked : Answering → Span KeeperSeen → Ask → Asked → Type 0
+IsAsked x k ask (Answered reply audit) =
+    (answer : Answer) × x.entry k (whole ask false) answer × (reply ≡ reply_to asked (whole ask false) answer) × (audit ≡ audit_rest answer.status ask.viewer answer.shown)
+IsAsked x k ask (Unanswered stop viewer) = x.entry k (whole ask false) (refusal (status_of_stop stop) None) × (viewer ≡ ask.viewer)
+
+-- what is put for it, as the k-th reply
+abbrev pub asked_line : List ℕ → Asked → List ℕ
+asked_line method (Answered reply audit) = reply
+asked_line method (Unanswered stop viewer) = reply_text method (status_of_stop stop) None (refusal (status_of_stop stop) None).body
+
+abbrev pub asked_audit : ℕ → Asked → List ℕ
+asked_audit k (Answered reply audit) = decimal k ++ audit
+asked_audit k (Unanswered stop viewer) = audit_text k (status_of_stop stop) viewer None
+
+abbrev pub subject_of : Answering → Heard → Subject
+subject_of x (Whole request) = whole (x.wants request) request.close
+subject_of x (Refused status) = refused status
+
+-- what is put for what was sent on a connection
+abbrev pub sent_on : Spelling → ℕ → Sent → List ℕ
+sent_on spelling c (Made line audit close) = line
+sent_on spelling c (Still status head viewer) = spelled spelling c (reply_bytes (status_of_fixed status) None None [] false head true)
+
+-- the line for it in a text
+abbrev pub sent_line : ℕ → Sent → List ℕ
+sent_line c sent = sent_on spellings.Quoted c sent
+
+-- the audit's line for it, of the k-th reply
+abbrev pub sent_audit : ℕ → Sent → List ℕ
+sent_audit k (Made line audit close) = decimal k ++ audit
+sent_audit k (Still status head viewer) = audit_text k (status_of_fixed status) viewer None
+
+-- what was heard of a connection has this answer, and what was sent is its reply
+pub record IsHandled (spelling : Spelling) (x : Answering) (before : KeeperSeen) (c : ℕ) (heard : Heard) (sent : Sent) (after : KeeperSeen) (answer : Answer) : Type 0 where
+  pub line : sent_on spelling c sent ≡ reply_on spelling (connection c) (subject_of x heard) answer
+  pub audit : (k : ℕ) → sent_audit k sent ≡ audit_text k answer.status (viewer_of (subject_of x heard)) answer.shown
+  pub closing : sent_closes sent ≡ is_failure answer
+  pub entry : x.entry (span before after) (subject_of x heard) answer
+
+abbrev pub handled : Spelling → Answering → KeeperSeen → ℕ → Heard → Sent → KeeperSeen → Type 0
+handled spelling x before c heard sent after = (answer : Answer) × IsHandled spelling x before c heard sent after answer
+
+-- that a connection was closed is told in a text alone
+abbrev pub closed_on : Spelling → ℕ → List ℕ
+closed_on spellings.Quoted c = closed_text c
+closed_on spellings.Raw c = []
+
+-- what is put for what a hub gives
+abbrev pub out_on : Spelling → HubOut → List ℕ
+out_on spelling (Reply c sent) = sent_on spelling c sent
+out_on spelling (Closed c) = closed_on spelling c
+
+abbrev pub outs_on : Spelling → List HubOut → List ℕ
+outs_on spelling outs = flat_map (out_on spelling) outs
+
+abbrev pub out_text : HubOut → List ℕ
+out_text given = out_on spellings.Quoted given
+
+abbrev pub outs_text : List HubOut → List ℕ
+outs_text outs = outs_on spellings.Quoted outs
+
+-- so many replies are among them
+abbrev pub replies_in : List HubOut → ℕ
+replies_in [] = 0
+replies_in (Reply c sent ∷ outs) = 1 + replies_in outs
+replies_in (Closed c ∷ outs) = replies_in outs
+
+-- their audit lines, the first of which is that of the k-th reply
+abbrev pub outs_audited : ℕ → List HubOut → List ℕ
+outs_audited k [] = []
+outs_audited k (Reply c sent ∷ outs) = sent_audit k sent ++ outs_audited (k + 1) outs
+outs_audited k (Closed c ∷ outs) = outs_audited k outs
+
+-- what was to be put for one of them was torn
+abbrev pub IsOutTorn : ℕ → HubOut → List ℕ → List ℕ → Type 0
+IsOutTorn k (Reply c sent) out audit = IsTorn (sent_line c sent) (sent_audit k sent) out audit
+IsOutTorn k (Closed c) out audit = IsFront out (closed_text c) × (audit ≡ [])
+
+-- one of them is put, behind so many replies
+abbrev pub PutsOut : {E : Type 0} → ℕ → HubOut → Result ℕ E → List ℕ → List ℕ → Type 0
+PutsOut served given (Ok count) out audit =
+    (count ≡ served + replies_in (given ∷ [])) × (out ≡ out_text given) × (audit ≡ outs_audited (served + 1) (given ∷ []))
+PutsOut served given (Err failed) out audit = IsOutTorn (served + 1) given out audit
+
+-- what a hub gave so far was put
+pub record PutsSoFar (x : Answering) (hub now : HubSeen) (k : Span KeeperSeen) (served count : ℕ) (out audit : List ℕ) : Type 0 where
+  pub outs : List HubOut
+  pub given : IsGiven IsTaken (handled spellings.Quoted x) hub outs now k.before k.after
+  pub count_is : count ≡ served + replies_in outs
+  pub out_text : out ≡ outs_text outs
+  pub audit_text : audit ≡ outs_audited (served + 1) outs
+
+-- some of what a hub gave was put, and then a put failed
+pub record PutsSome (x : Answering) (hub : HubSeen) (k : Span KeeperSeen) (served : ℕ) (out audit : List ℕ) : Type 0 where
+  pub outs : List HubOut
+  pub last : HubOut
+  pub left : HubSeen
+  pub out_torn : List ℕ
+  pub audit_torn : List ℕ
+  pub given : IsGiven IsTaken (handled spellings.Quoted x) hub (outs ++ last ∷ []) left k.before k.after
+  pub torn : IsOutTorn (served + replies_in outs + 1) last out_torn audit_torn
+  pub out_text : out ≡ outs_text outs ++ out_torn
+  pub audit_text : audit ≡ outs_audited (served + 1) outs ++ audit_torn
+
+-- all that a hub gave was put
+pub record PutsAll (x : Answering) (hub new : HubSeen) (k : Span KeeperSeen) (served count : ℕ) (out audit : List ℕ) : Type 0 where
+  pub outs : List HubOut
+  pub emptied : IsEmptied IsTaken (handled spellings.Quoted x) hub outs new k.before k.after
+  pub count_is : count ≡ served + replies_in outs
+  pub out_text : out ≡ outs_text outs
+  pub audit_text : audit ≡ outs_audited (served + 1) outs
+
+abbrev pub PutsOuts : {E : Type 0} → Answering → HubSeen → HubSeen → Span KeeperSeen → ℕ → Result ℕ E → List ℕ → List ℕ → Type 0
+PutsOuts x hub new k served (Ok count) out audit = PutsAll x hub new k served count out audit
+PutsOuts x hub new k served (Err failed) out audit = PutsSome x hub k served out audit
+
+abbrev pub lapse_by : ℕ → HubFault → Option Lapse
+lapse_by line (faults.NotOpen c) = Some (lapses.NotOpen line c)
+lapse_by line (faults.AlreadyOpen c) = Some (lapses.AlreadyOpen line c)
+lapse_by line faults.Memory = None
+
+-- a hub took the event of this line, or why it didn't
+abbrev pub TakesEvent : ℕ → HubSeen → Event → Result (Unit {0}) Stopped → HubSeen → Type 0
+TakesEvent line hub event (Ok done) new =
+    (taken : Result (Unit {0}) HubFault) × Steps hub event taken new × (IsLost event taken → ⊥) × ((taken ≡ Ok tt) ⊎ (taken ≡ Err faults.Memory))
+TakesEvent line hub event (Err (stops.Refused lapse)) new = (fault : HubFault) × Steps hub event (Err fault) new × (lapse_by line fault ≡ Some lapse)
+TakesEvent line hub event (Err stops.Memory) new = ⊤
+TakesEvent line hub event (Err stops.Write) new = ⊥
+
+-- the connections that have begun
+abbrev pub is_open : Connections Ask → ℕ → Bool
+is_open known c = is_some (known c)
+
+-- the connections of a hub between two events
+pub record IsFollowing (x : Answering) (hub : HubSeen) : Type 0 where
+  pub known : Connections Ask
+  pub like : AreLike (hearing x) hub.channels known
+
+-- the n-th event was served whole, of which the connections stood so before
+pub record IsEventServed (x : Answering) (new : HubSeen) (k : Span KeeperSeen) (served count n : ℕ) (event : Event) (known : Connections Ask) (out audit : List ℕ) : Type 0 where
+  pub mine : List Entry
+  pub brought : IsBroughtBy (hearing x) n event known mine
+  pub entries : x.entries k mine
+  pub count_is : count ≡ served + length mine
+  pub like : AreLike (hearing x) new.channels (after_both (hearing x) event mine known)
+  pub idle : new.turn ≡ Idle
+  pub out_text : out ≡ event_text x event known mine
+  pub audit_text : audit ≡ audited_from (served + 1) mine
+
+-- the lines of an entry were torn
+pub record IsEntryTorn (served : ℕ) (mine : List Entry) (out audit : List ℕ) : Type 0 where
+  pub whole_ones : List Entry
+  pub entry : Entry
+  pub out_torn : List ℕ
+  pub audit_torn : List ℕ
+  pub parts : mine ≡ whole_ones ++ entry ∷ []
+  pub torn : IsTorn (reply_line entry) (audit_line (served + length whole_ones + 1) entry) out_torn audit_torn
+  pub out_text : out ≡ replies_text whole_ones ++ out_torn
+  pub audit_text : audit ≡ audited_from (served + 1) whole_ones ++ audit_torn
+
+-- the line was torn that tells that a connection was closed
+pub record IsClosingTorn (x : Answering) (served n : ℕ) (event : Event) (known : Connections Ask) (mine : List Entry) (out audit : List ℕ) : Type 0 where
+  pub out_torn : List ℕ
+  pub brought : IsBroughtBy (hearing x) n event known mine
+  pub torn : IsFront out_torn (closing_text event known (after_both (hearing x) event mine known))
+  pub out_text : out ≡ replies_text mine ++ out_torn
+  pub audit_text : audit ≡ audited_from (served + 1) mine
+
+-- the first entries of the n-th event were answered, and a put failed
+pub record IsEventTorn (x : Answering) (k : Span KeeperSeen) (served n : ℕ) (event : Event) (known : Connections Ask) (out audit : List ℕ) : Type 0 where
+  pub mine : List Entry
+  pub begun : IsBegunBy (hearing x) n event known mine
+  pub entries : x.entries k mine
+  pub torn : IsEntryTorn served mine out audit ⊎ IsClosingTorn x served n event known mine out audit
+
+-- an event is served, whichever connections the hub may stand for; it stands on this line
+abbrev pub AnswersEvent : Answering → HubSeen → HubSeen → Span KeeperSeen → ℕ → ℕ → Event → Result ℕ Stopped → List ℕ → List ℕ → Type 0
+AnswersEvent x hub new k served line event (Ok count) out audit =
+    (n : ℕ) (known : Connections Ask) → AreLike (hearing x) hub.channels known
+    → (lapse_of line (is_open known) event ≡ None) × IsEventServed x new k served count n event known out audit
+AnswersEvent x hub new k served line event (Err (stops.Refused lapse)) out audit =
+    ((known : Connections Ask) → AreLike (hearing x) hub.channels known → lapse_of line (is_open known) event ≡ Some lapse)
+    × (out ≡ []) × (audit ≡ []) × IsStill k
+AnswersEvent x hub new k served line event (Err stops.Memory) out audit = (out ≡ []) × (audit ≡ []) × IsStill k
+AnswersEvent x hub new k served line event (Err stops.Write) out audit =
+    (n : ℕ) (known : Connections Ask) → AreLike (hearing x) hub.channels known
+    → (lapse_of line (is_open known) event ≡ None) × IsEventTorn x k served n event known out audit
+
+-- a line by what it writes down: nothing, an event, or it has no form
+abbrev pub AnswersLine : Answering → HubSeen → HubSeen → Span KeeperSeen → ℕ → ℕ → Option (Option Event) → Result ℕ Stopped → List ℕ → List ℕ → Type 0
+AnswersLine x hub new k served line written (Err stops.Memory) out audit = (out ≡ []) × (audit ≡ []) × IsStill k
+AnswersLine x hub new k served line None result out audit =
+    (result ≡ Err (stops.Refused (lapses.NoForm line))) × (out ≡ []) × (audit ≡ []) × IsStill k
+AnswersLine x hub new k served line (Some None) result out audit =
+    (result ≡ Ok served) × (new ≡ hub) × (out ≡ []) × (audit ≡ []) × IsStill k
+AnswersLine x hub new k served line (Some (Some event)) result out audit = AnswersEvent x hub new k served line event result out audit
+
+-- these events were served, or, where it may stop early, the first of them: the log has what they bring, and its
+-- entries were answered
+pub record IsServed (early : Bool) (x : Answering) (k : Span KeeperSeen) (events : List Event) (log : List Entry) : Type 0 where
+  pub subjects : IsHeardBy early (hearing x) events log
+  pub entries : x.entries k log
+
+-- and their lines were put whole: the text is that of the events that were served
+pub record PutsServed (early : Bool) (x : Answering) (k : Span KeeperSeen) (script : Script) (out audit : List ℕ) : Type 0 where
+  pub events : List Event
+  pub unserved : List Event
+  pub log : List Entry
+  pub later : Connections Ask
+  pub parts : script.events ≡ events ++ unserved
+  pub ended : early ≡ false → unserved ≡ []
+  pub served : IsServed early x k script.events log
+  pub out_text : Brings x no_connections 0 events log out later
+  pub audit_text : audit ≡ audited log
+
+-- the first events were served, and the lines of the one behind them were torn
+pub record PutsTorn (x : Answering) (k : Span KeeperSeen) (script : Script) (out audit : List ℕ) : Type 0 where
+  pub events : List Event
+  pub event : Event
+  pub unserved : List Event
+  pub log : List Entry
+  pub mine : List Entry
+  pub known : Connections Ask
+  pub text : List ℕ
+  pub out_more : List ℕ
+  pub audit_more : List ℕ
+  pub parts : script.events ≡ events ++ event ∷ unserved
+  pub served : IsServed true x k script.events (log ++ mine)
+  pub brought : Brings x no_connections 0 events log text known
+  pub begun : IsBegunBy (hearing x) (length events) event known mine
+  pub torn : IsEntryTorn (length log) mine out_more audit_more
+      ⊎ IsClosingTorn x (length log) (length events) event known mine out_more audit_more
+  pub out_text : out ≡ text ++ out_more
+  pub audit_text : audit ≡ audited log ++ audit_more
+
+-- how serving the events of a file ends
+abbrev pub ServesAs : Answering → Span KeeperSeen → List ℕ → Result (Unit {0}) Stopped → List ℕ → List ℕ → Type 0
+ServesAs x k bytes (Ok done) out audit =
+    ((script_of bytes).refused ≡ None) × PutsServed false x k (script_of bytes) out audit
+ServesAs x k bytes (Err (stops.Refused lapse)) out audit =
+    ((script_of bytes).refused ≡ Some lapse) × PutsServed false x k (script_of bytes) out audit
+ServesAs x k bytes (Err stops.Memory) out audit = PutsServed true x k (script_of bytes) out audit
+ServesAs x k bytes (Err stops.Write) out audit = PutsTorn x k (script_of bytes) out audit

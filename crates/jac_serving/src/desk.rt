@@ -1,0 +1,60 @@
+ghost use Rattle.std.specs.Prelude.{◌≡◌, ◌<◌, ℕ, Option, List, None, IfSome};
+ghost use Rattle.jac_http.specs.Requests.{IsTaken};
+ghost use Rattle.jac_hub.specs.Hub.{seen as hub_seen, Nexts, left};
+ghost use Rattle.jac_hub.specs.declared.hub.Turn.TheVariants.{Idle};
+ghost use Rattle.jac_serving.specs.Answering.{Answering, IsAnswering};
+ghost use Rattle.jac_serving.specs.Desk.{DeskSeen, MayServe, Keeps, kept};
+ghost use Rattle.jac_serving.specs.Serve.{IsAsked, handled};
+
+use jac_hub::{Hub, HubOut};
+use jac_keep::Stop;
+use jac_replies::Spelling;
+use jac_value::{Bytes, Id, Txt};
+use std::alloc::Global;
+
+/// What a desk makes of the request of an `ask` line.
+#[derive(Drop)]
+pub enum Asked {
+    /// The line of its reply, and what follows the number in its audit line.
+    Answered { reply: Bytes, audit: Txt },
+    /// Why it wasn't answered, and who asked.
+    Unanswered { stop: Stop, viewer: Option<Id> },
+}
+
+/// Who answers requests: an application over a keeper.
+pub trait Desk {
+    /// What tells one desk from another.
+    ghost Of: { Type 0 };
+
+    /// How its application answers.
+    ghost answering: { Of → Answering };
+
+    ghost seen: { Self → DeskSeen Of };
+
+    fn alloc(&self) -> Global;
+
+    /// The next thing that a hub gives, whose replies are spelled so.
+    fn next_out(&mut self, spelling: Spelling, hub: &mut Hub) -> Option<HubOut>
+        requires { MayServe answering (seen self.old) }
+        ensures next { Nexts IsTaken (handled spelling (answering (seen self.old).of)) (hub_seen hub.old) (hub_seen hub.old).turn result (hub_seen hub.new) (seen self.old).keeper (seen self.new).keeper }
+        ensures idle { result ≡ None → (hub_seen hub.new).turn ≡ Idle }
+        ensures nearer { IfSome result (λ out. left (hub_seen hub.new) < left (hub_seen hub.old)) }
+        ensures keeps { Keeps answering (seen self.old) (seen self.new) };
+
+    /// Answers the request of an `ask` line.
+    fn ask(
+        &mut self,
+        viewer: Option<u128>,
+        method: &Txt,
+        path: &Txt,
+        query: &Bytes,
+        body: &Bytes,
+    ) -> Asked
+        requires { MayServe answering (seen self.old) }
+        ensures asked { IsAsked (answering (seen self.old).of) (kept (seen self.old) (seen self.new)) ((answering (seen self.old).of).asks viewer method.now path.now query.now body.now) result }
+        ensures keeps { Keeps answering (seen self.old) (seen self.new) };
+
+    /// A law: what serves a desk may rest on how its application answers.
+    fn lawful(&self)
+        ensures { IsAnswering (answering (seen self.now).of) };
+}

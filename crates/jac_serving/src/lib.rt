@@ -1,0 +1,13 @@
+//! Events of a text are taken by a hub, over any desk that answers requests, and what it gives is put in order: the
+//! audit's line first, and then the reply.
+#![tactic(auto)]
+
+mod desk;
+mod outside;
+mod puts;
+mod serve;
+
+pub use desk::{Asked, Desk};
+pub use outside::{put, put_five, put_four, put_three, put_two};
+pub use puts::{put_asked, put_failed_audit, put_numbered};
+pub use serve::{Lapse, Stopped, serve_events};
