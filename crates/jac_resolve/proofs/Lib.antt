@@ -4,3 +4,4 @@ pub mod Greedy
 pub mod Recalling
 pub mod Rising
 pub mod Standing
+pub mod Underway

@@ -1,98 +1,84 @@
 -- Answers that are remembered, over plain lists.
-use Rattle.std.proofs.Common.{◌≡◌, ◌==◌, ◌||◌, ℕ, Bool, true, false, not, if◌then◌else◌, List, [], ◌∷◌, Option, ◌⊎◌, inl, inr, take, drop, insert, filter, refl, ap, sym, ◌∙◌}
-use Rattle.std.specs.List.{All}
-use Rattle.std.proofs.lemmas.Bool.Decides.{Decides-eqb}
-use Rattle.std.proofs.lemmas.List.Elements.{All-cons, All-append, All-drop, All-head, All-nil, All-tail, All-take}
-use Rattle.jac_world.specs.World.{shown}
-use Rattle.jac_lang.specs.Syntax.{Application}
-use Rattle.jac_plain.specs.Requests.{Worlds}
-use Rattle.jac_plain.specs.Policies.{is_allowed}
-use Rattle.jac_pruned.specs.Consulted.{Agrees}
-use Rattle.jac_resolve.specs.declared.recall.Answer.{Answer}
-use Rattle.jac_resolve.specs.declared.recall.Remembered.{Remembered}
-use Rattle.jac_resolve.specs.Recalled.{AreRight, IsAnswer, IsRight, ShowsAlso}
+use Rattle.std.proofs.Common.{◌≡◌, ◌==◌, ◌&&◌, ◌||◌, ℕ, Bool, true, false, if◌then◌else◌, List, [], ◌∷◌, ◌++◌, Option, Some, None, refl, ap, sym, subst, ◌∙◌, arith, unwrap_or}
+use Rattle.std.specs.Ordering.{nat_cmp, is_eq}
+use Rattle.std.proofs.lemmas.Bool.Decides.{nat_tests, Decides-eqb}
+use Rattle.jac_world.specs.World.{shown, holds, IsAscending, IsRising}
+use Rattle.jac_resolve.specs.declared.recall.Given.{Given}
+use Rattle.jac_resolve.specs.declared.recall.Known.{Known}
+use Rattle.jac_resolve.specs.Recalled.{first_fitting, or_known, recall_in, signed, watched_in}
 
--- what is remembered
+-- one answer more of a label
 
--- a label that wasn't consulted is none of those that were
-differs : (consulted : List ℕ) (added k : ℕ) → shown consulted added ≡ false → shown consulted k ≡ true → (added == k) ≡ false
-differs consulted added k none some = differs_if (added == k) refl
-  where
-    differs_if : (b : Bool) → (added == k) ≡ b → (added == k) ≡ false
-    differs_if true e = absurd (let is : added ≡ k = (Decides-eqb added k).0 e in let same : true ≡ false = sym some ∙ ap (shown consulted) (sym is) ∙ none in cc)
-    differs_if false e = e
+more_if : (b y : Bool) (p q : Option Bool) (c : Known) (w : ℕ → Bool) → p ≡ or_known q c w → (if b then Some y else p) ≡ or_known (if b then Some y else q) c w
+more_if true y p q c w h = refl
+more_if false y p q c w h = h
 
-pub was_not : (b : Bool) → not b ≡ true → b ≡ false
-was_not true h = absurd cc
-was_not false h = refl
+one_more : (xs : List Known) (c : Known) (w : ℕ → Bool) → first_fitting (xs ++ c ∷ []) w ≡ or_known (first_fitting xs w) c w
+one_more [] c w = refl
+one_more (x ∷ xs) c w = more_if (holds w x.when) x.holds (first_fitting (xs ++ c ∷ []) w) (first_fitting xs w) c w (one_more xs c w)
 
-pub was : (b : Bool) → not b ≡ false → b ≡ true
-was true h = refl
-was false h = absurd cc
+abbrev pub items_in : Option Given → List Known
+items_in None = []
+items_in (Some given) = given.answers.items
 
--- what stays remembered once the label is shown
-abbrev pub stays_known : ℕ → Remembered → Bool
-stays_known label known = (known.label == label) || not (shown known.consulted label)
+recalled_items : (old : Option Given) (w : ℕ → Bool) → recall_in old w ≡ first_fitting (items_in old) w
+recalled_items None w = refl
+recalled_items (Some given) w = refl
 
--- whether another label is shown is nothing to an answer that doesn't hang on it
-module _ (app : Application) (worlds : Worlds) (viewer : Option ℕ) where
-  pub answer_beside : (v w : ℕ → Bool) (known : Remembered) (added : ℕ) (answer : Answer) → answer.holds ≡ known.answer → answer.stays ≡ not (shown known.consulted added) →
-      IsRight app worlds viewer v known → ShowsAlso known.label v w → IsAnswer app worlds viewer w known.label added answer
-  answer_beside v w known added answer holds stays right also = record {
-    holds = holds ∙ right.each w (record { each = λ k s. sym (also k) });
-    stays = λ unmoved u more. holds ∙ right.each u (record {
-      each = λ k s. sym (also k) ∙ sym (ap (λ b. b || w k) (differs known.consulted added k (was_not (shown known.consulted added) (sym stays ∙ unmoved)) s)) ∙ sym (more k);
-    });
-  }
+given_if : (old : Option Given) (given : Given) (known : Known) (b : Bool) (w : ℕ → Bool) → (b ≡ true → given.answers.items ≡ items_in old ++ known ∷ []) →
+    recall_in (if b then Some given else old) w ≡ (if b then or_known (recall_in old w) known w else recall_in old w)
+given_if old given known true w is = ap (λ xs. first_fitting xs w) (is refl) ∙ one_more (items_in old) known w ∙ ap (λ o. or_known o known w) (sym (recalled_items old w))
+given_if old given known false w is = refl
 
-  -- an answer that was asked under an assignment which shows the label
-  pub right_under : (v w : ℕ → Bool) (known : Remembered) → ShowsAlso known.label v w → ((u : ℕ → Bool) → Agrees known.consulted w u → known.answer ≡ is_allowed app (worlds u) viewer known.label) →
-      IsRight app worlds viewer v known
-  right_under v w known also promise = record { each = λ u agree. promise u (record { each = λ k s. also k ∙ agree.each k s }) }
+pub given_more : (old : ℕ → Option Given) (new : Option Given) (given : Given) (known : Known) (label k : ℕ) (w : ℕ → Bool) →
+    new ≡ (if label == k then Some given else old k) → given.answers.items ≡ items_in (old label) ++ known ∷ [] →
+    recall_in new w ≡ (if label == k then or_known (recall_in (old k) w) known w else recall_in (old k) w)
+given_more old new given known label k w new_is is =
+    ap (λ o. recall_in o w) new_is
+    ∙ given_if (old k) given known (label == k) w (λ e. is ∙ ap (λ (i : ℕ). items_in (old i) ++ known ∷ []) ((Decides-eqb label k).0 e))
 
-  same_beside : (own added was : Bool) → (own ≡ added) ⊎ (added ≡ false) → (own || was) ≡ (own || (added || was))
-  same_beside true added was h = refl
-  same_beside false false was h = refl
-  same_beside false true was (inl h) = absurd cc
-  same_beside false true was (inr h) = absurd cc
+pub or_none : (old : Option Given) (none : Given) → none.answers.items ≡ [] → (unwrap_or old none).answers.items ≡ items_in old
+or_none None none empty = empty
+or_none (Some given) none empty = refl
 
-  stays_right_if : (label : ℕ) (v w : ℕ → Bool) (known : Remembered) → ShowsAlso label v w → IsRight app worlds viewer v known →
-      ((k : ℕ) → shown known.consulted k ≡ true → ((known.label == k) ≡ (label == k)) ⊎ ((label == k) ≡ false)) → IsRight app worlds viewer w known
-  stays_right_if label v w known also right apart = record {
-    each = λ u agree. right.each u (record {
-      each = λ k s. same_beside (known.label == k) (label == k) (v k) (apart k s) ∙ ap (λ b. (known.label == k) || b) (sym (also k)) ∙ agree.each k s;
-    });
-  }
+pub is_at_number : (k j : ℕ) → is_eq (nat_cmp k j) ≡ (k == j)
+is_at_number k j = grind (arith, nat_tests)
 
-  stays_right : (label : ℕ) (v w : ℕ → Bool) (known : Remembered) (own : Bool) → (known.label == label) ≡ own → (own || not (shown known.consulted label)) ≡ true → ShowsAlso label v w →
-      IsRight app worlds viewer v known → IsRight app worlds viewer w known
-  stays_right label v w known true e h also right =
-      let is : known.label ≡ label = (Decides-eqb known.label label).0 e in
-      stays_right_if label v w known also right (λ k s. inl (ap (λ j. j == k) is))
-  stays_right label v w known false e h also right =
-      stays_right_if label v w known also right (λ k s. inr (differs known.consulted label k (was_not (shown known.consulted label) h) s))
+-- one watcher more of a label
 
-  pub kept_right : (label : ℕ) (v w : ℕ → Bool) → ShowsAlso label v w → (answers : List Remembered) → AreRight app worlds viewer v answers →
-      AreRight app worlds viewer w (filter (stays_known label) answers)
-  kept_right label v w also [] right = All-nil (IsRight app worlds viewer w)
-  kept_right label v w also (known ∷ answers) right =
-      kept_if (stays_known label known) refl (kept_right label v w also answers (All-tail (IsRight app worlds viewer v) known answers right))
-    where
-      kept_if : (b : Bool) → stays_known label known ≡ b → AreRight app worlds viewer w (filter (stays_known label) answers) →
-          AreRight app worlds viewer w (if b then known ∷ filter (stays_known label) answers else filter (stays_known label) answers)
-      kept_if true e rest =
-          All-cons (IsRight app worlds viewer w) known (filter (stays_known label) answers)
-          (stays_right label v w known (known.label == label) refl e also (All-head (IsRight app worlds viewer v) known answers right)) rest
-      kept_if false e rest = rest
+watched_if : (old : Option (List ℕ)) (watchers : List ℕ) (b : Bool) (label j : ℕ) → (b ≡ true → shown watchers j ≡ ((label == j) || watched_in old j)) →
+    watched_in (if b then Some watchers else old) j ≡ ((b && label == j) || watched_in old j)
+watched_if old watchers true label j is = is refl
+watched_if old watchers false label j is = refl
 
--- one more among what has a property
-pub inserted_has : {X : Type 0} (P : X → Type 0) (xs : List X) (i : ℕ) (x : X) → All P xs → P x → All P (insert xs i x)
-inserted_has P xs i x all one = All-append P (take i xs) (x ∷ drop i xs) (All-take P i xs all) (All-cons P x (drop i xs) one (All-drop P i xs all))
+or_nobody : (old : Option (List ℕ)) (none : List ℕ) (j : ℕ) → none ≡ [] → shown (unwrap_or old none) j ≡ watched_in old j
+or_nobody None none j empty = ap (λ l. shown l j) empty
+or_nobody (Some watchers) none j empty = refl
 
--- a label that is shown is shown beside
-pub shows_own : (v : ℕ → Bool) (label : ℕ) → v label ≡ true → ShowsAlso label v v
-shows_own v label own k = shows_if (label == k) refl
-  where
-    shows_if : (b : Bool) → (label == k) ≡ b → v k ≡ (b || v k)
-    shows_if true e = ap v (sym ((Decides-eqb label k).0 e)) ∙ own
-    shows_if false e = refl
+pub watched_more : (old : ℕ → Option (List ℕ)) (new : Option (List ℕ)) (before watchers none : List ℕ) (watched label k j : ℕ) →
+    new ≡ (if watched == k then Some watchers else old k) → none ≡ [] → before ≡ unwrap_or (old watched) none → shown watchers j ≡ ((label == j) || shown before j) →
+    watched_in new j ≡ ((watched == k && label == j) || watched_in (old k) j)
+watched_more old new before watchers none watched label k j new_is empty before_is more =
+    ap (λ o. watched_in o j) new_is
+    ∙ watched_if (old k) watchers (watched == k) label j
+    (λ e. more
+    ∙ ap (λ l. (label == j) || shown l j) before_is
+    ∙ ap (λ b. (label == j) || b) (or_nobody (old watched) none j empty)
+    ∙ ap (λ (i : ℕ). (label == j) || watched_in (old i) j) ((Decides-eqb watched k).0 e))
+
+-- the first answer that fits, one after another
+
+pub fits_not : (xs rest : List Known) (x : Known) (w : ℕ → Bool) (all : Option Bool) → xs ≡ x ∷ rest → holds w x.when ≡ false → first_fitting xs w ≡ all → first_fitting rest w ≡ all
+fits_not xs rest x w all is fails so_far = ap (λ b. if b then Some x.holds else first_fitting rest w) (sym fails) ∙ ap (λ l. first_fitting l w) (sym is) ∙ so_far
+
+pub fits_here : (xs rest : List Known) (x : Known) (w : ℕ → Bool) (all : Option Bool) → xs ≡ x ∷ rest → holds w x.when ≡ true → first_fitting xs w ≡ all → Some x.holds ≡ all
+fits_here xs rest x w all is fits so_far = ap (λ b. if b then Some x.holds else first_fitting rest w) (sym fits) ∙ ap (λ l. first_fitting l w) (sym is) ∙ so_far
+
+pub signed_rises : (w : ℕ → Bool) (ks : List ℕ) → IsAscending ks → IsRising (signed w ks)
+signed_rises w [] up = tt
+signed_rises w (k ∷ []) up = (tt, tt)
+signed_rises w (k ∷ (j ∷ ks)) up = (up.0, signed_rises w (j ∷ ks) up.1)
+
+-- what holds of a value holds of one that is equal to it
+pub at_end : {M : Type 0} (P : M → Type 0) (m n : M) → P n → m ≡ n → P m
+at_end P m n holds_there is = subst P (sym is) holds_there

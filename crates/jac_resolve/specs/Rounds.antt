@@ -1,14 +1,12 @@
 -- What the steps of the greedy pass leave. The definition of a settled set knows none of it.
 use Rattle.std.specs.Prelude.{◌≡◌, ℕ, ◌+◌, ◌<◌, Bool, true, false, if◌then◌else◌, ◌||◌, List, [], ◌∷◌, Option, ⊤}
-use Rattle.std.specs.List.{list_all}
 use Rattle.jac_world.specs.World.{shown}
 use Rattle.jac_lang.specs.Syntax.{Application}
 use Rattle.jac_rows.specs.Project.{project_at}
-use Rattle.jac_rows.specs.declared.plain.PlainState.{PlainState}
 use Rattle.jac_plain.specs.Requests.{Worlds}
 use Rattle.jac_rows.specs.declared.state.State.{State}
 use Rattle.jac_rows.specs.Good.{IsSound}
-use Rattle.jac_plain.specs.Policies.{is_allowed, with_label, IsLiveLabel, ShowsForbidden, AreAllowed}
+use Rattle.jac_plain.specs.Policies.{with_label, IsLiveLabel, ShowsForbidden, AreAllowed}
 
 -- the worlds of a faceted state
 abbrev pub worlds_of : State → Worlds
@@ -23,10 +21,6 @@ pub record HasSoundTables (s : State) : Type 0 where
 pub record AreLive (app : Application) (worlds : Worlds) (labels : List ℕ) : Type 0 where
   pub only : (k : ℕ) → shown labels k ≡ true → IsLiveLabel app worlds k
   pub every : (k : ℕ) → IsLiveLabel app worlds k → shown labels k ≡ true
-
--- whether each of the labels is allowed under an assignment
-abbrev pub all_allowed : Application → PlainState → Option ℕ → List ℕ → Bool
-all_allowed app t viewer labels = list_all (λ k. is_allowed app t viewer k) labels
 
 -- how many of the labels aren't shown
 abbrev pub hidden_count : (ℕ → Bool) → List ℕ → ℕ

@@ -1,7 +1,9 @@
-ghost use Rattle.std.specs.Prelude.{◌≡◌, ℕ};
+ghost use Rattle.std.specs.Prelude.{◌≡◌, ◌==◌, ◌||◌, [], ℕ, IfOk, OnOk};
 ghost use Rattle.jac_world.specs.World.{shown, IsAscending};
 
+use jac_value::Memory;
 use jac_world::Label;
+use std::alloc::Global;
 use std::marker::Model;
 
 /// Labels by rising number, each once.
@@ -22,6 +24,14 @@ impl Model for Labels {
 }
 
 impl Labels {
+    pub fn empty(alloc: Global) -> Labels
+        ensures { result ≡ [] }
+    {
+        Labels {
+            labels: Vec::new(alloc),
+        }
+    }
+
     /// The labels by rising number.
     pub fn rising(labels: Vec<Label>) -> Labels
         ensures same { (k : ℕ) → shown result k ≡ shown labels.items k }
@@ -37,6 +47,20 @@ impl Labels {
     {
         self.labels.as_slice()
     }
+
+    /// The same labels and this one.
+    pub fn add(&mut self, label: Label) -> Result<(), Memory>
+        ensures { OnOk result ((k : ℕ) → shown self.new k ≡ (label == k || shown self.old k)) }
+    {
+        add_label(&mut self.labels, label)
+    }
+
+    pub fn copy(&self, alloc: Global) -> Result<Labels, Memory>
+        ensures { IfOk result (λ a. a ≡ self.now) }
+    {
+        let labels = Vec::from_slice(alloc, self.labels.as_slice())?;
+        Ok(Labels { labels })
+    }
 }
 
 fn sorted(labels: Vec<Label>) -> Vec<Label>
@@ -47,4 +71,18 @@ fn sorted(labels: Vec<Label>) -> Vec<Label>
     labels.sort_unstable();
     labels.dedup();
     labels
+}
+
+fn add_label(labels: &mut Vec<Label>, label: Label) -> Result<(), Memory>
+    requires { IsAscending labels.old.items }
+    ensures added { OnOk result ((k : ℕ) → shown labels.new.items k ≡ (label == k || shown labels.old.items k)) }
+    ensures ascending { IsAscending labels.new.items }
+{
+    match labels.as_slice().binary_search(&label) {
+        Ok(_) => Ok(()),
+        Err(place) => {
+            labels.insert(place, label)?;
+            Ok(())
+        }
+    }
 }

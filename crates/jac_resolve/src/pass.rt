@@ -1,16 +1,16 @@
 //! The greedy pass that settles which labels a viewer is shown.
-ghost use Rattle.std.specs.Prelude.{◌≡◌, ◌≤◌, ℕ, Bool, true, IfOk, OnOk, IsTrue};
-ghost use Rattle.jac_world.specs.World.{shown};
+ghost use Rattle.std.specs.Prelude.{◌≡◌, ◌==◌, ◌≤◌, ℕ, Bool, true, is_some, IfOk, OnOk, IsTrue};
+ghost use Rattle.jac_world.specs.World.{shown, holds};
 ghost use Rattle.jac_lang.specs.Mirror.{application_of};
 ghost use Rattle.jac_keep.specs.Worked.{state_of, IsTold, ReadsWork};
-ghost use Rattle.jac_plain.specs.Policies.{AreAllowed, IsSettled, is_allowed};
-ghost use Rattle.jac_resolve.specs.Recalled.{AreRight, IsAnswer, IsRight, ShowsAlso};
-ghost use Rattle.jac_resolve.specs.Rounds.{worlds_of, HasSoundTables, AreLive, all_allowed, MayAdd, Tries, Advances, Within, Fills};
+ghost use Rattle.jac_plain.specs.Policies.{IsSettled, is_allowed};
+ghost use Rattle.jac_resolve.specs.Recalled.{AreRight, Fitting, Grown, IsRight, IsUnderway, Stays, recall, touched};
+ghost use Rattle.jac_resolve.specs.Rounds.{worlds_of, HasSoundTables, AreLive, MayAdd, Tries, Advances, Within, Fills};
 
 use crate::live::live_labels;
 use crate::memory::from_world;
 use crate::permission::allowed;
-use crate::recall::{Answer, Remembered, forget, recalled, remember};
+use crate::recall::{Answers, Known, is_shown, signs};
 use jac_keep::{Keeper, Stop, Work};
 use jac_lang::App;
 use jac_value::Id;
@@ -54,7 +54,7 @@ fn settle<K: Keeper, M: Ledger>(
     ensures reads { ReadsWork K.seen work.old work.new result }
 {
     let mut assignment = Assignment::empty(alloc);
-    let mut answers = Vec::new(alloc);
+    let mut answers = Answers::empty(alloc);
     'rounds: loop {
         let added = try_labels(
             alloc,
@@ -80,15 +80,14 @@ fn try_labels<K: Keeper, M: Ledger>(
     viewer: &Option<Id>,
     labels: &[Label],
     a: &mut Assignment,
-    answers: &mut Vec<Remembered>,
+    answers: &mut Answers,
     evaluations: &mut Steps<M>,
 ) -> Result<bool, Stop>
-    requires { IsTrue (K.seen work.old.keeper.now).store.attached }
+    requires attached { IsTrue (K.seen work.old.keeper.now).store.attached }
     ensures advances { IfOk result (Advances labels.now a.old a.new) }
     ensures within { IfOk result (λ b. Within labels.now a.old a.new) }
-    ensures allowed { IsTold K.seen work.new → AreRight (application_of app.now) (worlds_of (state_of K.seen work.old)) viewer.now (shown a.old) answers.old.items → AreAllowed (application_of app.now) (worlds_of (state_of K.seen work.old)) viewer.now a.old → IfOk result (λ b. AreAllowed (application_of app.now) (worlds_of (state_of K.seen work.old)) viewer.now a.new) }
-    ensures fills { IsTold K.seen work.new → AreRight (application_of app.now) (worlds_of (state_of K.seen work.old)) viewer.now (shown a.old) answers.old.items → IfOk result (Fills (application_of app.now) (worlds_of (state_of K.seen work.old)) viewer.now labels.now a.new) }
-    ensures right { IsTold K.seen work.new → AreRight (application_of app.now) (worlds_of (state_of K.seen work.old)) viewer.now (shown a.old) answers.old.items → OnOk result (AreRight (application_of app.now) (worlds_of (state_of K.seen work.old)) viewer.now (shown a.new) answers.new.items) }
+    ensures underway { IsTold K.seen work.new → IsUnderway (application_of app.now) (worlds_of (state_of K.seen work.old)) viewer.now a.old answers.old → OnOk result (IsUnderway (application_of app.now) (worlds_of (state_of K.seen work.old)) viewer.now a.new answers.new) }
+    ensures fills { IsTold K.seen work.new → IsUnderway (application_of app.now) (worlds_of (state_of K.seen work.old)) viewer.now a.old answers.old → IfOk result (Fills (application_of app.now) (worlds_of (state_of K.seen work.old)) viewer.now labels.now a.new) }
     ensures later { evaluations.old ≤ evaluations.new }
     ensures reads { ReadsWork K.seen work.old work.new result }
 {
@@ -108,86 +107,92 @@ fn try_label<K: Keeper, M: Ledger>(
     viewer: &Option<Id>,
     label: Label,
     a: &mut Assignment,
-    answers: &mut Vec<Remembered>,
+    answers: &mut Answers,
     evaluations: &mut Steps<M>,
 ) -> Result<bool, Stop>
-    requires { IsTrue (K.seen work.old.keeper.now).store.attached }
+    requires attached { IsTrue (K.seen work.old.keeper.now).store.attached }
     ensures grows { IfOk result (MayAdd label a.old a.new) }
-    ensures tries { IsTold K.seen work.new → AreRight (application_of app.now) (worlds_of (state_of K.seen work.old)) viewer.now (shown a.old) answers.old.items → IfOk result (Tries (application_of app.now) (worlds_of (state_of K.seen work.old)) viewer.now label a.old a.new) }
-    ensures right { IsTold K.seen work.new → AreRight (application_of app.now) (worlds_of (state_of K.seen work.old)) viewer.now (shown a.old) answers.old.items → OnOk result (AreRight (application_of app.now) (worlds_of (state_of K.seen work.old)) viewer.now (shown a.new) answers.new.items) }
+    ensures tries { IsTold K.seen work.new → IsUnderway (application_of app.now) (worlds_of (state_of K.seen work.old)) viewer.now a.old answers.old → IfOk result (Tries (application_of app.now) (worlds_of (state_of K.seen work.old)) viewer.now label a.old a.new) }
+    ensures underway { IsTold K.seen work.new → IsUnderway (application_of app.now) (worlds_of (state_of K.seen work.old)) viewer.now a.old answers.old → OnOk result (IsUnderway (application_of app.now) (worlds_of (state_of K.seen work.old)) viewer.now a.new answers.new) }
     ensures later { evaluations.old ≤ evaluations.new }
     ensures reads { ReadsWork K.seen work.old work.new result }
 {
-    if a.shows(label) {
+    if is_shown(a, label) {
+        return Ok(false);
+    }
+    if answers.refuses(a, label) {
         return Ok(false);
     }
     let more = from_world(a.with(alloc, label))?;
-    // Most labels fail by their own policy, so it is asked first.
-    let own = ask(
-        alloc,
-        work,
-        app,
-        viewer,
-        &more,
-        label,
-        label,
-        answers,
-        evaluations,
-    )?;
-    if !own.holds {
-        return Ok(false);
-    }
-    let stay = all_stay_allowed(
-        alloc,
-        work,
-        app,
-        viewer,
-        a,
-        &more,
-        label,
-        answers,
-        evaluations,
-    )?;
+    let stay = may_stay(alloc, work, app, viewer, &more, label, answers, evaluations)?;
     if !stay {
         return Ok(false);
     }
-    forget(answers, label);
     *a = more;
     Ok(true)
 }
 
-// Whether each label of the assignment is allowed under that which shows one more.
-fn all_stay_allowed<K: Keeper, M: Ledger>(
+// Whether the label that was added is allowed under the assignment, and so are those that watch it. No answer of
+// another label hangs on it.
+fn may_stay<K: Keeper, M: Ledger>(
     alloc: Global,
     work: &mut Work<'_, K>,
     app: &App,
     viewer: &Option<Id>,
     a: &Assignment,
-    more: &Assignment,
-    added: Label,
-    answers: &mut Vec<Remembered>,
+    label: Label,
+    answers: &mut Answers,
     evaluations: &mut Steps<M>,
 ) -> Result<bool, Stop>
     requires attached { IsTrue (K.seen work.old.keeper.now).store.attached }
-    requires more { ShowsAlso added (shown a.now) (shown more.now) }
-    ensures value { IsTold K.seen work.new → AreRight (application_of app.now) (worlds_of (state_of K.seen work.old)) viewer.now (shown a.now) answers.old.items → IfOk result (λ b. b ≡ all_allowed (application_of app.now) (worlds_of (state_of K.seen work.old) (shown more.now)) viewer.now a.now) }
-    ensures right { IsTold K.seen work.new → AreRight (application_of app.now) (worlds_of (state_of K.seen work.old)) viewer.now (shown a.now) answers.old.items → OnOk result (AreRight (application_of app.now) (worlds_of (state_of K.seen work.old)) viewer.now (shown a.now) answers.new.items) }
+    requires own { shown a.now label ≡ true }
+    ensures value { IsTold K.seen work.new → AreRight (application_of app.now) (worlds_of (state_of K.seen work.old)) viewer.now answers.old → IfOk result (Stays (application_of app.now) (worlds_of (state_of K.seen work.old)) viewer.now (shown a.now) (touched answers.old label)) }
+    ensures fits { IfOk result (Fitting answers.new (shown a.now) (touched answers.old label)) }
+    ensures right { IsTold K.seen work.new → AreRight (application_of app.now) (worlds_of (state_of K.seen work.old)) viewer.now answers.old → OnOk result (AreRight (application_of app.now) (worlds_of (state_of K.seen work.old)) viewer.now answers.new) }
+    ensures grown { OnOk result (Grown answers.old answers.new) }
     ensures later { evaluations.old ≤ evaluations.new }
     ensures reads { ReadsWork K.seen work.old work.new result }
 {
-    'labels: for label in a.as_slice() {
-        let stays = stays_allowed(
-            alloc,
-            work,
-            app,
-            viewer,
-            a,
-            more,
-            *label,
-            added,
-            answers,
-            evaluations,
-        )?;
+    // Most labels fail by their own policy, so it is asked first.
+    let own = asked_stays(alloc, work, app, viewer, a, label, answers, evaluations)?;
+    if !own {
+        return Ok(false);
+    }
+    let watchers = answers.watchers(alloc, label)?;
+    let stay = watchers_stay(
+        alloc,
+        work,
+        app,
+        viewer,
+        a,
+        watchers.as_slice(),
+        answers,
+        evaluations,
+    )?;
+    Ok(stay)
+}
+
+// Whether each of these labels that the assignment shows is allowed under it.
+fn watchers_stay<K: Keeper, M: Ledger>(
+    alloc: Global,
+    work: &mut Work<'_, K>,
+    app: &App,
+    viewer: &Option<Id>,
+    a: &Assignment,
+    watchers: &[Label],
+    answers: &mut Answers,
+    evaluations: &mut Steps<M>,
+) -> Result<bool, Stop>
+    requires attached { IsTrue (K.seen work.old.keeper.now).store.attached }
+    ensures value { IsTold K.seen work.new → AreRight (application_of app.now) (worlds_of (state_of K.seen work.old)) viewer.now answers.old → IfOk result (Stays (application_of app.now) (worlds_of (state_of K.seen work.old)) viewer.now (shown a.now) (shown watchers.now)) }
+    ensures fits { IfOk result (Fitting answers.new (shown a.now) (shown watchers.now)) }
+    ensures right { IsTold K.seen work.new → AreRight (application_of app.now) (worlds_of (state_of K.seen work.old)) viewer.now answers.old → OnOk result (AreRight (application_of app.now) (worlds_of (state_of K.seen work.old)) viewer.now answers.new) }
+    ensures grown { OnOk result (Grown answers.old answers.new) }
+    ensures later { evaluations.old ≤ evaluations.new }
+    ensures reads { ReadsWork K.seen work.old work.new result }
+{
+    'watchers: for watcher in watchers {
+        let stays = watcher_stays(alloc, work, app, viewer, a, *watcher, answers, evaluations)?;
         if !stays {
             return Ok(false);
         }
@@ -195,48 +200,58 @@ fn all_stay_allowed<K: Keeper, M: Ledger>(
     Ok(true)
 }
 
-// The same of one label that the assignment shows. Its policy is asked anew only where the label that is added was
-// consulted for the answer.
-fn stays_allowed<K: Keeper, M: Ledger>(
+// The same of one label.
+fn watcher_stays<K: Keeper, M: Ledger>(
     alloc: Global,
     work: &mut Work<'_, K>,
     app: &App,
     viewer: &Option<Id>,
     a: &Assignment,
-    more: &Assignment,
     label: Label,
-    added: Label,
-    answers: &mut Vec<Remembered>,
+    answers: &mut Answers,
     evaluations: &mut Steps<M>,
 ) -> Result<bool, Stop>
     requires attached { IsTrue (K.seen work.old.keeper.now).store.attached }
-    requires more { ShowsAlso added (shown a.now) (shown more.now) }
-    requires own { shown a.now label ≡ true }
-    ensures value { IsTold K.seen work.new → AreRight (application_of app.now) (worlds_of (state_of K.seen work.old)) viewer.now (shown a.now) answers.old.items → IfOk result (λ b. b ≡ is_allowed (application_of app.now) (worlds_of (state_of K.seen work.old) (shown more.now)) viewer.now label) }
-    ensures right { IsTold K.seen work.new → AreRight (application_of app.now) (worlds_of (state_of K.seen work.old)) viewer.now (shown a.now) answers.old.items → OnOk result (AreRight (application_of app.now) (worlds_of (state_of K.seen work.old)) viewer.now (shown a.now) answers.new.items) }
+    ensures value { IsTold K.seen work.new → AreRight (application_of app.now) (worlds_of (state_of K.seen work.old)) viewer.now answers.old → IfOk result (Stays (application_of app.now) (worlds_of (state_of K.seen work.old)) viewer.now (shown a.now) (λ j. label == j)) }
+    ensures fits { IfOk result (Fitting answers.new (shown a.now) (λ j. label == j)) }
+    ensures right { IsTold K.seen work.new → AreRight (application_of app.now) (worlds_of (state_of K.seen work.old)) viewer.now answers.old → OnOk result (AreRight (application_of app.now) (worlds_of (state_of K.seen work.old)) viewer.now answers.new) }
+    ensures grown { OnOk result (Grown answers.old answers.new) }
     ensures later { evaluations.old ≤ evaluations.new }
     ensures reads { ReadsWork K.seen work.old work.new result }
 {
-    let answer = ask(
-        alloc,
-        work,
-        app,
-        viewer,
-        a,
-        label,
-        added,
-        answers,
-        evaluations,
-    )?;
-    if answer.stays {
-        return Ok(answer.holds);
+    if !is_shown(a, label) {
+        return Ok(true);
     }
-    let (holds, _) = allowed(alloc, work, app, *viewer, more, label, evaluations)?;
+    let stays = asked_stays(alloc, work, app, viewer, a, label, answers, evaluations)?;
+    Ok(stays)
+}
+
+// The same of one label that the assignment shows.
+fn asked_stays<K: Keeper, M: Ledger>(
+    alloc: Global,
+    work: &mut Work<'_, K>,
+    app: &App,
+    viewer: &Option<Id>,
+    a: &Assignment,
+    label: Label,
+    answers: &mut Answers,
+    evaluations: &mut Steps<M>,
+) -> Result<bool, Stop>
+    requires attached { IsTrue (K.seen work.old.keeper.now).store.attached }
+    requires own { shown a.now label ≡ true }
+    ensures value { IsTold K.seen work.new → AreRight (application_of app.now) (worlds_of (state_of K.seen work.old)) viewer.now answers.old → IfOk result (Stays (application_of app.now) (worlds_of (state_of K.seen work.old)) viewer.now (shown a.now) (λ j. label == j)) }
+    ensures fits { IfOk result (Fitting answers.new (shown a.now) (λ j. label == j)) }
+    ensures right { IsTold K.seen work.new → AreRight (application_of app.now) (worlds_of (state_of K.seen work.old)) viewer.now answers.old → OnOk result (AreRight (application_of app.now) (worlds_of (state_of K.seen work.old)) viewer.now answers.new) }
+    ensures grown { OnOk result (Grown answers.old answers.new) }
+    ensures later { evaluations.old ≤ evaluations.new }
+    ensures reads { ReadsWork K.seen work.old work.new result }
+{
+    let holds = ask(alloc, work, app, viewer, a, label, answers, evaluations)?;
     Ok(holds)
 }
 
-// Whether the label is allowed under the assignment, which shows it, and whether the answer is the same once `added`
-// is shown as well: as it was remembered, or asked of the policy, and then remembered.
+// Whether the label is allowed under the assignment, which shows it: as it is remembered, or asked of the policy, and
+// then remembered.
 fn ask<K: Keeper, M: Ledger>(
     alloc: Global,
     work: &mut Work<'_, K>,
@@ -244,28 +259,30 @@ fn ask<K: Keeper, M: Ledger>(
     viewer: &Option<Id>,
     a: &Assignment,
     label: Label,
-    added: Label,
-    answers: &mut Vec<Remembered>,
+    answers: &mut Answers,
     evaluations: &mut Steps<M>,
-) -> Result<Answer, Stop>
-    requires { IsTrue (K.seen work.old.keeper.now).store.attached }
-    ensures answer { IsTold K.seen work.new → (v : ℕ → Bool) → ShowsAlso label v (shown a.now) → AreRight (application_of app.now) (worlds_of (state_of K.seen work.old)) viewer.now v answers.old.items → IfOk result (IsAnswer (application_of app.now) (worlds_of (state_of K.seen work.old)) viewer.now (shown a.now) label added) }
-    ensures right { IsTold K.seen work.new → (v : ℕ → Bool) → ShowsAlso label v (shown a.now) → AreRight (application_of app.now) (worlds_of (state_of K.seen work.old)) viewer.now v answers.old.items → OnOk result (AreRight (application_of app.now) (worlds_of (state_of K.seen work.old)) viewer.now v answers.new.items) }
+) -> Result<bool, Stop>
+    requires attached { IsTrue (K.seen work.old.keeper.now).store.attached }
+    requires own { shown a.now label ≡ true }
+    ensures answer { IsTold K.seen work.new → AreRight (application_of app.now) (worlds_of (state_of K.seen work.old)) viewer.now answers.old → IfOk result (λ b. b ≡ is_allowed (application_of app.now) (worlds_of (state_of K.seen work.old) (shown a.now)) viewer.now label) }
+    ensures fits { OnOk result (is_some (recall answers.new label (shown a.now)) ≡ true) }
+    ensures right { IsTold K.seen work.new → AreRight (application_of app.now) (worlds_of (state_of K.seen work.old)) viewer.now answers.old → OnOk result (AreRight (application_of app.now) (worlds_of (state_of K.seen work.old)) viewer.now answers.new) }
+    ensures grown { OnOk result (Grown answers.old answers.new) }
     ensures later { evaluations.old ≤ evaluations.new }
     ensures reads { ReadsWork K.seen work.old work.new result }
 {
-    match recalled(answers.as_slice(), label) {
-        Some(known) => Ok(known.beside(added)),
+    match answers.recalled(a, label) {
+        Some(holds) => Ok(holds),
         None => {
             let known = evaluate(alloc, work, app, viewer, a, label, evaluations)?;
-            let answer = known.beside(added);
-            remember(answers, known)?;
-            Ok(answer)
+            let holds = known.holds;
+            answers.remember(alloc, label, known)?;
+            Ok(holds)
         }
     }
 }
 
-// What the policy of the label answers under the assignment, which shows the label.
+// What the policy of the label answers under the assignment, with the signs of what was consulted.
 fn evaluate<K: Keeper, M: Ledger>(
     alloc: Global,
     work: &mut Work<'_, K>,
@@ -274,17 +291,14 @@ fn evaluate<K: Keeper, M: Ledger>(
     a: &Assignment,
     label: Label,
     evaluations: &mut Steps<M>,
-) -> Result<Remembered, Stop>
-    requires { IsTrue (K.seen work.old.keeper.now).store.attached }
-    ensures label { IfOk result (λ known. known.label ≡ label) }
-    ensures right { IsTold K.seen work.new → (v : ℕ → Bool) → ShowsAlso label v (shown a.now) → IfOk result (IsRight (application_of app.now) (worlds_of (state_of K.seen work.old)) viewer.now v) }
+) -> Result<Known, Stop>
+    requires attached { IsTrue (K.seen work.old.keeper.now).store.attached }
+    ensures right { IsTold K.seen work.new → IfOk result (IsRight (application_of app.now) (worlds_of (state_of K.seen work.old)) viewer.now label) }
+    ensures fits { IfOk result (λ known. holds (shown a.now) known.when ≡ true) }
     ensures later { evaluations.old ≤ evaluations.new }
     ensures reads { ReadsWork K.seen work.old work.new result }
 {
-    let (answer, consulted) = allowed(alloc, work, app, *viewer, a, label, evaluations)?;
-    Ok(Remembered {
-        label,
-        consulted,
-        answer,
-    })
+    let (holds, consulted) = allowed(alloc, work, app, *viewer, a, label, evaluations)?;
+    let when = signs(alloc, consulted.as_slice(), a)?;
+    Ok(Known { when, holds })
 }

@@ -1,3 +1,2 @@
 pub mod CutOff
-pub mod Inserted
 pub mod World

@@ -1,8 +1,7 @@
-ghost use Rattle.std.specs.Prelude.{◌≡◌, ℕ, ◌==◌, ◌||◌, ◌++◌, [], IfOk, OnOk};
+ghost use Rattle.std.specs.Prelude.{◌≡◌, ℕ, not, ◌==◌, ◌||◌, ◌&&◌, [], IfOk, OnOk, OnErr};
 ghost use Rattle.jac_world.specs.World.{shown, IsAscending};
-ghost use Rattle.jac_world.specs.Inserted.{inserted, StartsFrom};
 
-use crate::{Label, Memory};
+use crate::{Label, Memory, add_among, is_among, remove_among};
 use std::alloc::Global;
 use std::marker::Model;
 
@@ -35,7 +34,7 @@ impl Assignment {
     pub fn shows(&self, label: Label) -> bool
         ensures { result ≡ shown self.now label }
     {
-        self.labels.as_slice().iter().any(|shown| *shown == label)
+        is_among(self.labels.as_slice(), label)
     }
 
     pub fn as_slice(&self) -> &[Label]
@@ -49,8 +48,24 @@ impl Assignment {
     pub fn with(&self, alloc: Global, label: Label) -> Result<Assignment, Memory>
         ensures { IfOk result (λ a. (k : ℕ) → shown a k ≡ (label == k || shown self.now k)) }
     {
-        let labels = insert(alloc, self.labels.as_slice(), label)?;
-        Ok(Assignment { labels })
+        let mut more = self.copy(alloc)?;
+        more.add(label)?;
+        Ok(more)
+    }
+
+    /// Shows this label too, whatever was shown.
+    pub fn add(&mut self, label: Label) -> Result<(), Memory>
+        ensures added { OnOk result ((k : ℕ) → shown self.new k ≡ (label == k || shown self.old k)) }
+        ensures kept { OnErr result (self.new ≡ self.old) }
+    {
+        add_among(&mut self.labels, label)
+    }
+
+    /// Hides this label, whatever was shown.
+    pub fn remove(&mut self, label: Label)
+        ensures { (k : ℕ) → shown self.new k ≡ (not (label == k) && shown self.old k) }
+    {
+        remove_among(&mut self.labels, label);
     }
 
     pub fn copy(&self, alloc: Global) -> Result<Assignment, Memory>
@@ -58,39 +73,5 @@ impl Assignment {
     {
         let labels = Vec::from_slice(alloc, self.labels.as_slice())?;
         Ok(Assignment { labels })
-    }
-}
-
-// The rising labels with one more.
-fn insert(alloc: Global, labels: &[Label], label: Label) -> Result<Vec<Label>, Memory>
-    requires { IsAscending labels.now }
-    ensures shown { IfOk result (λ v. (k : ℕ) → shown v.items k ≡ (label == k || shown labels.now k)) }
-    ensures ascending { IfOk result (λ v. IsAscending v.items) }
-{
-    let mut out = Vec::new(alloc);
-    let mut rest = labels;
-    'below: while let Some((first, more)) = rest.split_first() {
-        if label <= *first {
-            break;
-        }
-        out.push(*first)?;
-        rest = more;
-    }
-    push_before(&mut out, rest, label)?;
-    out.extend_from_slice(rest)?;
-    Ok(out)
-}
-
-// The label that stands before the rest, unless the rest begins with it.
-fn push_before(out: &mut Vec<Label>, rest: &[Label], label: Label) -> Result<(), Memory>
-    requires { StartsFrom label rest.now }
-    ensures { OnOk result (out.new.items ++ rest.now ≡ out.old.items ++ inserted label rest.now) }
-{
-    match rest.split_first() {
-        Some((first, _)) if *first == label => Ok(()),
-        _ => {
-            out.push(label)?;
-            Ok(())
-        }
     }
 }

@@ -1,10 +1,15 @@
-use Rattle.jac_world.specs.World.{shown}
+use Rattle.std.proofs.Common.{◌∙◌, ap}
+use Rattle.jac_world.specs.World.{shown, holds}
 use Rattle.jac_lang.specs.Mirror.{application_of}
 use Rattle.jac_keep.specs.Worked.{state_of}
 use Rattle.jac_resolve.specs.Rounds.{worlds_of}
-use Rattle.jac_resolve.proofs.Recalling.{right_under}
+use Rattle.jac_resolve.proofs.Underway.{signed_holds, signed_right}
 use Rattle.jac_resolve.proofs.pass.evaluate.Goals as goal
 
 pub returns-clause-right : goal.returns-clause-right
-returns-clause-right g c told v also =
-    right_under (application_of c.args.app.now) (worlds_of (state_of g.K.Keeper.seen c.args.work.now)) c.args.viewer.now v (shown c.args.a.now) _ also (c.in_ok-answer.ensures.value told)
+returns-clause-right g c told =
+    signed_right (application_of c.args.app.now) (worlds_of (state_of g.K.Keeper.seen c.args.work.now)) c.args.viewer.now (shown c.args.a.now) c.args.label c.in_ok-holds.consulted _
+    (rw c.as_slice.ensures.labels at c.in_ok-when.ensures) (c.in_ok-holds.ensures.value told)
+
+pub returns-clause-fits : goal.returns-clause-fits
+returns-clause-fits g c = ap (holds (shown c.args.a.now)) c.in_ok-when.ensures ∙ signed_holds (shown c.args.a.now) c.as_slice.result.now

@@ -3,7 +3,7 @@ use Rattle.jac_world.specs.World.{shown}
 use Rattle.jac_lang.specs.Mirror.{application_of}
 use Rattle.jac_rows.specs.declared.state.State.{State}
 use Rattle.jac_keep.specs.Worked.{state_of}
-use Rattle.jac_resolve.specs.Recalled.{AreRight}
+use Rattle.jac_resolve.specs.Recalled.{IsUnderway}
 use Rattle.jac_resolve.specs.Rounds.{worlds_of, Tries}
 use Rattle.jac_pruned.proofs.Working.{next}
 use Rattle.jac_resolve.proofs.Greedy.{first_is_shown, advances, filled, none_left, stays_within, round_on}
@@ -28,25 +28,25 @@ labels-preserved g c =
       advances = advances labels start old new x c.labels.added c.in_ok-one.one among c.labels.invariant.advances grows;
       within = stays_within labels start old new x c.in_ok-one.one among c.labels.invariant.within grows;
       working = record {
-        told = λ told right.
+        told = λ told underway.
             let before = c.in_ok-one.ensures.reads.same.told told in
             let moved = same.same_state before in
-            let round = c.labels.invariant.working.told before right in
-            let known = subst (λ (s : State). AreRight app (worlds_of s) viewer (shown old) c.labels.answers.items) (sym moved) round.right in
-            round_on app (worlds_of (state_of k.seen c.args.work.now)) viewer labels (drop i labels) start old new c.labels.answers.items c.try_label.new.answers.items x (drop (i + 1) labels)
+            let round = c.labels.invariant.working.told before underway in
+            let known = subst (λ (s : State). IsUnderway app (worlds_of s) viewer old c.labels.answers) (sym moved) round.underway in
+            round_on app (worlds_of (state_of k.seen c.args.work.now)) viewer labels (drop i labels) old new c.labels.answers c.try_label.new.answers x (drop (i + 1) labels)
             c.labels.added c.in_ok-one.one (next labels x i c.label-item.is c.labels-test.true) round grows
             (subst (λ (s : State). Tries app (worlds_of s) viewer x old new c.in_ok-one.one) moved (c.in_ok-one.ensures.tries told known))
-            (subst (λ (s : State). AreRight app (worlds_of s) viewer (shown new) c.try_label.new.answers.items) moved (c.in_ok-one.ensures.right told known));
+            (subst (λ (s : State). IsUnderway app (worlds_of s) viewer new c.try_label.new.answers) moved (c.in_ok-one.ensures.underway told known));
         same = search rules;
       };
     }
 
 pub returns-clause-fills : goal.returns-clause-fills
-returns-clause-fills g c told right =
+returns-clause-fills g c told underway =
     let labels = c.args.labels.now in
     let past : length labels ≤ c.labels.label-index = search rules in
     filled (application_of c.args.app.now) (worlds_of (state_of g.K.Keeper.seen c.args.work.now)) c.args.viewer.now labels (drop c.labels.label-index labels) c.labels.a c.labels.added
-    (none_left labels c.labels.label-index past) (c.labels.invariant.working.told told right).fills
+    (none_left labels c.labels.label-index past) (c.labels.invariant.working.told told underway).fills
 
-pub returns-clause-right : goal.returns-clause-right
-returns-clause-right g c told right = (c.labels.invariant.working.told told right).right
+pub returns-clause-underway : goal.returns-clause-underway
+returns-clause-underway g c told underway = (c.labels.invariant.working.told told underway).underway

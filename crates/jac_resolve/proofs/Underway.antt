@@ -1,0 +1,280 @@
+-- What is remembered from one try to the next, over plain lists.
+use Rattle.std.proofs.Common.{◌≡◌, ◌≤◌, ◌==◌, ◌&&◌, ◌||◌, ℕ, Bool, true, false, if◌then◌else◌, List, [], ◌∷◌, Option, Some, None, refl, ap, sym, subst, ◌∙◌, arith}
+use Rattle.std.specs.Option.{is_some}
+use Rattle.std.proofs.lemmas.Bool.Decides.{nat_tests, Decides-eqb}
+use mathlib.Core.Bool.{beq}
+use Rattle.jac_world.specs.World.{shown, holds, names}
+use Rattle.jac_world.proofs.Contradict.{and_true, by_names, left_true, same_sign, sign_is}
+use Rattle.jac_lang.specs.Syntax.{Application}
+use Rattle.jac_plain.specs.Requests.{Worlds}
+use Rattle.jac_plain.specs.Policies.{is_allowed, with_label, ShowsForbidden}
+use Rattle.jac_pruned.specs.Consulted.{Agrees}
+use Rattle.jac_resolve.specs.declared.recall.Answers.{Answers}
+use Rattle.jac_resolve.specs.declared.recall.Known.{Known}
+use Rattle.jac_resolve.specs.Recalled.{AreRight, AreWatched, Fitting, Grown, IsRight, IsUnderway, Stays, known_at, or_known, recall, signed, touched, watches}
+
+right_true : (a b : Bool) → (a && b) ≡ true → b ≡ true
+right_true true b p = p
+right_true false b p = absurd cc
+
+-- the signs of what was consulted
+
+pub signed_holds : (v : ℕ → Bool) (ks : List ℕ) → holds v (signed v ks) ≡ true
+signed_holds v [] = refl
+signed_holds v (k ∷ ks) = and_true (beq (v k) (v k)) (holds v (signed v ks)) (same_sign (v k)) (signed_holds v ks)
+
+agrees_if : (v w : ℕ → Bool) (j k : ℕ) (b rest also : Bool) → (j == k) ≡ b → (beq (v j) (w j) && also) ≡ true → (b || rest) ≡ true → (also ≡ true → rest ≡ true → v k ≡ w k) → v k ≡ w k
+agrees_if v w j k true rest also e h t later =
+    let is : j ≡ k = (Decides-eqb j k).0 e in
+    ap v (sym is) ∙ sym (sign_is (v j) (w j) (left_true (beq (v j) (w j)) also h)) ∙ ap w is
+agrees_if v w j k false rest also e h t later = later (right_true (beq (v j) (w j)) also h) t
+
+pub signed_agrees : (v w : ℕ → Bool) (ks : List ℕ) → holds w (signed v ks) ≡ true → (k : ℕ) → shown ks k ≡ true → v k ≡ w k
+signed_agrees v w [] h k s = absurd cc
+signed_agrees v w (j ∷ ks) h k s = agrees_if v w j k (j == k) (shown ks k) (holds w (signed v ks)) refl h s (λ a b. signed_agrees v w ks a k b)
+
+-- one answer more
+
+or_false : (a b : Bool) → (a || b) ≡ false → (a ≡ false) × (b ≡ false)
+or_false true b h = absurd cc
+or_false false b h = (refl, h)
+
+and_false : (a b : Bool) → (a && b) ≡ false → b ≡ true → a ≡ false
+and_false true true h e = h
+and_false false b h e = refl
+and_false true false h e = absurd cc
+
+either : (a b : Bool) (P : Type 0) → (a || b) ≡ true → (a ≡ true → P) → (b ≡ true → P) → P
+either true b P h p q = p refl
+either false b P h p q = q h
+
+or_right : (a b : Bool) → b ≡ true → (a || b) ≡ true
+or_right true b p = refl
+or_right false b p = p
+
+itself : (x : ℕ) → (x == x) ≡ true
+itself x = grind (arith, nat_tests)
+
+-- an answer whose signs don't name the label
+unnamed : (k : ℕ) (w : ℕ → Bool) (c : Known) → names c.when k ≡ false → holds (with_label k w) c.when ≡ holds w c.when
+unnamed k w c absent = by_names c.when (with_label k w) w (λ j named. differs j named (k == j) refl)
+  where
+    differs : (j : ℕ) → names c.when j ≡ true → (b : Bool) → (k == j) ≡ b → (b || w j) ≡ w j
+    differs j named true e = absurd (let same : true ≡ false = sym named ∙ ap (names c.when) (sym ((Decides-eqb k j).0 e)) ∙ absent in cc)
+    differs j named false e = refl
+
+known_if : (h h' : Bool) (c : Known) → h ≡ h' → (if h then Some c.holds else None) ≡ (if h' then Some c.holds else None)
+known_if h h' c e = ap (λ b. if b then Some c.holds else None) e
+
+or_same : (o p : Option Bool) (c : Known) (v w : ℕ → Bool) → o ≡ p → known_at c v ≡ known_at c w → or_known o c v ≡ or_known p c w
+or_same o None c v w e f = ap (λ q. or_known q c v) e ∙ f
+or_same o (Some b) c v w e f = ap (λ q. or_known q c v) e
+
+or_kept : (o : Option Bool) (c : Known) (w : ℕ → Bool) → is_some o ≡ true → is_some (or_known o c w) ≡ true
+or_kept (Some b) c w h = refl
+or_kept None c w h = absurd cc
+
+or_fits : (o : Option Bool) (c : Known) (w : ℕ → Bool) → holds w c.when ≡ true → is_some (or_known o c w) ≡ true
+or_fits (Some b) c w h = refl
+or_fits None c w h = ap (λ b. is_some (if b then Some c.holds else None)) h
+
+or_is : (o : Option Bool) (c : Known) (w : ℕ → Bool) (b x : Bool) → (o ≡ Some b → b ≡ x) → (holds w c.when ≡ true → c.holds ≡ x) → or_known o c w ≡ Some b → b ≡ x
+or_is (Some a) c w b x before here is = before is
+or_is None c w b x before here is = is_if (holds w c.when) refl is
+  where
+    is_if : (h : Bool) → holds w c.when ≡ h → (if h then Some c.holds else None) ≡ Some b → b ≡ x
+    is_if true e i = (let same : c.holds ≡ b = cc in sym same ∙ here e)
+    is_if false e i = absurd cc
+
+-- what is recalled, and who watches what, once one answer more is remembered
+module _ (old new : Answers) (label : ℕ) (known : Known)
+    (watching : (k j : ℕ) → watches new k j ≡ ((names known.when k && label == j) || watches old k j))
+    (recalling : (k : ℕ) (w : ℕ → Bool) → recall new k w ≡ (if label == k then or_known (recall old k w) known w else recall old k w)) where
+  kept_if : (b : Bool) (k : ℕ) (w : ℕ → Bool) → is_some (recall old k w) ≡ true → is_some (if b then or_known (recall old k w) known w else recall old k w) ≡ true
+  kept_if true k w h = or_kept (recall old k w) known w h
+  kept_if false k w h = h
+
+  watched_on : AreWatched old → AreWatched new
+  watched_on before = record {
+    each = λ k j absent w.
+        let apart = or_false (names known.when k && label == j) (watches old k j) (sym (watching k j) ∙ absent) in
+        recalling j (with_label k w) ∙ same_if k j w apart.0 (before.each k j apart.1 w) (label == j) refl ∙ sym (recalling j w);
+  }
+    where
+      same_if : (k j : ℕ) (w : ℕ → Bool) → (names known.when k && label == j) ≡ false → recall old j (with_label k w) ≡ recall old j w → (b : Bool) → (label == j) ≡ b →
+          (if b then or_known (recall old j (with_label k w)) known (with_label k w) else recall old j (with_label k w)) ≡ (if b then or_known (recall old j w) known w else recall old j w)
+      same_if k j w absent same true e =
+          or_same (recall old j (with_label k w)) (recall old j w) known (with_label k w) w same
+          (known_if (holds (with_label k w) known.when) (holds w known.when) known (unnamed k w known (and_false (names known.when k) (label == j) absent e)))
+      same_if k j w absent same false e = same
+
+  pub grown_by : Grown old new
+  grown_by = record {
+    kept = λ k w h. ap is_some (recalling k w) ∙ kept_if (label == k) k w h;
+    watching = λ k j h. watching k j ∙ or_right (names known.when k && label == j) (watches old k j) h;
+    watched = watched_on;
+  }
+
+  pub fits_by : (w : ℕ → Bool) → holds w known.when ≡ true → is_some (recall new label w) ≡ true
+  fits_by w h = ap is_some (recalling label w) ∙ ap (λ b. is_some (if b then or_known (recall old label w) known w else recall old label w)) (itself label) ∙ or_fits (recall old label w) known w h
+
+  pub right_by : (app : Application) (worlds : Worlds) (viewer : Option ℕ) → AreRight app worlds viewer old → IsRight app worlds viewer label known → AreRight app worlds viewer new
+  right_by app worlds viewer before one = record { each = λ k w b is. right_if k w b (label == k) refl (sym (recalling k w) ∙ is) }
+    where
+      right_if : (k : ℕ) (w : ℕ → Bool) (b same : Bool) → (label == k) ≡ same → (if same then or_known (recall old k w) known w else recall old k w) ≡ Some b → b ≡ is_allowed app (worlds w) viewer k
+      right_if k w b true e is =
+          or_is (recall old k w) known w b (is_allowed app (worlds w) viewer k) (before.each k w b)
+          (λ h. one.each w h ∙ ap (is_allowed app (worlds w) viewer) ((Decides-eqb label k).0 e)) is
+      right_if k w b false e is = before.each k w b is
+
+pub grown_same : (answers : Answers) → Grown answers answers
+grown_same answers = record { kept = λ k w h. h; watching = λ k j h. h; watched = λ h. h }
+
+pub grown_then : (r s t : Answers) → Grown r s → Grown s t → Grown r t
+grown_then r s t before after = record {
+  kept = λ k w h. after.kept k w (before.kept k w h);
+  watching = λ k j h. after.watching k j (before.watching k j h);
+  watched = λ h. after.watched (before.watched h);
+}
+
+-- a label that is shown, added, changes nothing
+pub shows_own : (v : ℕ → Bool) (label : ℕ) → v label ≡ true → with_label label v ≡ v
+shows_own v label own = λ i k. shows_if k (label == k) refl i
+  where
+    shows_if : (k : ℕ) (b : Bool) → (label == k) ≡ b → (b || v k) ≡ v k
+    shows_if k true e = sym (ap v (sym ((Decides-eqb label k).0 e)) ∙ own)
+    shows_if k false e = refl
+
+-- what is known of a pass
+module _ (app : Application) (worlds : Worlds) (viewer : Option ℕ) where
+  -- an answer that was asked, with the signs of what was consulted
+  pub signed_right : (v : ℕ → Bool) (label : ℕ) (support : List ℕ) (known : Known) → known.when ≡ signed v support →
+      ((w : ℕ → Bool) → Agrees support v w → known.holds ≡ is_allowed app (worlds w) viewer label) → IsRight app worlds viewer label known
+  signed_right v label support known is promise = record {
+    each = λ w h. promise w (record { each = signed_agrees v w support (ap (holds w) (sym is) ∙ h) });
+  }
+
+  -- at the start nothing is shown, and nothing remembered
+  pub underway_start : (answers : Answers) → ((k : ℕ) (w : ℕ → Bool) → recall answers k w ≡ None) → IsUnderway app worlds viewer [] answers
+  underway_start answers none = record {
+    right = record { each = λ k w b is. absurd (let e : None ≡ Some b = sym (none k w) ∙ is in cc) };
+    allowed = λ k s. absurd cc;
+    watched = record { each = λ k j absent w. none j (with_label k w) ∙ sym (none j w) };
+    fitted = record { each = λ k s. absurd cc };
+  }
+
+  -- what a label was answered under the assignment it is answered once a label is shown that it doesn't watch
+  pub unmoved : (a : List ℕ) (answers : Answers) (k j : ℕ) → IsUnderway app worlds viewer a answers → watches answers k j ≡ false → shown a j ≡ true →
+      is_allowed app (worlds (with_label k (shown a))) viewer j ≡ true
+  unmoved a answers k j before absent s = by_answer (recall answers j (shown a)) refl (before.fitted.each j s)
+    where
+      by_answer : (o : Option Bool) → recall answers j (shown a) ≡ o → is_some o ≡ true → is_allowed app (worlds (with_label k (shown a))) viewer j ≡ true
+      by_answer (Some b) e h =
+          sym (before.right.each j (with_label k (shown a)) b (before.watched.each k j absent (shown a) ∙ e))
+          ∙ before.right.each j (shown a) b e ∙ before.allowed j s
+      by_answer None e h = absurd cc
+
+  -- none was added
+  pub underway_still : (a : List ℕ) (old new : Answers) → IsUnderway app worlds viewer a old → AreRight app worlds viewer new → Grown old new → IsUnderway app worlds viewer a new
+  underway_still a old new before right grown = record {
+    right = right;
+    allowed = before.allowed;
+    watched = grown.watched before.watched;
+    fitted = record { each = λ k s. grown.kept k (shown a) (before.fitted.each k s) };
+  }
+
+  -- one was
+  pub underway_added : (a more : List ℕ) (k : ℕ) (old new : Answers) → ((j : ℕ) → shown more j ≡ with_label k (shown a) j) → IsUnderway app worlds viewer a old →
+      AreRight app worlds viewer new → Grown old new → Stays app worlds viewer (shown more) (touched old k) true → Fitting new (shown more) (touched old k) true → IsUnderway app worlds viewer more new
+  underway_added a more k old new also before right grown stays fits = record {
+    right = right;
+    allowed = λ j s. allowed_if j s (touched old k j) refl;
+    watched = grown.watched before.watched;
+    fitted = record { each = λ j s. fitted_if j s (touched old k j) refl };
+  }
+    where
+      same : shown more ≡ with_label k (shown a)
+      same = λ i j. also j i
+
+      allowed_if : (j : ℕ) → shown more j ≡ true → (b : Bool) → touched old k j ≡ b → is_allowed app (worlds (shown more)) viewer j ≡ true
+      allowed_if j s true e = stays j e s
+      allowed_if j s false e =
+          let apart = or_false (k == j) (watches old k j) e in
+          let was : shown a j ≡ true = sym (ap (λ b. b || shown a j) apart.0) ∙ sym (also j) ∙ s in
+          ap (λ (w : ℕ → Bool). is_allowed app (worlds w) viewer j) same ∙ unmoved a old k j before apart.1 was
+
+      fitted_if : (j : ℕ) → shown more j ≡ true → (b : Bool) → touched old k j ≡ b → is_some (recall new j (shown more)) ≡ true
+      fitted_if j s true e = fits j e s
+      fitted_if j s false e =
+          let apart = or_false (k == j) (watches old k j) e in
+          let was : shown a j ≡ true = sym (ap (λ b. b || shown a j) apart.0) ∙ sym (also j) ∙ s in
+          grown.kept j (shown more)
+          (ap (λ (w : ℕ → Bool). is_some (recall old j w)) same ∙ ap is_some (before.watched.each k j apart.1 (shown a)) ∙ before.fitted.each j was)
+
+  -- it is remembered that the label isn't allowed once it is shown
+  pub refused_known : (a : List ℕ) (answers : Answers) (k : ℕ) → AreRight app worlds viewer answers → recall answers k (with_label k (shown a)) ≡ Some false →
+      ShowsForbidden app worlds viewer (with_label k (shown a))
+  refused_known a answers k right is = record {
+    label = k;
+    is_shown = ap (λ b. b || shown a k) (itself k);
+    forbidden = sym (right.each k (with_label k (shown a)) false is);
+  }
+
+  pub refused_also : (a more : List ℕ) (k : ℕ) → ((j : ℕ) → shown more j ≡ with_label k (shown a) j) → ShowsForbidden app worlds viewer (shown more) →
+      ShowsForbidden app worlds viewer (with_label k (shown a))
+  refused_also a more k also refused =
+      let same : shown more ≡ with_label k (shown a) = λ i j. also j i in
+      subst (λ (w : ℕ → Bool). ShowsForbidden app worlds viewer w) same refused
+
+  -- the answer of a label that is shown
+  pub stays_one : (w : ℕ → Bool) (label : ℕ) (b : Bool) → w label ≡ true → b ≡ is_allowed app (worlds w) viewer label → Stays app worlds viewer w (λ j. label == j) b
+  stays_one w label true own is = λ j e s. ap (is_allowed app (worlds w) viewer) (sym ((Decides-eqb label j).0 e)) ∙ sym is
+  stays_one w label false own is = record { label = label; is_shown = own; forbidden = sym is }
+
+  -- one that is hidden isn't asked
+  pub stays_hidden : (w : ℕ → Bool) (label : ℕ) → w label ≡ false → Stays app worlds viewer w (λ j. label == j) true
+  stays_hidden w label hidden = λ j e s. absurd (let both : true ≡ false = sym s ∙ ap w (sym ((Decides-eqb label j).0 e)) ∙ hidden in cc)
+
+  -- the label, and then those that watch it
+  pub stays_both : (w : ℕ → Bool) (old mid : Answers) (label : ℕ) (watchers : List ℕ) (b : Bool) → ((j : ℕ) → shown watchers j ≡ watches mid label j) → Grown old mid →
+      Stays app worlds viewer w (λ j. label == j) true → Stays app worlds viewer w (shown watchers) b → Stays app worlds viewer w (touched old label) b
+  stays_both w old mid label watchers true are grown own stays = λ j e s.
+      either (label == j) (watches old label j) (is_allowed app (worlds w) viewer j ≡ true) e (λ same. own j same s) (λ watching. stays j (are j ∙ grown.watching label j watching) s)
+  stays_both w old mid label watchers false are grown own stays = stays
+
+pub fits_one : (answers : Answers) (w : ℕ → Bool) (label : ℕ) (b : Bool) → is_some (recall answers label w) ≡ true → Fitting answers w (λ j. label == j) b
+fits_one answers w label true h = λ j e s. ap (λ (k : ℕ). is_some (recall answers k w)) (sym ((Decides-eqb label j).0 e)) ∙ h
+fits_one answers w label false h = tt
+
+pub fits_hidden : (answers : Answers) (w : ℕ → Bool) (label : ℕ) → w label ≡ false → Fitting answers w (λ j. label == j) true
+fits_hidden answers w label hidden = λ j e s. absurd (let both : true ≡ false = sym s ∙ ap w (sym ((Decides-eqb label j).0 e)) ∙ hidden in cc)
+
+pub fits_both : (w : ℕ → Bool) (old mid new : Answers) (label : ℕ) (watchers : List ℕ) (b : Bool) → ((j : ℕ) → shown watchers j ≡ watches mid label j) → Grown old mid → Grown mid new →
+    Fitting mid w (λ j. label == j) true → Fitting new w (shown watchers) b → Fitting new w (touched old label) b
+fits_both w old mid new label watchers true are grown more own fits = λ j e s.
+    either (label == j) (watches old label j) (is_some (recall new j w) ≡ true) e (λ same. more.kept j w (own j same s)) (λ watching. fits j (are j ∙ grown.watching label j watching) s)
+fits_both w old mid new label watchers false are grown more own fits = tt
+
+-- a property of all labels but those that are left
+abbrev pub AllBut : (ℕ → Type 0) → List ℕ → List ℕ → Type 0
+AllBut P all left = (j : ℕ) → shown all j ≡ true → shown left j ≡ false → P j
+
+pub but_start : (P : ℕ → Type 0) (all : List ℕ) → AllBut P all all
+but_start P all j s absent = absurd (let both : true ≡ false = sym s ∙ absent in cc)
+
+pub but_next : (P : ℕ → Type 0) (all left rest : List ℕ) (x : ℕ) → left ≡ x ∷ rest → P x → AllBut P all left → AllBut P all rest
+but_next P all left rest x is one before j s absent = next_if (x == j) refl
+  where
+    next_if : (b : Bool) → (x == j) ≡ b → P j
+    next_if true e = subst P ((Decides-eqb x j).0 e) one
+    next_if false e = before j s (ap (λ l. shown l j) is ∙ ap (λ b. b || shown rest j) e ∙ absent)
+
+pub but_end : (P : ℕ → Type 0) (all left : List ℕ) → left ≡ [] → AllBut P all left → (j : ℕ) → shown all j ≡ true → P j
+but_end P all left none before j s = before j s (ap (λ l. shown l j) none)
+
+-- what is known while watchers are asked, told or not, and what is known beside
+pub record InWatching (before now : ℕ) (old new : Answers) (w : ℕ → Bool) (all left : List ℕ) (beside : Type 0) : Type 0 where
+  pub later : before ≤ now
+  pub grown : Grown old new
+  pub fits : AllBut (λ j. w j ≡ true → is_some (recall new j w) ≡ true) all left
+  pub working : beside

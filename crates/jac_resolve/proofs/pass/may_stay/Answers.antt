@@ -1,0 +1,37 @@
+use Rattle.std.proofs.Common.{◌∙◌, ◌==◌, Bool, ap, sym, subst}
+use Rattle.jac_world.specs.World.{shown}
+use Rattle.jac_lang.specs.Mirror.{application_of}
+use Rattle.jac_rows.specs.declared.state.State.{State}
+use Rattle.jac_keep.specs.Worked.{state_of}
+use Rattle.jac_resolve.specs.Recalled.{AreRight, Fitting, Stays}
+use Rattle.jac_resolve.specs.Rounds.{worlds_of}
+use Rattle.jac_resolve.proofs.Underway.{fits_both, stays_both}
+use Rattle.jac_resolve.proofs.pass.may_stay.Goals as goal
+
+pub returns-clause-value : goal.returns-clause-value
+returns-clause-value g c told right =
+    let app = application_of c.args.app.now in
+    let viewer = c.args.viewer.now in
+    let w = shown c.args.a.now in
+    let worlds = worlds_of (state_of g.K.Keeper.seen c.args.work.now) in
+    let mid = c.asked_stays.new.answers in
+    let watchers = c.as_slice.result.now in
+    let before = c.in_ok-stay.ensures.reads.same.told told in
+    let moved = c.in_ok-own.ensures.reads.same.same_state before in
+    let known = subst (λ (s : State). AreRight app (worlds_of s) viewer mid) (sym moved) (c.in_ok-own.ensures.right before right) in
+    stays_both app worlds viewer w c.args.answers.now mid c.args.label watchers c.in_ok-stay.stay
+    (λ j. ap (λ l. shown l j) c.as_slice.ensures.labels ∙ c.in_ok-watchers.ensures j)
+    c.in_ok-own.ensures.grown
+    (subst (λ (b : Bool). Stays app worlds viewer w (λ j. c.args.label == j) b) c.if-not-own.false (c.in_ok-own.ensures.value before right))
+    (subst (λ (s : State). Stays app (worlds_of s) viewer w (shown watchers) c.in_ok-stay.stay) moved (c.in_ok-stay.ensures.value told known))
+
+pub returns-clause-fits : goal.returns-clause-fits
+returns-clause-fits g c =
+    let w = shown c.args.a.now in
+    let mid = c.asked_stays.new.answers in
+    let watchers = c.as_slice.result.now in
+    fits_both w c.args.answers.now mid c.watchers_stay.new.answers c.args.label watchers c.in_ok-stay.stay
+    (λ j. ap (λ l. shown l j) c.as_slice.ensures.labels ∙ c.in_ok-watchers.ensures j)
+    c.in_ok-own.ensures.grown c.in_ok-stay.ensures.grown
+    (subst (λ (b : Bool). Fitting mid w (λ j. c.args.label == j) b) c.if-not-own.false c.in_ok-own.ensures.fits)
+    c.in_ok-stay.ensures.fits

@@ -1,0 +1,23 @@
+use Rattle.std.proofs.Common.{◌≡◌, true, drop}
+use Rattle.jac_world.specs.World.{shown}
+use Rattle.jac_lang.specs.Mirror.{application_of}
+use Rattle.jac_keep.specs.Worked.{state_of}
+use Rattle.jac_plain.specs.Policies.{is_allowed}
+use Rattle.jac_resolve.specs.Recalled.{AreRight}
+use Rattle.jac_resolve.specs.Rounds.{worlds_of}
+use Rattle.jac_pruned.proofs.Working.{LoopOver}
+use Rattle.jac_resolve.proofs.Greedy.{SoFar}
+use Rattle.jac_resolve.proofs.Underway.{AllBut, InWatching}
+use Rattle.jac_resolve.proofs.pass.watchers_stay.Given as goal
+
+abbrev pub invariant-watchers : goal.invariant-watchers
+invariant-watchers g l =
+    let k = g.K.Keeper in
+    let app = application_of l.app in
+    let worlds = worlds_of (state_of k.seen l.fn.work) in
+    let w = shown l.a in
+    let left = drop l.watcher-index l.watchers in
+    InWatching l.fn.evaluations l.evaluations l.fn.answers l.answers w l.watchers left
+    (LoopOver k.seen l.fn.work l.work
+    (AreRight app worlds l.viewer l.fn.answers →
+    SoFar (AreRight app worlds l.viewer l.answers) (AllBut (λ j. w j ≡ true → is_allowed app (worlds w) l.viewer j ≡ true) l.watchers left)))
