@@ -38,13 +38,25 @@ choose() {
     fi
 }
 
-# A command that ends by itself. What is to be told behind its end has its place here.
+# A command that ends by itself. Where it refuses an application, standard error has the place, with a mark under it.
 run_to_end() {
-    exec "$program" "$@"
+    [ -z "${JAC_PROVED-}" ] || exec "$program" "$@"
+    local status=0
+    "$program" "$@" || status=$?
+    [ $status -ne 2 ] || put_finger "$@"
+    exit $status
+}
+
+put_finger() {
+    python3 "$top/tools/finger.py" "$program" "$@" || true
 }
 
 choose
 case ${1-} in
     check | replay | dump | demo) run_to_end "$@" ;;
+    serve)
+        [ -n "${JAC_PROVED-}" ] || put_finger "$@"
+        exec "$program" "$@"
+        ;;
     *) exec "$program" "$@" ;;
 esac

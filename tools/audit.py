@@ -8,6 +8,7 @@ under which the page was made. A label is that of a group of a record, whose fie
 label there was its public value."""
 import os
 import re
+import signal
 import sys
 
 sys.dont_write_bytecode = True
@@ -78,4 +79,5 @@ def main(words):
 
 
 if __name__ == '__main__':
+    signal.signal(signal.SIGPIPE, signal.SIG_DFL)
     main(sys.argv[1:])

@@ -530,20 +530,23 @@ class Checker:
             items = items[1:]
         self.models = [item for item in items if item.head() == 'model']
         self.views = [item for item in items if item.head() == 'view']
+        self.names = {model.children[1].value for model in self.models}
         self.fields = {}
         for model in self.models:
             name = model.children[1].value
             if name not in self.fields:
                 self.fields[name] = self.fields_of(model.children[2].children[1:])
 
-    @staticmethod
-    def fields_of(nodes):
+    def fields_of(self, nodes):
         kinds = {}
         for node in nodes:
             kind = node.children[1]
-            kinds.setdefault(node.children[0].value,
-                             kind.value if kind.kind == 'atom' else ('ref', kind.children[1].value))
+            kinds.setdefault(node.children[0].value, kind.value if kind.kind == 'atom' else self.reference(kind.children[1]))
         return kinds
+
+    def reference(self, name):
+        """The kind of a reference; the checker tells no two models apart that aren't there, and names none of them."""
+        return ('ref', name.value if name.value in self.names else '')
 
     def check(self):
         """Raises the line's fault, or gives nothing."""
@@ -709,11 +712,21 @@ class Checker:
 
     # expressions
 
-    @staticmethod
-    def want(want, have, node, whose):
-        if want != have:
-            raise CheckFault(node, 'wrong kind: want %s, have %s' % (kind_text(want), kind_text(have)),
-                             '%s is %s, and this is %s' % (whose, kind_text(want), kind_text(have)))
+    def want(self, want, have, node, whose):
+        if want == have:
+            return
+        words = '%s is %s, and this is %s' % (whose, kind_text(want), kind_text(have))
+        for kind in self.kinds():
+            if ('ref', '') in (want, have) and kind.value not in self.names:
+                node, words = kind, 'there is no model %s, so nothing that it is compared with is of its kind' % kind.value
+                break
+        raise CheckFault(node, 'wrong kind: want %s, have %s' % (kind_text(want), kind_text(have)), words)
+
+    def kinds(self):
+        """The models that kinds of fields and of parameters name."""
+        lists = [model.children[2] for model in self.models] + [view.children[3] for view in self.views]
+        return [field.children[1].children[1] for fields in lists for field in fields.children[1:]
+                if field.children[1].kind == 'list']
 
     @staticmethod
     def public(scope, node, word):

@@ -12,6 +12,7 @@ It never says that something is wrong, and what it doesn't see it says nothing o
 """
 import os
 import re
+import signal
 import sys
 
 sys.dont_write_bytecode = True
@@ -194,4 +195,5 @@ def main(words):
 
 
 if __name__ == '__main__':
+    signal.signal(signal.SIGPIPE, signal.SIG_DFL)
     main(sys.argv[1:])

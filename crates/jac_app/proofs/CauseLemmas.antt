@@ -3,19 +3,19 @@ use Rattle.std.proofs.Common.{Bool, ◌≡◌, sym, subst, refl, ℕ, inl, inr, 
 use Rattle.jac_io.specs.Linked.{LinkSeen, DoorSeen}
 use Rattle.jac_lang.specs.Syntax.{Application}
 use Rattle.jac_route.specs.declared.sessions.Session.{Session}
-use Rattle.jac_app.specs.declared.words.Command.{Command}
-use Rattle.jac_app.specs.declared.words.Command.TheVariants as commands
-use Rattle.jac_app.specs.declared.words.Serving.{Serving}
+use Rattle.jac_words.specs.declared.words.Command.{Command}
+use Rattle.jac_words.specs.declared.words.Command.TheVariants as commands
+use Rattle.jac_words.specs.declared.words.Serving.{Serving}
 use Rattle.jac_app.specs.declared.ending.Ending.{Ending}
 use Rattle.jac_app.specs.declared.ending.Ending.TheVariants as endings
-use Rattle.jac_app.specs.declared.ending.Role.TheVariants as roles
+use Rattle.jac_words.specs.declared.role.Role.TheVariants as roles
 use Rattle.jac_app.specs.declared.status.Status.{Status}
 use Rattle.jac_app.specs.declared.status.Status.TheVariants as statuses
 use Rattle.jac_app.specs.Script.{script_of}
-use Rattle.jac_app.specs.Application.{IsApplication}
+use Rattle.jac_opening.specs.Application.{IsApplication}
 use Rattle.jac_app.specs.Outside.{Span, AWriteFailed}
-use Rattle.jac_app.specs.Words.{command_of}
-use Rattle.jac_app.specs.Commands.{db_of}
+use Rattle.jac_words.specs.Words.{command_of}
+use Rattle.jac_words.specs.Commands.{db_of}
 use Rattle.jac_app.specs.Files.{Sight, sinks_of, IsRead, HasApplication, IsOpened, IsUnopened}
 use Rattle.jac_app.specs.Ending.{Closes, Finishes, fault_line, status_of}
 use Rattle.jac_app.specs.Replay.{IsOther, EndsServing, EndsOpening}

@@ -5,20 +5,20 @@ use Rattle.jac_io.specs.Seen.{FilesSeen, SinkSeen}
 use Rattle.jac_io.specs.Linked.{LinkSeen, DoorSeen}
 use Rattle.jac_lang.specs.Syntax.{Application}
 use Rattle.jac_route.specs.Sessions.{sessions_in}
-use Rattle.jac_app.specs.declared.words.Command.{Command}
-use Rattle.jac_app.specs.declared.words.Command.TheVariants as commands
+use Rattle.jac_words.specs.declared.words.Command.{Command}
+use Rattle.jac_words.specs.declared.words.Command.TheVariants as commands
 use Rattle.jac_app.specs.declared.ending.Ending.{Ending}
 use Rattle.jac_app.specs.declared.ending.Ending.TheVariants as endings
-use Rattle.jac_app.specs.declared.ending.Role.{Role}
-use Rattle.jac_app.specs.declared.ending.Role.TheVariants as roles
+use Rattle.jac_words.specs.declared.role.Role.{Role}
+use Rattle.jac_words.specs.declared.role.Role.TheVariants as roles
 use Rattle.jac_app.specs.declared.summary.Summary.{Summary}
 use Rattle.jac_app.specs.declared.status.Status.{Status}
 use Rattle.jac_app.specs.declared.status.Status.TheVariants as statuses
 use Rattle.jac_app.specs.Script.{script_of}
-use Rattle.jac_app.specs.Application.{IsApplication}
+use Rattle.jac_opening.specs.Application.{IsApplication}
 use Rattle.jac_app.specs.Outside.{Span, AWriteFailed}
-use Rattle.jac_app.specs.Words.{command_of}
-use Rattle.jac_app.specs.Commands.{file_of, name_of, name_or_empty, limit_of}
+use Rattle.jac_words.specs.Words.{command_of}
+use Rattle.jac_words.specs.Commands.{file_of, name_of, name_or_empty, limit_of}
 use Rattle.jac_demo.specs.Calendar.{calendar_text}
 use Rattle.jac_app.specs.Files.{Sight, sinks_of, IsUnopened, IsRead, IsLong, HasBadLine, IsReached}
 use Rattle.jac_app.specs.Ending.{Finishes, status_of}
@@ -29,9 +29,9 @@ use Rattle.jac_world.specs.World.{shown as shown_labels}
 use Rattle.jac_app.specs.Dump.{EndsDump, EndsDumping}
 use Rattle.jac_app.specs.Demo.{EndsDemo, EndsCounting, EndsTallying, PutsSummary, summary_line}
 use Rattle.jac_app.specs.Run.{Ends, Runs, IsCompleted, CanHaveSessions, CanOpen, CanReplay, CanServe, CanCheck, CanDemo, CanDump}
-use Rattle.jac_app.proofs.CalendarOpens.{calendar, calendar_is}
+use Rattle.jac_calendar.proofs.CalendarOpens.{calendar, calendar_is}
 use Rattle.jac_app.proofs.CauseLemmas.{same_ending}
-use Rattle.jac_app.proofs.OpeningLemmas.{some_same}
+use Rattle.jac_opening.proofs.OpeningLemmas.{some_same}
 
 -- a file that was read is the one that is there
 same_bytes : (seen : Sight) (command : Command) (role : Role) (there bytes : List ℕ)

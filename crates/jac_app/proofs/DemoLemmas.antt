@@ -11,10 +11,10 @@ use Rattle.jac_lang.specs.Syntax.{Application}
 use Rattle.jac_keep.specs.KeeperSeen.{KeeperSeen}
 use Rattle.jac_keep.specs.declared.stop.Stop.{Stop}
 use Rattle.jac_value.specs.Parts.{parts_left, option_now}
-use Rattle.jac_engine.specs.Answers.{refusal}
+use Rattle.jac_replies.specs.Refused.{refusal}
 use Rattle.jac_engine.specs.Start.{IsStart}
-use Rattle.jac_engine.specs.declared.answer.Answer.{Answer}
-use Rattle.jac_engine.specs.declared.answer.Ask.{Ask}
+use Rattle.jac_replies.specs.declared.answer.Answer.{Answer}
+use Rattle.jac_replies.specs.declared.answer.Ask.{Ask}
 use Rattle.jac_events.specs.declared.event.Event.{Event}
 use Rattle.jac_events.specs.declared.event.Event.TheVariants.{Ask as Asking, Begin, Piece, Finish}
 use Rattle.jac_events.specs.Lines.{line_of}
@@ -29,8 +29,9 @@ use Rattle.jac_app.specs.declared.summary.Summary.{Summary}
 use Rattle.jac_app.specs.declared.summary.Tally.{Tally}
 use Rattle.jac_app.specs.Asked.{ask_in}
 use Rattle.jac_app.specs.Demo.{asks_by, bytes_in, labels_shown, labels_in, summary_of, tally_of, counted, WentTo, IsCounted, PutsTally, TalliesAsk, TearsAsk, TalliesLine, Tallied, TalliedTorn, Tallies, IsTalliedOn, EndsTallying, PutsSummary, IsTold, EndsCounting, summary_line, demo_script}
-use Rattle.jac_app.specs.Failed.{status_of_stop}
-use Rattle.jac_app.specs.Log.{Entry, Brings, IsHeardBy, method_of, audit_text, audit_line, audited}
+use Rattle.jac_replies.specs.Failed.{status_of_stop}
+use Rattle.jac_app.specs.Log.{Entry, Brings, IsHeardBy, method_of, audit_line, audited}
+use Rattle.jac_replies.specs.Spelled.{audit_text}
 use Rattle.jac_app.specs.Outside.{Span, span, sinks, IsFront, IsPut, Went, WentAimed}
 use Rattle.jac_app.specs.Replay.{AttachesAs}
 use Rattle.jac_app.specs.Script.{Script, script_from, script_of, script_step}

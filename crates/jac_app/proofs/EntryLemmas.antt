@@ -16,20 +16,21 @@ use Rattle.jac_keep.specs.declared.stop.Stop.TheVariants as stops
 use Rattle.jac_keep.specs.KeeperSeen.{KeeperSeen}
 use Rattle.jac_plain.specs.Models.{kinds_of}
 use Rattle.jac_keep.specs.Kept.{applied}
-use Rattle.jac_engine.specs.Answers.{IsSomePage, HasFormOf, HasFormBy, HasForm, left_by, refusal}
+use Rattle.jac_engine.specs.Answers.{IsSomePage, HasFormOf, HasFormBy, HasForm, left_by}
+use Rattle.jac_replies.specs.Refused.{refusal}
 use Rattle.jac_route.specs.Found.{found}
 use Rattle.jac_route.specs.declared.lookup.Found.{Found}
 use Rattle.jac_route.specs.declared.lookup.Found.TheVariants as founds
 use Rattle.jac_engine.specs.Prepared.{applied_if, worlds_of}
 use Rattle.jac_engine.specs.Start.{IsStart}
-use Rattle.jac_engine.specs.declared.answer.Answer.{Answer}
-use Rattle.jac_engine.specs.declared.answer.Ask.{Ask}
+use Rattle.jac_replies.specs.declared.answer.Answer.{Answer}
+use Rattle.jac_replies.specs.declared.answer.Ask.{Ask}
 use Rattle.jac_http.specs.Replies.{phrase_of}
 use Rattle.std.proofs.lemmas.Bool.Decides.{nat_tests}
 use Rattle.jac_hub.specs.Hearing.{whole, refused}
 use Rattle.jac_hub.specs.Refusals.{is_refusal}
 use Rattle.jac_app.specs.declared.answer.Via.{Via}
-use Rattle.jac_app.specs.Failed.{status_of_stop}
+use Rattle.jac_replies.specs.Failed.{status_of_stop}
 use Rattle.jac_app.specs.Keeping.{Grew}
 use Rattle.jac_app.specs.Log.{Subject, HasFailed, IsAnswer, IsFormed, left_of, refused_with, is_fault, is_failure}
 use Rattle.jac_app.specs.Outside.{Span}

@@ -2,10 +2,10 @@
 use Rattle.std.proofs.Common.{◌≡◌, ◌∙◌, ap, sym, subst, refl, inl, inr, ℕ, zero, suc, ◌+◌, ◌-◌, ◌≤◌, ◌^◌, ◌&&◌, ◌⊎◌, not, Bool, true, false, IsTrue, is_some, Option, Some, None, Result, Ok, Err, List, [], ◌∷◌, ◌++◌, length, take, drop, append-nil, length-append, if◌then◌else◌, arith}
 use Rattle.jac_lang.specs.Syntax.{Application}
 use Rattle.jac_keep.specs.KeeperSeen.{KeeperSeen}
-use Rattle.jac_engine.specs.Answers.{refusal}
+use Rattle.jac_replies.specs.Refused.{refusal}
 use Rattle.jac_engine.specs.Start.{IsStart}
-use Rattle.jac_engine.specs.declared.answer.Answer.{Answer}
-use Rattle.jac_engine.specs.declared.answer.Ask.{Ask}
+use Rattle.jac_replies.specs.declared.answer.Answer.{Answer}
+use Rattle.jac_replies.specs.declared.answer.Ask.{Ask}
 use Rattle.jac_events.specs.declared.event.Event.{Event}
 use Rattle.jac_events.specs.declared.event.Event.TheVariants.{Ask as Asking, Begin, Piece, Finish}
 use Rattle.jac_http.specs.Reading.{IsReading}
@@ -28,9 +28,10 @@ use Rattle.jac_app.specs.declared.serve.Lapse.{Lapse}
 use Rattle.jac_app.specs.declared.serve.Lapse.TheVariants as lapses
 use Rattle.jac_app.specs.declared.serve.Stopped.{Stopped}
 use Rattle.jac_app.specs.declared.serve.Stopped.TheVariants as stops
-use Rattle.jac_app.specs.declared.reply.Spelling.TheVariants as spellings
+use Rattle.jac_replies.specs.declared.reply.Spelling.TheVariants as spellings
 use Rattle.jac_app.specs.Asked.{ask_in}
-use Rattle.jac_app.specs.Log.{Entry, hearing, reply_to, reply_line, replies_text, closed_text, closing_text, audit_text, audit_line}
+use Rattle.jac_app.specs.Log.{Entry, hearing, reply_to, reply_line, replies_text, closing_text, audit_line}
+use Rattle.jac_replies.specs.Spelled.{closed_text, audit_text}
 use Rattle.jac_app.specs.Outside.{span, IsFront, IsTorn}
 use Rattle.jac_app.specs.Script.{lapse_of}
 use Rattle.jac_app.specs.Serve.{IsHandled, handled, IsEntryOf, outs_text, outs_audited, replies_in, IsOutTorn, PutsSome, IsEventServed, IsEventTorn, IsEntryTorn, IsClosingTorn, TakesEvent, AnswersEvent, is_open, lapse_by}

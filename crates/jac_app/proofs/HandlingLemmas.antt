@@ -7,7 +7,7 @@ use Rattle.jac_lang.specs.Syntax.{Application}
 use Rattle.jac_keep.specs.declared.stop.Stop.{Stop}
 use Rattle.jac_keep.specs.declared.stop.Stop.TheVariants as stops
 use Rattle.jac_keep.specs.KeeperSeen.{KeeperSeen}
-use Rattle.jac_engine.specs.Answers.{refusal}
+use Rattle.jac_replies.specs.Refused.{refusal}
 use Rattle.jac_engine.specs.Start.{IsStart}
 use Rattle.jac_http.specs.declared.taken.Request.{Request}
 use Rattle.jac_http.specs.declared.reply.Fixed.{Fixed}
@@ -20,10 +20,11 @@ use Rattle.jac_hub.specs.Hearing.{refused}
 use Rattle.jac_hub.specs.Refusals.{is_refusal}
 use Rattle.jac_route.specs.declared.sessions.Session.{Session}
 use Rattle.jac_app.specs.declared.answer.Via.TheVariants as ways
-use Rattle.jac_app.specs.declared.reply.Spelling.{Spelling}
+use Rattle.jac_replies.specs.declared.reply.Spelling.{Spelling}
 use Rattle.jac_app.specs.Asked.{request_in}
-use Rattle.jac_app.specs.Failed.{status_of_stop}
-use Rattle.jac_app.specs.Log.{is_failure, refused_with, spelled, audit_text}
+use Rattle.jac_replies.specs.Failed.{status_of_stop}
+use Rattle.jac_app.specs.Log.{is_failure, refused_with}
+use Rattle.jac_replies.specs.Spelled.{spelled, audit_text}
 use Rattle.jac_app.specs.Outside.{span}
 use Rattle.jac_app.specs.Serve.{IsAnswerMade, IsRefusalSent, handled, sent_on, sent_audit}
 use Rattle.jac_app.proofs.EntryLemmas.{is_made, is_failed, is_wanting, is_refused, servable}

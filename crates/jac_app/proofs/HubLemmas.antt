@@ -2,10 +2,10 @@
 use Rattle.std.proofs.Common.{◌≡◌, ◌∙◌, ap, sym, subst, refl, ℕ, ◌+◌, ◌&&◌, not, Bool, true, false, IsTrue, None, Result, List, [], ◌∷◌, ◌++◌, length, append_assoc, append-nil, if◌then◌else◌, arith}
 use Rattle.jac_lang.specs.Syntax.{Application}
 use Rattle.jac_keep.specs.KeeperSeen.{KeeperSeen}
-use Rattle.jac_engine.specs.Answers.{refusal}
+use Rattle.jac_replies.specs.Refused.{refusal}
 use Rattle.jac_engine.specs.Start.{IsStart}
-use Rattle.jac_engine.specs.declared.answer.Answer.{Answer}
-use Rattle.jac_engine.specs.declared.answer.Ask.{Ask}
+use Rattle.jac_replies.specs.declared.answer.Answer.{Answer}
+use Rattle.jac_replies.specs.declared.answer.Ask.{Ask}
 use Rattle.jac_events.specs.declared.event.Event.{Event}
 use Rattle.jac_events.specs.declared.event.Event.TheVariants.{Ask as Asking, Begin, Piece, Finish}
 use Rattle.jac_http.specs.Reading.{IsReading}
@@ -24,9 +24,10 @@ use Rattle.jac_hub.specs.Served.{AreLike, AreAnswered, IsAnswered, Agrees, IsLos
 use Rattle.jac_hub.proofs.Following.{Tells}
 use Rattle.jac_hub.proofs.Events.{event-served}
 use Rattle.jac_route.specs.declared.sessions.Session.{Session}
-use Rattle.jac_app.specs.declared.reply.Spelling.{Spelling}
-use Rattle.jac_app.specs.declared.reply.Spelling.TheVariants as spellings
-use Rattle.jac_app.specs.Log.{Subject, Entry, hearing, reply_on, entry_on, replies_on, reply_line, replies_text, closed_text, closing_text, reply_to, audit_line, audit_text, audited_from, viewer_of}
+use Rattle.jac_replies.specs.declared.reply.Spelling.{Spelling}
+use Rattle.jac_replies.specs.declared.reply.Spelling.TheVariants as spellings
+use Rattle.jac_app.specs.Log.{Subject, Entry, hearing, reply_on, entry_on, replies_on, reply_line, replies_text, closing_text, reply_to, audit_line, audited_from, viewer_of}
+use Rattle.jac_replies.specs.Spelled.{closed_text, audit_text}
 use Rattle.jac_app.specs.Outside.{Span, span, IsTorn}
 use Rattle.jac_app.specs.Serve.{IsHandled, handled, sent_on, sent_line, sent_audit, IsEntryOf, AreEntries, out_on, outs_on, outs_text, out_text, outs_audited, replies_in, IsOutTorn, PutsAll, IsEventServed, IsEntryTorn}
 use Rattle.jac_app.proofs.EntriesLemmas.{entries-none, entries-one, entries-then}

@@ -6,17 +6,17 @@ use Rattle.jac_io.specs.Linked.{LinkSeen, DoorSeen}
 use Rattle.jac_lang.specs.Syntax.{Application}
 use Rattle.jac_keep.specs.KeeperSeen.{KeeperSeen}
 use Rattle.jac_route.specs.declared.sessions.Session.{Session}
-use Rattle.jac_app.specs.declared.words.Command.{Command}
-use Rattle.jac_app.specs.declared.words.Command.TheVariants as commands
-use Rattle.jac_app.specs.declared.words.Serving.{Serving}
+use Rattle.jac_words.specs.declared.words.Command.{Command}
+use Rattle.jac_words.specs.declared.words.Command.TheVariants as commands
+use Rattle.jac_words.specs.declared.words.Serving.{Serving}
 use Rattle.jac_app.specs.declared.ending.Ending.{Ending}
 use Rattle.jac_app.specs.declared.ending.Ending.TheVariants as endings
-use Rattle.jac_app.specs.declared.ending.Role.{Role}
-use Rattle.jac_app.specs.declared.ending.Role.TheVariants as roles
+use Rattle.jac_words.specs.declared.role.Role.{Role}
+use Rattle.jac_words.specs.declared.role.Role.TheVariants as roles
 use Rattle.jac_app.specs.declared.status.Status.{Status}
 use Rattle.jac_app.specs.Script.{Script, script_of}
 use Rattle.jac_app.specs.Outside.{Span, span, AWriteFailed}
-use Rattle.jac_app.specs.Commands.{db_of}
+use Rattle.jac_words.specs.Commands.{db_of}
 use Rattle.jac_app.specs.Files.{Sight, sinks_of, IsRead, HasApplication, IsOpened, IsReached}
 use Rattle.jac_app.specs.Ending.{Closes, Finishes, fault_line, status_of}
 use Rattle.jac_app.specs.Replay.{IsUnattached, EndsServing, EndsOpening, IsEndedEarly, EndsReplay}

@@ -1,5 +1,4 @@
 pub mod OutsideLemmas
-pub mod FailedLemmas
 pub mod EntryLemmas
 pub mod EntriesLemmas
 pub mod BringsLemmas
@@ -18,12 +17,6 @@ pub mod LinkProgress
 pub mod LinkEnds
 pub mod DoorProgress
 pub mod ServerLemmas
-mod OpeningLemmas
-pub mod WordsLemmas
 pub mod AttachLemmas
 pub mod DumpLemmas
-pub mod AskingLemmas
 pub mod DemoLemmas
-pub mod CountLemmas
-mod ReadTexts
-mod CalendarOpens

@@ -4,9 +4,9 @@ use Rattle.jac_io.specs.Faults.{Rose}
 use Rattle.jac_io.specs.Linked.{LinkSeen}
 use Rattle.jac_lang.specs.Syntax.{Application}
 use Rattle.jac_keep.specs.KeeperSeen.{KeeperSeen}
-use Rattle.jac_engine.specs.Answers.{refusal}
+use Rattle.jac_replies.specs.Refused.{refusal}
 use Rattle.jac_engine.specs.Start.{IsStart}
-use Rattle.jac_engine.specs.declared.answer.Ask.{Ask}
+use Rattle.jac_replies.specs.declared.answer.Ask.{Ask}
 use Rattle.jac_events.specs.declared.event.Event.{Event}
 use Rattle.jac_events.specs.declared.event.Event.TheVariants.{Ask as Asking, Begin, Piece, Finish}
 use Rattle.jac_http.specs.Reading.{IsReading}
@@ -31,7 +31,7 @@ use Rattle.jac_app.specs.declared.link.Cut.TheVariants as cuts
 use Rattle.jac_app.specs.declared.link.Halt.TheVariants as halts
 use Rattle.jac_app.specs.declared.link.Standing.TheVariants as standings
 use Rattle.jac_app.specs.declared.onto.Missed.TheVariants as misses
-use Rattle.jac_app.specs.declared.reply.Spelling.TheVariants as spellings
+use Rattle.jac_replies.specs.declared.reply.Spelling.TheVariants as spellings
 use Rattle.jac_app.specs.LinkSteps.{begun_hub, TakesPiece, has_closed, MayTake, TakesIn, PutsAllOn, PutsSomeOn, PutsOutsOn, IsHeardOn, IsCutOn, AnswersOn, standing_of, Gave, IsPieceOn, ServesPiece}
 use Rattle.jac_app.specs.Log.{Entry, hearing, replies_on, audited_from}
 use Rattle.jac_app.specs.Outside.{span, IsFront}

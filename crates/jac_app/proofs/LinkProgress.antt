@@ -7,7 +7,7 @@ use Rattle.jac_io.specs.Linked.{LinkSeen}
 use Rattle.jac_lang.specs.Syntax.{Application}
 use Rattle.jac_keep.specs.KeeperSeen.{KeeperSeen}
 use Rattle.jac_engine.specs.Start.{IsStart}
-use Rattle.jac_engine.specs.declared.answer.Ask.{Ask}
+use Rattle.jac_replies.specs.declared.answer.Ask.{Ask}
 use Rattle.jac_events.specs.declared.event.Event.{Event}
 use Rattle.jac_events.specs.declared.event.Event.TheVariants.{Begin, Piece, Finish}
 use Rattle.jac_http.specs.declared.taken.Taken.TheVariants.{Whole}
@@ -26,7 +26,7 @@ use Rattle.jac_hub.proofs.Statuses.{all_sound}
 use Rattle.jac_route.specs.declared.sessions.Session.{Session}
 use Rattle.jac_app.specs.declared.link.Brought.{Brought}
 use Rattle.jac_app.specs.declared.link.Halt.TheVariants as halts
-use Rattle.jac_app.specs.declared.reply.Spelling.TheVariants as spellings
+use Rattle.jac_replies.specs.declared.reply.Spelling.TheVariants as spellings
 use Rattle.jac_app.specs.Link.{pieces_of, events_of, closes_in, is_over, IsLinkServed}
 use Rattle.jac_app.specs.LinkSteps.{Gave, has_closed, begun_hub, IsPieceOn, IsPieceCut, IsQuiet}
 use Rattle.jac_app.specs.Log.{Entry, hearing, entry_on, replies_on, audited_from, Brings, IsHeardBy, event_text}

@@ -16,7 +16,7 @@ use Rattle.jac_app.specs.declared.link.Brought.{Brought}
 use Rattle.jac_app.specs.declared.link.Cut.{Cut}
 use Rattle.jac_app.specs.declared.link.Cut.TheVariants as cuts
 use Rattle.jac_app.specs.declared.onto.Lost.TheVariants as losses
-use Rattle.jac_app.specs.declared.reply.Spelling.TheVariants as spellings
+use Rattle.jac_replies.specs.declared.reply.Spelling.TheVariants as spellings
 use Rattle.jac_app.specs.Link.{as_sink}
 use Rattle.jac_app.specs.LinkSteps.{PutsReply, PutsOutOn, PutsSoFarOn, PutsAllOn, PutsSomeOn, PutsOutsOn, is_closed_out, has_closed}
 use Rattle.jac_app.specs.Outside.{span, Took, IsFront, IsPut, sinks, Went}

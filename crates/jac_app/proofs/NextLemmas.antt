@@ -17,7 +17,7 @@ use Rattle.jac_hub.specs.Channel.{ChannelSeen, AnswersFront, NextOfChannel}
 use Rattle.jac_hub.specs.Hub.{HubSeen, Nexts, NextServing}
 use Rattle.jac_hub.proofs.Giving.{given-push, given-all}
 use Rattle.jac_route.specs.declared.sessions.Session.{Session}
-use Rattle.jac_app.specs.declared.reply.Spelling.TheVariants as spellings
+use Rattle.jac_replies.specs.declared.reply.Spelling.TheVariants as spellings
 use Rattle.jac_app.specs.Outside.{span}
 use Rattle.jac_app.specs.Serve.{handled, out_text, outs_text, outs_audited, replies_in, IsOutTorn, PutsOut, PutsSoFar, PutsSome, PutsAll}
 use Rattle.jac_app.proofs.HubLemmas.{outs_on-append, outs_audited-append, replies_in-append}

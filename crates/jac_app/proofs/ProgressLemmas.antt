@@ -5,7 +5,7 @@ use Rattle.jac_lang.specs.Syntax.{Application}
 use Rattle.jac_keep.specs.KeeperSeen.{KeeperSeen}
 use Rattle.jac_value.specs.Parts.{parts_left, option_now, length_left}
 use Rattle.jac_engine.specs.Start.{IsStart}
-use Rattle.jac_engine.specs.declared.answer.Ask.{Ask}
+use Rattle.jac_replies.specs.declared.answer.Ask.{Ask}
 use Rattle.jac_events.specs.declared.event.Event.{Event}
 use Rattle.jac_events.specs.Lines.{line_of}
 use Rattle.jac_hub.specs.declared.hub.Turn.TheVariants as turns

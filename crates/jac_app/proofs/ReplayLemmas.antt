@@ -6,21 +6,21 @@ use Rattle.jac_io.specs.declared.sink.Failed.{Failed}
 use Rattle.jac_lang.specs.Syntax.{Application}
 use Rattle.jac_keep.specs.KeeperSeen.{KeeperSeen}
 use Rattle.jac_route.specs.declared.sessions.Session.{Session}
-use Rattle.jac_app.specs.declared.words.Command.{Command}
+use Rattle.jac_words.specs.declared.words.Command.{Command}
 use Rattle.jac_app.specs.declared.ending.Ending.{Ending}
 use Rattle.jac_app.specs.declared.ending.Ending.TheVariants as endings
-use Rattle.jac_app.specs.declared.ending.Role.{Role}
-use Rattle.jac_app.specs.declared.ending.Role.TheVariants as roles
+use Rattle.jac_words.specs.declared.role.Role.{Role}
+use Rattle.jac_words.specs.declared.role.Role.TheVariants as roles
 use Rattle.jac_app.specs.declared.serve.Stopped.{Stopped}
 use Rattle.jac_app.specs.declared.serve.Stopped.TheVariants as stops
 use Rattle.jac_app.specs.Script.{Script, script_of}
-use Rattle.jac_app.specs.Application.{IsApplication}
-use Rattle.jac_app.specs.Refusal.{HasRefusal, refusal_text}
-use Rattle.jac_app.specs.declared.refusal.Refusal.{Refusal}
-use Rattle.jac_app.specs.declared.refusal.Refusal.TheVariants as refusals
+use Rattle.jac_opening.specs.Application.{IsApplication}
+use Rattle.jac_opening.specs.Refusal.{HasRefusal, refusal_text}
+use Rattle.jac_opening.specs.declared.refusal.Refusal.{Refusal}
+use Rattle.jac_opening.specs.declared.refusal.Refusal.TheVariants as refusals
 use Rattle.jac_app.specs.Outside.{Span, span, Sinks, sinks, Took, Went, WentAimed, AWriteFailed}
 use Rattle.jac_app.specs.Serve.{ServesAs}
-use Rattle.jac_app.specs.Commands.{file_of, name_of, audit_of, db_of, name_or_empty, limit_of}
+use Rattle.jac_words.specs.Commands.{file_of, name_of, audit_of, db_of, name_or_empty, limit_of}
 use Rattle.jac_app.specs.Files.{Sight, sinks_of, IsReadAs, IsRead, HasSessions, HasBadLine, IsSessionless, HasApplication, IsOpened, IsReached, IsAimed, IsIdle, IsUnread, IsUnopened}
 use Rattle.jac_app.specs.Ending.{ending_of}
 use Rattle.jac_app.specs.Check.{PutsText}

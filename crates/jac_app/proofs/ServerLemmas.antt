@@ -7,8 +7,8 @@ use Rattle.jac_io.specs.declared.sink.Failed.{Failed}
 use Rattle.jac_lang.specs.Syntax.{Application}
 use Rattle.jac_keep.specs.KeeperSeen.{KeeperSeen}
 use Rattle.jac_route.specs.declared.sessions.Session.{Session}
-use Rattle.jac_app.specs.declared.words.Command.TheVariants as commands
-use Rattle.jac_app.specs.declared.words.Serving.{Serving}
+use Rattle.jac_words.specs.declared.words.Command.TheVariants as commands
+use Rattle.jac_words.specs.declared.words.Serving.{Serving}
 use Rattle.jac_app.specs.declared.door.DoorHalt.{DoorHalt}
 use Rattle.jac_app.specs.declared.door.DoorHalt.TheVariants as halts
 use Rattle.jac_app.specs.declared.door.Tally.{Tally}

@@ -7,7 +7,7 @@ use Rattle.jac_route.specs.Pairs.{pairs_in}
 use Rattle.jac_route.specs.Parameters.{viewer_of}
 use Rattle.jac_route.specs.Sessions.{session_viewer}
 use Rattle.jac_route.specs.declared.sessions.Session.{Session}
-use Rattle.jac_engine.specs.declared.answer.Ask.{Ask}
+use Rattle.jac_replies.specs.declared.answer.Ask.{Ask}
 
 -- a number that is no id of the viewer's model is nobody's
 abbrev pub viewer_in : Application → Option ℕ → Option ℕ

@@ -3,7 +3,7 @@ use Rattle.std.specs.Prelude.{◌≡◌, ◌⊎◌, ℕ, Result, Ok, Err, List, 
 use Rattle.jac_io.specs.Faults.{Rose}
 use Rattle.jac_io.specs.Seen.{SinkSeen}
 use Rattle.jac_lang.specs.Syntax.{Application}
-use Rattle.jac_app.specs.declared.words.Command.{Command}
+use Rattle.jac_words.specs.declared.words.Command.{Command}
 use Rattle.jac_app.specs.declared.ending.Ending.{Ending}
 use Rattle.jac_app.specs.declared.ending.Ending.TheVariants as endings
 use Rattle.jac_app.specs.Outside.{Span, IsFront}

@@ -1,5 +1,5 @@
 -- What `demo N` does: generated requests are answered in silence, and counted.
-use Rattle.std.specs.Prelude.{◌≡◌, ◌⊎◌, ◌≤◌, ◌+◌, ◌*◌, ◌^◌, ℕ, Bool, true, false, if◌then◌else◌, Result, Ok, Err, Option, Some, None, List, [], ◌∷◌, ◌++◌, length, ⊤, codes, decimal}
+use Rattle.std.specs.Prelude.{◌≡◌, ◌⊎◌, ◌≤◌, ◌+◌, ◌*◌, ◌^◌, ℕ, Bool, true, false, if◌then◌else◌, Result, Ok, Err, Option, Some, None, List, [], ◌∷◌, ◌++◌, length, codes, decimal}
 use Rattle.std.specs.Str.{bytes_eq}
 use Rattle.jac_demo.specs.Calendar.{calendar_text}
 use Rattle.jac_demo.specs.Requests.{demo_text}
@@ -9,8 +9,8 @@ use Rattle.jac_io.specs.declared.sink.Failed.{Failed}
 use Rattle.jac_lang.specs.Syntax.{Application}
 use Rattle.jac_rows.specs.declared.state.State.{State}
 use Rattle.jac_keep.specs.KeeperSeen.{KeeperSeen}
-use Rattle.jac_engine.specs.declared.answer.Answer.{Answer}
-use Rattle.jac_engine.specs.declared.answer.Ask.{Ask}
+use Rattle.jac_replies.specs.declared.answer.Answer.{Answer}
+use Rattle.jac_replies.specs.declared.answer.Ask.{Ask}
 use Rattle.jac_events.specs.declared.event.Event.{Event}
 use Rattle.jac_events.specs.declared.event.Event.TheVariants.{Ask as Asking, Begin, Piece, Finish}
 use Rattle.jac_hub.specs.Hearing.{whole}
@@ -21,14 +21,15 @@ use Rattle.jac_app.specs.declared.ending.Ending.{Ending}
 use Rattle.jac_app.specs.declared.ending.Ending.TheVariants as endings
 use Rattle.jac_app.specs.declared.summary.Summary.{Summary}
 use Rattle.jac_app.specs.declared.summary.Tally.{Tally}
-use Rattle.jac_app.specs.Application.{IsApplication}
+use Rattle.jac_opening.specs.Application.{IsApplication, schema_text}
 use Rattle.jac_app.specs.Asked.{ask_in}
 use Rattle.jac_app.specs.Check.{PutsText}
 use Rattle.jac_app.specs.Files.{IsAimed, IsIdle, IsUnopened}
 use Rattle.jac_app.specs.Keeping.{IsStill}
-use Rattle.jac_app.specs.Log.{Entry, method_of, audit_text, audit_line, audited}
+use Rattle.jac_app.specs.Log.{Entry, method_of, audit_line, audited}
+use Rattle.jac_replies.specs.Spelled.{audit_text}
 use Rattle.jac_app.specs.Outside.{Span, span, Sinks, Took, IsFront}
-use Rattle.jac_app.specs.Replay.{schema_text, IsAttached, IsUnattached, IsOther}
+use Rattle.jac_app.specs.Replay.{IsAttached, IsUnattached, IsOther}
 use Rattle.jac_app.specs.Script.{Script, script_of}
 use Rattle.jac_app.specs.Serve.{IsAnswerMade, IsEntryOf, IsServed}
 
@@ -121,15 +122,6 @@ abbrev pub TalliesAsk : Application → Span KeeperSeen → ℕ → Ask → Resu
 TalliesAsk app k served ask (Ok tally) audit =
     (answer : Answer) × IsEntryOf app k (whole ask false) answer × (audit ≡ audit_text (served + 1) answer.status ask.viewer answer.shown) × (tally ≡ tally_of answer)
 TalliesAsk app k served ask (Err failed) audit = TearsAsk app k served ask audit
-
--- the line is empty, or it writes down a request
-abbrev pub IsAsking : Option (Option Event) → Type 0
-IsAsking None = ⊥
-IsAsking (Some None) = ⊤
-IsAsking (Some (Some (Asking viewer method path query body))) = ⊤
-IsAsking (Some (Some (Begin c))) = ⊥
-IsAsking (Some (Some (Piece c bytes))) = ⊥
-IsAsking (Some (Some (Finish c))) = ⊥
 
 -- a request is answered and counted
 abbrev pub TalliesBy : Application → Span KeeperSeen → Summary → List ℕ → Ask → Result Summary DemoFault → List ℕ → Type 0

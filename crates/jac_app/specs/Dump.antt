@@ -14,15 +14,16 @@ use Rattle.jac_rows.specs.declared.plain.PlainState.{PlainState}
 use Rattle.jac_rows.specs.Tables.{rows_of}
 use Rattle.jac_rows.specs.Project.{project_at}
 use Rattle.jac_keep.specs.KeeperSeen.{KeeperSeen, IsLeft}
-use Rattle.jac_app.specs.declared.words.Command.{Command}
-use Rattle.jac_app.specs.declared.words.Command.TheVariants as commands
+use Rattle.jac_words.specs.declared.words.Command.{Command}
+use Rattle.jac_words.specs.declared.words.Command.TheVariants as commands
 use Rattle.jac_app.specs.declared.ending.Ending.{Ending}
 use Rattle.jac_app.specs.declared.ending.Ending.TheVariants as endings
 use Rattle.jac_app.specs.Outside.{Span, span}
-use Rattle.jac_app.specs.Commands.{db_of}
+use Rattle.jac_words.specs.Commands.{db_of}
 use Rattle.jac_app.specs.Files.{Sight, HasApplication}
 use Rattle.jac_app.specs.Check.{PutsText}
-use Rattle.jac_app.specs.Replay.{schema_text, IsAttached, IsUnattached, IsOther, IsEndedEarly}
+use Rattle.jac_opening.specs.Application.{schema_text}
+use Rattle.jac_app.specs.Replay.{IsAttached, IsUnattached, IsOther, IsEndedEarly}
 
 -- ---- the text
 

@@ -2,7 +2,7 @@
 use Rattle.std.specs.Prelude.{◌≡◌, ◌⊎◌, ℕ, Result, Ok, Err, List, [], ◌++◌, codes, decimal}
 use Rattle.jac_io.specs.Faults.{Rose}
 use Rattle.jac_io.specs.Seen.{SinkSeen, Lasts}
-use Rattle.jac_app.specs.declared.words.Command.{Command}
+use Rattle.jac_words.specs.declared.words.Command.{Command}
 use Rattle.jac_app.specs.declared.ending.Ending.{Ending}
 use Rattle.jac_app.specs.declared.ending.Ending.TheVariants as endings
 use Rattle.jac_app.specs.declared.serve.Lapse.{Lapse}
@@ -11,7 +11,7 @@ use Rattle.jac_app.specs.declared.serve.Stopped.{Stopped}
 use Rattle.jac_app.specs.declared.serve.Stopped.TheVariants as stops
 use Rattle.jac_app.specs.declared.status.Status.{Status}
 use Rattle.jac_app.specs.declared.status.Status.TheVariants as statuses
-use Rattle.jac_app.specs.Commands.{name_of, limit_text}
+use Rattle.jac_words.specs.Commands.{name_of, limit_text}
 use Rattle.jac_app.specs.Outside.{Span, Took, IsFront}
 
 -- why serving that stopped ends the run

@@ -6,16 +6,16 @@ use Rattle.jac_lang.specs.Syntax.{Application}
 use Rattle.jac_keep.specs.KeeperSeen.{KeeperSeen}
 use Rattle.jac_route.specs.declared.sessions.Session.{Session}
 use Rattle.jac_route.specs.Sessions.{sessions_in}
-use Rattle.jac_app.specs.declared.words.Command.{Command}
+use Rattle.jac_words.specs.declared.words.Command.{Command}
 use Rattle.jac_app.specs.declared.ending.Ending.{Ending}
 use Rattle.jac_app.specs.declared.ending.Ending.TheVariants as endings
-use Rattle.jac_app.specs.declared.ending.Role.{Role}
-use Rattle.jac_app.specs.declared.ending.Role.TheVariants as roles
-use Rattle.jac_app.specs.Application.{IsApplication}
-use Rattle.jac_app.specs.Refusal.{IsRefusedBy}
+use Rattle.jac_words.specs.declared.role.Role.{Role}
+use Rattle.jac_words.specs.declared.role.Role.TheVariants as roles
+use Rattle.jac_opening.specs.Application.{IsApplication}
+use Rattle.jac_opening.specs.Refusal.{IsRefusedBy}
 use Rattle.jac_app.specs.Keeping.{IsStill}
 use Rattle.jac_app.specs.Outside.{Span, span, Sinks}
-use Rattle.jac_app.specs.Commands.{file_of, name_of, limit_of}
+use Rattle.jac_words.specs.Commands.{file_of, name_of, limit_of}
 
 -- what a run sees of the outside, before and after
 pub record Sight : Type 0 where

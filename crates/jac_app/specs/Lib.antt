@@ -1,16 +1,11 @@
-pub mod Application
 pub mod Keeping
 pub mod Line
 pub mod Script
 pub mod Made
 pub mod Log
 pub mod Asked
-pub mod Failed
 pub mod Outside
 pub mod Serve
-pub mod Words
-pub mod Grammar
-pub mod Commands
 pub mod Files
 pub mod Ending
 pub mod Replay
@@ -22,6 +17,5 @@ pub mod Door
 pub mod DoorSteps
 pub mod Server
 pub mod Run
-pub mod Refusal
 pub mod Status
 pub mod Demo

@@ -12,7 +12,7 @@ use Rattle.jac_hub.specs.Channel.{LIMIT}
 use Rattle.jac_hub.specs.Heard.{is_closing}
 use Rattle.jac_route.specs.declared.sessions.Session.{Session}
 use Rattle.jac_app.specs.declared.link.Halt.{Halt}
-use Rattle.jac_app.specs.declared.reply.Spelling.TheVariants as spellings
+use Rattle.jac_replies.specs.declared.reply.Spelling.TheVariants as spellings
 use Rattle.jac_app.specs.Log.{Entry, hearing, replies_on, audited_from}
 use Rattle.jac_app.specs.Outside.{Span, IsFront}
 use Rattle.jac_app.specs.Serve.{IsServed}

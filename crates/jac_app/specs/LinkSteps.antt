@@ -4,7 +4,7 @@ use Rattle.jac_io.specs.Faults.{Rose}
 use Rattle.jac_io.specs.Linked.{LinkSeen}
 use Rattle.jac_lang.specs.Syntax.{Application}
 use Rattle.jac_keep.specs.KeeperSeen.{KeeperSeen}
-use Rattle.jac_engine.specs.declared.answer.Ask.{Ask}
+use Rattle.jac_replies.specs.declared.answer.Ask.{Ask}
 use Rattle.jac_events.specs.declared.event.Event.{Event}
 use Rattle.jac_events.specs.declared.event.Event.TheVariants.{Ask as Asking, Begin, Piece, Finish}
 use Rattle.jac_http.specs.Requests.{IsTaken}
@@ -29,7 +29,7 @@ use Rattle.jac_app.specs.declared.onto.Lost.{Lost}
 use Rattle.jac_app.specs.declared.onto.Lost.TheVariants as losses
 use Rattle.jac_app.specs.declared.onto.Missed.{Missed}
 use Rattle.jac_app.specs.declared.onto.Missed.TheVariants as misses
-use Rattle.jac_app.specs.declared.reply.Spelling.TheVariants as spellings
+use Rattle.jac_replies.specs.declared.reply.Spelling.TheVariants as spellings
 use Rattle.jac_app.specs.Log.{Entry, hearing, replies_on, audited_from}
 use Rattle.jac_app.specs.Outside.{Span, IsFront}
 use Rattle.jac_app.specs.Serve.{handled, out_on, outs_on, outs_audited, replies_in, AreEntries}

@@ -2,7 +2,6 @@
 use Rattle.std.specs.Prelude.{◌≡◌, ℕ, ◌+◌, ◌==◌, ◌&&◌, ◌||◌, ◌⊎◌, Bool, true, false, is_none, is_some, not, if◌then◌else◌, Option, Some, None, List, [], ◌∷◌, ◌++◌, ⊤, codes, decimal}
 use Rattle.std.specs.List.{flat_map}
 use Rattle.std.specs.Str.{bytes_eq}
-use Rattle.jac_value.specs.Quoted.{quoted}
 use Rattle.jac_lang.specs.Syntax.{Application}
 use Rattle.jac_rows.specs.Good.{IsGood}
 use Rattle.jac_rows.specs.Project.{project_at}
@@ -10,11 +9,12 @@ use Rattle.jac_rows.specs.declared.plain.PlainState.{PlainState}
 use Rattle.jac_rows.specs.declared.state.State.{State}
 use Rattle.jac_plain.specs.Models.{kinds_of}
 use Rattle.jac_plain.specs.Requests.{Worlds}
-use Rattle.jac_engine.specs.Answers.{IsAnswerTo, HasForm, refusal, left}
+use Rattle.jac_engine.specs.Answers.{IsAnswerTo, HasForm, left}
+use Rattle.jac_replies.specs.Refused.{refusal}
 use Rattle.jac_engine.specs.Prepared.{worlds_of}
 use Rattle.jac_engine.specs.Start.{IsStart}
-use Rattle.jac_engine.specs.declared.answer.Answer.{Answer}
-use Rattle.jac_engine.specs.declared.answer.Ask.{Ask}
+use Rattle.jac_replies.specs.declared.answer.Answer.{Answer}
+use Rattle.jac_replies.specs.declared.answer.Ask.{Ask}
 use Rattle.jac_events.specs.declared.event.Event.{Event}
 use Rattle.jac_events.specs.declared.event.Event.TheVariants.{Ask as Asking, Begin, Piece, Finish}
 use Rattle.jac_http.specs.Requests.{IsTaken}
@@ -24,8 +24,9 @@ use Rattle.jac_hub.specs.Heard.{Connections, IsHeard, IsHeardInPart, IsBroughtBy
 use Rattle.jac_hub.specs.Served.{is_shut}
 use Rattle.jac_route.specs.declared.sessions.Session.{Session}
 use Rattle.jac_app.specs.Asked.{ask_in, request_in}
-use Rattle.jac_app.specs.declared.reply.Spelling.{Spelling}
-use Rattle.jac_app.specs.declared.reply.Spelling.TheVariants as spellings
+use Rattle.jac_replies.specs.declared.reply.Spelling.{Spelling}
+use Rattle.jac_replies.specs.declared.reply.Spelling.TheVariants as spellings
+use Rattle.jac_replies.specs.Spelled.{reply_text, spelled, closed_text, audit_text}
 use Rattle.jac_app.specs.Keeping.{Grew}
 
 -- what was answered: a request, and whether it closes its connection; what is refused; or that memory ran out
@@ -124,29 +125,6 @@ pub record IsCaused (early : Bool) (app : Application) (sessions : List Session)
   pub formed : AreFormed app log
   pub faults : Grew before (faults_in log) after
 
--- the body of a reply to HEAD isn't printed
-abbrev pub printed_body : List ℕ → List ℕ → List ℕ
-printed_body method body = if bytes_eq method (codes "HEAD") then [] else body
-
-abbrev pub location_text : Option (List ℕ) → List ℕ
-location_text None = []
-location_text (Some location) = location
-
--- `reply STATUS "LOCATION" "BODY"`, the reply to a request of this method
-abbrev pub reply_text : List ℕ → ℕ → Option (List ℕ) → List ℕ → List ℕ
-reply_text method status location body =
-    codes "reply " ++ decimal status ++ codes " " ++ quoted (location_text location)
-    ++ codes " " ++ quoted (printed_body method body) ++ 10 ∷ []
-
--- `sent N "BYTES"`, the reply on the connection of this number
-abbrev pub sent_text : ℕ → List ℕ → List ℕ
-sent_text c bytes = codes "sent " ++ decimal c ++ codes " " ++ quoted bytes ++ 10 ∷ []
-
--- bytes on a connection, as the line of a text or as they are
-abbrev pub spelled : Spelling → ℕ → List ℕ → List ℕ
-spelled spellings.Quoted c bytes = sent_text c bytes
-spelled spellings.Raw c bytes = bytes
-
 -- the method of a request, whose body isn't sent where it is HEAD
 abbrev pub method_of : Subject → List ℕ
 method_of (whole ask closes) = ask.method
@@ -185,9 +163,6 @@ reply_line entry = entry_on spellings.Quoted entry
 abbrev pub replies_text : List Entry → List ℕ
 replies_text log = replies_on spellings.Quoted log
 
-abbrev pub closed_text : ℕ → List ℕ
-closed_text c = codes "closed " ++ decimal c ++ 10 ∷ []
-
 -- `closed N`, where the event's connection was closed in it
 abbrev pub closing_text : Event → Connections Ask → Connections Ask → List ℕ
 closing_text (Asking viewer method path query body) before after = []
@@ -207,32 +182,6 @@ Brings app sessions known n (event ∷ events) log text later =
     (mine : List Entry) × (others : List Entry) × (rest : List ℕ) × (log ≡ mine ++ others) × (text ≡ event_text app sessions event known mine ++ rest)
     × IsBroughtBy (hearing app sessions) n event known mine
     × Brings app sessions (after_both (hearing app sessions) event mine known) (n + 1) events others rest later
-
-abbrev pub viewer_text : Option ℕ → List ℕ
-viewer_text None = codes "-"
-viewer_text (Some id) = decimal id
-
--- each label behind a comma
-abbrev pub more_labels : List ℕ → List ℕ
-more_labels [] = []
-more_labels (k ∷ ks) = 44 ∷ (decimal k ++ more_labels ks)
-
--- the labels, rising and joined by commas
-abbrev pub labels_text : List ℕ → List ℕ
-labels_text [] = codes "-"
-labels_text (k ∷ ks) = decimal k ++ more_labels ks
-
-abbrev pub shown_text : Option (List ℕ) → List ℕ
-shown_text None = codes "nopage"
-shown_text (Some labels) = labels_text labels
-
--- ` STATUS VIEWER SHOWN`, which follows the number of a reply
-abbrev pub audit_rest : ℕ → Option ℕ → Option (List ℕ) → List ℕ
-audit_rest status viewer shown = codes " " ++ decimal status ++ codes " " ++ viewer_text viewer ++ codes " " ++ shown_text shown ++ 10 ∷ []
-
--- `K STATUS VIEWER SHOWN`, of the k-th reply
-abbrev pub audit_text : ℕ → ℕ → Option ℕ → Option (List ℕ) → List ℕ
-audit_text k status viewer shown = decimal k ++ audit_rest status viewer shown
 
 abbrev pub viewer_of : Subject → Option ℕ
 viewer_of (whole ask closes) = ask.viewer

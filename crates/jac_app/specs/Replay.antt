@@ -2,28 +2,23 @@
 use Rattle.std.specs.Prelude.{◌≡◌, ◌⊎◌, ⊤, ℕ, true, false, IsTrue, Result, Ok, Err, Option, Some, None, List, []}
 use Rattle.jac_io.specs.Faults.{Rose}
 use Rattle.jac_lang.specs.Syntax.{Application}
-use Rattle.jac_tree.specs.Printed.{printed}
 use Rattle.jac_rows.specs.declared.state.State.{State}
 use Rattle.jac_keep.specs.Schema.{IsFit}
 use Rattle.jac_keep.specs.Attaching.{Attaches, IsRefused}
 use Rattle.jac_keep.specs.KeeperSeen.{KeeperSeen}
 use Rattle.jac_plain.specs.Models.{kinds_of}
-use Rattle.jac_check.specs.Schema.{schema_tree}
 use Rattle.jac_route.specs.declared.sessions.Session.{Session}
-use Rattle.jac_app.specs.declared.words.Command.{Command}
+use Rattle.jac_words.specs.declared.words.Command.{Command}
 use Rattle.jac_app.specs.declared.ending.Ending.{Ending}
 use Rattle.jac_app.specs.declared.ending.Ending.TheVariants as endings
-use Rattle.jac_app.specs.declared.ending.Role.TheVariants as roles
-use Rattle.jac_app.specs.Refusal.{IsRefusedBy}
+use Rattle.jac_words.specs.declared.role.Role.TheVariants as roles
+use Rattle.jac_opening.specs.Application.{schema_text}
+use Rattle.jac_opening.specs.Refusal.{IsRefusedBy}
 use Rattle.jac_app.specs.Outside.{Span, span, Sinks, AWriteFailed}
-use Rattle.jac_app.specs.Commands.{file_of, audit_of, db_of}
+use Rattle.jac_words.specs.Commands.{file_of, audit_of, db_of}
 use Rattle.jac_app.specs.Files.{Sight, sinks_of, IsRead, IsLong, HasApplication, HasBadLine, IsOpened, IsReached, IsAimed, IsIdle}
 use Rattle.jac_app.specs.Script.{Script, script_of}
 use Rattle.jac_app.specs.Serve.{PutsServed, PutsTorn}
-
--- the schema that an application's records are stored under
-abbrev pub schema_text : Application → List ℕ
-schema_text app = printed (schema_tree app.models)
 
 -- a store of this name was attached for the application, of whose kinds its cells are, and no other since
 pub record IsAttached (db : Option (List ℕ)) (app : Application) (k : Span KeeperSeen) (opened : KeeperSeen) : Type 0 where

@@ -6,29 +6,29 @@ use Rattle.jac_io.specs.Linked.{LinkSeen, DoorSeen, DoorLasts}
 use Rattle.jac_lang.specs.Syntax.{Application}
 use Rattle.jac_route.specs.declared.sessions.Session.{Session}
 use Rattle.jac_route.specs.Sessions.{sessions_in}
-use Rattle.jac_app.specs.declared.words.Command.{Command}
-use Rattle.jac_app.specs.declared.words.Command.TheVariants as commands
+use Rattle.jac_words.specs.declared.words.Command.{Command}
+use Rattle.jac_words.specs.declared.words.Command.TheVariants as commands
 use Rattle.jac_app.specs.declared.ending.Ending.{Ending}
-use Rattle.jac_app.specs.declared.ending.Role.{Role}
-use Rattle.jac_app.specs.declared.ending.Role.TheVariants as roles
+use Rattle.jac_words.specs.declared.role.Role.{Role}
+use Rattle.jac_words.specs.declared.role.Role.TheVariants as roles
 use Rattle.jac_app.specs.declared.serve.Lapse.{Lapse}
 use Rattle.jac_app.specs.declared.status.Status.{Status}
 use Rattle.jac_app.specs.declared.status.Status.TheVariants as statuses
-use Rattle.jac_app.specs.Application.{IsApplication}
+use Rattle.jac_opening.specs.Application.{IsApplication, schema_text}
 use Rattle.jac_app.specs.Outside.{Span, AWriteFailed, WentAimed}
-use Rattle.jac_app.specs.Words.{command_of}
-use Rattle.jac_app.specs.Commands.{file_of, name_of}
+use Rattle.jac_words.specs.Words.{command_of}
+use Rattle.jac_words.specs.Commands.{file_of, name_of}
 use Rattle.jac_app.specs.Files.{Sight, sinks_of, IsRead, IsLong, HasApplication, HasBadLine, IsOpened, IsReached, IsIdle}
 use Rattle.jac_app.specs.Script.{script_of}
-use Rattle.jac_app.specs.declared.words.Dumping.{Dumping}
-use Rattle.jac_app.specs.declared.words.Replay.{Replay}
-use Rattle.jac_app.specs.declared.words.Serving.{Serving}
+use Rattle.jac_words.specs.declared.words.Dumping.{Dumping}
+use Rattle.jac_words.specs.declared.words.Replay.{Replay}
+use Rattle.jac_words.specs.declared.words.Serving.{Serving}
 use Rattle.jac_app.specs.Ending.{Closes, Finishes}
 use Rattle.jac_app.specs.Check.{EndsCheck}
 use Rattle.jac_app.specs.Demo.{EndsDemo}
 use Rattle.jac_app.specs.Dump.{EndsDump}
 use Rattle.jac_demo.specs.Calendar.{calendar_text}
-use Rattle.jac_app.specs.Replay.{schema_text, IsOther, EndsReplay}
+use Rattle.jac_app.specs.Replay.{IsOther, EndsReplay}
 use Rattle.jac_app.specs.Server.{EndsServer}
 
 abbrev pub usage_line : List ℕ

@@ -10,8 +10,8 @@ use Rattle.jac_plain.specs.Models.{kinds_of}
 use Rattle.jac_engine.specs.Answers.{IsAnswerTo, HasForm, left}
 use Rattle.jac_engine.specs.Prepared.{worlds_of}
 use Rattle.jac_engine.specs.Start.{IsStart}
-use Rattle.jac_engine.specs.declared.answer.Answer.{Answer}
-use Rattle.jac_engine.specs.declared.answer.Ask.{Ask}
+use Rattle.jac_replies.specs.declared.answer.Answer.{Answer}
+use Rattle.jac_replies.specs.declared.answer.Ask.{Ask}
 use Rattle.jac_events.specs.declared.event.Event.{Event}
 use Rattle.jac_http.specs.Requests.{IsTaken}
 use Rattle.jac_http.specs.Replies.{reply_bytes, status_of_fixed}
@@ -32,15 +32,16 @@ use Rattle.jac_hub.specs.Served.{AreLike, IsEmptied, IsGiven, IsLost}
 use Rattle.jac_route.specs.declared.sessions.Session.{Session}
 use Rattle.jac_app.specs.declared.answer.Via.{Via}
 use Rattle.jac_app.specs.declared.answer.Via.TheVariants as ways
-use Rattle.jac_app.specs.declared.reply.Spelling.{Spelling}
-use Rattle.jac_app.specs.declared.reply.Spelling.TheVariants as spellings
+use Rattle.jac_replies.specs.declared.reply.Spelling.{Spelling}
+use Rattle.jac_replies.specs.declared.reply.Spelling.TheVariants as spellings
 use Rattle.jac_app.specs.declared.serve.Lapse.{Lapse}
 use Rattle.jac_app.specs.declared.serve.Lapse.TheVariants as lapses
 use Rattle.jac_app.specs.declared.serve.Stopped.{Stopped}
 use Rattle.jac_app.specs.declared.serve.Stopped.TheVariants as stops
 use Rattle.jac_app.specs.Asked.{request_in}
 use Rattle.jac_app.specs.Keeping.{IsStill, Grew}
-use Rattle.jac_app.specs.Log.{Subject, Entry, hearing, is_failure, Brings, IsAnswer, IsFormed, AreFormed, AreAnswered, Serves, IsCaused, left_of, after_log, faults_in, is_fault, reply_on, reply_to, reply_line, spelled, closed_text, closing_text, event_text, replies_text, viewer_of, audit_rest, audit_text, audit_line, audited, audited_from}
+use Rattle.jac_app.specs.Log.{Subject, Entry, hearing, is_failure, Brings, IsAnswer, IsFormed, AreFormed, AreAnswered, Serves, IsCaused, left_of, after_log, faults_in, is_fault, reply_on, reply_to, reply_line, closing_text, event_text, replies_text, viewer_of, audit_line, audited, audited_from}
+use Rattle.jac_replies.specs.Spelled.{spelled, closed_text, audit_rest, audit_text}
 use Rattle.jac_app.specs.Outside.{Span, PutBoth, IsTorn, IsFront}
 use Rattle.jac_app.specs.Script.{Script, script_of, lapse_of}
 

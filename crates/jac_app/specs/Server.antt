@@ -5,8 +5,8 @@ use Rattle.jac_io.specs.Linked.{LinkSeen, DoorSeen}
 use Rattle.jac_lang.specs.Syntax.{Application}
 use Rattle.jac_keep.specs.KeeperSeen.{KeeperSeen}
 use Rattle.jac_route.specs.declared.sessions.Session.{Session}
-use Rattle.jac_app.specs.declared.words.Command.TheVariants as commands
-use Rattle.jac_app.specs.declared.words.Serving.{Serving}
+use Rattle.jac_words.specs.declared.words.Command.TheVariants as commands
+use Rattle.jac_words.specs.declared.words.Serving.{Serving}
 use Rattle.jac_app.specs.declared.door.DoorHalt.{DoorHalt}
 use Rattle.jac_app.specs.declared.door.DoorHalt.TheVariants as halts
 use Rattle.jac_app.specs.declared.door.Tally.{Tally}
@@ -15,7 +15,8 @@ use Rattle.jac_app.specs.declared.ending.Ending.TheVariants as endings
 use Rattle.jac_app.specs.Keeping.{IsStill}
 use Rattle.jac_app.specs.Outside.{Span, span, Sinks, IsFront, AWriteFailed}
 use Rattle.jac_app.specs.Files.{Sight, sinks_of, HasApplication, HasSessions, IsAimed, IsIdle}
-use Rattle.jac_app.specs.Replay.{schema_text, IsAttached, IsUnattached, IsOther, IsEndedEarly}
+use Rattle.jac_opening.specs.Application.{schema_text}
+use Rattle.jac_app.specs.Replay.{IsAttached, IsUnattached, IsOther, IsEndedEarly}
 use Rattle.jac_app.specs.Door.{AreLinksServed}
 
 -- `served C connections, K replies`

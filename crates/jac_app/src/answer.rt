@@ -4,14 +4,15 @@ ghost use Rattle.jac_keep.specs.Cause.{HasCause};
 ghost use Rattle.jac_engine.specs.Start.{IsStart};
 ghost use Rattle.jac_http.specs.Replies.{phrase_of};
 ghost use Rattle.jac_hub.specs.Hearing.{whole};
-ghost use Rattle.jac_app.specs.Log.{reply_on, audit_rest, is_failure};
+ghost use Rattle.jac_app.specs.Log.{reply_on, is_failure};
+ghost use Rattle.jac_replies.specs.Spelled.{audit_rest};
 ghost use Rattle.jac_app.specs.Outside.{span};
 ghost use Rattle.jac_app.specs.Serve.{source_of, close_of, spelling_of, IsAnswerMade};
 
-use crate::reply::{Spelling, audit_rest, is_head, reply_line, sent_reply, text_bytes};
-use crate::service::Service;
-use jac_engine::{Answer, Ask, commit, prepare};
+use jac_engine::{commit, prepare};
 use jac_keep::{Keeper, Stop};
+use jac_opening::Service;
+use jac_replies::{Answer, Ask, Spelling, audit_rest, is_head, reply_line, sent_reply, text_bytes};
 use jac_value::{Bytes, Memory, Txt};
 use jac_world::Steps;
 use std::alloc::Global;
@@ -92,15 +93,7 @@ pub fn answer_ask<K: Keeper, L: Ledger, M: Ledger>(
     ensures cause { HasCause (K.seen keeper.old).faults (K.seen keeper.new).faults result }
     ensures attached { (K.seen keeper.new).store ≡ (K.seen keeper.old).store }
 {
-    let prepared = prepare(
-        alloc,
-        service.checked(),
-        service.routes(),
-        keeper,
-        ask,
-        splits,
-        evaluations,
-    )?;
+    let prepared = prepare(alloc, service, keeper, ask, splits, evaluations)?;
     let lines = make_lines(alloc, via, ask, &prepared.answer)?;
     commit(alloc, keeper, prepared)?;
     Ok(lines)

@@ -3,9 +3,9 @@ ghost use Rattle.std.specs.Option.{option_copied};
 ghost use Rattle.jac_lang.specs.Mirror.{application_of};
 ghost use Rattle.jac_app.specs.Asked.{viewer_in, form_body, ask_by, ask_in, request_in};
 
-use jac_engine::Ask;
 use jac_http::Request;
 use jac_lang::App;
+use jac_replies::Ask;
 use jac_route::{Sessions, pairs_of, viewer_id, viewer_of};
 use jac_value::{Bytes, Id, Memory, Txt};
 use std::alloc::Global;

@@ -5,11 +5,12 @@ ghost use Rattle.jac_plain.specs.Models.{kinds_of};
 ghost use Rattle.jac_keep.specs.Schema.{IsSchema};
 ghost use Rattle.jac_engine.specs.Start.{IsStart};
 ghost use Rattle.jac_app.specs.Outside.{span};
-ghost use Rattle.jac_app.specs.Replay.{schema_text, AttachesAs};
+ghost use Rattle.jac_opening.specs.Application.{schema_text};
+ghost use Rattle.jac_app.specs.Replay.{AttachesAs};
 
 use crate::ending::Ending;
-use crate::service::Service;
 use jac_keep::{AttachFault, Vault};
+use jac_opening::Service;
 use jac_value::Txt;
 use std::alloc::Global;
 

@@ -1,19 +1,20 @@
 ghost use Rattle.std.specs.Prelude.{◌≡◌, length, IfOk};
-ghost use Rattle.jac_app.specs.declared.words.Command.TheVariants as commands;
+ghost use Rattle.jac_words.specs.declared.words.Command.TheVariants as commands;
 ghost use Rattle.jac_lang.specs.Mirror.{application_of};
 ghost use Rattle.jac_app.specs.Outside.{IsPut, WentAimed, span, sinks};
 ghost use Rattle.jac_app.specs.Files.{sight};
 ghost use Rattle.jac_app.specs.Check.{EndsCheck, checked_text};
 
-use crate::ending::{Ending, Role};
+use crate::ending::Ending;
 use crate::files::{open_app, read_file};
 use crate::outside::put_five;
-use crate::service::Service;
 use itoa::Buffer;
 use jac_io::{AuditSink, Failed, Files, Sink};
 use jac_keep::Keeper;
 use jac_lang::App;
+use jac_opening::Service;
 use jac_value::Txt;
+use jac_words::Role;
 use std::alloc::Global;
 
 /// The steps of a check: the application is read, and its counts are put.

@@ -9,17 +9,17 @@ ghost use Rattle.jac_plain.specs.Models.{kinds_of};
 ghost use Rattle.jac_keep.specs.Cause.{HasCause};
 ghost use Rattle.jac_keep.specs.Schema.{IsSchema};
 ghost use Rattle.jac_engine.specs.Start.{IsStart};
-ghost use Rattle.jac_engine.specs.Answers.{refusal};
+ghost use Rattle.jac_replies.specs.Refused.{refusal};
 ghost use Rattle.jac_app.specs.declared.ending.Ending.TheVariants as endings;
-ghost use Rattle.jac_app.specs.Application.{IsApplication};
+ghost use Rattle.jac_opening.specs.Application.{IsApplication, schema_text};
 ghost use Rattle.jac_app.specs.Asked.{ask_in};
-ghost use Rattle.jac_app.specs.Demo.{EndsCounting, EndsDemo, EndsTallying, IsAsking, IsBounded, IsCounted, IsTold, PutsTally, Tallies, TalliesAsk, TalliesEvent, TalliesLine, WentTo, demo_script, tally_of};
-ghost use Rattle.jac_app.specs.Failed.{status_of_stop};
+ghost use Rattle.jac_calendar.specs.Asking.{IsAsking};
+ghost use Rattle.jac_app.specs.Demo.{EndsCounting, EndsDemo, EndsTallying, IsBounded, IsCounted, IsTold, PutsTally, Tallies, TalliesAsk, TalliesEvent, TalliesLine, WentTo, demo_script, tally_of};
+ghost use Rattle.jac_replies.specs.Failed.{status_of_stop};
 ghost use Rattle.jac_app.specs.Files.{IsUnopened};
 ghost use Rattle.jac_app.specs.Line.{lines_of};
-ghost use Rattle.jac_app.specs.Log.{audit_rest, audit_text};
+ghost use Rattle.jac_replies.specs.Spelled.{audit_rest, audit_text};
 ghost use Rattle.jac_app.specs.Outside.{Went, WentAimed, sinks, span};
-ghost use Rattle.jac_app.specs.Replay.{schema_text};
 ghost use Rattle.jac_app.specs.Script.{script_of};
 
 use crate::asks::{ask_in, viewer_in};
@@ -27,15 +27,14 @@ use crate::attach::attach;
 use crate::ending::Ending;
 use crate::files::open_app;
 use crate::puts::{put_failed_audit, put_numbered};
-use crate::reply::audit_rest;
-use crate::service::Service;
-use crate::still::fixed_of;
 use crate::summary::{Summary, Tally, counted, failed_tally, none_counted, put_summary, tally_of};
 use jac_demo::{demo_app, demo_events};
-use jac_engine::{Answer, Ask, commit, prepare};
+use jac_engine::{commit, prepare};
 use jac_events::{Event, LineFault, read_line};
 use jac_io::{AuditSink, Failed, Sink};
 use jac_keep::{Keeper, Stop, Vault};
+use jac_opening::Service;
+use jac_replies::{Answer, Ask, audit_rest, fixed_of};
 use jac_value::{Bytes, Id, Memory, Txt, first_part};
 use jac_world::Steps;
 use std::alloc::Global;
@@ -83,15 +82,7 @@ fn answer_counted<K: Keeper, L: Ledger, M: Ledger>(
     ensures cause { HasCause (K.seen keeper.old).faults (K.seen keeper.new).faults result }
     ensures attached { (K.seen keeper.new).store ≡ (K.seen keeper.old).store }
 {
-    let prepared = prepare(
-        alloc,
-        service.checked(),
-        service.routes(),
-        keeper,
-        ask,
-        splits,
-        evaluations,
-    )?;
+    let prepared = prepare(alloc, service, keeper, ask, splits, evaluations)?;
     let counted = count_answer(alloc, ask, &prepared.answer)?;
     commit(alloc, keeper, prepared)?;
     Ok(counted)

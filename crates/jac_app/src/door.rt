@@ -9,9 +9,9 @@ ghost use Rattle.jac_app.specs.DoorSteps.{VisitsLine, ServesNext};
 ghost use Rattle.jac_app.specs.Outside.{WentTo, span};
 
 use crate::link::{Halt, serve_link};
-use crate::service::Service;
 use jac_io::{AuditSink, Door, Failed};
 use jac_keep::Keeper;
+use jac_opening::Service;
 use jac_route::Sessions;
 use jac_world::Steps;
 use std::alloc::Global;

@@ -1,24 +1,16 @@
 ghost use Rattle.std.specs.Prelude.{◌≡◌, ◌++◌, codes, decimal, Result};
 ghost use Rattle.std.specs.Option.{option_copied};
 ghost use Rattle.jac_app.specs.Outside.{IsPut, span};
-ghost use Rattle.jac_app.specs.Commands.{file_of, name_or_empty, name_of, limit_of, limit_text};
+ghost use Rattle.jac_words.specs.Commands.{file_of, name_or_empty, name_of, limit_of, limit_text};
 ghost use Rattle.jac_app.specs.Ending.{fault_line, lapse_line, status_of};
 
 use crate::outside::{put, put_five, put_three};
 use crate::serve::Lapse;
 use crate::status::Status;
-use crate::words::Command;
 use itoa::Buffer;
 use jac_io::{Failed, Sink};
 use jac_value::Txt;
-
-/// Which file of a command.
-#[derive(Clone, Copy, Debug, PartialEq, Eq)]
-pub enum Role {
-    App,
-    Sessions,
-    Events,
-}
+use jac_words::{Command, Role};
 
 /// Why the steps of a command ended early.
 #[derive(Debug, Drop)]

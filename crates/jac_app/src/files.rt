@@ -3,19 +3,18 @@ ghost use Rattle.std.specs.Option.{option_copied};
 ghost use Rattle.jac_io.specs.Seen.{FilesLast};
 ghost use Rattle.jac_lang.specs.Mirror.{application_of};
 ghost use Rattle.jac_route.specs.Sessions.{sessions_in};
-ghost use Rattle.jac_app.specs.Application.{IsApplication};
-ghost use Rattle.jac_app.specs.Refusal.{refusal_text};
+ghost use Rattle.jac_opening.specs.Application.{IsApplication};
+ghost use Rattle.jac_opening.specs.Refusal.{refusal_text};
 ghost use Rattle.jac_app.specs.Outside.{span};
-ghost use Rattle.jac_app.specs.Commands.{limit_of};
+ghost use Rattle.jac_words.specs.Commands.{limit_of};
 ghost use Rattle.jac_app.specs.Files.{HasSessions, IsUnread, IsUnopened, IsUnlisted, IsSessionless};
 
-use crate::application::read_application;
-use crate::ending::{Ending, Role, limit};
-use crate::refusal::{Refusal, refusal_line};
-use crate::service::Service;
+use crate::ending::{Ending, limit};
 use jac_io::{FileFault, Files};
+use jac_opening::{Refusal, Service, read_application, refusal_line};
 use jac_route::{SessionFault, Sessions, sessions_of};
 use jac_value::{Bytes, Memory, Txt};
+use jac_words::Role;
 use std::alloc::Global;
 
 pub fn read_file<F: Files>(

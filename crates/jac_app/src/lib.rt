@@ -3,7 +3,6 @@
 #![tactic(auto)]
 
 mod answer;
-mod application;
 mod asks;
 mod attach;
 mod check;
@@ -18,16 +17,11 @@ mod onto;
 mod outside;
 mod program;
 mod puts;
-mod refusal;
 mod replay;
-mod reply;
 mod serve;
 mod server;
-mod service;
 mod status;
-mod still;
 mod summary;
-mod words;
 
 pub use door::{DoorHalt, Tally, serve_links};
 pub use link::{Halt, serve_link};

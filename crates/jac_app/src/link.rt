@@ -12,13 +12,13 @@ ghost use Rattle.jac_app.specs.Serve.{IsFollowing};
 
 use crate::handler::next_out;
 use crate::onto::{Lost, Missed, put_reply, take_piece};
-use crate::reply::Spelling;
-use crate::service::Service;
 use jac_events::Event;
 use jac_http::requests_are_read;
 use jac_hub::{Hub, HubFault, HubOut};
 use jac_io::{AuditSink, Link};
 use jac_keep::Keeper;
+use jac_opening::Service;
+use jac_replies::Spelling;
 use jac_route::Sessions;
 use jac_value::Memory;
 use jac_world::Steps;

@@ -5,10 +5,10 @@ ghost use Rattle.jac_io.specs.Seen.{Lasts};
 ghost use Rattle.jac_http.specs.Replies.{reply_bytes, status_of_fixed};
 ghost use Rattle.jac_app.specs.Link.{as_sink};
 ghost use Rattle.jac_app.specs.LinkSteps.{TakesPiece, PutsReply};
-ghost use Rattle.jac_app.specs.Log.{audit_text};
+ghost use Rattle.jac_replies.specs.Spelled.{audit_text};
 ghost use Rattle.jac_app.specs.Outside.{IsPut, Took, Went, sinks, span};
 ghost use Rattle.jac_app.specs.Serve.{sent_on, sent_audit};
-ghost use Rattle.jac_app.specs.declared.reply.Spelling.TheVariants as spellings;
+ghost use Rattle.jac_replies.specs.declared.reply.Spelling.TheVariants as spellings;
 
 use crate::puts::{put_failed_audit, put_numbered};
 use jac_http::{Fixed, fixed_reply};

@@ -1,16 +1,16 @@
 //! What is put for each answer: the audit's line first, and then the reply.
 ghost use Rattle.std.specs.Prelude.{◌≡◌, ◌++◌, ◌+◌, ◌-◌, ◌<◌, ◌^◌, ◌∷◌, [], true, false, ℕ, None, Option, List, Result, OnErr, codes, decimal};
 ghost use Rattle.jac_http.specs.Replies.{reply_bytes, status_of_fixed};
-ghost use Rattle.jac_app.specs.Log.{sent_text, closed_text, audit_text};
+ghost use Rattle.jac_replies.specs.Spelled.{sent_text, closed_text, audit_text};
 ghost use Rattle.jac_app.specs.Outside.{AWriteFailed, IsPut, PutBoth, Went, sinks, span};
 ghost use Rattle.jac_app.specs.Serve.{sent_line, sent_audit, PutsOut};
 
 use crate::outside::{put, put_four, put_three, put_two};
-use crate::still::{still_status, still_text, viewer_bytes};
 use itoa::Buffer;
 use jac_http::Fixed;
 use jac_hub::{HubOut, Sent};
 use jac_io::{AuditSink, Failed, Sink};
+use jac_replies::{still_status, still_text, viewer_bytes};
 use jac_value::Id;
 
 /// The lines of the k-th reply, of which the audit's is given behind its number.

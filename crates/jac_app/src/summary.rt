@@ -1,15 +1,15 @@
 //! What a demo counts.
 ghost use Rattle.std.specs.Prelude.{◌≡◌, ◌<◌, ◌-◌, ◌^◌, [], None, if◌then◌else◌};
-ghost use Rattle.jac_engine.specs.Answers.{refusal};
+ghost use Rattle.jac_replies.specs.Refused.{refusal};
 ghost use Rattle.jac_app.specs.Demo.{IsBounded, summary_of, counted, tally_of, labels_shown, counts_text, sizes_text, summary_line};
-ghost use Rattle.jac_app.specs.Failed.{status_of_stop};
+ghost use Rattle.jac_replies.specs.Failed.{status_of_stop};
 ghost use Rattle.jac_app.specs.Outside.{IsPut, span};
 
 use crate::outside::{put, put_five};
 use itoa::Buffer;
-use jac_engine::Answer;
 use jac_io::{Failed, Sink};
 use jac_keep::Stop;
+use jac_replies::Answer;
 use jac_world::Assignment;
 
 /// A log in numbers: requests, those of POST and of GET, the bytes of all bodies, and the labels in the audit lines of

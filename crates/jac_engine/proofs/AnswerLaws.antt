@@ -15,10 +15,10 @@ use Rattle.jac_keep.specs.declared.alteration.Alteration.{Alteration}
 use Rattle.jac_keep.specs.declared.alteration.Change.{Change}
 use Rattle.jac_keep.specs.Alterations.{overlaid_from}
 use Rattle.jac_keep.specs.Kept.{applied}
-use Rattle.jac_engine.specs.declared.answer.Ask.{Ask}
+use Rattle.jac_replies.specs.declared.answer.Ask.{Ask}
 use Rattle.jac_engine.specs.Answers.{visit_of, page_answer, worlds_after}
 use Rattle.jac_engine.specs.Prepared.{worlds_of}
-use Rattle.jac_engine.specs.Served.{is_served_body}
+use Rattle.jac_opening.specs.Served.{is_served_body}
 use Rattle.jac_engine.specs.Start.{IsStart}
 use Rattle.jac_engine.specs.Viewed.{Stores}
 use Rattle.jac_engine.specs.Views.{ran_by, ShowsView, LeavesTables}

@@ -18,12 +18,12 @@ use Rattle.jac_route.specs.declared.lookup.Found.{Found}
 use Rattle.jac_route.specs.declared.lookup.Found.TheVariants as founds
 use Rattle.jac_route.specs.declared.pairs.Pair.{Pair}
 use Rattle.jac_engine.specs.Prepared.{IsPrepared, applied_if, worlds_of}
-use Rattle.jac_engine.specs.Served.{are_served}
+use Rattle.jac_opening.specs.Served.{are_served}
 use Rattle.jac_engine.specs.Start.{IsStart}
 use Rattle.jac_engine.specs.Viewed.{IsPreparedBy, IsPreparedFor}
 use Rattle.jac_engine.proofs.ServedLaws.{sited_view}
-use Rattle.jac_engine.specs.declared.answer.Answer.{Answer}
-use Rattle.jac_engine.specs.declared.answer.Ask.{Ask}
+use Rattle.jac_replies.specs.declared.answer.Answer.{Answer}
+use Rattle.jac_replies.specs.declared.answer.Ask.{Ask}
 use Rattle.jac_engine.specs.declared.answer.Prepared.{Prepared}
 
 shown_in : (answer : Answer) (page : IsSomePage answer) → answer.shown ≡ Some page.labels

@@ -11,7 +11,7 @@ use Rattle.jac_plain.specs.Making.{are_apart}
 use Rattle.jac_plain.specs.Reading.{is_reading, are_reading}
 use Rattle.jac_plain.specs.Requests.{body_in}
 use Rattle.jac_stmt.specs.Runs.{IsRunnable, AreRunnable}
-use Rattle.jac_engine.specs.Served.{is_untemplated, are_untemplated, behind_sites, have_own_sites, is_served_body, is_served_view, are_served_views, are_served}
+use Rattle.jac_opening.specs.Served.{is_untemplated, are_untemplated, behind_sites, have_own_sites, is_served_body, is_served_view, are_served_views, are_served}
 use Rattle.jac_engine.proofs.SiteLaws.{are_below, below, below_parts, apart}
 
 both_true : (a b : Bool) → a ≡ true → b ≡ true → (a && b) ≡ true

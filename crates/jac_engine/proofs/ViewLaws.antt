@@ -27,9 +27,9 @@ use Rattle.jac_keep.proofs.WorkLaws.{overlaid_none}
 use Rattle.jac_pruned.specs.Runs.{page_ran}
 use Rattle.jac_route.specs.Parameters.{parameters}
 use Rattle.jac_write.specs.Writes.{numbered}
-use Rattle.jac_engine.specs.Served.{are_untemplated, is_served_body}
+use Rattle.jac_opening.specs.Served.{are_untemplated, is_served_body}
 use Rattle.jac_engine.specs.Views.{setting_in, begun, MayRunView, IsReady, ShowsView}
-use Rattle.jac_engine.specs.declared.answer.Ask.{Ask}
+use Rattle.jac_replies.specs.declared.answer.Ask.{Ask}
 use Rattle.jac_engine.proofs.ServedLaws.{all_reading_unlooped, storing}
 
 -- a record that was made before is another

@@ -1,4 +1,3 @@
-pub mod Served
 pub mod Start
 pub mod Views
 pub mod Answers

@@ -10,7 +10,7 @@ use Rattle.jac_keep.specs.declared.alteration.Change.{Change}
 use Rattle.jac_keep.specs.Kept.{applied}
 use Rattle.jac_engine.specs.Answers.{IsAnswerTo, HasForm, left, is_stored}
 use Rattle.jac_engine.specs.Start.{IsStart}
-use Rattle.jac_engine.specs.declared.answer.Ask.{Ask}
+use Rattle.jac_replies.specs.declared.answer.Ask.{Ask}
 use Rattle.jac_engine.specs.declared.answer.Prepared.{Prepared}
 
 -- the state after a change, if there is one

@@ -10,10 +10,11 @@ use Rattle.jac_keep.specs.declared.alteration.Change.{Change}
 use Rattle.jac_keep.specs.Kept.{applied}
 use Rattle.jac_route.specs.declared.lookup.Found.{Found}
 use Rattle.jac_route.specs.declared.lookup.Found.TheVariants as founds
-use Rattle.jac_engine.specs.Answers.{IsPage, IsSomePage, allow_text, asked_with, refusal, visit_of, worlds_after}
+use Rattle.jac_engine.specs.Answers.{IsPage, IsSomePage, allow_text, asked_with, visit_of, worlds_after}
+use Rattle.jac_replies.specs.Refused.{refusal}
 use Rattle.jac_engine.specs.Prepared.{worlds_of}
 use Rattle.jac_engine.specs.Start.{IsStart}
-use Rattle.jac_engine.specs.declared.answer.Ask.{Ask}
+use Rattle.jac_replies.specs.declared.answer.Ask.{Ask}
 use Rattle.jac_engine.specs.declared.answer.Prepared.{Prepared}
 
 abbrev pub refused : ℕ → Option (List ℕ) → Prepared

@@ -14,7 +14,7 @@ use Rattle.jac_plain.specs.Statements.{Setting, Run, leaves_all}
 use Rattle.jac_route.specs.Parameters.{parameters}
 use Rattle.jac_write.specs.Writes.{numbered}
 use Rattle.jac_world.specs.World.{shown}
-use Rattle.jac_engine.specs.declared.answer.Ask.{Ask}
+use Rattle.jac_replies.specs.declared.answer.Ask.{Ask}
 
 -- what stays the same through the run in the request of this number
 abbrev pub setting_in : (ℕ → Bool) → Application → Ask → ℕ → Setting

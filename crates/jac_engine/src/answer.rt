@@ -11,45 +11,25 @@ ghost use Rattle.jac_route.specs.Found.{found, IsWithin};
 ghost use Rattle.jac_route.specs.Routes.{AreRoutes};
 ghost use Rattle.jac_engine.specs.Answers.{asked_with, visit_of, page_answer};
 ghost use Rattle.jac_engine.specs.Prepared.{IsPrepared, applied_if};
-ghost use Rattle.jac_engine.specs.Served.{are_served, is_served_body};
+ghost use Rattle.jac_opening.specs.Served.{are_served, is_served_body};
 ghost use Rattle.jac_engine.specs.Start.{IsStart};
 ghost use Rattle.jac_engine.specs.Viewed.{IsPreparedBy, IsPreparedFor, IsShown};
 
 use crate::lookup::view_at;
 use crate::refusal::{refuse, refuse_method};
 use crate::visit::{Labelled, shown_page, stored_page};
-use jac_check::Checked;
 use jac_keep::{Change, Keeper, Stop};
 use jac_lang::{App, Verb, View};
+use jac_opening::Service;
 use jac_plain::Page;
+use jac_replies::{Answer, Ask};
 use jac_route::{Found, Pairs, Routes, find};
-use jac_value::{Bytes, Id, Memory, Txt};
-use jac_world::{Assignment, Steps};
+use jac_value::Memory;
+use jac_world::Steps;
 use std::alloc::Global;
 use std::sync::ledger::Ledger;
 
 const LAST_NUMBER: u64 = 1 << 40;
-
-/// A request: who looks, and what is asked. The pairs are those of the query and, for a POST, then those of
-/// the form body.
-#[derive(Debug, Drop)]
-pub struct Ask {
-    pub viewer: Option<Id>,
-    pub method: Txt,
-    pub path: Txt,
-    pub pairs: Pairs,
-}
-
-/// What answers a request: a page and the labels that it was made under, or a refusal without labels.
-#[derive(Debug, Drop)]
-pub struct Answer {
-    pub status: u16,
-    pub location: Option<Txt>,
-    /// The methods that the path has, where it hasn't that of the request.
-    pub allow: Option<Txt>,
-    pub body: Bytes,
-    pub shown: Option<Assignment>,
-}
 
 /// An answer, and what is to be stored with it.
 #[derive(Debug, Drop)]
@@ -63,23 +43,20 @@ pub struct Prepared {
 /// facet was split.
 pub fn prepare<K: Keeper, L: Ledger, M: Ledger>(
     alloc: Global,
-    checked: &Checked,
-    routes: &Routes,
+    service: &Service,
     keeper: &mut K,
     ask: &Ask,
     splits: &mut Steps<L>,
     evaluations: &mut Steps<M>,
 ) -> Result<Prepared, Stop>
     requires attached { IsTrue (K.seen keeper.old).store.attached }
-    requires served { are_served (application_of checked.now) ≡ true }
-    requires routes { AreRoutes (application_of checked.now) routes.now }
-    requires start { IsTrue (K.seen keeper.old).tells → IsStart (application_of checked.now) (K.seen keeper.old).state }
-    ensures prepared { IfOk result (IsPrepared (K.seen keeper.new).tells (application_of checked.now) (K.seen keeper.old).state ask.now) }
+    requires start { IsTrue (K.seen keeper.old).tells → IsStart (application_of service.now) (K.seen keeper.old).state }
+    ensures prepared { IfOk result (IsPrepared (K.seen keeper.new).tells (application_of service.now) (K.seen keeper.old).state ask.now) }
     ensures unsplit { IfOk result (λ p. IsNone p.change → splits.new ≡ splits.old) }
     ensures reads { Reads (K.seen keeper.old) (K.seen keeper.new) result }
 {
-    let app = checked.app();
-    let _models = app.models.as_slice();
+    let app = service.app();
+    let routes = service.routes();
     let prepared = prepare_found(alloc, app, routes, keeper, ask, splits, evaluations)?;
     Ok(prepared)
 }

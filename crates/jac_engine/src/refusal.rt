@@ -1,9 +1,11 @@
 //! Answers without a page.
 ghost use Rattle.std.specs.Prelude.{◌≡◌, Some, IfOk};
-ghost use Rattle.jac_engine.specs.Answers.{allow_text, reason, fixed_body};
+ghost use Rattle.jac_engine.specs.Answers.{allow_text};
+ghost use Rattle.jac_replies.specs.Refused.{reason, fixed_body};
 ghost use Rattle.jac_engine.specs.Viewed.{refused};
 
-use crate::{Answer, Prepared};
+use crate::Prepared;
+use jac_replies::Answer;
 use jac_route::Allow;
 use jac_value::{Bytes, Memory, Txt};
 use std::alloc::Global;

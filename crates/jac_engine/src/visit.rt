@@ -13,12 +13,12 @@ ghost use Rattle.jac_engine.specs.Answers.{asked_with};
 ghost use Rattle.jac_engine.specs.Prepared.{worlds_of};
 ghost use Rattle.jac_engine.specs.Views.{IsMade, IsReady, ShowsView, LeavesTables, RunsView};
 
-use crate::Ask;
 use crate::parameters::bind_alike;
 use jac_keep::{Change, Keeper, Stop, Work};
 use jac_lang::{App, View};
 use jac_plain::{Ctx, Page};
 use jac_pruned::{Support, run_body_at};
+use jac_replies::Ask;
 use jac_resolve::{resolve, settled_by_tables};
 use jac_route::{Pairs, bind};
 use jac_stmt::{Out, exec, page_of};

@@ -10,9 +10,10 @@ use Rattle.jac_route.specs.Found.{found}
 use Rattle.jac_route.specs.declared.lookup.Found.{Found}
 use Rattle.jac_route.specs.declared.lookup.Found.TheVariants as founds
 use Rattle.jac_route.specs.declared.pairs.Pair.{Pair}
-use Rattle.jac_engine.specs.Answers.{IsAnswerOf, IsAnswerBy, asked_with, visit_of, page_answer, refusal, left_by}
-use Rattle.jac_engine.specs.declared.answer.Answer.{Answer}
-use Rattle.jac_engine.specs.declared.answer.Ask.{Ask}
+use Rattle.jac_engine.specs.Answers.{IsAnswerOf, IsAnswerBy, asked_with, visit_of, page_answer, left_by}
+use Rattle.jac_replies.specs.Refused.{refusal}
+use Rattle.jac_replies.specs.declared.answer.Answer.{Answer}
+use Rattle.jac_replies.specs.declared.answer.Ask.{Ask}
 use Rattle.jac_hub.specs.Hearing.{whole, refused, broken}
 use Rattle.jac_app.specs.Log.{Subject, HasFailed, IsAnswer, is_failure, left_of, refused_with}
 use Rattle.jac_laws.proofs.SameSubjects.{IsLegible}

@@ -9,7 +9,7 @@ use Rattle.jac_events.specs.declared.event.Event.{Event}
 use Rattle.jac_hub.specs.Hearing.{Source, Entry as EntryOf}
 use Rattle.jac_route.specs.declared.sessions.Session.{Session}
 use Rattle.jac_app.specs.Log.{Subject, Entry, Serves, is_failure, after_entry, entry_on}
-use Rattle.jac_app.specs.declared.reply.Spelling.{Spelling}
+use Rattle.jac_replies.specs.declared.reply.Spelling.{Spelling}
 
 -- a run: whether it may stop early, the state that it starts from, its log, and the state that it leaves
 pub record OneRun : Type 0 where

@@ -2,11 +2,12 @@ use Rattle.std.proofs.Common.{◌∙◌, ◌<◌, ◌^◌, subst, sym, List, ℕ
 use Rattle.std.specs.List.{All}
 use Rattle.jac_events.specs.Lines.{line_of}
 use Rattle.jac_lang.specs.Mirror.{application_of}
-use Rattle.jac_app.specs.Demo.{IsAsking, Tallies}
+use Rattle.jac_calendar.specs.Asking.{IsAsking}
+use Rattle.jac_app.specs.Demo.{Tallies}
 use Rattle.jac_app.specs.Line.{lines_of}
 use Rattle.jac_app.specs.Outside.{span}
 use Rattle.jac_app.specs.Script.{script_of}
-use Rattle.jac_app.proofs.AskingLemmas.{text_asking, text_short}
+use Rattle.jac_calendar.proofs.AskingLemmas.{text_asking, text_short}
 use Rattle.jac_app.proofs.DemoLemmas.{WentTo-none, WentTo-on, tally_none}
 use Rattle.jac_app.proofs.demo.serve_calendar.Goals as goal
 

@@ -6,7 +6,7 @@ use Rattle.jac_lang.specs.Mirror.{application_of}
 use Rattle.jac_events.specs.Lines.{line_of}
 use Rattle.jac_value.specs.Parts.{parts_left, option_now, length_left}
 use Rattle.jac_app.specs.declared.summary.Summary.{Summary}
-use Rattle.jac_app.specs.Demo.{IsAsking}
+use Rattle.jac_calendar.specs.Asking.{IsAsking}
 use Rattle.jac_app.proofs.DemoLemmas.{WentTo-none, WentTo-on, WentTo-then, tally_start, tally_on, tally_stop, tally_all}
 use Rattle.jac_app.proofs.ProgressLemmas.{shorter_left}
 use Rattle.jac_app.proofs.demo.tally_events.Goals as goal

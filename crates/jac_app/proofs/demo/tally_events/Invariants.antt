@@ -4,7 +4,8 @@ use Rattle.jac_lang.specs.Mirror.{application_of}
 use Rattle.jac_engine.specs.Start.{IsStart}
 use Rattle.jac_events.specs.Lines.{line_of}
 use Rattle.jac_value.specs.Parts.{option_now, length_left, parts_left}
-use Rattle.jac_app.specs.Demo.{IsAsking, IsBounded, WentTo}
+use Rattle.jac_calendar.specs.Asking.{IsAsking}
+use Rattle.jac_app.specs.Demo.{IsBounded, WentTo}
 use Rattle.jac_app.specs.Outside.{span}
 use Rattle.jac_app.proofs.DemoLemmas.{Tallying}
 use Rattle.jac_app.proofs.demo.tally_events.Given as goal

@@ -1,8 +1,8 @@
 use Rattle.std.proofs.Common.{refl, inl, inr, ℕ, Bool, [], arith}
 use Rattle.jac_world.specs.World.{shown}
 use Rattle.jac_lang.specs.Mirror.{application_of}
-use Rattle.jac_app.specs.declared.ending.Role.TheVariants as roles
-use Rattle.jac_app.specs.declared.words.Command.TheVariants as commands
+use Rattle.jac_words.specs.declared.role.Role.TheVariants as roles
+use Rattle.jac_words.specs.declared.words.Command.TheVariants as commands
 use Rattle.jac_app.specs.Outside.{span}
 use Rattle.jac_app.specs.Files.{sight}
 use Rattle.jac_app.specs.Dump.{EndsDumping}

@@ -1,7 +1,7 @@
 use Rattle.jac_lang.specs.Mirror.{application_of}
 use Rattle.jac_http.specs.Requests.{IsTaken}
 use Rattle.jac_hub.specs.Hub.{seen}
-use Rattle.jac_app.specs.declared.reply.Spelling.TheVariants as spellings
+use Rattle.jac_replies.specs.declared.reply.Spelling.TheVariants as spellings
 use Rattle.jac_app.specs.Serve.{handled}
 use Rattle.jac_app.proofs.LinkEvents.{begins}
 use Rattle.jac_app.proofs.link.begin.Goals as goal

@@ -2,7 +2,7 @@ use Rattle.std.proofs.Common.{◌∙◌, sym, refl, inl, inr, [], ◌++◌, arit
 use Rattle.jac_app.specs.Outside.{span}
 use Rattle.jac_app.specs.Files.{sight}
 use Rattle.jac_app.proofs.OutsideLemmas.{Lasts-then, Took-none, Took-then}
-use Rattle.jac_app.proofs.CountLemmas.{has_count}
+use Rattle.jac_words.proofs.CountLemmas.{has_count}
 use Rattle.jac_app.proofs.ReplayLemmas.{still_idle}
 use Rattle.jac_app.proofs.LaterLemmas.{Ends-later, Finishes-widen}
 use Rattle.jac_app.proofs.program.run_words.Goals as goal

@@ -1,7 +1,7 @@
 use Rattle.std.proofs.Common.{None}
 use Rattle.jac_io.specs.declared.sink.Failed.{Failed}
 use Rattle.jac_http.specs.Replies.{status_of_fixed}
-use Rattle.jac_app.specs.Log.{audit_text}
+use Rattle.jac_replies.specs.Spelled.{audit_text}
 use Rattle.jac_app.proofs.OutsideLemmas.{Went-line}
 use Rattle.jac_app.proofs.puts.put_failed.Goals as goal
 

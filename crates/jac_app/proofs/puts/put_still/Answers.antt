@@ -1,7 +1,7 @@
 use Rattle.std.proofs.Common.{[], None, true, false}
 use Rattle.jac_io.specs.declared.sink.Failed.{Failed}
 use Rattle.jac_http.specs.Replies.{reply_bytes, status_of_fixed}
-use Rattle.jac_app.specs.Log.{sent_text, audit_text}
+use Rattle.jac_replies.specs.Spelled.{sent_text, audit_text}
 use Rattle.jac_app.proofs.OutsideLemmas.{Went-line}
 use Rattle.jac_app.proofs.puts.put_still.Goals as goal
 

@@ -1,5 +1,5 @@
 use Rattle.jac_lang.specs.Mirror.{application_of}
-use Rattle.jac_app.specs.declared.words.Command.TheVariants as commands
+use Rattle.jac_words.specs.declared.words.Command.TheVariants as commands
 use Rattle.jac_app.specs.Outside.{span, sinks}
 use Rattle.jac_app.specs.Script.{script_of}
 use Rattle.jac_app.proofs.ReplayLemmas.{went_aimed, failed_behind, serving_behind, aim_failed}

@@ -2,11 +2,11 @@ use Rattle.std.proofs.Common.{◌∙◌, ◌+◌, ◌++◌, ap, Err, List, ℕ, 
 use Rattle.jac_io.specs.declared.sink.Failed.{Failed}
 use Rattle.jac_keep.specs.declared.stop.Stop.{Stop}
 use Rattle.jac_lang.specs.Mirror.{application_of}
-use Rattle.jac_engine.specs.Answers.{refusal}
+use Rattle.jac_replies.specs.Refused.{refusal}
 use Rattle.jac_app.specs.declared.answer.Via.TheVariants as ways
 use Rattle.jac_app.specs.Asked.{ask_in}
-use Rattle.jac_app.specs.Failed.{status_of_stop}
-use Rattle.jac_app.specs.Log.{audit_text}
+use Rattle.jac_replies.specs.Failed.{status_of_stop}
+use Rattle.jac_replies.specs.Spelled.{audit_text}
 use Rattle.jac_app.specs.Outside.{span}
 use Rattle.jac_app.proofs.EntryLemmas.{is_made, is_failed}
 use Rattle.jac_app.proofs.OutsideLemmas.{PutBoth-same, Went-on}

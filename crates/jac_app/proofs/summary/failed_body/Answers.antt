@@ -1,4 +1,4 @@
-use Rattle.jac_app.proofs.FailedLemmas.{keeper_text, memory_text}
+use Rattle.jac_replies.proofs.FailedLemmas.{keeper_text, memory_text}
 use Rattle.jac_app.proofs.summary.failed_body.Goals as goal
 
 pub returns-in-Keeper : goal.returns-in-Keeper

@@ -3,7 +3,7 @@ use Rattle.std.proofs.lemmas.Bool.{and_parts}
 use Rattle.jac_lang.specs.Mirror.{application_of, page_of, statements_of}
 use Rattle.jac_plain.specs.Reading.{are_reading}
 use Rattle.jac_engine.specs.Answers.{asked_with, page_answer}
-use Rattle.jac_engine.specs.Served.{are_untemplated}
+use Rattle.jac_opening.specs.Served.{are_untemplated}
 use Rattle.jac_engine.proofs.AnswerLaws.{page_shown}
 use Rattle.jac_engine.proofs.ViewLaws.{ready_to_show}
 use Rattle.jac_engine.proofs.answer.show.Goals as goal

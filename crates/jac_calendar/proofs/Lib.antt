@@ -1,0 +1,3 @@
+pub mod AskingLemmas
+mod ReadTexts
+pub mod CalendarOpens

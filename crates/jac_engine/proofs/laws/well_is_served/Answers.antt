@@ -1,5 +1,0 @@
-use Rattle.jac_engine.proofs.WellServed.{well_served}
-use Rattle.jac_engine.proofs.laws.well_is_served.Goals as goal
-
-pub returns : goal.returns
-returns c = well_served

@@ -1,0 +1,4 @@
+pub mod PlaceLaws
+mod WellServed
+mod SchemaKinds
+pub mod OpeningLemmas

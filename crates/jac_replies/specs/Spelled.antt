@@ -1,0 +1,58 @@
+-- How a reply is spelled, and its line in the audit.
+use Rattle.std.specs.Prelude.{ℕ, if◌then◌else◌, Option, Some, None, List, [], ◌∷◌, ◌++◌, codes, decimal}
+use Rattle.std.specs.Str.{bytes_eq}
+use Rattle.jac_value.specs.Quoted.{quoted}
+use Rattle.jac_replies.specs.declared.reply.Spelling.{Spelling}
+use Rattle.jac_replies.specs.declared.reply.Spelling.TheVariants as spellings
+
+-- the body of a reply to HEAD isn't printed
+abbrev pub printed_body : List ℕ → List ℕ → List ℕ
+printed_body method body = if bytes_eq method (codes "HEAD") then [] else body
+
+abbrev pub location_text : Option (List ℕ) → List ℕ
+location_text None = []
+location_text (Some location) = location
+
+-- `reply STATUS "LOCATION" "BODY"`, the reply to a request of this method
+abbrev pub reply_text : List ℕ → ℕ → Option (List ℕ) → List ℕ → List ℕ
+reply_text method status location body =
+    codes "reply " ++ decimal status ++ codes " " ++ quoted (location_text location)
+    ++ codes " " ++ quoted (printed_body method body) ++ 10 ∷ []
+
+-- `sent N "BYTES"`, the reply on the connection of this number
+abbrev pub sent_text : ℕ → List ℕ → List ℕ
+sent_text c bytes = codes "sent " ++ decimal c ++ codes " " ++ quoted bytes ++ 10 ∷ []
+
+-- bytes on a connection, as the line of a text or as they are
+abbrev pub spelled : Spelling → ℕ → List ℕ → List ℕ
+spelled spellings.Quoted c bytes = sent_text c bytes
+spelled spellings.Raw c bytes = bytes
+
+abbrev pub closed_text : ℕ → List ℕ
+closed_text c = codes "closed " ++ decimal c ++ 10 ∷ []
+
+abbrev pub viewer_text : Option ℕ → List ℕ
+viewer_text None = codes "-"
+viewer_text (Some id) = decimal id
+
+-- each label behind a comma
+abbrev pub more_labels : List ℕ → List ℕ
+more_labels [] = []
+more_labels (k ∷ ks) = 44 ∷ (decimal k ++ more_labels ks)
+
+-- the labels, rising and joined by commas
+abbrev pub labels_text : List ℕ → List ℕ
+labels_text [] = codes "-"
+labels_text (k ∷ ks) = decimal k ++ more_labels ks
+
+abbrev pub shown_text : Option (List ℕ) → List ℕ
+shown_text None = codes "nopage"
+shown_text (Some labels) = labels_text labels
+
+-- ` STATUS VIEWER SHOWN`, which follows the number of a reply
+abbrev pub audit_rest : ℕ → Option ℕ → Option (List ℕ) → List ℕ
+audit_rest status viewer shown = codes " " ++ decimal status ++ codes " " ++ viewer_text viewer ++ codes " " ++ shown_text shown ++ 10 ∷ []
+
+-- `K STATUS VIEWER SHOWN`, of the k-th reply
+abbrev pub audit_text : ℕ → ℕ → Option ℕ → Option (List ℕ) → List ℕ
+audit_text k status viewer shown = decimal k ++ audit_rest status viewer shown

@@ -1,0 +1,26 @@
+//! A request, and what answers it.
+
+use jac_route::Pairs;
+use jac_value::{Bytes, Id, Txt};
+use jac_world::Assignment;
+
+/// A request: who looks, and what is asked. The pairs are those of the query and, for a POST, then those of
+/// the form body.
+#[derive(Debug, Drop)]
+pub struct Ask {
+    pub viewer: Option<Id>,
+    pub method: Txt,
+    pub path: Txt,
+    pub pairs: Pairs,
+}
+
+/// What answers a request: a page and the labels that it was made under, or a refusal without labels.
+#[derive(Debug, Drop)]
+pub struct Answer {
+    pub status: u16,
+    pub location: Option<Txt>,
+    /// The methods that the path has, where it hasn't that of the request.
+    pub allow: Option<Txt>,
+    pub body: Bytes,
+    pub shown: Option<Assignment>,
+}

@@ -1,0 +1,10 @@
+//! What is sent for an answer, and its line in the audit.
+#![tactic(auto)]
+
+mod answer;
+mod reply;
+mod still;
+
+pub use answer::{Answer, Ask};
+pub use reply::{Spelling, audit_rest, is_head, refusal_reply, reply_line, sent_reply, text_bytes};
+pub use still::{failed_reply, fixed_of, still_status, still_text, viewer_bytes};

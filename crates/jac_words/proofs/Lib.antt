@@ -1,0 +1,2 @@
+mod WordsLemmas
+pub mod CountLemmas

@@ -1,0 +1,8 @@
+//! The words behind the program's name, and the command that they give.
+#![tactic(auto)]
+
+mod role;
+mod words;
+
+pub use role::Role;
+pub use words::{Command, Dumping, Labels, Replay, Serving, command_of};
