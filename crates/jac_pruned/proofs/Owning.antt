@@ -1,7 +1,7 @@
 -- What a local policy reads of a local state: rows whose guards name labels of its own record alone.
-use Rattle.std.proofs.Common.{◌≡◌, refl, ap, sym, subst, ◌∙◌, ℕ, zero, suc, ◌+◌, ◌<◌, ◌==◌, Bool, true, false, not, ◌&&◌, ◌||◌, if◌then◌else◌, List, [], ◌∷◌, ◌++◌, length, take, drop, get_or, append-nil, Option, None, Some, slice_get, unwrap_or, option_map, map, Result, Ok, Err, ℤ, pos, arith}
+use Rattle.std.proofs.Common.{◌≡◌, refl, ap, sym, subst, ◌∙◌, ℕ, zero, suc, ◌+◌, ◌<◌, ◌==◌, Bool, true, false, not, ◌&&◌, ◌||◌, if◌then◌else◌, List, [], ◌∷◌, ◌++◌, length, take, drop, get_or, append-nil, Option, None, Some, slice_get, unwrap_or, Result, Ok, Err, ℤ, pos, arith}
 use Rattle.std.specs.Prelude.{⊤, IsSomeAnd, IfOk}
-use Rattle.std.specs.List.{list_all, list_any, AllByRecursion}
+use Rattle.std.specs.List.{list_all, AllByRecursion}
 use Rattle.std.proofs.lemmas.Bool.{and_parts}
 use Rattle.std.proofs.lemmas.Bool.Decides.{nat_tests, Decides-eqb}
 use Rattle.std.proofs.lemmas.List.Folds.{list_all-append}
@@ -9,7 +9,7 @@ use Rattle.jac_value.specs.declared.value.Kind.{Kind}
 use Rattle.jac_value.specs.declared.value.Kind.TheVariants as kind
 use Rattle.jac_value.specs.declared.value.Value.{Value}
 use Rattle.jac_value.specs.declared.value.Value.TheVariants as value
-use Rattle.jac_value.specs.Ids.{is_id_of, model_of_id, record_of_label, group_of_label}
+use Rattle.jac_value.specs.Ids.{model_of_id, record_of_label, group_of_label}
 use Rattle.jac_value.specs.Values.{has_kind, default_value}
 use Rattle.jac_world.specs.World.{shown, holds, names}
 use Rattle.jac_lang.specs.declared.bindings.Binding.{Binding}
@@ -20,24 +20,24 @@ use Rattle.jac_lang.specs.declared.field_kinds.KindName.TheVariants as named
 use Rattle.jac_lang.specs.declared.queries.Binder.{Binder}
 use Rattle.jac_lang.specs.declared.queries.Order.{Order}
 use Rattle.jac_lang.specs.declared.queries.Order.TheVariants as orders
-use Rattle.jac_lang.specs.Lookup.{same_text, model_place, fields_at, groups_at, fields_in, field_place, kind_named, kind_at, kind_in}
-use Rattle.jac_lang.specs.Syntax.{Expression, Expressions, FieldGroup, Entity, Application}
+use Rattle.jac_lang.specs.Lookup.{same_text, model_place, fields_at, groups_at, field_place, kind_named, kind_at}
+use Rattle.jac_lang.specs.Syntax.{Expression, FieldGroup, Entity, Application}
 use Rattle.jac_rows.specs.declared.row.Row.{Row}
 use Rattle.jac_rows.specs.declared.plain.PlainRow.{PlainRow}
 use Rattle.jac_rows.specs.declared.state.State.{State}
-use Rattle.jac_rows.specs.Good.{IsMade, IsRecord, AreTablesOf, have_kinds}
+use Rattle.jac_rows.specs.Good.{IsRecord, AreTablesOf, have_kinds}
 use Rattle.jac_rows.specs.Project.{rows_at, project_at}
 use Rattle.jac_rows.specs.Tables.{rows_of}
-use Rattle.jac_keep.specs.Records.{alternatives, with_id}
-use Rattle.jac_plain.specs.Expressions.{mean, texts, is_true, two, nearest, look, look_from, bound, binding, extended, crossed, tuples_from, kept_by, inserted, sorted, ordered, answers_by, is_less, key_of, count_of, sum_of, summed, some_of, first_of, pick, is_single, model_of_binder}
-use Rattle.jac_pruned.specs.Local.{is_free, is_free_place, is_free_model, is_free_kind, is_free_field_at, is_free_field_in, is_free_field, is_free_viewer_of, is_free_viewer, are_free, is_free_order, is_free_query, refers_free, is_this, is_local, are_local, IsOwnLabel, IsOfViewers, IsLocalCase}
+use Rattle.jac_keep.specs.Records.{alternatives}
+use Rattle.jac_plain.specs.Expressions.{mean, is_true, two, nearest, look_from, bound, binding, extended, crossed, tuples_from, kept_by, inserted, sorted, ordered, answers_by, is_less, key_of, summed, some_of, first_of, pick, is_single, model_of_binder}
+use Rattle.jac_pruned.specs.Local.{is_free, is_free_place, is_free_model, is_free_kind, is_free_field_at, is_free_field_in, is_free_viewer_of, is_free_viewer, are_free, is_free_order, refers_free, is_this, IsOwnLabel, IsOfViewers, IsLocalCase}
 use Rattle.jac_plain.specs.Models.{is_none, kinds_of, kinds_of_fields, kinds_of_models}
 use Rattle.jac_plain.specs.Policies.{is_some_group}
-use Rattle.jac_plain.specs.World.{World, records, rows_at_place, record_with, referred, cell_of, cell_named, got, got_of}
+use Rattle.jac_plain.specs.World.{World, records, rows_at_place, record_with, referred, cell_of, cell_named, got_of}
 use Rattle.jac_pruned.specs.Tupled.{first_bound, left_behind, lengthened, lengthened_all, with_last}
 use Rattle.jac_pruned.proofs.Bound.{bound-longer}
 use Rattle.jac_pruned.proofs.Rows.{rows_of-project}
-use Rattle.jac_pruned.specs.Own.{is_of, IsOwn, is_own_pair, names_own, has_own_guard, is_own_row, are_own_rows, is_own_table, reads_own, stands_own, table_at, table_named, are_own_tables, is_own_order, is_free_value, is_free_env, IsLocally, reads_locally, read_locally, asks_locally}
+use Rattle.jac_pruned.specs.Own.{is_of, IsOwn, is_own_pair, names_own, has_own_guard, is_own_row, are_own_rows, is_own_table, reads_own, stands_own, table_at, table_named, are_own_tables, is_own_order, is_free_value, is_free_env, IsLocally}
 
 -- tests of all
 

@@ -10,13 +10,12 @@ use Rattle.jac_lang.specs.declared.queries.Binder.{Binder}
 use Rattle.jac_lang.specs.declared.queries.Order.{Order}
 use Rattle.jac_lang.specs.declared.queries.Order.TheVariants as orders
 use Rattle.jac_lang.specs.Lookup.{model_place}
-use Rattle.jac_lang.specs.Syntax.{Entity, Expression, Expressions, Application, Question}
+use Rattle.jac_lang.specs.Syntax.{Expression, Expressions, Application, Question}
 use Rattle.jac_rows.specs.declared.row.Row.{Row}
 use Rattle.jac_rows.specs.declared.state.State.{State}
 use Rattle.jac_rows.specs.Tables.{rows_of}
 use Rattle.jac_plain.specs.Expressions.{model_of_binder}
 use Rattle.jac_pruned.specs.Local.{is_free, is_free_viewer, is_free_query, is_local, are_local, IsLocalCase}
-use Rattle.jac_plain.specs.declared.context.Ctx.{Ctx}
 
 -- the id is that of the record, if there is one
 abbrev pub is_of : Option ℕ → ℕ → Bool
@@ -27,6 +26,7 @@ is_of (Some this) id = this == id
 pub record IsOwn (this : Option ℕ) (support : List ℕ) : Type 0 where
   pub each : (k : ℕ) → shown support k ≡ true → is_of this (record_of_label k) ≡ true
 
+-- the pair's label is the record's
 abbrev pub is_own_pair : Option ℕ → (ℕ × Bool) → Bool
 is_own_pair this p = is_of this (record_of_label p.0)
 
@@ -34,6 +34,7 @@ is_own_pair this p = is_of this (record_of_label p.0)
 abbrev pub names_own : Option ℕ → List (ℕ × Bool) → Bool
 names_own this g = list_all (is_own_pair this) g
 
+-- the same of a row's guard
 abbrev pub has_own_guard : Option ℕ → Row → Bool
 has_own_guard this r = names_own this r.guard
 
@@ -41,9 +42,11 @@ has_own_guard this r = names_own this r.guard
 abbrev pub is_own_row : Option ℕ → ℕ → Row → Bool
 is_own_row this id r = not (r.id == id) || has_own_guard this r
 
+-- the same of each row
 abbrev pub are_own_rows : Option ℕ → ℕ → List Row → Bool
 are_own_rows this id rows = list_all (is_own_row this id) rows
 
+-- each row's guard names labels of the record alone
 abbrev pub is_own_table : Option ℕ → List Row → Bool
 is_own_table this rows = list_all (has_own_guard this) rows
 

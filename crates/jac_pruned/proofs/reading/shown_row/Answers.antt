@@ -5,7 +5,7 @@ use Rattle.jac_plain.specs.World.{record_with}
 use Rattle.jac_pruned.specs.Alike.{asked}
 use Rattle.jac_pruned.proofs.Growing.{agrees_less, grows_then}
 use Rattle.jac_pruned.proofs.Joining.{answer_of, answer_joined}
-use Rattle.jac_pruned.specs.Own.{has_own_guard, is_own_pair, is_own_row, names_own}
+use Rattle.jac_pruned.specs.Own.{is_own_pair, is_own_row, names_own}
 use Rattle.jac_pruned.proofs.Owning.{all_head, or_less}
 use Rattle.jac_pruned.proofs.reading.shown_row.Goals as goal
 
