@@ -4,12 +4,14 @@ allow, and first those behind which the longest chain waits (`schedule.py`). Wor
 standard error which crates are done and under way, the minutes gone, and those that are thought to be left, by the
 table of costs in docs/TESTING.md. Where one fails, its log follows, and the status is 70."""
 import os
+import signal
 import subprocess
 import sys
 import tempfile
 import time
 
 sys.dont_write_bytecode = True
+import kit                                                                  # noqa: E402
 from costs import costs                                                     # noqa: E402
 from crates import PROGRAM, below, files, folder                            # noqa: E402
 from program import PROVED, State, is_current                               # noqa: E402
@@ -73,10 +75,12 @@ def minutes(number):
 
 
 def state_of(schedule):
-    under_way = ', '.join('%s since %s' % (name, minutes(run.minutes())) for name, run in schedule.running.items())
-    return '%d of %d crates, %s gone, about %s left by the table of costs%s' % (
-        len(schedule.done), len(schedule.tasks), minutes(schedule.minutes()), minutes(schedule.left()),
-        '; under way: ' + under_way if under_way else '')
+    left = schedule.left()
+    under_way = ', '.join(name + (' for %d min' % run.minutes() if run.minutes() >= 1 else '')
+                          for name, run in schedule.running.items())
+    return '%d of %d crates, %s gone, by the table of costs %s%s left%s' % (
+        len(schedule.done), len(schedule.tasks), minutes(schedule.minutes()), 'about ' if left >= 1 else '',
+        minutes(left), '; under way: ' + under_way if under_way else '')
 
 
 def prove(schedule):
@@ -112,6 +116,7 @@ def build(program):
     if program == PROGRAM and is_current(PROVED):
         tell('the program stands, proved and built of these sources')
         return 0
+    kit.path()
     state = State(PROVED)
     schedule = Schedule(tasks_for(program))
     tell('proving and building %s; %s' % (program, state_of(schedule)))
@@ -130,4 +135,7 @@ def build(program):
 
 
 if __name__ == '__main__':
+    # so that the proofs that are under way end with it
+    for number in signal.SIGTERM, signal.SIGHUP, signal.SIGINT:
+        signal.signal(number, lambda number, _: sys.exit(128 + number))
     sys.exit(build(sys.argv[1]))

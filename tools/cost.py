@@ -3,8 +3,8 @@
 and of its must-fail edits, each from nothing, with as many crates side by side as processors and memory allow. It works
 on a clone of what was committed, among the temporary files, and takes nothing that earlier runs kept. Words: the crates
 that are wanted, or none for all; `--write` writes the table of docs/TESTING.md, for a run over all crates alone. What
-was measured of a commit is written down beside its clone, so that a run that was cut short goes on with what it lacks;
-`--anew` begins again.
+was measured is written down beside the clone, so that a run that was cut short goes on with what it lacks, as long as
+the crates stay; `--anew` begins again.
 
 A crate's edits cost a check of the crate, which they begin with, one over it for each of them, and one at the end, as
 in `rt ci`. The minutes are those of the processors, by the system's count of a process and of all that it waited for,
@@ -72,18 +72,24 @@ class Step:
         sys.stdout.flush()
 
 
-class Notes:
-    """What was measured of a commit, a line each, beside the clone that it was measured in."""
+def named():
+    """A name for what is committed of the crates."""
+    trees = subprocess.run(['git', 'rev-parse', 'HEAD:crates', 'HEAD:crates.txt'], cwd=TOP, stdout=subprocess.PIPE,
+                           text=True, check=True).stdout.split()
+    return '-'.join(tree[:8] for tree in trees)
 
-    def __init__(self, commit, anew):
-        self.folder = os.path.join(tempfile.gettempdir(), 'jac-cost-' + commit)
+
+class Notes:
+    """What was measured of the crates that are committed, a line each, beside the clone that it is measured in."""
+
+    def __init__(self, anew):
+        self.folder = os.path.join(tempfile.gettempdir(), 'jac-cost-' + named())
         if anew:
             shutil.rmtree(self.folder, ignore_errors=True)
         self.clone, self.file = os.path.join(self.folder, 'clone'), os.path.join(self.folder, 'notes')
         if not os.path.isdir(self.clone):
             os.makedirs(self.folder, exist_ok=True)
             subprocess.run(['git', 'clone', '-q', TOP, self.clone], check=True)
-            subprocess.run(['git', 'checkout', '-q', commit], cwd=self.clone, check=True)
         self.found = {}
         if os.path.isfile(self.file):
             with open(self.file, encoding='utf-8') as lines:
@@ -159,18 +165,15 @@ def table(notes, names, when):
             for name in names]
     sums = [total(what) for what in STEPS]
     rows.append('| **all** | %s | |' % ' | '.join('%.0f' % it for it in sums))
-    said = 'Measured on %s, from nothing, in one run of `tools/cost.py` on %d processors: %.0f processor minutes.' % (
+    said = 'Measured on %s, from nothing, by `tools/cost.py` on %d processors: %.0f processor minutes.' % (
         when, processors(), sum(sums))
     return '\n'.join([said, '', *HEAD, *rows])
 
 
 def main(words):
     wanted = [word for word in words if not word.startswith('--')] or list(crates())
-    commit = subprocess.run(['git', 'rev-parse', '--short=12', 'HEAD'], cwd=TOP, stdout=subprocess.PIPE, text=True,
-                            check=True).stdout.strip()
-    notes = Notes(commit, '--anew' in words)
-    print('measuring %s in %s, with %d processors and %d MB' % (commit, notes.clone, processors(), free_memory()),
-          flush=True)
+    notes = Notes('--anew' in words)
+    print('measuring in %s, with %d processors and %d MB' % (notes.clone, processors(), free_memory()), flush=True)
     if not measure(notes, wanted):
         return 1
     rows = table(notes, [name for name in crates() if (PROOF, name) in notes.found], time.strftime('%-d %B %Y'))

@@ -1,5 +1,6 @@
-"""Which of several tasks run side by side: as many as there are processors, and as memory bears, those first behind
-which the longest chain of others waits, and a task with more than one job where processors would idle."""
+"""Which of several tasks run side by side: as many as there are processors, and as memory bears, and those first behind
+which the longest chain of others waits. A task has more than one job where processors would idle, now, or in the end
+because the chain that it begins takes longer than all that is left takes on all of them."""
 import os
 import time
 
@@ -79,6 +80,12 @@ class Schedule:
                  and self.done.issuperset(task.after)]
         return sorted(found, key=lambda task: -self.chains[task.name])
 
+    def is_pressing(self, task):
+        """Whether the task begins the longest chain that is left, and nothing but that chain decides when all ends."""
+        left = [other for other in self.tasks.values() if other.name not in self.done]
+        longest = max(self.chains[other.name] for other in left)
+        return self.chains[task.name] == longest > sum(other.minutes for other in left) / self.lanes
+
     def begin(self):
         """Begins the tasks that may begin and for which there is room, and returns them."""
         begun, ready = [], self.ready()
@@ -89,7 +96,8 @@ class Schedule:
                 break
             idle = self.lanes - sum(run.jobs for run in self.running.values())
             fitting = 1 + int(max(0, room / task.memory - 1) / MORE_MEMORY)
-            jobs = max(1, min(MOST_JOBS, idle // (len(ready) - at), fitting))
+            jobs = max(2 if self.is_pressing(task) else 1, idle // (len(ready) - at))
+            jobs = min(jobs, MOST_JOBS, fitting, self.lanes)
             self.running[task.name] = Running(task, jobs)
             begun.append(self.running[task.name])
         return begun
