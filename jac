@@ -1,10 +1,62 @@
 #!/usr/bin/env bash
-# Runs the program on the words that follow. The first call builds it, and only a proved program is built.
+# Runs the program on the words that follow: the proved one where it stands, or else an unproved trial of the same
+# sources, which is built at the first call and after each change of them. Where JAC_PROVED is set, as checks set it,
+# no trial is built or run. docs/USING.md, "Trial and proof", says what is told when.
 set -eu
 top=$(cd "$(dirname "$(readlink -f "$0")")" && pwd)
-program=$top/crates/jac_main/out/jac_main
-if [ ! -x "$program" ]; then
-    echo "jac: proving and building the program, once" >&2
-    python3 "$top/tools/build.py" jac_main || exit 70
-fi
-exec "$program" "$@"
+proved=$top/crates/jac_main/out/jac_main
+trial=$top/out/trial/jac_main
+
+tell() {
+    echo "jac: $1" >&2
+}
+
+# Whether the files that a program was built of are as they were: by their sizes and times, which are beside it, or else
+# by what they hold.
+is_current() {
+    local was paths
+    if { read -r was && read -r _ && mapfile -t paths; } 2>/dev/null <"$1.sources" \
+        && [ "$(cd "$top" && find "${paths[@]}" -printf '%p %s %T@\n' 2>/dev/null | cksum)" = "$was" ]; then
+        return 0
+    fi
+    python3 "$top/tools/program.py" "$1"
+}
+
+# The program that these words are for.
+choose() {
+    if [ -x "$proved" ]; then
+        program=$proved
+        [ -n "${JAC_PROVED-}" ] || is_current "$proved" \
+            || tell 'the sources have changed since this program was proved and built: ./prove proves them anew'
+    elif [ -n "${JAC_PROVED-}" ]; then
+        tell 'there is no proved program, and JAC_PROVED asks for it: ./prove makes it'
+        exit 70
+    else
+        program=$trial
+        is_current "$trial" || python3 "$top/tools/trial.py" || exit 70
+        tell 'an unproved trial of these sources; ./prove makes the proved program, once'
+    fi
+}
+
+# A command that ends by itself. Where it refuses an application, standard error has the place, with a mark under it.
+run_to_end() {
+    [ -z "${JAC_PROVED-}" ] || exec "$program" "$@"
+    local status=0
+    "$program" "$@" || status=$?
+    [ $status -ne 2 ] || put_finger "$@"
+    exit $status
+}
+
+put_finger() {
+    python3 "$top/tools/finger.py" "$program" "$@" || true
+}
+
+choose
+case ${1-} in
+    check | replay | dump | demo) run_to_end "$@" ;;
+    serve)
+        [ -n "${JAC_PROVED-}" ] || put_finger "$@"
+        exec "$program" "$@"
+        ;;
+    *) exec "$program" "$@" ;;
+esac

@@ -6,12 +6,15 @@ costs the processor time of a run with some of them less that of the run without
 three.
 Where Flask is installed it serves the same lists from SQLite in the same run, in one process and by its test client,
 with queries written by hand; the ratio is our time to its. Last stand the bars: what the costs are meant to keep to.
-It is no part of the gate: what a machine takes is no property of the program."""
+docs/COSTS.md has what it said last, with its date. It is no part of the gate: what a machine takes is no property of the
+program."""
 import concurrent.futures
 import os
 import sys
 import tempfile
 import time
+
+import proved
 
 SIZES = [256, 1024, 4096]
 HOSTS = 16
@@ -237,7 +240,7 @@ def bar(text, value, most):
 
 
 def main():
-    program = os.path.abspath(sys.argv[1])
+    program = proved.program(sys.argv[1])
     sizes = [int(word) for word in sys.argv[2:]] or SIZES
     with tempfile.TemporaryDirectory() as folder, concurrent.futures.ProcessPoolExecutor(1) as pool:
         bench = Bench(pool, program, folder)

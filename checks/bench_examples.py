@@ -6,7 +6,8 @@ policies that are always true, in the file of a store, and the application with 
 that file. The list is asked by somebody who may see much of it, by somebody who may see little, and by nobody. A time
 is that which the client waits for the page; the memory is the most that the program held meanwhile, and the labels are
 those that the page shows. A page that takes longer than a minute is left, and its application with it.
-It is no part of the gate: what a machine takes is no property of the program."""
+docs/COSTS.md has what it said last, with its date. It is no part of the gate: what a machine takes is no property of the
+program."""
 import contextlib
 import http.client
 import itertools
@@ -17,6 +18,7 @@ import tempfile
 import time
 import urllib.parse
 
+import proved
 from serving import served
 
 TOP = os.path.dirname(os.path.dirname(os.path.abspath(__file__)))
@@ -222,7 +224,7 @@ def line(name, count, who, status, took, size, peak, shown):
 
 
 def main():
-    program = os.path.abspath(sys.argv[1])
+    program = proved.program(sys.argv[1])
     sizes = [int(word) for word in sys.argv[2:]] or SIZES
     print('%-11s %7s  %-16s %6s %9s %9s %8s %7s' % (
         'application', 'records', 'who asks', 'status', 'seconds', 'bytes', 'peak MB', 'labels'))

@@ -4,7 +4,8 @@ connections. Words: the program, and parts of the names of the series that are w
 several sizes, each four times the one before where no limit ends it; the growth is that of the seconds over that of the
 size, so that 1.00 is proportion. A time is the processor's for a run, the best of three, and on a real connection what
 the client waits; the memory is the most that the run held.
-It is no part of the gate: what a machine takes is no property of the program."""
+docs/COSTS.md has what it said last, with its date. It is no part of the gate: what a machine takes is no property of the
+program."""
 import concurrent.futures
 import contextlib
 import os
@@ -13,6 +14,7 @@ import tempfile
 import threading
 import time
 
+import proved
 from serving import served
 
 KB, MB = 1024, 1024 * 1024
@@ -280,7 +282,7 @@ def read_replies(line, count):
 
 
 def main():
-    program, wanted = os.path.abspath(sys.argv[1]), sys.argv[2:]
+    program, wanted = proved.program(sys.argv[1]), sys.argv[2:]
     table = Table()
     with tempfile.TemporaryDirectory() as folder, concurrent.futures.ProcessPoolExecutor(1) as pool:
         runs = Runs(pool, program, folder)

@@ -1,7 +1,8 @@
 #!/usr/bin/env python3
-"""Measures the built program over real connections and over stores in files. Words: the program. It is no part of the
-gate: what a machine takes is no property of the program. A time is that which the client waits, the middle of all; the
-client is this script, on the same machine, and sends each request as one write."""
+"""Measures the built program over real connections and over stores in files. Words: the program. A time is that which
+the client waits, the middle of all; the client is this script, on the same machine, and sends each request as one write.
+docs/COSTS.md has what it said last, with its date. It is no part of the gate: what a machine takes is no property of the
+program."""
 import os
 import statistics
 import subprocess
@@ -9,9 +10,10 @@ import sys
 import tempfile
 import time
 
+import proved
 from serving import served
 
-PROGRAM = os.path.abspath(sys.argv[1])
+PROGRAM = proved.program(sys.argv[1])
 SHORT, LONG = 10, 100 * 1024
 APPLICATION = '''(app
  (model User (fields (name text)))

@@ -14,10 +14,11 @@ import sys
 import tempfile
 import time
 
+import proved
 from serving import served
 
 TOP = os.path.dirname(os.path.dirname(os.path.abspath(__file__)))
-PROGRAM = os.path.abspath(sys.argv[1])
+PROGRAM = proved.program(sys.argv[1])
 PICTURES = os.path.abspath(sys.argv[2]) if len(sys.argv) > 2 else None
 NAMES = 'chromium', 'chromium-browser', 'google-chrome'
 WAIT = 30

@@ -20,6 +20,8 @@ import subprocess
 import sys
 import tempfile
 
+import proved
+
 FOLDER = os.path.join(os.path.dirname(os.path.abspath(__file__)), 'cases')
 CUT = ', no last line feed'
 
@@ -82,7 +84,7 @@ def failures(program, text):
 
 
 def main():
-    program = os.path.abspath(sys.argv[1])
+    program = proved.program(sys.argv[1])
     names = [name for name in sorted(os.listdir(FOLDER)) if not sys.argv[2:] or any(w in name for w in sys.argv[2:])]
     failed = 0
     for name in names:

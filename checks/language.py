@@ -19,9 +19,10 @@ import tempfile
 import textwrap
 
 sys.dont_write_bytecode = True
+import proved                                                               # noqa: E402
 from pages import TOP, read                                                 # noqa: E402
 
-PROGRAM = os.path.abspath(sys.argv[1])
+PROGRAM = proved.program(sys.argv[1])
 PAGE = 'docs/LANGUAGE.md'
 EXAMPLE = re.compile(r'`([^`\n]+)` (is|puts|answers 404 with|redirects to) `([^`\n]+)`')
 APART = re.compile(r'(?m)(?:^    .*\n)+(?:\n+(?:^    .*\n)+)*')

@@ -20,15 +20,9 @@ import sys
 import tempfile
 import time
 
+import proved
 
-def program_behind(path):
-    """The program itself: where the script `jac` is named, which runs it, allocations of the shell are none of its own."""
-    with open(path, 'rb') as file:
-        is_script = file.read(2) == b'#!'
-    return os.path.join(os.path.dirname(path), 'crates', 'jac_main', 'out', 'jac_main') if is_script else path
-
-
-PROGRAM = program_behind(os.path.abspath(sys.argv[1]))
+PROGRAM = proved.binary(sys.argv[1])
 SECONDS = float(sys.argv[2]) if len(sys.argv) > 2 else 90
 COMPILERS = 'cc', 'gcc', 'clang'
 SHOWN = 20      # failures that are printed

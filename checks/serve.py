@@ -14,11 +14,12 @@ import sys
 import tempfile
 import time
 
+import proved
 from serving import served
 
 TOP = os.path.dirname(os.path.dirname(os.path.abspath(__file__)))
 CALENDAR = os.path.join(TOP, 'examples', 'calendar')
-PROGRAM = os.path.abspath(sys.argv[1])
+PROGRAM = proved.program(sys.argv[1])
 HELLO = b'(app (view get "/" (params) (put "hello"))' \
         b' (view get "/large" (params) %s (put "end")))' % (b'(put "%s")' % (b'x' * 1000) * 100)
 LARGE = 100 * 1000 + len('end')

@@ -16,9 +16,10 @@ import sys
 import tempfile
 import time
 
+import proved
 from serving import served
 
-PROGRAM = os.path.abspath(sys.argv[1])
+PROGRAM = proved.program(sys.argv[1])
 KILLS = int(sys.argv[2]) if len(sys.argv) > 2 else 50
 CALENDAR = b'''(app (viewer User)
  (model User (fields (name text)))

@@ -1,71 +1,46 @@
 #!/usr/bin/env python3
-"""Proves and builds a program: each crate after those that it stands on, as many at a time as there are
-processors. Words: the program's crate. Tells on standard error which crate is done. Where one fails, its log
-follows, and the status is 70."""
+"""Proves and builds a program: each crate after those that it stands on, as many side by side as processors and memory
+allow, and first those behind which the longest chain waits (`schedule.py`). Words: the program's crate. Tells on
+standard error which crates are done and under way, the minutes gone, and those that are thought to be left, by the
+table of costs in docs/TESTING.md. Where one fails, its log follows, and the status is 70."""
 import os
 import subprocess
 import sys
 import tempfile
 import time
 
-TOP = os.path.dirname(os.path.dirname(os.path.abspath(__file__)))
+sys.dont_write_bytecode = True
+from costs import costs                                                     # noqa: E402
+from crates import PROGRAM, below, files, folder                            # noqa: E402
+from program import PROVED, State, is_current                               # noqa: E402
+from schedule import Schedule, Task                                         # noqa: E402
+
+EVERY = 60      # seconds after which a line is due where no crate began or ended
 
 
 def tell(text):
     print('jac: ' + text, file=sys.stderr, flush=True)
 
 
-def crates_below(program):
-    """The program's crate and each crate below it, with the crates of the repository that it stands on."""
-    stands_on, below, left = {}, {}, [program]
-    with open(os.path.join(TOP, 'crates.txt')) as lines:
-        for line in lines:
-            head, colon, names = line.partition('#')[0].partition(':')
-            if colon:
-                stands_on[head.split()[0]] = names.split()
-    while left:
-        name = left.pop()
-        if name not in below:
-            below[name] = [other for other in stands_on[name] if other in stands_on]
-            left += below[name]
-    return below
-
-
-def longest_chains(below):
-    """For each crate, how many others wait for it, one behind the other."""
-    chains = {}
-
-    def chain(name):
-        if name not in chains:
-            chains[name] = max((1 + chain(other) for other in below if name in below[other]), default=0)
-        return chains[name]
-
-    return {name: chain(name) for name in below}
-
-
-class Run:
+class Proof:
     """The proof of one crate, under way."""
 
     def __init__(self, name, is_program, jobs):
-        self.folder = os.path.join(TOP, 'crates', name)
-        self.program = os.path.join(self.folder, 'out', name) if is_program else None
+        self.name = name
+        self.program = os.path.join(folder(name), 'out', name) if is_program else None
         self.log = tempfile.TemporaryFile()
-        self.began = time.monotonic()
         words = ['rt', 'run' if is_program else 'lib', '--jobs', str(jobs)]
         self.process = subprocess.Popen(
-            words, cwd=self.folder, stdin=subprocess.DEVNULL, stdout=self.log, stderr=subprocess.STDOUT)
+            words, cwd=folder(name), stdin=subprocess.DEVNULL, stdout=self.log, stderr=subprocess.STDOUT)
 
-    def is_done(self):
-        return self.process.poll() is not None
+    def poll(self):
+        return self.process.poll()
 
     def failed(self):
         # the program was run with no words, so its own status says nothing
         if self.program:
             return not os.access(self.program, os.X_OK)
         return self.process.returncode != 0
-
-    def seconds(self):
-        return round(time.monotonic() - self.began)
 
     def print_log(self):
         self.log.seek(0)
@@ -74,32 +49,84 @@ class Run:
         sys.stderr.flush()
 
 
-def build(program):
-    below = crates_below(program)
-    chains = longest_chains(below)
-    processors = len(os.sched_getaffinity(0))
-    done, running = set(), {}
+def is_kept(name, names):
+    """Whether the crate's library seems to be built of its text and of those below; it is `rt lib` that decides."""
     try:
-        while len(done) < len(below):
-            ready = [name for name in below if name not in done and name not in running and done.issuperset(below[name])]
-            ready.sort(key=lambda name: -chains[name])
-            share = max(1, processors // max(1, len(running) + len(ready)))
-            for name in ready[:processors - len(running)]:
-                running[name] = Run(name, name == program, share)
-            time.sleep(0.2)
-            for name in [name for name in running if running[name].is_done()]:
-                run = running.pop(name)
-                if run.failed():
-                    run.print_log()
-                    tell('%s failed' % name)
-                    return 70
-                done.add(name)
-                tell('%s, %d s (%d of %d)' % (name, run.seconds(), len(done), len(below)))
+        built = os.stat(os.path.join(folder(name), 'out', 'rlib', 'stamp')).st_mtime
+    except OSError:
+        return False
+    return all(os.stat(path).st_mtime < built for other in names for path in files(other))
+
+
+def tasks_for(program):
+    """A task for each crate that the program stands on, and for the program."""
+    every = below(program)
+    thought = costs(every)
+    for name, names in every.items():
+        kept = is_kept(name, below(name))
+        yield Task(name, names, 0.05 if kept else thought[name].proof, thought[name].memory,
+                   lambda jobs, name=name: Proof(name, name == program, jobs))
+
+
+def minutes(number):
+    return '%d min' % round(number) if number >= 1 else 'less than a minute'
+
+
+def state_of(schedule):
+    under_way = ', '.join('%s since %s' % (name, minutes(run.minutes())) for name, run in schedule.running.items())
+    return '%d of %d crates, %s gone, about %s left by the table of costs%s' % (
+        len(schedule.done), len(schedule.tasks), minutes(schedule.minutes()), minutes(schedule.left()),
+        '; under way: ' + under_way if under_way else '')
+
+
+def prove(schedule):
+    """Runs the tasks, and returns whether all went well."""
+    told = time.monotonic()
+    while not schedule.is_over():
+        began = schedule.begin()
+        time.sleep(0.2)
+        ended = schedule.ended()
+        for proof in (run.run for run in ended):
+            if proof.failed():
+                proof.print_log()
+                tell('%s is not proved' % proof.name)
+                return False
+        names = ', '.join(run.task.name for run in ended)
+        if ended and not schedule.is_over():
+            tell('%s proved: %s' % (names, state_of(schedule)))
+        elif time.monotonic() - told > EVERY:
+            tell(state_of(schedule))
+        if ended or began or time.monotonic() - told > EVERY:
+            told = time.monotonic()
+    return True
+
+
+def stop(schedule):
+    for run in schedule.running.values():
+        run.run.process.terminate()
+        run.run.process.wait()
+
+
+def build(program):
+    """Proves and builds the program, and writes down what it was built of, where that is the one that `jac` runs."""
+    if program == PROGRAM and is_current(PROVED):
+        tell('the program stands, proved and built of these sources')
         return 0
+    state = State(PROVED)
+    schedule = Schedule(tasks_for(program))
+    tell('proving and building %s; %s' % (program, state_of(schedule)))
+    try:
+        if not prove(schedule):
+            return 70
     finally:
-        for run in running.values():
-            run.process.terminate()
-            run.process.wait()
+        stop(schedule)
+    if State(PROVED).content != state.content:
+        tell('the sources have changed meanwhile: once more')
+        return build(program)
+    if program == PROGRAM:
+        state.note(PROVED)
+    tell('%s is proved and built, in %s' % (program, minutes(schedule.minutes())))
+    return 0
 
 
 if __name__ == '__main__':

@@ -3,19 +3,16 @@
 crates below once more. Words: the clone that lacks them, and the one that has them. Takes a library only where its
 text, and that of all below it, is the same in both, and tells which it took. It is an aid for whoever works on a
 crate: the gate itself takes nothing that was kept."""
-import importlib.machinery
-import importlib.util
 import os
 import shutil
 import sys
 
-RT = os.path.realpath(shutil.which('rt'))
+sys.dont_write_bytecode = True
+import kit                                                                  # noqa: E402
 
 
 def load():
-    loader = importlib.machinery.SourceFileLoader('rt_main', RT)
-    module = importlib.util.module_from_spec(importlib.util.spec_from_loader('rt_main', loader))
-    loader.exec_module(module)
+    module = kit.load()
     make = module.rtlib.Crate.__init__
 
     def with_files(crate, *given, **named):
@@ -49,5 +46,4 @@ def stock(rtlib, top, source):
 
 
 if __name__ == '__main__':
-    sys.dont_write_bytecode = True
     stock(load(), *(os.path.abspath(word) for word in sys.argv[1:3]))

@@ -82,15 +82,7 @@ fn answer_counted<K: Keeper, L: Ledger, M: Ledger>(
     ensures cause { HasCause (K.seen keeper.old).faults (K.seen keeper.new).faults result }
     ensures attached { (K.seen keeper.new).store ≡ (K.seen keeper.old).store }
 {
-    let prepared = prepare(
-        alloc,
-        service.checked(),
-        service.routes(),
-        keeper,
-        ask,
-        splits,
-        evaluations,
-    )?;
+    let prepared = prepare(alloc, service, keeper, ask, splits, evaluations)?;
     let counted = count_answer(alloc, ask, &prepared.answer)?;
     commit(alloc, keeper, prepared)?;
     Ok(counted)

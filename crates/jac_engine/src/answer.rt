@@ -18,9 +18,9 @@ ghost use Rattle.jac_engine.specs.Viewed.{IsPreparedBy, IsPreparedFor, IsShown};
 use crate::lookup::view_at;
 use crate::refusal::{refuse, refuse_method};
 use crate::visit::{Labelled, shown_page, stored_page};
-use jac_check::Checked;
 use jac_keep::{Change, Keeper, Stop};
 use jac_lang::{App, Verb, View};
+use jac_opening::Service;
 use jac_plain::Page;
 use jac_replies::{Answer, Ask};
 use jac_route::{Found, Pairs, Routes, find};
@@ -43,23 +43,20 @@ pub struct Prepared {
 /// facet was split.
 pub fn prepare<K: Keeper, L: Ledger, M: Ledger>(
     alloc: Global,
-    checked: &Checked,
-    routes: &Routes,
+    service: &Service,
     keeper: &mut K,
     ask: &Ask,
     splits: &mut Steps<L>,
     evaluations: &mut Steps<M>,
 ) -> Result<Prepared, Stop>
     requires attached { IsTrue (K.seen keeper.old).store.attached }
-    requires served { are_served (application_of checked.now) ≡ true }
-    requires routes { AreRoutes (application_of checked.now) routes.now }
-    requires start { IsTrue (K.seen keeper.old).tells → IsStart (application_of checked.now) (K.seen keeper.old).state }
-    ensures prepared { IfOk result (IsPrepared (K.seen keeper.new).tells (application_of checked.now) (K.seen keeper.old).state ask.now) }
+    requires start { IsTrue (K.seen keeper.old).tells → IsStart (application_of service.now) (K.seen keeper.old).state }
+    ensures prepared { IfOk result (IsPrepared (K.seen keeper.new).tells (application_of service.now) (K.seen keeper.old).state ask.now) }
     ensures unsplit { IfOk result (λ p. IsNone p.change → splits.new ≡ splits.old) }
     ensures reads { Reads (K.seen keeper.old) (K.seen keeper.new) result }
 {
-    let app = checked.app();
-    let _models = app.models.as_slice();
+    let app = service.app();
+    let routes = service.routes();
     let prepared = prepare_found(alloc, app, routes, keeper, ask, splits, evaluations)?;
     Ok(prepared)
 }

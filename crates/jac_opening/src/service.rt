@@ -62,14 +62,6 @@ impl Service {
         app
     }
 
-    /// The same, as it was checked.
-    pub fn checked(&self) -> &Checked
-        ensures app { result.now ≡ self.now }
-        ensures served { are_served (application_of self.now) ≡ true }
-    {
-        &self.checked
-    }
-
     pub fn routes(&self) -> &Routes
         ensures { AreRoutes (application_of self.now) result.now }
     {

@@ -1,4 +1,3 @@
-pub mod Bisected
 pub mod Bound
 pub mod Going
 pub mod Growing
@@ -6,6 +5,7 @@ pub mod Joining
 pub mod Keyed
 pub mod Locations
 pub mod Names
+pub mod Owning
 pub mod Places
 pub mod Products
 pub mod Rows

@@ -1,7 +1,9 @@
 //! Whether the record that a reference refers to is in the tables.
-ghost use Rattle.std.specs.Prelude.{◌≡◌, ℕ, Bool, IfOk, IsTrue};
+ghost use Rattle.std.specs.Prelude.{◌≡◌, ℕ, Bool, true, Option, IfOk, OnOk, IsTrue};
+ghost use Rattle.jac_value.specs.Ids.{model_of_id};
 ghost use Rattle.jac_world.specs.World.{shown};
 ghost use Rattle.jac_rows.specs.Project.{rows_at, project_at};
+ghost use Rattle.jac_rows.specs.Tables.{rows_of};
 ghost use Rattle.jac_keep.specs.Worked.{state_of, IsTold, ReadsWork};
 ghost use Rattle.jac_lang.specs.declared.application.App.{App};
 ghost use Rattle.jac_plain.specs.Expressions.{is_live, stands};
@@ -9,6 +11,7 @@ ghost use Rattle.jac_plain.specs.Policies.{has_id};
 ghost use Rattle.jac_plain.specs.World.{record_with};
 ghost use Rattle.jac_plain.specs.declared.context.Ctx.{Ctx as Context};
 ghost use Rattle.jac_pruned.specs.Consulted.{Agrees, Grows};
+ghost use Rattle.jac_pruned.specs.Own.{IsOwn, are_own_rows, stands_own};
 ghost use Rattle.jac_pruned.specs.Seen.{world_at};
 
 use crate::Support;
@@ -31,6 +34,7 @@ pub(crate) fn stand<K: Keeper>(
     ensures value { IsTold K.seen work.new → IfOk result (λ b. (app : App) (ctx : Context) (w : ℕ → Bool) → Agrees support.new (shown a.now) w → b ≡ is_live (world_at app ctx (state_of K.seen work.old) w) value.now) }
     ensures reads { ReadsWork K.seen work.old work.new result }
     ensures grows { Grows support.old support.new }
+    ensures own { IsTold K.seen work.new → (this : Option ℕ) → stands_own this value.now (state_of K.seen work.old).tables ≡ true → IsOwn this support.old → OnOk result (IsOwn this support.new) }
 {
     match value {
         Value::Ref(Some(id)) => {
@@ -54,6 +58,7 @@ pub fn record_stands<K: Keeper>(
     ensures value { IsTold K.seen work.new → IfOk result (λ b. (w : ℕ → Bool) → Agrees support.new (shown a.now) w → b ≡ has_id (project_at w (state_of K.seen work.old)) id) }
     ensures reads { ReadsWork K.seen work.old work.new result }
     ensures grows { Grows support.old support.new }
+    ensures own { IsTold K.seen work.new → (this : Option ℕ) → are_own_rows this id (rows_of (state_of K.seen work.old).tables (model_of_id id)) ≡ true → IsOwn this support.old → OnOk result (IsOwn this support.new) }
 {
     let rows = work.one(alloc, id)?;
     let found = has_row(alloc, rows.as_slice(), a, id, support)?;
@@ -69,6 +74,7 @@ fn has_row(
 ) -> Result<bool, Memory>
     ensures value { IfOk result (λ b. (w : ℕ → Bool) → Agrees support.new (shown a.now) w → b ≡ stands (record_with id (rows_at w rows.now))) }
     ensures grows { Grows support.old support.new }
+    ensures own { (this : Option ℕ) → are_own_rows this id rows.now ≡ true → IsOwn this support.old → OnOk result (IsOwn this support.new) }
 {
     let row = shown_row(alloc, rows, a, id, None, support)?;
     Ok(row.is_some())

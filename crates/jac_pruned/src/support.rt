@@ -1,10 +1,11 @@
 //! The labels that were consulted.
-ghost use Rattle.std.specs.Prelude.{◌≡◌, ◌==◌, ◌||◌, ℕ, [], Bool, true, IfOk, OnOk};
+ghost use Rattle.std.specs.Prelude.{◌≡◌, ◌==◌, ◌||◌, ℕ, [], Bool, true, Option, IfOk, OnOk};
 ghost use Rattle.jac_world.specs.World.{shown, holds, names, IsAscending};
 ghost use Rattle.jac_pruned.specs.Consulted.{Agrees, Grows};
+ghost use Rattle.jac_pruned.specs.Own.{IsOwn, names_own};
 
 use jac_value::Memory;
-use jac_world::{Assignment, Label};
+use jac_world::{Assignment, Label, add_among, is_among};
 use std::alloc::Global;
 use std::marker::Model;
 
@@ -58,25 +59,15 @@ impl Support {
     }
 }
 
-fn is_among(labels: &[Label], label: Label) -> bool
-    requires { IsAscending labels.now }
-    ensures { result ≡ shown labels.now label }
-{
-    labels.binary_search(&label).is_ok()
-}
-
 fn add_label(labels: &mut Vec<Label>, label: Label) -> Result<(), Memory>
     requires { IsAscending labels.old.items }
     ensures added { OnOk result ((k : ℕ) → shown labels.new.items k ≡ (label == k || shown labels.old.items k)) }
     ensures ascending { IsAscending labels.new.items }
     ensures grows { Grows labels.old.items labels.new.items }
 {
-    match labels.as_slice().binary_search(&label) {
-        Ok(_) => Ok(()),
-        Err(place) => {
-            labels.insert(place, label)?;
-            Ok(())
-        }
+    match add_among(labels, label) {
+        Ok(()) => Ok(()),
+        Err(_) => Err(Memory),
     }
 }
 
@@ -90,6 +81,7 @@ pub(crate) fn consult(
     ensures value { IfOk result (λ b. (w : ℕ → Bool) → Agrees support.new (shown assignment.now) w → b ≡ holds w pairs.now) }
     ensures consulted { OnOk result ((k : ℕ) → names pairs.now k ≡ true → shown support.new k ≡ true) }
     ensures grows { Grows support.old support.new }
+    ensures own { (this : Option ℕ) → names_own this pairs.now ≡ true → IsOwn this support.old → OnOk result (IsOwn this support.new) }
 {
     add_labels(pairs, support)?;
     Ok(are_met(pairs, assignment))
@@ -104,6 +96,7 @@ fn are_met(pairs: &[(Label, bool)], assignment: &Assignment) -> bool
 fn add_labels(pairs: &[(Label, bool)], support: &mut Support) -> Result<(), Memory>
     ensures consulted { OnOk result ((k : ℕ) → names pairs.now k ≡ true → shown support.new k ≡ true) }
     ensures grows { Grows support.old support.new }
+    ensures own { (this : Option ℕ) → names_own this pairs.now ≡ true → IsOwn this support.old → OnOk result (IsOwn this support.new) }
 {
     'pairs: for pair in pairs {
         support.add(pair.0)?;

@@ -1,5 +1,5 @@
 -- The greedy pass over plain lists.
-use Rattle.std.proofs.Common.{◌≡◌, ◌<◌, ◌≤◌, ◌+◌, ◌==◌, ◌||◌, ℕ, zero, suc, Bool, true, false, if◌then◌else◌, List, [], ◌∷◌, Option, drop, length, get_or, refl, ap, sym, subst, ◌∙◌, arith}
+use Rattle.std.proofs.Common.{◌≡◌, ◌<◌, ◌≤◌, ◌+◌, ◌==◌, ◌&&◌, ◌||◌, ℕ, zero, suc, Bool, true, false, if◌then◌else◌, List, [], ◌∷◌, Option, drop, length, get_or, refl, ap, sym, subst, ◌∙◌, arith}
 use Rattle.std.specs.Bool.{⊤}
 use Rattle.std.proofs.lemmas.Bool.Decides.{nat_tests, Decides-eqb}
 use Rattle.jac_world.specs.World.{shown}
@@ -50,9 +50,11 @@ fewer k v w hidden h (x ∷ xs) s =
 
 pub advances : (labels start old new : List ℕ) (k : ℕ) (added one : Bool) → shown labels k ≡ true → Advances labels start old added → MayAdd k old new one → Advances labels start new (added || one)
 advances labels start old new k true true s a g = let less : hidden_count (shown new) labels < hidden_count (shown old) labels = fewer k (shown old) (shown new) g.0 g.1 labels s in omega arith
-advances labels start old new k true false s a g = rw g a
-advances labels start old new k false true s a g = rw (← a) (fewer k (shown old) (shown new) g.0 g.1 labels s)
-advances labels start old new k false false s a g = g ∙ a
+advances labels start old new k true false s a g = let same : shown new ≡ shown old = λ i j. g j i in subst (λ (w : ℕ → Bool). hidden_count w labels < hidden_count (shown start) labels) (sym same) a
+advances labels start old new k false true s a g =
+    let same : shown old ≡ shown start = λ i j. a j i in
+    subst (λ (w : ℕ → Bool). hidden_count (shown new) labels < hidden_count w labels) same (fewer k (shown old) (shown new) g.0 g.1 labels s)
+advances labels start old new k false false s a g = λ j. g j ∙ a j
 
 within_if : (same was start among : Bool) → (same ≡ true → among ≡ true) → (was ≡ true → (start || among) ≡ true) → (same || was) ≡ true → (start || among) ≡ true
 within_if true was start among there later s = or_right start among (there refl)
@@ -65,7 +67,7 @@ stays_within labels start old new k true s within g j h =
     (λ e. ap (shown labels) (sym ((Decides-eqb k j).0 e)) ∙ s)
     (within j)
     (sym (g.1 j) ∙ h)
-stays_within labels start old new k false s within g j h = within j (rw (← g) h)
+stays_within labels start old new k false s within g j h = within j (sym (g j) ∙ h)
 
 -- the labels that are left are among all
 pub left_is_shown : (xs : List ℕ) (i k : ℕ) → shown (drop i xs) k ≡ true → shown xs k ≡ true
@@ -105,7 +107,9 @@ module _ (app : Application) (worlds : Worlds) (viewer : Option ℕ) where
       FillsBut labels more new (added || one)
   fills_on labels more old new x true one before g t = tt
   fills_on labels more old new x false true before g t = tt
-  fills_on labels more old new x false false before g t = subst (λ (n : List ℕ). FillsBut labels more n false) (sym g) still
+  fills_on labels more old new x false false before g t = λ k among left hidden.
+      let same : shown old ≡ shown new = λ i j. sym (g j) i in
+      subst (λ (w : ℕ → Bool). ShowsForbidden app worlds viewer (with_label k w)) same (still k among left (sym (g k) ∙ hidden))
     where
       still : FillsBut labels more old false
       still k among left hidden = fills_if x k (x == k) (shown more k) old refl refl left hidden t (λ s. before k among s hidden)

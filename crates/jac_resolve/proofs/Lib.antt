@@ -1,7 +1,9 @@
 pub mod Alike
 pub mod Collecting
 pub mod Greedy
+pub mod Local
 pub mod Recalling
 pub mod Rising
+pub mod Room
 pub mod Standing
 pub mod Underway

@@ -1,11 +1,11 @@
 -- Answers that are remembered, over plain lists.
-use Rattle.std.proofs.Common.{◌≡◌, ◌==◌, ◌&&◌, ◌||◌, ℕ, Bool, true, false, if◌then◌else◌, List, [], ◌∷◌, ◌++◌, Option, Some, None, refl, ap, sym, subst, ◌∙◌, arith, unwrap_or}
+use Rattle.std.proofs.Common.{◌≡◌, ◌==◌, ◌&&◌, ◌||◌, ℕ, Bool, true, false, cond, if◌then◌else◌, List, [], ◌∷◌, ◌++◌, Option, Some, None, refl, ap, sym, subst, ◌∙◌, arith, unwrap_or}
 use Rattle.std.specs.Ordering.{nat_cmp, is_eq}
 use Rattle.std.proofs.lemmas.Bool.Decides.{nat_tests, Decides-eqb}
 use Rattle.jac_world.specs.World.{shown, holds, IsAscending, IsRising}
 use Rattle.jac_resolve.specs.declared.recall.Given.{Given}
 use Rattle.jac_resolve.specs.declared.recall.Known.{Known}
-use Rattle.jac_resolve.specs.Recalled.{first_fitting, or_known, recall_in, signed, watched_in}
+use Rattle.jac_resolve.specs.Recalled.{first_fitting, known_at, or_known, recall_in, signed, watched_in}
 
 -- one answer more of a label
 

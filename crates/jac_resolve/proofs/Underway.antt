@@ -1,5 +1,6 @@
 -- What is remembered from one try to the next, over plain lists.
-use Rattle.std.proofs.Common.{◌≡◌, ◌≤◌, ◌==◌, ◌&&◌, ◌||◌, ℕ, Bool, true, false, if◌then◌else◌, List, [], ◌∷◌, Option, Some, None, refl, ap, sym, subst, ◌∙◌, arith}
+use Rattle.std.proofs.Common.{◌≡◌, ◌≤◌, ◌==◌, ◌&&◌, ◌||◌, ℕ, Bool, true, false, not, if◌then◌else◌, List, [], ◌∷◌, Option, Some, None, refl, ap, sym, subst, ◌∙◌, arith}
+use Rattle.std.specs.Bool.{⊤}
 use Rattle.std.specs.Option.{is_some}
 use Rattle.std.proofs.lemmas.Bool.Decides.{nat_tests, Decides-eqb}
 use mathlib.Core.Bool.{beq}
@@ -11,7 +12,7 @@ use Rattle.jac_plain.specs.Policies.{is_allowed, with_label, ShowsForbidden}
 use Rattle.jac_pruned.specs.Consulted.{Agrees}
 use Rattle.jac_resolve.specs.declared.recall.Answers.{Answers}
 use Rattle.jac_resolve.specs.declared.recall.Known.{Known}
-use Rattle.jac_resolve.specs.Recalled.{AreRight, AreWatched, Fitting, Grown, IsRight, IsUnderway, Stays, known_at, or_known, recall, signed, touched, watches}
+use Rattle.jac_resolve.specs.Recalled.{AreFitted, AreRight, AreWatched, Fitting, Grown, IsRight, IsUnderway, Stays, known_at, or_known, recall, signed, touched, watches}
 
 right_true : (a b : Bool) → (a && b) ≡ true → b ≡ true
 right_true true b p = p
@@ -44,15 +45,15 @@ and_false true true h e = h
 and_false false b h e = refl
 and_false true false h e = absurd cc
 
-either : (a b : Bool) (P : Type 0) → (a || b) ≡ true → (a ≡ true → P) → (b ≡ true → P) → P
+pub either : (a b : Bool) (P : Type 0) → (a || b) ≡ true → (a ≡ true → P) → (b ≡ true → P) → P
 either true b P h p q = p refl
 either false b P h p q = q h
 
-or_right : (a b : Bool) → b ≡ true → (a || b) ≡ true
+pub or_right : (a b : Bool) → b ≡ true → (a || b) ≡ true
 or_right true b p = refl
 or_right false b p = p
 
-itself : (x : ℕ) → (x == x) ≡ true
+pub itself : (x : ℕ) → (x == x) ≡ true
 itself x = grind (arith, nat_tests)
 
 -- an answer whose signs don't name the label
@@ -63,10 +64,10 @@ unnamed k w c absent = by_names c.when (with_label k w) w (λ j named. differs j
     differs j named true e = absurd (let same : true ≡ false = sym named ∙ ap (names c.when) (sym ((Decides-eqb k j).0 e)) ∙ absent in cc)
     differs j named false e = refl
 
-known_if : (h h' : Bool) (c : Known) → h ≡ h' → (if h then Some c.holds else None) ≡ (if h' then Some c.holds else None)
+pub known_if : (h h' : Bool) (c : Known) → h ≡ h' → (if h then Some c.holds else None) ≡ (if h' then Some c.holds else None)
 known_if h h' c e = ap (λ b. if b then Some c.holds else None) e
 
-or_same : (o p : Option Bool) (c : Known) (v w : ℕ → Bool) → o ≡ p → known_at c v ≡ known_at c w → or_known o c v ≡ or_known p c w
+pub or_same : (o p : Option Bool) (c : Known) (v w : ℕ → Bool) → o ≡ p → known_at c v ≡ known_at c w → or_known o c v ≡ or_known p c w
 or_same o None c v w e f = ap (λ q. or_known q c v) e ∙ f
 or_same o (Some b) c v w e f = ap (λ q. or_known q c v) e
 
@@ -183,6 +184,18 @@ module _ (app : Application) (worlds : Worlds) (viewer : Option ℕ) where
     fitted = record { each = λ k s. grown.kept k (shown a) (before.fitted.each k s) };
   }
 
+  -- the same are shown
+  pub underway_same : (a new : List ℕ) (answers : Answers) → ((j : ℕ) → shown new j ≡ shown a j) → IsUnderway app worlds viewer a answers → IsUnderway app worlds viewer new answers
+  underway_same a new answers still before = record {
+    right = before.right;
+    allowed = λ k s. ap (λ (w : ℕ → Bool). is_allowed app (worlds w) viewer k) same ∙ before.allowed k (sym (still k) ∙ s);
+    watched = before.watched;
+    fitted = record { each = λ k s. ap (λ (w : ℕ → Bool). is_some (recall answers k w)) same ∙ before.fitted.each k (sym (still k) ∙ s) };
+  }
+    where
+      same : shown new ≡ shown a
+      same = λ i j. still j i
+
   -- one was
   pub underway_added : (a more : List ℕ) (k : ℕ) (old new : Answers) → ((j : ℕ) → shown more j ≡ with_label k (shown a) j) → IsUnderway app worlds viewer a old →
       AreRight app worlds viewer new → Grown old new → Stays app worlds viewer (shown more) (touched old k) true → Fitting new (shown more) (touched old k) true → IsUnderway app worlds viewer more new
@@ -278,3 +291,12 @@ pub record InWatching (before now : ℕ) (old new : Answers) (w : ℕ → Bool) 
   pub grown : Grown old new
   pub fits : AllBut (λ j. w j ≡ true → is_some (recall new j w) ≡ true) all left
   pub working : beside
+
+-- one that was added and taken back
+pub taken_back : (a more new : List ℕ) (k : ℕ) → shown a k ≡ false → ((j : ℕ) → shown more j ≡ with_label k (shown a) j) → ((j : ℕ) → shown new j ≡ (not (k == j) && shown more j)) →
+    (j : ℕ) → shown new j ≡ shown a j
+taken_back a more new k hidden also without j = without j ∙ ap (λ b. not (k == j) && b) (also j) ∙ back_if (k == j) refl
+  where
+    back_if : (b : Bool) → (k == j) ≡ b → (not b && (b || shown a j)) ≡ shown a j
+    back_if true e = sym (ap (shown a) (sym ((Decides-eqb k j).0 e)) ∙ hidden)
+    back_if false e = refl

@@ -1,3 +1,4 @@
 pub mod Collected
 pub mod Recalled
+pub mod Room
 pub mod Rounds

@@ -27,20 +27,20 @@ abbrev pub hidden_count : (ℕ → Bool) → List ℕ → ℕ
 hidden_count w [] = 0
 hidden_count w (k ∷ ks) = (if w k then 0 else 1) + hidden_count w ks
 
--- one label more is shown, or all is as it was
+-- one label more is shown, or the same are
 abbrev pub MayAdd : ℕ → List ℕ → List ℕ → Bool → Type 0
 MayAdd k old new true = (shown old k ≡ false) × ((j : ℕ) → shown new j ≡ with_label k (shown old) j)
-MayAdd k old new false = new ≡ old
+MayAdd k old new false = (j : ℕ) → shown new j ≡ shown old j
 
 -- the label was added, and all are allowed; or it can't be added
 abbrev pub Tries : Application → Worlds → Option ℕ → ℕ → List ℕ → List ℕ → Bool → Type 0
 Tries app worlds viewer k old new true = AreAllowed app worlds viewer new
 Tries app worlds viewer k old new false = shown old k ≡ false → ShowsForbidden app worlds viewer (with_label k (shown old))
 
--- fewer of the labels are hidden, or all is as it was
+-- fewer of the labels are hidden, or the same are shown
 abbrev pub Advances : List ℕ → List ℕ → List ℕ → Bool → Type 0
 Advances labels old new true = hidden_count (shown new) labels < hidden_count (shown old) labels
-Advances labels old new false = new ≡ old
+Advances labels old new false = (j : ℕ) → shown new j ≡ shown old j
 
 -- what a round adds is among the labels
 abbrev pub Within : List ℕ → List ℕ → List ℕ → Type 0

@@ -1,8 +1,9 @@
 ghost use Rattle.std.specs.Prelude.{◌≡◌, ◌==◌, ◌||◌, [], ℕ, IfOk, OnOk};
 ghost use Rattle.jac_world.specs.World.{shown, IsAscending};
 
+use crate::memory::from_world;
 use jac_value::Memory;
-use jac_world::Label;
+use jac_world::{Label, add_among};
 use std::alloc::Global;
 use std::marker::Model;
 
@@ -52,7 +53,7 @@ impl Labels {
     pub fn add(&mut self, label: Label) -> Result<(), Memory>
         ensures { OnOk result ((k : ℕ) → shown self.new k ≡ (label == k || shown self.old k)) }
     {
-        add_label(&mut self.labels, label)
+        from_world(add_among(&mut self.labels, label))
     }
 
     pub fn copy(&self, alloc: Global) -> Result<Labels, Memory>
@@ -71,18 +72,4 @@ fn sorted(labels: Vec<Label>) -> Vec<Label>
     labels.sort_unstable();
     labels.dedup();
     labels
-}
-
-fn add_label(labels: &mut Vec<Label>, label: Label) -> Result<(), Memory>
-    requires { IsAscending labels.old.items }
-    ensures added { OnOk result ((k : ℕ) → shown labels.new.items k ≡ (label == k || shown labels.old.items k)) }
-    ensures ascending { IsAscending labels.new.items }
-{
-    match labels.as_slice().binary_search(&label) {
-        Ok(_) => Ok(()),
-        Err(place) => {
-            labels.insert(place, label)?;
-            Ok(())
-        }
-    }
 }

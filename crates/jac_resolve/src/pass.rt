@@ -1,16 +1,19 @@
 //! The greedy pass that settles which labels a viewer is shown.
-ghost use Rattle.std.specs.Prelude.{◌≡◌, ◌==◌, ◌≤◌, ℕ, Bool, true, is_some, IfOk, OnOk, IsTrue};
-ghost use Rattle.jac_world.specs.World.{shown, holds};
+ghost use Rattle.std.specs.Prelude.{◌≡◌, ◌==◌, ◌≤◌, ◌+◌, ◌*◌, ℕ, Bool, true, List, length, is_some, IfOk, OnOk, IsTrue};
+ghost use Rattle.jac_world.specs.World.{shown, holds, names, IsAscending};
+ghost use Rattle.jac_value.specs.Ids.{record_of_label};
 ghost use Rattle.jac_lang.specs.Mirror.{application_of};
 ghost use Rattle.jac_keep.specs.Worked.{state_of, IsTold, ReadsWork};
+ghost use Rattle.jac_pruned.specs.Local.{IsLocalCase};
 ghost use Rattle.jac_plain.specs.Policies.{IsSettled, is_allowed};
 ghost use Rattle.jac_resolve.specs.Recalled.{AreRight, Fitting, Grown, IsRight, IsUnderway, Stays, recall, touched};
+ghost use Rattle.jac_resolve.specs.Room.{AreOwn, Spends, room};
 ghost use Rattle.jac_resolve.specs.Rounds.{worlds_of, HasSoundTables, AreLive, MayAdd, Tries, Advances, Within, Fills};
 
 use crate::live::live_labels;
 use crate::memory::from_world;
 use crate::permission::allowed;
-use crate::recall::{Answers, Known, is_shown, signs};
+use crate::recall::{Answers, Known, signs};
 use jac_keep::{Keeper, Stop, Work};
 use jac_lang::App;
 use jac_value::Id;
@@ -30,6 +33,7 @@ pub fn resolve<K: Keeper, M: Ledger>(
     requires attached { IsTrue (K.seen work.old.keeper.now).store.attached }
     requires sound { IsTold K.seen work.old → HasSoundTables (state_of K.seen work.old) }
     ensures settled { IsTold K.seen work.new → IfOk result (IsSettled (application_of app.now) (worlds_of (state_of K.seen work.old)) viewer) }
+    ensures bounded { IsTold K.seen work.new → IsLocalCase (application_of app.now) (state_of K.seen work.old) viewer → (labels : List ℕ) → IsAscending labels → AreLive (application_of app.now) (worlds_of (state_of K.seen work.old)) labels → evaluations.new ≤ evaluations.old + 256 * length labels }
     ensures later { evaluations.old ≤ evaluations.new }
     ensures reads { ReadsWork K.seen work.old work.new result }
 {
@@ -50,6 +54,7 @@ fn settle<K: Keeper, M: Ledger>(
     requires attached { IsTrue (K.seen work.old.keeper.now).store.attached }
     requires live { IsTold K.seen work.old → AreLive (application_of app.now) (worlds_of (state_of K.seen work.old)) labels.now }
     ensures settled { IsTold K.seen work.new → IfOk result (IsSettled (application_of app.now) (worlds_of (state_of K.seen work.old)) viewer.now) }
+    ensures bounded { IsTold K.seen work.new → IsLocalCase (application_of app.now) (state_of K.seen work.old) viewer.now → evaluations.new ≤ evaluations.old + 256 * length labels.now }
     ensures later { evaluations.old ≤ evaluations.new }
     ensures reads { ReadsWork K.seen work.old work.new result }
 {
@@ -88,6 +93,8 @@ fn try_labels<K: Keeper, M: Ledger>(
     ensures within { IfOk result (λ b. Within labels.now a.old a.new) }
     ensures underway { IsTold K.seen work.new → IsUnderway (application_of app.now) (worlds_of (state_of K.seen work.old)) viewer.now a.old answers.old → OnOk result (IsUnderway (application_of app.now) (worlds_of (state_of K.seen work.old)) viewer.now a.new answers.new) }
     ensures fills { IsTold K.seen work.new → IsUnderway (application_of app.now) (worlds_of (state_of K.seen work.old)) viewer.now a.old answers.old → IfOk result (Fills (application_of app.now) (worlds_of (state_of K.seen work.old)) viewer.now labels.now a.new) }
+    ensures spends { IsTold K.seen work.new → IsLocalCase (application_of app.now) (state_of K.seen work.old) viewer.now → AreOwn labels.now answers.old → OnOk result (Spends labels.now evaluations.old evaluations.new answers.old answers.new) }
+    ensures most { IsTold K.seen work.new → IsLocalCase (application_of app.now) (state_of K.seen work.old) viewer.now → AreOwn labels.now answers.old → evaluations.new ≤ evaluations.old + room labels.now answers.old }
     ensures later { evaluations.old ≤ evaluations.new }
     ensures reads { ReadsWork K.seen work.old work.new result }
 {
@@ -114,21 +121,23 @@ fn try_label<K: Keeper, M: Ledger>(
     ensures grows { IfOk result (MayAdd label a.old a.new) }
     ensures tries { IsTold K.seen work.new → IsUnderway (application_of app.now) (worlds_of (state_of K.seen work.old)) viewer.now a.old answers.old → IfOk result (Tries (application_of app.now) (worlds_of (state_of K.seen work.old)) viewer.now label a.old a.new) }
     ensures underway { IsTold K.seen work.new → IsUnderway (application_of app.now) (worlds_of (state_of K.seen work.old)) viewer.now a.old answers.old → OnOk result (IsUnderway (application_of app.now) (worlds_of (state_of K.seen work.old)) viewer.now a.new answers.new) }
+    ensures spends { IsTold K.seen work.new → IsLocalCase (application_of app.now) (state_of K.seen work.old) viewer.now → (labels : List ℕ) → shown labels label ≡ true → AreOwn labels answers.old → OnOk result (Spends labels evaluations.old evaluations.new answers.old answers.new) }
+    ensures most { IsTold K.seen work.new → IsLocalCase (application_of app.now) (state_of K.seen work.old) viewer.now → (labels : List ℕ) → shown labels label ≡ true → AreOwn labels answers.old → evaluations.new ≤ evaluations.old + room labels answers.old }
     ensures later { evaluations.old ≤ evaluations.new }
     ensures reads { ReadsWork K.seen work.old work.new result }
 {
-    if is_shown(a, label) {
+    if a.shows(label) {
         return Ok(false);
     }
     if answers.refuses(a, label) {
         return Ok(false);
     }
-    let more = from_world(a.with(alloc, label))?;
-    let stay = may_stay(alloc, work, app, viewer, &more, label, answers, evaluations)?;
+    from_world(a.add(label))?;
+    let stay = may_stay(alloc, work, app, viewer, a, label, answers, evaluations)?;
     if !stay {
+        a.remove(label);
         return Ok(false);
     }
-    *a = more;
     Ok(true)
 }
 
@@ -150,6 +159,8 @@ fn may_stay<K: Keeper, M: Ledger>(
     ensures fits { IfOk result (Fitting answers.new (shown a.now) (touched answers.old label)) }
     ensures right { IsTold K.seen work.new → AreRight (application_of app.now) (worlds_of (state_of K.seen work.old)) viewer.now answers.old → OnOk result (AreRight (application_of app.now) (worlds_of (state_of K.seen work.old)) viewer.now answers.new) }
     ensures grown { OnOk result (Grown answers.old answers.new) }
+    ensures spends { IsTold K.seen work.new → IsLocalCase (application_of app.now) (state_of K.seen work.old) viewer.now → (labels : List ℕ) → shown labels label ≡ true → AreOwn labels answers.old → OnOk result (Spends labels evaluations.old evaluations.new answers.old answers.new) }
+    ensures most { IsTold K.seen work.new → IsLocalCase (application_of app.now) (state_of K.seen work.old) viewer.now → (labels : List ℕ) → shown labels label ≡ true → AreOwn labels answers.old → evaluations.new ≤ evaluations.old + room labels answers.old }
     ensures later { evaluations.old ≤ evaluations.new }
     ensures reads { ReadsWork K.seen work.old work.new result }
 {
@@ -188,6 +199,8 @@ fn watchers_stay<K: Keeper, M: Ledger>(
     ensures fits { IfOk result (Fitting answers.new (shown a.now) (shown watchers.now)) }
     ensures right { IsTold K.seen work.new → AreRight (application_of app.now) (worlds_of (state_of K.seen work.old)) viewer.now answers.old → OnOk result (AreRight (application_of app.now) (worlds_of (state_of K.seen work.old)) viewer.now answers.new) }
     ensures grown { OnOk result (Grown answers.old answers.new) }
+    ensures spends { IsTold K.seen work.new → IsLocalCase (application_of app.now) (state_of K.seen work.old) viewer.now → (labels : List ℕ) → ((j : ℕ) → shown watchers.now j ≡ true → shown labels j ≡ true) → AreOwn labels answers.old → OnOk result (Spends labels evaluations.old evaluations.new answers.old answers.new) }
+    ensures most { IsTold K.seen work.new → IsLocalCase (application_of app.now) (state_of K.seen work.old) viewer.now → (labels : List ℕ) → ((j : ℕ) → shown watchers.now j ≡ true → shown labels j ≡ true) → AreOwn labels answers.old → evaluations.new ≤ evaluations.old + room labels answers.old }
     ensures later { evaluations.old ≤ evaluations.new }
     ensures reads { ReadsWork K.seen work.old work.new result }
 {
@@ -216,10 +229,12 @@ fn watcher_stays<K: Keeper, M: Ledger>(
     ensures fits { IfOk result (Fitting answers.new (shown a.now) (λ j. label == j)) }
     ensures right { IsTold K.seen work.new → AreRight (application_of app.now) (worlds_of (state_of K.seen work.old)) viewer.now answers.old → OnOk result (AreRight (application_of app.now) (worlds_of (state_of K.seen work.old)) viewer.now answers.new) }
     ensures grown { OnOk result (Grown answers.old answers.new) }
+    ensures spends { IsTold K.seen work.new → IsLocalCase (application_of app.now) (state_of K.seen work.old) viewer.now → (labels : List ℕ) → shown labels label ≡ true → AreOwn labels answers.old → OnOk result (Spends labels evaluations.old evaluations.new answers.old answers.new) }
+    ensures most { IsTold K.seen work.new → IsLocalCase (application_of app.now) (state_of K.seen work.old) viewer.now → (labels : List ℕ) → shown labels label ≡ true → AreOwn labels answers.old → evaluations.new ≤ evaluations.old + room labels answers.old }
     ensures later { evaluations.old ≤ evaluations.new }
     ensures reads { ReadsWork K.seen work.old work.new result }
 {
-    if !is_shown(a, label) {
+    if !a.shows(label) {
         return Ok(true);
     }
     let stays = asked_stays(alloc, work, app, viewer, a, label, answers, evaluations)?;
@@ -243,6 +258,8 @@ fn asked_stays<K: Keeper, M: Ledger>(
     ensures fits { IfOk result (Fitting answers.new (shown a.now) (λ j. label == j)) }
     ensures right { IsTold K.seen work.new → AreRight (application_of app.now) (worlds_of (state_of K.seen work.old)) viewer.now answers.old → OnOk result (AreRight (application_of app.now) (worlds_of (state_of K.seen work.old)) viewer.now answers.new) }
     ensures grown { OnOk result (Grown answers.old answers.new) }
+    ensures spends { IsTold K.seen work.new → IsLocalCase (application_of app.now) (state_of K.seen work.old) viewer.now → (labels : List ℕ) → shown labels label ≡ true → AreOwn labels answers.old → OnOk result (Spends labels evaluations.old evaluations.new answers.old answers.new) }
+    ensures most { IsTold K.seen work.new → IsLocalCase (application_of app.now) (state_of K.seen work.old) viewer.now → (labels : List ℕ) → shown labels label ≡ true → AreOwn labels answers.old → evaluations.new ≤ evaluations.old + room labels answers.old }
     ensures later { evaluations.old ≤ evaluations.new }
     ensures reads { ReadsWork K.seen work.old work.new result }
 {
@@ -268,6 +285,8 @@ fn ask<K: Keeper, M: Ledger>(
     ensures fits { OnOk result (is_some (recall answers.new label (shown a.now)) ≡ true) }
     ensures right { IsTold K.seen work.new → AreRight (application_of app.now) (worlds_of (state_of K.seen work.old)) viewer.now answers.old → OnOk result (AreRight (application_of app.now) (worlds_of (state_of K.seen work.old)) viewer.now answers.new) }
     ensures grown { OnOk result (Grown answers.old answers.new) }
+    ensures spends { IsTold K.seen work.new → IsLocalCase (application_of app.now) (state_of K.seen work.old) viewer.now → (labels : List ℕ) → shown labels label ≡ true → AreOwn labels answers.old → OnOk result (Spends labels evaluations.old evaluations.new answers.old answers.new) }
+    ensures most { IsTold K.seen work.new → IsLocalCase (application_of app.now) (state_of K.seen work.old) viewer.now → (labels : List ℕ) → shown labels label ≡ true → AreOwn labels answers.old → evaluations.new ≤ evaluations.old + room labels answers.old }
     ensures later { evaluations.old ≤ evaluations.new }
     ensures reads { ReadsWork K.seen work.old work.new result }
 {
@@ -295,6 +314,8 @@ fn evaluate<K: Keeper, M: Ledger>(
     requires attached { IsTrue (K.seen work.old.keeper.now).store.attached }
     ensures right { IsTold K.seen work.new → IfOk result (IsRight (application_of app.now) (worlds_of (state_of K.seen work.old)) viewer.now label) }
     ensures fits { IfOk result (λ known. holds (shown a.now) known.when ≡ true) }
+    ensures own { IsTold K.seen work.new → IsLocalCase (application_of app.now) (state_of K.seen work.old) viewer.now → IfOk result (λ known. (k : ℕ) → names known.when k ≡ true → record_of_label k ≡ record_of_label label) }
+    ensures once { evaluations.new ≤ evaluations.old + 1 }
     ensures later { evaluations.old ≤ evaluations.new }
     ensures reads { ReadsWork K.seen work.old work.new result }
 {

@@ -1,12 +1,14 @@
 //! Whether a label may be shown under an assignment.
-ghost use Rattle.std.specs.Prelude.{◌≡◌, ◌≤◌, ◌+◌, ◌&&◌, [], ℕ, Bool, if◌then◌else◌, slice_get, option_map, IfOk, OnOk, IsTrue};
+ghost use Rattle.std.specs.Prelude.{◌≡◌, ◌≤◌, ◌+◌, ◌&&◌, [], ℕ, Bool, true, Some, if◌then◌else◌, slice_get, option_map, IfOk, OnOk, IsTrue};
 ghost use Rattle.jac_value.specs.Ids.{record_of_label};
 ghost use Rattle.jac_world.specs.World.{shown};
 ghost use Rattle.jac_lang.specs.Mirror.{application_of, entity_of, entities_of, field_group_of, groups_of, expression_of};
 ghost use Rattle.jac_keep.specs.Worked.{state_of, IsTold, ReadsWork};
 ghost use Rattle.jac_plain.specs.Expressions.{mean, is_true};
+ghost use Rattle.jac_pruned.specs.Local.{is_free_viewer, is_local, IsLocalCase};
 ghost use Rattle.jac_plain.specs.Policies.{labelled_group, has_group, has_record, policy_world, is_allowed};
 ghost use Rattle.jac_pruned.specs.Consulted.{Agrees, Grows};
+ghost use Rattle.jac_pruned.specs.Own.{IsOwn};
 ghost use Rattle.jac_resolve.specs.Rounds.{worlds_of};
 
 use jac_keep::{Keeper, Stop, Work};
@@ -34,6 +36,7 @@ pub fn allowed<K: Keeper, M: Ledger>(
     ensures ticks { IsTold K.seen work.new → OnOk result (evaluations.new ≡ evaluations.old + (if has_group (application_of app.now) label && has_record (worlds_of (state_of K.seen work.old) (shown a.now)) label then 1 else 0)) }
     ensures later { evaluations.old ≤ evaluations.new }
     ensures once { evaluations.new ≤ evaluations.old + 1 }
+    ensures own { IsTold K.seen work.new → IsLocalCase (application_of app.now) (state_of K.seen work.old) viewer → IfOk result (λ r. (k : ℕ) → shown r.1 k ≡ true → record_of_label k ≡ record_of_label label) }
     ensures reads { ReadsWork K.seen work.old work.new result }
 {
     let mut support = Support::empty(alloc);
@@ -66,6 +69,7 @@ fn policy_holds<K: Keeper>(
 ) -> Result<bool, Stop>
     requires attached { IsTrue (K.seen work.old.keeper.now).store.attached }
     ensures value { IsTold K.seen work.new → IfOk result (λ b. (w : ℕ → Bool) → Agrees support.new (shown a.now) w → b ≡ is_true (mean (policy_world (application_of app.now) (worlds_of (state_of K.seen work.old) w) viewer id) (expression_of policy.now) [])) }
+    ensures own { IsTold K.seen work.new → IsLocalCase (application_of app.now) (state_of K.seen work.old) viewer → is_local (application_of app.now).models (is_free_viewer (application_of app.now)) (expression_of policy.now) ≡ true → IsOwn (Some id) support.old → OnOk result (IsOwn (Some id) support.new) }
     ensures grows { Grows support.old support.new }
     ensures reads { ReadsWork K.seen work.old work.new result }
 {

@@ -6,6 +6,8 @@ ghost use Rattle.std.specs.BTreeMap.{get};
 ghost use Rattle.jac_lang.specs.Syntax.{Application};
 ghost use Rattle.jac_plain.specs.Requests.{Worlds};
 ghost use Rattle.jac_plain.specs.Policies.{with_label};
+ghost use Rattle.jac_value.specs.Ids.{record_of_label};
+ghost use Rattle.jac_resolve.specs.Room.{AreOwn};
 ghost use Rattle.jac_resolve.specs.Recalled.{AreRight, Grown, IsRight, first_fitting, recall, recall_in, watches, watched_in, signed, or_known};
 
 use crate::Labels;
@@ -70,6 +72,7 @@ impl Answers {
         ensures right { (app : Application) (worlds : Worlds) (viewer : Option ℕ) → AreRight app worlds viewer self.old → IsRight app worlds viewer label known → OnOk result (AreRight app worlds viewer self.new) }
         ensures fits { (w : ℕ → Bool) → holds w known.when ≡ true → OnOk result (is_some (recall self.new label w) ≡ true) }
         ensures grown { OnOk result (Grown self.old self.new) }
+        ensures own { (labels : List ℕ) → AreOwn labels self.old → shown labels label ≡ true → ((k : ℕ) → names known.when k ≡ true → record_of_label k ≡ record_of_label label) → OnOk result (AreOwn labels self.new) }
     {
         self.put(alloc, label, known)?;
         Ok(())
@@ -116,21 +119,7 @@ fn fits(pairs: &[(Label, bool)], a: &Assignment, label: Label) -> bool
 fn shows(a: &Assignment, added: Label, label: Label) -> bool
     ensures { result ≡ with_label added (shown a.now) label }
 {
-    added == label || is_shown(a, label)
-}
-
-/// Whether the assignment shows the label.
-pub fn is_shown(a: &Assignment, label: Label) -> bool
-    ensures { result ≡ shown a.now label }
-{
-    is_among(a.as_slice(), label)
-}
-
-fn is_among(labels: &[Label], label: Label) -> bool
-    requires { IsAscending labels.now }
-    ensures { result ≡ shown labels.now label }
-{
-    labels.binary_search(&label).is_ok()
+    added == label || a.shows(label)
 }
 
 fn give(
@@ -195,7 +184,7 @@ fn signed_pairs(
 {
     let mut pairs = Vec::new(alloc);
     'labels: for label in labels {
-        pairs.push((*label, is_shown(a, *label)))?;
+        pairs.push((*label, a.shows(*label)))?;
     }
     Ok(pairs)
 }

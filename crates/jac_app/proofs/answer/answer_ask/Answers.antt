@@ -10,13 +10,13 @@ use Rattle.jac_app.proofs.answer.answer_ask.Goals as goal
 pub make_lines-requires-clause-status : goal.make_lines-requires-clause-status
 make_lines-requires-clause-status g c =
     let app = application_of c.args.service.now in
-    let form : HasForm app c.args.ask.now c.in_ok-prepared.prepared.answer = rw c.checked.ensures.app at c.in_ok-prepared.ensures.prepared.form in
+    let form : HasForm app c.args.ask.now c.in_ok-prepared.prepared.answer = c.in_ok-prepared.ensures.prepared.form in
     (servable app c.args.ask.now c.in_ok-prepared.prepared.answer form).phrase
 
 pub make_lines-requires-clause-answered : goal.make_lines-requires-clause-answered
 make_lines-requires-clause-answered g c =
     let app = application_of c.args.service.now in
-    let form : HasForm app c.args.ask.now c.in_ok-prepared.prepared.answer = rw c.checked.ensures.app at c.in_ok-prepared.ensures.prepared.form in
+    let form : HasForm app c.args.ask.now c.in_ok-prepared.prepared.answer = c.in_ok-prepared.ensures.prepared.form in
     (servable app c.args.ask.now c.in_ok-prepared.prepared.answer form).answered
 
 pub returns-clause-made : goal.returns-clause-made
@@ -27,7 +27,7 @@ returns-clause-made g c =
     let s = (K.seen c.args.keeper.now).state in
     let later = (K.seen c.commit.new.keeper).state in
     let p = c.in_ok-prepared.prepared in
-    let prepared : IsPrepared (K.seen c.prepare.new.keeper).tells app s ask p = rw c.checked.ensures.app at c.in_ok-prepared.ensures.prepared in
+    let prepared : IsPrepared (K.seen c.prepare.new.keeper).tells app s ask p = c.in_ok-prepared.ensures.prepared in
     let left = c.in_ok-prepared.ensures.reads.left in
     let stored : IsTrue (K.seen c.commit.new.keeper).tells → later ≡ applied_if p.change s =
     λ told. rw (left.same_state (c.in_ok-commit.ensures.told told)) at (c.in_ok-commit.ensures.applied told) in

@@ -15,7 +15,7 @@ returns-clause-counted g c =
     let s = (K.seen c.args.keeper.now).state in
     let later = (K.seen c.commit.new.keeper).state in
     let p = c.in_ok-prepared.prepared in
-    let prepared : IsPrepared (K.seen c.prepare.new.keeper).tells app s ask p = rw c.checked.ensures.app at c.in_ok-prepared.ensures.prepared in
+    let prepared : IsPrepared (K.seen c.prepare.new.keeper).tells app s ask p = c.in_ok-prepared.ensures.prepared in
     let left = c.in_ok-prepared.ensures.reads.left in
     let stored : IsTrue (K.seen c.commit.new.keeper).tells → later ≡ applied_if p.change s =
     λ told. rw (left.same_state (c.in_ok-commit.ensures.told told)) at (c.in_ok-commit.ensures.applied told) in

@@ -1,6 +1,5 @@
-use Rattle.std.proofs.Common.{◌≤◌, length, subst}
+use Rattle.std.proofs.Common.{subst}
 use Rattle.jac_lang.specs.Mirror.{application_of}
-use Rattle.jac_lang.proofs.Places.{length-entities}
 use Rattle.jac_route.specs.Found.{found}
 use Rattle.jac_engine.specs.Viewed.{IsPreparedFor}
 use Rattle.jac_engine.proofs.PreparedLaws.{is_prepared}
@@ -12,8 +11,6 @@ returns-clause-prepared g c =
     let ask = c.args.ask.now in
     let tells = (K.seen c.prepare_found.new.keeper).tells in
     let state = (K.seen c.args.keeper.now).state in
-    let same = c.app-app.ensures.app in
-    is_prepared tells (application_of c.args.checked.now) state ask c.in_ok-prepared.prepared c.requires.served
-    (subst (λ app. length (application_of app).models ≤ 64) same (rw (length-entities c.app-app.result.now.models) c.as_slice-models.ensures.few))
+    is_prepared tells (application_of c.args.service.now) state ask c.in_ok-prepared.prepared c.app-app.ensures.served c.app-app.ensures.few
     (λ told. c.requires.start (c.in_ok-prepared.ensures.reads.left.told told))
-    (subst (λ app. IsPreparedFor (found (application_of app) ask.method ask.path) tells (application_of app) state ask c.in_ok-prepared.prepared) same c.in_ok-prepared.ensures.prepared)
+    (subst (λ app. IsPreparedFor (found (application_of app) ask.method ask.path) tells (application_of app) state ask c.in_ok-prepared.prepared) c.app-app.ensures.app c.in_ok-prepared.ensures.prepared)

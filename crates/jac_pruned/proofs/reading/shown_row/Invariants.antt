@@ -1,8 +1,9 @@
-use Rattle.std.proofs.Common.{◌≡◌, ℕ, Bool, length}
+use Rattle.std.proofs.Common.{◌≡◌, ℕ, Bool, true, Option, length}
 use Rattle.jac_world.specs.World.{shown}
 use Rattle.jac_rows.specs.Project.{rows_at}
 use Rattle.jac_plain.specs.World.{record_with}
 use Rattle.jac_pruned.specs.Consulted.{Agrees, Grows}
+use Rattle.jac_pruned.specs.Own.{IsOwn, are_own_rows}
 use Rattle.jac_pruned.proofs.Joining.{answer_of}
 use Rattle.jac_pruned.proofs.reading.shown_row.Given as goal
 
@@ -11,6 +12,8 @@ abbrev pub invariant-rows : goal.invariant-rows
 invariant-rows l =
     record {
       grown : Grows l.fn.support l.support;
+      own : (this : Option ℕ) → are_own_rows this l.id l.rows ≡ true → IsOwn this l.fn.support → IsOwn this l.support;
+      rows_left : (this : Option ℕ) → are_own_rows this l.id l.rows ≡ true → are_own_rows this l.id l.left ≡ true;
       left : (w : ℕ → Bool) → Agrees l.support (shown l.a) w → answer_of l.field (record_with l.id (rows_at w l.left)) ≡ answer_of l.field (record_with l.id (rows_at w l.rows));
     }
 

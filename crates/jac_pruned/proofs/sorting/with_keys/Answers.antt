@@ -1,6 +1,6 @@
 use Rattle.std.proofs.Common.{rules, ◌+◌, ◌∙◌, ap, [], drop}
 use Rattle.std.proofs.lemmas.List.{drop_all}
-use Rattle.jac_lang.specs.Mirror.{binders_of}
+use Rattle.jac_lang.specs.Mirror.{binders_of, application_of}
 use Rattle.jac_keep.specs.Worked.{state_of}
 use Rattle.jac_plain.specs.Expressions.{bound, look, key_of}
 use Rattle.jac_plain.specs.World.{got}
@@ -8,6 +8,8 @@ use Rattle.jac_pruned.specs.Seen.{world_at}
 use Rattle.jac_pruned.proofs.Growing.{agrees_less, grows_then}
 use Rattle.jac_pruned.proofs.Keyed.{keyed-more, keyed-all}
 use Rattle.jac_pruned.proofs.Working.{next}
+use Rattle.jac_rows.specs.declared.state.State.{State}
+use Rattle.jac_pruned.specs.Own.{is_own_table, table_named}
 use Rattle.jac_pruned.proofs.sorting.with_keys.Goals as goal
 
 pub tuples-preserved : goal.tuples-preserved
@@ -19,6 +21,13 @@ tuples-preserved g c =
     let ids = c.ids-item.result in
     record {
       grown = grows_then _ _ _ before.grown c.in_ok-key.ensures.grows;
+      own = λ told this all own.
+          let app = application_of c.args.app.now in
+          let before_told = c.in_ok-key.ensures.reads.same.told told in
+          c.in_ok-key.ensures.own told this
+          (ap (λ (x : State). is_own_table this (table_named app x c.in_ok-model.model)) (before.read.same.same_state before_told)
+          ∙ ap (λ m. is_own_table this (table_named app (state_of k.seen c.args.work.now) m)) c.in_ok-model.ensures ∙ all)
+          (before.own before_told this all own);
       read = record {
         told = λ told ctx w agree.
             let bs = binders_of c.args.binders.now in

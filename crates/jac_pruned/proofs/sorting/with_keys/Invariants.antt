@@ -1,11 +1,12 @@
-use Rattle.std.proofs.Common.{◌≡◌, ◌++◌, List, ℕ, Bool, drop}
+use Rattle.std.proofs.Common.{◌≡◌, ◌++◌, List, ℕ, Bool, true, Option, drop}
 use Rattle.jac_value.specs.declared.value.Value.{Value}
-use Rattle.jac_lang.specs.Mirror.{binders_of}
+use Rattle.jac_lang.specs.Mirror.{application_of, binders_of}
 use Rattle.jac_world.specs.World.{shown}
-use Rattle.jac_keep.specs.Worked.{state_of}
-use Rattle.jac_plain.specs.Expressions.{key_of}
+use Rattle.jac_keep.specs.Worked.{state_of, IsTold}
+use Rattle.jac_plain.specs.Expressions.{key_of, model_of_binder}
 use Rattle.jac_plain.specs.declared.context.Ctx.{Ctx}
 use Rattle.jac_pruned.specs.Consulted.{Agrees, Grows}
+use Rattle.jac_pruned.specs.Own.{IsOwn, is_own_table, table_named}
 use Rattle.jac_pruned.specs.Seen.{world_at}
 use Rattle.jac_pruned.specs.Tupled.{keyed_by}
 use Rattle.jac_pruned.proofs.Working.{LoopOver}
@@ -17,6 +18,7 @@ invariant-tuples g l =
     let k = g.K.Keeper in
     record {
       grown : Grows l.fn.support l.support;
+      own : IsTold k.seen l.work → (this : Option ℕ) → is_own_table this (table_named (application_of l.app) (state_of k.seen l.fn.work) (model_of_binder (binders_of l.binders) l.name)) ≡ true → IsOwn this l.fn.support → IsOwn this l.support;
       read : LoopOver k.seen l.fn.work l.work
           ((ctx : Ctx) (w : ℕ → Bool) → Agrees l.support (shown l.a) w →
           let key : List ℕ → Value = key_of (world_at l.app ctx (state_of k.seen l.fn.work) w) (binders_of l.binders) l.name l.field in

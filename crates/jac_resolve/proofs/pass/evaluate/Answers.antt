@@ -1,8 +1,9 @@
-use Rattle.std.proofs.Common.{◌∙◌, ap}
-use Rattle.jac_world.specs.World.{shown, holds}
+use Rattle.std.proofs.Common.{◌∙◌, ap, sym}
+use Rattle.jac_world.specs.World.{shown, holds, names}
 use Rattle.jac_lang.specs.Mirror.{application_of}
 use Rattle.jac_keep.specs.Worked.{state_of}
 use Rattle.jac_resolve.specs.Rounds.{worlds_of}
+use Rattle.jac_resolve.proofs.Room.{signed_names}
 use Rattle.jac_resolve.proofs.Underway.{signed_holds, signed_right}
 use Rattle.jac_resolve.proofs.pass.evaluate.Goals as goal
 
@@ -13,3 +14,10 @@ returns-clause-right g c told =
 
 pub returns-clause-fits : goal.returns-clause-fits
 returns-clause-fits g c = ap (holds (shown c.args.a.now)) c.in_ok-when.ensures ∙ signed_holds (shown c.args.a.now) c.as_slice.result.now
+
+pub returns-clause-own : goal.returns-clause-own
+returns-clause-own g c told local k named =
+    let v = shown c.args.a.now in
+    let ks = c.as_slice.result.now in
+    c.in_ok-holds.ensures.own told local k
+    (sym (ap (λ l. shown l k) c.as_slice.ensures.labels) ∙ sym (signed_names v ks k) ∙ sym (ap (λ l. names l k) c.in_ok-when.ensures) ∙ named)

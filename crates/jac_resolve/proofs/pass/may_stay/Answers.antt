@@ -1,10 +1,12 @@
-use Rattle.std.proofs.Common.{◌∙◌, ◌==◌, Bool, ap, sym, subst}
+use Rattle.std.proofs.Common.{◌≡◌, ◌∙◌, ◌==◌, ℕ, Bool, ap, sym, subst}
 use Rattle.jac_world.specs.World.{shown}
 use Rattle.jac_lang.specs.Mirror.{application_of}
 use Rattle.jac_rows.specs.declared.state.State.{State}
 use Rattle.jac_keep.specs.Worked.{state_of}
-use Rattle.jac_resolve.specs.Recalled.{AreRight, Fitting, Stays}
+use Rattle.jac_resolve.specs.Recalled.{AreRight, Fitting, Stays, watches}
+use Rattle.jac_pruned.specs.Local.{IsLocalCase}
 use Rattle.jac_resolve.specs.Rounds.{worlds_of}
+use Rattle.jac_resolve.proofs.Room.{most_then, spends_then}
 use Rattle.jac_resolve.proofs.Underway.{fits_both, stays_both}
 use Rattle.jac_resolve.proofs.pass.may_stay.Goals as goal
 
@@ -35,3 +37,29 @@ returns-clause-fits g c =
     c.in_ok-own.ensures.grown c.in_ok-stay.ensures.grown
     (subst (λ (b : Bool). Fitting mid w (λ j. c.args.label == j) b) c.if-not-own.false c.in_ok-own.ensures.fits)
     c.in_ok-stay.ensures.fits
+
+pub returns-clause-spends : goal.returns-clause-spends
+returns-clause-spends g c told local labels among own =
+    let app = application_of c.args.app.now in
+    let viewer = c.args.viewer.now in
+    let old = c.args.answers.now in
+    let mid = c.asked_stays.new.answers in
+    let before = c.in_ok-stay.ensures.reads.same.told told in
+    let moved = c.in_ok-own.ensures.reads.same.same_state before in
+    let first = c.in_ok-own.ensures.spends before local labels among own in
+    spends_then labels c.args.evaluations.now c.asked_stays.new.evaluations c.watchers_stay.new.evaluations old mid c.watchers_stay.new.answers first
+    (c.in_ok-stay.ensures.spends told (subst (λ (s : State). IsLocalCase app s viewer) (sym moved) local) labels
+    (λ j s. first.own.among c.args.label j (sym (ap (λ l. shown l j) c.as_slice.ensures.labels ∙ c.in_ok-watchers.ensures j) ∙ s)) first.own)
+
+pub returns-clause-most : goal.returns-clause-most
+returns-clause-most g c told local labels among own =
+    let app = application_of c.args.app.now in
+    let viewer = c.args.viewer.now in
+    let old = c.args.answers.now in
+    let mid = c.asked_stays.new.answers in
+    let before = c.in_ok-stay.ensures.reads.same.told told in
+    let moved = c.in_ok-own.ensures.reads.same.same_state before in
+    let first = c.in_ok-own.ensures.spends before local labels among own in
+    most_then labels c.args.evaluations.now c.asked_stays.new.evaluations c.watchers_stay.new.evaluations old mid first
+    (c.in_ok-stay.ensures.most told (subst (λ (s : State). IsLocalCase app s viewer) (sym moved) local) labels
+    (λ j s. first.own.among c.args.label j (sym (ap (λ l. shown l j) c.as_slice.ensures.labels ∙ c.in_ok-watchers.ensures j) ∙ s)) first.own)

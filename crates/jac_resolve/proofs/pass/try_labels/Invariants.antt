@@ -2,8 +2,11 @@ use Rattle.std.proofs.Common.{drop}
 use Rattle.jac_lang.specs.Mirror.{application_of}
 use Rattle.jac_keep.specs.Worked.{state_of}
 use Rattle.jac_resolve.specs.Recalled.{IsUnderway}
+use Rattle.jac_pruned.specs.Local.{IsLocalCase}
+use Rattle.jac_resolve.specs.Room.{AreOwn, Spends}
 use Rattle.jac_resolve.specs.Rounds.{worlds_of}
 use Rattle.jac_pruned.proofs.Working.{LoopOver}
+use Rattle.jac_resolve.proofs.Room.{AsBounded}
 use Rattle.jac_resolve.proofs.Greedy.{Round, InRound}
 use Rattle.jac_resolve.proofs.pass.try_labels.Given as goal
 
@@ -14,4 +17,5 @@ invariant-labels g l =
     let worlds = worlds_of (state_of k.seen l.fn.work) in
     InRound l.labels l.fn.a l.a l.added l.fn.evaluations l.evaluations
     (LoopOver k.seen l.fn.work l.work
-    (IsUnderway app worlds l.viewer l.fn.a l.fn.answers → Round app worlds l.viewer l.labels (drop l.label-index l.labels) l.a l.answers l.added))
+    (AsBounded (IsUnderway app worlds l.viewer l.fn.a l.fn.answers → Round app worlds l.viewer l.labels (drop l.label-index l.labels) l.a l.answers l.added)
+    (IsLocalCase app (state_of k.seen l.fn.work) l.viewer → AreOwn l.labels l.fn.answers → Spends l.labels l.fn.evaluations l.evaluations l.fn.answers l.answers)))

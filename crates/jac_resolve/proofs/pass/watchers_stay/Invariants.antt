@@ -1,13 +1,16 @@
-use Rattle.std.proofs.Common.{◌≡◌, true, drop}
+use Rattle.std.proofs.Common.{◌≡◌, ◌≤◌, ℕ, List, true, is_some, drop}
 use Rattle.jac_world.specs.World.{shown}
 use Rattle.jac_lang.specs.Mirror.{application_of}
 use Rattle.jac_keep.specs.Worked.{state_of}
 use Rattle.jac_plain.specs.Policies.{is_allowed}
-use Rattle.jac_resolve.specs.Recalled.{AreRight}
+use Rattle.jac_resolve.specs.Recalled.{AreRight, Grown, recall}
+use Rattle.jac_pruned.specs.Local.{IsLocalCase}
+use Rattle.jac_resolve.specs.Room.{AreOwn, Spends}
 use Rattle.jac_resolve.specs.Rounds.{worlds_of}
 use Rattle.jac_pruned.proofs.Working.{LoopOver}
 use Rattle.jac_resolve.proofs.Greedy.{SoFar}
 use Rattle.jac_resolve.proofs.Underway.{AllBut, InWatching}
+use Rattle.jac_resolve.proofs.Room.{AsBounded}
 use Rattle.jac_resolve.proofs.pass.watchers_stay.Given as goal
 
 abbrev pub invariant-watchers : goal.invariant-watchers
@@ -19,5 +22,7 @@ invariant-watchers g l =
     let left = drop l.watcher-index l.watchers in
     InWatching l.fn.evaluations l.evaluations l.fn.answers l.answers w l.watchers left
     (LoopOver k.seen l.fn.work l.work
-    (AreRight app worlds l.viewer l.fn.answers →
-    SoFar (AreRight app worlds l.viewer l.answers) (AllBut (λ j. w j ≡ true → is_allowed app (worlds w) l.viewer j ≡ true) l.watchers left)))
+    (AsBounded (AreRight app worlds l.viewer l.fn.answers →
+    SoFar (AreRight app worlds l.viewer l.answers) (AllBut (λ j. w j ≡ true → is_allowed app (worlds w) l.viewer j ≡ true) l.watchers left))
+    (IsLocalCase app (state_of k.seen l.fn.work) l.viewer → (labels : List ℕ) → ((j : ℕ) → shown l.watchers j ≡ true → shown labels j ≡ true) → AreOwn labels l.fn.answers →
+    Spends labels l.fn.evaluations l.evaluations l.fn.answers l.answers)))

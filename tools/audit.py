@@ -1,0 +1,83 @@
+#!/usr/bin/env python3
+"""Tells the lines of an audit in words: who asked, what was answered, and which fields of which records were shown.
+Words: the application's file, the audit's file, and, where there is one, the file of the events that were answered,
+whose `ask` lines tell which view was asked.
+
+A line is `K STATUS VIEWER SHOWN`: the number of the reply, its status, the record of the viewer or `-`, and the labels
+under which the page was made. A label is that of a group of a record, whose fields are shown for real; what has no
+label there was its public value."""
+import os
+import re
+import signal
+import sys
+
+sys.dont_write_bytecode = True
+sys.path.insert(0, os.path.dirname(os.path.abspath(__file__)))
+import finger                                                               # noqa: E402
+
+
+class Names:
+    """What the numbers of an application mean."""
+
+    def __init__(self, data):
+        checker = finger.Checker(finger.read_tree(data, list(range(len(data) + 1))))
+        self.models = [model.children[1].value for model in checker.models]
+        self.groups = [[[guard.children[0].value for guard in group.children[1].children[1:]]
+                        for group in model.children[3:]] for model in checker.models]
+
+    def record(self, number):
+        model, post = number % 64, number // 4096
+        if model >= len(self.models) or post == 0:
+            return 'record %d' % number
+        return '%s %d (made by POST %d)' % (self.models[model], number, post)
+
+    def label(self, number):
+        record, group = number // 8, number % 8
+        model = record % 64
+        if model >= len(self.models) or group >= len(self.groups[model]):
+            return 'label %d' % number, ''
+        return self.record(record), ', '.join(self.groups[model][group])
+
+
+def asked(path):
+    """What each reply of a run of `ask` lines was asked, by its number; none where connections stand among them."""
+    with open(path, encoding='utf-8', errors='replace') as file:
+        lines = [line for line in file.read().split('\n') if line]
+    asks = [re.fullmatch(r'ask \S+ ([A-Z]+) "([^"]*)" ".*"', line) for line in lines]
+    return {number: '%s %s' % found.groups() for number, found in enumerate(asks, 1)} if all(asks) else {}
+
+
+def told(names, line, asks):
+    found = re.fullmatch(r'(\d+) (\d+) (-|\d+) (-|nopage|\d+(?:,\d+)*)', line)
+    if not found:
+        return 'not a line of an audit: ' + line
+    number, status, viewer, labels = found.groups()
+    who = 'nobody' if viewer == '-' else names.record(int(viewer))
+    head = 'reply %s: %s%s for %s' % (number, status, ' to ' + asks[int(number)] if int(number) in asks else '', who)
+    if labels == 'nopage':
+        return head + ': no page'
+    if labels == '-':
+        return head + ': a page without anything guarded'
+    shown = {}
+    for label in labels.split(','):
+        record, fields = names.label(int(label))
+        shown.setdefault(record, []).append(fields)
+    return '\n'.join([head + ': shown for real'] + ['    %s%s' % (record, ': ' + ', '.join(fields) if any(fields) else '')
+                                                    for record, fields in shown.items()])
+
+
+def main(words):
+    if len(words) not in (2, 3):
+        sys.exit(__doc__)
+    with open(words[0], 'rb') as file:
+        names = Names(file.read())
+    asks = asked(words[2]) if len(words) == 3 else {}
+    with open(words[1], encoding='utf-8', errors='replace') as file:
+        for line in file.read().split('\n'):
+            if line:
+                print(told(names, line, asks))
+
+
+if __name__ == '__main__':
+    signal.signal(signal.SIGPIPE, signal.SIG_DFL)
+    main(sys.argv[1:])

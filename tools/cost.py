@@ -1,0 +1,187 @@
+#!/usr/bin/env python3
+"""Measures what the gate takes, crate by crate: the processor minutes of each crate's proof, of the proof of its tests,
+and of its must-fail edits, each from nothing, with as many crates side by side as processors and memory allow. It works
+on a clone of what was committed, among the temporary files, and takes nothing that earlier runs kept. Words: the crates
+that are wanted, or none for all; `--write` writes the table of docs/TESTING.md, for a run over all crates alone. What
+was measured of a commit is written down beside its clone, so that a run that was cut short goes on with what it lacks;
+`--anew` begins again.
+
+A crate's edits cost a check of the crate, which they begin with, one over it for each of them, and one at the end, as
+in `rt ci`. The minutes are those of the processors, by the system's count of a process and of all that it waited for,
+so that other work on the machine lengthens them a little, and not by its own time."""
+import os
+import shutil
+import subprocess
+import sys
+import tempfile
+import time
+
+sys.dont_write_bytecode = True
+TOP = os.path.dirname(os.path.dirname(os.path.abspath(__file__)))
+sys.path.insert(0, os.path.join(TOP, 'checks'))
+import kit                                                                  # noqa: E402
+from costs import HEAD, PAGE, costs                                         # noqa: E402
+from crates import below, crates                                            # noqa: E402
+from pages import differences                                               # noqa: E402
+from schedule import Schedule, Task, free_memory, processors                # noqa: E402
+
+PROOF, TESTS, EDITS = STEPS = 'proof', 'tests', 'edits'
+
+
+def step(what, name):
+    """Runs one step in the clone, as `rt ci` does it. This is a process of its own, whose time is taken."""
+    rt = kit.load()
+    # its first call sets handlers of signals, which the main thread alone may
+    rt.rtlib.guarded()
+    rt.Crate.allowed, rt.Crate.cuts_libraries = rt.handles_of(os.getcwd()), True
+    if what == EDITS:
+        # the libraries below are there, as the proofs of this run made them
+        rt.rtlib.Crate.build_rlib = lambda *given, **named: 0
+        return rt.edits_alone(['--anew', name])
+    crate = next(crate for crate in rt.crates_of(os.getcwd()) if crate.name == name)
+    if what == TESTS and not crate.has_tests():
+        return 0
+    os.makedirs(os.path.join(crate.folder, 'out'), exist_ok=True)
+    crate.out = sys.stdout
+    return crate.ci(['--jobs', os.environ['RT_JOBS']], what == TESTS)
+
+
+class Step:
+    """A step under way, and what it took once it ended."""
+
+    def __init__(self, clone, what, name, jobs):
+        self.what, self.name, self.status = what, name, None
+        self.log = tempfile.TemporaryFile()
+        words = [sys.executable, os.path.abspath(__file__), '--step', what, name]
+        self.process = subprocess.Popen(words, cwd=clone, env={**os.environ, 'RT_JOBS': str(jobs)},
+                                        stdin=subprocess.DEVNULL, stdout=self.log, stderr=subprocess.STDOUT)
+
+    def poll(self):
+        if self.status is None:
+            number, status, used = os.wait4(self.process.pid, os.WNOHANG)
+            if number:
+                self.status = self.process.returncode = os.waitstatus_to_exitcode(status)
+                self.minutes = (used.ru_utime + used.ru_stime) / 60
+                self.memory = used.ru_maxrss // 1024
+        return self.status
+
+    def print_log(self):
+        self.log.seek(0)
+        sys.stdout.flush()
+        sys.stdout.buffer.write(self.log.read())
+        sys.stdout.flush()
+
+
+class Notes:
+    """What was measured of a commit, a line each, beside the clone that it was measured in."""
+
+    def __init__(self, commit, anew):
+        self.folder = os.path.join(tempfile.gettempdir(), 'jac-cost-' + commit)
+        if anew:
+            shutil.rmtree(self.folder, ignore_errors=True)
+        self.clone, self.file = os.path.join(self.folder, 'clone'), os.path.join(self.folder, 'notes')
+        if not os.path.isdir(self.clone):
+            os.makedirs(self.folder, exist_ok=True)
+            subprocess.run(['git', 'clone', '-q', TOP, self.clone], check=True)
+            subprocess.run(['git', 'checkout', '-q', commit], cwd=self.clone, check=True)
+        self.found = {}
+        if os.path.isfile(self.file):
+            with open(self.file, encoding='utf-8') as lines:
+                for line in lines:
+                    what, name, minutes, memory = line.split()
+                    self.found[what, name] = float(minutes), int(memory)
+
+    def add(self, step):
+        self.found[step.what, step.name] = step.minutes, step.memory
+        with open(self.file, 'a', encoding='utf-8') as file:
+            file.write('%s %s %.3f %d\n' % (step.what, step.name, step.minutes, step.memory))
+
+
+def has(what, name):
+    """Whether the crate has tests, or edits."""
+    folder = os.path.join(TOP, 'crates', name)
+    if what == EDITS:
+        return os.path.isdir(os.path.join(folder, 'must-fail'))
+    for at, _, names in os.walk(os.path.join(folder, 'src')):
+        for file in names:
+            with open(os.path.join(at, file), encoding='utf-8') as text:
+                if '#[test]' in text.read():
+                    return True
+    return False
+
+
+def tasks_for(notes, wanted):
+    """The proofs of the crates that are wanted and of those below them, and the tests and edits of those wanted."""
+    every = crates()
+    proofs = [name for name in every if any(name in below(other) for other in wanted)]
+    thought = costs(every)
+    for name in proofs:
+        steps = [PROOF] + [what for what in (TESTS, EDITS) if name in wanted and has(what, name)]
+        for what in steps:
+            if (what, name) not in notes.found:
+                after = [(PROOF, other) for other in below(name) if other != name] + [(PROOF, name)] * (what != PROOF)
+                after = [it for it in after if it not in notes.found]
+                yield Task((what, name), after, thought[name].proof * (2 if what == EDITS else 1), thought[name].memory,
+                           lambda jobs, what=what, name=name: Step(notes.clone, what, name, jobs))
+
+
+def measure(notes, wanted):
+    """Runs the steps, and returns whether every crate was proved. Tests and edits that fail are told, and count."""
+    schedule, failed = Schedule(tasks_for(notes, wanted)), []
+    while not schedule.is_over() and not (failed and not schedule.running):
+        if not failed:
+            schedule.begin()
+        time.sleep(0.2)
+        for run in schedule.ended():
+            if run.run.status:
+                run.run.print_log()
+                print('FAILED %s of %s' % (run.run.what, run.run.name), flush=True)
+            if run.run.status and run.run.what == PROOF:
+                failed.append(run.run.name)
+            else:
+                notes.add(run.run)
+                print('%s of %s: %.1f processor minutes, %d MB, %d jobs, %.1f min by the clock (%d of %d)' % (
+                    run.run.what, run.run.name, run.run.minutes, run.run.memory, run.jobs, run.minutes(),
+                    len(schedule.done), len(schedule.tasks)), flush=True)
+    return not failed
+
+
+def table(notes, names, when):
+    """The rows that the page has, a line for each crate, and their sum."""
+    def cell(what, name):
+        found = notes.found.get((what, name))
+        return '%.1f' % found[0] if found else ''
+
+    def total(what):
+        return sum(minutes for (each, name), (minutes, _) in notes.found.items() if each == what and name in names)
+
+    rows = ['| `%s` | %s | %d |' % (name, ' | '.join(cell(what, name) for what in STEPS), notes.found[PROOF, name][1])
+            for name in names]
+    sums = [total(what) for what in STEPS]
+    rows.append('| **all** | %s | |' % ' | '.join('%.0f' % it for it in sums))
+    said = 'Measured on %s, from nothing, in one run of `tools/cost.py` on %d processors: %.0f processor minutes.' % (
+        when, processors(), sum(sums))
+    return '\n'.join([said, '', *HEAD, *rows])
+
+
+def main(words):
+    wanted = [word for word in words if not word.startswith('--')] or list(crates())
+    commit = subprocess.run(['git', 'rev-parse', '--short=12', 'HEAD'], cwd=TOP, stdout=subprocess.PIPE, text=True,
+                            check=True).stdout.strip()
+    notes = Notes(commit, '--anew' in words)
+    print('measuring %s in %s, with %d processors and %d MB' % (commit, notes.clone, processors(), free_memory()),
+          flush=True)
+    if not measure(notes, wanted):
+        return 1
+    rows = table(notes, [name for name in crates() if (PROOF, name) in notes.found], time.strftime('%-d %B %Y'))
+    print(rows)
+    if '--write' in words and len(wanted) == len(crates()):
+        differences(PAGE, {'cost': rows}, 'tools/cost.py', True)
+        shutil.rmtree(notes.folder)
+    return 0
+
+
+if __name__ == '__main__':
+    if sys.argv[1:2] == ['--step']:
+        sys.exit(step(*sys.argv[2:4]))
+    sys.exit(main(sys.argv[1:]))

@@ -1,0 +1,124 @@
+"""Which of several tasks run side by side: as many as there are processors, and as memory bears, those first behind
+which the longest chain of others waits, and a task with more than one job where processors would idle."""
+import os
+import time
+
+MOST_JOBS = 4       # of one task
+MORE_MEMORY = 0.6   # what each further job takes of the memory of one
+MORE_SPEED = 0.6    # what each further job is thought to add to the speed of one
+
+
+def processors():
+    return len(os.sched_getaffinity(0))
+
+
+def free_memory():
+    """The MB that can be had without swapping, less what is left to others."""
+    with open('/proc/meminfo', encoding='ascii') as file:
+        found = dict(line.split(':') for line in file)
+    return 0.85 * int(found['MemAvailable'].split()[0]) / 1024
+
+
+class Task:
+    """What is to run, the names of the tasks that it waits for, and how many minutes of one processor and how many MB
+    it is thought to take. `begin` starts it with so many jobs, and returns what has `poll()`, None as long as it runs."""
+
+    def __init__(self, name, after, minutes, memory, begin):
+        self.name, self.after, self.minutes, self.memory, self.begin = name, after, minutes, memory, begin
+
+
+class Running:
+    def __init__(self, task, jobs):
+        self.task, self.jobs, self.began = task, jobs, time.monotonic()
+        self.memory = task.memory * (1 + MORE_MEMORY * (jobs - 1))
+        self.run = task.begin(jobs)
+
+    def minutes(self):
+        return (time.monotonic() - self.began) / 60
+
+    def left(self, pace):
+        return max(0, self.task.minutes * pace / speed(self.jobs) - self.minutes())
+
+
+def speed(jobs):
+    return 1 + MORE_SPEED * (jobs - 1)
+
+
+def chains(tasks):
+    """For each task the minutes of the longest chain that begins with it, each waiting for the one before."""
+    found = {}
+
+    def chain(name):
+        if name not in found:
+            behind = [chain(other.name) for other in tasks.values() if name in other.after]
+            found[name] = tasks[name].minutes + max(behind, default=0)
+        return found[name]
+
+    for name in tasks:
+        chain(name)
+    return found
+
+
+class Schedule:
+    """The tasks, by name, those that are done and those under way."""
+
+    def __init__(self, tasks, lanes=None, memory=None):
+        self.tasks = {task.name: task for task in tasks}
+        self.lanes, self.memory = lanes or processors(), memory or free_memory()
+        self.chains = chains(self.tasks)
+        self.done, self.running = set(), {}
+        self.began = time.monotonic()
+        self.taken = self.thought = 0
+
+    def is_over(self):
+        return len(self.done) == len(self.tasks)
+
+    def ready(self):
+        """The tasks that may begin, those with the longest chain first."""
+        found = [task for task in self.tasks.values() if task.name not in self.done and task.name not in self.running
+                 and self.done.issuperset(task.after)]
+        return sorted(found, key=lambda task: -self.chains[task.name])
+
+    def begin(self):
+        """Begins the tasks that may begin and for which there is room, and returns them."""
+        begun, ready = [], self.ready()
+        for at, task in enumerate(ready):
+            room = self.memory - sum(run.memory for run in self.running.values())
+            # what waits for memory keeps those behind it waiting, which would take it again and again
+            if len(self.running) >= self.lanes or self.running and task.memory > room:
+                break
+            idle = self.lanes - sum(run.jobs for run in self.running.values())
+            fitting = 1 + int(max(0, room / task.memory - 1) / MORE_MEMORY)
+            jobs = max(1, min(MOST_JOBS, idle // (len(ready) - at), fitting))
+            self.running[task.name] = Running(task, jobs)
+            begun.append(self.running[task.name])
+        return begun
+
+    def ended(self):
+        """Takes those away that have ended, and returns them."""
+        found = [run for run in self.running.values() if run.run.poll() is not None]
+        for run in found:
+            del self.running[run.task.name]
+            self.done.add(run.task.name)
+            if run.minutes() > 0.1:
+                self.taken += run.minutes() * speed(run.jobs)
+                self.thought += run.task.minutes
+        return found
+
+    def minutes(self):
+        return (time.monotonic() - self.began) / 60
+
+    def pace(self):
+        """How much longer than thought the tasks took so far."""
+        return self.taken / self.thought if self.thought > 1 else 1
+
+    def left(self):
+        """The minutes that are thought to be left, by the longest chain and by all that is to be done."""
+        pace = self.pace()
+        running = {name: run.left(pace) for name, run in self.running.items()}
+        waiting = {name: task.minutes * pace for name, task in self.tasks.items()
+                   if name not in self.done and name not in self.running}
+        behind = [running[name] + (self.chains[name] - self.tasks[name].minutes) * pace for name in running]
+        behind += [self.chains[name] * pace for name in waiting]
+        work = sum(waiting.values()) + sum(running[name] * speed(self.running[name].jobs) for name in running)
+        return max([work / self.lanes, *behind])
