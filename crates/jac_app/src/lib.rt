@@ -18,7 +18,7 @@ mod server;
 mod status;
 mod summary;
 
-pub use attach::attach;
+pub use attach::attach as attach_store;
 pub use ending::Ending;
 pub use link::serve_link;
 pub use program::run;

@@ -2,7 +2,7 @@
 //! each world.
 ghost use Rattle.std.specs.Prelude.{◌≡◌, ◌<◌, ◌≤◌, ◌^◌, length};
 
-use jac_app::{Status, attach, run, serve_link};
+use jac_app::{Status, attach_store, run, serve_link};
 use jac_io::{Calls, Links, MemoryDoor, MemoryFiles, MemoryLink, MemorySink, NamedFiles, Pieces};
 use jac_keep::MemoryKeeper;
 use jac_opening::read_application;
@@ -430,7 +430,7 @@ fn serve_one<L: Ledger, M: Ledger>(
         number: 1,
     };
     let mut keeper = MemoryKeeper::new(state, None, Calls::empty(alloc), Calls::empty(alloc));
-    if attach(alloc, &service, None, schema, &mut keeper).is_err() {
+    if attach_store(alloc, &service, None, schema, &mut keeper).is_err() {
         return Ok(None);
     }
     let mut pieces = Vec::new(alloc);

@@ -31,3 +31,12 @@ returns-in-Err-clause-served g c =
     Went-none (g.O.Sink.seen c.args.out.now) (g.U.Sink.seen c.args.audit.now) _
     (attach_ends (option_copied c.args.db) (application_of c.args.desk.now.service.now) c.args.desk.now.sessions.now (span (K.seen c.args.desk.now.keeper.now) (K.seen c.attach.new.vault)) (script_of c.args.events.now)
     c.in-Err.ending c.in-Err.ensures.attaches)
+
+pub serve_events-requires-clause-desk : goal.serve_events-requires-clause-desk
+serve_events-requires-clause-desk g c = record { attached = c.in-Ok.ensures.attached; ready = c.in-Ok.ensures.start }
+
+pub returns-in-Ok-serve_events-clause-same_reference : goal.returns-in-Ok-serve_events-clause-same_reference
+returns-in-Ok-serve_events-clause-same_reference g c = λ i. (c.in-Ok-serve_events.ensures.keeps.same i).keeper
+
+pub returns-in-Err-serve_events-clause-same_reference : goal.returns-in-Err-serve_events-clause-same_reference
+returns-in-Err-serve_events-clause-same_reference g c = λ i. (c.in-Err-serve_events.ensures.keeps.same i).keeper

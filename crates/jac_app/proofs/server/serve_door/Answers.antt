@@ -1,6 +1,8 @@
 use Rattle.jac_lang.specs.Mirror.{application_of}
 use Rattle.jac_serving.specs.Outside.{span}
+use Rattle.jac_serving.proofs.DeskLemmas.{keeps-none}
 use Rattle.jac_serving.proofs.OutsideLemmas.{Went-none, Went-on}
+use Rattle.jac_app.specs.Answered.{answering, desk_of}
 use Rattle.jac_app.proofs.ServerLemmas.{door_ends, unheard_ends}
 use Rattle.jac_app.proofs.server.serve_door.Goals as goal
 
@@ -19,3 +21,8 @@ returns-in-Err-clause-served g c =
     let D = g.D.Door in
     Went-none (g.O.Sink.seen c.args.out.now) (g.U.Sink.seen c.args.audit.now) _
     (unheard_ends g.D.Line.Link.seen (application_of c.args.desk.now.service.now) c.args.desk.now.sessions.now (D.seen c.args.door.now) (D.seen c.listen.new.self) c.args.serving.now (g.K.Keeper.seen c.args.desk.now.keeper.now) _ c.in-Err.ensures)
+
+pub returns-in-Err-clause-keeps : goal.returns-in-Err-clause-keeps
+returns-in-Err-clause-keeps g c =
+    let desk = c.args.desk.now in
+    keeps-none answering (desk_of (application_of desk.service.now) desk.sessions.now desk.keeper.ghost_name (g.K.Keeper.seen desk.keeper.now)) c.requires.desk
