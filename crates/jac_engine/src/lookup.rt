@@ -5,7 +5,7 @@ ghost use Rattle.jac_lang.specs.Mirror.{application_of, page_of};
 use jac_lang::{App, View};
 
 /// The view of this number.
-#[tactic(auto, using(crate::proofs::PlaceLaws::page_at))]
+#[tactic(auto, using(jac_opening::proofs::PlaceLaws::page_at))]
 pub(crate) fn view_at(app: &App, number: u32) -> &View
     requires { number < length app.now.views }
     ensures { slice_get (application_of app.now).views number ≡ Some (page_of result.now) }
