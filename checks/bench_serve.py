@@ -1,17 +1,23 @@
 #!/usr/bin/env python3
-"""Measures the built program over real connections and over stores in files. Words: the program. A time is that which
-the client waits, the middle of all; the client is this script, on the same machine, and sends each request as one write.
-docs/COSTS.md has what it said last, with its date. It is no part of the gate: what a machine takes is no property of the
-program."""
+"""Measures the built program over real connections, with one client and with two and ten at once, and over stores in
+files. Words: the program. A time is that which the client waits, the middle of all where nothing else is said; the
+clients are this script, on the same machine. Two and ten clients ask for the same list, of 100 names in a file of SQLite,
+from the servers that Flask and Django bring with them too, where these are installed: on connections that they keep, each
+opening a new one where it was ended, and on a new one for each page. docs/COSTS.md has what it said last, with its date.
+It is no part of the gate: what a machine takes is no property of the program."""
+import contextlib
+import http.client
 import os
+import sqlite3
 import statistics
 import subprocess
 import sys
 import tempfile
+import threading
 import time
 
 import proved
-from serving import served
+from serving import free_port, is_listening, served
 
 PROGRAM = proved.program(sys.argv[1])
 SHORT, LONG = 10, 100 * 1024
@@ -22,6 +28,31 @@ APPLICATION = '''(app
  (view get "/names" (params) (for (from ((u User)) true key) (put (get User name u)) (put "\\n")))
  (view post "/join" (params (name text)) (create u User (set (name name)) (put u))))
 ''' % ('x' * SHORT, 'x' * LONG)
+LISTED = 100        # records of the list that many clients ask for
+PAGES = 40          # of each client
+PAUSES = 0.1, 0     # seconds between two pages of a client
+PYTHONS = sys.executable, '/usr/bin/python3'
+COMMON = '''
+import html, sqlite3, sys
+def page():
+    with sqlite3.connect('names') as store:
+        return ''.join(html.escape(name) + "\\n" for (name,) in store.execute('SELECT name FROM User ORDER BY id'))
+'''
+OTHERS = {'Flask': COMMON + '''
+import flask, logging, werkzeug.serving
+logging.getLogger('werkzeug').setLevel(logging.ERROR)
+werkzeug.serving.WSGIRequestHandler.protocol_version = 'HTTP/1.1'
+app = flask.Flask('bench')
+app.add_url_rule('/names', 'names', page)
+app.run('127.0.0.1', int(sys.argv[1]))
+''', 'Django': COMMON + '''
+import django.http, django.urls
+from django.conf import settings
+from django.core.management import execute_from_command_line
+settings.configure(ROOT_URLCONF='__main__', ALLOWED_HOSTS=['*'], DEBUG=False, LOGGING_CONFIG=None)
+urlpatterns = [django.urls.path('names', lambda request: django.http.HttpResponse(page()))]
+execute_from_command_line(['bench', 'runserver', '--noreload', '127.0.0.1:' + sys.argv[1]])
+'''}
 JOIN = b'ask - POST "/join" "name=Annabel"\n'
 NAMES = b'ask - GET "/names" ""\n'
 
@@ -87,11 +118,95 @@ def over_a_store(folder):
         print('GET of 1,024 records %s: %.2f milliseconds' % (name, 1e3 * took))
 
 
+def python_with(name):
+    """A Python that has this, or none."""
+    for python in PYTHONS:
+        with contextlib.suppress(OSError):
+            if subprocess.run([python, '-c', 'import ' + name], stderr=subprocess.DEVNULL).returncode == 0:
+                return python
+    return None
+
+
+@contextlib.contextmanager
+def other(name, folder):
+    """The port of another server, or none where it isn't installed."""
+    python, port = python_with(name.lower()), free_port()
+    if not python:
+        yield None
+        return
+    with open(os.path.join(folder, name + '.py'), 'w') as script:
+        script.write(OTHERS[name])
+    run = subprocess.Popen([python, name + '.py', str(port)], cwd=folder, stdin=subprocess.DEVNULL,
+                           stdout=subprocess.DEVNULL, stderr=subprocess.DEVNULL)
+    try:
+        deadline = time.monotonic() + 30
+        while not is_listening(port) and run.poll() is None and time.monotonic() < deadline:
+            time.sleep(0.01)
+        yield port
+    finally:
+        run.kill()
+        run.wait()
+
+
+def client(port, kept, pause, times, sizes):
+    """Asks for the list again and again; where its connection was ended, on a new one."""
+    line = http.client.HTTPConnection('127.0.0.1', port, timeout=60)
+    for _ in range(PAGES):
+        began = time.perf_counter()
+        while True:
+            try:
+                line.request('GET', '/names')
+                size = len(line.getresponse().read())
+                break
+            except (http.client.HTTPException, OSError):
+                line.close()
+        times.append(time.perf_counter() - began)
+        sizes.add(size)
+        if not kept:
+            line.close()
+        time.sleep(pause)
+    line.close()
+
+
+def many(name, port):
+    for kept in (True, False):
+        for pause in PAUSES:
+            for count in (2, 10):
+                times, sizes = [], set()
+                clients = [threading.Thread(target=client, args=(port, kept, pause, times, sizes)) for _ in range(count)]
+                began = time.perf_counter()
+                for one in clients:
+                    one.start()
+                for one in clients:
+                    one.join()
+                took = time.perf_counter() - began
+                assert sizes == {8 * LISTED} and len(times) == count * PAGES, (sizes, len(times))
+                print('%-6s %2d clients, %s, %s: %5.0f pages a second, %6.1f ms on the average, %6.1f at most' % (
+                    name, count, 'kept' if kept else 'new ', '%.1f s between' % pause if pause else 'no pause     ',
+                    len(times) / took, 1e3 * statistics.mean(times), 1e3 * max(times)))
+
+
+def over_many_connections(folder):
+    seconds(folder, JOIN * LISTED, ('--db', 'list'))
+    with served(PROGRAM, 'app', 1000000, folder, ('--db', 'list')) as run:
+        many('jac', run.port)
+    with contextlib.closing(sqlite3.connect(os.path.join(folder, 'names'))) as store, store:
+        store.execute('CREATE TABLE User (id INTEGER PRIMARY KEY, name TEXT)')
+        store.executemany('INSERT INTO User (name) VALUES (?)', [('Annabel',)] * LISTED)
+    for name in OTHERS:
+        with other(name, folder) as port:
+            if port:
+                many(name, port)
+            else:
+                print('left out, as it is not installed: ' + name)
+
+
 def main():
     with tempfile.TemporaryDirectory() as folder:
         with open(os.path.join(folder, 'app'), 'w') as app:
             app.write(APPLICATION)
         over_a_connection(folder)
+        over_many_connections(folder)
         over_a_store(folder)
 
 

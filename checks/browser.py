@@ -1,10 +1,13 @@
 #!/usr/bin/env python3
 """Walks through the four applications of examples/ with a headless Chromium: the start page, forms that add and
-change, lists, the page of one record, what another viewer gets there, and a page that isn't there. Words: the program,
-and a folder for pictures of the pages, if they are wanted. Prints each case that fails, and ends with a count. Where
-Chromium isn't installed nothing is done, and that is said."""
+change, lists, the page of one record, what another viewer gets there, and a page that isn't there. Then two Chromiums
+click through the calendar in turn, each as somebody else, and no page may take longer than 0.3 seconds: in one of three
+walks of 50 clicks, as another program may take the machine for a moment. Words: the program, and a folder for pictures
+of the pages, if they are wanted. Prints each case that fails, and ends with a count. Where Chromium isn't installed
+nothing is done, and that is said."""
 import base64
 import contextlib
+import itertools
 import json
 import os
 import select
@@ -22,6 +25,7 @@ PROGRAM = proved.program(sys.argv[1])
 PICTURES = os.path.abspath(sys.argv[2]) if len(sys.argv) > 2 else None
 NAMES = 'chromium', 'chromium-browser', 'google-chrome'
 WAIT = 30
+CLICKS, MOST, WALKS = 50, 0.3, 3
 
 # Fills the form whose action ends so, and sends it as its button does.
 SEND = '''((end, fields) => {
@@ -104,7 +108,7 @@ class Page:
     """A page of the browser, at a served application."""
 
     def __init__(self, browser, run, name):
-        self.browser, self.server, self.name, self.shots = browser, run, name, 0
+        self.browser, self.server, self.name, self.shots, self.seconds = browser, run, name, 0, 0
         target = browser.call('Target.createTarget', url='about:blank')['targetId']
         self.session = browser.call('Target.attachToTarget', targetId=target, flatten=True)['sessionId']
         self.call('Page.enable')
@@ -130,13 +134,14 @@ class Page:
             if answer['type'] == 'Document':
                 status = answer['response']['status']
         self.browser.event('Page.loadEventFired')
-        self.picture(time.monotonic() - began)
+        self.seconds = time.monotonic() - began
+        self.picture()
         return status, self.run(TEXT)
 
-    def picture(self, seconds):
+    def picture(self):
         if PICTURES:
             self.shots += 1
-            print('%s-%02d: %.2f seconds' % (self.name, self.shots, seconds))
+            print('%s-%02d: %.2f seconds' % (self.name, self.shots, self.seconds))
             data = self.call('Page.captureScreenshot', captureBeyondViewport=True)['data']
             with open(os.path.join(PICTURES, '%s-%02d.png' % (self.name, self.shots)), 'wb') as file:
                 file.write(base64.b64decode(data))
@@ -285,6 +290,55 @@ def walk(browser, name, steps):
         return results
 
 
+def clicks(page, name):
+    """A person's clicks, over and over: the lists of events and people, and every fourth time an event of their own."""
+    for step in itertools.count():
+        if step % 4 == 3:
+            got = page.send('/events', title='%s %d' % (name, step), day='2026-12-01', place='Room 2')
+            yield shows('an event of %s' % name, got, '%s %d' % (name, step), 'The host is %s.' % name)
+        elif step % 4 == 0:
+            yield shows('all events for %s' % name, page.go('/'), 'You are %s.' % name)
+        else:
+            yield shows('a list for %s' % name, page.follow(('People', 'Calendar')[step % 4 - 1]), 'You are %s.' % name)
+
+
+def two_people(program, run, folder):
+    """What two browsers that click in turn lack, and the seconds that each page took."""
+    results, times = [], []
+    with contextlib.ExitStack() as stack:
+        people = []
+        for name in 'Ann', 'Bob':
+            browser = stack.enter_context(contextlib.closing(Browser(program, os.path.join(folder, name))))
+            page = Page(browser, run, name)
+            page.be(name.lower())
+            page.go('/')    # a browser's first page is its start, and no click
+            people.append((page, clicks(page, name)))
+        for click in range(CLICKS):
+            page, steps = people[click % 2]
+            results.append(next(steps))
+            times.append(page.seconds)
+    return results, times
+
+
+def in_turn(program, folder):
+    """Whether each page of one of three walks came in time."""
+    results = []
+    for walk_number in range(WALKS):
+        with served(PROGRAM, 'app', 10000, os.path.join(TOP, 'examples', 'calendar'), ('--sessions', 'sessions')) as run:
+            with run.connect() as line:
+                line.sendall(b'POST /setup HTTP/1.0\r\n\r\n')
+                line.recv(1)
+            try:
+                wrong, times = two_people(program, run, os.path.join(folder, str(walk_number)))
+            except Broken as broken:
+                return results + ['two browsers: %s' % broken]
+        results += [one and 'two browsers: ' + one for one in wrong]
+        print('two browsers: %d pages, %.3f seconds on the average, %.3f at most' % (len(times), sum(times) / len(times), max(times)))
+        if max(times) <= MOST:
+            return results + [None]
+    return results + ['two browsers: a page took longer than %.1f seconds in each of %d walks' % (MOST, WALKS)]
+
+
 def main():
     found = next(filter(None, map(shutil.which, NAMES)), None)
     if not found:
@@ -295,6 +349,8 @@ def main():
     with tempfile.TemporaryDirectory(ignore_cleanup_errors=True) as folder, contextlib.closing(Browser(found, folder)) as browser:
         for steps in (calendar, conference, health, courses):
             results += walk(browser, steps.__name__, steps)
+    with tempfile.TemporaryDirectory(ignore_cleanup_errors=True) as folder:
+        results += in_turn(found, folder)
     for wrong in filter(None, results):
         print('FAILED ' + wrong)
     failed = sum(1 for wrong in results if wrong)

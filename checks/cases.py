@@ -11,8 +11,10 @@ up to the next:
     == run WORDS                     a run of the program with these words, quoted as a shell reads them
     == status N                      the exit status of the runs above
     == out                           and all that they put on standard output
-    == wrote NAME                    and the file of this name that each of them left
+    == wrote NAME                    and the file of this name that each of them left, each beginning with the file
+                                     as the case has it, or with none
 """
+import contextlib
 import os
 import re
 import shlex
@@ -63,16 +65,26 @@ def parse(text):
     return files, runs
 
 
+def put(folder, name, content):
+    """Has the file hold this, or has it gone where that is nothing."""
+    with contextlib.suppress(FileNotFoundError):
+        os.remove(os.path.join(folder, name))
+    if content is not None:
+        with open(os.path.join(folder, name), 'wb') as file:
+            file.write(content)
+
+
 def failures(program, text):
     """What is wrong in a case, a line for each run."""
     files, runs = parse(text)
     with tempfile.TemporaryDirectory() as folder:
         for name, content in files.items():
-            with open(os.path.join(folder, name), 'wb') as file:
-                file.write(content)
+            put(folder, name, content)
         for words, status, out, wrote in runs:
+            for name in wrote:
+                put(folder, name, files.get(name))
             done = subprocess.run([program] + words, cwd=folder, stdin=subprocess.DEVNULL,
-                                  stdout=subprocess.PIPE, timeout=120)
+                                  stdout=subprocess.PIPE, stderr=subprocess.DEVNULL, timeout=120)
             if (done.returncode, done.stdout) != (status, out):
                 yield '%s: want %d and %r, have %d and %r' % (
                     shlex.join(words), status, out[-600:], done.returncode, done.stdout[-600:])

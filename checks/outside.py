@@ -40,7 +40,7 @@ STREAMS = (KEPT, 4), (CLOSED, 2), (REFUSED, 3)
 
 
 def run(words, folder, **options):
-    return subprocess.run([PROGRAM] + words, cwd=folder, stdin=subprocess.DEVNULL, timeout=120, **options)
+    return subprocess.run([PROGRAM] + words, cwd=folder, stdin=subprocess.DEVNULL, stderr=subprocess.DEVNULL, timeout=120, **options)
 
 
 def case(name, files, words, status, out):
@@ -97,13 +97,15 @@ def difference(have, want):
 
 
 def audited(folder, words):
-    """A run, and its audit in a file that held something else before."""
+    """A run, and its audit, which goes on behind what the file held before."""
+    old = b'old\n' * 1000
     with tempfile.NamedTemporaryFile() as audit:
-        audit.write(b'old\n' * 1000)
+        audit.write(old)
         audit.flush()
         done = run(words + ['--audit', audit.name], folder, stdout=subprocess.PIPE)
         with open(audit.name, 'rb') as handle:
-            return done, handle.read()
+            kept, lines = handle.read(len(old)), handle.read()
+        return done, lines if kept == old else b'the file was not gone on with\n' + kept + lines
 
 
 def closed_output():

@@ -1,17 +1,20 @@
 #!/usr/bin/env python3
 """Asks the built program over real connections, by sockets and by curl: replies byte by byte, connections that are
-kept, forms, cookies and redirects, what can't be read, clients that send nothing or go away, and how a run ends.
-Words: the program. Prints each case that fails, and ends with a count. What needs curl is left out where it isn't
-installed, and that is said."""
+kept, forms, cookies and redirects, what can't be read, clients that send nothing, drip or go away and how long they
+hold up others, audits that go on, what is told on standard error, and how a run ends. Words: the program. Prints each
+case that fails, and ends with a count. What needs curl is left out where it isn't installed, and that is said."""
 import contextlib
 import http.client
 import os
+import select
 import shutil
 import socket
+import statistics
 import struct
 import subprocess
 import sys
 import tempfile
+import threading
 import time
 
 import proved
@@ -26,11 +29,11 @@ LARGE = 100 * 1000 + len('end')
 
 
 @contextlib.contextmanager
-def hello(count):
+def hello(count, options=()):
     with tempfile.TemporaryDirectory() as folder:
         with open(os.path.join(folder, 'app'), 'wb') as app:
             app.write(HELLO)
-        with served(PROGRAM, 'app', count, folder) as run:
+        with served(PROGRAM, 'app', count, folder, options) as run:
             yield run
 
 
@@ -115,17 +118,119 @@ def large():
         yield ends('large', run, 1, 2)
 
 
+def asked(line):
+    """Seconds until a page came on a connection that is then ended."""
+    began = time.monotonic()
+    line.sendall(b'GET / HTTP/1.0\r\n\r\n')
+    page = read_all(line)
+    return page, time.monotonic() - began
+
+
+def in_time(name, seconds, most):
+    """Whether it took no longer; half a second more is for a machine that is busy."""
+    return None if seconds <= most + 0.5 else '%s: %.2f seconds, not %.2f' % (name, seconds, most)
+
+
 def waited_for():
-    """Clients that send nothing, half a head, or half a body hold up the next one for a few seconds, and no longer."""
-    halves = b'', b'GET / HTT', b'POST / HTTP/1.1\r\nHost: a\r\nContent-Length: 9\r\n\r\nname'
+    """Clients that send nothing hold up the next one for a moment, half a head or half a body for three seconds."""
+    halves = (b'', 0.1), (b'GET / HTT', 3), (b'POST / HTTP/1.1\r\nHost: a\r\nContent-Length: 9\r\n\r\nname', 3)
     with hello(2 * len(halves)) as run:
-        for half in halves:
+        for half, most in halves:
             with run.connect() as silent, run.connect() as line:
                 silent.sendall(half)
-                line.sendall(b'GET / HTTP/1.0\r\n\r\n')
-                yield expect('behind %r' % half, read_all(line), reply(b'200 OK', True, b'hello'))
+                page, seconds = asked(line)
+                yield expect('behind %r' % half, page, reply(b'200 OK', True, b'hello'))
+                yield in_time('behind %r' % half, seconds, most)
                 yield expect('after %r' % half, read_all(silent), b'')
         yield ends('clients that wait', run, 2 * len(halves), len(halves))
+
+
+def dripped():
+    """A client that sends a byte every two seconds holds up others for three seconds, and once."""
+    drips = b'GET / HTTP/1.1', b'POST / HTTP/1.1\r\nHost: a\r\nContent-Length: 99\r\n\r\nname=Ann'
+    with hello(3 * len(drips)) as run:
+        for drip in drips:
+            with run.connect() as slow, run.connect() as line:
+                slow.sendall(drip[:-6])
+                began = time.monotonic()
+                line.sendall(b'GET / HTTP/1.0\r\n\r\n')
+                for byte in drip[-6:]:
+                    if select.select([line], [], [], 2)[0]:
+                        break
+                    slow.sendall(bytes([byte]))
+                yield expect('behind a drip', read_all(line), reply(b'200 OK', True, b'hello'))
+                yield in_time('behind a drip', time.monotonic() - began, 3)
+                with run.connect() as line:
+                    yield in_time('behind a drip, once more', asked(line)[1], 0)
+        yield ends('clients that drip', run, 3 * len(drips), 2 * len(drips))
+
+
+def slow_reader():
+    """A client that doesn't take its reply is let go, and holds up others for three seconds."""
+    with hello(2) as run, run.connect() as slow:
+        slow.setsockopt(socket.SOL_SOCKET, socket.SO_RCVBUF, 4096)
+        slow.sendall(b'GET /large HTTP/1.1\r\nHost: a\r\n\r\n' * 100)
+        slow.recv(1)
+        with run.connect() as line:
+            began = time.monotonic()
+            line.sendall(b'GET / HTTP/1.0\r\n\r\n')
+            while not select.select([line], [], [], 0.5)[0]:
+                slow.recv(100)
+            yield in_time('behind a slow reader', time.monotonic() - began, 4)
+            yield expect('behind a slow reader', read_all(line), reply(b'200 OK', True, b'hello'))
+
+
+def let_go():
+    """A connection that is kept and brings nothing is let go a moment behind its reply; one that brings the front of a
+    request with the one before it, or a later request cut into pieces, is waited for."""
+    ask = b'GET / HTTP/1.1\r\nHost: a\r\n\r\n'
+    form = b'POST /none HTTP/1.1\r\nHost: a\r\ncontent-length: 4\r\n\r\na=bc'
+    with hello(7) as run:
+        for first, count in ((ask, 1), (form, 1), (ask * 3, 3)):
+            with run.connect() as kept, run.connect() as line:
+                kept.sendall(first)
+                yield in_time('behind one that is kept', asked(line)[1], 0.02)
+                yield expect('one that was kept', read_all(kept).count(b'HTTP/1.1'), count)
+        with run.connect() as line:
+            for first, rest in ((ask + ask[:9], ask[9:]), (form + ask[:1], ask[1:]), (ask + form[:-3], form[-3:]),
+                                (ask + form[:-8], form[-8:]), (ask[:3], ask[3:])):
+                line.sendall(first)
+                time.sleep(0.3)
+                line.sendall(rest)
+            line.shutdown(socket.SHUT_WR)
+            yield expect('fronts that came along', read_all(line).count(b'HTTP/1.1'), 9)
+        yield ends('connections that are let go', run, 7, 17)
+
+
+def taken_in_turn():
+    """Ten clients with a connection each, which they keep as long as it is kept, wait 0.15 seconds for a page on the
+    average."""
+    clients, pages, times = 10, 6, []
+
+    def client(run, place):
+        line = http.client.HTTPConnection('127.0.0.1', run.port, timeout=20)
+        time.sleep(place * 0.03)
+        for _ in range(pages):
+            began = time.monotonic()
+            while True:
+                try:
+                    line.request('GET', '/')
+                    line.getresponse().read()
+                    break
+                except (http.client.HTTPException, OSError):
+                    line.close()
+            times.append(time.monotonic() - began)
+            time.sleep(0.3)
+
+    with hello(10 * clients * pages) as run:
+        threads = [threading.Thread(target=client, args=(run, place)) for place in range(clients)]
+        for thread in threads:
+            thread.start()
+        for thread in threads:
+            thread.join()
+        mean = statistics.mean(times)
+        yield expect('pages of ten clients', len(times), clients * pages)
+        yield None if mean <= 0.15 else 'ten clients: %.3f seconds a page on the average' % mean
 
 
 def gone():
@@ -151,9 +256,50 @@ def taken_port():
         door.listen()
         with open(os.path.join(folder, 'app'), 'wb') as app:
             app.write(HELLO)
-        done = subprocess.run([PROGRAM, 'serve', 'app', str(door.getsockname()[1]), '1'], cwd=folder,
-                              stdin=subprocess.DEVNULL, stdout=subprocess.PIPE, timeout=60)
+        port = door.getsockname()[1]
+        done = subprocess.run([PROGRAM, 'serve', 'app', str(port), '1'], cwd=folder, stdin=subprocess.DEVNULL,
+                              stdout=subprocess.PIPE, stderr=subprocess.PIPE, timeout=60)
         yield expect('a port that is taken', (done.returncode, done.stdout), (8, b'door fault\n'))
+        told = b'jac: 127.0.0.1:%d: Address already in use (os error 98)\n' % port
+        yield expect('what is told of a port that is taken', done.stderr, told)
+
+
+def told():
+    """What is told on standard error: where it listens, and what the system said of a file."""
+    with hello(1) as run:
+        with run.connect() as line:
+            asked(line)
+        run.end()
+        yield expect('where it listens', run.told, b'listening on 127.0.0.1:%d\n' % run.port)
+    with tempfile.TemporaryDirectory() as folder:
+        with open(os.path.join(folder, 'app'), 'wb') as app:
+            app.write(HELLO)
+        cases = (('replay', 'none', 'app'), 'none: No such file or directory (os error 2)', 4), \
+                (('replay', 'app', '.'), '.: Is a directory (os error 21)', 4), \
+                (('replay', 'app', 'app', '--audit', '.'), '.: Is a directory (os error 21)', 5)
+        for words, want, status in cases:
+            done = subprocess.run([PROGRAM, *words], cwd=folder, stdin=subprocess.DEVNULL, stdout=subprocess.PIPE,
+                                  stderr=subprocess.PIPE, timeout=60)
+            have = done.returncode, done.stderr.decode()
+            yield expect('what is told of %s' % ' '.join(words), have, (status, 'jac: %s\n' % want))
+        with open('/dev/full', 'wb') as full:
+            done = subprocess.run([PROGRAM, 'check', 'app'], cwd=folder, stdin=subprocess.DEVNULL, stdout=full,
+                                  stderr=subprocess.PIPE, timeout=60)
+        want = 5, 'jac: standard output: No space left on device (os error 28)'
+        yield expect('what is told of a full output', (done.returncode, done.stderr.decode().splitlines()[0]), want)
+
+
+def audits():
+    """An audit goes on behind what its file holds."""
+    with tempfile.TemporaryDirectory() as folder:
+        name = os.path.join(folder, 'audit')
+        for lines in (1, 2):
+            with hello(1, ('--audit', name)) as run:
+                with run.connect() as line:
+                    asked(line)
+                run.end()
+            with open(name, 'rb') as audit:
+                yield expect('the audit of run %d' % lines, audit.read(), b'1 200 - -\n' * lines)
 
 
 def curl(*words):
@@ -192,7 +338,8 @@ def forms():
 
 def main():
     results = []
-    parts = [in_pieces, kept, refused, large, waited_for, gone, taken_port]
+    parts = [in_pieces, kept, refused, large, waited_for, dripped, slow_reader, let_go, taken_in_turn, gone, taken_port,
+             told, audits]
     if shutil.which('curl'):
         parts.append(forms)
     else:

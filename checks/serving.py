@@ -25,7 +25,7 @@ class Served:
     """A run under way."""
 
     def __init__(self, run, port):
-        self.run, self.port = run, port
+        self.run, self.port, self.told = run, port, None
 
     def connect(self):
         line = socket.create_connection((HOST, self.port), timeout=20)
@@ -36,8 +36,8 @@ class Served:
         return 'http://%s:%d%s' % (HOST, self.port, path)
 
     def end(self):
-        """The status and the output, once it ended by itself."""
-        out, _ = self.run.communicate(timeout=30)
+        """The status and the output, once it ended by itself; what it told on standard error stays in `told`."""
+        out, self.told = self.run.communicate(timeout=30)
         return self.run.returncode, out
 
     def kill(self):
@@ -50,7 +50,7 @@ def served(program, app, count, folder, options=()):
     """The application, served on a free port to so many connections. What still runs in the end is killed."""
     port = free_port()
     words = [program, 'serve', app, str(port), str(count), *options]
-    run = subprocess.Popen(words, cwd=folder, stdin=subprocess.DEVNULL, stdout=subprocess.PIPE)
+    run = subprocess.Popen(words, cwd=folder, stdin=subprocess.DEVNULL, stdout=subprocess.PIPE, stderr=subprocess.PIPE)
     try:
         deadline = time.monotonic() + 20
         while run.poll() is None and not is_listening(port) and time.monotonic() < deadline:
@@ -60,3 +60,4 @@ def served(program, app, count, folder, options=()):
         run.kill()
         run.wait()
         run.stdout.close()
+        run.stderr.close()

@@ -1,6 +1,7 @@
 ghost use Rattle.std.specs.Prelude.{◌≡◌, ◌≤◌, false, None, [], IfOk, vec_len};
 
 use crate::faults::counted;
+use crate::told::tell;
 use jac_io::{AuditSink, Failed, FileFault, Files, Sink};
 use jac_value::{Bytes, Txt};
 use std::alloc::Global;
@@ -29,43 +30,50 @@ impl Files for HostFiles<'_> {
     fn read_all(&mut self, alloc: Global, name: &Txt, limit: usize) -> Result<Bytes, FileFault> {
         match read_file(self.rt, alloc, name.as_str(), limit) {
             Ok(bytes) => Ok(Bytes::from_vec(bytes)),
-            Err(FileFault::Failed) => {
+            Err(Unread::Failed(error)) => {
+                tell(self.rt, &name.as_str(), &error);
                 let Failed = counted(&mut self.faults);
                 Err(FileFault::Failed)
             }
-            Err(fault) => Err(fault),
+            Err(Unread::TooLong) => Err(FileFault::TooLong),
+            Err(Unread::Memory) => Err(FileFault::Memory),
         }
     }
 }
 
-fn read_file(
-    rt: &HostRuntime,
-    alloc: Global,
-    name: &str,
-    limit: usize,
-) -> Result<Vec<u8>, FileFault>
+// Why a file wasn't read, and what the host said.
+#[derive(Drop)]
+enum Unread {
+    Failed(io::Error),
+    TooLong,
+    Memory,
+}
+
+fn read_file(rt: &HostRuntime, alloc: Global, name: &str, limit: usize) -> Result<Vec<u8>, Unread>
     ensures { IfOk result (λ v. vec_len v ≤ limit) }
 {
     let mut bytes = Vec::new(alloc);
-    let Ok(mut file) = File::open(rt, name) else {
-        return Err(FileFault::Failed);
+    let mut file = match File::open(rt, name) {
+        Ok(file) => file,
+        Err(error) => return Err(Unread::Failed(error)),
     };
     let mut chunk = [0u8; CHUNK];
     'chunks: for _ in 0..u64::MAX {
-        let Ok(count) = file.read(&mut chunk) else {
-            return Err(FileFault::Failed);
+        let count = match file.read(&mut chunk) {
+            Ok(count) => count,
+            Err(error) => return Err(Unread::Failed(error)),
         };
         if count == 0 {
             return Ok(bytes);
         }
         if count > limit - bytes.len() {
-            return Err(FileFault::TooLong);
+            return Err(Unread::TooLong);
         }
         if bytes.extend_from_slice(&chunk[..count]).is_err() {
-            return Err(FileFault::Memory);
+            return Err(Unread::Memory);
         }
     }
-    Err(FileFault::Failed)
+    Err(Unread::TooLong)
 }
 
 /// Standard output. Each put is written through at once.
@@ -87,18 +95,28 @@ impl Sink for Stdout<'_> {
     fn put(&mut self, bytes: &[u8]) -> Result<(), Failed> {
         match io::writer(self.rt).write_all(bytes) {
             Ok(()) => Ok(()),
-            Err(_) => Err(counted(&mut self.faults)),
+            Err(error) => {
+                tell(self.rt, &"standard output", &error);
+                Err(counted(&mut self.faults))
+            }
         }
     }
 }
 
-/// The audit's file, which an aim makes or empties. An audit that is aimed at none drops its bytes. Each put is
-/// written through at once.
+/// The audit's file, which an aim makes where it isn't there, and goes on behind what it holds. An audit that is aimed
+/// at none drops its bytes. Each put is written through at once.
 #[derive(Drop)]
 pub struct HostAudit<'r> {
     rt: &'r HostRuntime,
-    file: Option<File>,
+    file: Option<Named>,
     faults: u64,
+}
+
+// A file that is open, and its name.
+#[derive(Drop)]
+struct Named {
+    name: Txt,
+    file: File,
 }
 
 impl<'r> HostAudit<'r> {
@@ -115,7 +133,7 @@ impl Sink for HostAudit<'_> {
     ghost seen = { λ s. record { tells = false; held = []; aims = []; faults = s.faults } };
 
     fn put(&mut self, bytes: &[u8]) -> Result<(), Failed> {
-        match write_to(&mut self.file, bytes) {
+        match write_to(self.rt, &mut self.file, bytes) {
             Ok(()) => Ok(()),
             Err(Failed) => Err(counted(&mut self.faults)),
         }
@@ -134,22 +152,34 @@ impl AuditSink for HostAudit<'_> {
     }
 }
 
-fn write_to(file: &mut Option<File>, bytes: &[u8]) -> Result<(), Failed> {
+fn write_to(rt: &HostRuntime, file: &mut Option<Named>, bytes: &[u8]) -> Result<(), Failed> {
     match file {
         None => Ok(()),
-        Some(file) => match file.write_all(bytes) {
+        Some(named) => match named.file.write_all(bytes) {
             Ok(()) => Ok(()),
-            Err(_) => Err(Failed),
+            Err(error) => {
+                tell(rt, &named.name.as_str(), &error);
+                Err(Failed)
+            }
         },
     }
 }
 
-fn open_named(rt: &HostRuntime, name: Option<Txt>) -> Result<Option<File>, Failed> {
+fn open_named(rt: &HostRuntime, name: Option<Txt>) -> Result<Option<Named>, Failed> {
     match name {
         None => Ok(None),
-        Some(name) => match File::create(rt, name.as_str()) {
-            Ok(file) => Ok(Some(file)),
-            Err(_) => Err(Failed),
-        },
+        Some(name) => {
+            let opened = File::options()
+                .append(true)
+                .create(true)
+                .open(rt, name.as_str());
+            match opened {
+                Ok(file) => Ok(Some(Named { name, file })),
+                Err(error) => {
+                    tell(rt, &name.as_str(), &error);
+                    Err(Failed)
+                }
+            }
+        }
     }
 }

@@ -1,0 +1,31 @@
+-- How long the host waits for what a connection brings.
+use Rattle.std.specs.Prelude.{ℕ}
+use Rattle.std.specs.declared.time.Instant.{Instant}
+use Rattle.jac_host.specs.declared.framing.Spot.{Spot}
+use Rattle.jac_host.specs.declared.framing.Spot.TheVariants.{Between, Name, Length, Line, Body}
+use Rattle.jac_host.specs.declared.pace.Pace.{Pace}
+use Rattle.jac_host.specs.declared.pace.Phase.{Phase}
+use Rattle.jac_host.specs.declared.pace.Phase.TheVariants.{Fresh, Kept, Within}
+
+-- for how many nanoseconds: a tenth of a second, a fiftieth, and three seconds
+abbrev pub allowed : Phase → ℕ
+allowed Fresh = 100_000_000
+allowed Kept = 20_000_000
+allowed Within = 3_000_000_000
+
+-- when the request began whose bytes were taken now: earlier, where some of it had come before
+abbrev pub begun_in : Phase → Instant → Instant → Instant
+begun_in Fresh since now = now
+begun_in Kept since now = now
+begun_in Within since now = since
+
+abbrev pub begun_by : Pace → Instant → Instant
+begun_by pace now = begun_in pace.phase pace.since now
+
+-- what is waited for behind a reply, by where the bytes stand
+abbrev pub phase_behind : Spot → Phase
+phase_behind Between = Kept
+phase_behind (Name matched body) = Within
+phase_behind (Length body) = Within
+phase_behind (Line body) = Within
+phase_behind (Body left) = Within

@@ -1,0 +1,97 @@
+//! How long the host waits for what a connection brings next. Connections are served one after another, so whoever
+//! brings nothing holds up all later ones.
+ghost use Rattle.std.specs.Prelude.{◌≡◌, ◌-◌};
+ghost use Rattle.std.specs.Time.{instant_nanos};
+ghost use Rattle.std.specs.Duration.{as_nanos};
+ghost use Rattle.jac_host.specs.Pace.{allowed, begun_by, phase_behind};
+
+use crate::framing::{Spot, spot_behind};
+use std::time::{Duration, Instant};
+
+// How long a new connection may bring nothing. A browser opens some ahead, and sends its request a moment later.
+const FRESH_MILLIS: u64 = 100;
+
+// How long a connection may bring nothing behind a reply: the next request of one that is kept may be under way.
+const KEPT_MILLIS: u64 = 20;
+
+// How long a request may take from its first byte to its last, however its bytes come.
+const REQUEST_MILLIS: u64 = 3_000;
+
+/// What a connection is waited for.
+#[derive(Clone, Copy, Debug, PartialEq, Eq)]
+pub(crate) enum Phase {
+    /// Its first byte.
+    Fresh,
+    /// The first byte of one more request.
+    Kept,
+    /// The rest of a request.
+    Within,
+}
+
+/// What a connection is waited for, since when, and where its bytes so far stand.
+#[derive(Clone, Copy)]
+pub(crate) struct Pace {
+    phase: Phase,
+    since: Instant,
+    spot: Spot,
+}
+
+impl Pace {
+    /// That of a connection that came now.
+    pub(crate) fn new(now: Instant) -> Pace
+        ensures phase { result.phase ≡ Phase.Fresh }
+        ensures since { result.since ≡ now }
+    {
+        Pace {
+            phase: Phase::Fresh,
+            since: now,
+            spot: Spot::Between,
+        }
+    }
+
+    /// Bytes were taken: the first of a request begin its time, and no later ones.
+    pub(crate) fn took(&mut self, bytes: &[u8], now: Instant)
+        ensures phase { self.new.phase ≡ Phase.Within }
+        ensures since { self.new.since ≡ begun_by self.old now }
+    {
+        match self.phase {
+            Phase::Within => {}
+            Phase::Fresh | Phase::Kept => self.since = now,
+        }
+        self.phase = Phase::Within;
+        self.spot = spot_behind(self.spot, bytes);
+    }
+
+    /// A reply was put. Where the bytes so far go on behind its request, they are a front of the next one.
+    pub(crate) fn put(&mut self, now: Instant)
+        ensures phase { self.new.phase ≡ phase_behind self.old.spot }
+        ensures since { self.new.since ≡ now }
+        ensures spot { self.new.spot ≡ self.old.spot }
+    {
+        self.since = now;
+        self.phase = phase_behind(self.spot);
+    }
+
+    /// How long it is waited for from now on.
+    pub(crate) fn left(&self, now: Instant) -> Duration
+        ensures { as_nanos result ≡ allowed self.now.phase - (instant_nanos now - instant_nanos self.now.since) }
+    {
+        let allowed = match self.phase {
+            Phase::Fresh => Duration::from_millis(FRESH_MILLIS),
+            Phase::Kept => Duration::from_millis(KEPT_MILLIS),
+            Phase::Within => Duration::from_millis(REQUEST_MILLIS),
+        };
+        allowed.saturating_sub(now.duration_since(self.since))
+    }
+}
+
+// What is waited for behind a reply, by where the bytes stand.
+fn phase_behind(spot: Spot) -> Phase
+    ensures { result ≡ phase_behind spot }
+{
+    match spot {
+        Spot::Between => Phase::Kept,
+        Spot::Name { .. } | Spot::Length { .. } | Spot::Line { .. } | Spot::Body { .. } =>
+            Phase::Within,
+    }
+}
