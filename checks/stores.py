@@ -205,6 +205,14 @@ def of_another(at):
     yield expect('its own again', at.replay(NAMES), (0, b'reply 200 "" "Ann;Bob;"\n'))
 
 
+def of_another_program(at):
+    """A database with tables of another program is refused, and left."""
+    at.alter('CREATE TABLE notes(body TEXT)', "INSERT INTO notes VALUES('seen')")
+    before = at.content()
+    yield expect('tables of another program', at.replay(NAMES), (6, b'store fault\n'))
+    yield expect('tables of another program, afterwards', at.content(), before)
+
+
 def replay_killed(at, pause):
     """Replays many joins, kills the run after a while, and gives how many were answered."""
     at.write('a', PLAIN)
@@ -266,7 +274,7 @@ def fresh():
 
 def main():
     results = []
-    for part in (kept, spelled, made_by_hand, damaged, refused, full, of_another, killed):
+    for part in (kept, spelled, made_by_hand, damaged, refused, full, of_another, of_another_program, killed):
         with fresh() as at:
             results += list(part(at)) or [None]
     for wrong in filter(None, results):

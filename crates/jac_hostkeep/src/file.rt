@@ -1,10 +1,4 @@
-ghost use Rattle.std.specs.Prelude.{◌≡◌, List, IfOk, IsTrue, false};
-ghost use Rattle.std.specs.Option.{option_copied};
-ghost use Rattle.jac_value.specs.declared.value.Kind.{Kind};
-ghost use Rattle.jac_rows.specs.Good.{IsNext};
-ghost use Rattle.jac_keep.specs.KeeperSeen.{Keeps, Reads};
-ghost use Rattle.jac_keep.specs.Schema.{IsSchema};
-ghost use Rattle.jac_keep.specs.Attaching.{Attaches};
+ghost use Rattle.std.specs.Prelude.{◌≡◌};
 
 use jac_keep::{AttachFault, Change, Keeper, Stop, Vault};
 use jac_rows::Rows;
@@ -13,15 +7,15 @@ use jac_value::{Id, Txt};
 use std::alloc::Global;
 use std::marker::Model;
 
-/// A keeper in a file, which tells nothing of what it keeps. As it is dropped, the file is closed.
+/// A keeper in a file. It tells its state where it made the file. As it is dropped, the file is closed.
 pub struct FileKeeper {
     keeper: SqlKeeper<FileOpener>,
 }
 
 impl Model for FileKeeper {
-    ghost use Rattle.jac_sqlkeep.specs.Untold.{Untold};
+    ghost use Rattle.jac_sqlkeep.specs.Kept.{Kept};
 
-    ghost Value = { Untold };
+    ghost Value = { Kept };
 
     ghost view = { λ k. k.keeper };
 }
@@ -38,7 +32,7 @@ impl Drop for FileKeeper {
 }
 
 impl FileKeeper {
-    ghost use Rattle.jac_sqlkeep.specs.Untold.{untouched};
+    ghost use Rattle.jac_sqlkeep.specs.Kept.{untouched};
 
     /// A keeper that wasn't attached yet.
     pub fn new(rt: HostRuntime) -> FileKeeper
@@ -51,48 +45,34 @@ impl FileKeeper {
 }
 
 impl Keeper for FileKeeper {
-    ghost use Rattle.jac_sqlkeep.specs.Untold.{seen_untold};
+    ghost use Rattle.jac_sqlkeep.specs.Kept.{seen_kept};
 
-    ghost seen = { seen_untold };
+    ghost seen = { seen_kept };
 
-    fn number(&mut self) -> Result<u64, Stop>
-        requires { IsTrue self.old.store.attached }
-        ensures in_range { IfOk result IsNext }
-        ensures reads { Reads (seen_untold self.old) (seen_untold self.new) result }
-    {
+    fn number(&mut self) -> Result<u64, Stop> {
         self.keeper.number()
     }
 
-    fn rows(&mut self, alloc: Global, model: u8) -> Result<Rows, Stop>
-        requires { IsTrue self.old.store.attached }
-        ensures { Reads (seen_untold self.old) (seen_untold self.new) result }
-    {
+    fn rows(&mut self, alloc: Global, model: u8) -> Result<Rows, Stop> {
         self.keeper.rows(alloc, model)
     }
 
-    fn one(&mut self, alloc: Global, id: Id) -> Result<Rows, Stop>
-        requires { IsTrue self.old.store.attached }
-        ensures { Reads (seen_untold self.old) (seen_untold self.new) result }
-    {
+    fn one(&mut self, alloc: Global, id: Id) -> Result<Rows, Stop> {
         self.keeper.one(alloc, id)
     }
 
-    fn apply(&mut self, alloc: Global, change: &Change) -> Result<(), Stop>
-        requires { IsTrue self.old.store.attached }
-        ensures { Keeps (seen_untold self.old) (seen_untold self.new) result }
-    {
+    fn apply(&mut self, alloc: Global, change: &Change) -> Result<(), Stop> {
         self.keeper.apply(alloc, change)
     }
 }
 
 impl Vault for FileKeeper {
-    ghost use Rattle.jac_sqlkeep.specs.Untold.{seen_untold};
-
-    fn attach(&mut self, alloc: Global, name: Option<&Txt>, schema: &Txt) -> Result<(), AttachFault>
-        requires first { self.old.store.called ≡ false }
-        requires schema { (kinds : List (List Kind)) × IsSchema schema.now kinds }
-        ensures { Attaches (seen_untold self.old) (seen_untold self.new) (option_copied name.entry) schema.now result }
-    {
+    fn attach(
+        &mut self,
+        alloc: Global,
+        name: Option<&Txt>,
+        schema: &Txt,
+    ) -> Result<(), AttachFault> {
         self.keeper.attach(alloc, name, schema)
     }
 }

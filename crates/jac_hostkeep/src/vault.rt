@@ -10,7 +10,7 @@ use jac_value::{Id, Txt};
 use std::alloc::Global;
 use std::marker::Model;
 
-/// Where the program keeps its state: in memory, of which it tells, or in the file that it is attached to. The tables
+/// Where the program keeps its state: in memory, or in the file that it is attached to. The tables
 /// of a file that were read are held in memory until they are changed.
 #[derive(Drop)]
 pub struct HostVault {
@@ -48,6 +48,7 @@ impl Keeper for HostVault {
 
     ghost seen = { seen_host };
 
+    #[tactic(auto, using(crate::proofs::Attached::memory_reads))]
     fn number(&mut self) -> Result<u64, Stop> {
         match &mut self.file {
             Some(file) => file.number(),
@@ -55,6 +56,7 @@ impl Keeper for HostVault {
         }
     }
 
+    #[tactic(auto, using(crate::proofs::Attached::memory_reads))]
     fn rows(&mut self, alloc: Global, model: u8) -> Result<Rows, Stop> {
         match &mut self.file {
             Some(file) => file.rows(alloc, model),
@@ -62,6 +64,7 @@ impl Keeper for HostVault {
         }
     }
 
+    #[tactic(auto, using(crate::proofs::Attached::memory_reads))]
     fn one(&mut self, alloc: Global, id: Id) -> Result<Rows, Stop> {
         match &mut self.file {
             Some(file) => file.one(alloc, id),
@@ -69,6 +72,7 @@ impl Keeper for HostVault {
         }
     }
 
+    #[tactic(auto, using(crate::proofs::Attached::memory_keeps))]
     fn apply(&mut self, alloc: Global, change: &Change) -> Result<(), Stop> {
         match &mut self.file {
             Some(file) => file.apply(alloc, change),

@@ -1,2 +1,4 @@
+pub mod Attached
+pub mod Based
 pub mod Read
 pub mod Steps

@@ -10,16 +10,16 @@ use Rattle.sqlite.specs.declared.error.Error.TheVariants.{SqliteFailure}
 use Rattle.sqlite.specs.declared.error.ErrorCode.TheVariants.{TransactionState}
 use Rattle.sqlite.specs.Effect.{Database}
 use Rattle.sqlite.specs.Steps.{FailsToCommit}
-use Rattle.sqlite.specs.State.{QueriesRow, State, HasCleanDisk, ExecutesInside, KeepsCommit, Survives, IsRolledBack}
+use Rattle.sqlite.specs.State.{QueriesRow, State, HasCleanDisk, ExecutesInside, KeepsCommit, Survives, IsRolledBack, Shows}
 use Rattle.sqlite.specs.Held.{Held, state}
 use Rattle.sqlite.proofs.StateLemmas.{survives_then}
 use Rattle.sqlite.proofs.InsideLemmas.{inside_keeps, keeps_then}
 use Rattle.sqlite.proofs.Callers.{survives_begin}
 use Rattle.jac_rows.specs.declared.row.Row.{Row as Kept}
 use Rattle.jac_keep.specs.declared.alteration.Alteration.{Alteration}
-use Rattle.jac_sqlkeep.specs.Founding.{Tells, KeepsSchema}
-use Rattle.jac_sqlkeep.specs.Statements.{Statement, reading, removal, addition, additions, replacement, replacements}
-use Rattle.jac_sqlkeep.specs.Transaction.{Ran, Inside, Leaves, Transacts}
+use Rattle.jac_lines.specs.Founding.{Tells, FindsSchema}
+use Rattle.jac_lines.specs.Statements.{Statement, reading, removal, addition, additions, replacement, replacements}
+use Rattle.jac_lines.specs.Transaction.{Ran, Inside, Leaves, Transacts, Ends}
 
 pub survives_same : (a : State) (P : Trees → Type 0) → Survives a a P
 survives_same a P = record {
@@ -242,9 +242,36 @@ module _ {S : Type 0} (g : Ghosts S) where
         crash = crash_without xs old last new (Err e) within end;
       }
 
+  ends_by : (old begun last new : Held S) → begun ≡ record old { in_transaction = true } → KeepsCommit (state g begun) (state g last) → IsRolledBack (state g last) (state g new) → Ends (state g old) (state g new)
+  ends_by old begun last new begins kept undone =
+      let within = subst (λ (h : Held S). KeepsCommit (state g h) (state g last)) begins kept in
+      record {
+        was_open = λ opened. within.was_open (undone.was_open opened);
+        settled = λ opened. let back = undone.undone opened in back.0 ∙ sym back.1;
+      }
+
+  pub ends_end : {T U : Type 0} (xs : List Statement) (old begun last new : Held S) (t : T) (r : Result U Error) → begun ≡ record old { in_transaction = true } → Inside g xs begun last (Ok t)
+      → (HasCleanDisk (state g new) → OnOk r (Shows (state g last) (state g new) (state g last).now (state g last).now false))
+      → (HasCleanDisk (state g new) → IfErr r (FailsToCommit (state g last) (state g new)))
+      → Survives (state g last) (state g new) (λ db. db ≡ (state g last).now.trees) → HasCleanDisk (state g new) → Ends (state g old) (state g new)
+  ends_end {T} xs old begun last new t (Ok u) begins inside shows failed end clean =
+      let kept = subst (λ (h : Held S). KeepsCommit (state g h) (state g last)) begins (inside.kept (omega (arith, end.clean, clean))) in
+      let it = shows clean in
+      record { was_open = λ opened. kept.was_open it.was_open; settled = λ opened. it.now_is ∙ sym it.committed_is }
+  ends_end {T} xs old begun last new t (Err e) begins inside shows failed end clean =
+      let early : HasCleanDisk (state g last) = omega (arith, end.clean, clean) in
+      let within = subst (λ (h : Held S). Inside {T = T} g xs h last (Ok t)) begins inside in
+      elim (failed clean) [
+        | inl undone ↦ ends_by old begun last new begins (inside.kept early) undone.3
+        | inr late ↦ absurd (let still = stays xs (record old { in_transaction = true }) last (within.ran early refl) refl in let over = late.1 in cc)
+      ]
+
+  pub ends_none : {T : Type 0} (xs : List Statement) (old begun last new : Held S) (e : Error) → begun ≡ record old { in_transaction = true } → Inside {T = T} g xs begun last (Err e)
+      → (HasCleanDisk (state g new) → IsRolledBack (state g last) (state g new)) → Survives (state g last) (state g new) (λ _. ⊥) → HasCleanDisk (state g new) → Ends (state g old) (state g new)
+  ends_none xs old begun last new e begins inside undone end clean = ends_by old begun last new begins (inside.kept (omega (arith, end.clean, clean))) (undone clean)
+
 -- a row of the schema was asked for
-pub kept_by_row : {S : Type 0} (g : Ghosts S) (schema : List ℕ) (row : Row) (old new : Held S) (r : Result (Option (List ℕ)) Error)
-    → QueriesRow reading [] (state g old) (state g new) (Ok row) → Tells schema row r → KeepsSchema g schema old new r
-kept_by_row g schema row old new (Ok None) asked tells = inl (record { row = row; asked = asked; tells = tells })
-kept_by_row g schema row old new (Ok (Some other)) asked tells = record { row = row; asked = asked; tells = tells }
-kept_by_row g schema row old new (Err e) asked tells = inl (record { answer = Ok row; asked = asked })
+pub found_by_row : {S : Type 0} (g : Ghosts S) (schema : List ℕ) (row : Row) (old new : Held S) (r : Result (Option (List ℕ)) Error)
+    → QueriesRow reading [] (state g old) (state g new) (Ok row) → Tells schema row r → FindsSchema g schema old new r
+found_by_row g schema row old new (Ok found) asked tells = record { row = row; asked = asked; tells = tells }
+found_by_row g schema row old new (Err e) asked tells = record { answer = Ok row; asked = asked }

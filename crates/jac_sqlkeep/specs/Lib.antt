@@ -1,6 +1,3 @@
-pub mod Founding
+pub mod Based
+pub mod Kept
 pub mod Opening
-pub mod Reading
-pub mod Statements
-pub mod Transaction
-pub mod Untold

@@ -1,33 +1,31 @@
-ghost use Rattle.std.specs.Prelude.{◌≡◌, ◌≤◌, ℕ, List, Option, IfOk, IsTrue, true, false, is_some, slice_get};
+ghost use Rattle.std.specs.Prelude.{◌≡◌, ◌≤◌, ℕ, List, Option, IfOk, OnOk, OnErr, IsTrue, true, false, is_some};
 ghost use Rattle.std.specs.Option.{option_copied};
 ghost use Rattle.jac_value.specs.Ids.{model_of_id};
 ghost use Rattle.jac_value.specs.declared.value.Kind.{Kind as KindSeen};
 ghost use Rattle.jac_io.specs.Faults.{Rose};
-ghost use Rattle.jac_rows.specs.Good.{IsNext};
+ghost use Rattle.jac_rows.specs.Good.{IsNext, IsSound};
+ghost use Rattle.jac_rows.specs.Tables.{rows_of};
 ghost use Rattle.jac_keep.specs.KeeperSeen.{Keeps, Reads};
+ghost use Rattle.jac_keep.specs.Kept.{applied};
+ghost use Rattle.jac_keep.specs.Records.{alternatives};
 ghost use Rattle.jac_keep.specs.Schema.{IsSchema};
 ghost use Rattle.jac_keep.specs.Attaching.{Attaches};
-ghost use Rattle.sqlite.specs.Held.{state};
-ghost use Rattle.sqlite.specs.State.{HasCleanDisk};
-ghost use Rattle.jac_sqlkeep.specs.Founding.{IsAsked};
-ghost use Rattle.jac_sqlkeep.specs.Reading.{ReadsModel, ReadsRecord};
-ghost use Rattle.jac_sqlkeep.specs.Statements.{statements_of};
-ghost use Rattle.jac_sqlkeep.specs.Transaction.{Transacts};
-ghost use Rattle.jac_sqlkeep.specs.Untold.{IsRefusedAs};
+ghost use Rattle.jac_sqlkeep.specs.Based.{Based};
+ghost use Rattle.jac_sqlkeep.specs.Kept.{IsRefusedAs};
 
 use crate::Opener;
 use crate::cause::stop_of;
-use crate::meta::{keep_schema, read_number};
-use crate::records::{read_model, read_record, write_change};
+use crate::database::Database;
 use jac_keep::{AttachFault, Change, Keeper, Stop, Vault, shape_of};
 use jac_rows::{Rows, Shape};
-use jac_value::{Id, Kind, Memory, Txt, id_model};
-use sqlite::{Alter, Connection, Error};
+use jac_value::{Id, Memory, Txt};
+use sqlite::Connection;
 use std::alloc::Global;
 use std::marker::Model;
 
-/// A keeper in a database, which tells nothing of what it keeps. It counts each statement that was refused but
-/// for want of memory, each stored row that is none of its model, and each opening that failed.
+/// A keeper in a database. It tells its state where it made the store itself, as long as the connection is open. It
+/// counts each statement that was refused but for want of memory, each stored row that is none of its model, each change
+/// of a record that is none of its models, and each opening that failed.
 #[derive(Drop)]
 pub struct SqlKeeper<O: Opener> {
     opener: O,
@@ -38,24 +36,19 @@ pub struct SqlKeeper<O: Opener> {
     faults: u64,
 }
 
-// A database with the tables of a keeper, and what its models are.
-#[derive(Drop)]
-struct Database<S: Alter> {
-    conn: Connection<S>,
-    shape: Shape,
-}
-
 impl<O: Opener> Model for SqlKeeper<O> {
-    ghost use Rattle.std.specs.Prelude.{is_some};
-    ghost use Rattle.jac_sqlkeep.specs.Untold.{Untold};
+    ghost use Rattle.std.specs.Prelude.{is_some, IsTrue};
+    ghost use Rattle.jac_sqlkeep.specs.Kept.{Kept};
 
-    ghost Value = { Untold };
+    ghost Value = { Kept };
 
-    ghost view = { λ k. record { store = record { called = k.called; attached = is_some k.database; schema = k.schema; name = k.name }; faults = k.faults } };
+    ghost view = { λ k. record { store = record { called = k.called; attached = is_some k.database; schema = k.schema; name = k.name }; faults = k.faults; database = k.database } };
+
+    ghost invariant = { λ k. IsTrue (is_some k.database) → IsTrue k.called };
 }
 
 impl<O: Opener> SqlKeeper<O> {
-    ghost use Rattle.jac_sqlkeep.specs.Untold.{untouched};
+    ghost use Rattle.jac_sqlkeep.specs.Kept.{untouched};
 
     /// A keeper that wasn't attached yet.
     pub fn new(opener: O) -> SqlKeeper<O>
@@ -86,22 +79,18 @@ impl<O: Opener + Drop> SqlKeeper<O> {
             faults: _,
         } = self;
         match database {
-            Some(Database { conn, shape: _ }) => Some(conn),
+            Some(database) => Some(database.into_connection()),
             None => None,
         }
     }
 }
 
 impl<O: Opener> Keeper for SqlKeeper<O> {
-    ghost use Rattle.jac_sqlkeep.specs.Untold.{seen_untold};
+    ghost use Rattle.jac_sqlkeep.specs.Kept.{seen_kept};
 
-    ghost seen = { seen_untold };
+    ghost seen = { seen_kept };
 
-    fn number(&mut self) -> Result<u64, Stop>
-        requires { IsTrue self.old.store.attached }
-        ensures in_range { IfOk result IsNext }
-        ensures reads { Reads (seen_untold self.old) (seen_untold self.new) result }
-    {
+    fn number(&mut self) -> Result<u64, Stop> {
         let Some(database) = &mut self.database else {
             unreachable!()
         };
@@ -111,10 +100,7 @@ impl<O: Opener> Keeper for SqlKeeper<O> {
         }
     }
 
-    fn rows(&mut self, alloc: Global, model: u8) -> Result<Rows, Stop>
-        requires { IsTrue self.old.store.attached }
-        ensures { Reads (seen_untold self.old) (seen_untold self.new) result }
-    {
+    fn rows(&mut self, alloc: Global, model: u8) -> Result<Rows, Stop> {
         let Some(database) = &mut self.database else {
             unreachable!()
         };
@@ -124,10 +110,7 @@ impl<O: Opener> Keeper for SqlKeeper<O> {
         }
     }
 
-    fn one(&mut self, alloc: Global, id: Id) -> Result<Rows, Stop>
-        requires { IsTrue self.old.store.attached }
-        ensures { Reads (seen_untold self.old) (seen_untold self.new) result }
-    {
+    fn one(&mut self, alloc: Global, id: Id) -> Result<Rows, Stop> {
         let Some(database) = &mut self.database else {
             unreachable!()
         };
@@ -137,10 +120,7 @@ impl<O: Opener> Keeper for SqlKeeper<O> {
         }
     }
 
-    fn apply(&mut self, alloc: Global, change: &Change) -> Result<(), Stop>
-        requires { IsTrue self.old.store.attached }
-        ensures { Keeps (seen_untold self.old) (seen_untold self.new) result }
-    {
+    fn apply(&mut self, alloc: Global, change: &Change) -> Result<(), Stop> {
         let Some(database) = &mut self.database else {
             unreachable!()
         };
@@ -151,71 +131,37 @@ impl<O: Opener> Keeper for SqlKeeper<O> {
     }
 }
 
-impl<S: Alter> Database<S> {
-    fn number(&mut self) -> Result<u64, Error>
-        ensures in_range { IfOk result IsNext }
-        ensures stored { HasCleanDisk (state S.Store self.new.conn) → IfOk result (IsAsked S.Store self.old.conn self.new.conn) }
-    {
-        read_number(&mut self.conn)
-    }
-
-    // A model that the schema doesn't have has no rows.
-    fn rows(&mut self, alloc: Global, model: u8) -> Result<Rows, Error>
-        ensures { HasCleanDisk (state S.Store self.new.conn) → IfOk result (ReadsModel S.Store model (slice_get self.old.shape.kinds model) self.old.conn self.new.conn) }
-    {
-        match kinds_of(&self.shape, model) {
-            Some(kinds) => read_model(alloc, &mut self.conn, model, kinds),
-            None => Ok(Rows::empty(alloc)),
-        }
-    }
-
-    fn one(&mut self, alloc: Global, id: Id) -> Result<Rows, Error>
-        ensures { HasCleanDisk (state S.Store self.new.conn) → IfOk result (ReadsRecord S.Store id (slice_get self.old.shape.kinds (model_of_id id)) self.old.conn self.new.conn) }
-    {
-        match kinds_of(&self.shape, id_model(id)) {
-            Some(kinds) => read_record(alloc, &mut self.conn, id, kinds),
-            None => Ok(Rows::empty(alloc)),
-        }
-    }
-
-    fn apply(&mut self, alloc: Global, change: &Change) -> Result<(), Error>
-        ensures { Transacts S.Store (statements_of change.now) self.old.conn self.new.conn result }
-    {
-        write_change(alloc, &mut self.conn, change)
-    }
-}
-
-fn kinds_of(shape: &Shape, model: u8) -> Option<&[Kind]>
-    ensures { option_copied result ≡ slice_get shape.now.kinds model }
-{
-    match shape.kinds.as_slice().get(usize::from(model)) {
-        Some(kinds) => Some(kinds.as_slice()),
-        None => None,
-    }
-}
-
 impl<O: Opener> Vault for SqlKeeper<O> {
-    ghost use Rattle.jac_sqlkeep.specs.Untold.{seen_untold};
+    ghost use Rattle.jac_sqlkeep.specs.Kept.{seen_kept};
 
-    fn attach(&mut self, alloc: Global, name: Option<&Txt>, schema: &Txt) -> Result<(), AttachFault>
-        requires first { self.old.store.called ≡ false }
-        requires schema { (kinds : List (List KindSeen)) × IsSchema schema.now kinds }
-        ensures { Attaches (seen_untold self.old) (seen_untold self.new) (option_copied name.entry) schema.now result }
-    {
+    /// A store that was made before is attached without being told. A database of another program is left as it is.
+    fn attach(
+        &mut self,
+        alloc: Global,
+        name: Option<&Txt>,
+        schema: &Txt,
+    ) -> Result<(), AttachFault> {
         self.called = true;
         let Ok(known) = known_of(alloc, name, schema) else {
             return Err(AttachFault::Memory);
         };
-        let mut conn = match self.opener.open(alloc, name) {
+        let conn = match self.opener.open(alloc, name) {
             Ok(conn) => conn,
             Err(fault) => return Err(counted(fault, &mut self.faults)),
         };
-        match keep_schema(alloc, &mut conn, schema) {
-            Ok(None) => {
-                self.begin(conn, known);
-                Ok(())
-            }
-            Ok(Some(stored)) => self.refuse(alloc, stored),
+        let Known {
+            name,
+            shape,
+            schema: copy,
+        } = known;
+        match Database::open(alloc, conn, shape, schema) {
+            Ok((database, other)) => match other {
+                None => {
+                    self.begin(database, name, copy);
+                    Ok(())
+                }
+                Some(stored) => self.refuse(alloc, stored),
+            },
             Err(error) => Err(fault_of(stop_of(error, &mut self.faults))),
         }
     }
@@ -223,17 +169,13 @@ impl<O: Opener> Vault for SqlKeeper<O> {
 
 impl<O: Opener> SqlKeeper<O> {
     // The database is that of the keeper from now on.
-    fn begin(&mut self, conn: Connection<O::Store>, known: Known)
-        ensures { self.new ≡ record self.old { store = record { called = self.old.store.called; attached = true; schema = Some known.schema; name = known.name } } }
+    fn begin(&mut self, database: Database<O::Store>, name: Option<Txt>, schema: Txt)
+        requires { IsTrue self.old.store.called }
+        ensures { self.new ≡ record self.old { store = record { called = self.old.store.called; attached = true; schema = Some schema; name = name }; database = Some database } }
     {
-        let Known {
-            name,
-            schema,
-            shape,
-        } = known;
         self.name = name;
         self.schema = Some(schema);
-        self.database = Some(Database { conn, shape });
+        self.database = Some(database);
     }
 
     // What is stored has another schema.
@@ -262,6 +204,7 @@ fn known_of(alloc: Global, name: Option<&Txt>, schema: &Txt) -> Result<Known, Me
     requires { (kinds : List (List KindSeen)) × IsSchema schema.now kinds }
     ensures name { IfOk result (λ known. known.name ≡ option_copied name.entry) }
     ensures schema { IfOk result (λ known. known.schema ≡ schema.now) }
+    ensures shape { IfOk result (λ known. IsSchema schema.now known.shape.kinds) }
 {
     let name = copy_name(alloc, name)?;
     let shape = known_shape(alloc, schema)?;
@@ -287,6 +230,7 @@ fn copy_name(alloc: Global, name: Option<&Txt>) -> Result<Option<Txt>, Memory>
 
 fn known_shape(alloc: Global, schema: &Txt) -> Result<Shape, Memory>
     requires { (kinds : List (List KindSeen)) × IsSchema schema.now kinds }
+    ensures { IfOk result (λ shape. IsSchema schema.now shape.kinds) }
 {
     match shape_of(alloc, schema)? {
         Some(shape) => Ok(shape),

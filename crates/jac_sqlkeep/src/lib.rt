@@ -2,6 +2,7 @@
 #![tactic(auto)]
 
 mod cause;
+mod database;
 mod keeper;
 mod meta;
 mod opener;

@@ -1,17 +1,20 @@
 //! The table `meta`: the number of the next accepted request, and the schema of what is stored.
-ghost use Rattle.std.specs.Prelude.{◌≡◌, ◌∷◌, [], IfOk, IfSome};
+ghost use Rattle.std.specs.Prelude.{◌≡◌, ◌∷◌, [], true, false, IfOk, IfErr, IfSome};
 ghost use Rattle.sqlite.specs.Held.{state};
 ghost use Rattle.sqlite.specs.State.{HasCleanDisk};
 ghost use Rattle.jac_rows.specs.Good.{IsNext};
-ghost use Rattle.jac_sqlkeep.specs.Founding.{HasNumber, IsAsked, KeepsSchema, Tells};
-ghost use Rattle.jac_sqlkeep.specs.Statements.{founding, numbering};
-ghost use Rattle.jac_sqlkeep.specs.Transaction.{Inside, Transacts};
+ghost use Rattle.jac_lines.specs.Founding.{HasNumber, IsAsked, IsFrom, FindsSchema, Tells};
+ghost use Rattle.jac_lines.specs.Statements.{founding, numbering};
+ghost use Rattle.jac_lines.specs.Tables.{nothing};
+ghost use Rattle.jac_lines.specs.Telling.{IsKept, ReadsTold};
+ghost use Rattle.jac_lines.specs.Transaction.{Inside, Transacts, Ends};
 
 use crate::cause::{CORRUPT, NO_MEMORY};
 use crate::step::run;
 use jac_value::{Txt, TxtFault};
 use sqlite::types::ValueRef;
 use sqlite::{Alter, Connection, Error, ErrorCode, Row, Transaction, params};
+use sqlite_schema::schema::Schema;
 use std::alloc::Global;
 
 const MAKE_META: &str =
@@ -33,9 +36,28 @@ const LAST_NUMBER: i64 = 1 << 40;
 pub fn read_number<S: Alter>(conn: &mut Connection<S>) -> Result<u64, Error>
     ensures in_range { IfOk result IsNext }
     ensures stored { HasCleanDisk (state S.Store conn.new) → IfOk result (IsAsked S.Store conn.old conn.new) }
+    ensures told { (models : _) → IsKept models (state S.Store conn.old) → ReadsTold S.Store (λ s n. n ≡ s.number) models conn.old conn.new result }
+    ensures mode { conn.old.in_transaction ≡ false → conn.new.in_transaction ≡ false }
 {
-    let row = conn.query_row(READ, &[])?;
-    match number_of(&row) {
+    let row = conn.query_row(READ, &[]);
+    number_from(row)
+}
+
+fn number_from(row: Result<Row, Error>) -> Result<u64, Error>
+    ensures from { IsFrom row result }
+    ensures in_range { IfOk result IsNext }
+{
+    match row {
+        Ok(row) => number_in(&row),
+        Err(error) => Err(error),
+    }
+}
+
+fn number_in(row: &Row) -> Result<u64, Error>
+    ensures has { IfOk result (HasNumber row.now) }
+    ensures in_range { IfOk result IsNext }
+{
+    match number_of(row) {
         Some(number) => Ok(number),
         None => Err(CORRUPT),
     }
@@ -50,7 +72,7 @@ fn number_of(row: &Row) -> Option<u64>
     }
 }
 
-#[tactic(auto, unfolding(crate::specs::Statements::numbering))]
+#[tactic(auto, unfolding(jac_lines::specs::Statements::numbering))]
 pub fn set_number<S: Alter>(tx: &mut Transaction<'_, S>, number: u64) -> Result<(), Error>
     ensures same { tx.new.conn.ghost_name ≡ tx.old.conn.ghost_name }
     ensures inside { Inside S.Store (numbering number ∷ []) tx.old.conn.now tx.new.conn.now result }
@@ -61,24 +83,37 @@ pub fn set_number<S: Alter>(tx: &mut Transaction<'_, S>, number: u64) -> Result<
     }
 }
 
-/// Makes the tables for this schema where there are none, and gives the schema that is stored where it is
-/// another one. A database of which no schema can be read is taken as empty.
-pub fn keep_schema<S: Alter>(
+/// Whether the database has nothing.
+pub fn has_nothing<S: Alter>(conn: &Connection<S>) -> bool
+    ensures { result ≡ true → (state S.Store conn.now).now.schema ≡ nothing }
+{
+    is_nothing(conn.schema())
+}
+
+#[tactic(auto, using(crate::proofs::Read::no_schema))]
+fn is_nothing(schema: &Schema) -> bool
+    ensures { result ≡ true → schema.now ≡ nothing }
+{
+    if !schema.tables.is_empty() || !schema.indexes.is_empty() {
+        return false;
+    }
+    schema.views.is_empty()
+}
+
+/// The schema that is stored, where it isn't this one.
+pub fn find_schema<S: Alter>(
     alloc: Global,
     conn: &mut Connection<S>,
     schema: &Txt,
 ) -> Result<Option<Txt>, Error>
     ensures other { IfOk result (λ other. IfSome other (λ stored. ¬ (stored ≡ schema.now))) }
-    ensures kept { HasCleanDisk (state S.Store conn.new) → KeepsSchema S.Store schema.now conn.old conn.new result }
+    ensures found { HasCleanDisk (state S.Store conn.new) → FindsSchema S.Store schema.now conn.old conn.new result }
+    ensures mode { conn.old.in_transaction ≡ false → conn.new.in_transaction ≡ false }
 {
     match conn.query_row(READ, &[]) {
         Ok(row) => other_schema(alloc, &row, schema),
         Err(Error::SqliteFailure(ErrorCode::OutOfMemory)) => Err(NO_MEMORY),
-        Err(Error::QueryReturnedNoRows) => Err(CORRUPT),
-        Err(_) => match make_tables(conn, schema) {
-            Ok(()) => Ok(None),
-            Err(error) => Err(error),
-        },
+        Err(_) => Err(CORRUPT),
     }
 }
 
@@ -102,8 +137,11 @@ fn other_schema(alloc: Global, row: &Row, schema: &Txt) -> Result<Option<Txt>, E
     }
 }
 
-fn make_tables<S: Alter>(conn: &mut Connection<S>, schema: &Txt) -> Result<(), Error>
-    ensures { Transacts S.Store (founding schema.now) conn.old conn.new result }
+/// Makes the tables for this schema, with the first number.
+pub fn make_tables<S: Alter>(conn: &mut Connection<S>, schema: &Txt) -> Result<(), Error>
+    ensures transacts { Transacts S.Store (founding schema.now) conn.old conn.new result }
+    ensures ends { HasCleanDisk (state S.Store conn.new) → conn.old.in_transaction ≡ false → Ends (state S.Store conn.old) (state S.Store conn.new) }
+    ensures mode { conn.old.in_transaction ≡ false → conn.new.in_transaction ≡ false }
 {
     if !conn.is_autocommit() {
         return Err(Error::SqliteFailure(ErrorCode::TransactionState));
@@ -118,7 +156,7 @@ fn make_tables<S: Alter>(conn: &mut Connection<S>, schema: &Txt) -> Result<(), E
     }
 }
 
-#[tactic(auto, unfolding(crate::specs::Statements::founding))]
+#[tactic(auto, unfolding(jac_lines::specs::Statements::founding))]
 fn found<S: Alter>(tx: &mut Transaction<'_, S>, schema: &Txt) -> Result<(), Error>
     ensures same { tx.new.conn.ghost_name ≡ tx.old.conn.ghost_name }
     ensures inside { Inside S.Store (founding schema.now) tx.old.conn.now tx.new.conn.now result }

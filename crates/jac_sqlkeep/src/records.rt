@@ -1,14 +1,22 @@
 //! The table `rec`: the alternatives of each record, numbered from 0.
-ghost use Rattle.std.specs.Prelude.{◌≡◌, ◌<◌, ◌^◌, ◌∷◌, [], IfOk};
+ghost use Rattle.std.specs.Prelude.{◌≡◌, ◌<◌, ◌^◌, ◌∷◌, [], length, true, false, IfOk, IfErr, OnOk, Err};
+ghost use Rattle.std.specs.List.{AllByRecursion};
 ghost use Rattle.sqlite_value.specs.Order.{column};
 ghost use Rattle.sqlite_value.specs.declared.value.Value.TheVariants.{Blob};
 ghost use Rattle.sqlite.specs.Held.{state};
 ghost use Rattle.sqlite.specs.State.{HasCleanDisk};
 ghost use Rattle.jac_rows.specs.declared.row.Row.{Row as Kept};
+ghost use Rattle.jac_value.specs.Ids.{model_of_id};
+ghost use Rattle.jac_rows.specs.Tables.{rows_of};
+ghost use Rattle.jac_stored.specs.Faults.{CanBeSpelled};
 ghost use Rattle.jac_stored.specs.Spelling.{guard_bytes, cells_bytes};
-ghost use Rattle.jac_sqlkeep.specs.Reading.{AreShown, Each, IsModelRow, IsRecordRow, IsRowIn};
-ghost use Rattle.jac_sqlkeep.specs.Statements.{model_reading, record_reading, removal, addition, replacement, replacements, statements_of};
-ghost use Rattle.jac_sqlkeep.specs.Transaction.{Inside, Transacts};
+ghost use Rattle.jac_keep.specs.Alterations.{ArePlaced};
+ghost use Rattle.jac_keep.specs.Records.{alternatives};
+ghost use Rattle.jac_lines.specs.Reading.{AreShown, Each, IsModelRow, IsRecordRow, IsRowIn};
+ghost use Rattle.jac_lines.specs.Statements.{model_reading, record_reading, removal, addition, replacement, replacements, statements_of};
+ghost use Rattle.jac_lines.specs.Stands.{AreNarrow};
+ghost use Rattle.jac_lines.specs.Telling.{IsKept, ReadsTold, CanAllBeSpelled, CanBeStored};
+ghost use Rattle.jac_lines.specs.Transaction.{Inside, Transacts, Ends};
 
 use crate::cause::{CORRUPT, NO_MEMORY};
 use crate::meta::set_number;
@@ -30,33 +38,68 @@ const REMOVE: &str = "DELETE FROM rec WHERE model = ?1 AND jid = ?2";
 const ADD: &str = "INSERT INTO rec(model, jid, alt, jvars, body) VALUES(?1, ?2, ?3, ?4, ?5)";
 
 /// All rows of the model, by rising id.
-#[tactic(auto, unfolding(crate::specs::Statements::model_reading))]
+#[tactic(auto, unfolding(jac_lines::specs::Statements::model_reading))]
 pub fn read_model<S: Alter>(
     alloc: Global,
     conn: &mut Connection<S>,
     model: u8,
     kinds: &[Kind],
 ) -> Result<Rows, Error>
-    ensures { HasCleanDisk (state S.Store conn.new) → IfOk result (AreShown S.Store (model_reading model) (IsModelRow model kinds.now) conn.old conn.new) }
+    ensures shown { HasCleanDisk (state S.Store conn.new) → IfOk result (AreShown S.Store (model_reading model) (IsModelRow model kinds.now) conn.old conn.new) }
+    ensures told { (models : _) → IsKept models (state S.Store conn.old) → ReadsTold S.Store (λ s rows. rows ≡ rows_of s.tables model) models conn.old conn.new result }
+    ensures mode { conn.old.in_transaction ≡ false → conn.new.in_transaction ≡ false }
 {
-    let found = conn.query_all(READ_MODEL, params![u32::from(model)])?;
-    rows_of_model(alloc, found.as_slice(), model, kinds)
+    let found = conn.query_all(READ_MODEL, params![u32::from(model)]);
+    model_found(alloc, found, model, kinds)
 }
 
 /// The alternatives of the record.
-#[tactic(auto, unfolding(crate::specs::Statements::record_reading))]
+#[tactic(auto, unfolding(jac_lines::specs::Statements::record_reading))]
 pub fn read_record<S: Alter>(
     alloc: Global,
     conn: &mut Connection<S>,
     id: Id,
     kinds: &[Kind],
 ) -> Result<Rows, Error>
-    ensures { HasCleanDisk (state S.Store conn.new) → IfOk result (AreShown S.Store (record_reading id) (IsRecordRow id kinds.now) conn.old conn.new) }
+    ensures shown { HasCleanDisk (state S.Store conn.new) → IfOk result (AreShown S.Store (record_reading id) (IsRecordRow id kinds.now) conn.old conn.new) }
+    ensures told { (models : _) → IsKept models (state S.Store conn.old) → ReadsTold S.Store (λ s rows. rows ≡ alternatives id (rows_of s.tables (model_of_id id))) models conn.old conn.new result }
+    ensures mode { conn.old.in_transaction ≡ false → conn.new.in_transaction ≡ false }
 {
     let jid = encode_id(id);
     let model = u32::from(id_model(id));
-    let found = conn.query_all(READ_RECORD, params![model, jid.as_slice()])?;
-    rows_of_record(alloc, found.as_slice(), id, kinds)
+    let found = conn.query_all(READ_RECORD, params![model, jid.as_slice()]);
+    record_found(alloc, found, id, kinds)
+}
+
+fn model_found(
+    alloc: Global,
+    found: Result<Vec<Found>, Error>,
+    model: u8,
+    kinds: &[Kind],
+) -> Result<Rows, Error>
+    ensures each { IfOk found (λ found. IfOk result (Each (IsModelRow model kinds.now) found.items)) }
+    ensures none { IfErr found (λ error. result ≡ Err error) }
+{
+    match found {
+        Ok(found) => rows_of_model(alloc, found.as_slice(), model, kinds),
+        Err(error) => Err(error),
+    }
+}
+
+fn record_found(
+    alloc: Global,
+    found: Result<Vec<Found>, Error>,
+    id: Id,
+    kinds: &[Kind],
+) -> Result<Rows, Error>
+    ensures each { IfOk found (λ found. IfOk result (Each (IsRecordRow id kinds.now) found.items)) }
+    ensures none { IfErr found (λ error. result ≡ Err error) }
+    ensures room { id < 2 ^ 128 }
+{
+    match found {
+        Ok(found) => rows_of_record(alloc, found.as_slice(), id, kinds),
+        Err(error) => Err(error),
+    }
 }
 
 #[tactic(auto, using(crate::proofs::Read::each_start, crate::proofs::Read::each_next, crate::proofs::Read::each_end))]
@@ -120,16 +163,24 @@ fn blob_at(values: &Found, at: usize) -> Result<&[u8], Error>
     }
 }
 
-/// Replaces the named records and sets the number, all or nothing.
+/// Replaces the named records and sets the number, all or nothing. Where a record is none of so many models, it does
+/// nothing.
 pub fn write_change<S: Alter>(
     alloc: Global,
     conn: &mut Connection<S>,
+    models: usize,
     change: &Change,
 ) -> Result<(), Error>
-    ensures { Transacts S.Store (statements_of change.now) conn.old conn.new result }
+    ensures transacts { Transacts S.Store (statements_of change.now) conn.old conn.new result }
+    ensures ends { HasCleanDisk (state S.Store conn.new) → conn.old.in_transaction ≡ false → Ends (state S.Store conn.old) (state S.Store conn.new) }
+    ensures mode { conn.old.in_transaction ≡ false → conn.new.in_transaction ≡ false }
+    ensures stored { OnOk result (CanBeStored models change.now.changed) }
 {
     if !conn.is_autocommit() {
         return Err(Error::SqliteFailure(ErrorCode::TransactionState));
+    }
+    if !are_placed(change.changed.as_slice(), models) {
+        return Err(CORRUPT);
     }
     let mut tx = conn.transaction();
     match write(alloc, &mut tx, change) {
@@ -141,10 +192,31 @@ pub fn write_change<S: Alter>(
     }
 }
 
+// Whether each record is one of so many models.
+fn are_placed(changed: &[Alteration], models: usize) -> bool
+    ensures { result ≡ true → AreNarrow changed.now × ArePlaced changed.now models }
+{
+    let mut rest = changed;
+    'changed: while let Some((alteration, more)) = rest.split_first() {
+        if !is_placed(alteration.id, models) {
+            return false;
+        }
+        rest = more;
+    }
+    true
+}
+
+fn is_placed(id: Id, models: usize) -> bool
+    ensures { result ≡ true → (id < 2 ^ 128) × (model_of_id id < models) }
+{
+    usize::from(id_model(id)) < models
+}
+
 #[tactic(auto, using(crate::proofs::Steps::inside_then, crate::proofs::Steps::failed_of))]
 fn write<S: Alter>(alloc: Global, tx: &mut Transaction<'_, S>, change: &Change) -> Result<(), Error>
     ensures same { tx.new.conn.ghost_name ≡ tx.old.conn.ghost_name }
     ensures inside { Inside S.Store (statements_of change.now) tx.old.conn.now tx.new.conn.now result }
+    ensures spelled { OnOk result (CanAllBeSpelled change.now.changed) }
 {
     write_records(alloc, tx, change.changed.as_slice())?;
     set_number(tx, change.number)
@@ -158,6 +230,7 @@ fn write_records<S: Alter>(
 ) -> Result<(), Error>
     ensures same { tx.new.conn.ghost_name ≡ tx.old.conn.ghost_name }
     ensures inside { Inside S.Store (replacements changed.now) tx.old.conn.now tx.new.conn.now result }
+    ensures spelled { OnOk result (CanAllBeSpelled changed.now) }
 {
     let mut rest = changed;
     'changed: while let Some((alteration, more)) = rest.split_first() {
@@ -167,7 +240,7 @@ fn write_records<S: Alter>(
     Ok(())
 }
 
-#[tactic(auto, using(crate::proofs::Steps::replaced_start, crate::proofs::Steps::replaced_next, crate::proofs::Steps::replaced_end, crate::proofs::Steps::halfway_failed, crate::proofs::Steps::failed_of))]
+#[tactic(auto, using(crate::proofs::Steps::replaced_start, crate::proofs::Steps::replaced_next, crate::proofs::Steps::replaced_end, crate::proofs::Steps::halfway_failed, crate::proofs::Steps::failed_of, crate::proofs::Read::all_behind))]
 fn write_record<S: Alter>(
     alloc: Global,
     tx: &mut Transaction<'_, S>,
@@ -175,6 +248,7 @@ fn write_record<S: Alter>(
 ) -> Result<(), Error>
     ensures same { tx.new.conn.ghost_name ≡ tx.old.conn.ghost_name }
     ensures inside { Inside S.Store (replacement alteration.now) tx.old.conn.now tx.new.conn.now result }
+    ensures spelled { OnOk result (AllByRecursion CanBeSpelled alteration.now.rows) }
 {
     remove(tx, alteration.id)?;
     let rows = alteration.rows.as_slice();
@@ -184,7 +258,7 @@ fn write_record<S: Alter>(
     Ok(())
 }
 
-#[tactic(auto, unfolding(crate::specs::Statements::removal))]
+#[tactic(auto, unfolding(jac_lines::specs::Statements::removal))]
 fn remove<S: Alter>(tx: &mut Transaction<'_, S>, id: Id) -> Result<(), Error>
     ensures same { tx.new.conn.ghost_name ≡ tx.old.conn.ghost_name }
     ensures inside { Inside S.Store (removal id ∷ []) tx.old.conn.now tx.new.conn.now result }
@@ -202,6 +276,7 @@ fn add<S: Alter>(
     requires { alt < 2 ^ 63 }
     ensures same { tx.new.conn.ghost_name ≡ tx.old.conn.ghost_name }
     ensures inside { Inside S.Store (addition alt row.now ∷ []) tx.old.conn.now tx.new.conn.now result }
+    ensures spelled { OnOk result (CanBeSpelled row.now) }
 {
     match encode_row(alloc, row) {
         Ok(stored) => add_stored(tx, row.id, alt, &stored),
@@ -209,7 +284,7 @@ fn add<S: Alter>(
     }
 }
 
-#[tactic(auto, unfolding(crate::specs::Statements::addition))]
+#[tactic(auto, unfolding(jac_lines::specs::Statements::addition))]
 fn add_stored<S: Alter>(
     tx: &mut Transaction<'_, S>,
     id: Id,

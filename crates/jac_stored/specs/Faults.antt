@@ -1,10 +1,11 @@
 -- Where bytes stop being a right spelling.
 use Rattle.std.specs.Prelude.{◌≡◌, ℕ, ◌<◌, ◌≤◌, true, List, ◌++◌, length, take}
 use Rattle.std.specs.Int.{w128, to_be_bytes}
+use Rattle.std.specs.List.{AllByRecursion}
 use Rattle.jac_value.specs.Ids.{is_id_of}
 use Rattle.jac_value.specs.declared.value.Kind.{Kind}
 use Rattle.jac_rows.specs.declared.row.Row.{Row}
-use Rattle.jac_stored.specs.Spelling.{SpellsGuard, SpellsCells, IsGuard, AreCells, guard_bytes, cells_bytes}
+use Rattle.jac_stored.specs.Spelling.{SpellsGuard, SpellsCells, IsGuard, IsCell, IsNarrow, AreCells, guard_bytes, cells_bytes}
 
 -- the bytes can go on to a right spelling
 abbrev pub GoesOn : (List ℕ → Type 0) → List ℕ → Type 0
@@ -22,6 +23,12 @@ IsGuardFault = IsFault SpellsGuard
 
 abbrev pub IsBodyFault : List Kind → List ℕ → ℕ → Type 0
 IsBodyFault kinds = IsFault (SpellsCells kinds)
+
+-- a row that can be spelled, whatever the kinds of its cells
+pub record CanBeSpelled (row : Row) : Type 0 where
+  pub guard : IsGuard row.guard
+  pub cells : AllByRecursion IsCell row.cells
+  pub narrow : AllByRecursion IsNarrow row.cells
 
 -- the row that the bytes spell
 pub record IsRowOf (id : ℕ) (kinds : List Kind) (jvars body : List ℕ) (row : Row) : Type 0 where

@@ -43,6 +43,14 @@ IsCell (Text t) = IsUtf8 t × (length t < 2 ^ 64)
 IsCell (Truth b) = ⊤
 IsCell (Ref id) = ⊤
 
+-- an id that a reference has is a number of 128 bits
+abbrev pub IsNarrow : Value → Type 0
+IsNarrow (Int i) = ⊤
+IsNarrow (Text t) = ⊤
+IsNarrow (Truth b) = ⊤
+IsNarrow (Ref None) = ⊤
+IsNarrow (Ref (Some id)) = id < 2 ^ 128
+
 -- the pairs of a guard: numbers of 128 bits that rise
 pub record IsGuard (g : List (ℕ × Bool)) : Type 0 where
   pub rising : IsRising g

@@ -3,8 +3,8 @@ ghost use Rattle.std.specs.Int.{w128, to_be_bytes};
 ghost use Rattle.std.specs.List.{AllByRecursion};
 ghost use Rattle.jac_value.specs.declared.value.Kind.{Kind};
 ghost use Rattle.jac_rows.specs.Good.{have_kinds};
-ghost use Rattle.jac_stored.specs.Spelling.{guard_bytes, cell_bytes, cells_bytes, sign_byte, IsLabel, IsCell};
-ghost use Rattle.jac_stored.specs.Faults.{IsRowOf};
+ghost use Rattle.jac_stored.specs.Spelling.{guard_bytes, cell_bytes, cells_bytes, sign_byte, IsLabel, IsCell, IsNarrow};
+ghost use Rattle.jac_stored.specs.Faults.{IsRowOf, CanBeSpelled};
 
 use crate::id::encode_id;
 use jac_rows::Row;
@@ -29,6 +29,7 @@ pub fn encode_row(alloc: Global, row: &Row) -> Result<Stored, Memory>
     ensures jvars { IfOk result (λ s. s.jvars ≡ guard_bytes row.now.guard) }
     ensures body { IfOk result (λ s. s.body ≡ cells_bytes row.now.cells) }
     ensures right { IfOk result (λ s. (kinds : List Kind) → have_kinds kinds row.now.cells ≡ true → IsRowOf row.now.id kinds s.jvars s.body row.now) }
+    ensures spelled { OnOk result (CanBeSpelled row.now) }
 {
     let jvars = encode_guard(alloc, row.guard.pairs())?;
     let body = encode_cells(alloc, row.cells.as_slice())?;
@@ -73,6 +74,7 @@ fn sign_byte(sign: bool) -> u8
 fn encode_cells(alloc: Global, cells: &[Value]) -> Result<Bytes, Memory>
     ensures bytes { IfOk result (λ b. b ≡ cells_bytes cells.now) }
     ensures cells { OnOk result (AllByRecursion IsCell cells.now) }
+    ensures narrow { OnOk result (AllByRecursion IsNarrow cells.now) }
 {
     let mut bytes = Vec::new(alloc);
     let mut rest = cells;
@@ -86,6 +88,7 @@ fn encode_cells(alloc: Global, cells: &[Value]) -> Result<Bytes, Memory>
 fn push_cell(bytes: &mut Vec<u8>, cell: &Value) -> Result<(), Memory>
     ensures bytes { OnOk result (bytes.new.items ≡ bytes.old.items ++ cell_bytes cell.now) }
     ensures cell { OnOk result (IsCell cell.now) }
+    ensures narrow { OnOk result (IsNarrow cell.now) }
 {
     match cell {
         Value::Int(number) => {
@@ -113,6 +116,7 @@ fn push_cell(bytes: &mut Vec<u8>, cell: &Value) -> Result<(), Memory>
 
 fn push_id(bytes: &mut Vec<u8>, id: Id) -> Result<(), Memory>
     ensures bytes { OnOk result (bytes.new.items ≡ bytes.old.items ++ (4 ∷ (1 ∷ to_be_bytes w128 id))) }
+    ensures narrow { id < 2 ^ 128 }
 {
     bytes.extend_from_slice(&[4, 1])?;
     bytes.extend_from_slice(&encode_id(id))?;

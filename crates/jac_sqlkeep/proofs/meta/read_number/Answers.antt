@@ -1,7 +1,13 @@
-use Rattle.std.proofs.Common.{rules}
-use Rattle.jac_sqlkeep.specs.Statements.{reading}
+use Rattle.jac_lines.specs.Statements.{reading}
+use Rattle.jac_lines.proofs.ReadRows.{number_told}
+use Rattle.jac_sqlkeep.proofs.Read.{is_asked}
 use Rattle.jac_sqlkeep.proofs.meta.read_number.Goals as goal
 
-pub returns-in-Some-clause-stored : goal.returns-in-Some-clause-stored
+pub returns-clause-stored : goal.returns-clause-stored
 unfolding reading
-returns-in-Some-clause-stored g c clean = record { row = c.in_ok-row.row; asked = c.in_ok-row.ensures.row clean; has = search rules }
+returns-clause-stored g c clean = is_asked g.S.Store c.args.conn.now c.query_row-row.new.self c.query_row-row.result c.number_from.result (c.query_row-row.ensures.row clean) c.number_from.ensures.from
+
+pub returns-clause-told : goal.returns-clause-told
+unfolding reading
+returns-clause-told g c models was =
+    number_told g.S.Store models c.args.conn.now c.query_row-row.new.self (g.met.S.Store.shut_if_dirty c.query_row-row.new.self.store) was c.query_row-row.result c.query_row-row.ensures.row c.number_from.result c.number_from.ensures.from

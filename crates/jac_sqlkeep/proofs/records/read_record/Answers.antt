@@ -1,11 +1,21 @@
-use Rattle.jac_sqlkeep.specs.Reading.{IsRecordRow}
-use Rattle.jac_sqlkeep.specs.Statements.{record_reading}
+use Rattle.jac_lines.specs.Reading.{IsRecordRow}
+use Rattle.jac_lines.specs.Statements.{record_reading}
+use Rattle.jac_lines.proofs.ReadRows.{record_told}
 use Rattle.jac_sqlkeep.proofs.Read.{are_shown}
 use Rattle.jac_sqlkeep.proofs.records.read_record.Goals as goal
 
-pub returns : goal.returns
+pub returns-clause-shown : goal.returns-clause-shown
 unfolding record_reading
-returns g c clean =
-    let shown = rw (c.params-to_sql.ensures, c.from-model.ensures, c.id_model.ensures, c.params-to_sql-2.ensures, c.as_slice.ensures, c.encode_id-jid.ensures) at (c.in_ok-found.ensures.ok clean) in
-    let each = rw c.as_slice-2.ensures.value at c.rows_of_record.ensures in
-    are_shown g.S.Store (record_reading c.args.id) (IsRecordRow c.args.id c.args.kinds.now) c.args.conn.now c.query_all.new.self c.in_ok-found.found.items c.rows_of_record.result shown each
+returns-clause-shown g c clean =
+    let shown = rw (c.params-to_sql.ensures, c.from-model.ensures, c.id_model.ensures, c.params-to_sql-2.ensures, c.as_slice.ensures, c.encode_id-jid.ensures) at (c.query_all-found.ensures.ok clean) in
+    are_shown (λ v. v.items) g.S.Store (record_reading c.args.id) (IsRecordRow c.args.id c.args.kinds.now) c.args.conn.now c.query_all-found.new.self c.query_all-found.result c.record_found.result
+    shown c.record_found.ensures.each c.record_found.ensures.none
+
+pub returns-clause-told : goal.returns-clause-told
+unfolding record_reading
+returns-clause-told g c models was =
+    record_told (λ v. v.items) g.S.Store models c.args.conn.now c.query_all-found.new.self c.query_all-found.result (g.met.S.Store.shut_if_dirty c.query_all-found.new.self.store) c.args.kinds.now c.record_found.result
+    c.args.id c.record_found.ensures.room
+    (rw (c.params-to_sql.ensures, c.from-model.ensures, c.id_model.ensures, c.params-to_sql-2.ensures, c.as_slice.ensures, c.encode_id-jid.ensures) at c.query_all-found.ensures.ok)
+    (rw (c.params-to_sql.ensures, c.from-model.ensures, c.id_model.ensures, c.params-to_sql-2.ensures, c.as_slice.ensures, c.encode_id-jid.ensures) at c.query_all-found.ensures.err)
+    c.record_found.ensures.each c.record_found.ensures.none was

@@ -1,6 +1,7 @@
 use Rattle.std.proofs.Common.{[], ◌∷◌}
-use Rattle.jac_sqlkeep.specs.Statements.{replacements, numbering}
+use Rattle.jac_lines.specs.Statements.{replacements, numbering}
 use Rattle.jac_sqlkeep.proofs.Steps.{inside_then}
+use Rattle.jac_sqlkeep.proofs.Read.{on_ok}
 use Rattle.jac_sqlkeep.proofs.records.write.Goals as goal
 
 pub returns-clause-inside : goal.returns-clause-inside
@@ -9,3 +10,6 @@ returns-clause-inside g c =
     let written = rw c.as_slice.ensures.items at c.in_ok-write_records.ensures.inside in
     inside_then g.S.Store (replacements change.changed) (numbering change.number ∷ []) c.args.tx.now.conn.now c.write_records.new.tx.conn.now c.set_number.new.tx.conn.now
     c.in_ok-write_records.field-0 c.set_number.result written c.set_number.ensures.inside
+
+pub returns-clause-spelled : goal.returns-clause-spelled
+returns-clause-spelled g c = on_ok c.set_number.result (rw c.as_slice.ensures.items at c.in_ok-write_records.ensures.spelled)

@@ -1,5 +1,7 @@
 use Rattle.std.proofs.Common.{◌≡◌, drop}
-use Rattle.jac_sqlkeep.specs.Statements.{replacement, additions}
+use Rattle.std.specs.List.{AllByRecursion}
+use Rattle.jac_stored.specs.Faults.{CanBeSpelled}
+use Rattle.jac_lines.specs.Statements.{replacement, additions}
 use Rattle.jac_sqlkeep.proofs.Steps.{Halfway}
 use Rattle.jac_sqlkeep.proofs.records.write_record.Given as goal
 
@@ -8,4 +10,5 @@ invariant-rows g l = record {
   same : l.tx.conn.ghost_name ≡ l.fn.tx.conn.ghost_name;
   listed : l.rows ≡ l.alteration.rows;
   half : Halfway g.S.Store (replacement l.alteration) (additions l.alt (drop l.alt l.rows)) l.fn.tx.conn.now l.tx.conn.now;
+  spelled : AllByRecursion CanBeSpelled (drop l.alt l.rows) → AllByRecursion CanBeSpelled l.rows;
 }

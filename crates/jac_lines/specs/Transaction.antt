@@ -3,9 +3,9 @@ use Rattle.std.specs.Prelude.{◌≡◌, ℕ, true, List, [], ◌∷◌, Result,
 use Rattle.sqlite_trees.specs.declared.store.Store.{Ghosts}
 use Rattle.sqlite.specs.declared.error.Error.{Error}
 use Rattle.sqlite.specs.Effect.{Database}
-use Rattle.sqlite.specs.State.{HasCleanDisk, ExecutesInside, KeepsCommit, Survives}
+use Rattle.sqlite.specs.State.{State, HasCleanDisk, ExecutesInside, KeepsCommit, Survives}
 use Rattle.sqlite.specs.Held.{Held, state}
-use Rattle.jac_sqlkeep.specs.Statements.{Statement}
+use Rattle.jac_lines.specs.Statements.{Statement}
 
 -- each of them ran, one after another
 abbrev pub Ran : {S : Type 0} → Ghosts S → List Statement → Held S → Held S → Type 0
@@ -30,3 +30,8 @@ pub record Transacts {S T : Type 0} (g : Ghosts S) (xs : List Statement) (old ne
   pub all : HasCleanDisk (state g new) → OnOk result (Leaves g xs old (state g new).committed)
   pub none : HasCleanDisk (state g new) → IsTrue (state g new).is_open → OnErr result (((state g new).now ≡ (state g old).now) × ((state g new).committed ≡ (state g old).committed))
   pub crash : Survives (state g old) (state g new) (λ trees. (db : Database) × Leaves g xs old db × (trees ≡ db.trees))
+
+-- a call outside of a transaction ends outside of one: what is seen then is what is committed
+pub record Ends (old new : State) : Type 0 where
+  pub was_open : IsTrue new.is_open → IsTrue old.is_open
+  pub settled : IsTrue new.is_open → new.now ≡ new.committed

@@ -8,7 +8,8 @@ use Rattle.sqlite.specs.Held.{Held, state}
 use Rattle.jac_value.specs.declared.value.Kind.{Kind}
 use Rattle.jac_rows.specs.declared.row.Row.{Row}
 use Rattle.jac_stored.specs.Faults.{IsIdOf, IsRowOf}
-use Rattle.jac_sqlkeep.specs.Statements.{Statement, model_reading, record_reading}
+use Rattle.jac_lines.specs.Facts.{Fact}
+use Rattle.jac_lines.specs.Statements.{Statement, model_reading, record_reading}
 
 -- the row of this id that a guard and cells in these columns spell
 pub record IsRowIn (guard cells : ℕ) (kinds : List Kind) (values : Values) (id : ℕ) (row : Row) : Type 0 where
@@ -35,6 +36,13 @@ Each Is [] [] = ⊤
 Each Is (x ∷ xs) (r ∷ rs) = Is x r × Each Is xs rs
 Each Is [] (r ∷ rs) = ⊥
 Each Is (x ∷ xs) [] = ⊥
+
+-- what the question for a model and that for a record show of a row of the table
+abbrev pub model_shows : Fact → Values
+model_shows f = Blob f.jid ∷ Blob f.jvars ∷ Blob f.body ∷ []
+
+abbrev pub record_shows : Fact → Values
+record_shows f = Blob f.jvars ∷ Blob f.body ∷ []
 
 -- all that the question shows, and nothing else
 pub record AreShown {S : Type 0} (g : Ghosts S) (question : Statement) (Is : Values → Row → Type 0) (old new : Held S) (rows : List Row) : Type 0 where

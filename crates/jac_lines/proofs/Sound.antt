@@ -1,0 +1,66 @@
+-- A sound state's tables may be stored, and cells of known kinds name ids with room.
+use Rattle.std.proofs.Common.{◌≡◌, refl, sym, ap, ℕ, zero, suc, ◌+◌, ◌/◌, ◌^◌, ◌<◌, ◌≤◌, Bool, true, false, ◌&&◌, List, [], ◌∷◌, Some, None, arith}
+use Rattle.std.specs.List.{AllByRecursion}
+use Rattle.std.proofs.lemmas.Bool.Decides.{nat_tests}
+use Rattle.std.proofs.lemmas.Nat.{div-add-mod'}
+use Rattle.jac_value.specs.Ids.{is_id_of, number_of_id}
+use Rattle.jac_value.specs.Values.{has_kind}
+use Rattle.jac_value.specs.declared.value.Kind.{Kind}
+use Rattle.jac_value.specs.declared.value.Kind.TheVariants as kinds
+use Rattle.jac_value.specs.declared.value.Value.{Value}
+use Rattle.jac_value.specs.declared.value.Value.TheVariants as values
+use Rattle.jac_rows.specs.declared.row.Row.{Row}
+use Rattle.jac_rows.specs.declared.state.State.{State}
+use Rattle.jac_rows.specs.Tables.{rows_of}
+use Rattle.jac_rows.specs.Good.{have_kinds, IsMade, AreSound, IsSound}
+use Rattle.jac_keep.proofs.OrderLaws.{ordered_if_rising}
+use Rattle.jac_lines.specs.Facts.{IsPlaced, ArePlacedFrom, AreKept}
+use Rattle.jac_lines.specs.Spelled.{IsNarrow, IsSpelled}
+use Rattle.jac_lines.specs.Told.{AreSpelled}
+
+made_placed : (model next : ℕ) (r : Row) → next ≤ 2 ^ 40 → IsMade model next r.id → IsPlaced model r
+made_placed model next r last made =
+    let whole = div-add-mod' r.id 4096 in
+    let below = made.made in
+    let rest : Rattle.std.proofs.Common.◌%◌ r.id 4096 < 4096 = omega arith in
+    record { of_model = made.of_model; room = omega (arith, whole, below, last, rest) }
+
+all_placed : (model next : ℕ) (rows : List Row) → next ≤ 2 ^ 40 → AllByRecursion (λ (r : Row). IsMade model next r.id) rows → AllByRecursion (IsPlaced model) rows
+all_placed model next [] last all = tt
+all_placed model next (r ∷ rs) last all = (made_placed model next r last all.0, all_placed model next rs last all.1)
+
+tables_placed : (first next : ℕ) (tables : List (List Row)) → next ≤ 2 ^ 40 → AreSound next first tables → ArePlacedFrom first tables
+tables_placed first next [] last sound = tt
+tables_placed first next (t ∷ ts) last sound = (ordered_if_rising t sound.0, all_placed first next t last sound.1, tables_placed (first + 1) next ts last sound.2)
+
+pub kept_if_sound : (s : State) → IsSound s → AreKept s.tables
+kept_if_sound s sound = tables_placed 0 s.number s.tables sound.next.1 sound.tables
+
+pub rows_spelled : (tables : List (List Row)) (k : ℕ) → AreSpelled tables → AllByRecursion IsSpelled (rows_of tables k)
+rows_spelled [] zero are = tt
+rows_spelled [] (suc k) are = tt
+rows_spelled (t ∷ ts) zero are = are.0
+rows_spelled (t ∷ ts) (suc k) are = rows_spelled ts k are.1
+
+small : (id model : ℕ) → is_id_of id model ≡ true → id < 2 ^ 128
+small id model e = let h : id < 2 ^ 52 = grind (arith, nat_tests, e) in omega (arith, h)
+
+narrow_cell : (k : Kind) (v : Value) → has_kind k v ≡ true → IsNarrow v
+narrow_cell k (values.Int i) e = tt
+narrow_cell k (values.Text t) e = tt
+narrow_cell k (values.Bool b) e = tt
+narrow_cell k (values.Ref None) e = tt
+narrow_cell (kinds.Ref m) (values.Ref (Some id)) e = small id m e
+narrow_cell kinds.Int (values.Ref (Some id)) e = let f : false ≡ true = e in cc
+narrow_cell kinds.Text (values.Ref (Some id)) e = let f : false ≡ true = e in cc
+narrow_cell kinds.Bool (values.Ref (Some id)) e = let f : false ≡ true = e in cc
+
+both_true : (a b : Bool) → (a && b) ≡ true → (a ≡ true) × (b ≡ true)
+both_true true b e = (refl, e)
+both_true false b e = let f : false ≡ true = e in cc
+
+pub narrow_cells : (ks : List Kind) (vs : List Value) → have_kinds ks vs ≡ true → AllByRecursion IsNarrow vs
+narrow_cells [] [] e = tt
+narrow_cells [] (v ∷ vs) e = let f : false ≡ true = e in cc
+narrow_cells (k ∷ ks) [] e = tt
+narrow_cells (k ∷ ks) (v ∷ vs) e = let parts = both_true (has_kind k v) (have_kinds ks vs) e in (narrow_cell k v parts.0, narrow_cells ks vs parts.1)

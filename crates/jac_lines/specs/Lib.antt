@@ -1,0 +1,11 @@
+pub mod Facts
+pub mod Founding
+pub mod Lines
+pub mod Reading
+pub mod Spelled
+pub mod Stands
+pub mod Statements
+pub mod Tables
+pub mod Telling
+pub mod Told
+pub mod Transaction

@@ -1,0 +1,11 @@
+use Rattle.jac_sqlkeep.proofs.Based.{reads_based}
+use Rattle.jac_sqlkeep.proofs.database.Database.number.Goals as goal
+
+pub invariant_of-self : goal.invariant_of-self
+invariant_of-self g c =
+    (c.read_number.ensures.mode c.self.invariant.0, λ known. (c.read_number.ensures.told _ (c.self.invariant.1 known)).kept)
+
+pub returns-clause-reads : goal.returns-clause-reads
+returns-clause-reads g c =
+    rw (← c.self.view_is)
+    (reads_based g.S.Store c.self.inside.shape.kinds c.self.inside.conn c.read_number.new.conn _ c.read_number.result c.self.inside.known (λ known. c.read_number.ensures.told _ (c.self.invariant.1 known)))

@@ -1,0 +1,21 @@
+use Rattle.jac_lines.specs.Reading.{IsModelRow}
+use Rattle.jac_lines.specs.Statements.{model_reading}
+use Rattle.jac_lines.proofs.ReadRows.{model_told}
+use Rattle.jac_sqlkeep.proofs.Read.{are_shown}
+use Rattle.jac_sqlkeep.proofs.records.read_model.Goals as goal
+
+pub returns-clause-shown : goal.returns-clause-shown
+unfolding model_reading
+returns-clause-shown g c clean =
+    let shown = rw (c.params-to_sql.ensures, c.from.ensures) at (c.query_all-found.ensures.ok clean) in
+    are_shown (λ v. v.items) g.S.Store (model_reading c.args.model) (IsModelRow c.args.model c.args.kinds.now) c.args.conn.now c.query_all-found.new.self c.query_all-found.result c.model_found.result
+    shown c.model_found.ensures.each c.model_found.ensures.none
+
+pub returns-clause-told : goal.returns-clause-told
+unfolding model_reading
+returns-clause-told g c models was =
+    model_told (λ v. v.items) g.S.Store models c.args.conn.now c.query_all-found.new.self c.query_all-found.result (g.met.S.Store.shut_if_dirty c.query_all-found.new.self.store) c.args.kinds.now c.model_found.result
+    c.args.model
+    (rw (c.params-to_sql.ensures, c.from.ensures) at c.query_all-found.ensures.ok)
+    (rw (c.params-to_sql.ensures, c.from.ensures) at c.query_all-found.ensures.err)
+    c.model_found.ensures.each c.model_found.ensures.none was

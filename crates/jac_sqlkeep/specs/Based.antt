@@ -1,0 +1,42 @@
+-- what contracts see of a keeper's database
+use Rattle.std.specs.Prelude.{◌≡◌, ℕ, Bool, ◌&&◌, List, length, Option, IsTrue, Result, IfOk, IfSome, OnOk, OnErr}
+use Rattle.sqlite_trees.specs.declared.store.Store.{Ghosts}
+use Rattle.sqlite.specs.declared.error.Error.{Error}
+use Rattle.sqlite.specs.Held.{Held, state}
+use Rattle.jac_value.specs.declared.value.Kind.{Kind}
+use Rattle.jac_rows.specs.Good.{IsSound}
+use Rattle.jac_rows.specs.declared.state.State.{State}
+use Rattle.jac_keep.specs.declared.alteration.Change.{Change}
+use Rattle.jac_keep.specs.Kept.{applied}
+use Rattle.jac_lines.specs.Telling.{empty_state}
+use Rattle.jac_lines.specs.Told.{told}
+
+-- the kinds of its models' fields, whether it tells its state, and its state
+pub record Based : Type 0 where
+  pub kinds : List (List Kind)
+  pub tells : Bool
+  pub state : State
+
+-- one whose rows are known tells while its connection is open
+abbrev pub based : {S : Type 0} → Ghosts S → List (List Kind) → Bool → Held S → Based
+based g kinds known h = record { kinds = kinds; tells = known && (state g h).is_open; state = told (length kinds) (state g h).now }
+
+-- What opening a database gives: one of these models, whose state is empty where it is known, and another schema, where
+-- that is what is stored.
+pub record OpensBased (schema : List ℕ) (kinds : List (List Kind)) (found : Based × Option (List ℕ)) : Type 0 where
+  pub empty : IsTrue found.0.tells → found.0.state ≡ empty_state (length kinds)
+  pub other : IfSome found.1 (λ stored. ¬ (stored ≡ schema))
+
+-- what was read is what the state has, and nothing was changed
+pub record ReadsBased {T : Type 0} (Is : State → T → Type 0) (old new : Based) (result : Result T Error) : Type 0 where
+  pub told_before : IsTrue new.tells → IsTrue old.tells
+  pub same_state : IsTrue new.tells → new.state ≡ old.state
+  pub good : IsTrue new.tells → IsSound new.state
+  pub exact : IsTrue new.tells → IfOk result (Is old.state)
+
+-- the change was applied where it was told that it was, and else nothing was changed
+pub record AppliesBased (change : Change) (old new : Based) (result : Result (Unit {0}) Error) : Type 0 where
+  pub told_before : IsTrue new.tells → IsTrue old.tells
+  pub good : IsTrue new.tells → IsSound new.state
+  pub exact : IsTrue new.tells → OnOk result (new.state ≡ applied change old.state)
+  pub refused : IsTrue new.tells → OnErr result (new.state ≡ old.state)
