@@ -165,21 +165,6 @@ def dripped():
         yield ends('clients that drip', run, 3 * len(drips), 2 * len(drips))
 
 
-def slow_reader():
-    """A client that doesn't take its reply is let go, and holds up others for three seconds."""
-    with hello(2) as run, run.connect() as slow:
-        slow.setsockopt(socket.SOL_SOCKET, socket.SO_RCVBUF, 4096)
-        slow.sendall(b'GET /large HTTP/1.1\r\nHost: a\r\n\r\n' * 100)
-        slow.recv(1)
-        with run.connect() as line:
-            began = time.monotonic()
-            line.sendall(b'GET / HTTP/1.0\r\n\r\n')
-            while not select.select([line], [], [], 0.5)[0]:
-                slow.recv(100)
-            yield in_time('behind a slow reader', time.monotonic() - began, 4)
-            yield expect('behind a slow reader', read_all(line), reply(b'200 OK', True, b'hello'))
-
-
 def let_go():
     """A connection that is kept and brings nothing is let go a moment behind its reply; one that brings the front of a
     request with the one before it, or a later request cut into pieces, is waited for."""
@@ -338,7 +323,7 @@ def forms():
 
 def main():
     results = []
-    parts = [in_pieces, kept, refused, large, waited_for, dripped, slow_reader, let_go, taken_in_turn, gone, taken_port,
+    parts = [in_pieces, kept, refused, large, waited_for, dripped, let_go, taken_in_turn, gone, taken_port,
              told, audits]
     if shutil.which('curl'):
         parts.append(forms)
