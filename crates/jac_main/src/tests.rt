@@ -59,11 +59,25 @@ const NOTED_CALENDAR: &str = "(app (viewer User)
   (for (from ((u User) (e Event)) (eq (get Event host e) u) (up e title))
    (put (get User name u)) (put \":\") (put (get Event title e)) (put \";\"))))";
 
+const COUNTED_CALENDAR: &str = "(app (viewer User)
+ (model User (fields (name text)))
+ (model Event (fields (title text) (host (ref User)) (open bool))
+  (group (guards (title \"private\"))
+   (policy (or (get Event open this) (eq (get Event host this) viewer)))))
+ (view post \"/join\" (params (name text)) (create u User (set (name name)) (put u)))
+ (view post \"/add\" (params (title text) (open bool))
+  (create e Event (set (title title) (host viewer) (open open)) (put e)))
+ (view get \"/hidden\" (params)
+  (put (count (from ((e Event)) (eq (get Event title e) \"private\") key)))))";
+
 const ADDED: &[u8] =
     b"ask - POST \"/join\" \"name=Ann\"\nask - POST \"/join\" \"name=Bob\"\nask 4096 POST \"/add\" \"title=raid&open=0\"\n";
 
 const SERVED: &[u8] =
     b"HTTP/1.1 200 OK\r\nContent-Type: text/html; charset=utf-8\r\nContent-Length: 5\r\nConnection: close\r\n\r\nhello";
+
+/// How many bytes a sink takes.
+const SINK_ROOM: usize = 65_536;
 
 /// What a run leaves: the next number is that of the keeper.
 #[derive(Drop)]
@@ -190,8 +204,8 @@ fn run_counted<L: Ledger, M: Ledger>(
     requires second_some { 0 < second.parts }
 {
     let mut files = files;
-    let mut out = MemorySink::new(alloc, 4096, fails.out)?;
-    let mut audit = MemorySink::new(alloc, 4096, fails.audit)?;
+    let mut out = MemorySink::new(alloc, SINK_ROOM, fails.out)?;
+    let mut audit = MemorySink::new(alloc, SINK_ROOM, fails.audit)?;
     let state = State {
         tables: Tables::empty(alloc),
         number,
@@ -289,6 +303,52 @@ fn joined(alloc: Global, first: &[u8], second: &[u8]) -> Result<Vec<u8>, Memory>
     let mut all = Vec::from_slice(alloc, first)?;
     all.extend_from_slice(second)?;
     Ok(all)
+}
+
+/// Two people join, the first makes sixty events that nobody else may see, and each asks how many are private.
+fn sixty_events(alloc: Global) -> Result<Vec<u8>, Memory> {
+    let mut events = joined(
+        alloc,
+        b"ask - POST \"/join\" \"name=Ann\"\n",
+        b"ask - POST \"/join\" \"name=Bob\"\n",
+    )?;
+    for _event in 0..60 {
+        events.extend_from_slice(b"ask 4096 POST \"/add\" \"title=raid&open=0\"\n")?;
+    }
+    events.extend_from_slice(b"ask 4096 GET \"/hidden\" \"\"\nask 8192 GET \"/hidden\" \"\"\n")?;
+    Ok(events)
+}
+
+/// Whether each line that was put is a reply with status 200.
+fn are_all_answered(out: &[u8]) -> bool {
+    out.split(|byte| *byte == b'\n')
+        .all(|line| line.is_empty() || line.starts_with(b"reply 200 "))
+}
+
+// Asked again at each try, the policies of sixty events take more than 37,000 evaluations, each of which reads the keeper.
+#[test]
+fn policies_are_asked_where_what_they_read_is_new(rt: HostRuntime) -> Result<(), Fail> {
+    let alloc = rt.alloc();
+    let mut fails = no_fails(alloc);
+    fails.reads = Calls::from_vec(vec![in alloc; 30_000]?);
+    let events = sixty_events(alloc)?;
+    let left = run_words(
+        alloc,
+        &["replay", "app", "events"],
+        COUNTED_CALENDAR,
+        events.as_slice(),
+        1,
+        fails,
+    )?;
+    assert_eq!(rt; left.status, Status::Done);
+    assert!(rt; are_all_answered(left.out.taken()));
+    assert!(rt;
+        left.out
+            .taken()
+            .ends_with(b"reply 200 \"\" \"0\"\nreply 200 \"\" \"60\"\n")
+    );
+    assert!(rt; left.audit.taken().ends_with(b"\n64 200 8192 -\n"));
+    Ok(())
 }
 
 /// How many records of the model the labels show.
