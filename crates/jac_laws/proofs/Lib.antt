@@ -1,3 +1,4 @@
 pub mod SameSubjects
 pub mod SameAnswers
 pub mod SideBySide
+pub mod OpenLabels

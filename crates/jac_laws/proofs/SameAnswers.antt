@@ -53,11 +53,11 @@ by_verb verbs.Post w app worlds worlds' visit one two same (inr (some, p)) (inr 
 
 -- ---- failures
 
-no_failure : (answer : Answer) → is_failure answer ≡ false → HasFailed answer → ⊥
+pub no_failure : (answer : Answer) → is_failure answer ≡ false → HasFailed answer → ⊥
 no_failure answer stands (inl is) = let no : true ≡ false = sym (ap is_failure is) ∙ stands in cc
 no_failure answer stands (inr is) = let no : true ≡ false = sym (ap is_failure is) ∙ stands in cc
 
-no_memory : (answer : Answer) → is_failure answer ≡ false → answer ≡ refusal 500 None → ⊥
+pub no_memory : (answer : Answer) → is_failure answer ≡ false → answer ≡ refusal 500 None → ⊥
 no_memory answer stands is = no_failure answer stands (inl is)
 
 -- what was broken has failed
@@ -106,7 +106,7 @@ left_found (founds.View n pairs) w app ask worlds worlds' one two same is is' =
     (by_verb (method_in (slice_get app.views n)) w app worlds worlds' (visit_of app (asked_with pairs ask) n) one two same is is')
 
 -- what is refused is answered with its status, in whatever world
-refused_same : (status : ℕ) (one two : Answer) → (one ≡ refusal 500 None) ⊎ (one ≡ refused_with status) → (two ≡ refusal 500 None) ⊎ (two ≡ refused_with status)
+pub refused_same : (status : ℕ) (one two : Answer) → (one ≡ refusal 500 None) ⊎ (one ≡ refused_with status) → (two ≡ refusal 500 None) ⊎ (two ≡ refused_with status)
     → is_failure one ≡ false → is_failure two ≡ false → one ≡ two
 refused_same status one two (inl failed) is' stands stands' = absurd (no_memory one stands failed)
 refused_same status one two (inr is) (inl failed) stands stands' = absurd (no_memory two stands' failed)
@@ -147,11 +147,11 @@ none_some labels e = cc
 one_list : (labels other : List ℕ) → Some labels ≡ Some other → labels ≡ other
 one_list labels other e = cc
 
-page_has : (app : Application) (worlds : Worlds) (visit : Visit) (answer : Answer) (labels : List ℕ)
+pub page_has : (app : Application) (worlds : Worlds) (visit : Visit) (answer : Answer) (labels : List ℕ)
     → answer ≡ page_answer labels (page (shown labels) app (worlds (shown labels)) visit) → answer.shown ≡ Some labels
 page_has app worlds visit answer labels made = ap (λ (a : Answer). a.shown) made
 
-full_has : (answer : Answer) → answer ≡ refusal 507 None → answer.shown ≡ None
+pub full_has : (answer : Answer) → answer ≡ refusal 507 None → answer.shown ≡ None
 full_has answer is = ap (λ (a : Answer). a.shown) is
 
 -- a page that shows these labels was made under them

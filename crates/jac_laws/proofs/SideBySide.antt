@@ -19,7 +19,7 @@ use Rattle.jac_laws.specs.TwoRuns.{OneRun, IsServed, LookSame, NoneFailed, Neith
 use Rattle.jac_laws.proofs.SameSubjects.{Stands, AskedAlike, HeardFrom, asked_alike}
 use Rattle.jac_laws.proofs.SameAnswers.{LookAlike, legible, left_same, look_same}
 
-stands : (app : Application) (sessions : List Session) (worlds : Worlds) (entry : Entry) → IsAnswer app worlds entry.subject entry.answer → is_failure entry.answer ≡ false
+pub stands : (app : Application) (sessions : List Session) (worlds : Worlds) (entry : Entry) → IsAnswer app worlds entry.subject entry.answer → is_failure entry.answer ≡ false
     → Stands (hearing app sessions) entry
 stands app sessions worlds entry is on = record { goes_on = on; legible = legible app worlds entry.subject entry.answer is on }
 
@@ -39,7 +39,7 @@ same_step w app worlds worlds' one two same asks is is' none =
       left = leave.left ∙ ap (λ (s : Subject). left_of w app s two.answer (worlds' w)) asks.subject;
     }
 
-same_reply : (one two : Entry) → IsSameAsked one two → one.answer ≡ two.answer → IsSameReply one two
+pub same_reply : (one two : Entry) → IsSameAsked one two → one.answer ≡ two.answer → IsSameReply one two
 same_reply one two asks same = record {
   answer = same;
   put = λ spelling. λ i. reply_on spelling (asks.source i) (asks.subject i) (same i);
@@ -137,7 +137,7 @@ seen_both false one two log others labels here later = later labels
 same_entry : (one two : Entry) → IsSameAsked one two → one.answer ≡ two.answer → one ≡ two
 same_entry one two asks same = λ i. record { place = asks.place i; source = asks.source i; subject = asks.subject i; answer = same i }
 
-by_labels : (start start' : State) (o : Option (List ℕ)) (one two : Entry) → IsSameWhereShown start start' one two
+pub by_labels : (start start' : State) (o : Option (List ℕ)) (one two : Entry) → IsSameWhereShown start start' one two
     → ((labels : List ℕ) → one.answer.shown ≡ Some labels → LookSame (shown labels) start start') → one.answer.shown ≡ o → two.answer.shown ≡ o → one.answer ≡ two.answer
 by_labels start start' None one two same look is is' = (same.refusal is is').answer
 by_labels start start' (Some labels) one two same look is is' = (same.page labels (look labels is) is is').answer
@@ -173,7 +173,7 @@ heard false app sessions events log is = is
 heard true app sessions events log is = is
 
 module _ (app : Application) (sessions : List Session) (events : List Event) (one two : OneRun) (served : IsServed app sessions events one) (served' : IsServed app sessions events two) where
-  asks : AskedAlike one.early two.early (hearing app sessions) one.log two.log
+  pub asks : AskedAlike one.early two.early (hearing app sessions) one.log two.log
   asks = asked_alike one.early two.early (hearing app sessions) reading events 0 no_connections one.log two.log
       (heard one.early app sessions events one.log served.subjects) (heard two.early app sessions events two.log served'.subjects)
 

@@ -1,10 +1,12 @@
-ghost use Rattle.std.specs.Prelude.{◌≡◌, ℕ, Bool, List};
+ghost use Rattle.std.specs.Prelude.{◌≡◌, ℕ, Bool, true, List};
 ghost use Rattle.jac_lang.specs.Syntax.{Application};
 ghost use Rattle.jac_rows.specs.Project.{project_at};
+ghost use Rattle.jac_open.specs.Open.{is_open_app};
 ghost use Rattle.jac_route.specs.declared.sessions.Session.{Session};
 ghost use Rattle.jac_events.specs.declared.event.Event.{Event};
 ghost use Rattle.jac_hub.specs.Hearing.{Source};
 ghost use Rattle.jac_serving.specs.Answering.{Subject};
+ghost use Rattle.jac_laws.specs.OpenRuns.{AreShownSame, OnlyReads, StartAlike};
 ghost use Rattle.jac_laws.specs.TwoRuns.{OneRun, IsServed, LookSame, NoneFailed, AgreeAfterEach, EndAlike, AreSameWhereShown, AreSeenAlike, seen_by};
 
 /// A law: where an assignment shows the same of two starts, two runs of the same events over them are asked the same,
@@ -18,9 +20,11 @@ ghost use Rattle.jac_laws.specs.TwoRuns.{OneRun, IsServed, LookSame, NoneFailed,
 /// It is the projection of evaluation of faceted values, for whole runs: Austin and Flanagan, POPL 2012; Yang and
 /// others, PLDI 2016.
 pub fn worlds_agree()
-    ensures { (w : ℕ → Bool) (app : Application) (sessions : List Session) (events : List Event) (one two : OneRun) →
-        IsServed app sessions events one → IsServed app sessions events two → LookSame w one.start two.start →
-        AgreeAfterEach w app one.early two.early one.log two.log (project_at w one.start) (project_at w two.start) }
+    ensures { (w : ℕ → Bool) (app : Application) (sessions : List Session) (events : List Event) →
+        (one two : OneRun) → IsServed app sessions events one → IsServed app sessions events two →
+        LookSame w one.start two.start →
+        AgreeAfterEach w app one.early two.early one.log two.log
+        (project_at w one.start) (project_at w two.start) }
 {}
 
 /// A law: where no entry of such runs failed, they are asked the same as far as both go, which is to the end where
@@ -29,8 +33,9 @@ pub fn worlds_agree()
 /// A run that may stop early leaves what its own entries leave, so of two that stopped at different entries nothing is
 /// said here.
 pub fn ends_agree()
-    ensures { (w : ℕ → Bool) (app : Application) (sessions : List Session) (events : List Event) (one two : OneRun) →
-        IsServed app sessions events one → IsServed app sessions events two → LookSame w one.start two.start →
+    ensures { (w : ℕ → Bool) (app : Application) (sessions : List Session) (events : List Event) →
+        (one two : OneRun) → IsServed app sessions events one → IsServed app sessions events two →
+        LookSame w one.start two.start →
         NoneFailed one.log → NoneFailed two.log → EndAlike w one two }
 {}
 
@@ -45,8 +50,9 @@ pub fn ends_agree()
 /// It is noninterference, as it is called of faceted values: Austin and Flanagan, POPL 2012; Yang and others, PLDI
 /// 2016.
 pub fn pages_agree()
-    ensures { (app : Application) (sessions : List Session) (events : List Event) (one two : OneRun) →
-        IsServed app sessions events one → IsServed app sessions events two → AreSameWhereShown one.start two.start one.log two.log }
+    ensures { (app : Application) (sessions : List Session) (events : List Event) →
+        (one two : OneRun) → IsServed app sessions events one → IsServed app sessions events two →
+        AreSameWhereShown one.start two.start one.log two.log }
 {}
 
 /// A law: somebody sees some of the entries of two whole runs in which nothing failed, those of one connection or of
@@ -54,6 +60,24 @@ pub fn pages_agree()
 /// is the same in both, whatever else is hidden and whatever is shown to others. That the labels are the same is a
 /// premise, for the reason above; and the events are the same, so that nobody asks otherwise for what she was shown.
 pub fn views_agree()
-    ensures { (sees : Source → Subject → Bool) (app : Application) (sessions : List Session) (events : List Event) (one two : OneRun) →
-        IsServed app sessions events one → IsServed app sessions events two → AreSeenAlike sees one two → seen_by sees one.log ≡ seen_by sees two.log }
+    ensures { (sees : Source → Subject → Bool) (app : Application) (sessions : List Session) →
+        (events : List Event) (one two : OneRun) → IsServed app sessions events one →
+        IsServed app sessions events two → AreSeenAlike sees one two →
+        seen_by sees one.log ≡ seen_by sees two.log }
+{}
+
+/// A law: let no policy of an application read a guarded field; let two runs of the same events start from stores in
+/// which, whatever is shown, the same records stand and hold the same in their other fields; and let no reply be a
+/// page that a `POST` made, nor stand for want of memory or a fault of the keeper. Then both runs make each page under
+/// the same labels, and a reply whose labels show the same of both starts is the same in both, byte by byte. So no
+/// page but one that shows hidden data tells of it, and which pages show it tells nothing of it either.
+///
+/// A `POST` may store a record because of what is hidden, and a policy may let its label be shown: then the runs may
+/// show different labels.
+pub fn labels_agree()
+    ensures { (app : Application) (sessions : List Session) (events : List Event) →
+        (one two : OneRun) → IsServed app sessions events one → IsServed app sessions events two →
+        is_open_app app ≡ true → StartAlike app one two →
+        NoneFailed one.log → NoneFailed two.log → OnlyReads app one.log → OnlyReads app two.log →
+        AreShownSame one.early two.early one.start two.start one.log two.log }
 {}

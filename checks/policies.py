@@ -1,0 +1,82 @@
+#!/usr/bin/env python3
+"""Says of the larger examples, and of the README's calendar, which guarded fields their policies read: an application
+is open where they read none (`is_open_app` in crates/jac_open/specs/Open.antt). Compares that with the table of
+docs/GUARANTEES.md: where the page is out of date it says so, and its status is 1. With the word --write it writes the
+table anew. With other words it tells the same of these files."""
+import re
+import sys
+
+sys.dont_write_bytecode = True
+from pages import differences, read                                         # noqa: E402
+
+PAGE = 'docs/GUARANTEES.md'
+NAMED = ('examples/calendar.app', 'examples/calendar/app', 'examples/conference/app', 'examples/courses/app',
+         'examples/health/app')
+TOKEN = re.compile(r'"(?:[^"\\]|\\.)*"|[()]|[^\s()"]+')
+
+
+def tree(text):
+    """The nested lists of a text."""
+    stack = [[]]
+    for token in TOKEN.findall(text):
+        if token == '(':
+            stack.append([])
+        elif token == ')':
+            done = stack.pop()
+            stack[-1].append(done)
+        else:
+            stack[-1].append(token)
+    return stack[0][0]
+
+
+def parts(form, head):
+    return [part for part in form if isinstance(part, list) and part[:1] == [head]]
+
+
+def fields_read(form):
+    """The fields that the forms of an expression name: those of `get`, and those that a query is sorted by."""
+    if not isinstance(form, list):
+        return
+    if form[:1] == ['get']:
+        yield form[1] + '.' + form[2]
+    if form[:1] == ['from']:
+        models = dict(form[1])
+        for order in parts(form, 'up') + parts(form, 'down'):
+            yield models[order[1]] + '.' + order[2]
+    for part in form:
+        yield from fields_read(part)
+
+
+def hidden_reads(text):
+    """The guarded fields that policies of the application read, in the order of its models."""
+    models = parts(tree(text), 'model')
+    groups = [(model[1], group) for model in models for group in parts(model, 'group')]
+    guarded = [model + '.' + guard[0] for model, group in groups for guard in parts(group, 'guards')[0][1:]]
+    wanted = {field for _, group in groups for field in fields_read(parts(group, 'policy')[0][1])}
+    return [field for field in guarded if field in wanted]
+
+
+def row(name):
+    found = hidden_reads(read(name))
+    return '| `%s` | %s | %s |' % (name, 'no' if found else 'yes', ', '.join('`%s`' % f for f in found) or 'none')
+
+
+def table(names):
+    return '\n'.join(['| Application | Open | Guarded fields that its policies read |', '|---|---|---|', *map(row, names)])
+
+
+def main():
+    words = sys.argv[1:]
+    names = [word for word in words if word != '--write']
+    if names:
+        print(table(names))
+        return
+    wrong = differences(PAGE, {'open applications': table(NAMED)}, 'checks/policies.py', '--write' in words)
+    for line in wrong:
+        print('FAILED ' + line)
+    print('%d applications, %d failed' % (len(NAMED), len(wrong)))
+    sys.exit(1 if wrong else 0)
+
+
+if __name__ == '__main__':
+    main()
