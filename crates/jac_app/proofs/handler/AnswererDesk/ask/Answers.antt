@@ -22,11 +22,10 @@ returns-in-Err-clause-asked g c =
     let K = g.K.Keeper in
     let app = application_of c.args.self.now.service.now in
     let k = span (K.seen c.args.self.now.keeper.now) (K.seen c.ask_lines.new.desk.keeper.now) in
-    let ask = ask_in app c.args.viewer c.args.method.now c.args.path.now c.args.query.now c.args.body.now in
-    (
+    let ask = ask_in app c.args.viewer c.args.method.now c.args.path.now c.args.query.now c.args.body.now in (
       is_failed app k ask false c.in-Err.stop c.in-Err.ensures.refused c.in-Err.ensures.told c.requires.ready c.in-Err.ensures.cause.later
           (λ is. c.in-Err.ensures.cause.rose (ap (λ (s : Stop). Err s) is)),
-      rw c.app.ensures.app at c.viewer_in.ensures,
+      rw (c.app.ensures.app, c.in-Err.ensures.same_service) at c.viewer_in.ensures,
     )
 
 pub returns-in-Ok-clause-keeps : goal.returns-in-Ok-clause-keeps

@@ -8,8 +8,7 @@ pub returns-in-Refused-clause-handled : goal.returns-in-Refused-clause-handled
 returns-in-Refused-clause-handled g c =
     let K = g.K.Keeper in
     let a = c.args.self.now in
-    rw c.in-Refused.is
-    (
+    rw c.in-Refused.is (
       keeps-none answering (desk_of (application_of a.service.now) a.sessions.now a.keeper.ghost_name (K.seen a.keeper.now)) c.requires.ready,
       refused-handled a.spelling (application_of a.service.now) a.sessions.now (K.seen a.keeper.now) c.args.conn _ _ (rw c.in-Refused.is at c.requires.refusal) c.requires.ready.ready c.answer_refused.ensures,
     )
