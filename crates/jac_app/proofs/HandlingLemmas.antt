@@ -77,11 +77,11 @@ refusal_goes_on status named = grind (arith, nat_tests)
 -- what is refused is told so, or memory ran out
 pub refused-handled : (spelling : Spelling) (app : Application) (sessions : List Session) (k : KeeperSeen) (c status : ℕ) (sent : Sent) → is_refusal status ≡ true
     → (IsTrue k.tells → IsStart app k.state) → IsRefusalSent spelling c status sent → handled spelling (answering_of app sessions) k c (Refused status) sent k
-refused-handled spelling (answering_of app sessions) k c status sent named start (inl is) = subst (λ (s : Sent). handled spelling (answering_of app sessions) k c (Refused status) s k) (sym is) (
+refused-handled spelling app sessions k c status sent named start (inl is) = subst (λ (s : Sent). handled spelling (answering_of app sessions) k c (Refused status) s k) (sym is) (
   refused_with status,
   record { line = refl; audit = λ n. refl; closing = sym (refusal_goes_on status named); entry = is_refused app k status named start },
 )
-refused-handled spelling (answering_of app sessions) k c status sent named start (inr is) = subst (λ (s : Sent). handled spelling (answering_of app sessions) k c (Refused status) s k) (sym is) (
+refused-handled spelling app sessions k c status sent named start (inr is) = subst (λ (s : Sent). handled spelling (answering_of app sessions) k c (Refused status) s k) (sym is) (
   refusal 500 None,
   record { line = refl; audit = λ n. refl; closing = refl; entry = is_wanting app k (refused status) (inl refl) (λ worlds. inl refl) (λ w t. refl) start },
 )
@@ -90,7 +90,7 @@ refused-handled spelling (answering_of app sessions) k c status sent named start
 pub request-handled : (spelling : Spelling) (app : Application) (sessions : List Session) (a b : KeeperSeen) (c : ℕ) (request : Request) (reply audit : List ℕ) (sent : Sent)
     → IsAnswerMade app (span a b) (ways.Connection c request.close spelling) (request_in app sessions request) reply audit → (IsTrue b.tells → IsTrue a.tells) → a.faults ≤ b.faults
     → sent ≡ Made reply audit false → handled spelling (answering_of app sessions) a c (Whole request) sent b
-request-handled spelling (answering_of app sessions) a b c request reply audit sent made told later is = (
+request-handled spelling app sessions a b c request reply audit sent made told later is = (
   made.answer,
   record {
     line = ap (sent_on spelling c) is ∙ made.reply_made;
@@ -118,7 +118,7 @@ pub failed-handled : (spelling : Spelling) (app : Application) (sessions : List 
     → (IsTrue b.tells → b.state ≡ a.state) → (IsTrue b.tells → IsTrue a.tells) → (IsTrue a.tells → IsStart app a.state)
     → a.faults ≤ b.faults → (stop ≡ stops.Keeper → Rose a.faults b.faults)
     → handled spelling (answering_of app sessions) a c (Whole request) (Still status head viewer) b
-failed-handled spelling (answering_of app sessions) a b c request stop status head viewer is is_head looks same told start later rose = (
+failed-handled spelling app sessions a b c request stop status head viewer is is_head looks same told start later rose = (
   refusal (status_of_stop stop) None,
   record {
     line =

@@ -17,7 +17,7 @@ returns-in-Err-clause-handled g c =
     let K = g.K.Keeper in
     let desk = c.args.desk.now in
     failed-handled desk.spelling (application_of desk.service.now) desk.sessions.now (K.seen desk.keeper.now) (K.seen c.request_lines.new.desk.keeper.now) c.args.conn c.args.request.now c.in-Err.stop _ _ _
-    c.fixed_of.ensures (rw c.as_bytes.ensures at c.is_head.ensures) (rw c.app.ensures.app at c.request_viewer.ensures)
+    c.fixed_of.ensures (rw c.as_bytes.ensures at c.is_head.ensures) (rw (c.app.ensures.app, c.in-Err.ensures.same_service, c.in-Err.ensures.same_sessions) at c.request_viewer.ensures)
     c.in-Err.ensures.refused c.in-Err.ensures.told c.requires.ready c.in-Err.ensures.cause.later (λ is. c.in-Err.ensures.cause.rose (ap (λ (s : Stop). Err s) is))
 
 pub returns-in-Ok-clause-keeps : goal.returns-in-Ok-clause-keeps

@@ -149,7 +149,8 @@ returns g c =
     let first = c.in-Ok.ensures.lasts in
     let second = c.in-Ok-read_sessions.ensures.lasts in
     let third = c.in-Ok-read_file.ensures.lasts in
-    WentAimed-on _ _ _
+    rw c.drop-desk.ensures
+    (WentAimed-on _ _ _
     (λ o a served.
     served_ends seen command (application_of c.in-Ok-open_app.service) c.in-Ok-read_sessions.sessions c.in-Ok-read_file.events o a c.serve.result
     (record {
@@ -170,4 +171,4 @@ returns g c =
       };
     })
     (rw c.as_slice-2.ensures at served))
-    c.serve.ensures.served
+    c.serve.ensures.served)

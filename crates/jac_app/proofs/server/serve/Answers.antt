@@ -111,7 +111,8 @@ returns-clause-ends g c =
     let opened = F.seen c.read_file.new.files in
     let first = c.in-Ok.ensures.lasts in
     let second = c.in-Ok-read_sessions.ensures.lasts in
-    WentAimed-on _ _ _
+    rw c.drop-desk.ensures
+    (WentAimed-on _ _ _
     (λ o a served.
     server_ends g.D.Line.Link.seen seen (span (D.seen c.args.door.now) (D.seen c.serve_aimed.new.door)) c.args.serving.now (application_of c.in-Ok-open_app.service) c.in-Ok-read_sessions.sessions o a
     c.serve_aimed.result
@@ -124,4 +125,4 @@ returns-clause-ends g c =
     (record { earlier = first.later; later = omega arith; told = λ told. told; same_file = λ told. first.same_file (second.told told) })
     c.args.serving.now.sessions c.in-Ok-read_sessions.sessions (rw c.named.ensures at c.in-Ok-read_sessions.ensures.had))
     served)
-    c.serve_aimed.ensures.served
+    c.serve_aimed.ensures.served)

@@ -22,8 +22,8 @@ returns-in-Err-clause-served g c =
     (unattached_ends g.D.Line.Link.seen (application_of c.args.desk.now.service.now) c.args.desk.now.sessions.now c.args.serving.now (D.seen c.args.door.now) (span (K.seen c.args.desk.now.keeper.now) (K.seen c.attach.new.vault))
     c.in-Err.ending c.in-Err.ensures.attaches)
 
-pub serve_door-requires-clause-desk : goal.serve_door-requires-clause-desk
-serve_door-requires-clause-desk g c = record { attached = c.in-Ok.ensures.attached; ready = c.in-Ok.ensures.start }
+pub serve_door-requires : goal.serve_door-requires
+serve_door-requires g c = record { attached = c.in-Ok.ensures.attached; ready = c.in-Ok.ensures.start }
 
 pub returns-in-Ok-clause-same_reference : goal.returns-in-Ok-clause-same_reference
 returns-in-Ok-clause-same_reference g c = λ i. (c.serve_door.ensures.keeps.same i).keeper

@@ -25,7 +25,7 @@ returns-in-Err-clause-asked g c =
     let ask = ask_in app c.args.viewer c.args.method.now c.args.path.now c.args.query.now c.args.body.now in (
       is_failed app k ask false c.in-Err.stop c.in-Err.ensures.refused c.in-Err.ensures.told c.requires.ready c.in-Err.ensures.cause.later
           (λ is. c.in-Err.ensures.cause.rose (ap (λ (s : Stop). Err s) is)),
-      rw c.app.ensures.app at c.viewer_in.ensures,
+      rw (c.app.ensures.app, c.in-Err.ensures.same_service) at c.viewer_in.ensures,
     )
 
 pub returns-in-Ok-clause-keeps : goal.returns-in-Ok-clause-keeps
