@@ -18,7 +18,9 @@ use crate::files::{open_app, read_file, read_sessions};
 use crate::handler::Answerer;
 use jac_io::{AuditSink, Failed, Files, Sink};
 use jac_keep::Vault;
+use jac_opening::Service;
 use jac_replies::Spelling;
+use jac_route::Sessions;
 use jac_serving::{Stopped, serve_events};
 use jac_value::{Memory, Txt};
 use jac_words::{Replay, Role};
@@ -88,6 +90,41 @@ fn serve<O: Sink, U: AuditSink, K: Vault, L: Ledger, M: Ledger>(
     }
 }
 
+// Serves them over a desk, which ends behind them.
+fn serve_over<O: Sink, U: AuditSink, K: Vault, L: Ledger, M: Ledger>(
+    alloc: Global,
+    vault: &mut K,
+    splits: &mut Steps<L>,
+    evaluations: &mut Steps<M>,
+    service: &Service,
+    sessions: &Sessions,
+    command: &Replay,
+    aim: Option<Txt>,
+    schema: Txt,
+    events: &[u8],
+    out: &mut O,
+    audit: &mut U,
+) -> Result<(), Ending>
+    requires short { length events.now < 2 ^ 32 }
+    requires first { (K.seen vault.old).store.called ≡ false }
+    requires aim { aim ≡ command.now.audit }
+    requires own { schema ≡ schema_text (application_of service.now) }
+    requires schema { IsSchema schema (kinds_of (application_of service.now)) }
+    ensures served { WentAimed (sinks (O.seen out.old) (O.seen out.new) (U.seen audit.old) (U.seen audit.new))
+        (EndsServing (sinks (O.seen out.old) (O.seen out.new) (U.seen audit.old) (U.seen audit.new)) (commands.Replay command.now) (application_of service.now) sessions.now (span (K.seen vault.old) (K.seen vault.new)) (script_of events.now) result) }
+{
+    let mut desk = Answerer {
+        keeper: vault,
+        splits,
+        evaluations,
+        alloc,
+        spelling: Spelling::Quoted,
+        service,
+        sessions,
+    };
+    serve(&mut desk, command, aim, schema, events, out, audit)
+}
+
 /// The steps of a replay: the application, the sessions, the events, the audit's aim, the store, and each event.
 pub fn replay<F: Files, O: Sink, U: AuditSink, K: Vault, L: Ledger, M: Ledger>(
     alloc: Global,
@@ -128,17 +165,13 @@ pub fn replay<F: Files, O: Sink, U: AuditSink, K: Vault, L: Ledger, M: Ledger>(
         Ok(schema) => schema,
         Err(Memory) => return Err(Ending::Memory),
     };
-    let mut desk = Answerer {
-        keeper: vault,
+    serve_over(
+        alloc,
+        vault,
         splits,
         evaluations,
-        alloc,
-        spelling: Spelling::Quoted,
-        service: &service,
-        sessions: &sessions,
-    };
-    serve(
-        &mut desk,
+        &service,
+        &sessions,
         command,
         aim,
         schema,

@@ -21,7 +21,9 @@ use itoa::Buffer;
 use jac_io::{AuditSink, Door, Failed, Files, Sink};
 use jac_keep::{Keeper, Vault};
 use jac_links::{DoorHalt, Tally, serve_links};
+use jac_opening::Service;
 use jac_replies::Spelling;
+use jac_route::Sessions;
 use jac_serving::put_five;
 use jac_value::{Memory, Txt};
 use jac_words::{Role, Serving};
@@ -159,6 +161,42 @@ fn serve_aimed<O: Sink, U: AuditSink, K: Vault, D: Door, L: Ledger, M: Ledger>(
     }
 }
 
+// Serves the door over a desk, which ends behind it.
+fn serve_over<O: Sink, U: AuditSink, K: Vault, D: Door, L: Ledger, M: Ledger>(
+    alloc: Global,
+    vault: &mut K,
+    splits: &mut Steps<L>,
+    evaluations: &mut Steps<M>,
+    service: &Service,
+    sessions: &Sessions,
+    serving: &Serving,
+    aim: Option<Txt>,
+    schema: Txt,
+    out: &mut O,
+    audit: &mut U,
+    door: &mut D,
+) -> Result<(), Ending>
+    requires first { (K.seen vault.old).store.called ≡ false }
+    requires aim { aim ≡ serving.now.audit }
+    requires own { schema ≡ schema_text (application_of service.now) }
+    requires schema { IsSchema schema (kinds_of (application_of service.now)) }
+    ensures served { WentAimed (sinks (O.seen out.old) (O.seen out.new) (U.seen audit.old) (U.seen audit.new))
+        (EndsAimed D.Line.seen (sinks (O.seen out.old) (O.seen out.new) (U.seen audit.old) (U.seen audit.new)) (application_of service.now) sessions.now serving.now
+        (span (D.seen door.old) (D.seen door.new)) (span (K.seen vault.old) (K.seen vault.new)) result) }
+    ensures lasts { DoorLasts (D.seen door.old) (D.seen door.new) }
+{
+    let mut desk = Answerer {
+        keeper: vault,
+        splits,
+        evaluations,
+        alloc,
+        spelling: Spelling::Raw,
+        service,
+        sessions,
+    };
+    serve_aimed(&mut desk, serving, aim, schema, out, audit, door)
+}
+
 /// The steps of `serve`: the application, the sessions, the audit's aim, the store, the door's port, each connection,
 /// and the line that tells how many there were.
 pub fn serve<F: Files, O: Sink, U: AuditSink, K: Vault, D: Door, L: Ledger, M: Ledger>(
@@ -198,14 +236,18 @@ pub fn serve<F: Files, O: Sink, U: AuditSink, K: Vault, D: Door, L: Ledger, M: L
         Ok(schema) => schema,
         Err(Memory) => return Err(Ending::Memory),
     };
-    let mut desk = Answerer {
-        keeper: vault,
+    serve_over(
+        alloc,
+        vault,
         splits,
         evaluations,
-        alloc,
-        spelling: Spelling::Raw,
-        service: &service,
-        sessions: &sessions,
-    };
-    serve_aimed(&mut desk, serving, aim, schema, out, audit, door)
+        &service,
+        &sessions,
+        serving,
+        aim,
+        schema,
+        out,
+        audit,
+        door,
+    )
 }

@@ -143,16 +143,15 @@ returns g c =
     let files = F.seen c.args.files.now in
     let later = F.seen c.read_file-2.new.files in
     let seen =
-    sight files later (O.seen c.args.out.now) (O.seen c.serve.new.out) (U.seen c.args.audit.now) (U.seen c.serve.new.audit) (K.seen c.args.vault.now) (K.seen c.serve.new.desk.keeper.now) in
+    sight files later (O.seen c.args.out.now) (O.seen c.serve_over.new.out) (U.seen c.args.audit.now) (U.seen c.serve_over.new.audit) (K.seen c.args.vault.now) (K.seen c.serve_over.new.vault) in
     let opened = F.seen c.read_file.new.files in
     let middle = F.seen c.read_sessions.new.files in
     let first = c.in-Ok.ensures.lasts in
     let second = c.in-Ok-read_sessions.ensures.lasts in
     let third = c.in-Ok-read_file.ensures.lasts in
-    rw c.drop-desk.ensures
-    (WentAimed-on _ _ _
+    WentAimed-on _ _ _
     (λ o a served.
-    served_ends seen command (application_of c.in-Ok-open_app.service) c.in-Ok-read_sessions.sessions c.in-Ok-read_file.events o a c.serve.result
+    served_ends seen command (application_of c.in-Ok-open_app.service) c.in-Ok-read_sessions.sessions c.in-Ok-read_file.events o a c.serve_over.result
     (record {
       application = record {
         bytes = c.in-Ok.bytes;
@@ -171,4 +170,4 @@ returns g c =
       };
     })
     (rw c.as_slice-2.ensures at served))
-    c.serve.ensures.served)
+    c.serve_over.ensures.served

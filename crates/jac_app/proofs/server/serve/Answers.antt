@@ -107,15 +107,14 @@ returns-clause-ends g c =
     let files = F.seen c.args.files.now in
     let later = F.seen c.read_sessions.new.files in
     let seen =
-    sight files later (O.seen c.args.out.now) (O.seen c.serve_aimed.new.out) (U.seen c.args.audit.now) (U.seen c.serve_aimed.new.audit) (K.seen c.args.vault.now) (K.seen c.serve_aimed.new.desk.keeper.now) in
+    sight files later (O.seen c.args.out.now) (O.seen c.serve_over.new.out) (U.seen c.args.audit.now) (U.seen c.serve_over.new.audit) (K.seen c.args.vault.now) (K.seen c.serve_over.new.vault) in
     let opened = F.seen c.read_file.new.files in
     let first = c.in-Ok.ensures.lasts in
     let second = c.in-Ok-read_sessions.ensures.lasts in
-    rw c.drop-desk.ensures
-    (WentAimed-on _ _ _
+    WentAimed-on _ _ _
     (λ o a served.
-    server_ends g.D.Line.Link.seen seen (span (D.seen c.args.door.now) (D.seen c.serve_aimed.new.door)) c.args.serving.now (application_of c.in-Ok-open_app.service) c.in-Ok-read_sessions.sessions o a
-    c.serve_aimed.result
+    server_ends g.D.Line.Link.seen seen (span (D.seen c.args.door.now) (D.seen c.serve_over.new.door)) c.args.serving.now (application_of c.in-Ok-open_app.service) c.in-Ok-read_sessions.sessions o a
+    c.serve_over.result
     (record {
       bytes = c.in-Ok.bytes;
       read = record { short = c.in-Ok.ensures.short; told = λ told. c.in-Ok.ensures.told (second.told told) };
@@ -125,4 +124,4 @@ returns-clause-ends g c =
     (record { earlier = first.later; later = omega arith; told = λ told. told; same_file = λ told. first.same_file (second.told told) })
     c.args.serving.now.sessions c.in-Ok-read_sessions.sessions (rw c.named.ensures at c.in-Ok-read_sessions.ensures.had))
     served)
-    c.serve_aimed.ensures.served)
+    c.serve_over.ensures.served

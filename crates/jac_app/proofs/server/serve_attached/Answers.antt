@@ -23,7 +23,7 @@ returns-in-Err-clause-served g c =
     c.in-Err.ending c.in-Err.ensures.attaches)
 
 pub serve_door-requires : goal.serve_door-requires
-serve_door-requires g c = record { attached = c.in-Ok.ensures.attached; ready = c.in-Ok.ensures.start }
+serve_door-requires g c = record { desk = record { attached = c.in-Ok.ensures.attached; ready = c.in-Ok.ensures.start } }
 
 pub returns-in-Ok-clause-same_reference : goal.returns-in-Ok-clause-same_reference
 returns-in-Ok-clause-same_reference g c = λ i. (c.serve_door.ensures.keeps.same i).keeper
