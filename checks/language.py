@@ -8,7 +8,11 @@ filled. Lines that are set apart are an application, its parts, a query or state
 them; a model counts for what stands behind it. On every page an application that is set apart has to be accepted. On
 the page of an example's folder a view that is set apart stands in its application, lines that begin with a digit are
 lines of its audit, and what a table tells of who asks stands in its output, escaped as HTML is. The pages
-of these examples have one style."""
+of these examples have one style.
+
+In the section on writing each case that is named is one of checks/cases, and each form stands in one of them, `..` for
+whatever is left out; what it says and no case has runs here, as does the tutorial's slip. What docs/TEMPLATES.md sets
+apart of a view stands in an example."""
 import glob
 import html
 import os
@@ -31,6 +35,39 @@ ASKS = re.compile(r'(?m)^\| Who asks \|.*\n(?:\|.*\n)+')
 STYLE = re.compile(r'(?s)<style>.*?</style>')
 EVENTS = 'ask - POST "/fill" ""\nask 4096 %s "/example" ""\n'
 QUOTED = re.compile(r'"(?:[^"\\]|\\.)*"')
+INLINE = re.compile(r'`([^`\n]+)`')
+
+# Whoever posts it deletes a draft; words that the form sends once more are nobody's copy.
+WRITING = '''(app (viewer User)
+ (model User (fields (name text)))
+ (model Draft (fields (author (ref User)) (words text))
+  (group (guards (words "not yet")) (policy (eq (get Draft author this) viewer))))
+ (model Article (fields (words text)))
+ (view post "/join" (params (name text)) (create u User (set (name name))))
+ (view post "/drafts" (params (words text)) (create d Draft (set (author viewer) (words words))))
+ (view post "/drop/{id}" (params (id (ref Draft))) (delete Draft id))
+ (view post "/publish/{id}" (params (id (ref Draft)) (words text)) (create a Article (set (words words))) (delete Draft id))
+ (view get "/" (params) (put (count (from ((d Draft)) true key))) (put " drafts, ")
+  (for (from ((a Article)) true key) (put (get Article words a)) (put ";"))))
+'''
+WRITTEN = '''ask - POST "/join" "name=Ann"
+ask - POST "/join" "name=Bob"
+ask 4096 POST "/drafts" "words=spring"
+ask 4096 POST "/publish/12289" "words=spring"
+ask 4096 POST "/drafts" "words=summer"
+ask 4096 GET "/" ""
+ask 8192 POST "/drop/20481" ""
+ask - GET "/" ""
+'''
+READS = [(5, 'reply 200 "" "1 drafts, spring;"'), (7, 'reply 200 "" "0 drafts, spring;"')]
+# Ann adds a closed event, Bob saves the form that was filled for him, Ann lists the events.
+RENAME = '''ask - POST "/join" "name=Ann"
+ask - POST "/join" "name=Bob"
+ask 4096 POST "/add" "title=raid&open=0"
+ask 8192 POST "/rename" "event=12289&title=private"
+ask 4096 GET "/list" ""
+'''
+RENAMED = [['reply 200 "" ""', 'reply 200 "" "private;"'], ['reply 404 "" "not yours"', 'reply 200 "" "raid;"']]
 
 
 def apart(page):
@@ -160,6 +197,44 @@ def of_styles():
     yield None if len(styles) == 1 else 'examples: %d styles' % len(styles)
 
 
+def plain(text):
+    return ' '.join(text.split())
+
+
+def of_writing():
+    """A result for each case that the section on writing names, for each of its forms, and for what no case has."""
+    section = read(PAGE).split('\n## Writing\n')[1].split('\n## ')[0]
+    cases = ['checks/cases/%s.case' % name for name in re.findall(r'`([a-z_]{12,})`', section)]
+    missing = [case for case in cases if not os.path.exists(os.path.join(TOP, case))]
+    yield 'no such case: %s' % missing if missing or len(cases) < 5 else None
+    texts = [plain(read(case)) for case in cases if case not in missing]
+    for form in INLINE.findall(section):
+        if form.startswith('('):
+            shape = '.*?'.join(re.escape(part) for part in plain(form).split('..'))
+            yield None if any(re.search(shape, text) for text in texts) else 'in no case that is named: ' + form
+    status, lines = program(['replay', 'app', 'events'], {'app': WRITING, 'events': WRITTEN})
+    have = [(at, lines[at]) for at, _ in READS] if len(lines) == 8 else lines
+    yield None if (status, have) == (0, READS) else 'writing: want %s, have %s' % (READS, have)
+
+
+def of_the_slip():
+    """A result for each of the tutorial's two views that rename an event of its calendar."""
+    calendar = read('examples/calendar.app').rstrip()
+    views = [block for block in apart('docs/TUTORIAL.md') if block.startswith('(view post "/rename"')]
+    yield None if len(views) == len(RENAMED) else 'docs/TUTORIAL.md: %d views that rename' % len(views)
+    for view, want in zip(views, RENAMED):
+        status, lines = program(['replay', 'app', 'events'], {'app': calendar[:-1] + view + ')', 'events': RENAME})
+        yield None if (status, lines[3:]) == (0, want) else '%s: want %s, have %s' % (view, want, lines[3:])
+
+
+def of_templates():
+    """A result for each part of a view that the page on templates sets apart."""
+    examples = [plain(read(name)) for name in ('examples/guestbook.app', 'examples/notes.app')]
+    for block in apart('docs/TEMPLATES.md'):
+        if block.startswith(('(view', '(let', '(if', '{%')):
+            yield None if any(plain(block) in text for text in examples) else 'docs/TEMPLATES.md: in no example: ' + block
+
+
 def untold(folder, table):
     """What a table says that somebody read, and the folder's output hasn't."""
     out = read(folder + '/out')
@@ -168,7 +243,7 @@ def untold(folder, table):
 
 
 def main():
-    results = [*of_language(), *of_pages(), *of_styles()]
+    results = [*of_language(), *of_writing(), *of_the_slip(), *of_templates(), *of_pages(), *of_styles()]
     for wrong in filter(None, results):
         print('FAILED ' + wrong)
     failed = sum(1 for wrong in results if wrong)

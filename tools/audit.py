@@ -1,11 +1,12 @@
 #!/usr/bin/env python3
-"""Tells the lines of an audit in words: who asked, what was answered, and which fields of which records were shown.
+"""Tells the lines of an audit in words: who asked, what was answered, and which guarded fields of which records are
+shown to the viewer as they are.
 Words: the application's file, the audit's file, and, where there is one, the file of the events that were answered,
 whose `ask` lines tell which view was asked.
 
 A line is `K STATUS VIEWER SHOWN`: the number of the reply, its status, the record of the viewer or `-`, and the labels
-under which the page was made. A label is that of a group of a record, whose fields are shown for real; what has no
-label there was its public value."""
+under which the page was made. A label is that of a group of a record, whose fields read as they are wherever the page
+read them; what has no label there read as its public value."""
 import os
 import re
 import signal
@@ -57,12 +58,12 @@ def told(names, line, asks):
     if labels == 'nopage':
         return head + ': no page'
     if labels == '-':
-        return head + ': a page without anything guarded'
+        return head + ', who is shown nothing that is guarded'
     shown = {}
     for label in labels.split(','):
         record, fields = names.label(int(label))
         shown.setdefault(record, []).append(fields)
-    return '\n'.join([head + ': shown for real'] + ['    %s%s' % (record, ': ' + ', '.join(fields) if any(fields) else '')
+    return '\n'.join([head + ', who is shown'] + ['    %s%s' % (record, ': ' + ', '.join(fields) if any(fields) else '')
                                                     for record, fields in shown.items()])
 
 

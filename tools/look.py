@@ -7,17 +7,24 @@ It never says that something is wrong, and what it doesn't see it says nothing o
            policy guards what is read, and not who writes
   copies   a view that deletes a record of a model with groups and stores one of its guarded fields elsewhere: who may
            see the copy is asked of a label of the record that is gone, and nobody sees it any more
-  sums     guarded numbers that are added up: a hidden one counts as its public value
-  links    a view that no page of the application leads to
+  branches a condition that reads a guarded field, round a statement that stores: for those to whom the field is hidden
+           its public value decides, and what was stored for the others isn't there for them
+  sums     guarded numbers that are added up: a hidden one counts as its public value. Where the query asks a guarded
+           truth value of the same group, as `docs/LANGUAGE.md` has it, nothing is said
+  links    a view that no page of the application leads to. Nothing is said where a link or a redirect is computed, and
+           none where no page has a link, and none of a page that answers 404 whatever was asked
 """
 import os
 import re
 import signal
 import sys
+import urllib.parse
 
 sys.dont_write_bytecode = True
 sys.path.insert(0, os.path.dirname(os.path.abspath(__file__)))
 import finger                                                               # noqa: E402
+
+STORES = {'create': 'a create', 'update': 'an update', 'delete': 'a delete'}
 
 
 class Look:
@@ -29,6 +36,9 @@ class Look:
         self.guarded = {model.children[1].value: {guard.children[0].value for group in model.children[3:]
                                                   for guard in group.children[1].children[1:]}
                         for model in self.checker.models}
+        self.groups = {model.children[1].value: [{guard.children[0].value: guard.children[1]
+                                                  for guard in group.children[1].children[1:]}
+                                                 for group in model.children[3:]] for model in self.checker.models}
         self.found = []
 
     def at(self, node, words):
@@ -79,15 +89,43 @@ class Look:
             return False
         return any(self.names_in(child, names) for child in node.children[1:])
 
-    def reads_viewer(self, conditions):
-        return any(node.is_atom('viewer') for condition in conditions for node in self.inside(condition))
+    def bound(self, view):
+        """What each name of a view is bound to by a `let` or an `assign`, whichever counts."""
+        values = {}
+        for node in self.inside_all(view):
+            if node.head() in ('let', 'assign'):
+                values.setdefault(node.children[1].value, []).append(node.children[2])
+        return values
+
+    def inside_all(self, view):
+        for statement in view.children[4:]:
+            yield from self.inside(statement)
+
+    def meant(self, node, values):
+        """The trees in an expression, with those that its names are bound to."""
+        seen, left = set(), [node]
+        while left:
+            for one in self.inside(left.pop()):
+                yield one
+                if one.kind == 'atom' and one.value in values and one.value not in seen:
+                    seen.add(one.value)
+                    left += values[one.value]
+
+    def reads_viewer(self, conditions, values):
+        return any(node.is_atom('viewer') for condition in conditions for node in self.meant(condition, values))
+
+    def reads_guarded(self, node, values):
+        """The guarded fields that an expression reads, each where it is read."""
+        return [one for one in self.meant(node, values)
+                if one.head() == 'get' and one.children[2].value in self.guarded[one.children[1].value]]
 
     # what there is to think about
 
     def writes(self):
         for view in self.checker.views:
+            values = self.bound(view)
             for node, conditions, names in self.statements(view):
-                if node.head() not in ('create', 'update') or self.reads_viewer(conditions):
+                if node.head() not in ('create', 'update') or self.reads_viewer(conditions, values):
                     continue
                 model = node.children[1 if node.head() == 'update' else 2].value
                 cells = node.children[3].children[1:]
@@ -97,56 +135,84 @@ class Look:
                     self.at(fields[0], 'whoever sends this form sets the guarded %s of %s: no condition round it reads '
                             'who looks. Where somebody to whom it is hidden saves a form that was filled from it, its '
                             'public value is stored over it' % (listed(fields), model))
-                elif fields and 'viewer' not in [node.value for cell in cells for node in self.inside(cell.children[1])]:
+                elif fields and not self.reads_viewer([cell.children[1] for cell in cells], values):
                     self.at(fields[0], 'whoever sends this form makes a %s with this %s: no condition round it and no '
                             'field of it reads who looks' % (model, listed(fields)))
 
     def copies(self):
         for view in self.checker.views:
-            deleted, stored = {}, []
+            deleted, stored, values = {}, [], self.bound(view)
             for node, _, _ in self.statements(view):
                 if node.head() == 'delete' and self.guarded[node.children[1].value]:
                     deleted.setdefault(node.children[1].value, node)
                 if node.head() in ('create', 'update'):
                     for cell in node.children[3].children[1:]:
-                        for one in self.inside(cell.children[1]):
-                            if one.head() == 'get' and one.children[2].value in self.guarded[one.children[1].value]:
-                                stored.append((one.children[1].value, one))
+                        stored += [(one.children[1].value, one) for one in self.reads_guarded(cell.children[1], values)]
             for model, node in stored:
                 if model in deleted:
                     self.at(node, 'the guarded %s of a %s is stored here, and this view deletes a %s too: of a record '
                             'that is gone nobody is shown a label, so the copy reads as its public value for '
                             'everybody, for good' % (node.children[2].value, model, model))
 
+    def branches(self):
+        for view in self.checker.views:
+            values, told = self.bound(view), set()
+            for node, conditions, _ in self.statements(view):
+                for condition in conditions if node.head() in STORES else ():
+                    read = self.reads_guarded(condition, values)
+                    if read and condition.start not in told:
+                        told.add(condition.start)
+                        self.at(read[0], 'this condition reads the guarded %s of %s, and %s hangs on it: for those to '
+                                'whom that field is hidden its public value decides whether it was done'
+                                % (read[0].children[2].value, read[0].children[1].value, STORES[node.head()]))
+
     def sums(self):
         for item in self.checker.models + self.checker.views:
             for top in item.children[3:]:
                 for node in self.inside(top):
                     if node.head() == 'sum':
-                        for one in self.inside(node.children[2]):
-                            if one.head() == 'get' and one.children[2].value in self.guarded[one.children[1].value]:
+                        for one in self.reads_guarded(node.children[2], {}):
+                            if not self.known(one, node.children[1].children[2]):
                                 self.at(one, 'the guarded %s of %s is added up here: where it is hidden its public '
                                         'value counts' % (one.children[2].value, one.children[1].value))
 
+    def known(self, read, condition):
+        """A query asks a truth value that is guarded in the group of the field that is read, and publicly false."""
+        model, field = read.children[1].value, read.children[2].value
+        beside = {name for group in self.groups[model] if field in group
+                  for name, public in group.items() if public.is_atom('false')}
+        return any(one.children[1].value == model and one.children[2].value in beside
+                   for one in self.reads_guarded(condition, {}))
+
     def links(self):
-        shapes = [(view, self.shape(view.children[2].value.decode('utf-8', 'replace'))) for view in self.checker.views]
-        led = set()
+        linked = {self.shape(path) for view in self.checker.views for path in self.linked(view)}
+        led = linked | {self.shape(path) for view in self.checker.views for path in self.redirected(view)}
+        if not linked or any(shape.startswith('*') for shape in led):
+            return
         for view in self.checker.views:
-            for text in self.texts(view):
-                for found in re.finditer(r'(?:href|action|src)\s*=\s*[\'"]?([^\'"\s>]*)', text):
-                    led.add(self.shape(found.group(1)))
-                if text.startswith('/'):
-                    led.add(self.shape(text))
-        for view, shape in shapes:
-            if shape != '/' and shape not in led and led:
-                self.at(view.children[2], 'no page of this application leads here by a link, a form or a redirect')
+            shape = self.shape(view.children[2].value.decode('utf-8', 'replace'))
+            if shape != '/' and shape not in led and not (shape == '/*' and self.is_missing(view)):
+                self.at(view.children[2], 'no page of this application leads here by a link, a form or a redirect; it may '
+                        'be there for a script')
+
+    def linked(self, view):
+        """The paths of a view's links and forms."""
+        return re.findall(r'(?:href|action|src)\s*=\s*[\'"]?([^\'"\s>]*)', self.text(view))
+
+    def redirected(self, view):
+        return [path for node in self.inside_all(view) if node.head() == 'redirect' for path in self.literals(node.children[1])]
+
+    @staticmethod
+    def is_missing(view):
+        return any(statement.head() == 'missing' for statement in view.children[4:])
 
     @staticmethod
     def shape(path):
-        return re.sub(r'\{[^}]*\}|\x00', '*', path.split('?')[0].split('#')[0])
+        path = path.split('?')[0].split('#')[0]
+        return urllib.parse.unquote(re.sub(r'\{[^}]*\}|\x00', '*', path))
 
-    def texts(self, view):
-        """What a view puts and where it redirects to, with a mark where a value stands."""
+    def text(self, view):
+        """What a view puts, with a mark where a value stands."""
         text = []
         for node, _, _ in self.statements(view):
             if node.head() == 'template':
@@ -156,20 +222,24 @@ class Look:
                     at = tag.end + 2
                 text.append(raw[at:].decode('utf-8', 'replace'))
             elif node.head() in ('put', 'esc'):
-                text.append(self.literal(node.children[1]))
-            elif node.head() == 'redirect':
-                yield self.literal(node.children[1])
-        yield ''.join(text)
+                text.append(self.literals(node.children[1])[0])
+        return ''.join(text)
 
-    def literal(self, node):
+    def literals(self, node):
+        """The texts that an expression may be, with a mark where a value stands."""
         if node.kind == 'text':
-            return node.value.decode('utf-8', 'replace')
+            return [node.value.decode('utf-8', 'replace')]
         if node.head() == 'cat':
-            return ''.join(self.literal(part) for part in node.children[1:])
-        return '\x00'
+            texts = ['']
+            for part in node.children[1:]:
+                texts = [text + more for text in texts for more in self.literals(part)][:64]
+            return texts
+        if node.head() == 'pick':
+            return self.literals(node.children[2]) + self.literals(node.children[3])
+        return ['\x00']
 
     def shown(self):
-        for look in (self.writes, self.copies, self.sums, self.links):
+        for look in (self.writes, self.copies, self.branches, self.sums, self.links):
             look()
         for start, words in sorted(set(self.found)):
             place = finger.view_around(self.data, start)
