@@ -1,13 +1,26 @@
-ghost use Rattle.std.specs.Prelude.{◌≡◌, ℕ, Bool, true, List};
+ghost use Rattle.std.specs.Prelude.{◌≡◌, ℕ, Bool, IsTrue, true, List};
 ghost use Rattle.jac_lang.specs.Syntax.{Application};
 ghost use Rattle.jac_rows.specs.Project.{project_at};
 ghost use Rattle.jac_open.specs.Open.{is_open_app};
 ghost use Rattle.jac_route.specs.declared.sessions.Session.{Session};
 ghost use Rattle.jac_events.specs.declared.event.Event.{Event};
 ghost use Rattle.jac_hub.specs.Hearing.{Source};
-ghost use Rattle.jac_serving.specs.Answering.{Subject};
+ghost use Rattle.jac_keep.specs.KeeperSeen.{KeeperSeen};
+ghost use Rattle.jac_serving.specs.Answering.{Subject, Entry};
+ghost use Rattle.jac_serving.specs.Outside.{Span};
+ghost use Rattle.jac_serving.specs.Serve.{IsServed as IsServedBy};
+ghost use Rattle.jac_app.specs.Answered.{answering_of};
+ghost use Rattle.jac_app.specs.Log.{Serves};
 ghost use Rattle.jac_laws.specs.OpenRuns.{AreShownSame, OnlyReads, StartAlike};
 ghost use Rattle.jac_laws.specs.TwoRuns.{OneRun, IsServed, LookSame, NoneFailed, AgreeAfterEach, EndAlike, AreSameWhereShown, AreSeenAlike, seen_by};
+
+/// A law: what the top call promises of the events that an application was served, where its store is told to the end,
+/// is what the laws below ask of a run.
+pub fn told_runs_serve()
+    ensures { (early : Bool) (app : Application) (sessions : List Session) (k : Span KeeperSeen) →
+        (events : List Event) (log : List Entry) → IsServedBy early (answering_of app sessions) k events log →
+        IsTrue k.after.tells → Serves early app sessions k.before.state events log k.after.state }
+{}
 
 /// A law: where an assignment shows the same of two starts, two runs of the same events over them are asked the same,
 /// entry by entry; both answer with a page or neither does; and behind each entry the assignment shows the same of

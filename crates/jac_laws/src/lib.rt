@@ -4,4 +4,4 @@
 
 mod laws;
 
-pub use laws::{ends_agree, labels_agree, pages_agree, views_agree, worlds_agree};
+pub use laws::{ends_agree, labels_agree, pages_agree, told_runs_serve, views_agree, worlds_agree};
