@@ -53,7 +53,7 @@ def day_of(place):
 
 
 class Site:
-    """An application that is served on one connection, which is kept."""
+    """An application that is served, each request on a connection of its own: one that is kept is let go soon."""
 
     def __init__(self, run, audit):
         self.line = http.client.HTTPConnection('127.0.0.1', run.port, timeout=MOST)
@@ -64,6 +64,7 @@ class Site:
         headers = dict(FORM) if method == 'POST' else {}
         if viewer is not None:
             headers['Cookie'] = 'session=%d' % viewer
+        self.line.close()
         began = time.perf_counter()
         try:
             self.line.request(method, path, body, headers)
@@ -189,7 +190,7 @@ def without_policies(text):
 def site_of(program, app, folder):
     """The application, served over the file of a store in the folder."""
     options = '--sessions', 'sessions', '--audit', 'audit', '--db', 'store'
-    with served(program, app, 1000, folder, options) as run:
+    with served(program, app, 1000000, folder, options) as run:
         site = Site(run, os.path.join(folder, 'audit'))
         with contextlib.closing(site.line):
             yield site
