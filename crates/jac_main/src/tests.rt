@@ -1,15 +1,12 @@
-//! The program's top call over files, sinks, a keeper and a door in memory that fail at chosen calls, and what is stored in
-//! each world.
+//! The program's top call over files, sinks, a keeper and a door in memory that fail at chosen calls.
 ghost use Rattle.std.specs.Prelude.{◌≡◌, ◌<◌, ◌≤◌, ◌^◌, length};
 
-use jac_app::{Status, attach_store, run, serve_link};
+use jac_app::{Status, run};
 use jac_io::{Calls, Links, MemoryDoor, MemoryFiles, MemoryLink, MemorySink, NamedFiles, Pieces};
 use jac_keep::MemoryKeeper;
-use jac_opening::read_application;
-use jac_route::Sessions;
-use jac_rows::{State, Tables, project};
+use jac_rows::{State, Tables};
 use jac_value::{Bytes, Memory, Txt};
-use jac_world::{Assignment, Label, Steps};
+use jac_world::Steps;
 use std::alloc::Global;
 use std::marker::Brand;
 use std::sync::ledger::{Blank, Ledger};
@@ -24,54 +21,6 @@ const PEOPLE: &str = "(app (model User (fields (name text)))
 
 const JOIN_AND_LIST: &[u8] =
     b"ask - POST \"/join\" \"name=Ann\"\nask - POST \"/join\" \"name=Bob\"\nask - GET \"/all\" \"\"\n";
-
-const CALENDAR: &str = "(app (viewer User)
- (model User (fields (name text)))
- (model Event (fields (title text) (host (ref User)) (open bool))
-  (group (guards (title \"private\"))
-   (policy (or (get Event open this) (eq (get Event host this) viewer)))))
- (view post \"/join\" (params (name text)) (create u User (set (name name)) (put u)))
- (view post \"/add\" (params (title text) (open bool))
-  (create e Event (set (title title) (host viewer) (open open)) (put e)))
- (view get \"/list\" (params)
-  (for (from ((e Event)) true key) (put (get Event title e)) (put \";\"))))";
-
-const NOTED_CALENDAR: &str = "(app (viewer User)
- (model User (fields (name text)))
- (model Event (fields (title text) (host (ref User)) (open bool))
-  (group (guards (title \"private\"))
-   (policy (or (get Event open this) (eq (get Event host this) viewer)))))
- (model Note (fields (body text)))
- (view post \"/join\" (params (name text)) (create u User (set (name name)) (put u)))
- (view post \"/add\" (params (title text) (open bool))
-  (create e Event (set (title title) (host viewer) (open open)) (put e)))
- (view get \"/list\" (params)
-  (for (from ((e Event)) true key) (put (get Event title e)) (put \";\")))
- (view post \"/note\" (params)
-  (if (some (from ((e Event)) (eq (get Event title e) \"raid\") key))
-   ((create n Note (set (body \"seen\")))) ()))
- (view get \"/notes\" (params) (put (count (from ((n Note)) true key))))
- (view post \"/rename\" (params (key (ref Event)) (title text))
-  (update Event key (set (title title)))
-  (if (eq (get Event title key) \"boss\") ((update Event key (set (host viewer)))) ()))
- (view post \"/drop\" (params (key (ref Event))) (delete Event key))
- (view get \"/hosts\" (params)
-  (for (from ((u User) (e Event)) (eq (get Event host e) u) (up e title))
-   (put (get User name u)) (put \":\") (put (get Event title e)) (put \";\"))))";
-
-const COUNTED_CALENDAR: &str = "(app (viewer User)
- (model User (fields (name text)))
- (model Event (fields (title text) (host (ref User)) (open bool))
-  (group (guards (title \"private\"))
-   (policy (or (get Event open this) (eq (get Event host this) viewer)))))
- (view post \"/join\" (params (name text)) (create u User (set (name name)) (put u)))
- (view post \"/add\" (params (title text) (open bool))
-  (create e Event (set (title title) (host viewer) (open open)) (put e)))
- (view get \"/hidden\" (params)
-  (put (count (from ((e Event)) (eq (get Event title e) \"private\") key)))))";
-
-const ADDED: &[u8] =
-    b"ask - POST \"/join\" \"name=Ann\"\nask - POST \"/join\" \"name=Bob\"\nask 4096 POST \"/add\" \"title=raid&open=0\"\n";
 
 const SERVED: &[u8] =
     b"HTTP/1.1 200 OK\r\nContent-Type: text/html; charset=utf-8\r\nContent-Length: 5\r\nConnection: close\r\n\r\nhello";
@@ -299,121 +248,6 @@ fn a_post_past_the_last_number_is_refused(rt: HostRuntime) -> Result<(), Fail> {
     Ok(())
 }
 
-fn joined(alloc: Global, first: &[u8], second: &[u8]) -> Result<Vec<u8>, Memory> {
-    let mut all = Vec::from_slice(alloc, first)?;
-    all.extend_from_slice(second)?;
-    Ok(all)
-}
-
-/// Two people join, the first makes sixty events that nobody else may see, and each asks how many are private.
-fn sixty_events(alloc: Global) -> Result<Vec<u8>, Memory> {
-    let mut events = joined(
-        alloc,
-        b"ask - POST \"/join\" \"name=Ann\"\n",
-        b"ask - POST \"/join\" \"name=Bob\"\n",
-    )?;
-    for _event in 0..60 {
-        events.extend_from_slice(b"ask 4096 POST \"/add\" \"title=raid&open=0\"\n")?;
-    }
-    events.extend_from_slice(b"ask 4096 GET \"/hidden\" \"\"\nask 8192 GET \"/hidden\" \"\"\n")?;
-    Ok(events)
-}
-
-/// Whether each line that was put is a reply with status 200.
-fn are_all_answered(out: &[u8]) -> bool {
-    out.split(|byte| *byte == b'\n')
-        .all(|line| line.is_empty() || line.starts_with(b"reply 200 "))
-}
-
-// Asked again at each try, the policies of sixty events take more than 37,000 evaluations, each of which reads the keeper.
-#[test]
-fn policies_are_asked_where_what_they_read_is_new(rt: HostRuntime) -> Result<(), Fail> {
-    let alloc = rt.alloc();
-    let mut fails = no_fails(alloc);
-    fails.reads = Calls::from_vec(vec![in alloc; 30_000]?);
-    let events = sixty_events(alloc)?;
-    let left = run_words(
-        alloc,
-        &["replay", "app", "events"],
-        COUNTED_CALENDAR,
-        events.as_slice(),
-        1,
-        fails,
-    )?;
-    assert_eq!(rt; left.status, Status::Done);
-    assert!(rt; are_all_answered(left.out.taken()));
-    assert!(rt;
-        left.out
-            .taken()
-            .ends_with(b"reply 200 \"\" \"0\"\nreply 200 \"\" \"60\"\n")
-    );
-    assert!(rt; left.audit.taken().ends_with(b"\n64 200 8192 -\n"));
-    Ok(())
-}
-
-/// How many records of the model the labels show.
-fn count_shown(
-    alloc: Global,
-    keeper: &MemoryKeeper,
-    labels: &[u128],
-    model: u8,
-) -> Result<usize, Memory> {
-    let mut shown = Assignment::empty(alloc);
-    for label in labels {
-        match shown.with(alloc, Label(*label)) {
-            Ok(more) => shown = more,
-            Err(_) => return Err(Memory),
-        }
-    }
-    let world = project(alloc, keeper.state(), &shown)?;
-    Ok(world.tables.rows(model).len())
-}
-
-#[test]
-fn a_note_is_stored_once_in_each_world_that_has_it(rt: HostRuntime) -> Result<(), Fail> {
-    let alloc = rt.alloc();
-    let events = joined(alloc, ADDED, b"ask - POST \"/note\" \"\"\n")?;
-    let words = ["replay", "app", "events"];
-    let left = run_words(
-        alloc,
-        &words,
-        NOTED_CALENDAR,
-        events.as_slice(),
-        1,
-        no_fails(alloc),
-    )?;
-    let stored = count_shown(alloc, &left.keeper, &[98312], 2)?;
-    assert_eq!(rt; stored, 1);
-    let stored = count_shown(alloc, &left.keeper, &[], 2)?;
-    assert_eq!(rt; stored, 0);
-    Ok(())
-}
-
-#[test]
-fn two_labels_make_a_note_once(rt: HostRuntime) -> Result<(), Fail> {
-    let alloc = rt.alloc();
-    let more = b"ask 8192 POST \"/add\" \"title=raid&open=0\"\nask - POST \"/note\" \"\"\n";
-    let events = joined(alloc, ADDED, more)?;
-    let words = ["replay", "app", "events"];
-    let left = run_words(
-        alloc,
-        &words,
-        NOTED_CALENDAR,
-        events.as_slice(),
-        1,
-        no_fails(alloc),
-    )?;
-    let first = count_shown(alloc, &left.keeper, &[98312], 2)?;
-    let second = count_shown(alloc, &left.keeper, &[131080], 2)?;
-    let both = count_shown(alloc, &left.keeper, &[98312, 131080], 2)?;
-    let none = count_shown(alloc, &left.keeper, &[], 2)?;
-    assert_eq!(rt; first, 1);
-    assert_eq!(rt; second, 1);
-    assert_eq!(rt; both, 1);
-    assert_eq!(rt; none, 0);
-    Ok(())
-}
-
 /// Serves one link that gives these pieces.
 fn serve_pieces(
     alloc: Global,
@@ -452,100 +286,5 @@ fn a_link_of_a_door_is_served(rt: HostRuntime) -> Result<(), Fail> {
     let left = serve_pieces(alloc, HELLO, &pieces, no_fails(alloc), first)?;
     assert_eq!(rt; left.status, Status::DoorFault);
     assert_eq!(rt; left.out.taken(), b"door fault\n".as_slice());
-    Ok(())
-}
-
-/// What a link that was served leaves: the count of its replies, what is on it, and the audit.
-#[derive(Drop)]
-struct Served {
-    count: u64,
-    link: MemoryLink,
-    audit: MemorySink,
-}
-
-/// Attaches a new keeper for the application, and serves one link that gives this piece.
-fn serve_one<L: Ledger, M: Ledger>(
-    alloc: Global,
-    app: &[u8],
-    piece: &[u8],
-    blank: Blank,
-    second: Blank,
-) -> Result<Option<Served>, Memory>
-    requires short { length app.now ≤ 1048576 }
-    requires name { blank.name ≡ L.name }
-    requires parts { blank.parts ≡ L.parts }
-    requires some { 0 < blank.parts }
-    requires second_name { second.name ≡ M.name }
-    requires second_parts { second.parts ≡ M.parts }
-    requires second_some { 0 < second.parts }
-{
-    let service = match read_application(alloc, app) {
-        Ok(service) => service,
-        Err(_) => return Ok(None),
-    };
-    let sessions = Sessions::empty(alloc);
-    let schema = service.schema(alloc)?;
-    let state = State {
-        tables: Tables::empty(alloc),
-        number: 1,
-    };
-    let mut keeper = MemoryKeeper::new(state, None, Calls::empty(alloc), Calls::empty(alloc));
-    if attach_store(alloc, &service, None, schema, &mut keeper).is_err() {
-        return Ok(None);
-    }
-    let mut pieces = Vec::new(alloc);
-    pieces.push(Bytes::from_slice(alloc, piece)?)?;
-    let mut link = MemoryLink::new(alloc, Pieces::from_vec(pieces), 4096, Calls::empty(alloc))?;
-    let mut audit = MemorySink::new(alloc, 4096, Calls::empty(alloc))?;
-    let mut splits: Steps<L> = Steps::new(blank);
-    let mut evaluations: Steps<M> = Steps::new(second);
-    match serve_link(
-        alloc,
-        &service,
-        &sessions,
-        1,
-        0,
-        &mut link,
-        &mut audit,
-        &mut keeper,
-        &mut splits,
-        &mut evaluations,
-    ) {
-        Ok(count) => Ok(Some(Served { count, link, audit })),
-        Err(_) => Ok(None),
-    }
-}
-
-#[test]
-fn a_link_is_served_without_a_door(rt: HostRuntime) -> Result<(), Fail> {
-    let alloc = rt.alloc();
-    let piece = b"GET / HTTP/1.0\r\n\r\n".as_slice();
-    let served = serve_one::<Brand, Brand>(
-        alloc,
-        HELLO.as_bytes(),
-        piece,
-        Blank::new(1),
-        Blank::new(1),
-    )?;
-    match served {
-        Some(served) => {
-            assert_eq!(rt; served.count, 1);
-            assert_eq!(rt; served.link.taken(), SERVED);
-            assert_eq!(rt; served.audit.taken(), b"1 200 - -\n".as_slice());
-        }
-        None => assert!(rt; false),
-    }
-    Ok(())
-}
-
-#[test]
-fn a_fault_of_the_keeper_is_told_on_a_link(rt: HostRuntime) -> Result<(), Fail> {
-    let alloc = rt.alloc();
-    let mut fails = no_fails(alloc);
-    fails.reads = Calls::from_vec(vec![in alloc; 1]?);
-    let pieces: [&[u8]; 1] = [b"GET /list HTTP/1.1\r\nHost: a\r\n\r\n"];
-    let left = serve_pieces(alloc, CALENDAR, &pieces, fails, Calls::empty(alloc))?;
-    assert_eq!(rt; left.status, Status::Done);
-    assert_eq!(rt; left.audit.taken(), b"1 503 - nopage\n".as_slice());
     Ok(())
 }
