@@ -1,5 +1,5 @@
 -- What std's `parse` reads, and what a parameter reads as.
-use Rattle.std.proofs.Common.{◌≡◌, ℕ, ◌<◌, ◌≤◌, ◌^◌, Bool, true, false, ◌&&◌, nat_lt, nat_le, List, [], ◌∷◌, length, drop, refl, sym, ◌∙◌, ap, subst, arith, Option, Some, None, if◌then◌else◌, ℤ, pos, neg_ℤ}
+use Rattle.std.proofs.Common.{◌≡◌, ℕ, ◌<◌, ◌≤◌, ◌^◌, ◌/◌, Bool, true, false, ◌&&◌, nat_lt, nat_le, List, [], ◌∷◌, length, drop, refl, sym, ◌∙◌, ap, subst, arith, Option, Some, None, if◌then◌else◌, ℤ, pos, neg_ℤ}
 use Rattle.std.proofs.lemmas.Grind.{common_steps}
 use Rattle.std.proofs.lemmas.Int.{ints}
 use Rattle.std.specs.Prelude.{FitsSigned}
@@ -58,8 +58,9 @@ ref-number m n bs p h e =
 
 pub wide-no_id : (m n : ℕ) → 2 ^ 128 ≤ n → is_id_of n m ≡ false
 wide-no_id m n h =
-    let wide : nat_lt n (2 ^ 52) ≡ false = grind arith in
-    rw wide (grind arith)
+    let narrow : nat_lt n (2 ^ 52) ≡ false = grind arith in
+    let wide : nat_lt (n / 2 ^ 52) (2 ^ 52) ≡ false = grind arith in
+    rw (narrow, wide) (grind arith)
 
 pub ref-none : (m : ℕ) (bs : List ℕ) → starts_with_plus bs ≡ false → ¬ (IsNumeral 10 (without_leading_plus bs) × (digits_value 10 (without_leading_plus bs) < 2 ^ 128)) →
     None ≡ ref_read m bs

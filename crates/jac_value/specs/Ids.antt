@@ -1,5 +1,5 @@
 -- The numbers of records and of labels.
-use Rattle.std.specs.Prelude.{ℕ, ◌+◌, ◌*◌, ◌/◌, ◌%◌, ◌^◌, Bool, ◌&&◌, ◌==◌, nat_lt, nat_le}
+use Rattle.std.specs.Prelude.{ℕ, ◌+◌, ◌*◌, ◌/◌, ◌%◌, ◌^◌, Bool, ◌&&◌, ◌||◌, ◌==◌, nat_lt, nat_le}
 
 -- the id that a creating statement gives: `n` numbers the accepted request, `s` the statement in its view, `m` the model
 abbrev pub record_id : ℕ → ℕ → ℕ → ℕ
@@ -11,7 +11,18 @@ model_of_id id = id % 64
 
 -- the number of the request that made a record
 abbrev pub number_of_id : ℕ → ℕ
-number_of_id id = id / 4096
+number_of_id id = id % 2 ^ 52 / 4096
+
+-- the id of a record that is made outside of a loop
+abbrev pub is_narrow : ℕ → Bool
+is_narrow id = nat_le 4096 id && nat_lt id (2 ^ 52)
+
+-- the id of a record that is made around another one: `l` is that record, `b` what `record_id` gives
+abbrev pub loop_id : ℕ → ℕ → ℕ
+loop_id l b = l * 2 ^ 52 + b
+
+abbrev pub is_wide : ℕ → Bool
+is_wide id = is_narrow (id / 2 ^ 52) && is_narrow (id % 2 ^ 52)
 
 -- the label of a group of guarded fields of a record
 abbrev pub label_of : ℕ → ℕ → ℕ
@@ -26,4 +37,4 @@ group_of_label label = label % 8
 
 -- the numbers that are ids of a model
 abbrev pub is_id_of : ℕ → ℕ → Bool
-is_id_of number model = nat_le 4096 number && nat_lt number (2 ^ 52) && model_of_id number == model
+is_id_of number model = (is_narrow number || is_wide number) && model_of_id number == model

@@ -1,10 +1,11 @@
-ghost use Rattle.std.specs.Prelude.{◌≡◌, ◌<◌, ◌^◌};
-ghost use Rattle.jac_value.specs.Ids.{record_id, label_of, model_of_id, is_id_of};
+ghost use Rattle.std.specs.Prelude.{◌≡◌, ◌<◌, ◌^◌, true};
+ghost use Rattle.jac_value.specs.Ids.{record_id, label_of, model_of_id, is_narrow, loop_id, is_wide, is_id_of};
 
 use std::marker::Model;
 
-/// The number of a record. Its remainder by 64 is its model, and its quotient by 4096 the number of
-/// the request that made it.
+/// The number of a record. Its remainder by 64 is its model. A narrow id is less than 2^52, and its
+/// quotient by 4096 is the number of the request that made it; a wide one is two narrow ids, the record
+/// of the loop that it was made in before the one that it would have had outside.
 #[derive(Clone, Copy, Debug, PartialEq, Eq, PartialOrd, Ord)]
 pub struct Id(pub u128);
 
@@ -49,9 +50,38 @@ pub fn id_model(id: Id) -> u8
     (id.0 % 64) as u8
 }
 
-/// Whether the number is an id of the model: from 4096 to 2^52 - 1, with the model as its remainder by 64.
+/// The id of a record that is made in a loop: the loop's record, and the id that it would have outside.
+pub fn loop_id_of(around: Id, base: Id) -> Id
+    requires narrow_around { is_narrow around ≡ true }
+    requires narrow_base { is_narrow base ≡ true }
+    ensures { result ≡ loop_id around base }
+{
+    Id(around.0 * IDS_END + base.0)
+}
+
+/// Whether the number is an id of the model: from 4096 to 2^52 - 1, or two such numbers, one before the
+/// other, with the model as its remainder by 64.
 pub fn is_id(number: u128, model: u8) -> bool
     ensures { result ≡ is_id_of number model }
 {
-    FIRST_ID <= number && number < IDS_END && number % 64 == u128::from(model)
+    (is_narrow(number) || is_wide(number)) && number % 64 == u128::from(model)
+}
+
+/// Whether the record was made outside of a loop.
+pub fn is_narrow_id(id: Id) -> bool
+    ensures { result ≡ is_narrow id }
+{
+    is_narrow(id.0)
+}
+
+fn is_narrow(number: u128) -> bool
+    ensures { result ≡ is_narrow number }
+{
+    FIRST_ID <= number && number < IDS_END
+}
+
+fn is_wide(number: u128) -> bool
+    ensures { result ≡ is_wide number }
+{
+    is_narrow(number / IDS_END) && is_narrow(number % IDS_END)
 }

@@ -15,7 +15,7 @@ mod value;
 
 pub use bytes::Bytes;
 pub use escape::escape_line;
-pub use id::{Id, id_model, id_of, is_id, label_number};
+pub use id::{Id, id_model, id_of, is_id, is_narrow_id, label_number, loop_id_of};
 pub use lists::{Cells, Ids, Kinds};
 pub use memory::Memory;
 pub use names::{are_atom_bytes, is_name};
