@@ -4,7 +4,7 @@ use Rattle.std.specs.Prelude.{position, slice_get}
 use Rattle.std.specs.List.{prefix_len, position_or_len}
 use Rattle.jac_lang.specs.declared.schema.Group.{Group}
 use Rattle.jac_lang.specs.declared.schema.ModelDef.{ModelDef}
-use Rattle.jac_lang.specs.Lookup.{same_text, model_place, fields_at, groups_at, names_field, guards_field, group_place}
+use Rattle.jac_lang.specs.Lookup.{same_text, model_place, fields_at, groups_at, names_field, guards_field, group_place, hiding_place, is_nested_at, is_nested_named, nested_at_place}
 use Rattle.jac_lang.specs.Mirror.{entity_of, entities_of, field_group_of, groups_of, assigned_of}
 
 module _ {A B : Type 0} (g : A → B) (f : List A → List B) (none : f [] ≡ []) (more : (x : A) (xs : List A) → f (x ∷ xs) ≡ g x ∷ f xs) where
@@ -41,3 +41,9 @@ fields-there ms i m h = rw (entity-at ms i m h) refl
 
 pub groups-there : (ms : List ModelDef) (i : ℕ) (m : ModelDef) → slice_get ms i ≡ Some m → groups_of m.groups ≡ groups_at (entities_of ms) i
 groups-there ms i m h = rw (entity-at ms i m h) refl
+
+pub hiding_seen : (gs : List Group) → position (λ g. g.hides) gs ≡ hiding_place (groups_of gs)
+hiding_seen gs = position-seen field_group_of groups_of refl (λ _ _. refl) (λ g. g.hides) gs
+
+pub nested_there : (ms : List ModelDef) (i : ℕ) (m : ModelDef) → slice_get ms i ≡ Some m → m.nested ≡ is_nested_at (entities_of ms) i
+nested_there ms i m h = rw (entity-at ms i m h) refl

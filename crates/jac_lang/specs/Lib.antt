@@ -1,3 +1,4 @@
+pub mod Loops
 pub mod Lookup
 pub mod Mirror
 pub mod Syntax

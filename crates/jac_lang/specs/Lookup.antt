@@ -69,3 +69,23 @@ group_for groups (Some f) = group_place groups f.name
 -- the place of the group that guards the field at this place
 abbrev pub group_in : List FieldGroup → List Field → ℕ → Option ℕ
 group_in groups fields f = group_for groups (slice_get fields f)
+
+-- the place of the first group that hides its records
+abbrev pub hiding_place : List FieldGroup → Option ℕ
+hiding_place groups = position (λ g. g.hides) groups
+
+abbrev pub nested_in : Option Entity → Bool
+nested_in None = false
+nested_in (Some m) = m.nested
+
+-- whether the model at this place is nested
+abbrev pub is_nested_at : List Entity → ℕ → Bool
+is_nested_at models m = nested_in (slice_get models m)
+
+abbrev pub nested_at_place : List Entity → Option ℕ → Bool
+nested_at_place models None = false
+nested_at_place models (Some m) = is_nested_at models m
+
+-- whether the model of this name is nested; a name that no model has isn't
+abbrev pub is_nested_named : List Entity → List ℕ → Bool
+is_nested_named models name = nested_at_place models (model_place models name)

@@ -81,14 +81,14 @@ abbrev mutual
   statements_of (stmts.More' p s q ss) = Statements.more (statement_of s) (statements_of ss)
 
 abbrev pub field_group_of : Group → FieldGroup
-field_group_of g = record { guards = assigned_of g.guards; policy = expression_of g.policy }
+field_group_of g = record { guards = assigned_of g.guards; hides = g.hides; policy = expression_of g.policy }
 
 abbrev pub groups_of : List Group → List FieldGroup
 groups_of [] = []
 groups_of (g ∷ gs) = field_group_of g ∷ groups_of gs
 
 abbrev pub entity_of : ModelDef → Entity
-entity_of m = record { name = m.name; fields = m.fields; groups = groups_of m.groups }
+entity_of m = record { name = m.name; nested = m.nested; fields = m.fields; groups = groups_of m.groups }
 
 abbrev pub entities_of : List ModelDef → List Entity
 entities_of [] = []

@@ -66,14 +66,16 @@ mutual
     none : Statements
     more : Statement → Statements → Statements
 
--- the fields that one policy guards, each with its public value
+-- the fields that one policy guards, each with its public value; or it hides the whole record
 pub record FieldGroup : Type 0 where
   pub guards : List Assigned
+  pub hides : Bool
   pub policy : Expression
 
--- a model
+-- a model; the records of a nested one are made in loops
 pub record Entity : Type 0 where
   pub name : List ℕ
+  pub nested : Bool
   pub fields : List Field
   pub groups : List FieldGroup
 

@@ -1,6 +1,6 @@
 -- What an application keeps that was read from its text, beside its shape: its names are names, its paths are
 -- paths, its lists keep to their limits, and the sites of a view's `create` statements are their places.
-use Rattle.std.specs.Prelude.{◌≡◌, ℕ, ◌<◌, ◌≤◌, ◌^◌, List, [], ◌∷◌, ◌++◌, length, IfSome, IsTrue}
+use Rattle.std.specs.Prelude.{◌≡◌, ℕ, ◌<◌, ◌≤◌, ◌^◌, List, [], ◌∷◌, ◌++◌, length, IfSome, IsTrue, nat_lt, not}
 use Rattle.std.specs.List.{All, range_with_len}
 use Rattle.jac_value.specs.Names.{is_name}
 use Rattle.jac_value.specs.Paths.{is_path}
@@ -109,9 +109,9 @@ IsWrittenKind (kinds.Ref m) = IsName m
 abbrev pub IsWrittenField : Field → Type 0
 IsWrittenField f = IsName f.name × IsWrittenKind f.kind
 
--- a group guards a field or more
+-- a group guards a field or more, or it hides the record
 pub record IsWrittenGroup (g : FieldGroup) : Type 0 where
-  pub some : 0 < length g.guards
+  pub some : nat_lt 0 (length g.guards) ≡ not g.hides
   pub guards : All IsWrittenAssigned g.guards
   pub policy : IsWrittenExpression g.policy
 

@@ -17,7 +17,7 @@ pub use assigned::{Public, Publics};
 pub use bindings::{Binding, PlainEnv};
 pub use expressions::{Expr, Exprs, Op, Query};
 pub use field_kinds::{Field, Fields, KindName};
-pub use lookups::{field_of, group_of, kind_of, model_of};
+pub use lookups::{field_of, group_of, hiding_group, is_nested, kind_of, model_of};
 pub use pages::{Verb, View, Views};
 pub use queries::{Binder, Binders, Order};
 pub use schema::{Group, Groups, ModelDef, Models};

@@ -1,5 +1,5 @@
 ghost use Rattle.std.specs.Prelude.{◌≡◌, ◌<◌, ◌≤◌, length, position, slice_get, unwrap_or, IfSome, Some};
-ghost use Rattle.jac_lang.specs.Lookup.{same_text, model_place, field_place, fields_at, groups_at, kind_named, kind_at, names_field, group_place, group_in};
+ghost use Rattle.jac_lang.specs.Lookup.{same_text, model_place, field_place, fields_at, groups_at, kind_named, kind_at, names_field, group_place, group_in, hiding_place, is_nested_at, is_nested_named};
 ghost use Rattle.jac_lang.specs.Mirror.{application_of, entities_of, groups_of, assigned_of};
 
 use crate::{App, Field, Group, KindName, ModelDef, Models, Publics};
@@ -45,6 +45,44 @@ pub fn group_of(app: &App, model: u8, field: u8) -> Option<u8>
 {
     let field = field_at(&app.models, model, field);
     group_for_name(&app.models, model, &field.name)
+}
+
+/// Whether the model of this name is nested; a name that no model has isn't.
+pub fn is_nested(app: &App, name: &Txt) -> bool
+    ensures { result ≡ is_nested_named (application_of app.now).models name.now }
+{
+    match place_of(&app.models, name) {
+        Some(model) => is_nested_at(&app.models, model),
+        None => false,
+    }
+}
+
+/// The number of the model's first group that hides its records.
+pub fn hiding_group(app: &App, model: u8) -> Option<u8>
+    requires { model < length app.now.models }
+    ensures { result ≡ hiding_place (groups_at (application_of app.now).models model) }
+{
+    let groups = groups_of_model(&app.models, model);
+    match hiding_index(groups) {
+        Some(place) => Some(place as u8),
+        None => None,
+    }
+}
+
+#[tactic(auto, using(crate::proofs::Places::nested_there))]
+fn is_nested_at(models: &Models, model: u8) -> bool
+    requires { model < length models.now }
+    ensures { result ≡ is_nested_at (entities_of models.now) model }
+{
+    let model = model_at(models.as_slice(), model);
+    model.nested
+}
+
+fn hiding_index(groups: &[Group]) -> Option<usize>
+    ensures place { result ≡ position (λ g. g.hides) groups.now }
+    ensures within { IfSome result (λ p. p < length groups.now) }
+{
+    groups.iter().position(|group| group.hides)
 }
 
 fn group_for_name(models: &Models, model: u8, name: &Txt) -> Option<u8>

@@ -5,10 +5,12 @@ use jac_value::Txt;
 use std::alloc::Global;
 use std::marker::Model;
 
-/// Fields that one policy guards, each with what the public sees of it.
+/// Fields that one policy guards, each with what the public sees of it; or the whole record, which stands
+/// only where the policy's label is shown.
 #[derive(Drop)]
 pub struct Group {
     pub guards: Publics,
+    pub hides: bool,
     pub policy: Expr,
 }
 
@@ -22,6 +24,8 @@ pub struct Groups {
 #[derive(Drop)]
 pub struct ModelDef {
     pub name: Txt,
+    /// Whether its records are made in loops, around records of another model.
+    pub nested: bool,
     pub fields: Fields,
     pub groups: Groups,
     ghost few_fields: { length fields ≤ 32 },
