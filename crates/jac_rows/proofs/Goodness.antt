@@ -1,10 +1,9 @@
 use Rattle.std.proofs.Common.{◌≡◌, ℕ, ◌+◌, ◌<◌, ◌≤◌, Bool, true, false, ◌&&◌, if◌then◌else◌, List, [], ◌∷◌, map, refl, arith}
 use Rattle.std.specs.List.{AllByRecursion}
-use Rattle.jac_value.specs.declared.value.Kind.{Kind}
 use Rattle.jac_world.specs.World.{holds, IsRisingBy, StartsAboveBy}
 use Rattle.jac_rows.specs.Apart.{IsBefore, IsTable}
 use Rattle.jac_rows.specs.Project.{rows_at}
-use Rattle.jac_rows.specs.Good.{IsRecord, ArePlain, AreGuarded, IsGood, IsGoodByGuards}
+use Rattle.jac_rows.specs.Good.{ModelShape, IsRecord, ArePlain, AreGuarded, IsGood, IsGoodByGuards}
 use Rattle.jac_rows.specs.declared.row.Row.{Row}
 use Rattle.jac_rows.specs.declared.plain.PlainRow.{PlainRow}
 use Rattle.jac_rows.specs.declared.state.State.{State}
@@ -47,20 +46,20 @@ rising : (w : ℕ → Bool) (rows : List Row) → IsTable id_of_row guard_of_row
 rising w [] t = tt
 rising w (x ∷ xs) t = rising_if w x xs (holds w x.guard) refl t.0 (rising w xs t.1)
 
-module _ (kinds : List (List Kind)) (next : ℕ) where
-  records_if : (m : ℕ) (x : Row) (ps : List PlainRow) (b : Bool) → IsRecord kinds m next x.id x.cells → AllByRecursion (λ (r : PlainRow). IsRecord kinds m next r.id r.cells) ps →
-      AllByRecursion (λ (r : PlainRow). IsRecord kinds m next r.id r.cells) (if b then shown_row x ∷ ps else ps)
+module _ (shapes : List ModelShape) (next : ℕ) where
+  records_if : (m : ℕ) (x : Row) (ps : List PlainRow) (b : Bool) → IsRecord shapes m next x.id x.cells → AllByRecursion (λ (r : PlainRow). IsRecord shapes m next r.id r.cells) ps →
+      AllByRecursion (λ (r : PlainRow). IsRecord shapes m next r.id r.cells) (if b then shown_row x ∷ ps else ps)
   records_if m x ps true h a = (h, a)
   records_if m x ps false h a = a
 
-  records : (m : ℕ) (w : ℕ → Bool) (rows : List Row) → AllByRecursion (λ (r : Row). IsRecord kinds m next r.id r.cells) rows →
-      AllByRecursion (λ (r : PlainRow). IsRecord kinds m next r.id r.cells) (rows_at w rows)
+  records : (m : ℕ) (w : ℕ → Bool) (rows : List Row) → AllByRecursion (λ (r : Row). IsRecord shapes m next r.id r.cells) rows →
+      AllByRecursion (λ (r : PlainRow). IsRecord shapes m next r.id r.cells) (rows_at w rows)
   records m w [] a = tt
   records m w (x ∷ xs) a = records_if m x (rows_at w xs) (holds w x.guard) a.0 (records m w xs a.1)
 
-  tables_good : (w : ℕ → Bool) (m : ℕ) (ts : List (List Row)) → AreGuarded kinds next m ts → ArePlain kinds next m (map (rows_at w) ts)
+  tables_good : (w : ℕ → Bool) (m : ℕ) (ts : List (List Row)) → AreGuarded shapes next m ts → ArePlain shapes next m (map (rows_at w) ts)
   tables_good w m [] g = tt
   tables_good w m (t ∷ ts) g = (rising w t g.0, records m w t g.1, tables_good w (m + 1) ts g.2)
 
-pub good : (kinds : List (List Kind)) (s : State) → IsGoodByGuards kinds s → IsGood kinds s
-good kinds s g w = (g.0, tables_good kinds s.number w 0 s.tables g.1)
+pub good : (shapes : List ModelShape) (s : State) → IsGoodByGuards shapes s → IsGood shapes s
+good shapes s g w = (g.0, tables_good shapes s.number w 0 s.tables g.1)

@@ -1,7 +1,7 @@
 -- Good states, as what every assignment shows and by guards; and sound ones, whose cells may be of any kind.
 use Rattle.std.specs.Prelude.{◌≡◌, ℕ, ◌+◌, ◌<◌, ◌≤◌, ◌^◌, Bool, true, false, ◌&&◌, List, [], ◌∷◌, IsSomeAnd, slice_get, ⊤}
 use Rattle.std.specs.List.{AllByRecursion}
-use Rattle.jac_value.specs.Ids.{model_of_id, number_of_id}
+use Rattle.jac_value.specs.Ids.{model_of_id, number_of_id, is_wide, is_id_of}
 use Rattle.jac_value.specs.Values.{has_kind}
 use Rattle.jac_value.specs.declared.value.Kind.{Kind}
 use Rattle.jac_value.specs.declared.value.Value.{Value}
@@ -20,16 +20,27 @@ have_kinds (k ∷ ks) (v ∷ vs) = has_kind k v && have_kinds ks vs
 have_kinds [] (v ∷ vs) = false
 have_kinds (k ∷ ks) [] = false
 
+-- what a state is to know of a model: the kinds of its fields, and whether its records are made in loops
+pub record ModelShape : Type 0 where
+  pub kinds : List Kind
+  pub nested : Bool
+
 -- a record of the model, made by a request before the next number
 pub record IsMade (model next id : ℕ) : Type 0 where
   pub of_model : model_of_id id ≡ model
+  pub is_one : is_id_of id model ≡ true
   pub numbered : 0 < number_of_id id
   pub made : number_of_id id < next
 
--- the same, with cells of the kinds of the model's fields; a model beyond the kinds has no records
-pub record IsRecord (kinds : List (List Kind)) (model next id : ℕ) (cells : List Value) : Type 0 where
+-- cells of the kinds of the model's fields, and an id that is wide where the model is nested
+pub record IsShaped (shape : ModelShape) (id : ℕ) (cells : List Value) : Type 0 where
+  pub fit : have_kinds shape.kinds cells ≡ true
+  pub wide : is_wide id ≡ shape.nested
+
+-- a record of the model with cells and an id of its shape; a model beyond the shapes has no records
+pub record IsRecord (shapes : List ModelShape) (model next id : ℕ) (cells : List Value) : Type 0 where
   pub made : IsMade model next id
-  pub fit : IsSomeAnd (slice_get kinds model) (λ ks. have_kinds ks cells ≡ true)
+  pub fit : IsSomeAnd (slice_get shapes model) (λ s. IsShaped s id cells)
 
 module _ {X : Type 0} (IsRows : List X → Type 0) (IsRow : ℕ → X → Type 0) where
   -- the tables of the models from one on: their rows as a table has them, each a row of its model
@@ -49,22 +60,22 @@ AreRising rows = IsTable (λ (r : Row). r.id) (λ r. r.guard) rows
 abbrev pub IsNext : ℕ → Type 0
 IsNext n = (1 ≤ n) × (n ≤ 2 ^ 40)
 
-abbrev pub ArePlain : List (List Kind) → ℕ → ℕ → List (List PlainRow) → Type 0
-ArePlain kinds next = AreTablesOf ArePlainRows (λ model (r : PlainRow). IsRecord kinds model next r.id r.cells)
+abbrev pub ArePlain : List ModelShape → ℕ → ℕ → List (List PlainRow) → Type 0
+ArePlain shapes next = AreTablesOf ArePlainRows (λ model (r : PlainRow). IsRecord shapes model next r.id r.cells)
 
-abbrev pub IsGoodPlain : List (List Kind) → PlainState → Type 0
-IsGoodPlain kinds t = IsNext t.number × ArePlain kinds t.number 0 t.tables
+abbrev pub IsGoodPlain : List ModelShape → PlainState → Type 0
+IsGoodPlain shapes t = IsNext t.number × ArePlain shapes t.number 0 t.tables
 
 -- every assignment shows a good plain state
-abbrev pub IsGood : List (List Kind) → State → Type 0
-IsGood kinds s = (w : ℕ → Bool) → IsGoodPlain kinds (project_at w s)
+abbrev pub IsGood : List ModelShape → State → Type 0
+IsGood shapes s = (w : ℕ → Bool) → IsGoodPlain shapes (project_at w s)
 
-abbrev pub AreGuarded : List (List Kind) → ℕ → ℕ → List (List Row) → Type 0
-AreGuarded kinds next = AreTablesOf AreRising (λ model (r : Row). IsRecord kinds model next r.id r.cells)
+abbrev pub AreGuarded : List ModelShape → ℕ → ℕ → List (List Row) → Type 0
+AreGuarded shapes next = AreTablesOf AreRising (λ model (r : Row). IsRecord shapes model next r.id r.cells)
 
 -- the same said by guards
-abbrev pub IsGoodByGuards : List (List Kind) → State → Type 0
-IsGoodByGuards kinds s = IsNext s.number × AreGuarded kinds s.number 0 s.tables
+abbrev pub IsGoodByGuards : List ModelShape → State → Type 0
+IsGoodByGuards shapes s = IsNext s.number × AreGuarded shapes s.number 0 s.tables
 
 abbrev pub AreSound : ℕ → ℕ → List (List Row) → Type 0
 AreSound next = AreTablesOf AreRising (λ model (r : Row). IsMade model next r.id)
