@@ -1,5 +1,5 @@
 -- Cells of a kind: how each field of a spelling is refined by the next.
-use Rattle.std.proofs.Common.{◌≡◌, refl, sym, ap, subst, ◌∙◌, ℕ, zero, suc, ◌+◌, ◌*◌, ◌/◌, ◌%◌, ◌^◌, ◌<◌, ◌≤◌, Bool, true, false, List, [], ◌∷◌, ◌++◌, length, append_assoc, append-nil, ◌↔◌, ◌==◌, if◌then◌else◌, nat_lt, Some, None, arith, rules}
+use Rattle.std.proofs.Common.{◌≡◌, refl, sym, ap, subst, ◌∙◌, ℕ, zero, suc, ◌+◌, ◌*◌, ◌/◌, ◌%◌, ◌^◌, ◌<◌, ◌≤◌, Bool, true, false, List, [], ◌∷◌, ◌++◌, length, append_assoc, append-nil, ◌↔◌, ◌==◌, if◌then◌else◌, nat_lt, Some, None, inl, arith, rules}
 use Rattle.std.proofs.lemmas.Nat.{div-mul-add, mod-mul-add}
 use Rattle.std.proofs.lemmas.List.{nil_from_length, length-replicate}
 use Rattle.std.proofs.lemmas.Str.{IsUtf8-from_ascii}
@@ -20,7 +20,8 @@ use Rattle.jac_stored.specs.Reading.{Stops, StopsBy, IsStopOfBytes, Led, IsBetwe
 use Rattle.jac_stored.specs.declared.stop.Stop.{Stop}
 use Rattle.jac_stored.specs.declared.stop.Stop.TheVariants as stops
 use Rattle.jac_stored.proofs.Stops.{stops_at_end, stops_here, stops_behind, stops_refined}
-use Rattle.jac_stored.proofs.Numbers.{one_spelled, last_apart}
+use Rattle.jac_stored.proofs.Numbers.{one_spelled}
+use Rattle.jac_stored.proofs.IdParts.{id_parts, whole_id}
 
 pub lifted : (L M : List ℕ → Type 0) (bytes bs : List ℕ) → ((n : ℕ) → Stops M bs n → Stops L bytes n) → (e : Stop) → StopsBy M bs e → StopsBy L bytes e
 lifted L M bytes bs f (stops.Left n) s = f n s
@@ -167,67 +168,7 @@ truth_stops bytes = by_behind (BodiesOf kinds.Bool) Signs [] bytes bytes refl
 pub truth_read : (bytes rest : List ℕ) (b : Bool) → bytes ≡ sign_bytes b ++ rest → IsBodyOf kinds.Bool bytes (values.Bool b) rest
 truth_read bytes rest b split = record { of_kind = truth_is b; split = split }
 
--- an id
-
-pub record AreIdFacts (id m : ℕ) : Type 0 where
-  pub from : 4096 ≤ id
-  pub to : id < 0x10_0000_0000_0000
-  pub of : id % 64 ≡ m
-
-pub id_facts : (id m : ℕ) → is_id_of id m ≡ true → AreIdFacts id m
-id_facts id m is = record { from = grind (arith, nat_tests, is); to = grind (arith, nat_tests, is); of = grind (arith, nat_tests, is) }
-
-id_is : (id m : ℕ) → 4096 ≤ id → id < 0x10_0000_0000_0000 → id % 64 ≡ m → is_id_of id m ≡ true
-id_is id m from to of = grind (arith, nat_tests, from, to, of)
-
-whole_id : (y b m : ℕ) → IsBetween 16 0xFFF_FFFF_FFFF y → IsLast m b → is_id_of (y * 256 + b) m ≡ true
-whole_id y b m between last =
-    let from = between.from in let to = between.to in let small = last.0 in let of = last.1 in
-    id_is (y * 256 + b) m (omega (arith, from)) (omega (arith, to, small)) (omega (arith, of))
-
-whole_bytes : (y b : ℕ) (after : List ℕ) → b < 256 → bytes_high_first 16 (y * 256 + b) ++ after ≡ bytes_high_first 15 y ++ (b ∷ after)
-whole_bytes y b after small =
-    ap (λ l. l ++ after) (last_apart 15 (y * 256 + b) ∙ ap (λ z. bytes_high_first 15 z ++ ((y * 256 + b) % 256 ∷ [])) (div-mul-add y 256 b small) ∙ ap (λ z. bytes_high_first 15 y ++ (z ∷ [])) (mod-mul-add y 256 b small))
-    ∙ append_assoc (bytes_high_first 15 y) (b ∷ []) after
-
-id_apart : (id : ℕ) (after : List ℕ) → bytes_high_first 16 id ++ after ≡ bytes_high_first 15 (id / 256) ++ (id % 256 ∷ after)
-id_apart id after = ap (λ l. l ++ after) (last_apart 15 id) ∙ append_assoc (bytes_high_first 15 (id / 256)) (id % 256 ∷ []) after
-
-high_between : (id m : ℕ) → is_id_of id m ≡ true → IsBetween 16 0xFFF_FFFF_FFFF (id / 256)
-high_between id m is =
-    let facts = id_facts id m is in let from = facts.from in let to = facts.to in
-    record { from = omega (arith, from); to = omega (arith, to) }
-
-low_last : (id m : ℕ) → is_id_of id m ≡ true → IsLast m (id % 256)
-low_last id m is = let of = (id_facts id m is).of in (omega arith, omega (arith, of))
-
-pub high_stops : (m : ℕ) → m < 64 → (bytes : List ℕ) (e : Stop) → StopsBy (Numbers 16 0xFFF_FFFF_FFFF 15) bytes e → StopsBy (IdsOf m) bytes e
-high_stops m small = by_refined (IsBetween 16 0xFFF_FFFF_FFFF) (bytes_high_first 15) (IdsOf m)
-    (λ t l. record { thing = l.thing / 256; is = high_between l.thing m l.is; after = l.thing % 256 ∷ l.after; split = l.split ∙ id_apart l.thing l.after })
-    (λ y between. let last : IsLast m m = (omega (arith, small), omega (arith, small)) in
-    (m ∷ [], record { thing = y * 256 + m; is = whole_id y m m between last; after = []; split = sym (whole_bytes y m [] last.0) }))
-
-below_15 : (y : ℕ) → y ≤ 0xFFF_FFFF_FFFF → y < 256 ^ 15
-below_15 y to = omega (arith, to)
-
-pub low_stops : (m y : ℕ) (bytes rest : List ℕ) → IsNumber 16 0xFFF_FFFF_FFFF 15 bytes y rest → (e : Stop) → StopsBy (LastsOf m) rest e → StopsBy (IdsOf m) bytes e
-low_stops m y bytes rest number = by_behind (IdsOf m) (LastsOf m) (bytes_high_first 15 y) bytes rest number.split
-    (λ t. (
-      (λ l. let same = one_spelled 15 y (l.thing / 256) t (l.thing % 256 ∷ l.after) (below_15 y number.between.to) (below_15 (l.thing / 256) (high_between l.thing m l.is).to) (l.split ∙ id_apart l.thing l.after) in
-          record { thing = l.thing % 256; is = low_last l.thing m l.is; after = l.after; split = same.1 }),
-      (λ l. record {
-        thing = y * 256 + l.thing;
-        is = whole_id y l.thing m number.between l.is;
-        after = l.after;
-        split = ap (λ x. bytes_high_first 15 y ++ x) l.split ∙ sym (whole_bytes y l.thing l.after l.is.0);
-      }),
-    ))
-
-pub id_read : (m y b : ℕ) (bytes rest after : List ℕ) → IsNumber 16 0xFFF_FFFF_FFFF 15 bytes y rest → IsLast m b → rest ≡ b ∷ after → IsIdIn m bytes (y * 256 + b) after
-id_read m y b bytes rest after number last split = record {
-  of_model = whole_id y b m number.between last;
-  split = number.split ∙ (ap (λ x. bytes_high_first 15 y ++ x) split ∙ sym (whole_bytes y b after last.0));
-}
+-- the last byte of an id
 
 last_goes : (m : ℕ) → m < 64 → GoesOn (LastsOf m) []
 last_goes m small = (m ∷ [], record { thing = m; is = (omega (arith, small), omega (arith, small)); after = []; split = refl })
@@ -244,24 +185,6 @@ last_never m b other goes =
 
 pub last_out : (m b : ℕ) (bytes rest : List ℕ) → m < 64 → bytes ≡ b ∷ rest → ¬ (b % 64 ≡ m) → Stops (LastsOf m) bytes (length bytes)
 last_out m b bytes rest small split other = subst (λ x. Stops (LastsOf m) x (length x)) (sym split) (stops_here (LastsOf m) b rest (last_goes m small) (last_never m b other))
-
--- an id alone
-
-alone : (m id : ℕ) (bytes : List ℕ) → IsIdOf bytes m id → bytes ≡ bytes_high_first 16 id ++ []
-alone m id bytes is = is.spelled ∙ sym (append-nil (bytes_high_first 16 id))
-
-pub not_alone : (m id number : ℕ) (bytes rest : List ℕ) → IsIdOf bytes m id → IsIdIn m bytes number rest → ¬ (length rest ≡ 0) → ⊥
-not_alone m id number bytes rest is read some =
-    let room = id_facts id m is.of_model in
-    let space = id_facts number m read.of_model in
-    let fits = room.to in
-    let fit = space.to in
-    let same = one_spelled 16 id number [] rest (omega (arith, fits)) (omega (arith, fit)) (sym (alone m id bytes is) ∙ read.split) in
-    some (ap length (sym same.1))
-
-pub never_id : (m id : ℕ) (bytes : List ℕ) (e : Stop) → IsIdOf bytes m id → StopsBy (IdsOf m) bytes e → IsStopOfBytes e → ⊥
-never_id m id bytes (stops.Left left) is stop of_bytes = stop.wrong (record { thing = id; is = is.of_model; after = []; split = alone m id bytes is })
-never_id m id bytes stops.Memory is stop of_bytes = of_bytes
 
 -- a reference; a model from 64 on has no ids
 
@@ -283,7 +206,7 @@ has_ids m n bytes rest number some =
 begin_ref : (m : ℕ) (t : List ℕ) (v : Value) (after : List ℕ) → IsOf (kinds.Ref m) v → t ≡ body_of v ++ after → Numbers 0 (most_sign m) 1 t
 begin_ref m t (values.Ref None) after is split = record { thing = 0; is = record { from = omega arith; to = omega arith }; after = after; split = split }
 begin_ref m t (values.Ref (Some id)) after is split =
-    let of = (id_facts id m is.fit).of in
+    let of = (id_parts id m is.fit).of in
     let small : m < 64 = omega (arith, of) in
     let one = one_if m small in
     record { thing = 1; is = record { from = omega arith; to = omega (arith, one) }; after = bytes_high_first 16 id ++ after; split = split }
@@ -292,7 +215,7 @@ begin_ref m t (values.Text s) after is split = let e : false ≡ true = is.fit i
 begin_ref m t (values.Bool b) after is split = let e : false ≡ true = is.fit in cc
 
 first_id : (m : ℕ) → m < 64 → is_id_of (4096 + m) m ≡ true
-first_id m small = id_is (4096 + m) m (omega arith) (omega (arith, small)) (omega (arith, small))
+first_id m small = whole_id 0 16 m m (omega arith) (omega arith) (omega (arith, small)) (omega (arith, small)) (inl (omega arith)) small
 
 ref_goes : (m x : ℕ) → x ≤ most_sign m → GoesOn (BodiesOf (kinds.Ref m)) (bytes_high_first 1 x)
 ref_goes m zero to = ([], record { thing = values.Ref None; is = record { fit = refl; valid = tt }; after = []; split = refl })

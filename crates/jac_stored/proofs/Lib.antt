@@ -1,6 +1,8 @@
 pub mod Stops
 pub mod Numbers
+pub mod IdParts
 pub mod Cells
+pub mod Ids
 pub mod Texts
 pub mod Rows
 pub mod Guards

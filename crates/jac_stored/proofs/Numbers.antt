@@ -10,14 +10,14 @@ use Rattle.jac_stored.specs.Faults.{GoesOn}
 use Rattle.jac_stored.specs.Reading.{Stops, IsBehind, Numbers, NumbersBehind, Halfway, IsNumber}
 use Rattle.jac_stored.proofs.Stops.{stops_at_end, stops_here, stops_behind}
 
-power_pos : (k : ℕ) → 0 < 256 ^ k
+pub power_pos : (k : ℕ) → 0 < 256 ^ k
 power_pos zero = omega arith
 power_pos (suc k) = let h = power_pos k in let e = pow-suc 256 k in omega (arith, h, e)
 
 one_more : (n k : ℕ) → n / 256 ^ suc k ≡ n / 256 ^ k / 256
 one_more n k = ap (λ p. n / p) (pow-suc 256 k) ∙ sym (div-div-eq-div-mul n (256 ^ k) 256)
 
-byte_is : (k n : ℕ) → byte_at k n ≡ n / 256 ^ k % 256
+pub byte_is : (k n : ℕ) → byte_at k n ≡ n / 256 ^ k % 256
 byte_is zero n = ap (λ x. x % 256) (sym (div-one n))
 byte_is (suc k) n = refl
 

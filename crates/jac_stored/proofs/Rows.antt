@@ -17,7 +17,8 @@ use Rattle.jac_stored.specs.Reading.{Stops, StopsBy, IsOf, CellsOf, IsCellOf, Ce
 use Rattle.jac_stored.specs.declared.stop.Stop.{Stop}
 use Rattle.jac_stored.proofs.Stops.{stops_here, stops_behind}
 use Rattle.jac_stored.proofs.Numbers.{one_spelled}
-use Rattle.jac_stored.proofs.Cells.{by_refined, lifted, default_is, id_facts}
+use Rattle.jac_stored.proofs.Cells.{by_refined, lifted, default_is}
+use Rattle.jac_stored.proofs.IdParts.{id_parts}
 
 -- cells in front and behind
 
@@ -78,7 +79,7 @@ text_once u v s t fu fv e =
     same_fronts u v s t one.0 one.1
 
 id_room : (m id : ℕ) → is_id_of id m ≡ true → id < 256 ^ 16
-id_room m id is = let to = (id_facts id m is).to in omega (arith, to)
+id_room m id is = let to = (id_parts id m is).to in omega (arith, to)
 
 pub tail_of : (x y : ℕ) (s t : List ℕ) → x ∷ s ≡ y ∷ t → s ≡ t
 tail_of x y s t e = cc

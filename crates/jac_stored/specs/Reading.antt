@@ -125,6 +125,26 @@ IsOfModel model id = is_id_of id model ≡ true
 abbrev pub IdsOf : ℕ → List ℕ → Type 0
 IdsOf model = Led (IsOfModel model) (bytes_high_first 16)
 
+-- a number of the sort whose first bytes, of all but `left`, are the value
+pub record IsBehindOf (Is : ℕ → Type 0) (left value number : ℕ) : Type 0 where
+  pub is : Is number
+  pub read : number / 256 ^ left ≡ value
+
+abbrev pub BehindOf : (ℕ → Type 0) → ℕ → ℕ → List ℕ → Type 0
+BehindOf Is left value = Led (IsBehindOf Is left value) (bytes_high_first left)
+
+-- The first eight bytes of an id are 0 in a narrow one, and from 1 to 2^40 - 1 in a wide one.
+abbrev pub most_top : ℕ
+most_top = 0xFF_FFFF_FFFF
+
+-- the greatest number in the six bytes behind them
+abbrev pub most_middle : ℕ → ℕ
+most_middle top = if top == 0 then 0xF_FFFF_FFFF else 0xFFFF_FFFF_FFFF
+
+-- the least byte behind these fourteen: an id is 4096 or more, and so is the second part of a wide one
+abbrev pub least_next : ℕ → ℕ
+least_next front = if front % 2 ^ 36 == 0 then 16 else 0
+
 -- the last byte of one
 abbrev pub IsLast : ℕ → ℕ → Type 0
 IsLast model b = (b < 256) × (b % 64 ≡ model)

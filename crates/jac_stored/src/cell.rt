@@ -1,6 +1,6 @@
-ghost use Rattle.std.specs.Prelude.{◌≡◌, ◌<◌, ◌∷◌, ◌++◌, ℕ, IfOk, IfErr};
+ghost use Rattle.std.specs.Prelude.{◌≡◌, ◌<◌, ◌≤◌, ◌^◌, ◌∷◌, ◌++◌, ℕ, IfOk, IfErr};
 ghost use Rattle.jac_value.specs.declared.value.Kind.TheVariants as kinds;
-ghost use Rattle.jac_stored.specs.Reading.{StopsBy, IsStopOfBytes, CellsOf, IsCellOf, BodiesOf, IsBodyOf, tag_of, Signs, IdsOf, LastsOf, IsIdIn, IsLast, sign_bytes, most_sign};
+ghost use Rattle.jac_stored.specs.Reading.{StopsBy, IsStopOfBytes, CellsOf, IsCellOf, BodiesOf, IsBodyOf, tag_of, Signs, IdsOf, LastsOf, IsIdIn, IsLast, sign_bytes, most_sign, most_middle, least_next};
 
 use crate::number::number;
 use crate::stop::Stop;
@@ -95,17 +95,40 @@ fn most_sign(model: u8) -> u128
     if model < 64 { 1 } else { 0 }
 }
 
-// An id of the model. All but its last byte say whether it is from 4096 to 2^52 - 1.
-#[tactic(auto, using(crate::proofs::Cells::high_stops, crate::proofs::Cells::low_stops, crate::proofs::Cells::id_read))]
+// An id of the model. Its first eight bytes are 0 where it is narrow, and then what follows is less
+// than 2^52; else a wide one has any bytes next. Where all that is left of the id, or of its second
+// part, is two bytes, the first of them is 16 or more.
+#[tactic(auto, using(crate::proofs::Ids::top_stops))]
 pub(crate) fn id(bytes: &[u8], model: u8) -> Result<(u128, &[u8]), Stop>
     requires { model < 64 }
     ensures id { IfOk result (λ r. IsIdIn model bytes.now r.0 r.1.now) }
     ensures stops { IfErr result (StopsBy (IdsOf model) bytes.now) }
     ensures of_bytes { IfErr result IsStopOfBytes }
 {
-    let (high, rest) = number(bytes, 15, 16, 0xFFF_FFFF_FFFF)?;
+    let (top, rest) = number(bytes, 8, 0, 0xFF_FFFF_FFFF)?;
+    let (middle, rest) = number(rest, 6, 0, most_middle(top))?;
+    let front = top * 0x1_0000_0000_0000 + middle;
+    let (next, rest) = number(rest, 1, least_next(front), 255)?;
     let (low, rest) = last_byte(rest, model)?;
-    Ok((high * 256 + u128::from(low), rest))
+    Ok(((front * 256 + next) * 256 + u128::from(low), rest))
+}
+
+fn most_middle(top: u128) -> u128
+    ensures most { result ≡ most_middle top }
+    ensures small { result < 256 ^ 6 }
+{
+    if top == 0 {
+        0xF_FFFF_FFFF
+    } else {
+        0xFFFF_FFFF_FFFF
+    }
+}
+
+fn least_next(front: u128) -> u128
+    ensures least { result ≡ least_next front }
+    ensures small { result ≤ 255 }
+{
+    if front % 0x10_0000_0000 == 0 { 16 } else { 0 }
 }
 
 // The last byte of an id of the model.

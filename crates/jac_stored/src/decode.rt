@@ -7,15 +7,19 @@ use crate::stop::Stop;
 use jac_rows::Row;
 use jac_value::{Id, Kind};
 use std::alloc::Global;
+use thiserror::Error;
 
 /// Why bytes are no stored row. A place is the length of the longest front that can go on to a right
 /// spelling.
-#[derive(Clone, Copy, Debug, PartialEq, Eq)]
+#[derive(Clone, Copy, Debug, PartialEq, Eq, Error)]
 pub enum RowFault {
     /// The place in the bytes of the guard. It comes before a fault of the cells.
+    #[error("no guard at {0}")]
     Guard(u64),
     /// The place in the bytes of the cells.
+    #[error("no cells at {0}")]
     Body(u64),
+    #[error("out of memory")]
     Memory,
 }
 

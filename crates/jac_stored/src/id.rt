@@ -13,7 +13,7 @@ pub fn encode_id(id: Id) -> [u8; 16]
 }
 
 /// None where the bytes aren't the 16 bytes of an id of the model.
-#[tactic(auto, using(crate::proofs::Cells::not_alone, crate::proofs::Cells::never_id))]
+#[tactic(auto, using(crate::proofs::Ids::read_alone, crate::proofs::Ids::not_alone, crate::proofs::Ids::never_id))]
 pub fn decode_id(bytes: &[u8], model: u8) -> Option<Id>
     ensures id { IfSome result (IsIdOf bytes.now model) }
     ensures none { IsNone result → (id : ℕ) → ¬ (IsIdOf bytes.now model id) }
