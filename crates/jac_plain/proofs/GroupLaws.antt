@@ -1,12 +1,13 @@
 -- Where no group guards a field, what is stored is the draft, whatever labels are shown.
-use Rattle.std.proofs.Common.{◌≡◌, ◌∙◌, refl, ap, zero, suc, ℕ, ◌+◌, ◌&&◌, Bool, true, false, if◌then◌else◌, List, [], ◌∷◌, Option, Some, None}
+use Rattle.std.proofs.Common.{◌≡◌, ◌∙◌, refl, ap, zero, suc, ℕ, ◌+◌, ◌&&◌, not, Bool, true, false, if◌then◌else◌, List, [], ◌∷◌, Option, Some, None}
 use Rattle.std.specs.Prelude.{slice_get}
 use Rattle.std.proofs.lemmas.Bool.{and_parts}
 use Rattle.jac_value.specs.declared.value.Value.{Value}
 use Rattle.jac_lang.specs.declared.field_kinds.Field.{Field}
-use Rattle.jac_lang.specs.Lookup.{fields_at, groups_at, group_for, group_in}
+use Rattle.jac_lang.specs.Lookup.{fields_at, groups_at, group_for, group_in, hiding_place}
 use Rattle.jac_lang.specs.Syntax.{Entity, FieldGroup}
 use Rattle.jac_plain.specs.Models.{is_none, are_without_groups}
+use Rattle.jac_plain.specs.Statements.{is_kept}
 use Rattle.jac_plain.specs.Records.{each_cell, public_cell, is_hidden, is_hidden_by, shielded}
 
 no_groups : (groups : List FieldGroup) → is_none groups ≡ true → groups ≡ []
@@ -25,6 +26,9 @@ group_none (Some f) = refl
 pub not_hidden : (models : List Entity) (shown : ℕ → Bool) (m id f : ℕ) → groups_at models m ≡ [] → is_hidden models shown m id f ≡ false
 not_hidden models shown m id f none =
     ap (λ gs. is_hidden_by shown id (group_in gs (fields_at models m) f)) none ∙ ap (is_hidden_by shown id) (group_none (slice_get (fields_at models m) f))
+
+pub kept_groupless : (models : List Entity) (shown : ℕ → Bool) (m id : ℕ) → groups_at models m ≡ [] → is_kept models shown m id ≡ true
+kept_groupless models shown m id none = ap (λ gs. not (is_hidden_by shown id (hiding_place gs))) none
 
 each_same : (cell_of : ℕ → Value → Value) (f : ℕ) (cells : List Value) → ((g : ℕ) (v : Value) → cell_of g v ≡ v) → each_cell cell_of f cells ≡ cells
 each_same cell_of f [] h = refl

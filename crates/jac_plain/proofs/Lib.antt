@@ -1,5 +1,9 @@
 pub mod ReadingLaws
 pub mod GroupLaws
 pub mod ShownLaws
+pub mod MadeIds
+pub mod RowLaws
+pub mod LoopLaws
+pub mod KeptLaws
 pub mod GoodLaws
 pub mod NewLaws

@@ -6,7 +6,7 @@ use Rattle.jac_lang.specs.declared.queries.Binder.{Binder}
 use Rattle.jac_lang.specs.Syntax.{Statement, Statements}
 use Rattle.jac_plain.specs.Expressions.{answers, bound, is_true}
 use Rattle.jac_plain.specs.Reading.{is_reading, are_reading}
-use Rattle.jac_plain.specs.Statements.{Setting, Run, world_of, value_in, scoped, choose, for_each, leaves, leaves_all}
+use Rattle.jac_plain.specs.Statements.{Setting, Run, world_of, value_in, scoped, choose, for_each, loop_of, leaves, leaves_all}
 
 -- the step leaves the tables
 abbrev Keeps : (Run → Run) → Type 0
@@ -19,10 +19,10 @@ keeps_choose false first second one two r = two r
 keeps_scoped : (env : List Binding) (body : Run → Run) → Keeps body → Keeps (scoped env body)
 keeps_scoped env body kept r = kept (record r { env = env })
 
-keeps_each : (bs : List Binder) (body : Run → Run) → Keeps body → (tuples : List (List ℕ)) → Keeps (for_each bs body tuples)
+keeps_each : (bs : List Binder) (body : List ℕ → Run → Run) → ((ids : List ℕ) → Keeps (body ids)) → (tuples : List (List ℕ)) → Keeps (for_each bs body tuples)
 keeps_each bs body kept [] r = refl
 keeps_each bs body kept (ids ∷ tuples) r =
-    keeps_each bs body kept tuples (scoped (bound bs ids r.env) body r) ∙ keeps_scoped (bound bs ids r.env) body kept r
+    keeps_each bs body kept tuples (scoped (bound bs ids r.env) (body ids) r) ∙ keeps_scoped (bound bs ids r.env) (body ids) (kept ids) r
 
 mutual
   keeps_one : (k : Setting) (s : Statement) → is_reading s ≡ true → Keeps (leaves k s)
@@ -34,7 +34,7 @@ mutual
       keeps_choose (is_true (value_in k c r)) (leaves_all k first) (leaves_all k second)
       (keeps_all k first (and_parts _ _ h).0) (keeps_all k second (and_parts (are_reading first) _ h).1) r
   keeps_one k (Statement.each q body) h r =
-      keeps_each q.binders (leaves_all k body) (keeps_all k body h) (answers (world_of k r) q r.env) r
+      keeps_each q.binders (λ ids. leaves_all (record k { around = loop_of ids }) body) (λ ids. keeps_all (record k { around = loop_of ids }) body h) (answers (world_of k r) q r.env) r
   keeps_one k (Statement.create x m site cells body) h r = cc
   keeps_one k (Statement.update m e cells) h r = cc
   keeps_one k (Statement.delete m e) h r = cc

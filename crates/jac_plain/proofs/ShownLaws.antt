@@ -1,7 +1,6 @@
 -- Where no model has a group, nothing depends on the labels that are shown.
 use Rattle.std.proofs.Common.{◌≡◌, ◌∙◌, sym, refl, ap, ℕ, ◌==◌, Bool, true, false, if◌then◌else◌, List, [], ◌∷◌, ◌++◌, length, Option, Some, None}
 use Rattle.std.specs.Prelude.{slice_get, slice_set}
-use Rattle.jac_value.specs.Ids.{record_id}
 use Rattle.jac_value.specs.declared.value.Value.{Value}
 use Rattle.jac_value.specs.declared.value.Value.TheVariants as value
 use Rattle.jac_lang.specs.declared.bindings.Binding.{Binding}
@@ -15,8 +14,8 @@ use Rattle.jac_plain.specs.Expressions.{answers, bound, binding, is_true}
 use Rattle.jac_plain.specs.Models.{are_without_groups}
 use Rattle.jac_plain.specs.Records.{drafted, default_cells, plain_row, shielded, every_field, is_set, changed, tables_after}
 use Rattle.jac_plain.specs.Requests.{Visit, body_in, run_of, setting_of}
-use Rattle.jac_plain.specs.Statements.{Setting, Run, world_of, value_in, cut_to, scoped, with_binding, choose, for_each, with_record, created_cells, created, updated_cells, updated, leaves, leaves_all}
-use Rattle.jac_plain.proofs.GroupLaws.{groups_none, shielded_groupless}
+use Rattle.jac_plain.specs.Statements.{Setting, Run, world_of, value_in, cut_to, scoped, with_binding, choose, for_each, loop_of, id_made, is_kept, with_made, created_cells, created, updated_cells, updated, leaves, leaves_all}
+use Rattle.jac_plain.proofs.GroupLaws.{groups_none, kept_groupless, shielded_groupless}
 
 abbrev under : (ℕ → Bool) → Setting → Setting
 under v k = record k { shown = v }
@@ -32,10 +31,10 @@ alike_choose : (c : Bool) (f f2 g g2 : Run → Run) → Alike f f2 → Alike g g
 alike_choose true f f2 g g2 one two r = one r
 alike_choose false f f2 g g2 one two r = two r
 
-alike_each : (bs : List Binder) (f g : Run → Run) → Alike f g → (tuples : List (List ℕ)) → Alike (for_each bs f tuples) (for_each bs g tuples)
+alike_each : (bs : List Binder) (f g : List ℕ → Run → Run) → ((ids : List ℕ) → Alike (f ids) (g ids)) → (tuples : List (List ℕ)) → Alike (for_each bs f tuples) (for_each bs g tuples)
 alike_each bs f g same [] r = refl
 alike_each bs f g same (ids ∷ tuples) r =
-    ap (for_each bs f tuples) (alike_scoped (bound bs ids r.env) f g same r) ∙ alike_each bs f g same tuples (scoped (bound bs ids r.env) g r)
+    ap (for_each bs f tuples) (alike_scoped (bound bs ids r.env) (f ids) (g ids) (same ids) r) ∙ alike_each bs f g same tuples (scoped (bound bs ids r.env) (g ids) r)
 
 same_shielded : (k : Setting) (v : ℕ → Bool) (m id : ℕ) (named : ℕ → Bool) (draft : List Value) → are_without_groups k.models ≡ true
     → shielded k.models k.shown m id named draft ≡ shielded k.models v m id named draft
@@ -47,11 +46,13 @@ alike_created : (k : Setting) (v : ℕ → Bool) (name : List ℕ) (m : Option �
     → Alike f g → Alike (created k name m site cells f) (created (under v k) name m site cells g)
 alike_created k v name None site cells f g h same r = refl
 alike_created k v name (Some m) site cells f g h same r =
-    let id = record_id k.number site m in
+    let id = id_made k m site in
+    let kept : is_kept k.models k.shown m id ≡ is_kept k.models v m id = kept_groupless k.models k.shown m id (groups_none k.models m h) ∙ sym (kept_groupless k.models v m id (groups_none k.models m h)) in
     let stored : created_cells k m id cells r ≡ created_cells (under v k) m id cells r =
     same_shielded k v m id every_field (drafted k.models (fields_at k.models m) (λ e. value_in k e r) cells (default_cells k.models (fields_at k.models m))) h in
-    ap (λ c. with_binding name (value.Ref (Some id)) f (with_record m (plain_row id c) r)) stored
-    ∙ alike_scoped _ f g same (with_record m (plain_row id (created_cells (under v k) m id cells r)) r)
+    ap (λ c. with_binding name (value.Ref (Some id)) f (with_made (is_kept k.models k.shown m id) m (plain_row id c) r)) stored
+    ∙ (ap (λ b. with_binding name (value.Ref (Some id)) f (with_made b m (plain_row id (created_cells (under v k) m id cells r)) r)) kept
+    ∙ alike_scoped _ f g same (with_made (is_kept k.models v m id) m (plain_row id (created_cells (under v k) m id cells r)) r))
 
 changed_if : (b : Bool) (x y : PlainRow) (rows more rest : List PlainRow) → x ≡ y → more ≡ rest → (if b then x ∷ rows else more) ≡ (if b then y ∷ rows else rest)
 changed_if true x y rows more rest e i = ap (λ z. z ∷ rows) e
@@ -91,7 +92,8 @@ mutual
       alike_choose (is_true (value_in k c r)) (leaves_all k first) (leaves_all (under v k) first) (leaves_all k second) (leaves_all (under v k) second)
       (alike_all k v first h) (alike_all k v second h) r
   alike_one k v (Statement.each q body) h r =
-      alike_each q.binders (leaves_all k body) (leaves_all (under v k) body) (alike_all k v body h) (answers (world_of k r) q r.env) r
+      alike_each q.binders (λ ids. leaves_all (record k { around = loop_of ids }) body) (λ ids. leaves_all (record (under v k) { around = loop_of ids }) body)
+      (λ ids. alike_all (record k { around = loop_of ids }) v body h) (answers (world_of k r) q r.env) r
   alike_one k v (Statement.create x m site cells body) h r =
       alike_created k v x (model_place k.models m) site cells (leaves_all k body) (leaves_all (under v k) body) h (alike_all k v body h) r
   alike_one k v (Statement.update m e cells) h r = alike_updated k v (model_place k.models m) (value_in k e r) cells h r

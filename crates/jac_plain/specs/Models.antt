@@ -1,21 +1,26 @@
 -- What the models of an application say of tables, and the applications that hide nothing.
-use Rattle.std.specs.Prelude.{◌&&◌, not, nat_lt, Bool, true, false, List, [], ◌∷◌}
+use Rattle.std.specs.Prelude.{◌≡◌, ℕ, ◌&&◌, nat_lt, Bool, true, false, List, [], ◌∷◌}
+use Rattle.std.specs.List.{AllByRecursion}
+use Rattle.jac_value.specs.Ids.{is_narrow, is_wide}
 use Rattle.jac_value.specs.declared.value.Kind.{Kind}
 use Rattle.jac_lang.specs.declared.field_kinds.Field.{Field}
-use Rattle.jac_lang.specs.Lookup.{kind_named}
+use Rattle.jac_lang.specs.Lookup.{kind_named, is_nested_at}
 use Rattle.jac_lang.specs.Syntax.{Entity, FieldGroup, Application, Statement, Statements}
+use Rattle.jac_rows.specs.declared.plain.PlainRow.{PlainRow}
+use Rattle.jac_rows.specs.Good.{ModelShape, ArePlainRows}
+use Rattle.jac_rows.specs.Tables.{rows_of}
 
 abbrev pub kinds_of_fields : List Entity → List Field → List Kind
 kinds_of_fields models [] = []
 kinds_of_fields models (f ∷ fields) = kind_named models f.kind ∷ kinds_of_fields models fields
 
-abbrev pub kinds_of_models : List Entity → List Entity → List (List Kind)
-kinds_of_models models [] = []
-kinds_of_models models (m ∷ rest) = kinds_of_fields models m.fields ∷ kinds_of_models models rest
+abbrev pub shapes_of_models : List Entity → List Entity → List ModelShape
+shapes_of_models models [] = []
+shapes_of_models models (m ∷ rest) = record { kinds = kinds_of_fields models m.fields; nested = m.nested } ∷ shapes_of_models models rest
 
--- the kinds of the cells of each model
-abbrev pub kinds_of : Application → List (List Kind)
-kinds_of app = kinds_of_models app.models app.models
+-- the kinds of the cells of each model, and whether it is nested
+abbrev pub shapes_of : Application → List ModelShape
+shapes_of app = shapes_of_models app.models app.models
 
 abbrev pub is_none : List FieldGroup → Bool
 is_none [] = true
@@ -40,16 +45,14 @@ abbrev mutual
   are_sited Statements.none = true
   are_sited (Statements.more s rest) = is_sited s && are_sited rest
 
-abbrev mutual
-  -- no create stands in a `for`; the statement itself stands in one where the test is true
-  pub is_unlooped : Bool → Statement → Bool
-  is_unlooped looped (Statement.bind x e body) = are_unlooped looped body
-  is_unlooped looped (Statement.branch c first second) = are_unlooped looped first && are_unlooped looped second
-  is_unlooped looped (Statement.each q body) = are_unlooped true body
-  is_unlooped looped (Statement.create x m site cells body) = not looped && are_unlooped looped body
-  is_unlooped looped (Statement.block body) = are_unlooped looped body
-  is_unlooped looped s = true
+-- the id of a record of a nested model is wide, that of any other record narrow
+abbrev pub is_shaped : Bool → ℕ → Bool
+is_shaped true id = is_wide id
+is_shaped false id = is_narrow id
 
-  pub are_unlooped : Bool → Statements → Bool
-  are_unlooped looped Statements.none = true
-  are_unlooped looped (Statements.more s rest) = is_unlooped looped s && are_unlooped looped rest
+abbrev pub AreFlat : List Entity → List (List PlainRow) → Type 0
+AreFlat models tables = (m : ℕ) → AllByRecursion (λ (r : PlainRow). is_shaped (is_nested_at models m) r.id ≡ true) (rows_of tables m)
+
+-- each table has each id once, in rising order
+abbrev pub AreOrdered : List (List PlainRow) → Type 0
+AreOrdered tables = (m : ℕ) → ArePlainRows (rows_of tables m)

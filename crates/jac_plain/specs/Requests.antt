@@ -60,7 +60,7 @@ method_in None = verbs.Get
 method_in (Some v) = v.method
 
 abbrev pub setting_of : (ℕ → Bool) → Application → PlainState → Visit → Setting
-setting_of w app t visit = record { models = app.models; shown = w; viewer = visit.viewer; number = t.number }
+setting_of w app t visit = record { models = app.models; shown = w; viewer = visit.viewer; number = t.number; around = None }
 
 -- what the view's statements leave of a state, under the labels that are shown
 abbrev pub run_of : (ℕ → Bool) → Application → PlainState → Visit → Run

@@ -1,28 +1,29 @@
 -- What a statement leaves in one world.
-use Rattle.std.specs.Prelude.{ℕ, ◌==◌, Bool, true, false, if◌then◌else◌, List, [], ◌∷◌, ◌++◌, length, take, Option, Some, None, codes}
+use Rattle.std.specs.Prelude.{ℕ, ◌==◌, not, Bool, true, false, if◌then◌else◌, List, [], ◌∷◌, ◌++◌, length, take, Option, Some, None, codes}
 use Rattle.std.specs.List.{flat_map}
 use Rattle.jac_value.specs.declared.value.Value.{Value}
 use Rattle.jac_value.specs.declared.value.Value.TheVariants as value
-use Rattle.jac_value.specs.Ids.{record_id}
+use Rattle.jac_value.specs.Ids.{record_id, is_narrow, loop_id}
 use Rattle.jac_value.specs.Values.{value_text}
 use Rattle.jac_lang.specs.declared.bindings.Binding.{Binding}
 use Rattle.jac_lang.specs.declared.queries.Binder.{Binder}
-use Rattle.jac_lang.specs.Lookup.{same_text, model_place, fields_at}
+use Rattle.jac_lang.specs.Lookup.{same_text, model_place, fields_at, groups_at, hiding_place, is_nested_at}
 use Rattle.jac_lang.specs.Syntax.{Entity, Expression, Assigned, Statement, Statements}
 use Rattle.jac_rows.specs.declared.plain.PlainRow.{PlainRow}
 use Rattle.jac_plain.specs.World.{World}
 use Rattle.jac_plain.specs.declared.page.Piece.{Piece}
 use Rattle.jac_plain.specs.declared.page.Piece.TheVariants as piece
 use Rattle.jac_plain.specs.Expressions.{mean, answers, bound, binding, bytes_of, is_true}
-pub use Rattle.jac_plain.specs.Records.{drafted, default_cells, plain_row, shielded, every_field, is_set, changed, without, tables_with, tables_after}
+pub use Rattle.jac_plain.specs.Records.{drafted, default_cells, plain_row, shielded, is_hidden_by, every_field, is_set, changed, without, tables_with, tables_after}
 
 -- what stays the same through a run: the models, the labels that are shown, which only a create and an update
--- look at, the viewer, and the number of the request
+-- look at, the viewer, the number of the request, and the record of the loop
 pub record Setting : Type 0 where
   pub models : List Entity
   pub shown : ℕ → Bool
   pub viewer : Option ℕ
   pub number : ℕ
+  pub around : Option ℕ
 
 -- what a run changes
 pub record Run : Type 0 where
@@ -79,12 +80,37 @@ choose true first second r = first r
 choose false first second r = second r
 
 -- the body for each tuple
-abbrev pub for_each : List Binder → (Run → Run) → List (List ℕ) → Run → Run
+abbrev pub for_each : List Binder → (List ℕ → Run → Run) → List (List ℕ) → Run → Run
 for_each bs body [] r = r
-for_each bs body (ids ∷ tuples) r = for_each bs body tuples (scoped (bound bs ids r.env) body r)
+for_each bs body (ids ∷ tuples) r = for_each bs body tuples (scoped (bound bs ids r.env) (body ids) r)
 
-abbrev pub with_record : ℕ → PlainRow → Run → Run
-with_record m row r = record r { tables = tables_with m row r.tables }
+-- the record of a loop's answer: that of its one binder
+abbrev pub loop_of : List ℕ → Option ℕ
+loop_of [] = None
+loop_of (id ∷ []) = Some id
+loop_of (id ∷ (other ∷ ids)) = None
+
+-- the id of a nested model's record is made around the loop's record, where that one was made outside of loops
+abbrev pub around_id : Bool → Option ℕ → ℕ → ℕ
+around_id false around base = base
+around_id true None base = base
+around_id true (Some l) base = if is_narrow l then loop_id l base else base
+
+-- the id of the record that the create at this site makes
+abbrev pub id_made : Setting → ℕ → ℕ → ℕ
+id_made k m site = around_id (is_nested_at k.models m) k.around (record_id k.number site m)
+
+-- the model has no group that hides its records, or the label of the record's is shown
+abbrev pub is_kept : List Entity → (ℕ → Bool) → ℕ → ℕ → Bool
+is_kept models shown m id = not (is_hidden_by shown id (hiding_place (groups_at models m)))
+
+-- the tables with a new record of the model, where it is kept
+abbrev pub tables_made : Bool → ℕ → PlainRow → List (List PlainRow) → List (List PlainRow)
+tables_made true m row tables = tables_with m row tables
+tables_made false m row tables = tables
+
+abbrev pub with_made : Bool → ℕ → PlainRow → Run → Run
+with_made kept m row r = record r { tables = tables_made kept m row r.tables }
 
 -- the cells of a new record, as they are stored
 abbrev pub created_cells : Setting → ℕ → ℕ → List Assigned → Run → List Value
@@ -96,8 +122,8 @@ created_cells k m id cells r =
 abbrev pub created : Setting → List ℕ → Option ℕ → ℕ → List Assigned → (Run → Run) → Run → Run
 created k name None site cells body r = r
 created k name (Some m) site cells body r =
-    let id = record_id k.number site m in
-    with_binding name (value.Ref (Some id)) body (with_record m (plain_row id (created_cells k m id cells r)) r)
+    let id = id_made k m site in
+    with_binding name (value.Ref (Some id)) body (with_made (is_kept k.models k.shown m id) m (plain_row id (created_cells k m id cells r)) r)
 
 -- the cells of a record that stands, as they are stored by an update
 abbrev pub updated_cells : Setting → ℕ → ℕ → List Assigned → Run → List Value → List Value
@@ -122,7 +148,7 @@ abbrev mutual
   leaves k (Statement.bind x e body) r = with_binding x (value_in k e r) (leaves_all k body) r
   leaves k (Statement.assign x e) r = record r { env = assigned x (value_in k e r) r.env }
   leaves k (Statement.branch c first second) r = choose (is_true (value_in k c r)) (leaves_all k first) (leaves_all k second) r
-  leaves k (Statement.each q body) r = for_each q.binders (leaves_all k body) (answers (world_of k r) q r.env) r
+  leaves k (Statement.each q body) r = for_each q.binders (λ ids. leaves_all (record k { around = loop_of ids }) body) (answers (world_of k r) q r.env) r
   leaves k (Statement.create x m site cells body) r = created k x (model_place k.models m) site cells (leaves_all k body) r
   leaves k (Statement.update m e cells) r = updated k (model_place k.models m) (value_in k e r) cells r
   leaves k (Statement.delete m e) r = deleted (model_place k.models m) (value_in k e r) r

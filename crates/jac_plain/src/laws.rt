@@ -1,12 +1,14 @@
-ghost use Rattle.std.specs.Prelude.{◌≡◌, ◌<◌, ◌≤◌, ◌^◌, ℕ, Bool, true, false, length, slice_get};
-ghost use Rattle.jac_lang.specs.Syntax.{Application, Statements};
+ghost use Rattle.std.specs.Prelude.{◌≡◌, ◌<◌, ◌≤◌, ◌^◌, ℕ, Bool, List, true, false, length, slice_get};
+ghost use Rattle.jac_lang.specs.Loops.{Loops, are_placed};
+ghost use Rattle.jac_lang.specs.Syntax.{Application, Entity, Statements};
 ghost use Rattle.jac_lang.specs.Written.{sites};
-ghost use Rattle.jac_plain.specs.Making.{are_apart, AreAbsent, MayRunAll};
-ghost use Rattle.jac_plain.specs.Models.{kinds_of, are_sited, are_unlooped, are_without_groups};
+ghost use Rattle.jac_plain.specs.Making.{are_apart, AreAbsent, AreMadeBefore, MayRunAll};
+ghost use Rattle.jac_plain.specs.Models.{shapes_of, are_sited, are_without_groups, AreFlat, AreOrdered};
 ghost use Rattle.jac_plain.specs.Reading.{are_reading};
 ghost use Rattle.jac_plain.specs.Requests.{Visit, body_in, run_of, after};
 ghost use Rattle.jac_plain.specs.Statements.{Setting, Run, leaves_all};
 ghost use Rattle.jac_rows.specs.Good.{IsGoodPlain};
+ghost use Rattle.jac_rows.specs.declared.plain.PlainRow.{PlainRow};
 ghost use Rattle.jac_rows.specs.declared.plain.PlainState.{PlainState};
 
 /// A law: statements without a create, an update or a delete leave the tables.
@@ -20,13 +22,25 @@ pub fn same_run_without_groups()
 {}
 
 /// A law: a request leaves a good state good, where its number has ids, there are at most 64 models, and the
-/// creates of its view stand at sites below 64.
+/// creates of its view stand at sites below 64, those of nested models in one loop over one binder.
 pub fn good_after_request()
-    ensures { (w : ℕ → Bool) (app : Application) (t : PlainState) (visit : Visit) → IsGoodPlain (kinds_of app) t → t.number < 2 ^ 40 → length app.models ≤ 64 → are_sited (body_in (slice_get app.views visit.view)) ≡ true → IsGoodPlain (kinds_of app) (after w app t visit) }
+    ensures { (w : ℕ → Bool) (app : Application) (t : PlainState) (visit : Visit) → IsGoodPlain (shapes_of app) t → t.number < 2 ^ 40 → length app.models ≤ 64 → are_sited (body_in (slice_get app.views visit.view)) ≡ true → are_placed app.models Loops.none (body_in (slice_get app.views visit.view)) ≡ true → IsGoodPlain (shapes_of app) (after w app t visit) }
 {}
 
-/// A law: what statements create is new where their sites are pairwise different, no create stands in a `for`, and
-/// no record that this request makes at one of the sites stands where the run begins.
+/// A law: a request leaves a state whose ids are wide just in nested models such a state, under the same
+/// premises, whatever the kinds of its cells.
+pub fn flat_after_request()
+    ensures { (w : ℕ → Bool) (app : Application) (t : PlainState) (visit : Visit) → 0 < t.number → t.number < 2 ^ 40 → length app.models ≤ 64 → are_sited (body_in (slice_get app.views visit.view)) ≡ true → are_placed app.models Loops.none (body_in (slice_get app.views visit.view)) ≡ true → AreOrdered t.tables → AreFlat app.models t.tables → AreFlat app.models (after w app t visit).tables }
+{}
+
+/// A law: what statements create is new where their sites are pairwise different and below 64, nested models
+/// are created in one loop over one binder and no other one in a loop, the tables are in order and their ids wide
+/// just in nested models, and no record that this request makes at one of the sites stands where the run begins.
 pub fn creates_are_new()
-    ensures { (next : ℕ) (k : Setting) (s : Statements) (r : Run) → k.number < next → are_apart (sites s) ≡ true → are_unlooped false s ≡ true → AreAbsent k.number (sites s) r.tables → MayRunAll next k s r }
+    ensures { (next : ℕ) (k : Setting) (s : Statements) (r : Run) → 0 < k.number → k.number < 2 ^ 40 → k.number < next → length k.models ≤ 64 → are_sited s ≡ true → are_apart (sites s) ≡ true → are_placed k.models Loops.none s ≡ true → AreOrdered r.tables → AreFlat k.models r.tables → AreAbsent k.models k.number (sites s) r.tables → MayRunAll next k s r }
+{}
+
+/// A law: no record that a request makes stands where all that stand were made before it.
+pub fn made_before_are_absent()
+    ensures { (models : List Entity) (number : ℕ) (sites : List ℕ) (tables : List (List PlainRow)) → 0 < number → number < 2 ^ 40 → AreMadeBefore number tables → AreAbsent models number sites tables }
 {}

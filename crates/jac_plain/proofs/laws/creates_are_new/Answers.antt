@@ -1,5 +1,5 @@
-use Rattle.jac_plain.proofs.NewLaws.{may_run_all}
+use Rattle.jac_plain.proofs.NewLaws.{creates_new}
 use Rattle.jac_plain.proofs.laws.creates_are_new.Goals as goal
 
 pub returns : goal.returns
-returns c = may_run_all
+returns c = creates_new
