@@ -6,3 +6,5 @@ pub mod SoundLaws
 pub mod OrderLaws
 pub mod OpeningLaws
 pub mod SchemaLaws
+pub mod Bisected
+pub mod Held

@@ -7,7 +7,7 @@ use Rattle.std.proofs.Common.{◌≡◌, inl, inr, ◌⊎◌, Result, Ok, Err, I
 use Rattle.std.specs.Option.{option_map}
 use Rattle.jac_rows.specs.declared.row.Row.{Row}
 use Rattle.jac_rows.specs.declared.state.State.{State}
-use Rattle.jac_rows.specs.Good.{AreGuarded, AreSound, IsNext, IsSound}
+use Rattle.jac_rows.specs.Good.{ModelShape, AreGuarded, AreSound, IsNext, IsSound}
 use Rattle.jac_value.specs.declared.value.Kind.{Kind}
 use Rattle.jac_tree.specs.Grammar.{Spells, IsBegun, IsBegunWithin}
 use Rattle.jac_tree.specs.Plain.{PlainTree, nesting}
@@ -17,7 +17,7 @@ use Rattle.jac_tree.specs.declared.fault.TreeFault.{TreeFault}
 use Rattle.jac_tree.specs.declared.fault.TreeFault.TheVariants as faults
 use Rattle.jac_tree.proofs.Unique.{spells_one}
 use Rattle.jac_tree.proofs.Printing.{printed_spells, spelled_atoms}
-use Rattle.jac_keep.specs.Schema.{IsSchema, IsFit, empties, kinds_of_schema}
+use Rattle.jac_keep.specs.Schema.{IsSchema, IsFit, empties, shapes_by, shapes_of_schema}
 use Rattle.jac_keep.specs.KeeperState.{KeeperState, IsStored, attached_state, after_attach, seen_keeper}
 use Rattle.jac_keep.specs.Attaching.{IsNew, Opens, Attaches}
 use Rattle.jac_keep.proofs.SoundLaws as sound
@@ -32,7 +32,7 @@ empties_more zero = refl
 empties_more (suc n) = ap (λ (ts : List (List Row)). [] ∷ ts) (empties_more n)
 
 -- a schema text spells its tree
-pub schema_spells : (text : List ℕ) (kinds : List (List Kind)) → (s : IsSchema text kinds) → Spells text s.tree
+pub schema_spells : (text : List ℕ) (kinds : List ModelShape) → (s : IsSchema text kinds) → Spells text s.tree
 schema_spells text kinds s = subst (λ (bytes : List ℕ). Spells bytes s.tree) (sym s.spelled) (printed_spells s.tree s.atoms)
 
 some_injective : {A : Type 0} → (x y : A) → Some x ≡ Some y → x ≡ y
@@ -42,10 +42,10 @@ some_is_none : {A : Type 0} → (x : A) → Some x ≡ None → ⊥
 some_is_none x e = cc
 
 -- a text has one list of kinds
-pub schema_one : (text : List ℕ) (kinds others : List (List Kind)) → IsSchema text kinds → IsSchema text others → kinds ≡ others
+pub schema_one : (text : List ℕ) (kinds others : List ModelShape) → IsSchema text kinds → IsSchema text others → kinds ≡ others
 schema_one text kinds others a b =
     let same : a.tree ≡ b.tree = spells_one text a.tree b.tree (schema_spells text kinds a) (schema_spells text others b) in
-    some_injective kinds others (sym a.read ∙ ap kinds_of_schema same ∙ b.read)
+    some_injective kinds others (sym a.read ∙ ap shapes_of_schema same ∙ b.read)
 
 -- the first bytes of a text that spells a tree begin it
 begun : (at : ℕ) (text : List ℕ) (t : PlainTree) → Spells text t → IsBegun (take at text)
@@ -64,16 +64,16 @@ no_tree_at_fault text (faults.Unclosed at) t has other spelled shallow = has.non
 no_tree_at_fault text faults.Long t has other spelled shallow = has
 no_tree_at_fault text (faults.NotUtf8 at) t has other spelled shallow = has
 
-no_schema_at_fault : (text : List ℕ) (fault : TreeFault) → HasFault text fault → ¬ (fault ≡ faults.Memory) → (kinds : List (List Kind)) → ¬ (IsSchema text kinds)
+no_schema_at_fault : (text : List ℕ) (fault : TreeFault) → HasFault text fault → ¬ (fault ≡ faults.Memory) → (kinds : List ModelShape) → ¬ (IsSchema text kinds)
 no_schema_at_fault text fault has other kinds s = no_tree_at_fault text fault s.tree has other (schema_spells text kinds s) s.shallow
 
-pub no_schema_if : {E : Type 0} (text : List ℕ) (fault : TreeFault) (result : Result (Option (List (List Kind))) E) → HasFault text fault
-    → IfOk result (λ _. ¬ (fault ≡ faults.Memory)) → IfOk result (λ found. found ≡ None → (kinds : List (List Kind)) → ¬ (IsSchema text kinds))
+pub no_schema_if : {E S : Type 0} (text : List ℕ) (fault : TreeFault) (result : Result (Option S) E) → HasFault text fault
+    → IfOk result (λ _. ¬ (fault ≡ faults.Memory)) → IfOk result (λ found. found ≡ None → (kinds : List ModelShape) → ¬ (IsSchema text kinds))
 no_schema_if text fault (Ok found) has other = λ none kinds s. no_schema_at_fault text fault has other kinds s
 no_schema_if text fault (Err e) has other = tt
 
 -- each model of empty tables is good
-empties_good : (kinds : List (List Kind)) (next model n : ℕ) → AreGuarded kinds next model (empties n)
+empties_good : (kinds : List ModelShape) (next model n : ℕ) → AreGuarded kinds next model (empties n)
 empties_good kinds next model zero = tt
 empties_good kinds next model (suc n) = (tt, tt, empties_good kinds next (model + 1) n)
 
@@ -82,7 +82,7 @@ length_empties zero = refl
 length_empties (suc n) = ap suc (length_empties n)
 
 -- a new store fits
-pub empties_fit : (kinds : List (List Kind)) (s : State) → IsNext s.number → IsFit kinds (record s { tables = empties (length kinds) })
+pub empties_fit : (kinds : List ModelShape) (s : State) → IsNext s.number → IsFit kinds (record s { tables = empties (length kinds) })
 empties_fit kinds s next = record { good = (next, empties_good kinds s.number 0 (length kinds)); tables = length_empties (length kinds) }
 
 -- what may be attached is sound
@@ -90,36 +90,42 @@ pub stored_sound : (schema : Option (List ℕ)) (s : State) → IsStored schema 
 stored_sound None s stored = record { next = stored.1; tables = subst (λ (ts : List (List Row)). AreSound s.number 0 ts) (sym stored.0) tt }
 stored_sound (Some schema) s stored = sound.sound_if_good stored.0.0 s (stored.1 stored.0.0 stored.0.1).good
 
--- a tree that spells a text which it is printed as, and the kinds that it gives
-found_schema : (text : List ℕ) (tree : PlainTree) (kinds : List (List Kind)) → nesting tree ≤ 64 → Spells text tree
-    → Some kinds ≡ (if bytes_eq text (printed tree) then kinds_of_schema tree else None) → IsSchema text kinds
-found_schema text tree kinds shallow spelled found =
+-- a tree that spells a text which it is printed as, and the shapes that it gives
+found_schema : (text : List ℕ) (tree : PlainTree) (shapes : List ModelShape) → nesting tree ≤ 64 → Spells text tree
+    → Some shapes ≡ (if bytes_eq text (printed tree) then shapes_of_schema tree else None) → IsSchema text shapes
+found_schema text tree shapes shallow spelled found =
     at_test (bytes_eq text (printed tree)) (bytes_eq-Decides text (printed tree)) found
   where
-    at_test : (b : Bool) → Decides b (text ≡ printed tree) → Some kinds ≡ (if b then kinds_of_schema tree else None) → IsSchema text kinds
+    at_test : (b : Bool) → Decides b (text ≡ printed tree) → Some shapes ≡ (if b then shapes_of_schema tree else None) → IsSchema text shapes
     at_test true same read = record { tree = tree; atoms = spelled_atoms text tree spelled; shallow = shallow; spelled = same.0 refl; read = sym read }
-    at_test false same read = absurd (some_is_none kinds read)
+    at_test false same read = absurd (some_is_none shapes read)
 
-pub found_kinds : (text : List ℕ) (tree : PlainTree) (found : Option (List (List Kind))) → nesting tree ≤ 64 → Spells text tree
-    → found ≡ (if bytes_eq text (printed tree) then kinds_of_schema tree else None) → IfSome found (IsSchema text)
-found_kinds text tree None shallow spelled found = tt
-found_kinds text tree (Some kinds) shallow spelled found = found_schema text tree kinds shallow spelled found
+pub found_shapes : {S : Type 0} (f : S → List ModelShape) (text : List ℕ) (tree : PlainTree) (found : Option S) → nesting tree ≤ 64 → Spells text tree
+    → option_map f found ≡ (if bytes_eq text (printed tree) then shapes_of_schema tree else None) → IfSome found (λ s. IsSchema text (f s))
+found_shapes f text tree None shallow spelled found = tt
+found_shapes f text tree (Some s) shallow spelled found = found_schema text tree (f s) shallow spelled found
+
+-- as many shapes as there are lists of kinds
+pub length_shapes : (kinds : List (List Kind)) (nested : List Bool) → length (shapes_by kinds nested) ≡ length kinds
+length_shapes [] nested = refl
+length_shapes (ks ∷ kinds) [] = ap suc (length_shapes kinds [])
+length_shapes (ks ∷ kinds) (n ∷ nested) = ap suc (length_shapes kinds nested)
 
 -- where it gives none, the text is no schema
 pub no_schema : (text : List ℕ) (tree : PlainTree) → ((t : PlainTree) → Spells text t → t ≡ tree)
-    → None ≡ (if bytes_eq text (printed tree) then kinds_of_schema tree else None) → (kinds : List (List Kind)) → ¬ (IsSchema text kinds)
+    → None ≡ (if bytes_eq text (printed tree) then shapes_of_schema tree else None) → (kinds : List ModelShape) → ¬ (IsSchema text kinds)
 no_schema text tree one none kinds s =
     let same : s.tree ≡ tree = one s.tree (schema_spells text kinds s) in
     let printed_so : text ≡ printed tree = s.spelled ∙ ap printed same in
-    let read : kinds_of_schema tree ≡ Some kinds = ap kinds_of_schema (sym same) ∙ s.read in
+    let read : shapes_of_schema tree ≡ Some kinds = ap shapes_of_schema (sym same) ∙ s.read in
     at_test (bytes_eq text (printed tree)) (bytes_eq-Decides text (printed tree)) printed_so read none
   where
-    at_test : (b : Bool) → Decides b (text ≡ printed tree) → text ≡ printed tree → kinds_of_schema tree ≡ Some kinds → None ≡ (if b then kinds_of_schema tree else None) → ⊥
+    at_test : (b : Bool) → Decides b (text ≡ printed tree) → text ≡ printed tree → shapes_of_schema tree ≡ Some kinds → None ≡ (if b then shapes_of_schema tree else None) → ⊥
     at_test true same printed_so read none = some_is_none kinds (sym read ∙ sym none)
     at_test false same printed_so read none = true≢false (sym (same.1 printed_so))
 
 -- where the schema of a store is none, or the one that is wanted, its state fits the schema once it is attached
-pub fit_after : (stored : Option (List ℕ)) (schema : List ℕ) (s : State) (kinds : List (List Kind)) → IsSchema schema kinds → IsStored stored s
+pub fit_after : (stored : Option (List ℕ)) (schema : List ℕ) (s : State) (kinds : List ModelShape) → IsSchema schema kinds → IsStored stored s
     → (stored ≡ None) ⊎ (stored ≡ Some schema) → IsFit kinds (attached_state stored (length kinds) s)
 fit_after None schema s kinds is held known = empties_fit kinds s held.1
 fit_after (Some text) schema s kinds is held (inl none) = absurd (some_is_none text none)
@@ -127,13 +133,13 @@ fit_after (Some text) schema s kinds is held (inr same) =
     held.1 kinds (subst (λ (t : List ℕ). IsSchema t kinds) (sym (some_injective text schema same)) is)
 
 -- the tables of a new store make a sound state
-pub new_sound : (schema : List ℕ) (kinds : List (List Kind)) (s : State) (tables : List (List Row)) → IsNext s.number
+pub new_sound : (schema : List ℕ) (kinds : List ModelShape) (s : State) (tables : List (List Row)) → IsNext s.number
     → tables ≡ empties (length kinds) → IsSound (record s { tables = tables })
 new_sound schema kinds s tables next same =
     subst (λ (ts : List (List Row)). IsSound (record s { tables = ts })) (sym same)
     (sound.sound_if_good kinds (record s { tables = empties (length kinds) }) (empties_fit kinds s next).good)
 
-opens : (old : KeeperState) (name : Option (List ℕ)) (schema : List ℕ) (kinds : List (List Kind)) → IsSchema schema kinds
+opens : (old : KeeperState) (name : Option (List ℕ)) (schema : List ℕ) (kinds : List ModelShape) → IsSchema schema kinds
     → IsStored old.store.schema old.state → (old.store.schema ≡ None) ⊎ (old.store.schema ≡ Some schema)
     → Opens (seen_keeper old) (seen_keeper (after_attach name schema (length kinds) old)) name schema
 opens old name schema kinds is held known = record {
@@ -147,13 +153,13 @@ opens old name schema kinds is held known = record {
   made = λ _ _ none others also. new_store none (schema_one schema kinds others is also);
 }
   where
-    new_store : {others : List (List Kind)} → old.store.schema ≡ None → kinds ≡ others → IsNew old.state others (attached_state old.store.schema (length kinds) old.state)
+    new_store : {others : List ModelShape} → old.store.schema ≡ None → kinds ≡ others → IsNew old.state others (attached_state old.store.schema (length kinds) old.state)
     new_store {others} none same =
         subst (λ ks. IsNew old.state ks (attached_state old.store.schema (length kinds) old.state)) same
         (subst (λ t. IsNew old.state kinds (attached_state t (length kinds) old.state)) (sym none) (record { tables = refl; number = refl }))
 
 -- what an attach that is accepted leaves
-pub attaches_ok : (old new : KeeperState) (name : Option (List ℕ)) (schema : List ℕ) (kinds : List (List Kind)) → IsSchema schema kinds
+pub attaches_ok : (old new : KeeperState) (name : Option (List ℕ)) (schema : List ℕ) (kinds : List ModelShape) → IsSchema schema kinds
     → IsStored old.store.schema old.state → (old.store.schema ≡ None) ⊎ (old.store.schema ≡ Some schema)
     → new ≡ after_attach name schema (length kinds) old → Attaches (seen_keeper old) (seen_keeper new) name schema (Ok tt)
 attaches_ok old new name schema kinds is held known same =

@@ -11,9 +11,8 @@ use Rattle.jac_keep.specs.Sound.{AreTables, MayStand, AllStand}
 use Rattle.jac_keep.specs.declared.alteration.Change.{Change}
 use Rattle.jac_keep.specs.Records.{with_id, before, behind, placed}
 use Rattle.jac_keep.specs.Kept.{applied, state_with}
-use Rattle.jac_value.specs.declared.value.Kind.{Kind}
 use Rattle.jac_rows.specs.Tables.{rows_of}
-use Rattle.jac_rows.specs.Good.{IsMade, AreRising, AreSound, IsSound, IsRecord, AreGuarded, IsGoodByGuards}
+use Rattle.jac_rows.specs.Good.{ModelShape, IsMade, AreRising, AreSound, IsSound, IsRecord, AreGuarded, IsGoodByGuards}
 use Rattle.jac_keep.proofs.AlteringLaws.{placed_if}
 
 sound_tables : (next model : ℕ) (tables : List (List Row)) → AreSound next model tables → AreTables tables
@@ -159,7 +158,7 @@ later : (next more model : ℕ) (tables : List (List Row)) → next ≤ more →
 later next more model [] h sound = tt
 later next more model (t ∷ tables) h sound = (
   sound.0,
-  all-mapped (λ (r : Row). IsMade model next r.id) (λ (r : Row). IsMade model more r.id) t (λ r made. record { of_model = made.of_model; numbered = made.numbered; made = omega (arith, h, made.made) }) sound.1,
+  all-mapped (λ (r : Row). IsMade model next r.id) (λ (r : Row). IsMade model more r.id) t (λ r made. record { of_model = made.of_model; is_one = made.is_one; numbered = made.numbered; made = omega (arith, h, made.made) }) sound.1,
   later next more (model + 1) tables h sound.2,
 )
 
@@ -176,14 +175,14 @@ pub sound_without : (id n : ℕ) (s : State) → IsSound s → s.number ≤ n �
 sound_without id n s sound h end =
     sound-applied (record { changed = record { id = id; rows = [] } ∷ []; number = n }) s sound h end (record { own = tt; rising = tt; made = tt }, tt)
 
-made_if_record : (kinds : List (List Kind)) (model next : ℕ) (rows : List Row) → AllByRecursion (λ (r : Row). IsRecord kinds model next r.id r.cells) rows → AreMade model next rows
-made_if_record kinds model next rows all =
-    all-mapped (λ (r : Row). IsRecord kinds model next r.id r.cells) (λ (r : Row). IsMade model next r.id) rows (λ r is. is.made) all
+made_if_record : (shapes : List ModelShape) (model next : ℕ) (rows : List Row) → AllByRecursion (λ (r : Row). IsRecord shapes model next r.id r.cells) rows → AreMade model next rows
+made_if_record shapes model next rows all =
+    all-mapped (λ (r : Row). IsRecord shapes model next r.id r.cells) (λ (r : Row). IsMade model next r.id) rows (λ r is. is.made) all
 
-sound_if_guarded : (kinds : List (List Kind)) (next model : ℕ) (tables : List (List Row)) → AreGuarded kinds next model tables → AreSound next model tables
-sound_if_guarded kinds next model [] good = tt
-sound_if_guarded kinds next model (t ∷ tables) good = (good.0, made_if_record kinds model next t good.1, sound_if_guarded kinds next (model + 1) tables good.2)
+sound_if_guarded : (shapes : List ModelShape) (next model : ℕ) (tables : List (List Row)) → AreGuarded shapes next model tables → AreSound next model tables
+sound_if_guarded shapes next model [] good = tt
+sound_if_guarded shapes next model (t ∷ tables) good = (good.0, made_if_record shapes model next t good.1, sound_if_guarded shapes next (model + 1) tables good.2)
 
 -- a good state is sound
-pub sound_if_good : (kinds : List (List Kind)) (s : State) → IsGoodByGuards kinds s → IsSound s
-sound_if_good kinds s good = record { next = good.0; tables = sound_if_guarded kinds s.number 0 s.tables good.1 }
+pub sound_if_good : (shapes : List ModelShape) (s : State) → IsGoodByGuards shapes s → IsSound s
+sound_if_good shapes s good = record { next = good.0; tables = sound_if_guarded shapes s.number 0 s.tables good.1 }

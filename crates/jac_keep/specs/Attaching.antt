@@ -1,7 +1,7 @@
 -- What attaching to a store leaves.
 use Rattle.std.specs.Prelude.{◌≡◌, ◌≤◌, ◌⊎◌, ℕ, List, Option, Some, None, Result, Err, OnOk, OnErr, IsTrue, length}
 use Rattle.jac_io.specs.Faults.{Rose}
-use Rattle.jac_value.specs.declared.value.Kind.{Kind}
+use Rattle.jac_rows.specs.Good.{ModelShape}
 use Rattle.jac_rows.specs.declared.state.State.{State}
 use Rattle.jac_keep.specs.KeeperSeen.{KeeperSeen}
 use Rattle.jac_keep.specs.Schema.{IsSchema, IsFit, empties}
@@ -9,8 +9,8 @@ use Rattle.jac_keep.specs.declared.vault.AttachFault.{AttachFault}
 use Rattle.jac_keep.specs.declared.vault.AttachFault.TheVariants.{Failed, Other}
 
 -- a new store is empty, with a table for each model, and its number stays
-pub record IsNew (before : State) (kinds : List (List Kind)) (state : State) : Type 0 where
-  pub tables : state.tables ≡ empties (length kinds)
+pub record IsNew (before : State) (shapes : List ModelShape) (state : State) : Type 0 where
+  pub tables : state.tables ≡ empties (length shapes)
   pub number : state.number ≡ before.number
 
 -- it is attached under this name, with this schema: what was stored under it stands, and else the store was new
@@ -18,10 +18,10 @@ pub record Opens (old new : KeeperSeen) (name : Option (List ℕ)) (schema : Lis
   pub attached : IsTrue new.store.attached
   pub named : new.store.name ≡ name
   pub stored : new.store.schema ≡ Some schema
-  pub fit : IsTrue new.tells → (kinds : List (List Kind)) → IsSchema schema kinds → IsFit kinds new.state
+  pub fit : IsTrue new.tells → (shapes : List ModelShape) → IsSchema schema shapes → IsFit shapes new.state
   pub known : IsTrue new.tells → IsTrue old.tells → (old.store.schema ≡ None) ⊎ (old.store.schema ≡ Some schema)
   pub kept : IsTrue new.tells → IsTrue old.tells → old.store.schema ≡ Some schema → new.state ≡ old.state
-  pub made : IsTrue new.tells → IsTrue old.tells → old.store.schema ≡ None → (kinds : List (List Kind)) → IsSchema schema kinds → IsNew old.state kinds new.state
+  pub made : IsTrue new.tells → IsTrue old.tells → old.store.schema ≡ None → (shapes : List ModelShape) → IsSchema schema shapes → IsNew old.state shapes new.state
 
 -- nothing is changed
 pub record IsRefused (old new : KeeperSeen) : Type 0 where

@@ -4,7 +4,7 @@ use Rattle.jac_io.specs.Faults.{risen}
 use Rattle.jac_io.specs.Calls.{listed}
 use Rattle.jac_rows.specs.declared.state.State.{State}
 use Rattle.jac_rows.specs.Good.{IsNext, IsSound}
-use Rattle.jac_value.specs.declared.value.Kind.{Kind}
+use Rattle.jac_rows.specs.Good.{ModelShape}
 use Rattle.jac_keep.specs.KeeperSeen.{KeeperSeen, Store}
 use Rattle.jac_keep.specs.Schema.{IsSchema, IsFit, empties}
 
@@ -47,7 +47,7 @@ seen_keeper k = record { tells = true; state = k.state; faults = k.faults; store
 -- what is stored may be attached: it fits its schema, or there is none and no table
 abbrev pub IsStored : Option (List ℕ) → State → Type 0
 IsStored None s = (s.tables ≡ []) × IsNext s.number
-IsStored (Some schema) s = ((kinds : List (List Kind)) × IsSchema schema kinds) × ((kinds : List (List Kind)) → IsSchema schema kinds → IsFit kinds s)
+IsStored (Some schema) s = ((shapes : List ModelShape) × IsSchema schema shapes) × ((shapes : List ModelShape) → IsSchema schema shapes → IsFit shapes s)
 
 -- its state is sound, and may be attached as long as nobody tried to
 pub record IsKeeping (state : State) (store : Store) : Type 0 where

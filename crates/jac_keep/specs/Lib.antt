@@ -9,3 +9,4 @@ pub mod KeeperState
 pub mod Opened
 pub mod Schema
 pub mod Attaching
+pub mod Holding

@@ -7,7 +7,7 @@ use Rattle.jac_value.specs.declared.value.Kind.{Kind}
 use Rattle.jac_value.specs.declared.value.Kind.TheVariants as kinds
 use Rattle.jac_rows.specs.declared.row.Row.{Row}
 use Rattle.jac_rows.specs.declared.state.State.{State}
-use Rattle.jac_rows.specs.Good.{IsGoodByGuards}
+use Rattle.jac_rows.specs.Good.{ModelShape, IsGoodByGuards}
 use Rattle.jac_tree.specs.Plain.{PlainTree, PlainTrees, nesting}
 use Rattle.jac_tree.specs.Printed.{printed, HasAtoms}
 
@@ -87,9 +87,9 @@ kind_of_field models t = None
 abbrev pub kinds_of_fields : PlainTrees → PlainTree → Option (List Kind)
 kinds_of_fields models t = option_and_then (each_of (kind_of_field models)) (behind (codes "fields") t)
 
--- `(FIELD ..)`: the fields that a group guards
+-- `hides`, or `(FIELD ..)`: the fields that a group guards
 abbrev pub is_group : PlainTree → Bool
-is_group (PlainTree.atom a) = false
+is_group (PlainTree.atom a) = bytes_eq a (codes "hides")
 is_group (PlainTree.text x) = false
 is_group (PlainTree.list names) = are_named names
 
@@ -97,18 +97,43 @@ abbrev pub are_groups : PlainTrees → Bool
 are_groups PlainTrees.none = true
 are_groups (PlainTrees.more t ts) = is_group t && are_groups ts
 
--- `(groups (FIELD ..) ..)`, by the trees behind its head
+-- `(groups GROUP ..)`, by the trees behind its head
 abbrev pub have_groups : Option PlainTrees → Bool
 have_groups None = false
 have_groups (Some ts) = are_groups ts
 
--- `NAME (fields ..) (groups ..)`
-abbrev pub kinds_of_parts : PlainTrees → PlainTrees → Option (List Kind)
-kinds_of_parts models (PlainTrees.more x (PlainTrees.more fields (PlainTrees.more groups PlainTrees.none))) =
-    if is_named x && have_groups (behind (codes "groups") groups) then kinds_of_fields models fields else None
-kinds_of_parts models ts = None
+-- the atom `nested` stands in front
+abbrev pub starts_nested : PlainTrees → Bool
+starts_nested PlainTrees.none = false
+starts_nested (PlainTrees.more n ts) = is_word (codes "nested") n
 
--- `(model NAME (fields ..) (groups ..))`
+-- the trees, without the atom `nested` in front
+abbrev pub behind_nested : PlainTrees → PlainTrees
+behind_nested PlainTrees.none = PlainTrees.none
+behind_nested (PlainTrees.more n ts) = if is_word (codes "nested") n then ts else PlainTrees.more n ts
+
+-- `(fields ..) (groups ..)`
+abbrev pub kinds_of_lists : PlainTrees → PlainTrees → Option (List Kind)
+kinds_of_lists models (PlainTrees.more fields (PlainTrees.more groups PlainTrees.none)) =
+    if have_groups (behind (codes "groups") groups) then kinds_of_fields models fields else None
+kinds_of_lists models ts = None
+
+-- `NAME nested? (fields ..) (groups ..)`
+abbrev pub kinds_of_parts : PlainTrees → PlainTrees → Option (List Kind)
+kinds_of_parts models PlainTrees.none = None
+kinds_of_parts models (PlainTrees.more x ts) = if is_named x then kinds_of_lists models (behind_nested ts) else None
+
+-- whether a model's parts, behind the word `model`, have the atom `nested` behind the name
+abbrev pub is_nested_in : Option PlainTrees → Bool
+is_nested_in None = false
+is_nested_in (Some PlainTrees.none) = false
+is_nested_in (Some (PlainTrees.more x ts)) = starts_nested ts
+
+abbrev pub nested_of_models : PlainTrees → List Bool
+nested_of_models PlainTrees.none = []
+nested_of_models (PlainTrees.more t ts) = is_nested_in (behind (codes "model") t) ∷ nested_of_models ts
+
+-- `(model NAME nested? (fields ..) (groups ..))`
 abbrev pub kinds_of_model : PlainTrees → PlainTree → Option (List Kind)
 kinds_of_model models t = option_and_then (kinds_of_parts models) (behind (codes "model") t)
 
@@ -116,22 +141,34 @@ kinds_of_model models t = option_and_then (kinds_of_parts models) (behind (codes
 abbrev pub kinds_of_models : PlainTrees → Option (List (List Kind))
 kinds_of_models models = if nat_le (count models) 64 then each_of (kinds_of_model models) models else None
 
--- the kinds of the fields of each model of `(schema (model NAME (fields (NAME KIND) ..) (groups (FIELD ..) ..)) ..)`
+-- the kinds of the fields of each model of `(schema (model NAME nested? (fields (NAME KIND) ..) (groups GROUP ..)) ..)`
 abbrev pub kinds_of_schema : PlainTree → Option (List (List Kind))
 kinds_of_schema t = option_and_then kinds_of_models (behind (codes "schema") t)
 
--- a schema text, which is a printed tree, and the kinds of the fields of its models
-pub record IsSchema (text : List ℕ) (kinds : List (List Kind)) : Type 0 where
+-- which of them are nested
+abbrev pub nested_by : Option PlainTrees → List Bool
+nested_by None = []
+nested_by (Some models) = nested_of_models models
+
+abbrev pub nested_of_schema : PlainTree → List Bool
+nested_of_schema t = nested_by (behind (codes "schema") t)
+
+-- the kinds of each model, beside whether it is nested
+abbrev pub shapes_by : List (List Kind) → List Bool → List ModelShape
+shapes_by [] nested = []
+shapes_by (ks ∷ kinds) [] = record { kinds = ks; nested = false } ∷ shapes_by kinds []
+shapes_by (ks ∷ kinds) (n ∷ nested) = record { kinds = ks; nested = n } ∷ shapes_by kinds nested
+
+abbrev pub shapes_of_schema : PlainTree → Option (List ModelShape)
+shapes_of_schema t = option_map (λ kinds. shapes_by kinds (nested_of_schema t)) (kinds_of_schema t)
+
+-- a schema text, which is a printed tree, and the shapes of its models
+pub record IsSchema (text : List ℕ) (shapes : List ModelShape) : Type 0 where
   pub tree : PlainTree
   pub atoms : HasAtoms tree
   pub shallow : nesting tree ≤ 64
   pub spelled : text ≡ printed tree
-  pub read : kinds_of_schema tree ≡ Some kinds
-
--- no model stands under another one
-abbrev pub all_apart : List (List Kind) → List Bool
-all_apart [] = []
-all_apart (ks ∷ kinds) = false ∷ all_apart kinds
+  pub read : shapes_of_schema tree ≡ Some shapes
 
 -- so many empty tables
 abbrev pub empties : ℕ → List (List Row)
@@ -139,6 +176,6 @@ empties zero = []
 empties (suc n) = [] ∷ empties n
 
 -- a state of these models, and no others: good by its guards
-pub record IsFit (kinds : List (List Kind)) (s : State) : Type 0 where
-  pub good : IsGoodByGuards kinds s
-  pub tables : length s.tables ≡ length kinds
+pub record IsFit (shapes : List ModelShape) (s : State) : Type 0 where
+  pub good : IsGoodByGuards shapes s
+  pub tables : length s.tables ≡ length shapes

@@ -4,12 +4,13 @@ ghost use Rattle.jac_rows.specs.Good.{IsSound};
 ghost use Rattle.jac_rows.specs.declared.state.State.{State};
 ghost use Rattle.jac_rows.specs.Tables.{rows_of};
 ghost use Rattle.jac_keep.specs.Records.{alternatives};
+ghost use Rattle.jac_keep.specs.Holding.{holders};
 ghost use Rattle.jac_keep.specs.KeeperSeen.{KeeperSeen, Keeps, Reads};
 ghost use Rattle.jac_keep.specs.Kept.{applied};
 
 use crate::{Change, Stop};
 use jac_rows::Rows;
-use jac_value::Id;
+use jac_value::{Id, Value};
 use std::alloc::Global;
 
 /// What keeps a faceted state.
@@ -35,6 +36,18 @@ pub trait Keeper {
     fn one(&mut self, alloc: Global, id: Id) -> Result<Rows, Stop>
         requires { IsTrue (seen self.old).store.attached }
         ensures exact { IsTrue (seen self.new).tells → IfOk result (λ rows. rows ≡ alternatives id (rows_of (seen self.old).state.tables (model_of_id id))) }
+        ensures reads { Reads (seen self.old) (seen self.new) result };
+
+    /// All alternatives of each record of the model of which one has the value at the field.
+    fn rows_with(
+        &mut self,
+        alloc: Global,
+        model: u8,
+        field: u8,
+        value: &Value,
+    ) -> Result<Rows, Stop>
+        requires { IsTrue (seen self.old).store.attached }
+        ensures exact { IsTrue (seen self.new).tells → IfOk result (λ rows. rows ≡ holders field value.now (rows_of (seen self.old).state.tables model)) }
         ensures reads { Reads (seen self.old) (seen self.new) result };
 
     /// Replaces the named records and sets the number, all or nothing.

@@ -1,7 +1,6 @@
 ghost use Rattle.std.specs.Prelude.{◌≡◌, ◌≤◌, ◌^◌, ℕ, List, length, unwrap_or};
 ghost use Rattle.jac_value.specs.Ids.{model_of_id};
-ghost use Rattle.jac_value.specs.declared.value.Kind.{Kind};
-ghost use Rattle.jac_rows.specs.Good.{IsGoodByGuards, IsSound};
+ghost use Rattle.jac_rows.specs.Good.{ModelShape, IsGoodByGuards, IsSound};
 ghost use Rattle.jac_rows.specs.Tables.{rows_of};
 ghost use Rattle.jac_rows.specs.declared.state.State.{State};
 ghost use Rattle.jac_keep.specs.declared.alteration.Change.{Change as Changed};
@@ -12,7 +11,7 @@ ghost use Rattle.jac_keep.specs.Sound.{AllStand};
 
 /// A law: a state that is good by its guards is sound.
 pub fn sound_if_good()
-    ensures { (kinds : List (List Kind)) (s : State) → IsGoodByGuards kinds s → IsSound s }
+    ensures { (shapes : List ModelShape) (s : State) → IsGoodByGuards shapes s → IsSound s }
 {}
 
 /// A law: a change leaves a sound state where its alternatives may stand and the number doesn't fall.

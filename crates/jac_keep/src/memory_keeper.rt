@@ -1,10 +1,11 @@
 ghost use Rattle.std.specs.Prelude.{◌≡◌, ◌≤◌, ◌^◌, ◌↔◌, ◌++◌, ◌∷◌, [], ℕ, List, Some, None, Err, true, false, IfOk, IfSome, OnOk, OnErr, IsTrue, IsErrOf, length};
 ghost use Rattle.std.specs.Option.{option_copied};
-ghost use Rattle.jac_value.specs.declared.value.Kind.{Kind as FieldKind};
+ghost use Rattle.jac_rows.specs.Good.{ModelShape};
 ghost use Rattle.jac_value.specs.Ids.{model_of_id};
 ghost use Rattle.jac_rows.specs.Good.{IsSound};
 ghost use Rattle.jac_rows.specs.Tables.{rows_of};
 ghost use Rattle.jac_keep.specs.Records.{alternatives};
+ghost use Rattle.jac_keep.specs.Holding.{holders};
 ghost use Rattle.jac_keep.specs.Cause.{HasCause};
 ghost use Rattle.jac_keep.specs.KeeperSeen.{Keeps, Reads};
 ghost use Rattle.jac_keep.specs.Kept.{applied};
@@ -14,10 +15,11 @@ ghost use Rattle.jac_keep.specs.declared.vault.AttachFault.TheVariants.{Failed, 
 
 use crate::opening::alter_tables;
 use crate::places::place_in;
+use crate::scanning::holders;
 use crate::{Alterations, AttachFault, Change, Keeper, Stop, Vault, shape_of};
 use jac_io::Calls;
 use jac_rows::{Row, Rows, State, Table, Tables};
-use jac_value::{Id, Kinds, Memory, Txt, id_model};
+use jac_value::{Id, Kinds, Memory, Txt, Value, id_model};
 use std::alloc::Global;
 use std::marker::Model;
 
@@ -159,6 +161,23 @@ impl Keeper for MemoryKeeper {
         Ok(rows)
     }
 
+    fn rows_with(
+        &mut self,
+        alloc: Global,
+        model: u8,
+        field: u8,
+        value: &Value,
+    ) -> Result<Rows, Stop>
+        ensures left { self.new ≡ after_read self.old }
+        ensures stopped { IsErrOf result Stop.Keeper ↔ IsTrue (read_fails self.old) }
+        ensures exact { IfOk result (λ rows. rows ≡ holders field value.now (rows_of self.old.state.tables model)) }
+        ensures reads { Reads (seen_keeper self.old) (seen_keeper self.new) result }
+    {
+        self.count_read()?;
+        let rows = holders(alloc, self.state.tables.rows(model), field, value)?;
+        Ok(rows)
+    }
+
     fn apply(&mut self, alloc: Global, change: &Change) -> Result<(), Stop>
         requires attached { IsTrue self.old.store.attached }
         requires good { IsSound (applied change.now self.old.state) }
@@ -185,8 +204,8 @@ impl Vault for MemoryKeeper {
     /// It never fails, and keeps the name without using it.
     fn attach(&mut self, alloc: Global, name: Option<&Txt>, schema: &Txt) -> Result<(), AttachFault>
         requires first { self.old.store.called ≡ false }
-        requires schema { (kinds : List (List FieldKind)) × IsSchema schema.now kinds }
-        ensures ok { OnOk result ((kinds : List (List FieldKind)) → IsSchema schema.now kinds → self.new ≡ after_attach (option_copied name.entry) schema.now (length kinds) self.old) }
+        requires schema { (shapes : List ModelShape) × IsSchema schema.now shapes }
+        ensures ok { OnOk result ((shapes : List ModelShape) → IsSchema schema.now shapes → self.new ≡ after_attach (option_copied name.entry) schema.now (length shapes) self.old) }
         ensures err { OnErr result (self.new ≡ after_refusal self.old) }
         ensures never_failed { ¬ (result ≡ Err Failed) }
         ensures other { (stored : List ℕ) → result ≡ Err (Other stored) → (self.old.store.schema ≡ Some stored) × ¬ (stored ≡ schema.now) }
@@ -239,10 +258,10 @@ struct Made {
 
 // What is to be kept for the schema beside what is stored: nothing where it is stored already.
 fn made_for(alloc: Global, stored: &Option<Txt>, schema: &Txt) -> Result<Option<Made>, AttachFault>
-    requires { (kinds : List (List FieldKind)) × IsSchema schema.now kinds }
+    requires { (shapes : List ModelShape) × IsSchema schema.now shapes }
     ensures known { IfOk result (λ made. made ≡ None → stored.now ≡ Some schema.now) }
     ensures new { IfOk result (λ made. IfSome made (λ m. (stored.now ≡ None) × (m.schema ≡ schema.now))) }
-    ensures tables { IfOk result (λ made. IfSome made (λ m. (kinds : List (List FieldKind)) → IsSchema schema.now kinds → m.tables ≡ empties (length kinds))) }
+    ensures tables { IfOk result (λ made. IfSome made (λ m. (shapes : List ModelShape) → IsSchema schema.now shapes → m.tables ≡ empties (length shapes))) }
     ensures never_failed { ¬ (result ≡ Err Failed) }
     ensures other { (text : List ℕ) → result ≡ Err (Other text) → (stored.now ≡ Some text) × ¬ (text ≡ schema.now) }
 {
@@ -265,8 +284,8 @@ fn made_for(alloc: Global, stored: &Option<Txt>, schema: &Txt) -> Result<Option<
 
 // An empty table for each model of the schema.
 fn new_tables(alloc: Global, schema: &Txt) -> Result<Tables, Memory>
-    requires { (kinds : List (List FieldKind)) × IsSchema schema.now kinds }
-    ensures { IfOk result (λ tables. (kinds : List (List FieldKind)) → IsSchema schema.now kinds → tables ≡ empties (length kinds)) }
+    requires { (shapes : List ModelShape) × IsSchema schema.now shapes }
+    ensures { IfOk result (λ tables. (shapes : List ModelShape) → IsSchema schema.now shapes → tables ≡ empties (length shapes)) }
 {
     match shape_of(alloc, schema)? {
         Some(shape) => {

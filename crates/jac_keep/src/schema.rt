@@ -1,11 +1,11 @@
 ghost use Rattle.std.specs.Prelude.{◌≡◌, ◌≤◌, ℕ, List, None, Some, IfOk, IfSome, codes, if◌then◌else◌, nat_le};
 ghost use Rattle.std.specs.Str.{bytes_eq};
 ghost use Rattle.std.specs.Option.{option_map};
-ghost use Rattle.jac_value.specs.declared.value.Kind.{Kind as FieldKind};
+ghost use Rattle.jac_rows.specs.Good.{ModelShape};
 ghost use Rattle.jac_tree.specs.Mirror.{plain, plain_all};
 ghost use Rattle.jac_tree.specs.Printed.{printed};
 ghost use Rattle.jac_tree.specs.declared.fault.TreeFault.TheVariants as faults;
-ghost use Rattle.jac_keep.specs.Schema.{IsSchema, all_apart, are_groups, are_named, begins_with, behind, count, each_of, have_groups, is_group, is_named, is_word, kind_of, kind_of_field, kinds_of_fields, kinds_of_model, kinds_of_models, kinds_of_parts, kinds_of_schema, place_from, place_named, plain_kind, reference};
+ghost use Rattle.jac_keep.specs.Schema.{IsSchema, are_groups, behind_nested, are_named, begins_with, behind, count, each_of, have_groups, is_group, is_named, is_word, kind_of, kind_of_field, is_nested_in, kinds_of_fields, kinds_of_lists, kinds_of_model, kinds_of_models, kinds_of_parts, kinds_of_schema, nested_of_models, nested_of_schema, place_from, place_named, plain_kind, reference, shapes_by, shapes_of_schema, starts_nested};
 
 use jac_rows::{Flags, KindLists, Shape};
 use jac_tree::{Tree, TreeFault, Trees, print_tree, read_text};
@@ -16,52 +16,28 @@ use std::alloc::Global;
 const MODEL_LIMIT: u8 = 64;
 
 /// The shape of the stores that have this schema, where the text is one: a printed tree
-/// `(schema (model NAME (fields (NAME KIND) ..) (groups (FIELD ..) ..)) ..)` of at most 64 models, in which a KIND is
-/// `int`, `text`, `bool` or `(ref NAME)`.
+/// `(schema (model NAME nested? (fields (NAME KIND) ..) (groups GROUP ..)) ..)` of at most 64 models, in which a KIND is
+/// `int`, `text`, `bool` or `(ref NAME)`, and a GROUP is `hides` or the list of the fields that it guards.
 pub fn shape_of(alloc: Global, schema: &Txt) -> Result<Option<Shape>, Memory>
-    ensures kinds { IfOk result (λ found. IfSome found (λ shape. IsSchema schema.now shape.kinds)) }
-    ensures nested { IfOk result (λ found. IfSome found (λ shape. shape.nested ≡ all_apart shape.kinds)) }
-    ensures none { IfOk result (λ found. found ≡ None → (kinds : List (List FieldKind)) → ¬ (IsSchema schema.now kinds)) }
-{
-    match kinds_of_text(alloc, schema)? {
-        Some(kinds) => {
-            let nested = all_apart(alloc, kinds.as_slice())?;
-            Ok(Some(Shape { kinds, nested }))
-        }
-        None => Ok(None),
-    }
-}
-
-/// A law, with nothing to run: a text is the schema of one list of kinds at most.
-pub fn one_schema()
-    ensures { (text : List ℕ) (kinds others : List (List FieldKind)) → IsSchema text kinds → IsSchema text others → kinds ≡ others }
-{}
-
-fn all_apart(alloc: Global, kinds: &[Kinds]) -> Result<Flags, Memory>
-    ensures { IfOk result (λ flags. flags ≡ all_apart kinds.now) }
-{
-    let mut flags = Vec::new(alloc);
-    'models: for _model in kinds {
-        flags.push(false)?;
-    }
-    Ok(Flags::from_vec(flags))
-}
-
-fn kinds_of_text(alloc: Global, schema: &Txt) -> Result<Option<KindLists>, Memory>
-    ensures kinds { IfOk result (λ found. IfSome found (λ kinds. IsSchema schema.now kinds)) }
-    ensures none { IfOk result (λ found. found ≡ None → (kinds : List (List FieldKind)) → ¬ (IsSchema schema.now kinds)) }
+    ensures shape { IfOk result (λ found. IfSome found (λ shape. IsSchema schema.now (shapes_by shape.kinds shape.nested))) }
+    ensures none { IfOk result (λ found. found ≡ None → (shapes : List ModelShape) → ¬ (IsSchema schema.now shapes)) }
 {
     match read_text(alloc, schema) {
         Ok(tree) => {
-            let kinds = kinds_of_printed(alloc, schema, &tree)?;
-            Ok(kinds)
+            let shape = shape_of_printed(alloc, schema, &tree)?;
+            Ok(shape)
         }
         Err(fault) => without_tree(fault),
     }
 }
 
+/// A law, with nothing to run: a text is the schema of one list of shapes at most.
+pub fn one_schema()
+    ensures { (text : List ℕ) (shapes others : List ModelShape) → IsSchema text shapes → IsSchema text others → shapes ≡ others }
+{}
+
 // A text that spells no tree of at most 64 levels is no schema.
-fn without_tree(fault: TreeFault) -> Result<Option<KindLists>, Memory>
+fn without_tree(fault: TreeFault) -> Result<Option<Shape>, Memory>
     ensures none { IfOk result (λ found. found ≡ None) }
     ensures spelled { IfOk result (λ _. ¬ (fault ≡ faults.Memory)) }
 {
@@ -75,16 +51,85 @@ fn without_tree(fault: TreeFault) -> Result<Option<KindLists>, Memory>
     }
 }
 
-// The kinds that a tree gives, where the text is what it is printed as.
-fn kinds_of_printed(alloc: Global, text: &Txt, tree: &Tree) -> Result<Option<KindLists>, Memory>
-    ensures { IfOk result (λ found. found ≡ (if bytes_eq text.now (printed (plain tree.now)) then kinds_of_schema (plain tree.now) else None)) }
+// The shape that a tree gives, where the text is what it is printed as.
+fn shape_of_printed(alloc: Global, text: &Txt, tree: &Tree) -> Result<Option<Shape>, Memory>
+    ensures { IfOk result (λ found. option_map (λ s. shapes_by s.kinds s.nested) found ≡ (if bytes_eq text.now (printed (plain tree.now)) then shapes_of_schema (plain tree.now) else None)) }
 {
     let printed = print_tree(alloc, tree)?;
     if text.as_bytes() == printed.as_slice() {
-        let kinds = kinds_of_schema(alloc, tree)?;
-        Ok(kinds)
+        let shape = shape_of_schema(alloc, tree)?;
+        Ok(shape)
     } else {
         Ok(None)
+    }
+}
+
+fn shape_of_schema(alloc: Global, tree: &Tree) -> Result<Option<Shape>, Memory>
+    ensures { IfOk result (λ found. option_map (λ s. shapes_by s.kinds s.nested) found ≡ shapes_of_schema (plain tree.now)) }
+{
+    match kinds_of_schema(alloc, tree)? {
+        Some(kinds) => {
+            let nested = nested_of_schema(alloc, tree)?;
+            Ok(Some(Shape { kinds, nested }))
+        }
+        None => Ok(None),
+    }
+}
+
+fn nested_of_schema(alloc: Global, tree: &Tree) -> Result<Flags, Memory>
+    ensures { IfOk result (λ flags. flags ≡ nested_of_schema (plain tree.now)) }
+{
+    match behind(tree, b"schema") {
+        Some(models) => {
+            let nested = nested_of_models(alloc, models)?;
+            Ok(nested)
+        }
+        None => Ok(Flags::empty(alloc)),
+    }
+}
+
+fn nested_of_models(alloc: Global, models: &Trees) -> Result<Flags, Memory>
+    ensures { IfOk result (λ flags. flags ≡ nested_of_models (plain_all models.now)) }
+{
+    let mut flags = Vec::new(alloc);
+    let mut left = models;
+    'models: while let Trees::More(first, rest) = left {
+        flags.push(is_nested_in(behind(first, b"model")))?;
+        left = rest;
+    }
+    Ok(Flags::from_vec(flags))
+}
+
+fn is_nested_in(parts: Option<&Trees>) -> bool
+    ensures { result ≡ is_nested_in (option_map (λ ts. plain_all ts.now) parts.entry) }
+{
+    match parts {
+        Some(Trees::More(_, rest)) => starts_nested(rest),
+        _ => false,
+    }
+}
+
+fn starts_nested(trees: &Trees) -> bool
+    ensures { result ≡ starts_nested (plain_all trees.now) }
+{
+    match trees {
+        Trees::More(first, _) => is_word(first, b"nested"),
+        Trees::End => false,
+    }
+}
+
+fn behind_nested(trees: &Trees) -> &Trees
+    ensures { plain_all result.now ≡ behind_nested (plain_all trees.now) }
+{
+    match trees {
+        Trees::More(first, rest) => {
+            if is_word(first, b"nested") {
+                rest
+            } else {
+                trees
+            }
+        }
+        Trees::End => trees,
     }
 }
 
@@ -162,7 +207,19 @@ fn kinds_of_parts(alloc: Global, models: &Trees, parts: &Trees) -> Result<Option
     let Trees::More(name, rest) = parts else {
         return Ok(None);
     };
-    let Trees::More(fields, rest) = &**rest else {
+    if is_named(name) {
+        let kinds = kinds_of_lists(alloc, models, behind_nested(rest))?;
+        Ok(kinds)
+    } else {
+        Ok(None)
+    }
+}
+
+fn kinds_of_lists(alloc: Global, models: &Trees, lists: &Trees) -> Result<Option<Kinds>, Memory>
+    requires { count (plain_all models.now) ≤ 64 }
+    ensures { IfOk result (λ kinds. kinds ≡ kinds_of_lists (plain_all models.now) (plain_all lists.now)) }
+{
+    let Trees::More(fields, rest) = lists else {
         return Ok(None);
     };
     let Trees::More(groups, rest) = &**rest else {
@@ -171,7 +228,7 @@ fn kinds_of_parts(alloc: Global, models: &Trees, parts: &Trees) -> Result<Option
     let Trees::End = &**rest else {
         return Ok(None);
     };
-    if is_named(name) && have_groups(groups) {
+    if have_groups(groups) {
         let kinds = kinds_of_fields(alloc, models, fields)?;
         Ok(kinds)
     } else {
@@ -333,8 +390,9 @@ fn is_group(tree: &Tree) -> bool
     ensures { result ≡ is_group (plain tree.now) }
 {
     match tree {
+        Tree::Atom(word) => word.as_bytes() == b"hides".as_slice(),
+        Tree::Text(_) => false,
         Tree::List(names) => are_named(names),
-        _ => false,
     }
 }
 

@@ -1,6 +1,6 @@
 ghost use Rattle.std.specs.Prelude.{◌≡◌, List, Option, IsTrue, IfOk, false};
 ghost use Rattle.std.specs.Option.{option_copied};
-ghost use Rattle.jac_value.specs.declared.value.Kind.{Kind};
+ghost use Rattle.jac_rows.specs.Good.{ModelShape};
 ghost use Rattle.jac_keep.specs.Schema.{IsSchema};
 ghost use Rattle.jac_keep.specs.Attaching.{Attaches};
 ghost use Rattle.jac_keep.specs.declared.vault.AttachFault.TheVariants as faults;
@@ -33,6 +33,6 @@ pub trait Vault: Keeper {
     /// program. A new store keeps the schema, and has one empty table for each of its models.
     fn attach(&mut self, alloc: Global, name: Option<&Txt>, schema: &Txt) -> Result<(), AttachFault>
         requires first { (Self.seen self.old).store.called ≡ false }
-        requires schema { (kinds : List (List Kind)) × IsSchema schema.now kinds }
+        requires schema { (shapes : List ModelShape) × IsSchema schema.now shapes }
         ensures { Attaches (Self.seen self.old) (Self.seen self.new) (option_copied name.entry) schema.now result };
 }

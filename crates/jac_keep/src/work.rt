@@ -4,13 +4,15 @@ ghost use Rattle.jac_value.specs.Ids.{model_of_id};
 ghost use Rattle.jac_rows.specs.Tables.{rows_of};
 ghost use Rattle.jac_keep.specs.Records.{alternatives};
 ghost use Rattle.jac_rows.specs.declared.row.Row.{Row as Seen};
+ghost use Rattle.jac_keep.specs.Holding.{holders};
 ghost use Rattle.jac_keep.specs.Cause.{HasCause};
 ghost use Rattle.jac_keep.specs.Kept.{state_with, applied};
 ghost use Rattle.jac_keep.specs.Worked.{state_of, IsTold, LeavesKeeper, ReadsWork};
 
+use crate::masking::masked;
 use crate::{Alterations, Change, Keeper, Stop};
 use jac_rows::Rows;
-use jac_value::{Id, Memory};
+use jac_value::{Id, Memory, Value};
 use std::alloc::Global;
 
 /// The records that a request replaced so far, each with all its alternatives.
@@ -58,6 +60,24 @@ impl<'k, K: Keeper> WorkOver<'k, K, Overlay> {
         let rows = self.keeper.rows(alloc, model)?;
         let rows = self.over.alter(alloc, usize::from(model), rows)?;
         Ok(rows)
+    }
+
+    /// All alternatives of each record of the model of which one has the value at the field.
+    pub fn rows_with(
+        &mut self,
+        alloc: Global,
+        model: u8,
+        field: u8,
+        value: &Value,
+    ) -> Result<Rows, Stop>
+        requires { IsTrue (K.seen self.old.keeper.now).store.attached }
+        ensures exact { IsTold K.seen self.new → IfOk result (λ rows. rows ≡ holders field value.now (rows_of (state_of K.seen self.old).tables model)) }
+        ensures reads { ReadsWork K.seen self.old self.new result }
+    {
+        let rows = self.keeper.rows_with(alloc, model, field, value)?;
+        let masks = masked(alloc, &self.over, field, value)?;
+        let found = masks.alter(alloc, usize::from(model), rows)?;
+        Ok(found)
     }
 
     /// The alternatives of one record.
