@@ -1,5 +1,5 @@
 -- What is read as an application is one that is written.
-use Rattle.std.proofs.Common.{◌≡◌, ℕ, ◌+◌, ◌<◌, ◌≤◌, ◌^◌, Bool, true, false, nat_le, refl, subst, arith, Option, Some, None, List, [], length}
+use Rattle.std.proofs.Common.{◌≡◌, ℕ, ◌+◌, ◌<◌, ◌≤◌, ◌^◌, Bool, true, false, not, nat_le, nat_lt, refl, subst, arith, Option, Some, None, List, [], length}
 use Rattle.std.specs.Prelude.{IfSome, IsTrue, if◌then◌else◌, codes}
 use Rattle.std.specs.List.{All}
 use Rattle.std.specs.Str.{bytes_eq}
@@ -19,10 +19,10 @@ use Rattle.jac_forms.specs.declared.fault.FormFault.TheVariants as faults
 use Rattle.jac_forms.specs.declared.fault.Want.{Want}
 use Rattle.jac_forms.specs.declared.fault.Want.TheVariants as wants
 use Rattle.jac_forms.specs.declared.fault.What.TheVariants as whats
-use Rattle.jac_forms.specs.Names.{count, name_in_tree, tail_of, each_in_trees}
+use Rattle.jac_forms.specs.Names.{count, is_word, name_in_tree, tail_of, each_in_trees}
 use Rattle.jac_forms.specs.Expressions.{one_in_trees}
 use Rattle.jac_forms.specs.Statements.{Body, assigned_in_tree, statements_in_trees, creates}
-use Rattle.jac_forms.specs.Applications.{plain_kind_of, one_name_in_trees, kind_in_tree, field, field_in_tree, few_fields, fields_in_tree, params_in_tree, some_guards, guards_in_tree, policy_in_tree, group, group_in_trees, group_in_tree, entity, entity_in_trees, entity_in_tree, method_in_tree, path_in_tree, page, page_in_trees, page_in_tree, is_headed, headed, Items, items, after_model, items_in_trees, application, viewer_in_tree, with_viewer, application_of_items, application_in_trees, application_in_tree}
+use Rattle.jac_forms.specs.Applications.{plain_kind_of, one_name_in_trees, kind_in_tree, field, field_in_tree, few_fields, fields_in_tree, params_in_tree, some_guards, guards_in_tree, policy_in_tree, Guarding, guarding, guarding_in_tree, group, group_in_trees, group_in_tree, entity, entity_behind, entity_in_trees, entity_in_tree, method_in_tree, path_in_tree, page, page_in_trees, page_in_tree, is_headed, headed, Items, items, after_model, items_in_trees, application, viewer_in_tree, with_viewer, application_of_items, application_in_trees, application_in_tree}
 use Rattle.jac_forms.proofs.Chains.{IfGot, after, placed, freely, chained, mapped, weaker, where_true, where_false, either, within, each}
 use Rattle.jac_forms.proofs.Spans.{spans-few}
 use Rattle.jac_forms.proofs.WrittenExpressions.{name-written, one-written}
@@ -79,7 +79,7 @@ params-written at t =
     weaker (AreFields ts) (All IsWrittenField) (each_in_trees (field_in_tree wants.Param) at 1 ts) (each IsWrittenField (field_in_tree wants.Param) (field-written wants.Param) at 1 ts) (λ fs h. h.0))
 
 abbrev AreGuards : List Assigned → Type 0
-AreGuards gs = (0 < length gs) × All IsWrittenAssigned gs
+AreGuards gs = (nat_lt 0 (length gs) ≡ true) × All IsWrittenAssigned gs
 
 some_guards-written : (at : List ℕ) (ts : PlainTrees) → IfGot (some_guards at ts) AreGuards
 some_guards-written at ts =
@@ -93,10 +93,21 @@ guards-written at t = after AreGuards wants.Guard at (some_guards at) (tail_of (
 policy-written : (at : List ℕ) (t : PlainTree) → IfGot (policy_in_tree at t) IsWrittenExpression
 policy-written at t = after IsWrittenExpression wants.Policy at (one_in_trees wants.Policy at) (tail_of (codes "policy") t) (one-written wants.Policy at)
 
+-- guards stand exactly where the record isn't hidden
+record IsGuarding (g : Guarding) : Type 0 where
+  some : nat_lt 0 (length g.guards) ≡ not g.hides
+  guards : All IsWrittenAssigned g.guards
+
+guarding-written : (at : List ℕ) (t : PlainTree) → IfGot (guarding_in_tree at t) IsGuarding
+guarding-written at t =
+    either IsGuarding (is_word (codes "hides") t) (got (guarding true [])) (read_map (guarding false) (guards_in_tree at t))
+    (record { some = refl; guards = All-nil IsWrittenAssigned })
+    (mapped AreGuards IsGuarding (guarding false) (guards_in_tree at t) (guards-written at t) (λ gs h. record { some = h.0; guards = h.1 }))
+
 group_parts-written : (at : List ℕ) (ts : PlainTrees) → IfGot (group_in_trees at ts) IsWrittenGroup
 group_parts-written at (PlainTrees.more gs (PlainTrees.more p PlainTrees.none)) =
-    chained AreGuards IsWrittenGroup (λ guards. read_map (group guards) (policy_in_tree (child at 2) p)) (guards_in_tree (child at 1) gs) (guards-written (child at 1) gs) (λ guards h.
-    mapped IsWrittenExpression IsWrittenGroup (group guards) (policy_in_tree (child at 2) p) (policy-written (child at 2) p) (λ policy k. record { some = h.0; guards = h.1; policy = k }))
+    chained IsGuarding IsWrittenGroup (λ g. read_map (group g) (policy_in_tree (child at 2) p)) (guarding_in_tree (child at 1) gs) (guarding-written (child at 1) gs) (λ g h.
+    mapped IsWrittenExpression IsWrittenGroup (group g) (policy_in_tree (child at 2) p) (policy-written (child at 2) p) (λ policy k. record { some = h.some; guards = h.guards; policy = k }))
 group_parts-written at ts = tt
 
 group-written : (at : List ℕ) (t : PlainTree) → IfGot (group_in_tree at t) IsWrittenGroup
@@ -105,14 +116,21 @@ group-written at t = after IsWrittenGroup wants.Group at (group_in_trees at) (ta
 abbrev AreGroups : PlainTrees → List FieldGroup → Type 0
 AreGroups ts gs = All IsWrittenGroup gs × (length gs ≡ count ts)
 
+entity_behind-written : (at : List ℕ) (nested : Bool) (k : ℕ) (x : PlainTree) (ts : PlainTrees) → IfGot (entity_behind at nested k x ts) IsWrittenModel
+entity_behind-written at nested k x (PlainTrees.more fs gs) =
+    within IsWrittenModel whats.Groups at 8 (count gs) (read_and_then (λ name. read_and_then (λ fields. read_map (entity name nested fields) (each_in_trees group_in_tree at (k + 1) gs)) (fields_in_tree (child at k) fs)) (name_in_tree (child at 1) x)) (λ few.
+    chained IsName IsWrittenModel (λ name. read_and_then (λ fields. read_map (entity name nested fields) (each_in_trees group_in_tree at (k + 1) gs)) (fields_in_tree (child at k) fs)) (name_in_tree (child at 1) x) (name-written (child at 1) x) (λ name h.
+    chained AreFewFields IsWrittenModel (λ fields. read_map (entity name nested fields) (each_in_trees group_in_tree at (k + 1) gs)) (fields_in_tree (child at k) fs) (fields-written (child at k) fs) (λ fields l.
+    mapped (AreGroups gs) IsWrittenModel (entity name nested fields) (each_in_trees group_in_tree at (k + 1) gs) (each IsWrittenGroup group_in_tree group-written at (k + 1) gs) (λ groups m.
+    let n = m.1 in
+    record { name = h; few_fields = l.1; fields = l.0; few_groups = omega arith; groups = m.0 }))))
+entity_behind-written at nested k x PlainTrees.none = tt
+
 entity_parts-written : (at : List ℕ) (ts : PlainTrees) → IfGot (entity_in_trees at ts) IsWrittenModel
-entity_parts-written at (PlainTrees.more x (PlainTrees.more fs gs)) =
-    within IsWrittenModel whats.Groups at 8 (count gs) (read_and_then (λ name. read_and_then (λ fields. read_map (entity name fields) (each_in_trees group_in_tree at 3 gs)) (fields_in_tree (child at 2) fs)) (name_in_tree (child at 1) x)) (λ few.
-    chained IsName IsWrittenModel (λ name. read_and_then (λ fields. read_map (entity name fields) (each_in_trees group_in_tree at 3 gs)) (fields_in_tree (child at 2) fs)) (name_in_tree (child at 1) x) (name-written (child at 1) x) (λ name h.
-    chained AreFewFields IsWrittenModel (λ fields. read_map (entity name fields) (each_in_trees group_in_tree at 3 gs)) (fields_in_tree (child at 2) fs) (fields-written (child at 2) fs) (λ fields k.
-    mapped (AreGroups gs) IsWrittenModel (entity name fields) (each_in_trees group_in_tree at 3 gs) (each IsWrittenGroup group_in_tree group-written at 3 gs) (λ groups l.
-    let n = l.1 in
-    record { name = h; few_fields = k.1; fields = k.0; few_groups = omega arith; groups = l.0 }))))
+entity_parts-written at (PlainTrees.more x (PlainTrees.more n ts)) =
+    either IsWrittenModel (is_word (codes "nested") n) (entity_behind at true 3 x ts) (entity_behind at false 2 x (PlainTrees.more n ts))
+    (entity_behind-written at true 3 x ts)
+    (entity_behind-written at false 2 x (PlainTrees.more n ts))
 entity_parts-written at PlainTrees.none = tt
 entity_parts-written at (PlainTrees.more x PlainTrees.none) = tt
 

@@ -1,5 +1,5 @@
 -- Applications as trees write them.
-use Rattle.std.specs.Prelude.{ℕ, ◌+◌, Bool, false, nat_le, if◌then◌else◌, Option, Some, None, List, [], ◌∷◌, codes}
+use Rattle.std.specs.Prelude.{ℕ, ◌+◌, Bool, true, false, nat_le, if◌then◌else◌, Option, Some, None, List, [], ◌∷◌, codes}
 use Rattle.std.specs.Str.{bytes_eq}
 use Rattle.jac_lang.specs.Syntax.{Expression, Assigned, FieldGroup, Entity, Page, Application}
 use Rattle.jac_lang.specs.declared.field_kinds.Field.{Field}
@@ -67,25 +67,44 @@ guards_in_tree at t = behind wants.Guard at (some_guards at) (tail_of (codes "gu
 abbrev pub policy_in_tree : List ℕ → PlainTree → Read Expression
 policy_in_tree at t = behind wants.Policy at (one_in_trees wants.Policy at) (tail_of (codes "policy") t)
 
-abbrev pub group : List Assigned → Expression → FieldGroup
-group guards policy = record { guards = guards; policy = policy }
+-- what a group guards: fields, each with its public value, or the whole record
+pub record Guarding : Type 0 where
+  pub guards : List Assigned
+  pub hides : Bool
 
--- `(group guards policy)`
+abbrev pub guarding : Bool → List Assigned → Guarding
+guarding hides guards = record { guards = guards; hides = hides }
+
+-- `hides`, or `(guards (NAME expression)+)`
+abbrev pub guarding_in_tree : List ℕ → PlainTree → Read Guarding
+guarding_in_tree at t =
+    if is_word (codes "hides") t then got (guarding true []) else read_map (guarding false) (guards_in_tree at t)
+
+abbrev pub group : Guarding → Expression → FieldGroup
+group g policy = record { guards = g.guards; hides = g.hides; policy = policy }
+
+-- `(group hides policy)` or `(group guards policy)`
 abbrev pub group_in_trees : List ℕ → PlainTrees → Read FieldGroup
 group_in_trees at (PlainTrees.more gs (PlainTrees.more p PlainTrees.none)) =
-    read_and_then (λ guards. read_map (group guards) (policy_in_tree (child at 2) p)) (guards_in_tree (child at 1) gs)
+    read_and_then (λ g. read_map (group g) (policy_in_tree (child at 2) p)) (guarding_in_tree (child at 1) gs)
 group_in_trees at ts = wrong wants.Group at
 
 abbrev pub group_in_tree : List ℕ → PlainTree → Read FieldGroup
 group_in_tree at t = behind wants.Group at (group_in_trees at) (tail_of (codes "group") t)
 
-abbrev pub entity : List ℕ → List Field → List FieldGroup → Entity
-entity name fields groups = record { name = name; fields = fields; groups = groups }
+abbrev pub entity : List ℕ → Bool → List Field → List FieldGroup → Entity
+entity name nested fields groups = record { name = name; nested = nested; fields = fields; groups = groups }
 
--- `(model NAME fields group ..)` of at most 8 groups
+-- a model whose fields stand as child k, and behind them its groups, at most 8
+abbrev pub entity_behind : List ℕ → Bool → ℕ → PlainTree → PlainTrees → Read Entity
+entity_behind at nested k x (PlainTrees.more fs gs) =
+    up_to whats.Groups at 8 (count gs) (read_and_then (λ name. read_and_then (λ fields. read_map (entity name nested fields) (each_in_trees group_in_tree at (k + 1) gs)) (fields_in_tree (child at k) fs)) (name_in_tree (child at 1) x))
+entity_behind at nested k x PlainTrees.none = wrong wants.Item at
+
+-- `(model NAME fields group ..)` or `(model NAME nested fields group ..)`
 abbrev pub entity_in_trees : List ℕ → PlainTrees → Read Entity
-entity_in_trees at (PlainTrees.more x (PlainTrees.more fs gs)) =
-    up_to whats.Groups at 8 (count gs) (read_and_then (λ name. read_and_then (λ fields. read_map (entity name fields) (each_in_trees group_in_tree at 3 gs)) (fields_in_tree (child at 2) fs)) (name_in_tree (child at 1) x))
+entity_in_trees at (PlainTrees.more x (PlainTrees.more n ts)) =
+    if is_word (codes "nested") n then entity_behind at true 3 x ts else entity_behind at false 2 x (PlainTrees.more n ts)
 entity_in_trees at ts = wrong wants.Item at
 
 abbrev pub entity_in_tree : List ℕ → PlainTree → Read Entity

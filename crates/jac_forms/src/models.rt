@@ -1,7 +1,7 @@
 ghost use Rattle.std.specs.Prelude.{◌≡◌, IfOk, IfErr, IsTrue, nat_le};
 ghost use Rattle.jac_lang.specs.Mirror.{assigned_of, expression_of, field_group_of, groups_of, entity_of};
 ghost use Rattle.jac_tree.specs.Mirror.{plain, plain_all};
-ghost use Rattle.jac_forms.specs.Applications.{entity_in_tree, entity_in_trees, group_in_tree, group_in_trees, guards_in_tree, policy_in_tree, some_guards};
+ghost use Rattle.jac_forms.specs.Applications.{entity_behind, entity_in_tree, entity_in_trees, group_in_tree, group_in_trees, guarding, guarding_in_tree, guards_in_tree, policy_in_tree, some_guards};
 ghost use Rattle.jac_forms.specs.Names.{count, each_in_trees};
 ghost use Rattle.jac_forms.specs.Places.{path_of};
 ghost use Rattle.jac_forms.specs.Reads.{got, refused};
@@ -12,7 +12,7 @@ use crate::expressions::read_only;
 use crate::fields::read_fields;
 use crate::names::{count, is_up_to, next_number, read_name};
 use crate::place::Place;
-use crate::words::tail_of;
+use crate::words::{is_word, tail_of};
 use crate::{FormFault, Want, What};
 use jac_lang::{Expr, Group, Groups, ModelDef, Publics};
 use jac_tree::{Tree, Trees};
@@ -38,33 +38,62 @@ fn read_parts(alloc: Global, place: &Place<'_>, parts: &Trees) -> Result<ModelDe
     let Trees::More(name, rest) = parts else {
         return Err(place.form(alloc, Want::Item));
     };
-    let Trees::More(fields, groups) = &**rest else {
+    let Trees::More(second, behind) = &**rest else {
+        return Err(place.form(alloc, Want::Item));
+    };
+    if is_word(second, b"nested") {
+        let model = read_behind(alloc, place, true, 3, name, behind)?;
+        return Ok(model);
+    }
+    let model = read_behind(alloc, place, false, 2, name, rest)?;
+    Ok(model)
+}
+
+// The parts of a model that stand behind its name, or behind `nested`, from this child on.
+fn read_behind(
+    alloc: Global,
+    place: &Place<'_>,
+    nested: bool,
+    first: u32,
+    name: &Tree,
+    parts: &Trees,
+) -> Result<ModelDef, FormFault>
+    ensures value { IfOk result (λ m. entity_behind (path_of place.now) nested first (plain name.now) (plain_all parts.now) ≡ got (entity_of m)) }
+    ensures fault { IfErr result (λ f. IsTrue (refuses f) → entity_behind (path_of place.now) nested first (plain name.now) (plain_all parts.now) ≡ refused f) }
+{
+    let Trees::More(fields, groups) = parts else {
         return Err(place.form(alloc, Want::Item));
     };
     if !is_up_to(groups, 8) {
         return Err(place.too_many(alloc, What::Groups, count(groups)?));
     }
     let name = read_name(alloc, &place.child(1), name)?;
-    let fields = read_fields(alloc, &place.child(2), fields)?;
-    let groups = read_groups(alloc, place, groups)?;
+    let fields = read_fields(alloc, &place.child(first), fields)?;
+    let groups = read_groups(alloc, place, next_number(first)?, groups)?;
     Ok(ModelDef {
         name,
+        nested,
         fields,
         groups,
     })
 }
 
-// The groups of a model begin with its child 3.
-fn read_groups(alloc: Global, place: &Place<'_>, trees: &Trees) -> Result<Groups, FormFault>
+// The groups of a model, from this child on.
+fn read_groups(
+    alloc: Global,
+    place: &Place<'_>,
+    first: u32,
+    trees: &Trees,
+) -> Result<Groups, FormFault>
     requires { IsTrue (nat_le (count (plain_all trees.now)) 8) }
-    ensures value { IfOk result (λ gs. each_in_trees group_in_tree (path_of place.now) 3 (plain_all trees.now) ≡ got (groups_of gs)) }
-    ensures fault { IfErr result (λ f. IsTrue (refuses f) → each_in_trees group_in_tree (path_of place.now) 3 (plain_all trees.now) ≡ refused f) }
+    ensures value { IfOk result (λ gs. each_in_trees group_in_tree (path_of place.now) first (plain_all trees.now) ≡ got (groups_of gs)) }
+    ensures fault { IfErr result (λ f. IsTrue (refuses f) → each_in_trees group_in_tree (path_of place.now) first (plain_all trees.now) ≡ refused f) }
 {
     let mut groups = Vec::new(alloc);
-    let mut number: u32 = 3;
+    let mut number = first;
     let mut left = trees;
-    'groups: while let Trees::More(first, rest) = left {
-        let group = read_group(alloc, &place.child(number), first)?;
+    'groups: while let Trees::More(one, rest) = left {
+        let group = read_group(alloc, &place.child(number), one)?;
         groups.push(group)?;
         number = next_number(number)?;
         left = rest;
@@ -98,9 +127,29 @@ fn read_group_parts(alloc: Global, place: &Place<'_>, parts: &Trees) -> Result<G
     let Trees::End = &**rest else {
         return Err(place.form(alloc, Want::Group));
     };
-    let guards = read_guards(alloc, &place.child(1), guards)?;
+    let (guards, hides) = read_guarding(alloc, &place.child(1), guards)?;
     let policy = read_policy(alloc, &place.child(2), policy)?;
-    Ok(Group { guards, policy })
+    Ok(Group {
+        guards,
+        hides,
+        policy,
+    })
+}
+
+// The guards, or none where the whole record is hidden.
+fn read_guarding(
+    alloc: Global,
+    place: &Place<'_>,
+    tree: &Tree,
+) -> Result<(Publics, bool), FormFault>
+    ensures value { IfOk result (λ g. guarding_in_tree (path_of place.now) (plain tree.now) ≡ got (guarding g.1 (assigned_of g.0))) }
+    ensures fault { IfErr result (λ f. IsTrue (refuses f) → guarding_in_tree (path_of place.now) (plain tree.now) ≡ refused f) }
+{
+    if is_word(tree, b"hides") {
+        return Ok((Publics::End, true));
+    }
+    let guards = read_guards(alloc, place, tree)?;
+    Ok((guards, false))
 }
 
 fn read_guards(alloc: Global, place: &Place<'_>, tree: &Tree) -> Result<Publics, FormFault>

@@ -13,7 +13,7 @@ groups-preserved c =
     let left : plain_all c.groups.left.now ≡ PlainTrees.more (plain c.deref.result.now) (plain_all c.deref-left.result.now) =
     rw (c.in-More.is, ← c.deref.ensures, ← c.deref-left.ensures) refl in
     let at = path_of c.args.place.now in
-    let all = each_in_trees group_in_tree at 3 (plain_all c.args.trees.now) in
+    let all = each_in_trees group_in_tree at c.args.first (plain_all c.args.trees.now) in
     let counted : count (plain_all c.groups.left.now) ≡ count (plain_all c.deref-left.result.now) + 1 = ap count left in
     record {
       count = omega (arith, c.groups.invariant.count, counted, c.in_ok-push.ensures.len);

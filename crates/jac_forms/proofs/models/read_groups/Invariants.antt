@@ -13,5 +13,5 @@ invariant-groups l = record {
   count : vec_len l.groups + count (plain_all l.left) ≡ count (plain_all l.trees);
   made :
       made_before (groups_of l.groups.items) (each_in_trees group_in_tree (path_of l.fn.place) l.number (plain_all l.left))
-      ≡ each_in_trees group_in_tree (path_of l.fn.place) 3 (plain_all l.trees);
+      ≡ each_in_trees group_in_tree (path_of l.fn.place) l.fn.first (plain_all l.trees);
 }
