@@ -17,14 +17,14 @@ use Rattle.jac_forms.specs.declared.fault.FormFault.TheVariants as faults
 use Rattle.jac_forms.specs.declared.fault.Want.{Want}
 use Rattle.jac_forms.specs.declared.fault.Want.TheVariants as wants
 use Rattle.jac_forms.specs.declared.fault.What.TheVariants as whats
-use Rattle.jac_forms.specs.Names.{count, name_in_tree, tail_of, each_in_trees}
+use Rattle.jac_forms.specs.Names.{count, is_word, name_in_tree, tail_of, each_in_trees}
 use Rattle.jac_forms.specs.Expressions.{one_in_trees}
 use Rattle.jac_forms.specs.Statements.{Body, assigned_in_tree, statements_in_trees, creates}
-use Rattle.jac_forms.specs.Applications.{plain_kind_of, one_name_in_trees, kind_in_tree, field, field_in_tree, few_fields, fields_in_tree, params_in_tree, some_guards, guards_in_tree, policy_in_tree, group, group_in_trees, group_in_tree, entity, entity_in_trees, entity_in_tree, method_in_tree, path_in_tree, page, page_in_trees, page_in_tree, is_headed, headed, Items, items, after_model, items_in_trees, application, viewer_in_tree, with_viewer, application_of_items, application_in_trees, application_in_tree}
-use Rattle.jac_unparse.specs.TreeOf.{one, form, pair, tree_of_expression, trees_of_assigned, trees_of_statements, tree_of_kind, trees_of_fields, tree_of_group, trees_of_groups, tree_of_entity, method_word, tree_of_page, trees_of_pages, models_before, viewer_before, tree_of_application, IsReadable}
+use Rattle.jac_forms.specs.Applications.{plain_kind_of, one_name_in_trees, kind_in_tree, field, field_in_tree, few_fields, fields_in_tree, params_in_tree, some_guards, guards_in_tree, policy_in_tree, Guarding, guarding, guarding_in_tree, group, group_in_trees, group_in_tree, entity, entity_behind, entity_in_trees, entity_in_tree, method_in_tree, path_in_tree, page, page_in_trees, page_in_tree, is_headed, headed, Items, items, after_model, items_in_trees, application, viewer_in_tree, with_viewer, application_of_items, application_in_trees, application_in_tree}
+use Rattle.jac_unparse.specs.TreeOf.{one, form, pair, tree_of_expression, trees_of_assigned, trees_of_statements, tree_of_kind, trees_of_fields, tree_of_guarding, tree_of_group, trees_of_groups, trees_of_parts, tree_of_entity, method_word, tree_of_page, trees_of_pages, models_before, viewer_before, tree_of_application, IsReadable}
 use Rattle.jac_unparse.proofs.Again.{step, mapping, passed, missed, few_enough, decided, name_again, IsAgain, one-again}
 use Rattle.jac_unparse.proofs.AgainStatements.{AreRead, each-again, all-assigned-again, AreCounted, statements-again}
-use Rattle.jac_forms.proofs.Chains.{IfGot, after, placed, freely, chained, mapped, weaker, where_true, where_false, within}
+use Rattle.jac_forms.proofs.Chains.{IfGot, after, placed, freely, chained, mapped, weaker, where_true, where_false, either, within}
 use Rattle.jac_forms.proofs.WrittenExpressions.{name-written}
 
 -- a kind, and a field of any form that has it, are read again from their trees
@@ -113,48 +113,74 @@ policy-again at t =
     after IsPolicy wants.Policy at (one_in_trees wants.Policy at) (tail_of (codes "policy") t) (λ ts.
     weaker IsAgain IsPolicy (one_in_trees wants.Policy at ts) (one-again wants.Policy at ts) (λ e h to. h (child to 1)))
 
+-- what a group guards is read again from its tree
+abbrev IsGuarding : Guarding → Type 0
+IsGuarding g = (to : List ℕ) → guarding_in_tree to (tree_of_guarding g.hides g.guards) ≡ got g
+
+guarding-again : (at : List ℕ) (t : PlainTree) → IfGot (guarding_in_tree at t) IsGuarding
+guarding-again at t =
+    decided IsGuarding (is_word (codes "hides") t) (got (guarding true [])) (read_map (guarding false) (guards_in_tree at t)) (λ _ to. refl) (λ _.
+    mapped AreGuards IsGuarding (guarding false) (guards_in_tree at t) (guards-again at t) (λ guards h to.
+    mapping (guarding false) (guards_in_tree to (form (codes "guards") (trees_of_assigned guards))) guards (h to)))
+
 abbrev IsGroup : FieldGroup → Type 0
 IsGroup g = (to : List ℕ) → group_in_tree to (tree_of_group g) ≡ got g
 
-group_again : (guards : List Assigned) (policy : Expression) → AreGuards guards → IsPolicy policy → IsGroup (group guards policy)
-group_again guards policy h k to =
-    let gs = form (codes "guards") (trees_of_assigned guards) in
+group_again : (g : Guarding) (policy : Expression) → IsGuarding g → IsPolicy policy → IsGroup (group g policy)
+group_again g policy h k to =
     let p = form (codes "policy") (one (tree_of_expression policy)) in
-    step (λ u. read_map (group u) (policy_in_tree (child to 2) p)) (guards_in_tree (child to 1) gs) guards (h (child to 1))
-    ∙ mapping (group guards) (policy_in_tree (child to 2) p) policy (k (child to 2))
+    step (λ u. read_map (group u) (policy_in_tree (child to 2) p)) (guarding_in_tree (child to 1) (tree_of_guarding g.hides g.guards)) g (h (child to 1))
+    ∙ mapping (group g) (policy_in_tree (child to 2) p) policy (k (child to 2))
 
 group_parts-again : (at : List ℕ) (ts : PlainTrees) → IfGot (group_in_trees at ts) IsGroup
 group_parts-again at (PlainTrees.more gs (PlainTrees.more p PlainTrees.none)) =
-    chained AreGuards IsGroup (λ guards. read_map (group guards) (policy_in_tree (child at 2) p)) (guards_in_tree (child at 1) gs) (guards-again (child at 1) gs) (λ guards h.
-    mapped IsPolicy IsGroup (group guards) (policy_in_tree (child at 2) p) (policy-again (child at 2) p) (λ policy k. group_again guards policy h k))
+    chained IsGuarding IsGroup (λ g. read_map (group g) (policy_in_tree (child at 2) p)) (guarding_in_tree (child at 1) gs) (guarding-again (child at 1) gs) (λ g h.
+    mapped IsPolicy IsGroup (group g) (policy_in_tree (child at 2) p) (policy-again (child at 2) p) (λ policy k. group_again g policy h k))
 group_parts-again at ts = tt
 
 group-again : (at : List ℕ) (t : PlainTree) → IfGot (group_in_tree at t) IsGroup
 group-again at t = after IsGroup wants.Group at (group_in_trees at) (tail_of (codes "group") t) (group_parts-again at)
 
-groups-again : (at : List ℕ) (ts : PlainTrees) → IfGot (each_in_trees group_in_tree at 3 ts) (AreRead group_in_tree trees_of_groups (count ts))
-groups-again at ts = each-again IsGroup group_in_tree group_in_tree tree_of_group trees_of_groups refl (λ x xs. refl) group-again (λ to g h. h to) at 3 ts
+groups-again : (at : List ℕ) (k : ℕ) (ts : PlainTrees) → IfGot (each_in_trees group_in_tree at k ts) (AreRead group_in_tree trees_of_groups (count ts))
+groups-again at k ts = each-again IsGroup group_in_tree group_in_tree tree_of_group trees_of_groups refl (λ x xs. refl) group-again (λ to g h. h to) at k ts
 
-abbrev IsEntity : Entity → Type 0
-IsEntity m = (to : List ℕ) → entity_in_tree to (tree_of_entity m) ≡ got m
+-- the parts of a model are read again behind its name, from whatever child on
+abbrev AreParts : Entity → Type 0
+AreParts m = (to : List ℕ) (k : ℕ) → entity_behind to m.nested k (PlainTree.atom m.name) (trees_of_parts m) ≡ got m
 
-entity_again : (name : List ℕ) (fields : List Field) (groups : List FieldGroup) (n : ℕ) → n ≤ 8 → IsName name → AreFields fields → AreRead group_in_tree trees_of_groups n groups → IsEntity (entity name fields groups)
-entity_again name fields groups n few h k l to =
+parts_again : (name : List ℕ) (nested : Bool) (fields : List Field) (groups : List FieldGroup) (n : ℕ) → n ≤ 8 → IsName name → AreFields fields → AreRead group_in_tree trees_of_groups n groups
+    → AreParts (entity name nested fields groups)
+parts_again name nested fields groups n few h k l to j =
     let x = PlainTree.atom name in
     let fs = form (codes "fields") (trees_of_fields fields) in
     let gs = trees_of_groups groups in
     let size = l.size in
-    few_enough whats.Groups to 8 (count gs) (read_and_then (λ u. read_and_then (λ v. read_map (entity u v) (each_in_trees group_in_tree to 3 gs)) (fields_in_tree (child to 2) fs)) (name_in_tree (child to 1) x)) (omega (arith, size, few))
-    ∙ step (λ u. read_and_then (λ v. read_map (entity u v) (each_in_trees group_in_tree to 3 gs)) (fields_in_tree (child to 2) fs)) (name_in_tree (child to 1) x) name (name_again (child to 1) name h)
-    ∙ step (λ v. read_map (entity name v) (each_in_trees group_in_tree to 3 gs)) (fields_in_tree (child to 2) fs) fields (k (child to 2))
-    ∙ mapping (entity name fields) (each_in_trees group_in_tree to 3 gs) groups (l.same to 3)
+    few_enough whats.Groups to 8 (count gs) (read_and_then (λ u. read_and_then (λ v. read_map (entity u nested v) (each_in_trees group_in_tree to (j + 1) gs)) (fields_in_tree (child to j) fs)) (name_in_tree (child to 1) x)) (omega (arith, size, few))
+    ∙ step (λ u. read_and_then (λ v. read_map (entity u nested v) (each_in_trees group_in_tree to (j + 1) gs)) (fields_in_tree (child to j) fs)) (name_in_tree (child to 1) x) name (name_again (child to 1) name h)
+    ∙ step (λ v. read_map (entity name nested v) (each_in_trees group_in_tree to (j + 1) gs)) (fields_in_tree (child to j) fs) fields (k (child to j))
+    ∙ mapping (entity name nested fields) (each_in_trees group_in_tree to (j + 1) gs) groups (l.same to (j + 1))
+
+behind-again : (at : List ℕ) (nested : Bool) (k : ℕ) (x : PlainTree) (ts : PlainTrees) → IfGot (entity_behind at nested k x ts) AreParts
+behind-again at nested k x (PlainTrees.more fs gs) =
+    within AreParts whats.Groups at 8 (count gs) (read_and_then (λ name. read_and_then (λ fields. read_map (entity name nested fields) (each_in_trees group_in_tree at (k + 1) gs)) (fields_in_tree (child at k) fs)) (name_in_tree (child at 1) x)) (λ few.
+    chained IsName AreParts (λ name. read_and_then (λ fields. read_map (entity name nested fields) (each_in_trees group_in_tree at (k + 1) gs)) (fields_in_tree (child at k) fs)) (name_in_tree (child at 1) x) (name-written (child at 1) x) (λ name h.
+    chained AreFields AreParts (λ fields. read_map (entity name nested fields) (each_in_trees group_in_tree at (k + 1) gs)) (fields_in_tree (child at k) fs) (fields-again (child at k) fs) (λ fields l.
+    mapped (AreRead group_in_tree trees_of_groups (count gs)) AreParts (entity name nested fields) (each_in_trees group_in_tree at (k + 1) gs) (groups-again at (k + 1) gs) (λ groups m.
+    parts_again name nested fields groups (count gs) few h l m))))
+behind-again at nested k x PlainTrees.none = tt
+
+abbrev IsEntity : Entity → Type 0
+IsEntity m = (to : List ℕ) → entity_in_tree to (tree_of_entity m) ≡ got m
+
+entity_again : (name : List ℕ) (nested : Bool) (fields : List Field) (groups : List FieldGroup) → AreParts (entity name nested fields groups) → IsEntity (entity name nested fields groups)
+entity_again name true fields groups h to = h to 3
+entity_again name false fields groups h to = h to 2
 
 entity_parts-again : (at : List ℕ) (ts : PlainTrees) → IfGot (entity_in_trees at ts) IsEntity
-entity_parts-again at (PlainTrees.more x (PlainTrees.more fs gs)) =
-    within IsEntity whats.Groups at 8 (count gs) (read_and_then (λ name. read_and_then (λ fields. read_map (entity name fields) (each_in_trees group_in_tree at 3 gs)) (fields_in_tree (child at 2) fs)) (name_in_tree (child at 1) x)) (λ few.
-    chained IsName IsEntity (λ name. read_and_then (λ fields. read_map (entity name fields) (each_in_trees group_in_tree at 3 gs)) (fields_in_tree (child at 2) fs)) (name_in_tree (child at 1) x) (name-written (child at 1) x) (λ name h.
-    chained AreFields IsEntity (λ fields. read_map (entity name fields) (each_in_trees group_in_tree at 3 gs)) (fields_in_tree (child at 2) fs) (fields-again (child at 2) fs) (λ fields k.
-    mapped (AreRead group_in_tree trees_of_groups (count gs)) IsEntity (entity name fields) (each_in_trees group_in_tree at 3 gs) (groups-again at gs) (λ groups l. entity_again name fields groups (count gs) few h k l))))
+entity_parts-again at (PlainTrees.more x (PlainTrees.more n ts)) =
+    either IsEntity (is_word (codes "nested") n) (entity_behind at true 3 x ts) (entity_behind at false 2 x (PlainTrees.more n ts))
+    (weaker AreParts IsEntity (entity_behind at true 3 x ts) (behind-again at true 3 x ts) (λ m h. entity_again m.name m.nested m.fields m.groups h))
+    (weaker AreParts IsEntity (entity_behind at false 2 x (PlainTrees.more n ts)) (behind-again at false 2 x (PlainTrees.more n ts)) (λ m h. entity_again m.name m.nested m.fields m.groups h))
 entity_parts-again at PlainTrees.none = tt
 entity_parts-again at (PlainTrees.more x PlainTrees.none) = tt
 

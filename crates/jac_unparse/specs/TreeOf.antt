@@ -131,17 +131,31 @@ abbrev pub trees_of_fields : List Field → PlainTrees
 trees_of_fields [] = PlainTrees.none
 trees_of_fields (f ∷ fs) = PlainTrees.more (pair f.name (tree_of_kind f.kind)) (trees_of_fields fs)
 
--- `(group (guards (NAME expression) ..) (policy expression))`
+-- `hides` where the whole record is hidden, else `(guards (NAME expression) ..)`
+abbrev pub tree_of_guarding : Bool → List Assigned → PlainTree
+tree_of_guarding true guards = PlainTree.atom (codes "hides")
+tree_of_guarding false guards = form (codes "guards") (trees_of_assigned guards)
+
+-- `(group hides (policy expression))` or `(group (guards (NAME expression) ..) (policy expression))`
 abbrev pub tree_of_group : FieldGroup → PlainTree
-tree_of_group g = form (codes "group") (two (form (codes "guards") (trees_of_assigned g.guards)) (form (codes "policy") (one (tree_of_expression g.policy))))
+tree_of_group g = form (codes "group") (two (tree_of_guarding g.hides g.guards) (form (codes "policy") (one (tree_of_expression g.policy))))
 
 abbrev pub trees_of_groups : List FieldGroup → PlainTrees
 trees_of_groups [] = PlainTrees.none
 trees_of_groups (g ∷ gs) = PlainTrees.more (tree_of_group g) (trees_of_groups gs)
 
--- `(model NAME (fields field ..) group ..)`
+-- `nested`, where the model is, before other trees
+abbrev pub nested_before : Bool → PlainTrees → PlainTrees
+nested_before true ts = PlainTrees.more (PlainTree.atom (codes "nested")) ts
+nested_before false ts = ts
+
+-- `(fields field ..) group ..`
+abbrev pub trees_of_parts : Entity → PlainTrees
+trees_of_parts m = PlainTrees.more (form (codes "fields") (trees_of_fields m.fields)) (trees_of_groups m.groups)
+
+-- `(model NAME (fields field ..) group ..)` or `(model NAME nested (fields field ..) group ..)`
 abbrev pub tree_of_entity : Entity → PlainTree
-tree_of_entity m = form (codes "model") (PlainTrees.more (PlainTree.atom m.name) (PlainTrees.more (form (codes "fields") (trees_of_fields m.fields)) (trees_of_groups m.groups)))
+tree_of_entity m = form (codes "model") (PlainTrees.more (PlainTree.atom m.name) (nested_before m.nested (trees_of_parts m)))
 
 abbrev pub method_word : Verb → List ℕ
 method_word verbs.Get = codes "get"

@@ -1,17 +1,17 @@
 ghost use Rattle.std.specs.Prelude.{◌≡◌, [], IfOk, codes};
 ghost use Rattle.std.specs.Option.{option_copied};
-ghost use Rattle.jac_lang.specs.Mirror.{application_of, entities_of, entity_of, field_group_of, groups_of, page_of, pages_of};
+ghost use Rattle.jac_lang.specs.Mirror.{application_of, assigned_of, entities_of, entity_of, field_group_of, groups_of, page_of, pages_of};
 ghost use Rattle.jac_lang.specs.Syntax.{Application};
 ghost use Rattle.jac_tree.specs.Mirror.{plain, plain_all};
 ghost use Rattle.jac_tree.specs.Plain.{PlainTree};
 ghost use Rattle.jac_forms.specs.Applications.{application_in_tree};
 ghost use Rattle.jac_forms.specs.Reads.{got};
-ghost use Rattle.jac_unparse.specs.TreeOf.{IsReadable, form, method_word, one, tree_of_application, tree_of_entity, tree_of_group, tree_of_kind, tree_of_page, trees_of_fields, trees_of_groups, models_before, trees_of_pages, viewer_before};
+ghost use Rattle.jac_unparse.specs.TreeOf.{IsReadable, form, method_word, one, tree_of_application, tree_of_entity, tree_of_group, tree_of_kind, tree_of_page, trees_of_fields, trees_of_groups, models_before, nested_before, tree_of_guarding, trees_of_pages, trees_of_parts, viewer_before};
 
 use crate::expressions::expr_tree;
 use crate::shapes::{form, form_of_one, form_of_two, more, name_tree, pair, text_tree, word_tree};
 use crate::statements::{assigned_trees, stmt_trees};
-use jac_lang::{App, Field, Group, KindName, ModelDef, Verb, View};
+use jac_lang::{App, Field, Group, KindName, ModelDef, Publics, Verb, View};
 use jac_tree::{Tree, Trees};
 use jac_value::{Memory, Txt};
 use std::alloc::Global;
@@ -77,15 +77,33 @@ fn model_tree(alloc: Global, model: &ModelDef) -> Result<Tree, Memory>
     ensures { IfOk result (λ t. plain t ≡ tree_of_entity (entity_of model.now)) }
 {
     let name = name_tree(alloc, &model.name)?;
+    let parts = part_trees(alloc, model)?;
+    let rest = nested_before(alloc, model.nested, parts)?;
+    let rest = more(alloc, name, rest)?;
+    form(alloc, "model", rest)
+}
+
+fn part_trees(alloc: Global, model: &ModelDef) -> Result<Trees, Memory>
+    ensures { IfOk result (λ ts. plain_all ts ≡ trees_of_parts (entity_of model.now)) }
+{
     let fields = form(
         alloc,
         "fields",
         field_trees(alloc, model.fields.as_slice())?,
     )?;
     let groups = group_trees(alloc, model.groups.as_slice())?;
-    let rest = more(alloc, fields, groups)?;
-    let rest = more(alloc, name, rest)?;
-    form(alloc, "model", rest)
+    more(alloc, fields, groups)
+}
+
+fn nested_before(alloc: Global, nested: bool, rest: Trees) -> Result<Trees, Memory>
+    ensures { IfOk result (λ ts. plain_all ts ≡ nested_before nested (plain_all rest)) }
+{
+    if nested {
+        let word = word_tree(alloc, "nested")?;
+        more(alloc, word, rest)
+    } else {
+        Ok(rest)
+    }
 }
 
 fn field_trees(alloc: Global, fields: &[Field]) -> Result<Trees, Memory>
@@ -128,10 +146,21 @@ fn group_trees(alloc: Global, groups: &[Group]) -> Result<Trees, Memory>
 fn group_tree(alloc: Global, group: &Group) -> Result<Tree, Memory>
     ensures { IfOk result (λ t. plain t ≡ tree_of_group (field_group_of group.now)) }
 {
-    let guards = form(alloc, "guards", assigned_trees(alloc, &group.guards)?)?;
+    let guards = guarding_tree(alloc, group.hides, &group.guards)?;
     let policy = expr_tree(alloc, &group.policy)?;
     let policy = form_of_one(alloc, "policy", policy)?;
     form_of_two(alloc, "group", guards, policy)
+}
+
+fn guarding_tree(alloc: Global, hides: bool, guards: &Publics) -> Result<Tree, Memory>
+    ensures { IfOk result (λ t. plain t ≡ tree_of_guarding hides (assigned_of guards.now)) }
+{
+    if hides {
+        word_tree(alloc, "hides")
+    } else {
+        let guards = assigned_trees(alloc, guards)?;
+        form(alloc, "guards", guards)
+    }
 }
 
 fn view_trees(alloc: Global, views: &[View]) -> Result<Trees, Memory>
