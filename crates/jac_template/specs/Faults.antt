@@ -1,7 +1,8 @@
 -- The faults of a template.
-use Rattle.std.specs.Prelude.{ℕ, Bool, true, false}
+use Rattle.std.specs.Prelude.{◌≡◌, ℕ, Bool, true, false}
 use Rattle.jac_forms.specs.declared.fault.FormFault.{FormFault}
 use Rattle.jac_forms.specs.declared.fault.FormFault.TheVariants as forms
+use Rattle.jac_forms.specs.Reads.{Read, refused}
 use Rattle.jac_tree.specs.declared.fault.TreeFault.{TreeFault}
 use Rattle.jac_tree.specs.declared.fault.TreeFault.TheVariants as trees
 use Rattle.jac_template.specs.declared.fault.TemplateFault.{TemplateFault}
@@ -13,7 +14,7 @@ pub data Fault : Type 0 where
   stray : ℕ → Fault
   deep : ℕ → Fault
   tree : ℕ → TreeFault → Fault
-  form : ℕ → Fault
+  form : ℕ → FormFault → Fault
   memory : Fault
 
 abbrev pub tree_fault : ℕ → TreeFault → Fault
@@ -22,7 +23,13 @@ tree_fault place fault = Fault.tree place fault
 
 abbrev pub form_fault : ℕ → FormFault → Fault
 form_fault place forms.Memory = Fault.memory
-form_fault place fault = Fault.form place
+form_fault place fault = Fault.form place fault
+
+-- an expression or query has no form, and the fault at this place tells the first one of it
+pub record IsFormless {A : Type 0} (place : ℕ) (read : Read A) (fault : Fault) : Type 0 where
+  pub first : FormFault
+  pub is_first : read ≡ refused first
+  pub told : fault ≡ Fault.form place first
 
 abbrev pub fault_of : TemplateFault → Fault
 fault_of (faults.Unclosed place) = Fault.unclosed place

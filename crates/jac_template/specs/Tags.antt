@@ -1,14 +1,15 @@
 -- What the pieces of a template mean.
-use Rattle.std.specs.Prelude.{◌≡◌, ◌⊎◌, ℕ, if◌then◌else◌, Option, Some, None, List, codes}
-use Rattle.std.specs.Option.{option_map}
+use Rattle.std.specs.Prelude.{◌≡◌, ◌⊎◌, ℕ, if◌then◌else◌, Option, Some, None, List, [], codes}
 use Rattle.std.specs.Str.{bytes_eq}
 use Rattle.jac_lang.specs.Syntax.{Expression, Question}
 use Rattle.jac_tree.specs.Faults.{IsFaultOf}
 use Rattle.jac_tree.specs.Grammar.{Accepted}
 use Rattle.jac_tree.specs.Plain.{PlainTree, PlainTrees}
 use Rattle.jac_tree.specs.declared.fault.TreeFault.{TreeFault}
-use Rattle.jac_forms.specs.Expressions.{expression_of_tree, question_of_tree}
+use Rattle.jac_forms.specs.Expressions.{expression_in_tree, question_in_tree}
 use Rattle.jac_forms.specs.Names.{is_word, name_of_tree}
+use Rattle.jac_forms.specs.Reads.{Read, got, refused, read_map}
+use Rattle.jac_forms.specs.declared.fault.FormFault.{FormFault}
 use Rattle.jac_template.specs.Faults.{Fault}
 use Rattle.jac_template.specs.Pieces.{Piece}
 use Rattle.jac_template.specs.declared.pieces.Kind.{Kind}
@@ -24,32 +25,33 @@ pub data Mark : Type 0 where
   otherwise : Mark
   finish : Mark
 
--- what a tree is as the content of a tag: of no form that a tag has, an expression or query that has no form, or a mark
+-- what a tree is as the content of a tag: of no form that a tag has, an expression or query that has no form, with
+-- its first fault, or a mark
 pub data Form : Type 0 where
   stray : Form
-  formless : Form
+  formless : FormFault → Form
   mark : Mark → Form
 
-abbrev pub formed : Option Mark → Form
-formed None = Form.formless
-formed (Some m) = Form.mark m
+abbrev pub formed : Read Mark → Form
+formed (got m) = Form.mark m
+formed (refused f) = Form.formless f
 
 -- `{{ e }}` is `(esc e)`
 abbrev pub output_of_tree : PlainTree → Form
-output_of_tree t = formed (option_map Mark.escape (expression_of_tree t))
+output_of_tree t = formed (read_map Mark.escape (expression_in_tree [] t))
 
 -- `(put e)`, `(if e)`, `(for q)`
 abbrev pub single_of_tree : PlainTree → PlainTree → Form
 single_of_tree head t =
-    if is_word (codes "put") head then formed (option_map Mark.put (expression_of_tree t)) else
-    if is_word (codes "if") head then formed (option_map Mark.branch (expression_of_tree t)) else
-    if is_word (codes "for") head then formed (option_map Mark.each (question_of_tree 3 t)) else
+    if is_word (codes "put") head then formed (read_map Mark.put (expression_in_tree [] t)) else
+    if is_word (codes "if") head then formed (read_map Mark.branch (expression_in_tree [] t)) else
+    if is_word (codes "for") head then formed (read_map Mark.each (question_in_tree 3 [] t)) else
     Form.stray
 
 -- `(let NAME e)`
 abbrev pub named_bind : Option (List ℕ) → PlainTree → Form
 named_bind None t = Form.stray
-named_bind (Some x) t = formed (option_map (Mark.bind x) (expression_of_tree t))
+named_bind (Some x) t = formed (read_map (Mark.bind x) (expression_in_tree [] t))
 
 abbrev pub bind_of_trees : PlainTree → PlainTree → PlainTree → Form
 bind_of_trees head x t = if is_word (codes "let") head then named_bind (name_of_tree x) t else Form.stray
@@ -78,7 +80,7 @@ pub data Meaning : Type 0 where
 
 abbrev pub meaning_of_form : ℕ → Form → Meaning
 meaning_of_form place Form.stray = Meaning.fault (Fault.stray place)
-meaning_of_form place Form.formless = Meaning.fault (Fault.form place)
+meaning_of_form place (Form.formless f) = Meaning.fault (Fault.form place f)
 meaning_of_form place (Form.mark m) = Meaning.mark m
 
 -- the content of a tag is one tree, whose form is the meaning, or has a fault of its own

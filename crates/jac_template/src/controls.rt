@@ -1,8 +1,9 @@
-ghost use Rattle.std.specs.Prelude.{◌≡◌, Some, None, IfOk, IfErr, IsTrue};
-ghost use Rattle.jac_forms.specs.Expressions.{expression_of_tree, question_of_tree};
+ghost use Rattle.std.specs.Prelude.{◌≡◌, [], Some, None, IfOk, IfErr, IsTrue};
+ghost use Rattle.jac_forms.specs.Expressions.{expression_in_tree, question_in_tree};
 ghost use Rattle.jac_forms.specs.Names.{is_word, name_of_tree};
+ghost use Rattle.jac_forms.specs.Reads.{got};
 ghost use Rattle.jac_lang.specs.Mirror.{expression_of, question_of};
-ghost use Rattle.jac_template.specs.Faults.{Fault, fault_of, refuses};
+ghost use Rattle.jac_template.specs.Faults.{Fault, IsFormless, fault_of, refuses};
 ghost use Rattle.jac_template.specs.Marked.{mark_of};
 ghost use Rattle.jac_template.specs.Tags.{Form, Meaning, meaning_of_form, output_of_tree, control_of_tree, control_of_trees, single_of_tree, bind_of_trees, named_bind, word_of_tree};
 ghost use Rattle.jac_tree.specs.Mirror.{plain, plain_all};
@@ -141,8 +142,8 @@ fn read_name(alloc: Global, place: u64, tree: &Tree) -> Result<Txt, TemplateFaul
 }
 
 fn read_expr(alloc: Global, place: u64, tree: &Tree) -> Result<Expr, TemplateFault>
-    ensures value { IfOk result (λ e. expression_of_tree (plain tree.now) ≡ Some (expression_of e)) }
-    ensures none { IfErr result (λ f. IsTrue (refuses f) → (expression_of_tree (plain tree.now) ≡ None) × (fault_of f ≡ Fault.form place)) }
+    ensures value { IfOk result (λ e. expression_in_tree [] (plain tree.now) ≡ got (expression_of e)) }
+    ensures fault { IfErr result (λ f. IsTrue (refuses f) → IsFormless place (expression_in_tree [] (plain tree.now)) (fault_of f)) }
 {
     match expr_of(alloc, tree) {
         Ok(e) => Ok(e),
@@ -152,8 +153,8 @@ fn read_expr(alloc: Global, place: u64, tree: &Tree) -> Result<Expr, TemplateFau
 }
 
 fn read_query(alloc: Global, place: u64, tree: &Tree) -> Result<Query, TemplateFault>
-    ensures value { IfOk result (λ q. question_of_tree 3 (plain tree.now) ≡ Some (question_of q)) }
-    ensures none { IfErr result (λ f. IsTrue (refuses f) → (question_of_tree 3 (plain tree.now) ≡ None) × (fault_of f ≡ Fault.form place)) }
+    ensures value { IfOk result (λ q. question_in_tree 3 [] (plain tree.now) ≡ got (question_of q)) }
+    ensures fault { IfErr result (λ f. IsTrue (refuses f) → IsFormless place (question_in_tree 3 [] (plain tree.now)) (fault_of f)) }
 {
     match query_of(alloc, tree) {
         Ok(q) => Ok(q),
