@@ -1,73 +1,50 @@
--- The names of a path, cut at its braces.
-use Rattle.std.proofs.Common.{◌≡◌, ◌∙◌, refl, sym, ap, arith, Option, Some, None, ℕ, ◌+◌, ◌<◌, ◌==◌, Bool, true, false, not, cond, if◌then◌else◌, List, [], ◌∷◌, ◌++◌, length, take, drop, append_assoc, append-nil, suc}
-use Rattle.std.specs.Borrow.{Bor}
-use Rattle.std.specs.List.{position_or_len, before_first, after_first}
-use Rattle.std.proofs.lemmas.Str.Pattern.{IsSplitOnceResult, split_once_first}
-use Rattle.jac_check.specs.Scope.{names_outside, names_within}
-use Rattle.jac_check.specs.Found.{names_next}
+-- The names in the segments of a path.
+use Rattle.std.proofs.Common.{◌≡◌, refl, subst, arith, Option, Some, None, ℕ, zero, suc, ◌<◌, nat_le, Bool, true, false, not, ◌&&◌, if◌then◌else◌, List, [], ◌∷◌, length}
+use Rattle.std.specs.List.{list_all, slice_index}
+use Rattle.std.specs.Char.{is_ascii_alphabetic}
+use Rattle.std.specs.Str.{IsUtf8}
+use Rattle.std.proofs.lemmas.Bool.{and_parts}
+use Rattle.std.proofs.lemmas.Bool.Decides.{nat_tests}
+use Rattle.std.proofs.lemmas.Str.{IsUtf8-from_ascii}
+use Rattle.jac_lang.specs.declared.field_kinds.Field.{Field}
+use Rattle.jac_value.specs.Names.{is_atom_byte, is_name, is_reserved}
+use Rattle.jac_value.specs.Paths.{inner, is_named_segment, segment_name, names_in}
+use Rattle.jac_check.specs.Scope.{has_field}
+use Rattle.jac_check.specs.Verdict.{Reason, ◌before◌, fault_unless}
+use Rattle.jac_check.specs.Applications.{path_fault}
 
-abbrev is_open : ℕ → Bool
-is_open b = b == 123
+small : (b : ℕ) → is_atom_byte b ≡ true → b < 128
+small b h = grind (arith, nat_tests)
 
-abbrev is_close : ℕ → Bool
-is_close b = b == 125
+ascii_at : (bytes : List ℕ) → list_all is_atom_byte bytes ≡ true → (i : ℕ) → slice_index bytes i < 128
+ascii_at [] h i = omega arith
+ascii_at (b ∷ bs) h zero = small b (and_parts _ _ h).0
+ascii_at (b ∷ bs) h (suc i) = ascii_at bs (and_parts _ _ h).1 i
 
-none-step : (b : Bool) (n l m : ℕ) (found left : List (List ℕ)) → cond (not b) (1 + n) 0 ≡ l → l ≡ m + 1 → (n ≡ m → left ≡ []) → (if b then found else left) ≡ []
-none-step true n l m found left h k rest = absurd (omega (arith, h, k))
-none-step false n l m found left h k rest = rest (omega (arith, h, k))
+name_utf8 : (name : List ℕ) → is_name name ≡ true → IsUtf8 name
+name_utf8 name h =
+    let front = nat_le (length name) 64 && is_ascii_alphabetic (slice_index name 0) && not (is_reserved name) in
+    IsUtf8-from_ascii name (ascii_at name (and_parts front (list_all is_atom_byte name) h).1)
 
-pub open-none : (s : List ℕ) → position_or_len is_open s ≡ length s → names_outside s ≡ []
-open-none [] h = refl
-open-none (c ∷ cs) h =
-    none-step (is_open c) (position_or_len is_open cs) (length (c ∷ cs)) (length cs) (names_within [] cs) (names_outside cs) h (omega arith) (open-none cs)
+chosen : (b : Bool) (inside name : List ℕ) → (b ≡ true → IsUtf8 inside) → Some name ≡ (if b then Some inside else None) → IsUtf8 name
+chosen true inside name text h = let same : inside ≡ name = cc in subst IsUtf8 same (text refl)
+chosen false inside name text h = cc
 
-pub close-none : (p s : List ℕ) → position_or_len is_close s ≡ length s → names_within p s ≡ []
-close-none p [] h = refl
-close-none p (c ∷ cs) h =
-    none-step (is_close c) (position_or_len is_close cs) (length (c ∷ cs)) (length cs) (p ∷ names_outside cs) (names_within (p ++ c ∷ []) cs) h (omega arith)
-    (close-none (p ++ c ∷ []) cs)
+-- a name in a segment is a text
+pub text_of_name : (segment name : List ℕ) → Some name ≡ segment_name segment → IsUtf8 name
+text_of_name segment name h = chosen (is_named_segment segment) (inner segment) name (λ e. name_utf8 (inner segment) (and_parts _ _ e).1) h
 
-drop-more : (n c : ℕ) (cs : List ℕ) → drop (1 + n + 1) (c ∷ cs) ≡ drop (n + 1) cs
-drop-more n c cs = let e : 1 + n + 1 ≡ suc (n + 1) = omega arith in rw e refl
+alone_before : (known : Bool) (name : List ℕ) (rest : Option Reason)
+    → (fault_unless known (Reason.unknown name) before rest) ≡ ((fault_unless known (Reason.unknown name) before None) before rest)
+alone_before true name rest = refl
+alone_before false name rest = refl
 
-take-more : (n c : ℕ) (cs : List ℕ) → take (1 + n) (c ∷ cs) ≡ c ∷ take n cs
-take-more n c cs = let e : 1 + n ≡ suc n = omega arith in rw e refl
+first_by : (b : Bool) (params : List Field) (name : List ℕ) (names : List (List ℕ))
+    → path_fault params (if b then name ∷ names else names) ≡ (path_fault params (if b then name ∷ [] else []) before path_fault params names)
+first_by true params name names = alone_before (has_field name params) name (path_fault params names)
+first_by false params name names = refl
 
-open-step : (b : Bool) (n l c : ℕ) (cs : List ℕ) → cond (not b) (1 + n) 0 < l → l ≡ length cs + 1
-    → (n < length cs → names_outside cs ≡ names_within [] (drop (n + 1) cs))
-    → (if b then names_within [] cs else names_outside cs) ≡ names_within [] (drop (cond (not b) (1 + n) 0 + 1) (c ∷ cs))
-open-step true n l c cs h k rest = refl
-open-step false n l c cs h k rest = rest (omega (arith, h, k)) ∙ ap (names_within []) (sym (drop-more n c cs))
-
-pub open-some : (s : List ℕ) → position_or_len is_open s < length s → names_outside s ≡ names_within [] (after_first is_open s)
-open-some [] h = absurd (omega (arith, h))
-open-some (c ∷ cs) h = open-step (is_open c) (position_or_len is_open cs) (length (c ∷ cs)) c cs h (omega arith) (open-some cs)
-
-close-step : (b : Bool) (n l c : ℕ) (p cs : List ℕ) → cond (not b) (1 + n) 0 < l → l ≡ length cs + 1
-    → (n < length cs → names_within (p ++ c ∷ []) cs ≡ ((p ++ c ∷ []) ++ take n cs) ∷ names_outside (drop (n + 1) cs))
-    → (if b then p ∷ names_outside cs else names_within (p ++ c ∷ []) cs)
-    ≡ (p ++ take (cond (not b) (1 + n) 0) (c ∷ cs)) ∷ names_outside (drop (cond (not b) (1 + n) 0 + 1) (c ∷ cs))
-close-step true n l c p cs h k rest = ap (λ (q : List ℕ). q ∷ names_outside cs) (sym (append-nil p))
-close-step false n l c p cs h k rest =
-    rest (omega (arith, h, k))
-    ∙ ap (λ (q : List ℕ). q ∷ names_outside (drop (n + 1) cs)) (append_assoc p (c ∷ []) (take n cs) ∙ ap (λ (q : List ℕ). p ++ q) (sym (take-more n c cs)))
-    ∙ ap (λ (q : List ℕ). (p ++ take (1 + n) (c ∷ cs)) ∷ names_outside q) (sym (drop-more n c cs))
-
-pub close-some : (p s : List ℕ) → position_or_len is_close s < length s → names_within p s ≡ (p ++ before_first is_close s) ∷ names_outside (after_first is_close s)
-close-some p [] h = absurd (omega (arith, h))
-close-some p (c ∷ cs) h = close-step (is_close c) (position_or_len is_close cs) (length (c ∷ cs)) c p cs h (omega arith) (close-some (p ++ c ∷ []) cs)
-
--- what `split_once` at the two braces says of the names
-pub no_name : (path : List ℕ) → IsSplitOnceResult 123 path None → names_outside path ≡ []
-no_name path h = open-none path (split_once_first 123 path None h (omega arith))
-
-pub name_begins : (path : List ℕ) (x : Bor (List ℕ) × Bor (List ℕ)) → IsSplitOnceResult 123 path (Some x) → names_outside path ≡ names_within [] x.1.now
-name_begins path x h =
-    let found = split_once_first 123 path (Some x) h (omega arith) in
-    open-some path found.0 ∙ ap (names_within []) (sym found.2)
-
-pub name_ends : (s : List ℕ) (r : Option (Bor (List ℕ) × Bor (List ℕ))) → IsSplitOnceResult 125 s r → names_within [] s ≡ names_next r
-name_ends s None h = close-none [] s (split_once_first 125 s None h (omega arith))
-name_ends s (Some x) h =
-    let found = split_once_first 125 s (Some x) h (omega arith) in
-    close-some [] s found.0 ∙ (λ i. sym found.1 i ∷ names_outside (sym found.2 i))
+-- the fault in the first segment, and then that in the rest
+pub segment_first : (params : List Field) (segment : List ℕ) (segments : List (List ℕ))
+    → path_fault params (names_in (segment ∷ segments)) ≡ (path_fault params (names_in (segment ∷ [])) before path_fault params (names_in segments))
+segment_first params segment segments = first_by (is_named_segment segment) params (inner segment) (names_in segments)

@@ -1,24 +1,27 @@
 -- An application is well exactly where it has no fault.
-use Rattle.std.proofs.Common.{◌≡◌, ◌∙◌, refl, ap, ℕ, Bool, true, false, not, ◌&&◌, ◌||◌, List, [], ◌∷◌, ◌++◌, Option, Some, None, is_some, is_none, unwrap_or, codes, IsTrue}
+use Rattle.std.proofs.Common.{◌≡◌, ◌∙◌, refl, ap, ℕ, ◌+◌, Bool, true, false, not, ◌&&◌, ◌||◌, List, [], ◌∷◌, ◌++◌, Option, Some, None, is_some, is_none, unwrap_or, codes, IsTrue}
 use Rattle.jac_value.specs.declared.value.Kind.{Kind}
+use Rattle.jac_value.specs.Paths.{segments, names_in}
 use Rattle.jac_lang.specs.declared.field_kinds.Field.{Field}
 use Rattle.jac_lang.specs.declared.field_kinds.KindName.{KindName}
 use Rattle.jac_lang.specs.declared.field_kinds.KindName.TheVariants as names
 use Rattle.jac_lang.specs.declared.queries.Binder.{Binder}
 use Rattle.jac_lang.specs.declared.queries.Order.{Order}
+use Rattle.jac_lang.specs.Lookup.{is_nested_named}
+use Rattle.jac_lang.specs.Loops.{may_create}
 use Rattle.jac_lang.specs.Syntax.{Entity, Expression, Assigned, Statement, Statements, FieldGroup, Page, Application}
 use Rattle.jac_check.specs.declared.fault.CheckFault.{CheckFault}
 use Rattle.jac_check.specs.declared.fault.Place.{Place}
 use Rattle.jac_check.specs.declared.names.Meaning.{Meaning}
-use Rattle.jac_check.specs.Scope.{Scope, meaning_of, within, reference_to, fields_of, field_kind, is_one_of, Standing, scope_at, bind, loop_within, has_field, has_model, is_guarded, policy_scope, public_scope, names_outside, page_standing}
+use Rattle.jac_check.specs.Scope.{Scope, meaning_of, within, reference_to, fields_of, field_kind, is_one_of, Standing, scope_at, bind, loop_within, has_field, has_model, is_guarded, is_hiding, policy_scope, public_scope, page_standing}
 use Rattle.jac_check.specs.Kinds.{has, kind_of, is_field, is_query}
 use Rattle.jac_check.specs.Well.{kind_here, are_named, are_kinds, is_assigned, is_statement, is_body, is_kind, are_fields, are_guards, are_groups, are_models, are_params, are_pages, is_viewer, is_well}
 use Rattle.jac_check.specs.Verdict.{Reason, Verdict, ◌before◌, fault_if, fault_unless, fault_in, not_a, of_kind}
 use Rattle.jac_check.specs.NameFaults.{unknown_model, unknown_field, binder_fault, order_fault}
 use Rattle.jac_check.specs.Expressions.{verdict, kind_or, asked_fault}
-use Rattle.jac_check.specs.Statements.{verdict_at, cells_names, cells_inside, cells_kinds, assigned_fault, query_fault, statement_fault, body_fault}
+use Rattle.jac_check.specs.Statements.{verdict_at, cells_names, cells_inside, cells_kinds, assigned_fault, query_fault, loop_reason, loop_fault, statement_fault, body_fault}
 use Rattle.jac_check.specs.Causes.{fault_at}
-use Rattle.jac_check.specs.Applications.{kind_fault, field_fault, fields_fault, guard_fault, guards_fault, group_fault, groups_fault, model_fault, models_fault, path_fault, page_fault, number_after, pages_fault, viewers_fault, first_fault}
+use Rattle.jac_check.specs.Applications.{kind_fault, field_fault, fields_fault, guard_fault, guards_fault, group_fault, groups_fault, model_fault, models_fault, path_fault, page_fault, pages_fault, viewers_fault, first_fault}
 use Rattle.jac_check.proofs.WellKinds.{kind_judged, kinds-law, none_before, and_false, model-known, field-known, has-kind, query-well, query-step, parts-step}
 
 both : (p q : Bool) (o r : Option Reason) → p ≡ is_none o → q ≡ is_none r → (p && q) ≡ is_none (o before r)
@@ -71,16 +74,21 @@ kinds-well s fs (g ∷ gs) =
     ∙ ap (λ (b : Bool). b && (is_none (not_a k v) && is_none (cells_kinds s fs gs))) (none_before (fault_in v) (cells_inside s gs))
     ∙ ap (λ (b : Bool). is_none (fault_in v before cells_inside s gs) && b) (none_before (not_a k v) (cells_kinds s fs gs)))
 
-create-step : (g l : Bool) (c d : Reason) (U N I K B : Option Reason)
-    → (not g && (not l && ((is_none U && (is_none N && (is_none I && is_none K))) && is_none B)))
-    ≡ is_none ((fault_if g c before fault_if l d before U before N before I before K) before B)
-create-step true l c d U N I K B = refl
-create-step false true c d U N I K B = refl
-create-step false false c d (Some u) N I K B = refl
-create-step false false c d None (Some n) I K B = refl
-create-step false false c d None None (Some i) K B = refl
-create-step false false c d None None None (Some k) B = refl
-create-step false false c d None None None None B = refl
+create-step : (g may : Bool) (c : Reason) (U N L I K B : Option Reason) → may ≡ is_none L
+    → (not g && (may && ((is_none U && (is_none N && (is_none I && is_none K))) && is_none B)))
+    ≡ is_none ((fault_if g c before U before N before L before I before K) before B)
+create-step true may c U N L I K B e = refl
+create-step false may c (Some u) N L I K B e = and_false may
+create-step false may c None (Some n) L I K B e = and_false may
+create-step false may c None None (Some l) I K B e = rw e refl
+create-step false may c None None None (Some i) K B e = and_false may
+create-step false may c None None None None (Some k) B e = and_false may
+create-step false may c None None None None None (Some b) e = and_false may
+create-step false may c None None None None None None e = rw e refl
+
+loop-well : (may : Bool) (cause : Reason) → may ≡ is_none (fault_unless may cause)
+loop-well true cause = refl
+loop-well false cause = refl
 
 update-step : (g : Bool) (c : Reason) (U N F I A K : Option Reason)
     → (not g && ((is_none U && (is_none N && (is_none I && is_none K))) && (is_none F && is_none A)))
@@ -128,8 +136,9 @@ mutual
   statement-law st (Statement.create x m site cells body) =
       let inner = bind st x (reference_to st.models m) false in
       rw (model-known st.models m, named-well (fields_of st.models m) [] cells, kinds-well (scope_at st) (fields_of st.models m) cells, body-law inner body)
-      (create-step st.is_get st.in_loop _ _ (unknown_model st.models m) (cells_names (fields_of st.models m) [] cells)
-      (cells_inside (scope_at st) cells) (cells_kinds (scope_at st) (fields_of st.models m) cells) (body_fault inner body))
+      (create-step st.is_get (may_create (is_nested_named st.models m) st.loops) _ (unknown_model st.models m) (cells_names (fields_of st.models m) [] cells) (loop_fault st m)
+      (cells_inside (scope_at st) cells) (cells_kinds (scope_at st) (fields_of st.models m) cells) (body_fault inner body)
+      (loop-well (may_create (is_nested_named st.models m) st.loops) (loop_reason (is_nested_named st.models m) m)))
   statement-law st (Statement.update m e cells) =
       let v = verdict_at st e in
       let k = reference_to st.models m in
@@ -177,10 +186,11 @@ guards-law app m earlier seen (g ∷ gs) =
 groups-law : (app : Application) (m : Entity) (earlier gs : List FieldGroup) → are_groups app m earlier gs ≡ is_none (groups_fault app m earlier gs)
 groups-law app m earlier [] = refl
 groups-law app m earlier (g ∷ gs) =
-    both (are_guards app m earlier [] g.guards && has Kind.Bool (kind_of (policy_scope app m) g.policy)) (are_groups app m (earlier ++ g ∷ []) gs)
+    both (not (g.hides && is_hiding earlier) && (are_guards app m earlier [] g.guards && has Kind.Bool (kind_of (policy_scope app m) g.policy))) (are_groups app m (earlier ++ g ∷ []) gs)
     (group_fault app m earlier g) (groups_fault app m (earlier ++ g ∷ []) gs)
-    (both (are_guards app m earlier [] g.guards) (has Kind.Bool (kind_of (policy_scope app m) g.policy)) (guards_fault app m earlier [] g.guards)
+    (ap (λ (b : Bool). not (g.hides && is_hiding earlier) && b) (both (are_guards app m earlier [] g.guards) (has Kind.Bool (kind_of (policy_scope app m) g.policy)) (guards_fault app m earlier [] g.guards)
     (of_kind Kind.Bool (verdict (policy_scope app m) g.policy)) (guards-law app m earlier [] g.guards) (expression-kind (policy_scope app m) Kind.Bool g.policy))
+    ∙ if-step (g.hides && is_hiding earlier) (Reason.twice (codes "hides")) (guards_fault app m earlier [] g.guards before of_kind Kind.Bool (verdict (policy_scope app m) g.policy)))
     (groups-law app m (earlier ++ g ∷ []) gs)
 
 placed-none : (ms : List Entity) (place : Place) (o : Option Reason) → is_none o ≡ is_none (fault_at ms place o)
@@ -210,13 +220,13 @@ pages-law : (app : Application) (n : ℕ) (vs : List Page) → are_pages app vs 
 pages-law app n [] = refl
 pages-law app n (v ∷ vs) =
     let at = page_standing app v in
-    at-step app.models (are_fields app.models [] v.params && (are_params v.params (names_outside v.path) && is_body at v.body)) (are_pages app vs)
-    (Place.View n) (page_fault app v) (pages_fault app (number_after n) vs)
-    (both (are_fields app.models [] v.params) (are_params v.params (names_outside v.path) && is_body at v.body)
-    (fields_fault app.models [] v.params) (path_fault v.params (names_outside v.path) before body_fault at v.body) (fields-law app.models [] v.params)
-    (both (are_params v.params (names_outside v.path)) (is_body at v.body) (path_fault v.params (names_outside v.path)) (body_fault at v.body)
-    (params-law v.params (names_outside v.path)) (body-law at v.body)))
-    (pages-law app (number_after n) vs)
+    at-step app.models (are_fields app.models [] v.params && (are_params v.params (names_in (segments v.path)) && is_body at v.body)) (are_pages app vs)
+    (Place.View n) (page_fault app v) (pages_fault app (n + 1) vs)
+    (both (are_fields app.models [] v.params) (are_params v.params (names_in (segments v.path)) && is_body at v.body)
+    (fields_fault app.models [] v.params) (path_fault v.params (names_in (segments v.path)) before body_fault at v.body) (fields-law app.models [] v.params)
+    (both (are_params v.params (names_in (segments v.path))) (is_body at v.body) (path_fault v.params (names_in (segments v.path))) (body_fault at v.body)
+    (params-law v.params (names_in (segments v.path))) (body-law at v.body)))
+    (pages-law app (n + 1) vs)
 
 viewer-law : (ms : List Entity) (o : Option (List ℕ)) → is_viewer ms o ≡ is_none (viewers_fault ms o)
 viewer-law ms None = refl

@@ -1,6 +1,7 @@
 -- The first fault of an application, with its place.
-use Rattle.std.specs.Prelude.{ℕ, ◌+◌, min, Bool, true, false, ◌||◌, List, [], ◌∷◌, ◌++◌, Option, Some, None}
+use Rattle.std.specs.Prelude.{ℕ, ◌+◌, Bool, true, false, ◌&&◌, ◌||◌, List, [], ◌∷◌, ◌++◌, Option, Some, None, codes}
 use Rattle.jac_value.specs.declared.value.Kind.{Kind}
+use Rattle.jac_value.specs.Paths.{segments, names_in}
 use Rattle.jac_lang.specs.declared.field_kinds.Field.{Field}
 use Rattle.jac_lang.specs.declared.field_kinds.KindName.{KindName}
 use Rattle.jac_lang.specs.declared.field_kinds.KindName.TheVariants as names
@@ -9,7 +10,7 @@ use Rattle.jac_check.specs.declared.fault.CheckCause.{CheckCause}
 use Rattle.jac_check.specs.declared.fault.CheckCause.TheVariants as causes
 use Rattle.jac_check.specs.declared.fault.CheckFault.{CheckFault}
 use Rattle.jac_check.specs.declared.fault.Place.TheVariants as places
-use Rattle.jac_check.specs.Scope.{policy_scope, public_scope, page_standing, field_kind, has_field, has_model, is_guarded, is_one_of, names_outside}
+use Rattle.jac_check.specs.Scope.{policy_scope, public_scope, page_standing, field_kind, has_field, has_model, is_guarded, is_hiding, is_one_of}
 use Rattle.jac_check.specs.Verdict.{Reason, ◌before◌, fault_if, fault_unless, of_kind}
 use Rattle.jac_check.specs.NameFaults.{unknown_model, unknown_field}
 use Rattle.jac_check.specs.Causes.{fault_at}
@@ -40,9 +41,10 @@ abbrev pub guards_fault : Application → Entity → List FieldGroup → List (L
 guards_fault app m earlier seen [] = None
 guards_fault app m earlier seen (g ∷ gs) = guard_fault app m earlier seen g before guards_fault app m earlier (g.field ∷ seen) gs
 
--- a group: its guards in order, and then the policy
+-- a group: whether one before it hides the record as well, its guards in order, and then the policy
 abbrev pub group_fault : Application → Entity → List FieldGroup → FieldGroup → Option Reason
-group_fault app m earlier g = guards_fault app m earlier [] g.guards before of_kind Kind.Bool (verdict (policy_scope app m) g.policy)
+group_fault app m earlier g =
+    fault_if (g.hides && is_hiding earlier) (Reason.twice (codes "hides")) before guards_fault app m earlier [] g.guards before of_kind Kind.Bool (verdict (policy_scope app m) g.policy)
 
 abbrev pub groups_fault : Application → Entity → List FieldGroup → List FieldGroup → Option Reason
 groups_fault app m earlier [] = None
@@ -64,16 +66,12 @@ path_fault params (x ∷ xs) = fault_unless (has_field x params) (Reason.unknown
 
 -- a view: its parameters, the names of its path, its statements
 abbrev pub page_fault : Application → Page → Option Reason
-page_fault app v = fields_fault app.models [] v.params before path_fault v.params (names_outside v.path) before body_fault (page_standing app v) v.body
-
--- a number of 32 bits stays at its end
-abbrev pub number_after : ℕ → ℕ
-number_after n = min (n + 1) 0xFFFF_FFFF
+page_fault app v = fields_fault app.models [] v.params before path_fault v.params (names_in (segments v.path)) before body_fault (page_standing app v) v.body
 
 -- views from this number on
 abbrev pub pages_fault : Application → ℕ → List Page → Option CheckFault
 pages_fault app n [] = None
-pages_fault app n (v ∷ vs) = fault_at app.models (places.View n) (page_fault app v) before pages_fault app (number_after n) vs
+pages_fault app n (v ∷ vs) = fault_at app.models (places.View n) (page_fault app v) before pages_fault app (n + 1) vs
 
 abbrev pub viewers_fault : List Entity → Option (List ℕ) → Option Reason
 viewers_fault ms None = None

@@ -37,6 +37,7 @@ cause_of ms (Reason.twice x) = causes.TwiceNamed x
 cause_of ms (Reason.wrong_kind want have) = causes.WrongKind (wanted_of ms want) (kind_name_of ms have)
 cause_of ms Reason.write_in_get = causes.WriteInGet
 cause_of ms Reason.create_in_loop = causes.CreateInLoop
+cause_of ms (Reason.loop_wanted x) = causes.LoopWanted x
 cause_of ms Reason.viewer_in_public = causes.ViewerInPublic
 cause_of ms (Reason.not_here x) = causes.NotHere x
 

@@ -1,6 +1,5 @@
 -- A fault that is found, as the program holds it, and as it is answered.
-use Rattle.std.specs.Prelude.{ℕ, List, [], ◌∷◌, Option, Some, None, Result, Ok, Err}
-use Rattle.std.specs.Borrow.{Bor}
+use Rattle.std.specs.Prelude.{List, Option, Some, None, Result, Ok, Err}
 use Rattle.jac_lang.specs.Syntax.{Entity}
 use Rattle.jac_check.specs.declared.fault.CheckFault.{CheckFault}
 use Rattle.jac_check.specs.declared.fault.Place.{Place}
@@ -8,7 +7,6 @@ use Rattle.jac_check.specs.declared.fault.Place.TheVariants as places
 use Rattle.jac_check.specs.declared.found.Found.{Found}
 use Rattle.jac_check.specs.declared.found.Spot.{Spot}
 use Rattle.jac_check.specs.declared.found.Spot.TheVariants as spots
-use Rattle.jac_check.specs.Scope.{names_outside}
 use Rattle.jac_check.specs.Causes.{located}
 use Rattle.jac_check.specs.Mirror.{reason_of}
 
@@ -24,8 +22,3 @@ found_of ms f = located ms (place_of f.place) (reason_of f.cause)
 abbrev pub first_of : {A : Type 0} → List Entity → Result A Found → Option CheckFault
 first_of ms (Ok a) = None
 first_of ms (Err f) = Some (found_of ms f)
-
--- the next name of a path and those behind it
-abbrev pub names_next : Option (Bor (List ℕ) × Bor (List ℕ)) → List (List ℕ)
-names_next None = []
-names_next (Some p) = p.0.now ∷ names_outside p.1.now

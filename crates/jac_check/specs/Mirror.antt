@@ -2,9 +2,12 @@
 use Rattle.std.specs.Prelude.{ℕ, List, [], ◌∷◌, ◌++◌, Option, Some, None, Result, Ok, Err}
 use Rattle.jac_value.specs.declared.value.Kind.{Kind}
 use Rattle.jac_lang.specs.Mirror.{application_of, binders_of}
+use Rattle.jac_lang.specs.Loops.{Loops}
 use Rattle.jac_lang.specs.Syntax.{Entity}
 use Rattle.jac_check.specs.declared.cause.Cause.{Cause}
 use Rattle.jac_check.specs.declared.cause.Cause.TheVariants as causes
+use Rattle.jac_check.specs.declared.loops.Around.{Around as DeclaredLoops}
+use Rattle.jac_check.specs.declared.loops.Around.TheVariants as loops
 use Rattle.jac_check.specs.declared.names.Names.{Names}
 use Rattle.jac_check.specs.declared.names.Names.TheVariants as names
 use Rattle.jac_check.specs.declared.queries.Seen.{Seen}
@@ -20,6 +23,7 @@ reason_of (causes.TwiceNamed x) = Reason.twice x.now
 reason_of (causes.WrongKind want have) = Reason.wrong_kind want have
 reason_of causes.WriteInGet = Reason.write_in_get
 reason_of causes.CreateInLoop = Reason.create_in_loop
+reason_of (causes.LoopWanted x) = Reason.loop_wanted x.now
 reason_of causes.ViewerInPublic = Reason.viewer_in_public
 reason_of (causes.NotHere x) = Reason.not_here x.now
 
@@ -53,11 +57,16 @@ scope_of s = record {
   is_public = s.is_public;
 }
 
+abbrev pub loops_of : DeclaredLoops → Loops
+loops_of loops.Nowhere = Loops.none
+loops_of (loops.Single flat) = Loops.one flat
+loops_of loops.Several = Loops.several
+
 abbrev pub standing_of : BorrowedStanding → Standing
 standing_of at = record {
   models = (application_of at.app.now).models;
   viewers = at.app.now.viewer;
   names = names_of (application_of at.app.now).models at.names.now;
   is_get = at.is_get;
-  in_loop = at.in_loop;
+  loops = loops_of at.around;
 }

@@ -1,5 +1,5 @@
 -- The schema of an application: its models, their fields, and which fields its groups guard, as a tree.
-use Rattle.std.specs.Prelude.{ℕ, List, [], ◌∷◌, codes}
+use Rattle.std.specs.Prelude.{ℕ, Bool, true, false, if◌then◌else◌, List, [], ◌∷◌, codes}
 use Rattle.jac_lang.specs.declared.field_kinds.Field.{Field}
 use Rattle.jac_lang.specs.declared.field_kinds.KindName.{KindName}
 use Rattle.jac_lang.specs.declared.field_kinds.KindName.TheVariants as kinds
@@ -30,26 +30,39 @@ abbrev pub guard_trees : List Assigned → PlainTrees
 guard_trees [] = PlainTrees.none
 guard_trees (g ∷ guards) = PlainTrees.more (PlainTree.atom g.field) (guard_trees guards)
 
+-- `hides`, or the list of them
+abbrev pub group_tree : FieldGroup → PlainTree
+group_tree g = if g.hides then PlainTree.atom (codes "hides") else PlainTree.list (guard_trees g.guards)
+
 abbrev pub group_trees : List FieldGroup → PlainTrees
 group_trees [] = PlainTrees.none
-group_trees (g ∷ groups) = PlainTrees.more (PlainTree.list (guard_trees g.guards)) (group_trees groups)
+group_trees (g ∷ groups) = PlainTrees.more (group_tree g) (group_trees groups)
 
 -- `(fields (NAME KIND) ..)`
 abbrev pub fields_tree : List Field → PlainTree
 fields_tree fields = headed (codes "fields") (field_trees fields)
 
--- `(groups (FIELD ..) ..)`
+-- `(groups GROUP ..)`
 abbrev pub groups_tree : List FieldGroup → PlainTree
 groups_tree groups = headed (codes "groups") (group_trees groups)
 
--- `(model NAME (fields ..) (groups ..))`
+-- the atom `nested`, where the model is
+abbrev pub nested_before : Bool → PlainTrees → PlainTrees
+nested_before true ts = PlainTrees.more (PlainTree.atom (codes "nested")) ts
+nested_before false ts = ts
+
+-- `(fields ..) (groups ..)`
+abbrev pub list_trees : Entity → PlainTrees
+list_trees m = PlainTrees.more (fields_tree m.fields) (PlainTrees.more (groups_tree m.groups) PlainTrees.none)
+
+-- `(model NAME nested? (fields ..) (groups ..))`
 abbrev pub model_tree : Entity → PlainTree
-model_tree m = headed (codes "model") (PlainTrees.more (PlainTree.atom m.name) (PlainTrees.more (fields_tree m.fields) (PlainTrees.more (groups_tree m.groups) PlainTrees.none)))
+model_tree m = headed (codes "model") (PlainTrees.more (PlainTree.atom m.name) (nested_before m.nested (list_trees m)))
 
 abbrev pub model_trees : List Entity → PlainTrees
 model_trees [] = PlainTrees.none
 model_trees (m ∷ models) = PlainTrees.more (model_tree m) (model_trees models)
 
--- `(schema (model NAME (fields (NAME KIND) ..) (groups (FIELD ..) ..)) ..)`
+-- `(schema (model NAME nested? (fields (NAME KIND) ..) (groups GROUP ..)) ..)`
 abbrev pub schema_tree : List Entity → PlainTree
 schema_tree models = headed (codes "schema") (model_trees models)

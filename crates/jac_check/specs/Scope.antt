@@ -1,5 +1,5 @@
 -- Where expressions and statements stand: the names that are bound there, and what they may use.
-use Rattle.std.specs.Prelude.{ℕ, ◌==◌, Bool, true, false, if◌then◌else◌, List, [], ◌∷◌, ◌++◌, length, Option, Some, None}
+use Rattle.std.specs.Prelude.{ℕ, Bool, true, false, if◌then◌else◌, List, [], ◌∷◌, ◌++◌, length, Option, Some, None}
 use Rattle.jac_value.specs.declared.value.Kind.{Kind}
 use Rattle.jac_lang.specs.declared.field_kinds.Field.{Field}
 use Rattle.jac_lang.specs.declared.field_kinds.KindName.TheVariants as names
@@ -7,6 +7,7 @@ use Rattle.jac_lang.specs.declared.pages.Verb.{Verb}
 use Rattle.jac_lang.specs.declared.pages.Verb.TheVariants as verbs
 use Rattle.jac_lang.specs.declared.queries.Binder.{Binder}
 use Rattle.jac_lang.specs.Lookup.{same_text, model_place, field_place, fields_at, kind_at, kind_named, guards_field}
+use Rattle.jac_lang.specs.Loops.{Loops, behind_for}
 use Rattle.jac_lang.specs.Syntax.{Expression, FieldGroup, Entity, Page, Application}
 use Rattle.jac_check.specs.declared.names.Meaning.{Meaning}
 
@@ -25,13 +26,13 @@ pub record Scope : Type 0 where
   pub is_public : Bool
 
 -- where a statement stands: the models, the model of viewers, the names that are bound, whether its view answers
--- GET, and whether it stands inside of a `for`
+-- GET, and the loops around it
 pub record Standing : Type 0 where
   pub models : List Entity
   pub viewers : Option (List ℕ)
   pub names : List Named
   pub is_get : Bool
-  pub in_loop : Bool
+  pub loops : Loops
 
 abbrev pub named : List ℕ → Kind → Bool → Named
 named x k by_let = record { name = x; meaning = record { kind = k; by_let = by_let } }
@@ -95,7 +96,7 @@ abbrev pub bind : Standing → List ℕ → Kind → Bool → Standing
 bind st x k by_let = record st { names = st.names ++ named x k by_let ∷ [] }
 
 abbrev pub loop_within : List Binder → Standing → Standing
-loop_within bs st = record st { names = st.names ++ named_binders st.models bs; in_loop = true }
+loop_within bs st = record st { names = st.names ++ named_binders st.models bs; loops = behind_for st.models bs st.loops }
 
 -- the scopes of a model's policies and of its public expressions
 abbrev pub policy_scope : Application → Entity → Scope
@@ -110,7 +111,7 @@ is_get verbs.Post = false
 
 -- where the statements of a view stand: its parameters are bound
 abbrev pub page_standing : Application → Page → Standing
-page_standing app v = record { models = app.models; viewers = app.viewer; names = named_fields app.models v.params; is_get = is_get v.method; in_loop = false }
+page_standing app v = record { models = app.models; viewers = app.viewer; names = named_fields app.models v.params; is_get = is_get v.method; loops = Loops.none }
 
 abbrev pub is_one_of : List ℕ → List (List ℕ) → Bool
 is_one_of x [] = false
@@ -130,12 +131,7 @@ abbrev pub is_guarded : List ℕ → List FieldGroup → Bool
 is_guarded x [] = false
 is_guarded x (g ∷ gs) = if guards_field x g then true else is_guarded x gs
 
--- the names of a path: what stands between `{` and the next `}`
-abbrev mutual
-  pub names_outside : List ℕ → List (List ℕ)
-  names_outside [] = []
-  names_outside (c ∷ cs) = if c == 123 then names_within [] cs else names_outside cs
-
-  pub names_within : List ℕ → List ℕ → List (List ℕ)
-  names_within so_far [] = []
-  names_within so_far (c ∷ cs) = if c == 125 then so_far ∷ names_outside cs else names_within (so_far ++ c ∷ []) cs
+-- one of the groups hides its records
+abbrev pub is_hiding : List FieldGroup → Bool
+is_hiding [] = false
+is_hiding (g ∷ gs) = if g.hides then true else is_hiding gs

@@ -1,8 +1,10 @@
 -- The first fault of a statement: what may not stand here, the names, the operands, their kinds, and last the
 -- statements inside.
-use Rattle.std.specs.Prelude.{ℕ, true, false, List, [], ◌∷◌, Option, Some, None, codes}
+use Rattle.std.specs.Prelude.{ℕ, Bool, true, false, List, [], ◌∷◌, Option, Some, None, codes}
 use Rattle.jac_value.specs.declared.value.Kind.{Kind}
 use Rattle.jac_lang.specs.declared.field_kinds.Field.{Field}
+use Rattle.jac_lang.specs.Lookup.{is_nested_named}
+use Rattle.jac_lang.specs.Loops.{may_create}
 use Rattle.jac_lang.specs.Syntax.{Expression, Question, Assigned, Statement, Statements}
 use Rattle.jac_check.specs.declared.names.Meaning.{Meaning}
 use Rattle.jac_check.specs.Scope.{Scope, Standing, scope_at, bind, loop_within, meaning_of, reference_to, fields_of, field_kind, is_one_of}
@@ -17,9 +19,14 @@ verdict_at st e = verdict (scope_at st) e
 abbrev pub write_fault : Standing → Option Reason
 write_fault st = fault_if st.is_get Reason.write_in_get
 
--- the form creates a record inside of a `for`
-abbrev pub loop_fault : Standing → Option Reason
-loop_fault st = fault_if st.in_loop Reason.create_in_loop
+-- why a record may not be created here: that of a nested model wants one loop, any other none
+abbrev pub loop_reason : Bool → List ℕ → Reason
+loop_reason true m = Reason.loop_wanted m
+loop_reason false m = Reason.create_in_loop
+
+-- the form creates a record where its model may not have one made
+abbrev pub loop_fault : Standing → List ℕ → Option Reason
+loop_fault st m = fault_unless (may_create (is_nested_named st.models m) st.loops) (loop_reason (is_nested_named st.models m) m)
 
 -- each cell's field is known, and none is named twice
 abbrev pub cells_names : List Field → List (List ℕ) → List Assigned → Option Reason
@@ -43,7 +50,7 @@ assigned_fault (Some m) v = fault_unless m.by_let (Reason.not_here (codes "assig
 
 abbrev pub create_fault : Standing → List ℕ → List Assigned → Option Reason
 create_fault st m cells =
-    write_fault st before loop_fault st before unknown_model st.models m before cells_names (fields_of st.models m) [] cells
+    write_fault st before unknown_model st.models m before cells_names (fields_of st.models m) [] cells before loop_fault st m
     before cells_inside (scope_at st) cells before cells_kinds (scope_at st) (fields_of st.models m) cells
 
 abbrev pub update_fault : Standing → List ℕ → Verdict → List Assigned → Option Reason

@@ -13,6 +13,7 @@ pub data Reason : Type 0 where
   wrong_kind : Expected → Kind → Reason
   write_in_get : Reason
   create_in_loop : Reason
+  loop_wanted : List ℕ → Reason
   viewer_in_public : Reason
   not_here : List ℕ → Reason
 

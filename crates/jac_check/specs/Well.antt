@@ -2,12 +2,15 @@
 -- not, and each expression has the kind that is asked.
 use Rattle.std.specs.Prelude.{ℕ, Bool, true, false, not, ◌&&◌, ◌||◌, List, [], ◌∷◌, ◌++◌, Option, Some, None, is_some, unwrap_or}
 use Rattle.jac_value.specs.declared.value.Kind.{Kind}
+use Rattle.jac_value.specs.Paths.{segments, names_in}
 use Rattle.jac_lang.specs.declared.field_kinds.Field.{Field}
 use Rattle.jac_lang.specs.declared.field_kinds.KindName.{KindName}
 use Rattle.jac_lang.specs.declared.field_kinds.KindName.TheVariants as names
+use Rattle.jac_lang.specs.Lookup.{is_nested_named}
+use Rattle.jac_lang.specs.Loops.{may_create}
 use Rattle.jac_lang.specs.Syntax.{Entity, Expression, Assigned, Statement, Statements, FieldGroup, Page, Application}
 use Rattle.jac_check.specs.declared.names.Meaning.{Meaning}
-use Rattle.jac_check.specs.Scope.{Scope, Standing, scope_at, bind, loop_within, meaning_of, within, reference_to, fields_of, field_kind, policy_scope, public_scope, page_standing, is_one_of, has_field, has_model, is_guarded, names_outside}
+use Rattle.jac_check.specs.Scope.{Scope, Standing, scope_at, bind, loop_within, meaning_of, within, reference_to, fields_of, field_kind, policy_scope, public_scope, page_standing, is_one_of, has_field, has_model, is_guarded, is_hiding}
 use Rattle.jac_check.specs.Kinds.{has, kind_of, is_model, is_field, is_query}
 
 abbrev pub kind_here : Standing → Expression → Option Kind
@@ -37,7 +40,7 @@ abbrev mutual
   is_statement st (Statement.assign x e) = is_assigned (meaning_of st.names x) (kind_here st e)
   is_statement st (Statement.branch c a b) = has Kind.Bool (kind_here st c) && (is_body st a && is_body st b)
   is_statement st (Statement.each q body) = is_query (scope_at st) q.binders q.order (kind_of (within q.binders (scope_at st)) q.cond) && is_body (loop_within q.binders st) body
-  is_statement st (Statement.create x m site cells body) = not st.is_get && (not st.in_loop && (are_cells st m cells && is_body (bind st x (reference_to st.models m) false) body))
+  is_statement st (Statement.create x m site cells body) = not st.is_get && (may_create (is_nested_named st.models m) st.loops && (are_cells st m cells && is_body (bind st x (reference_to st.models m) false) body))
   is_statement st (Statement.update m e cells) = not st.is_get && (are_cells st m cells && has (reference_to st.models m) (kind_here st e))
   is_statement st (Statement.delete m e) = not st.is_get && (is_model st.models m && has (reference_to st.models m) (kind_here st e))
   is_statement st Statement.missing = true
@@ -67,10 +70,11 @@ are_guards app m earlier seen (g ∷ gs) =
     (is_field m.fields g.field && (not (is_guarded g.field earlier || is_one_of g.field seen)
     && has (field_kind app.models m.fields g.field) (kind_of (public_scope app m) g.value))) && are_guards app m earlier (g.field ∷ seen) gs
 
+-- at most one group hides the record; guards, and a policy that is a bool
 abbrev pub are_groups : Application → Entity → List FieldGroup → List FieldGroup → Bool
 are_groups app m earlier [] = true
 are_groups app m earlier (g ∷ gs) =
-    (are_guards app m earlier [] g.guards && has Kind.Bool (kind_of (policy_scope app m) g.policy)) && are_groups app m (earlier ++ g ∷ []) gs
+    (not (g.hides && is_hiding earlier) && (are_guards app m earlier [] g.guards && has Kind.Bool (kind_of (policy_scope app m) g.policy))) && are_groups app m (earlier ++ g ∷ []) gs
 
 abbrev pub are_models : Application → List Entity → List Entity → Bool
 are_models app earlier [] = true
@@ -83,7 +87,7 @@ are_params params (x ∷ xs) = has_field x params && are_params params xs
 
 abbrev pub are_pages : Application → List Page → Bool
 are_pages app [] = true
-are_pages app (v ∷ vs) = (are_fields app.models [] v.params && (are_params v.params (names_outside v.path) && is_body (page_standing app v) v.body)) && are_pages app vs
+are_pages app (v ∷ vs) = (are_fields app.models [] v.params && (are_params v.params (names_in (segments v.path)) && is_body (page_standing app v) v.body)) && are_pages app vs
 
 abbrev pub is_viewer : List Entity → Option (List ℕ) → Bool
 is_viewer ms None = true

@@ -16,6 +16,7 @@ pub(crate) enum Cause<'a> {
     WrongKind { want: Expected, have: Kind },
     WriteInGet,
     CreateInLoop,
+    LoopWanted(&'a str),
     ViewerInPublic,
     NotHere(&'a str),
 }

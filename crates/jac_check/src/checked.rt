@@ -1,4 +1,4 @@
-ghost use Rattle.std.specs.Prelude.{◌≡◌, [], Some, None, IfOk, IfErr, IfSome, IsNone, IsTrue};
+ghost use Rattle.std.specs.Prelude.{◌≡◌, ◌<◌, ◌^◌, [], length, Some, None, IfOk, IfErr, IfSome, IsNone, IsTrue};
 ghost use Rattle.jac_lang.specs.Mirror.{application_of, entities_of, pages_of};
 ghost use Rattle.jac_tree.specs.Printed.{printed};
 ghost use Rattle.jac_check.specs.Schema.{schema_tree};
@@ -8,7 +8,7 @@ ghost use Rattle.jac_check.specs.Mirror.{fault_of};
 ghost use Rattle.jac_check.specs.Found.{first_of};
 
 use crate::cause::Cause;
-use crate::fault::CheckFault;
+use crate::fault::{CheckCause, CheckFault, Place};
 use crate::found::{Found, Spot, fault_at, own};
 use crate::lookups::known_model;
 use crate::models::model_fault;
@@ -61,7 +61,7 @@ impl Checked {
 }
 
 /// The application where it is well, else its first fault: at the viewers' model, then in each model, then
-/// in each view, in the order of the text.
+/// in each view, in the order of the text. One of 2^32 views or more is answered as want of memory.
 pub fn check(alloc: Global, app: App) -> Result<Checked, CheckFault>
     ensures well { IfOk result (λ c. (c ≡ app) × IsTrue (is_well (application_of c))) }
     ensures faultless { IfOk result (λ c. first_fault (application_of c) ≡ None) }
@@ -77,6 +77,12 @@ fn owned_fault(alloc: Global, app: &App) -> Option<CheckFault>
     ensures none { IsNone result → first_fault (application_of app.now) ≡ None }
     ensures some { IfSome result (λ f. IsTrue (is_fault f.cause) → first_fault (application_of app.now) ≡ Some f) }
 {
+    if app.views.as_slice().len() > u32::MAX as usize {
+        return Some(CheckFault {
+            place: Place::Viewer,
+            cause: CheckCause::Memory,
+        });
+    }
     match first_fault(app) {
         Ok(()) => None,
         Err(found) => Some(own(alloc, app, &found)),
@@ -84,6 +90,7 @@ fn owned_fault(alloc: Global, app: &App) -> Option<CheckFault>
 }
 
 fn first_fault(app: &App) -> Result<(), Found<'_>>
+    requires few { length app.now.views < 2 ^ 32 }
     ensures { let a = application_of app.now in first_of a.models result ≡ first_fault a }
 {
     fault_at(app, Spot::Viewer, viewers_fault(app))?;
@@ -115,12 +122,13 @@ fn models_fault<'a>(app: &App, models: &'a [ModelDef]) -> Result<(), Found<'a>>
 }
 
 fn pages_fault<'a>(app: &App, views: &'a [View]) -> Result<(), Found<'a>>
+    requires few { length views.now < 2 ^ 32 }
     ensures { let a = application_of app.now in first_of a.models result ≡ pages_fault a 0 (pages_of views.now) }
 {
     let mut number: u32 = 0;
     for view in views {
         match fault_at(app, Spot::View(number), page_fault(app, view)) {
-            Ok(()) => number = number.saturating_add(1),
+            Ok(()) => number += 1,
             Err(found) => return Err(found),
         }
     }

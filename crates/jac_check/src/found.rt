@@ -96,6 +96,10 @@ fn own_cause(alloc: Global, app: &App, cause: &Cause<'_>) -> Result<CheckCause, 
         }
         Cause::WriteInGet => Ok(CheckCause::WriteInGet),
         Cause::CreateInLoop => Ok(CheckCause::CreateInLoop),
+        Cause::LoopWanted(name) => {
+            let name = Txt::from_str(alloc, name)?;
+            Ok(CheckCause::LoopWanted(name))
+        }
         Cause::ViewerInPublic => Ok(CheckCause::ViewerInPublic),
         Cause::NotHere(word) => {
             let word = Txt::from_str(alloc, word)?;

@@ -11,6 +11,7 @@ mod found;
 mod kinds;
 mod laws;
 mod lookups;
+mod loops;
 mod models;
 mod names;
 mod paths;

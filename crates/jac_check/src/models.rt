@@ -2,7 +2,7 @@
 ghost use Rattle.std.specs.Prelude.{◌≡◌, []};
 ghost use Rattle.jac_lang.specs.Lookup.{guards_field};
 ghost use Rattle.jac_lang.specs.Mirror.{application_of, assigned_of, one_assigned_of, entity_of, entities_of, field_group_of, groups_of};
-ghost use Rattle.jac_check.specs.Scope.{has_field, has_model, is_guarded};
+ghost use Rattle.jac_check.specs.Scope.{has_field, has_model, is_guarded, is_hiding};
 ghost use Rattle.jac_check.specs.Applications.{field_fault, fields_fault, guard_fault, guards_fault, group_fault, groups_fault, model_fault};
 ghost use Rattle.jac_check.specs.Mirror.{fault_of, seen_of};
 
@@ -75,6 +75,17 @@ fn is_guarded(groups: &[Group], name: &Txt) -> bool
     false
 }
 
+fn is_hiding(groups: &[Group]) -> bool
+    ensures { result ≡ is_hiding (groups_of groups.now) }
+{
+    for group in groups {
+        if group.hides {
+            return true;
+        }
+    }
+    false
+}
+
 fn guards_field(group: &Group, name: &Txt) -> bool
     ensures { result ≡ guards_field name.now (field_group_of group.now) }
 {
@@ -122,6 +133,9 @@ fn group_fault<'a>(
 ) -> Result<(), Cause<'a>>
     ensures { fault_of result ≡ group_fault (application_of app.now) (entity_of model.now) (groups_of earlier.now) (field_group_of group.now) }
 {
+    if group.hides && is_hiding(earlier) {
+        return Err(Cause::TwiceNamed("hides"));
+    }
     guards_fault(app, model, earlier, &Seen::Nothing, &group.guards)?;
     let scope = Scope {
         app,

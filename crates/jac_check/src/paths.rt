@@ -1,35 +1,52 @@
-//! The names of a view's path.
-ghost use Rattle.std.specs.Prelude.{◌≡◌, ◌<◌, length, IfSome};
-ghost use Rattle.jac_check.specs.Scope.{names_outside, names_within};
+//! The names in a view's path.
+ghost use Rattle.std.specs.Prelude.{◌≡◌, ◌∷◌, []};
+ghost use Rattle.jac_value.specs.Parts.{option_now};
+ghost use Rattle.jac_value.specs.Paths.{names_in, segment_name, segments};
 ghost use Rattle.jac_check.specs.Applications.{path_fault};
 ghost use Rattle.jac_check.specs.Mirror.{fault_of};
-ghost use Rattle.jac_check.specs.Found.{names_next};
 
 use crate::cause::Cause;
 use crate::models::has_field;
 use jac_lang::Field;
+use jac_value::{first_part, segment_name, segments_of};
+use std::str::from_utf8;
 
-/// Each name of the path is one of the parameters.
+/// Each name in the path is one of the parameters.
+#[tactic(auto, using(crate::proofs::PathNames::segment_first))]
 pub(crate) fn path_fault<'a>(params: &[Field], path: &'a str) -> Result<(), Cause<'a>>
-    ensures { fault_of result ≡ path_fault params.now (names_outside path.now) }
+    ensures { fault_of result ≡ path_fault params.now (names_in (segments path.now)) }
 {
-    let mut left = path;
-    'names: while let Some((name, rest)) = next_name(left) {
-        if !has_field(params, name) {
-            return Err(Cause::UnknownName(name));
+    let mut left = segments_of(path.as_bytes());
+    'segments: while let Some(bytes) = left {
+        let (segment, after) = first_part(bytes, b'/');
+        match segment_fault(params, segment) {
+            Ok(()) => left = after,
+            Err(cause) => return Err(cause),
         }
-        left = rest;
     }
     Ok(())
 }
 
-// The next name of the path, and what follows it.
-fn next_name(path: &str) -> Option<(&str, &str)>
-    ensures names { names_outside path.now ≡ names_next result }
-    ensures shorter { IfSome result (λ p. length p.1.now < length path.now) }
+// The name in the segment, where it has one, is one of the parameters.
+fn segment_fault<'a>(params: &[Field], segment: &'a [u8]) -> Result<(), Cause<'a>>
+    ensures { fault_of result ≡ path_fault params.now (names_in (segment.now ∷ [])) }
 {
-    match path.split_once('{') {
-        Some((_, inside)) => inside.split_once('}'),
-        None => None,
+    let Some(name) = name_in(segment) else {
+        return Ok(());
+    };
+    if has_field(params, name) {
+        Ok(())
+    } else {
+        Err(Cause::UnknownName(name))
+    }
+}
+
+fn name_in(segment: &[u8]) -> Option<&str>
+    ensures { option_now result ≡ segment_name segment.now }
+{
+    let name = segment_name(segment)?;
+    match from_utf8(name) {
+        Ok(name) => Some(name),
+        Err(_) => unreachable!(),
     }
 }

@@ -1,9 +1,9 @@
 ghost use Rattle.std.specs.Prelude.{◌≡◌, ◌++◌, OnOk, IfOk};
 ghost use Rattle.std.specs.String.{string_bytes};
-ghost use Rattle.jac_lang.specs.Mirror.{assigned_of, entities_of, entity_of, groups_of};
+ghost use Rattle.jac_lang.specs.Mirror.{assigned_of, entities_of, entity_of, field_group_of, groups_of};
 ghost use Rattle.jac_tree.specs.Plain.{PlainTree};
 ghost use Rattle.jac_tree.specs.Printed.{printed, printed_after};
-ghost use Rattle.jac_check.specs.Schema.{field_tree, field_trees, fields_tree, group_trees, groups_tree, guard_trees, kind_tree, model_tree, model_trees, schema_tree};
+ghost use Rattle.jac_check.specs.Schema.{field_tree, field_trees, fields_tree, group_trees, group_tree, groups_tree, guard_trees, list_trees, nested_before, kind_tree, model_tree, model_trees, schema_tree};
 
 use jac_lang::{Field, Group, KindName, ModelDef, Publics};
 use jac_value::{Memory, Txt};
@@ -42,11 +42,30 @@ fn put_model(model: &ModelDef, to: &mut String) -> Result<(), Memory>
 {
     to.push_str("(model ")?;
     to.push_str(model.name.as_str())?;
+    put_parts(model, to)?;
+    to.push(')')?;
+    Ok(())
+}
+
+// What follows a model's name.
+fn put_parts(model: &ModelDef, to: &mut String) -> Result<(), Memory>
+    ensures { OnOk result (string_bytes to.new ≡ string_bytes to.old ++ printed_after (nested_before model.now.nested (list_trees (entity_of model.now)))) }
+{
+    if model.nested {
+        to.push_str(" nested")?;
+        put_lists(model, to)
+    } else {
+        put_lists(model, to)
+    }
+}
+
+fn put_lists(model: &ModelDef, to: &mut String) -> Result<(), Memory>
+    ensures { OnOk result (string_bytes to.new ≡ string_bytes to.old ++ printed_after (list_trees (entity_of model.now))) }
+{
     to.push(' ')?;
     put_fields(model.fields.as_slice(), to)?;
     to.push(' ')?;
     put_groups(model.groups.as_slice(), to)?;
-    to.push(')')?;
     Ok(())
 }
 
@@ -115,13 +134,24 @@ fn put_each_group(groups: &[Group], to: &mut String) -> Result<(), Memory>
 {
     'groups: for group in groups {
         to.push(' ')?;
-        put_group(&group.guards, to)?;
+        put_group(group, to)?;
     }
     Ok(())
 }
 
+fn put_group(group: &Group, to: &mut String) -> Result<(), Memory>
+    ensures { OnOk result (string_bytes to.new ≡ string_bytes to.old ++ printed (group_tree (field_group_of group.now))) }
+{
+    if group.hides {
+        to.push_str("hides")?;
+        Ok(())
+    } else {
+        put_guarded(&group.guards, to)
+    }
+}
+
 // The fields that a group guards.
-fn put_group(guards: &Publics, to: &mut String) -> Result<(), Memory>
+fn put_guarded(guards: &Publics, to: &mut String) -> Result<(), Memory>
     ensures { OnOk result (string_bytes to.new ≡ string_bytes to.old ++ printed (PlainTree.list (guard_trees (assigned_of guards.now)))) }
 {
     to.push('(')?;

@@ -6,8 +6,8 @@ ghost use Rattle.jac_lang.specs.Mirror.{assigned_of, binders_of, expression_of, 
 ghost use Rattle.jac_check.specs.Scope.{meaning_of, reference_to, scope_at, bind, loop_within};
 ghost use Rattle.jac_check.specs.Verdict.{of_kind, fault_in, ◌before◌};
 ghost use Rattle.jac_check.specs.Expressions.{kind_or};
-ghost use Rattle.jac_check.specs.Statements.{verdict_at, write_fault, loop_fault, assigned_fault, create_fault, update_fault, delete_fault, query_fault, statement_fault, body_fault};
-ghost use Rattle.jac_check.specs.Mirror.{fault_of, verdict_of, scope_of, standing_of};
+ghost use Rattle.jac_check.specs.Statements.{verdict_at, write_fault, loop_reason, loop_fault, assigned_fault, create_fault, update_fault, delete_fault, query_fault, statement_fault, body_fault};
+ghost use Rattle.jac_check.specs.Mirror.{fault_of, reason_of, verdict_of, scope_of, standing_of};
 
 use crate::cause::Cause;
 use crate::cells::{cells_inside, cells_kinds, cells_names};
@@ -15,10 +15,11 @@ use crate::expressions::{judge, judge_within};
 use crate::forms::asked_fault;
 use crate::kinds::want;
 use crate::lookups::{known_model, reference_to};
+use crate::loops::{Around, behind_for, may_create};
 use crate::names::{Names, look_up};
 use crate::queries::Seen;
 use crate::scope::Scope;
-use jac_lang::{App, Binders, Expr, Publics, Query, Stmt, Stmts};
+use jac_lang::{App, Binders, Expr, Publics, Query, Stmt, Stmts, is_nested};
 use jac_value::{Kind, Txt};
 
 // Where a statement stands.
@@ -27,7 +28,7 @@ pub(crate) struct Standing<'s> {
     pub app: &'s App,
     pub names: &'s Names<'s>,
     pub is_get: bool,
-    pub in_loop: bool,
+    pub around: Around,
 }
 
 #[cycle(statements)]
@@ -114,7 +115,7 @@ fn for_fault<'a>(query: &'a Query, body: &'a Stmts, at: &Standing<'_>) -> Result
         app: at.app,
         names: &names,
         is_get: at.is_get,
-        in_loop: true,
+        around: behind_for(at.app, &query.binders, at.around),
     };
     body_fault(body, &inner)
 }
@@ -154,7 +155,7 @@ fn bound_fault<'a>(
         app: at.app,
         names: &names,
         is_get: at.is_get,
-        in_loop: at.in_loop,
+        around: at.around,
     };
     body_fault(body, &inner)
 }
@@ -224,13 +225,24 @@ fn write_fault<'a>(at: &Standing<'_>) -> Result<(), Cause<'a>>
     }
 }
 
-fn loop_fault<'a>(at: &Standing<'_>) -> Result<(), Cause<'a>>
-    ensures { fault_of result ≡ loop_fault (standing_of at.now) }
+fn loop_fault<'a>(model: &'a Txt, at: &Standing<'_>) -> Result<(), Cause<'a>>
+    ensures { fault_of result ≡ loop_fault (standing_of at.now) model.now }
 {
-    if at.in_loop {
-        Err(Cause::CreateInLoop)
-    } else {
+    let nested = is_nested(at.app, model);
+    if may_create(nested, at.around) {
         Ok(())
+    } else {
+        Err(loop_cause(nested, model))
+    }
+}
+
+fn loop_cause<'a>(nested: bool, model: &'a Txt) -> Cause<'a>
+    ensures { reason_of result ≡ loop_reason nested model.now }
+{
+    if nested {
+        Cause::LoopWanted(model.as_str())
+    } else {
+        Cause::CreateInLoop
     }
 }
 
@@ -238,9 +250,9 @@ fn create_fault<'a>(model: &'a Txt, cells: &'a Publics, at: &Standing<'_>) -> Re
     ensures { fault_of result ≡ create_fault (standing_of at.now) model.now (assigned_of cells.now) }
 {
     write_fault(at)?;
-    loop_fault(at)?;
     known_model(at.app, model)?;
     cells_names(at.app, model, &Seen::Nothing, cells)?;
+    loop_fault(model, at)?;
     let scope = scope_at(at);
     cells_inside(cells, &scope)?;
     cells_kinds(model, cells, &scope)

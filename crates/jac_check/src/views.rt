@@ -6,6 +6,7 @@ ghost use Rattle.jac_check.specs.Applications.{page_fault};
 ghost use Rattle.jac_check.specs.Mirror.{fault_of};
 
 use crate::cause::Cause;
+use crate::loops::Around;
 use crate::models::fields_fault;
 use crate::names::Names;
 use crate::paths::path_fault;
@@ -22,7 +23,7 @@ pub(crate) fn page_fault<'a>(app: &App, view: &'a View) -> Result<(), Cause<'a>>
         app,
         names: &names,
         is_get: is_get(view.method),
-        in_loop: false,
+        around: Around::Nowhere,
     };
     body_fault(&view.body, &at)
 }

@@ -7,4 +7,4 @@ use Rattle.jac_check.proofs.checked.pages_fault.Given as goal
 abbrev pub invariant-loop-view : goal.invariant-loop-view
 invariant-loop-view l =
     let app = application_of l.app in
-    pages_fault app l.number (pages_of (drop l.view-index l.views)) ≡ pages_fault app 0 (pages_of l.views)
+    (l.number ≡ l.view-index) × (pages_fault app l.number (pages_of (drop l.view-index l.views)) ≡ pages_fault app 0 (pages_of l.views))

@@ -1,16 +1,12 @@
-use denote.Shadow.{shadow}
-use denote.Text.{Utf8}
-use Rattle.std.proofs.Common.{◌≡◌, length}
-use Rattle.jac_check.specs.Scope.{names_outside}
+use Rattle.std.proofs.Common.{◌≡◌}
+use Rattle.jac_value.specs.Parts.{parts_left, option_now, length_left}
+use Rattle.jac_value.specs.Paths.{names_in, segments}
 use Rattle.jac_check.specs.Applications.{path_fault}
 use Rattle.jac_check.proofs.paths.path_fault.Given as goal
 
-abbrev pub decreases-names : goal.decreases-names
-decreases-names l = length l.left
-
 -- the names so far are parameters
-abbrev pub invariant-names : goal.invariant-names
-invariant-names l = record {
-  text : shadow (Utf8 l.left);
-  same : path_fault l.params (names_outside l.left) ≡ path_fault l.params (names_outside l.path);
-}
+abbrev pub invariant-segments : goal.invariant-segments
+invariant-segments l = path_fault l.params (names_in (parts_left 47 (option_now l.left))) ≡ path_fault l.params (names_in (segments l.path))
+
+abbrev pub decreases-segments : goal.decreases-segments
+decreases-segments l = length_left (option_now l.left)
