@@ -1,10 +1,10 @@
 ghost use Rattle.std.specs.Prelude.{◌≡◌, ◌≤◌, ◌^◌, List, IfOk, OnOk, OnErr, IsTrue, false};
 ghost use Rattle.std.specs.Option.{option_copied};
 ghost use Rattle.jac_value.specs.Ids.{model_of_id};
-ghost use Rattle.jac_value.specs.declared.value.Kind.{Kind};
-ghost use Rattle.jac_rows.specs.Good.{IsSound};
+ghost use Rattle.jac_rows.specs.Good.{ModelShape, IsSound};
 ghost use Rattle.jac_rows.specs.Tables.{rows_of};
 ghost use Rattle.jac_keep.specs.Records.{alternatives};
+ghost use Rattle.jac_keep.specs.Holding.{holders};
 ghost use Rattle.jac_keep.specs.KeeperSeen.{Keeps, Reads};
 ghost use Rattle.jac_keep.specs.Kept.{applied};
 ghost use Rattle.jac_keep.specs.Schema.{IsSchema};
@@ -12,9 +12,9 @@ ghost use Rattle.jac_keep.specs.Attaching.{Attaches};
 
 use crate::held::HeldTables;
 use crate::places::own_rows;
-use jac_keep::{AttachFault, Change, Keeper, Stop, Vault};
+use jac_keep::{AttachFault, Change, Keeper, Stop, Vault, holders};
 use jac_rows::Rows;
-use jac_value::{Id, Txt, id_model};
+use jac_value::{Id, Txt, Value, id_model};
 use std::alloc::Global;
 use std::marker::Model;
 
@@ -72,6 +72,24 @@ impl<K: Keeper> Keeper for CachedKeeper<K> {
             return Ok(rows);
         }
         self.keeper.one(alloc, id)
+    }
+
+    /// It reads the whole table where that isn't held, and holds it then.
+    fn rows_with(
+        &mut self,
+        alloc: Global,
+        model: u8,
+        field: u8,
+        value: &Value,
+    ) -> Result<Rows, Stop> {
+        if let Some(rows) = self.tables.find(model) {
+            let found = holders(alloc, rows.as_slice(), field, value)?;
+            return Ok(found);
+        }
+        let rows = self.keeper.rows(alloc, model)?;
+        let found = holders(alloc, rows.as_slice(), field, value)?;
+        self.tables.hold(model, rows)?;
+        Ok(found)
     }
 
     fn apply(&mut self, alloc: Global, change: &Change) -> Result<(), Stop> {
