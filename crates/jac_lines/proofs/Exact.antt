@@ -1,7 +1,6 @@
 -- What is read is the state's, and what a change leaves is the changed state.
 use Rattle.std.proofs.Common.{◌≡◌, refl, sym, ap, ap₂, subst, ◌∙◌, ℕ, ◌+◌, ◌<◌, ◌^◌, ◌==◌, pos, Bool, true, false, cond, List, [], ◌∷◌, ◌++◌, map, length, Ok, arith}
 use Rattle.std.specs.List.{AllByRecursion}
-use Rattle.std.proofs.lemmas.Bool.Decides.{nat_tests}
 use Rattle.sqlite_trees.specs.declared.store.Store.{Ghosts}
 use Rattle.sqlite_value.specs.declared.value.Value.{Value}
 use Rattle.sqlite_value.specs.declared.value.Value.TheVariants.{Int, Blob}
@@ -9,7 +8,7 @@ use Rattle.sqlite_value.specs.Order.{Row as Values, column}
 use Rattle.sqlite.specs.Effect.{Database}
 use Rattle.sqlite.specs.State.{State as Sql, Shown, QueriesRow}
 use Rattle.sqlite.specs.Held.{Held, state}
-use Rattle.jac_value.specs.Ids.{model_of_id, is_id_of}
+use Rattle.jac_value.specs.Ids.{model_of_id}
 use Rattle.jac_value.specs.declared.value.Kind.{Kind}
 use Rattle.jac_rows.specs.declared.row.Row.{Row}
 use Rattle.jac_rows.specs.declared.state.State.{State}
@@ -38,7 +37,7 @@ use Rattle.jac_lines.specs.Told.{AreSpelled}
 use Rattle.jac_lines.proofs.Again.{cells_again}
 use Rattle.jac_lines.specs.Stands.{AreNarrow}
 use Rattle.jac_lines.proofs.Whole.{changed}
-use Rattle.jac_lines.proofs.Sound.{rows_spelled, narrow_cells}
+use Rattle.jac_lines.proofs.Sound.{id_room, rows_spelled, narrow_cells}
 
 -- ---- the number
 
@@ -63,12 +62,9 @@ one_row id kinds jvars body r x same is guard cells spelled =
     let all : x.cells ≡ r.cells = sym (cells_again x.cells spelled.cells.each narrow) ∙ ap cells_in bytes ∙ cells_again r.cells is.cells is.narrow in
     λ i. record { id = ids i; guard = guards i; cells = all i }
 
-small : (id model : ℕ) → is_id_of id model ≡ true → id < 2 ^ 52
-small id model e = grind (arith, nat_tests, e)
-
 one_model_row : (model alt : ℕ) (kinds : List Kind) (r x : Row) → IsSpelled r → IsModelRow model kinds (model_shows (fact_of model alt r)) x → x ≡ r
 one_model_row model alt kinds r x spelled is =
-    let below = small x.id model is.id_spelled.of_model in
+    let below = id_room x.id model is.id_spelled.of_model in
     let room = spelled.room in
     let bytes : id_bytes r.id ≡ id_bytes x.id = same_blob _ _ is.id_stored ∙ is.id_spelled.spelled in
     let same : r.id ≡ x.id = (one_spelled 16 r.id x.id [] [] (omega (arith, room)) (omega (arith, below)) (ap (λ l. l ++ []) bytes)).0 in

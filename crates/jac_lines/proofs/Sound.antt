@@ -1,9 +1,7 @@
 -- A sound state's tables may be stored, and cells of known kinds name ids with room.
-use Rattle.std.proofs.Common.{◌≡◌, refl, sym, ap, ℕ, zero, suc, ◌+◌, ◌/◌, ◌^◌, ◌<◌, ◌≤◌, Bool, true, false, ◌&&◌, List, [], ◌∷◌, Some, None, arith}
+use Rattle.std.proofs.Common.{◌≡◌, refl, sym, ap, ℕ, zero, suc, ◌+◌, ◌^◌, ◌<◌, Bool, true, false, ◌&&◌, List, [], ◌∷◌, Some, None, arith}
 use Rattle.std.specs.List.{AllByRecursion}
-use Rattle.std.proofs.lemmas.Bool.Decides.{nat_tests}
-use Rattle.std.proofs.lemmas.Nat.{div-add-mod'}
-use Rattle.jac_value.specs.Ids.{is_id_of, number_of_id}
+use Rattle.jac_value.specs.Ids.{is_id_of}
 use Rattle.jac_value.specs.Values.{has_kind}
 use Rattle.jac_value.specs.declared.value.Kind.{Kind}
 use Rattle.jac_value.specs.declared.value.Kind.TheVariants as kinds
@@ -13,28 +11,29 @@ use Rattle.jac_rows.specs.declared.row.Row.{Row}
 use Rattle.jac_rows.specs.declared.state.State.{State}
 use Rattle.jac_rows.specs.Tables.{rows_of}
 use Rattle.jac_rows.specs.Good.{have_kinds, IsMade, AreSound, IsSound}
+use Rattle.jac_stored.proofs.IdParts.{id_parts}
 use Rattle.jac_keep.proofs.OrderLaws.{ordered_if_rising}
 use Rattle.jac_lines.specs.Facts.{IsPlaced, ArePlacedFrom, AreKept}
 use Rattle.jac_lines.specs.Spelled.{IsNarrow, IsSpelled}
 use Rattle.jac_lines.specs.Told.{AreSpelled}
 
-made_placed : (model next : ℕ) (r : Row) → next ≤ 2 ^ 40 → IsMade model next r.id → IsPlaced model r
-made_placed model next r last made =
-    let whole = div-add-mod' r.id 4096 in
-    let below = made.made in
-    let rest : Rattle.std.proofs.Common.◌%◌ r.id 4096 < 4096 = omega arith in
-    record { of_model = made.of_model; room = omega (arith, whole, below, last, rest) }
+-- an id, narrow or wide, has room in 16 bytes
+pub id_room : (id model : ℕ) → is_id_of id model ≡ true → id < 2 ^ 128
+id_room id model is = let to = (id_parts id model is).to in omega (arith, to)
 
-all_placed : (model next : ℕ) (rows : List Row) → next ≤ 2 ^ 40 → AllByRecursion (λ (r : Row). IsMade model next r.id) rows → AllByRecursion (IsPlaced model) rows
-all_placed model next [] last all = tt
-all_placed model next (r ∷ rs) last all = (made_placed model next r last all.0, all_placed model next rs last all.1)
+made_placed : (model next : ℕ) (r : Row) → IsMade model next r.id → IsPlaced model r
+made_placed model next r made = record { of_model = made.of_model; room = id_room r.id model made.is_one }
 
-tables_placed : (first next : ℕ) (tables : List (List Row)) → next ≤ 2 ^ 40 → AreSound next first tables → ArePlacedFrom first tables
-tables_placed first next [] last sound = tt
-tables_placed first next (t ∷ ts) last sound = (ordered_if_rising t sound.0, all_placed first next t last sound.1, tables_placed (first + 1) next ts last sound.2)
+all_placed : (model next : ℕ) (rows : List Row) → AllByRecursion (λ (r : Row). IsMade model next r.id) rows → AllByRecursion (IsPlaced model) rows
+all_placed model next [] all = tt
+all_placed model next (r ∷ rs) all = (made_placed model next r all.0, all_placed model next rs all.1)
+
+tables_placed : (first next : ℕ) (tables : List (List Row)) → AreSound next first tables → ArePlacedFrom first tables
+tables_placed first next [] sound = tt
+tables_placed first next (t ∷ ts) sound = (ordered_if_rising t sound.0, all_placed first next t sound.1, tables_placed (first + 1) next ts sound.2)
 
 pub kept_if_sound : (s : State) → IsSound s → AreKept s.tables
-kept_if_sound s sound = tables_placed 0 s.number s.tables sound.next.1 sound.tables
+kept_if_sound s sound = tables_placed 0 s.number s.tables sound.tables
 
 pub rows_spelled : (tables : List (List Row)) (k : ℕ) → AreSpelled tables → AllByRecursion IsSpelled (rows_of tables k)
 rows_spelled [] zero are = tt
@@ -42,15 +41,12 @@ rows_spelled [] (suc k) are = tt
 rows_spelled (t ∷ ts) zero are = are.0
 rows_spelled (t ∷ ts) (suc k) are = rows_spelled ts k are.1
 
-small : (id model : ℕ) → is_id_of id model ≡ true → id < 2 ^ 128
-small id model e = let h : id < 2 ^ 52 = grind (arith, nat_tests, e) in omega (arith, h)
-
 narrow_cell : (k : Kind) (v : Value) → has_kind k v ≡ true → IsNarrow v
 narrow_cell k (values.Int i) e = tt
 narrow_cell k (values.Text t) e = tt
 narrow_cell k (values.Bool b) e = tt
 narrow_cell k (values.Ref None) e = tt
-narrow_cell (kinds.Ref m) (values.Ref (Some id)) e = small id m e
+narrow_cell (kinds.Ref m) (values.Ref (Some id)) e = id_room id m e
 narrow_cell kinds.Int (values.Ref (Some id)) e = let f : false ≡ true = e in cc
 narrow_cell kinds.Text (values.Ref (Some id)) e = let f : false ≡ true = e in cc
 narrow_cell kinds.Bool (values.Ref (Some id)) e = let f : false ≡ true = e in cc
