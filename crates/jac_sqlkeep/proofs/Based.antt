@@ -1,10 +1,11 @@
 -- What a database tells that was read, changed or opened.
-use Rattle.std.proofs.Common.{◌≡◌, refl, sym, ap, subst, ◌∙◌, ℕ, zero, suc, ◌+◌, ◌≤◌, Bool, true, false, true≢false, List, [], ◌∷◌, length, Option, Some, None, IfSome, Ok, Err, Result, IfOk, OnOk, OnErr, IsTrue, slice_get, arith}
+use Rattle.std.proofs.Common.{◌≡◌, refl, sym, ap, subst, ◌∙◌, ℕ, zero, suc, ◌+◌, ◌≤◌, Bool, true, false, true≢false, List, [], ◌∷◌, length, Option, Some, None, IfSome, Ok, Err, Result, IfOk, IfErr, OnOk, OnErr, IsTrue, slice_get, arith}
 use Rattle.sqlite_trees.specs.declared.store.Store.{Ghosts}
 use Rattle.sqlite.specs.declared.error.Error.{Error}
 use Rattle.sqlite.specs.Held.{Held, state}
 use Rattle.jac_value.specs.Ids.{model_of_id}
 use Rattle.jac_value.specs.declared.value.Kind.{Kind}
+use Rattle.jac_value.specs.declared.value.Value.{Value}
 use Rattle.jac_rows.specs.Good.{IsSound}
 use Rattle.jac_rows.specs.Tables.{rows_of}
 use Rattle.jac_rows.specs.declared.row.Row.{Row}
@@ -12,6 +13,7 @@ use Rattle.jac_rows.specs.declared.state.State.{State}
 use Rattle.jac_keep.specs.declared.alteration.Change.{Change}
 use Rattle.jac_keep.specs.Kept.{applied}
 use Rattle.jac_keep.specs.Records.{alternatives}
+use Rattle.jac_keep.specs.Holding.{holders}
 use Rattle.jac_lines.specs.Facts.{Fact}
 use Rattle.jac_lines.specs.Told.{told, tables_in}
 use Rattle.jac_lines.specs.Telling.{empty_state, IsKept, ReadsTold, AppliesTold}
@@ -64,6 +66,24 @@ module _ {S : Type 0} (g : Ghosts S) (kinds : List (List Kind)) (h : Held S) whe
       → ReadsBased (λ s rows. rows ≡ alternatives id (rows_of s.tables (model_of_id id))) (based g kinds known h) (based g kinds known h) (Ok [])
   no_alternatives id known kept none =
       none_based (λ s rows. rows ≡ alternatives id (rows_of s.tables (model_of_id id))) known kept (sym (ap (alternatives id) (rows_beyond 0 (length kinds) (model_of_id id) _ (beyond kinds (model_of_id id) none))))
+
+-- ---- what is found among the rows of a model
+
+found_in : (f : List Row → List Row) (want : List Row) (r : Result (List Row) Error) (found : Result (List Row) Error) → IfOk r (λ rows. rows ≡ want)
+    → IfOk r (λ rows. IfOk found (λ them. them ≡ f rows)) → IfErr r (λ e. found ≡ Err e) → IfOk found (λ them. them ≡ f want)
+found_in f want (Ok rows) (Ok them) read are none = are ∙ ap f read
+found_in f want (Ok rows) (Err e) read are none = tt
+found_in f want (Err e) found read are none = subst (λ (x : Result (List Row) Error). IfOk x (λ them. them ≡ f want)) (sym none) tt
+
+pub found_based : (field : ℕ) (value : Value) (model : ℕ) (old new : Based) (r found : Result (List Row) Error) → ReadsBased (λ s rows. rows ≡ rows_of s.tables model) old new r
+    → IfOk r (λ rows. IfOk found (λ them. them ≡ holders field value rows)) → IfErr r (λ e. found ≡ Err e)
+    → ReadsBased (λ s rows. rows ≡ holders field value (rows_of s.tables model)) old new found
+found_based field value model old new r found reads are none = record {
+  told_before = reads.told_before;
+  same_state = reads.same_state;
+  good = reads.good;
+  exact = λ told. found_in (holders field value) (rows_of old.state.tables model) r found (reads.exact told) are none;
+}
 
 -- ---- opening
 

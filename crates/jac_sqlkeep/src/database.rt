@@ -1,5 +1,5 @@
 //! A database with the tables of a keeper.
-ghost use Rattle.std.specs.Prelude.{◌≡◌, false, length, slice_get, IfOk, IfSome, IsTrue};
+ghost use Rattle.std.specs.Prelude.{◌≡◌, false, length, slice_get, Err, IfOk, IfErr, IfSome, IsTrue};
 ghost use Rattle.std.specs.Option.{option_copied};
 ghost use Rattle.sqlite.specs.Held.{state};
 ghost use Rattle.jac_value.specs.Ids.{model_of_id};
@@ -7,16 +7,17 @@ ghost use Rattle.jac_rows.specs.Good.{IsNext, IsSound};
 ghost use Rattle.jac_rows.specs.Tables.{rows_of};
 ghost use Rattle.jac_keep.specs.Kept.{applied};
 ghost use Rattle.jac_keep.specs.Records.{alternatives};
+ghost use Rattle.jac_keep.specs.Holding.{holders};
 ghost use Rattle.jac_lines.specs.Tables.{nothing};
 ghost use Rattle.jac_lines.specs.Telling.{empty_state};
 ghost use Rattle.jac_sqlkeep.specs.Based.{ReadsBased, AppliesBased, OpensBased};
 
-use crate::cause::CORRUPT;
+use crate::cause::{CORRUPT, NO_MEMORY};
 use crate::meta::{find_schema, has_nothing, make_tables, read_number};
 use crate::records::{read_model, read_record, write_change};
-use jac_keep::Change;
+use jac_keep::{Change, holders};
 use jac_rows::{Rows, Shape};
-use jac_value::{Id, Kind, Txt, id_model};
+use jac_value::{Id, Kind, Memory, Txt, Value, id_model};
 use sqlite::{Alter, Connection, Error};
 use std::alloc::Global;
 use std::marker::Model;
@@ -136,12 +137,46 @@ impl<S: Alter> Database<S> {
         }
     }
 
+    #[tactic(auto, using(crate::proofs::Based::found_based))]
+    pub fn rows_with(
+        &mut self,
+        alloc: Global,
+        model: u8,
+        field: u8,
+        value: &Value,
+    ) -> Result<Rows, Error>
+        ensures { ReadsBased (λ s rows. rows ≡ holders field value.now (rows_of s.tables model)) self.old self.new result }
+    {
+        let rows = self.rows(alloc, model);
+        found_among(alloc, rows, field, value)
+    }
+
     pub fn apply(&mut self, alloc: Global, change: &Change) -> Result<(), Error>
         requires good { IsTrue self.old.tells → IsSound (applied change.now self.old.state) }
         ensures applies { AppliesBased change.now self.old self.new result }
     {
         let models = self.shape.kinds.as_slice().len();
         write_change(alloc, &mut self.conn, models, change)
+    }
+}
+
+// The records among the rows that were read.
+fn found_among(
+    alloc: Global,
+    rows: Result<Rows, Error>,
+    field: u8,
+    value: &Value,
+) -> Result<Rows, Error>
+    ensures found { IfOk rows (λ rows. IfOk result (λ found. found ≡ holders field value.now rows)) }
+    ensures none { IfErr rows (λ error. result ≡ Err error) }
+{
+    let rows = match rows {
+        Ok(rows) => rows,
+        Err(error) => return Err(error),
+    };
+    match holders(alloc, rows.as_slice(), field, value) {
+        Ok(found) => Ok(found),
+        Err(Memory) => Err(NO_MEMORY),
     }
 }
 

@@ -1,14 +1,14 @@
 ghost use Rattle.std.specs.Prelude.{◌≡◌, ◌≤◌, ℕ, List, Option, IfOk, OnOk, OnErr, IsTrue, true, false, is_some};
 ghost use Rattle.std.specs.Option.{option_copied};
 ghost use Rattle.jac_value.specs.Ids.{model_of_id};
-ghost use Rattle.jac_value.specs.declared.value.Kind.{Kind as KindSeen};
 ghost use Rattle.jac_io.specs.Faults.{Rose};
-ghost use Rattle.jac_rows.specs.Good.{IsNext, IsSound};
+ghost use Rattle.jac_rows.specs.Good.{ModelShape, IsNext, IsSound};
 ghost use Rattle.jac_rows.specs.Tables.{rows_of};
 ghost use Rattle.jac_keep.specs.KeeperSeen.{Keeps, Reads};
 ghost use Rattle.jac_keep.specs.Kept.{applied};
 ghost use Rattle.jac_keep.specs.Records.{alternatives};
-ghost use Rattle.jac_keep.specs.Schema.{IsSchema};
+ghost use Rattle.jac_keep.specs.Holding.{holders};
+ghost use Rattle.jac_keep.specs.Schema.{IsSchema, shapes_by};
 ghost use Rattle.jac_keep.specs.Attaching.{Attaches};
 ghost use Rattle.jac_sqlkeep.specs.Based.{Based};
 ghost use Rattle.jac_sqlkeep.specs.Kept.{IsRefusedAs};
@@ -18,7 +18,7 @@ use crate::cause::stop_of;
 use crate::database::Database;
 use jac_keep::{AttachFault, Change, Keeper, Stop, Vault, shape_of};
 use jac_rows::{Rows, Shape};
-use jac_value::{Id, Memory, Txt};
+use jac_value::{Id, Memory, Txt, Value};
 use sqlite::Connection;
 use std::alloc::Global;
 use std::marker::Model;
@@ -120,6 +120,23 @@ impl<O: Opener> Keeper for SqlKeeper<O> {
         }
     }
 
+    /// It reads the whole table, and finds the records there.
+    fn rows_with(
+        &mut self,
+        alloc: Global,
+        model: u8,
+        field: u8,
+        value: &Value,
+    ) -> Result<Rows, Stop> {
+        let Some(database) = &mut self.database else {
+            unreachable!()
+        };
+        match database.rows_with(alloc, model, field, value) {
+            Ok(rows) => Ok(rows),
+            Err(error) => Err(stop_of(error, &mut self.faults)),
+        }
+    }
+
     fn apply(&mut self, alloc: Global, change: &Change) -> Result<(), Stop> {
         let Some(database) = &mut self.database else {
             unreachable!()
@@ -201,10 +218,10 @@ struct Known {
 }
 
 fn known_of(alloc: Global, name: Option<&Txt>, schema: &Txt) -> Result<Known, Memory>
-    requires { (kinds : List (List KindSeen)) × IsSchema schema.now kinds }
+    requires { (shapes : List ModelShape) × IsSchema schema.now shapes }
     ensures name { IfOk result (λ known. known.name ≡ option_copied name.entry) }
     ensures schema { IfOk result (λ known. known.schema ≡ schema.now) }
-    ensures shape { IfOk result (λ known. IsSchema schema.now known.shape.kinds) }
+    ensures shape { IfOk result (λ known. IsSchema schema.now (shapes_by known.shape.kinds known.shape.nested)) }
 {
     let name = copy_name(alloc, name)?;
     let shape = known_shape(alloc, schema)?;
@@ -229,8 +246,8 @@ fn copy_name(alloc: Global, name: Option<&Txt>) -> Result<Option<Txt>, Memory>
 }
 
 fn known_shape(alloc: Global, schema: &Txt) -> Result<Shape, Memory>
-    requires { (kinds : List (List KindSeen)) × IsSchema schema.now kinds }
-    ensures { IfOk result (λ shape. IsSchema schema.now shape.kinds) }
+    requires { (shapes : List ModelShape) × IsSchema schema.now shapes }
+    ensures { IfOk result (λ shape. IsSchema schema.now (shapes_by shape.kinds shape.nested)) }
 {
     match shape_of(alloc, schema)? {
         Some(shape) => Ok(shape),

@@ -8,7 +8,7 @@ pub returns-in-None : goal.returns-in-None
 returns-in-None g c =
     let known = subst (λ (k : Kept). IsTrue (is_some k.database) → IsTrue k.store.called) c.self.view_is c.self.invariant in
     let now = c.begin.ensures in
-    attached_now c.args.self.now c.begin.new.self _ _ c.in-Ok.known.shape.kinds c.in-Ok-open-2.database known c.requires.first
+    attached_now c.args.self.now c.begin.new.self _ _ c.in-Ok.known.shape.kinds c.in-Ok.known.shape.nested c.in-Ok-open-2.database known c.requires.first
     (ap (λ (k : Kept). k.store.called) now)
     (ap (λ (k : Kept). k.store.attached) now)
     (ap (λ (k : Kept). k.store.name) now ∙ c.in-Ok.ensures.name)
