@@ -3,7 +3,7 @@ ghost use Rattle.std.specs.Prelude.{◌≡◌};
 use jac_keep::{AttachFault, Change, Keeper, Stop, Vault};
 use jac_rows::Rows;
 use jac_sqlkeep::{FileOpener, SqlKeeper};
-use jac_value::{Id, Txt};
+use jac_value::{Id, Txt, Value};
 use std::alloc::Global;
 use std::marker::Model;
 
@@ -59,6 +59,16 @@ impl Keeper for FileKeeper {
 
     fn one(&mut self, alloc: Global, id: Id) -> Result<Rows, Stop> {
         self.keeper.one(alloc, id)
+    }
+
+    fn rows_with(
+        &mut self,
+        alloc: Global,
+        model: u8,
+        field: u8,
+        value: &Value,
+    ) -> Result<Rows, Stop> {
+        self.keeper.rows_with(alloc, model, field, value)
     }
 
     fn apply(&mut self, alloc: Global, change: &Change) -> Result<(), Stop> {

@@ -6,7 +6,7 @@ use jac_cached::CachedKeeper;
 use jac_io::Calls;
 use jac_keep::{AttachFault, Change, Keeper, MemoryKeeper, Stop, Vault};
 use jac_rows::{Rows, State};
-use jac_value::{Id, Txt};
+use jac_value::{Id, Txt, Value};
 use std::alloc::Global;
 use std::marker::Model;
 
@@ -69,6 +69,20 @@ impl Keeper for HostVault {
         match &mut self.file {
             Some(file) => file.one(alloc, id),
             None => self.memory.one(alloc, id),
+        }
+    }
+
+    #[tactic(auto, using(crate::proofs::Attached::memory_reads))]
+    fn rows_with(
+        &mut self,
+        alloc: Global,
+        model: u8,
+        field: u8,
+        value: &Value,
+    ) -> Result<Rows, Stop> {
+        match &mut self.file {
+            Some(file) => file.rows_with(alloc, model, field, value),
+            None => self.memory.rows_with(alloc, model, field, value),
         }
     }
 
