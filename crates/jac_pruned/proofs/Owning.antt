@@ -25,13 +25,13 @@ use Rattle.jac_lang.specs.Syntax.{Expression, FieldGroup, Entity, Application}
 use Rattle.jac_rows.specs.declared.row.Row.{Row}
 use Rattle.jac_rows.specs.declared.plain.PlainRow.{PlainRow}
 use Rattle.jac_rows.specs.declared.state.State.{State}
-use Rattle.jac_rows.specs.Good.{IsRecord, AreTablesOf, have_kinds}
+use Rattle.jac_rows.specs.Good.{IsRecord, IsShaped, AreTablesOf, have_kinds}
 use Rattle.jac_rows.specs.Project.{rows_at, project_at}
 use Rattle.jac_rows.specs.Tables.{rows_of}
 use Rattle.jac_keep.specs.Records.{alternatives}
 use Rattle.jac_plain.specs.Expressions.{mean, is_true, two, nearest, look_from, bound, binding, extended, crossed, tuples_from, kept_by, inserted, sorted, ordered, answers_by, is_less, key_of, summed, some_of, first_of, pick, is_single, model_of_binder}
 use Rattle.jac_pruned.specs.Local.{is_free, is_free_place, is_free_model, is_free_kind, is_free_field_at, is_free_field_in, is_free_viewer_of, is_free_viewer, are_free, is_free_order, refers_free, is_this, IsOwnLabel, IsOfViewers, IsLocalCase}
-use Rattle.jac_plain.specs.Models.{is_none, kinds_of, kinds_of_fields, kinds_of_models}
+use Rattle.jac_plain.specs.Models.{is_none, shapes_of, kinds_of_fields, shapes_of_models}
 use Rattle.jac_plain.specs.Policies.{is_some_group}
 use Rattle.jac_plain.specs.World.{World, records, rows_at_place, record_with, referred, cell_of, cell_named, got_of}
 use Rattle.jac_pruned.specs.Tupled.{first_bound, left_behind, lengthened, lengthened_all, with_last}
@@ -163,7 +163,7 @@ module _ (app : Application) (s : State) (viewer : Option ℕ) (case : IsLocalCa
           ap (λ (i : ℕ). is_some_group (slice_get (groups_at app.models i) (group_of_label k))) (sym at) ∙ o.group
 
   abbrev Records : ℕ → Row → Type 0
-  Records m r = IsRecord (kinds_of app) m case.next r.id r.cells
+  Records m r = IsRecord (shapes_of app) m case.next r.id r.cells
 
   rows_free : (this : Option ℕ) (m : ℕ) (rows : List Row) → is_free app.models m ≡ true → AllByRecursion (Records m) rows → AllByRecursion Labels rows → is_own_table this rows ≡ true
   rows_free this m [] free made own = refl
@@ -175,7 +175,7 @@ module _ (app : Application) (s : State) (viewer : Option ℕ) (case : IsLocalCa
       let start : 0 + m ≡ m = omega arith in
       subst (λ (n : ℕ). AllByRecursion (Records n) (rows_of s.tables m)) start (rows_made _ Records 0 m s.tables case.good.1)
 
-  -- a model that guards no field has no guarded rows
+  -- a model without groups has no guarded rows
   pub place_free : (this : Option ℕ) (place : Option ℕ) → is_free_place app.models place ≡ true → is_own_table this (table_at s.tables place) ≡ true
   place_free this None free = refl
   place_free this (Some m) free = rows_free this m (rows_of s.tables m) free (records_of m) (case.state m)
@@ -313,14 +313,14 @@ module _ (app : Application) (s : State) (viewer : Option ℕ) (case : IsLocalCa
   seen = record { models = app.models; this = this; viewer = viewer; tables = (project_at u s).tables }
 
   abbrev SeenRecord : ℕ → PlainRow → Type 0
-  SeenRecord m r = IsRecord (kinds_of app) m case.next r.id r.cells
+  SeenRecord m r = IsRecord (shapes_of app) m case.next r.id r.cells
 
-  seen_if : (m : ℕ) (r : Row) (rows : List PlainRow) (b : Bool) → IsRecord (kinds_of app) m case.next r.id r.cells → AllByRecursion (SeenRecord m) rows →
+  seen_if : (m : ℕ) (r : Row) (rows : List PlainRow) (b : Bool) → IsRecord (shapes_of app) m case.next r.id r.cells → AllByRecursion (SeenRecord m) rows →
       AllByRecursion (SeenRecord m) (if b then (record { id = r.id; cells = r.cells }) ∷ rows else rows)
   seen_if m r rows true h a = (h, a)
   seen_if m r rows false h a = a
 
-  seen_rows : (m : ℕ) (rows : List Row) → AllByRecursion (λ (r : Row). IsRecord (kinds_of app) m case.next r.id r.cells) rows → AllByRecursion (SeenRecord m) (rows_at u rows)
+  seen_rows : (m : ℕ) (rows : List Row) → AllByRecursion (λ (r : Row). IsRecord (shapes_of app) m case.next r.id r.cells) rows → AllByRecursion (SeenRecord m) (rows_at u rows)
   seen_rows m [] a = tt
   seen_rows m (r ∷ rows) a = seen_if m r (rows_at u rows) (holds u r.guard) a.0 (seen_rows m rows a.1)
 
@@ -362,10 +362,10 @@ module _ (app : Application) (s : State) (viewer : Option ℕ) (case : IsLocalCa
   default_kind kind.Bool = refl
   default_kind (kind.Ref m) = refl
 
-  fit_at : (all ms : List Entity) (m : ℕ) (P : List Kind → Type 0) → IsSomeAnd (slice_get (kinds_of_models all ms) m) P → P (kinds_of_fields all (fields_at ms m))
-  fit_at all [] m P h = absurd h
-  fit_at all (e ∷ ms) zero P h = h
-  fit_at all (e ∷ ms) (suc m) P h = fit_at all ms m P h
+  fit_at : (all ms : List Entity) (m id : ℕ) (cells : List Value) → IsSomeAnd (slice_get (shapes_of_models all ms) m) (λ shape. IsShaped shape id cells) → have_kinds (kinds_of_fields all (fields_at ms m)) cells ≡ true
+  fit_at all [] m id cells h = absurd h
+  fit_at all (e ∷ ms) zero id cells h = h.fit
+  fit_at all (e ∷ ms) (suc m) id cells h = fit_at all ms m id cells h
 
   abbrev SomeRecord : ℕ → Option PlainRow → Type 0
   SomeRecord m None = ⊤
@@ -389,7 +389,7 @@ module _ (app : Application) (s : State) (viewer : Option ℕ) (case : IsLocalCa
   cell_there : (m f : ℕ) (r : Option PlainRow) → SomeRecord m r → has_kind (kind_at app.models (fields_at app.models m) f) (cell_of r f (default_value (kind_at app.models (fields_at app.models m) f))) ≡ true
   cell_there m f None g = default_kind _
   cell_there m f (Some r) g =
-      cell_kind app.models (fields_at app.models m) r.cells f _ (fit_at app.models app.models m (λ ks. have_kinds ks r.cells ≡ true) g.fit) (default_kind _)
+      cell_kind app.models (fields_at app.models m) r.cells f _ (fit_at app.models app.models m r.id r.cells g.fit) (default_kind _)
 
   named_free : (m : ℕ) (place : Option ℕ) (r : Option PlainRow) → SomeRecord m r → is_free_field_at app.models m place ≡ true → is_free_value app (cell_named seen m place r) ≡ true
   named_free m None r g free = refl

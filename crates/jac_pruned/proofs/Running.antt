@@ -48,6 +48,6 @@ scopes body w s env more inner left new n pieces pieces2 bound long cut ran =
     ∙ ap (cut_to (length env)) (ran ∙ ap (λ e. body (run_in w s e pieces)) bound)
 
 -- one tuple more
-pub tuple_more : (bs : List Binder) (body : Run → Run) (ids : List ℕ) (left rest : List (List ℕ)) (r new total : Run) → left ≡ ids ∷ rest → new ≡ scoped (bound bs ids r.env) body r
+pub tuple_more : (bs : List Binder) (body : List ℕ → Run → Run) (ids : List ℕ) (left rest : List (List ℕ)) (r new total : Run) → left ≡ ids ∷ rest → new ≡ scoped (bound bs ids r.env) (body ids) r
     → for_each bs body left r ≡ total → for_each bs body rest new ≡ total
 tuple_more bs body ids left rest r new total first step so_far = ap (for_each bs body rest) step ∙ ap (λ l. for_each bs body l r) (sym first) ∙ so_far

@@ -19,10 +19,10 @@ use Rattle.jac_rows.specs.declared.state.State.{State}
 use Rattle.jac_rows.specs.Good.{IsGoodByGuards}
 use Rattle.jac_rows.specs.Tables.{rows_of}
 use Rattle.jac_plain.specs.Expressions.{model_of_binder}
-use Rattle.jac_plain.specs.Models.{is_none, kinds_of}
+use Rattle.jac_plain.specs.Models.{is_none, shapes_of}
 use Rattle.jac_plain.specs.Policies.{has_group}
 
--- the model at this place guards no field
+-- the model at this place has no group
 abbrev pub is_free : List Entity → ℕ → Bool
 is_free models m = is_none (groups_at models m)
 
@@ -30,11 +30,11 @@ abbrev pub is_free_place : List Entity → Option ℕ → Bool
 is_free_place models None = true
 is_free_place models (Some m) = is_free models m
 
--- the model of this name guards no field; a name that no model has has no records
+-- the model of this name has no group; a name that no model has has no records
 abbrev pub is_free_model : List Entity → List ℕ → Bool
 is_free_model models name = is_free_place models (model_place models name)
 
--- a value of the kind refers to no record of a model that guards a field
+-- a value of the kind refers to no record of a model that has groups
 abbrev pub is_free_kind : List Entity → Kind → Bool
 is_free_kind models (kind.Ref m) = is_free models m
 is_free_kind models k = true
@@ -47,7 +47,7 @@ abbrev pub is_free_field_in : List Entity → Option ℕ → List ℕ → Bool
 is_free_field_in models None field = true
 is_free_field_in models (Some m) field = is_free_field_at models m (field_place (fields_at models m) field)
 
--- the field of the model refers to no record of a model that guards a field
+-- the field of the model refers to no record of a model that has groups
 abbrev pub is_free_field : List Entity → List ℕ → List ℕ → Bool
 is_free_field models model field = is_free_field_in models (model_place models model) field
 
@@ -55,26 +55,26 @@ abbrev pub is_free_viewer_of : List Entity → Option (List ℕ) → Bool
 is_free_viewer_of models None = false
 is_free_viewer_of models (Some name) = is_free_kind models (kind_named models (named.Ref name))
 
--- the model of those who ask guards no field
+-- the model of those who ask has no group
 abbrev pub is_free_viewer : Application → Bool
 is_free_viewer app = is_free_viewer_of app.models app.viewer
 
--- each binder ranges over a model that guards no field
+-- each binder ranges over a model that has no group
 abbrev pub are_free : List Entity → List Binder → Bool
 are_free models [] = true
 are_free models (b ∷ bs) = is_free_model models b.model && are_free models bs
 
--- the order reads a model that guards no field
+-- the order reads a model that has no group
 abbrev pub is_free_order : List Entity → List Binder → Order → Bool
 is_free_order models bs orders.Key = true
 is_free_order models bs (orders.Up name field) = is_free_model models (model_of_binder bs name)
 is_free_order models bs (orders.Down name field) = is_free_model models (model_of_binder bs name)
 
--- the query ranges over models that guard no field, and is sorted by one of these
+-- the query ranges over models that have no group, and is sorted by one of these
 abbrev pub is_free_query : List Entity → List Binder → Order → Bool
 is_free_query models bs o = are_free models bs && is_free_order models bs o
 
--- what the expression is of, by its form, is no record of a model that guards a field; the test says so of the viewer. A
+-- what the expression is of, by its form, is no record of a model that has groups; the test says so of the viewer. A
 -- name in a policy is a binder's
 abbrev pub refers_free : List Entity → Bool → Expression → Bool
 refers_free models v Expression.this = false
@@ -89,7 +89,7 @@ is_this Expression.this = true
 is_this e = false
 
 abbrev mutual
-  -- each query ranges over models that guard no field, each `get` reads `this` or one of these, and each `live` is of
+  -- each query ranges over models that have no group, each `get` reads `this` or one of these, and each `live` is of
   -- `this` or of a record of one of these
   pub is_local : List Entity → Bool → Expression → Bool
   is_local models v (Expression.get m f e) = (is_this e || is_free_model models m) && is_local models v e
@@ -139,5 +139,5 @@ pub record IsLocalCase (app : Application) (s : State) (viewer : Option ℕ) : T
   pub policies : is_local_app app ≡ true
   pub state : IsLocalState app s
   pub next : ℕ
-  pub good : IsGoodByGuards (kinds_of app) (record s { number = next })
+  pub good : IsGoodByGuards (shapes_of app) (record s { number = next })
   pub asker : IsOfViewers app.models app.viewer viewer

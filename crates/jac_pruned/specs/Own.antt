@@ -80,12 +80,12 @@ is_own_order this app s bs orders.Key = true
 is_own_order this app s bs (orders.Up name field) = is_own_table this (table_named app s (model_of_binder bs name))
 is_own_order this app s bs (orders.Down name field) = is_own_table this (table_named app s (model_of_binder bs name))
 
--- the value refers to no record of a model that guards a field
+-- the value refers to no record of a model that has groups
 abbrev pub is_free_value : Application → Value → Bool
 is_free_value app (value.Ref (Some id)) = is_free app.models (model_of_id id)
 is_free_value app v = true
 
--- no name is bound to a record of a model that guards a field
+-- no name is bound to a record of a model that has groups
 abbrev pub is_free_env : Application → List Binding → Bool
 is_free_env app env = list_all (λ b. is_free_value app b.bound_to) env
 

@@ -11,12 +11,16 @@ use Rattle.jac_plain.specs.declared.context.Ctx.{Ctx}
 use Rattle.jac_plain.specs.declared.page.Page.{Page}
 use Rattle.jac_plain.specs.declared.page.Piece.{Piece}
 use Rattle.jac_plain.specs.Requests.{page_of}
-use Rattle.jac_plain.specs.Statements.{Setting, Run, leaves_all}
+use Rattle.jac_plain.specs.Statements.{Setting, Run, leaves_all, loop_of}
 use Rattle.jac_pruned.specs.Consulted.{Agrees}
 
 -- what stays the same through a run, under an assignment
 abbrev pub setting_at : App → Ctx → (ℕ → Bool) → Setting
-setting_at app ctx w = record { models = (application_of app).models; shown = w; viewer = ctx.viewer; number = ctx.number }
+setting_at app ctx w = record { models = (application_of app).models; shown = w; viewer = ctx.viewer; number = ctx.number; around = ctx.around }
+
+-- the same for the body of a loop at one of its answers
+abbrev pub setting_around : App → Ctx → List ℕ → (ℕ → Bool) → Setting
+setting_around app ctx ids w = record (setting_at app ctx w) { around = loop_of ids }
 
 -- a run over the tables that an assignment shows of a state
 abbrev pub run_in : (ℕ → Bool) → State → List Binding → List Piece → Run

@@ -9,12 +9,12 @@ ghost use Rattle.jac_plain.specs.Expressions.{bound, mean};
 ghost use Rattle.jac_plain.specs.Reading.{are_reading};
 ghost use Rattle.jac_plain.specs.Statements.{assigned, for_each, leaves, leaves_all, scoped, with_binding};
 ghost use Rattle.jac_pruned.specs.Consulted.{Agrees, Grows};
-ghost use Rattle.jac_pruned.specs.Runs.{setting_at, page_ran, IsMade, Runs, IsReading, AreReading};
+ghost use Rattle.jac_pruned.specs.Runs.{setting_at, setting_around, page_ran, IsMade, Runs, IsReading, AreReading};
 ghost use Rattle.jac_pruned.specs.Seen.{world_at};
 
 use crate::Support;
 use crate::assigning::assign;
-use crate::binding::{bind_tuple, bind_value};
+use crate::binding::{bind_tuple, bind_value, loop_of};
 use crate::evaluation::{answers_at, eval};
 use crate::operations::is_true;
 use crate::page::page_of;
@@ -389,7 +389,7 @@ fn execute_tuples<K: Keeper>(
     requires attached { IsTrue (K.seen work.old.keeper.now).store.attached }
     requires no_record { ctx.now.this ≡ None }
     requires reading { AreReading (statements_of body.now) }
-    ensures left { IsTold K.seen work.new → OnOk result (Runs support.new a.now (λ w. for_each (binders_of binders.now) (leaves_all (setting_at app.now ctx.now w) (statements_of body.now)) tuples.now) (state_of K.seen work.old) env.old.items pieces.old.items env.new.items pieces.new.items) }
+    ensures left { IsTold K.seen work.new → OnOk result (Runs support.new a.now (λ w. for_each (binders_of binders.now) (λ ids. leaves_all (setting_around app.now ctx.now ids w) (statements_of body.now)) tuples.now) (state_of K.seen work.old) env.old.items pieces.old.items env.new.items pieces.new.items) }
     ensures reads { ReadsWork K.seen work.old work.new result }
     ensures grows { Grows support.old support.new }
 {
@@ -419,13 +419,17 @@ fn execute_bound<K: Keeper>(
     requires attached { IsTrue (K.seen work.old.keeper.now).store.attached }
     requires no_record { ctx.now.this ≡ None }
     requires reading { AreReading (statements_of body.now) }
-    ensures left { IsTold K.seen work.new → OnOk result (Runs support.new a.now (λ w r. scoped (bound (binders_of binders.now) ids.now r.env) (leaves_all (setting_at app.now ctx.now w) (statements_of body.now)) r) (state_of K.seen work.old) env.old.items pieces.old.items env.new.items pieces.new.items) }
+    ensures left { IsTold K.seen work.new → OnOk result (Runs support.new a.now (λ w r. scoped (bound (binders_of binders.now) ids.now r.env) (leaves_all (setting_around app.now ctx.now ids.now w) (statements_of body.now)) r) (state_of K.seen work.old) env.old.items pieces.old.items env.new.items pieces.new.items) }
     ensures reads { ReadsWork K.seen work.old work.new result }
     ensures grows { Grows support.old support.new }
 {
+    let ctx = Ctx {
+        around: loop_of(ids),
+        ..*ctx
+    };
     let outer = env.len();
     bind_tuple(alloc, env, binders, ids)?;
-    execute_all(alloc, work, app, ctx, a, env, pieces, body, support)?;
+    execute_all(alloc, work, app, &ctx, a, env, pieces, body, support)?;
     env.truncate(outer);
     Ok(())
 }

@@ -1,4 +1,4 @@
-use Rattle.std.proofs.Common.{◌≡◌, ◌≤◌, ◌+◌, ◌*◌, ℕ, Bool, max, drop}
+use Rattle.std.proofs.Common.{◌≡◌, ◌≤◌, ◌+◌, ◌*◌, ℕ, Bool, List, max, drop}
 use Rattle.jac_lang.specs.declared.statements.Stmt.{size-Stmt}
 use Rattle.jac_lang.specs.declared.statements.Stmts.{size-Stmts}
 use Rattle.jac_lang.specs.Mirror.{binders_of, statements_of}
@@ -6,7 +6,7 @@ use Rattle.jac_world.specs.World.{shown}
 use Rattle.jac_keep.specs.Worked.{state_of}
 use Rattle.jac_plain.specs.Statements.{for_each, leaves_all}
 use Rattle.jac_pruned.specs.Consulted.{Agrees, Grows}
-use Rattle.jac_pruned.specs.Runs.{setting_at, run_in, AreReading}
+use Rattle.jac_pruned.specs.Runs.{setting_at, setting_around, run_in, AreReading}
 use Rattle.jac_pruned.proofs.Working.{LoopOver}
 use Rattle.jac_pruned.proofs.run.+run.Given as goal
 
@@ -33,7 +33,7 @@ invariant-execute_tuples-tuples g l =
       grown : Grows l.fn.support l.support;
       read : LoopOver k.seen l.fn.work l.work
           ((w : ℕ → Bool) → Agrees l.support (shown l.a) w →
-          let body = leaves_all (setting_at l.app l.ctx w) (statements_of l.body) in
+          let body = λ (ids : List ℕ). leaves_all (setting_around l.app l.ctx ids w) (statements_of l.body) in
           let bs = binders_of l.binders in
           let s = state_of k.seen l.fn.work in
           for_each bs body (drop l.ids-index l.tuples) (run_in w s l.env.items l.pieces.items) ≡ for_each bs body l.tuples (run_in w s l.fn.env.items l.fn.pieces.items));
