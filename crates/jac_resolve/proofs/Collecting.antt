@@ -6,7 +6,7 @@ use Rattle.std.proofs.lemmas.Bool.{cases_lt}
 use Rattle.std.proofs.lemmas.Bool.Decides.{nat_tests, Decides-eqb}
 use Rattle.std.proofs.lemmas.List.Folds.{list_any-append}
 use Rattle.std.proofs.lemmas.Option.{slice_get-get_or}
-use Rattle.jac_value.specs.Ids.{label_of, record_of_label, group_of_label, model_of_id}
+use Rattle.jac_value.specs.Ids.{label_of, record_of_label, group_of_label, model_of_id, is_id_of}
 use Rattle.jac_world.specs.World.{shown, holds, wanted}
 use Rattle.jac_lang.specs.declared.schema.Group.{Group}
 use Rattle.jac_lang.specs.declared.schema.ModelDef.{ModelDef}
@@ -42,21 +42,28 @@ all_mapped : {X : Type 0} (P Q : X → Type 0) (xs : List X) → ((x : X) → P 
 all_mapped P Q [] f a = tt
 all_mapped P Q (x ∷ xs) f a = (f x a.0, all_mapped P Q xs f a.1)
 
+id_small : (id m : ℕ) → is_id_of id m ≡ true → id < 2 ^ 124
+id_small id m is = grind (arith, nat_tests, is)
+
+-- the same of the model's number in another form
+made_one : (m n id : ℕ) → m ≡ n → is_id_of id m ≡ true → is_id_of id n ≡ true
+made_one m n id same is = ap (is_id_of id) (sym same) ∙ is
+
 -- the rows of a model in a sound state
 sound_rows : (next base : ℕ) (tables : List (List Row)) (m : ℕ) → AreSound next base tables → AllByRecursion (λ (r : Row). IsMade (base + m) next r.id) (rows_of tables m)
 sound_rows next base [] zero s = tt
 sound_rows next base [] (suc m) s = tt
-sound_rows next base (t ∷ ts) zero s = all_mapped (λ (r : Row). IsMade base next r.id) (λ (r : Row). IsMade (base + 0) next r.id) t (λ r made. record { of_model = omega (arith, made.of_model); numbered = made.numbered; made = made.made }) s.1
+sound_rows next base (t ∷ ts) zero s = all_mapped (λ (r : Row). IsMade base next r.id) (λ (r : Row). IsMade (base + 0) next r.id) t (λ r made. record { of_model = omega (arith, made.of_model); is_one = made_one _ _ r.id (omega arith) made.is_one; numbered = made.numbered; made = made.made }) s.1
 sound_rows next base (t ∷ ts) (suc m) s =
     all_mapped (λ (r : Row). IsMade ((base + 1) + m) next r.id) (λ (r : Row). IsMade (base + suc m) next r.id) (rows_of ts m)
-    (λ r made. record { of_model = omega (arith, made.of_model); numbered = made.numbered; made = made.made })
+    (λ r made. record { of_model = omega (arith, made.of_model); is_one = made_one _ _ r.id (omega arith) made.is_one; numbered = made.numbered; made = made.made })
     (sound_rows next (base + 1) ts m s.2)
 
 pub in_range : (s : State) (m : ℕ) → HasSoundTables s → All (λ (r : Row). r.id < 2 ^ 124) (rows_of s.tables m)
 in_range s m has =
     let made : AllByRecursion (λ (r : Row). IsMade (0 + m) has.next r.id) (rows_of s.tables m) = sound_rows has.next 0 s.tables m has.sound.tables in
     all_at (λ (r : Row). r.id < 2 ^ 124) (rows_of s.tables m)
-    (all_mapped (λ (r : Row). IsMade (0 + m) has.next r.id) (λ (r : Row). r.id < 2 ^ 124) (rows_of s.tables m) (λ r made. omega (arith, made.made, has.sound.next.1)) made)
+    (all_mapped (λ (r : Row). IsMade (0 + m) has.next r.id) (λ (r : Row). r.id < 2 ^ 124) (rows_of s.tables m) (λ r made. id_small r.id (0 + m) made.is_one) made)
 
 -- one of two
 
