@@ -1,0 +1,7 @@
+//! Alternatives of a record, joined where their cells are equal and their guards differ in one label's sign alone.
+#![tactic(auto)]
+
+mod guards;
+mod merging;
+
+pub use merging::merge_rows;
