@@ -1,5 +1,5 @@
 -- A record that stands alone.
-use Rattle.std.proofs.Common.{◌≡◌, ◌∙◌, sym, subst, refl, ap, arith, zero, suc, ℕ, ◌+◌, ◌-◌, ◌<◌, ◌≤◌, ◌^◌, Bool, true, List, [], ◌∷◌, ◌++◌, map}
+use Rattle.std.proofs.Common.{◌≡◌, ◌∙◌, sym, subst, refl, ap, arith, zero, suc, ℕ, ◌+◌, ◌-◌, ◌<◌, ◌^◌, Bool, true, List, [], ◌∷◌, ◌++◌, map}
 use Rattle.std.proofs.lemmas.Bool.Decides.{nat_tests}
 use Rattle.std.proofs.lemmas.List.{append_assoc}
 use Rattle.jac_value.specs.Ids.{model_of_id, number_of_id, is_id_of}
@@ -25,11 +25,11 @@ sound_from n k (suc i) m row e made = (tt, tt, sound_from n (k + 1) i m row (ome
 pub sound_alone : (m id n : ℕ) (row : Row) → row.id ≡ id → is_id_of id m ≡ true → n ≡ number_of_id id + 1 → IsSound (record { tables = only m row; number = n })
 sound_alone m id n row is fits next =
     let model : model_of_id id ≡ m = grind (arith, nat_tests, fits) in
-    let low : 4096 ≤ id = grind (arith, nat_tests, fits) in
-    let high : id < 2 ^ 52 = grind (arith, nat_tests, fits) in
-    let made : IsMade m n id = record { of_model = model; numbered = omega (arith, low); made = omega (arith, next) } in
+    let some : 0 < number_of_id id = grind (arith, nat_tests, fits) in
+    let few : number_of_id id < 2 ^ 40 = omega arith in
+    let made : IsMade m n id = record { of_model = model; is_one = fits; numbered = some; made = omega (arith, next) } in
     record {
-      next = (omega (arith, next), omega (arith, next, high));
+      next = (omega (arith, next), omega (arith, next, few));
       tables = sound_from n 0 m m row (omega arith) (subst (λ i. IsMade m n i) (sym is) made);
     }
 

@@ -8,10 +8,10 @@ use Rattle.jac_rows.specs.Good.{IsSound}
 use Rattle.jac_rows.specs.Project.{project_at}
 use Rattle.jac_rows.specs.declared.state.State.{State}
 use Rattle.jac_keep.specs.KeeperSeen.{KeeperSeen, IsLeft}
-use Rattle.jac_keep.specs.Worked.{IsTold}
+use Rattle.jac_keep.specs.Worked.{IsTold, state_of}
 use Rattle.jac_keep.specs.declared.alteration.Alterations.{Alterations}
 use Rattle.jac_keep.specs.declared.work.WorkOver.{WorkOver}
-use Rattle.jac_write.specs.Writes.{PlainTables, numbered, Written, Writes, WritesEach, StaysTold, after_each}
+use Rattle.jac_write.specs.Writes.{KeepsOrMerges, PlainTables, numbered, Written, Writes, WritesEach, StaysTold, after_each}
 
 -- what is left to write, before it what was
 pub record WritingEach (n : ℕ) (step : (ℕ → Bool) → Value → PlainTables → PlainTables) (all left : List (List (ℕ × Bool) × Value)) (old now : State) : Type 0 where
@@ -29,6 +29,7 @@ pub record LoopWrites {K : Type 0} (sight : K → KeeperSeen) (old now : WorkOve
   pub keeper : IsLeft (sight old.keeper.now) (sight now.keeper.now)
   pub same_reference : now.keeper.ghost_name ≡ old.keeper.ghost_name
   pub step : IsTold sight now → writing
+  pub merged : IsTold sight now → KeepsOrMerges (state_of sight old) (state_of sight now)
 
 one_more : (step : Value → PlainTables → PlainTables) (b : Bool) (v : Value) (vs : List Value) (now next : PlainTables) → next ≡ (if b then step v now else now)
     → after_each step vs next ≡ after_each step (if b then v ∷ vs else vs) now

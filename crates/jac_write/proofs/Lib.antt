@@ -1,7 +1,9 @@
 pub mod RecordLaws
+pub mod MergedLaws
 pub mod CellsLaws
 pub mod DraftLaws
 pub mod LeavesLaws
 pub mod SchemaLaws
 pub mod AloneLaws
 pub mod WriteLaws
+pub mod HidingLaws

@@ -226,7 +226,7 @@ rising_if : (w : ℕ → Bool) (x : Row) (xs : List Row) (b : Bool) → holds w 
 rising_if w x xs true e i r = (starts w x xs e i, r)
 rising_if w x xs false e i r = r
 
-rising_at : (w : ℕ → Bool) (rows : List Row) → AreRising rows → ArePlainRows (rows_at w rows)
+pub rising_at : (w : ℕ → Bool) (rows : List Row) → AreRising rows → ArePlainRows (rows_at w rows)
 rising_at w [] t = tt
 rising_at w (x ∷ xs) t = rising_if w x xs (holds w x.guard) refl t.0 (rising_at w xs t.1)
 
@@ -363,6 +363,22 @@ few_then : (b : Bool) (old : List (List Value)) (g : List (List Value) → List 
 few_then true old g h few = few old h
 few_then false old g h few = h
 
+-- alternatives that show the same cells where at most one is shown
+abbrev pub ShowCells : List Row → List Row → Type 0
+ShowCells rows put = (w : ℕ → Bool) → length (cells_at w rows) ≤ 1 → cells_at w put ≡ cells_at w rows
+
+-- new alternatives show at most one, so those that show the same may take their place
+pub shows_put : (n id m : ℕ) (s : State) (guard : List (ℕ × Bool)) (new put : List Row) (g : (ℕ → Bool) → List (List Value) → List (List Value))
+    → IsSound (numbered n s)
+    → ((w : ℕ → Bool) → cells_at w new ≡ (if holds w guard then g w (cells_at w (alternatives id (rows_of s.tables m))) else cells_at w (alternatives id (rows_of s.tables m))))
+    → ((w : ℕ → Bool) (cs : List (List Value)) → length cs ≤ 1 → length (g w cs) ≤ 1)
+    → ShowCells new put
+    → (w : ℕ → Bool) → cells_at w put ≡ (if holds w guard then g w (cells_at w (alternatives id (rows_of s.tables m))) else cells_at w (alternatives id (rows_of s.tables m)))
+shows_put n id m s guard new put g sound shows few same w =
+    let old = cells_at w (alternatives id (rows_of s.tables m)) in
+    let one : length (cells_at w new) ≤ 1 = rw (shows w) (few_then (holds w guard) old (g w) (few_cells w id (rows_of s.tables m) (table_rising n m s sound)) (few w)) in
+    same w one ∙ shows w
+
 -- new alternatives of a record, where the guard holds those that the step leaves and else those that were
 pub written : SoundLaw → (n id m : ℕ) (s : State) (guard : List (ℕ × Bool)) (new : List Row)
     (g : (ℕ → Bool) → List (List Value) → List (List Value)) (step : (ℕ → Bool) → List PlainRow → List PlainRow)
@@ -488,14 +504,16 @@ pub replaced_by : SoundLaw → (n id m : ℕ) (old mid new : State) (guard : Lis
     (g : (ℕ → Bool) → List (List Value) → List (List Value)) (step : (ℕ → Bool) → List PlainRow → List PlainRow)
     → ((w : ℕ → Bool) (cs : List (List Value)) → length cs ≤ 1 → length (g w cs) ≤ 1) → ((w : ℕ → Bool) → IsStepOn id (step w) (g w))
     → IsSound (numbered n old) → model_of_id id ≡ m → rows ≡ alternatives id (rows_of old.tables m) → false ≡ (length given == 0) → given ≡ rows
-    → All (λ (r : Row). r.id ≡ id) kept
+    → All (λ (r : Row). r.id ≡ id) put
     → ((w : ℕ → Bool) → cells_at w kept ≡ (if holds w guard then g w (cells_at w given) else cells_at w given))
-    → put ≡ kept → mid ≡ old → new ≡ state_with id put mid
+    → ShowCells kept put → mid ≡ old → new ≡ state_with id put mid
     → Written n (λ w ts. slice_set ts m (step w (rows_of ts m))) guard old new
-replaced_by law n id m old mid new guard rows given kept put g step few is sound model exact some read own shows put_is same done =
+replaced_by law n id m old mid new guard rows given kept put g step few is sound model exact some read own shows put_shows same done =
     let there : First given = first_of given some in
     let from : given ≡ alternatives id (rows_of old.tables m) = read ∙ exact in
-    let state : new ≡ state_with id kept old = done ∙ ap (λ rows. state_with id rows mid) put_is ∙ ap (state_with id kept) same in
+    let state : new ≡ state_with id put old = done ∙ ap (state_with id put) same in
     subst (λ s. Written n (λ w ts. slice_set ts m (step w (rows_of ts m))) guard old s) (sym state)
-    (written law n id m old guard kept g step sound model (record_made n m id old there.first there.rest sound (sym from ∙ there.is)) (are_of id kept own)
-    (λ w. shows w ∙ ap (λ rows. if holds w guard then g w (cells_at w rows) else cells_at w rows) from) few is)
+    (written law n id m old guard put g step sound model (record_made n m id old there.first there.rest sound (sym from ∙ there.is)) (are_of id put own)
+    (shows_put n id m old guard kept put g sound
+    (λ w. shows w ∙ ap (λ rows. if holds w guard then g w (cells_at w rows) else cells_at w rows) from) few put_shows)
+    few is)

@@ -1,5 +1,5 @@
 -- A record that is made beside its alternatives that stand, and one whose cells are changed.
-use Rattle.std.proofs.Common.{◌≡◌, ◌∙◌, sym, subst, refl, ap, arith, ℕ, ◌<◌, ◌≤◌, ◌^◌, ◌==◌, nat_lt, nat_le, Bool, true, false, if◌then◌else◌, List, [], ◌∷◌, ◌++◌, append-nil, All, map, length, Option, Some}
+use Rattle.std.proofs.Common.{◌≡◌, ◌∙◌, sym, subst, refl, ap, arith, ℕ, ◌<◌, ◌≤◌, ◌==◌, Bool, true, false, if◌then◌else◌, List, [], ◌∷◌, ◌++◌, append-nil, All, map, length, Option, Some}
 use Rattle.std.proofs.lemmas.Bool.Decides.{nat_tests}
 use Rattle.std.proofs.lemmas.List.{length-map}
 use Rattle.std.specs.Prelude.{slice_set}
@@ -19,7 +19,7 @@ use Rattle.jac_keep.proofs.AlteringLaws.{are_of}
 use Rattle.jac_keep.specs.Kept.{state_with}
 use Rattle.jac_keep.specs.Records.{alternatives}
 use Rattle.jac_write.specs.Writes.{numbered, Written, cells_at}
-use Rattle.jac_write.proofs.RecordLaws.{SoundLaw, cells, cells_shown, record_made, shown_rows, step_with_row, written}
+use Rattle.jac_write.proofs.RecordLaws.{ShowCells, SoundLaw, cells, cells_shown, record_made, shown_rows, shows_put, step_with_row, written}
 
 absent_if : (b : Bool) (r : PlainRow) (found : Option PlainRow) (rows : List PlainRow) → stands (if b then Some r else found) ≡ false → (stands found ≡ false → rows ≡ [])
     → (if b then r ∷ rows else rows) ≡ []
@@ -43,26 +43,28 @@ added_if false new old h = append-nil old
 made_by : (m n id : ℕ) → is_id_of id m ≡ true → number_of_id id < n → IsMade m n id
 made_by m n id fits before =
     let model : model_of_id id ≡ m = grind (arith, nat_tests, fits) in
-    let low : 4096 ≤ id = grind (arith, nat_tests, fits) in
-    record { of_model = model; numbered = omega (arith, low); made = before }
+    let some : 0 < number_of_id id = grind (arith, nat_tests, fits) in
+    record { of_model = model; is_one = fits; numbered = some; made = before }
 
 -- a new record beside the alternatives that stand, none of which holds where it does
 pub created : SoundLaw → (n id m : ℕ) (old mid new : State) (pc : List (ℕ × Bool)) (rows given all put : List Row) (made : (ℕ → Bool) → List Value)
     → number_of_id id < n → is_id_of id m ≡ true → ((w : ℕ → Bool) → holds w pc ≡ true → stands (record_with id (rows_of (project_at w old).tables m)) ≡ false)
     → IsSound (numbered n old) → rows ≡ alternatives id (rows_of old.tables m) → given ≡ rows
-    → All (λ (r : Row). r.id ≡ id) all
+    → All (λ (r : Row). r.id ≡ id) put
     → ((w : ℕ → Bool) → cells_at w all ≡ cells_at w given ++ (if holds w pc then made w ∷ [] else []))
-    → put ≡ all → mid ≡ old → new ≡ state_with id put mid
+    → ShowCells all put → mid ≡ old → new ≡ state_with id put mid
     → Written n (λ w ts. slice_set ts m (with_row (plain_row id (made w)) (rows_of ts m))) pc old new
-created law n id m old mid new pc rows given all put made before fits fresh sound exact read own shows put_is same done =
+created law n id m old mid new pc rows given all put made before fits fresh sound exact read own shows put_shows same done =
     let model : model_of_id id ≡ m = grind (arith, nat_tests, fits) in
     let from : given ≡ alternatives id (rows_of old.tables m) = read ∙ exact in
-    let state : new ≡ state_with id all old = done ∙ ap (λ rs. state_with id rs mid) put_is ∙ ap (state_with id all) same in
+    let state : new ≡ state_with id put old = done ∙ ap (state_with id put) same in
+    let one : (w : ℕ → Bool) (cs : List (List Value)) → length cs ≤ 1 → length (made w ∷ []) ≤ 1 = λ w cs few. omega arith in
     subst (λ s. Written n (λ w ts. slice_set ts m (with_row (plain_row id (made w)) (rows_of ts m))) pc old s) (sym state)
-    (written law n id m old pc all (λ w cs. made w ∷ []) (λ w. with_row (plain_row id (made w))) sound model (made_by m n id fits before) (are_of id all own)
+    (written law n id m old pc put (λ w cs. made w ∷ []) (λ w. with_row (plain_row id (made w))) sound model (made_by m n id fits before) (are_of id put own)
+    (shows_put n id m old pc all put (λ w cs. made w ∷ []) sound
     (λ w. shows w ∙ ap (λ rs. cells_at w rs ++ (if holds w pc then made w ∷ [] else [])) from
-    ∙ added_if (holds w pc) (made w) (cells_at w (alternatives id (rows_of old.tables m))) (λ held. no_cells w id m old (fresh w held)))
-    (λ w cs few. omega arith) (λ w. step_with_row id (made w)))
+    ∙ added_if (holds w pc) (made w) (cells_at w (alternatives id (rows_of old.tables m))) (λ held. no_cells w id m old (fresh w held))) one put_shows)
+    one (λ w. step_with_row id (made w)))
 
 map_both : (put store : List Value → List Value) (cs : List (List Value)) → map store (map put cs) ≡ map (λ c. store (put c)) cs
 map_both put store [] = refl
@@ -82,20 +84,12 @@ remade w guard put store old outside within drafts new out into is all =
     ∙ ap (λ cs. (if holds w guard then [] else old) ++ map store cs) (is ∙ ap (map put) into)
     ∙ remade_if (holds w guard) put store old
 
--- the id of a record that is there
-is_made : (m n id : ℕ) → n ≤ 2 ^ 40 → IsMade m n id → is_id_of id m ≡ true
-is_made m n id few made =
-    let low : nat_le 4096 id ≡ true = grind (arith, nat_tests, made.numbered) in
-    let high : nat_lt id (2 ^ 52) ≡ true = grind (arith, nat_tests, made.made, few) in
-    let model : (model_of_id id == m) ≡ true = grind (arith, nat_tests, made.of_model) in
-    rw (low, high, model) refl
-
 not_both : (b : Bool) → b ≡ false → b ≡ true → ⊥
 not_both b f t = cc
 
 none_by : (n m id : ℕ) (s : State) (rows : List Row) → rows ≡ alternatives id (rows_of s.tables m) → IsSound (numbered n s) → is_id_of id m ≡ false → rows ≡ []
 none_by n m id s [] e sound other = refl
-none_by n m id s (r ∷ rows) e sound other = absurd (not_both (is_id_of id m) other (is_made m n id sound.next.1 (record_made n m id s r rows sound (sym e))))
+none_by n m id s (r ∷ rows) e sound other = absurd (not_both (is_id_of id m) other (record_made n m id s r rows sound (sym e)).is_one)
 
 -- a number that is no id of the model has no alternatives in its table
 pub no_record : (n m id : ℕ) (s : State) → IsSound (numbered n s) → is_id_of id m ≡ false → alternatives id (rows_of s.tables m) ≡ []

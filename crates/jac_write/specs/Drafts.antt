@@ -1,5 +1,5 @@
 -- Steps on the way to what a write leaves.
-use Rattle.std.specs.Prelude.{ℕ, ◌&&◌, Bool, false, not, if◌then◌else◌, List, [], ◌∷◌, ◌++◌, slice_set, Option, Some, None}
+use Rattle.std.specs.Prelude.{◌≡◌, ℕ, ◌&&◌, Bool, false, not, if◌then◌else◌, List, [], ◌∷◌, ◌++◌, slice_set, Option, Some, None}
 use Rattle.jac_value.specs.declared.value.Value.{Value}
 use Rattle.jac_world.specs.World.{holds}
 use Rattle.jac_lang.specs.Syntax.{Entity}
@@ -29,6 +29,11 @@ named_by w (Set sets) = is_put (sets_at w sets.now)
 abbrev pub hides : (ℕ → Bool) → Option ℕ → Bool
 hides w None = false
 hides w (Some label) = not (w label)
+
+-- the guard holds where the path condition does and the record is kept; without a guard that is nowhere
+abbrev pub IsKeptUnder : ((ℕ → Bool) → Bool) → List (ℕ × Bool) → Option (List (ℕ × Bool)) → Type 0
+IsKeptUnder kept pc None = (w : ℕ → Bool) → (holds w pc && kept w) ≡ false
+IsKeptUnder kept pc (Some guard) = (w : ℕ → Bool) → holds w guard ≡ (holds w pc && kept w)
 
 -- what is stored of a cell of a draft
 abbrev pub stored_at : List Entity → (ℕ → Bool) → ℕ → ℕ → (ℕ → Bool) → List Value → ℕ → Value → Value

@@ -1,5 +1,5 @@
 -- What a write leaves, under every assignment.
-use Rattle.std.specs.Prelude.{◌≡◌, ℕ, ◌+◌, ◌<◌, ◌==◌, Bool, true, false, if◌then◌else◌, IsTrue, List, [], ◌∷◌, ◌++◌, zero, suc, slice_set}
+use Rattle.std.specs.Prelude.{◌≡◌, ◌⊎◌, ℕ, ◌+◌, ◌<◌, ◌==◌, Bool, true, false, if◌then◌else◌, IsTrue, List, [], ◌∷◌, ◌++◌, zero, suc, slice_set}
 use Rattle.jac_value.specs.declared.value.Value.{Value}
 use Rattle.jac_value.specs.Ids.{model_of_id, number_of_id}
 use Rattle.jac_world.specs.World.{holds}
@@ -8,8 +8,10 @@ use Rattle.jac_facet.specs.Shape.{Shape, at}
 use Rattle.jac_lang.specs.declared.field_kinds.Field.{Field}
 use Rattle.jac_lang.specs.Lookup.{fields_at, kind_at}
 use Rattle.jac_lang.specs.Syntax.{Entity}
+use Rattle.jac_merged.specs.Merged.{AreMerged}
 use Rattle.jac_plain.specs.Expressions.{stands}
-use Rattle.jac_plain.specs.Records.{fitting, plain_row, shielded, every_field, changed, tables_with, tables_after}
+use Rattle.jac_plain.specs.Records.{fitting, plain_row, shielded, every_field, changed, tables_after}
+use Rattle.jac_plain.specs.Statements.{is_kept, tables_made as tables_kept}
 use Rattle.jac_plain.specs.World.{record_with}
 use Rattle.jac_rows.specs.Good.{IsSound}
 use Rattle.jac_rows.specs.Project.{project_at}
@@ -18,9 +20,17 @@ use Rattle.jac_rows.specs.declared.plain.PlainRow.{PlainRow}
 use Rattle.jac_rows.specs.declared.row.Row.{Row}
 use Rattle.jac_rows.specs.declared.state.State.{State}
 use Rattle.jac_keep.specs.KeeperSeen.{KeeperSeen}
+use Rattle.jac_keep.specs.Records.{alternatives}
 use Rattle.jac_keep.specs.Worked.{IsTold}
 use Rattle.jac_keep.specs.declared.alteration.Alterations.{Alterations}
 use Rattle.jac_keep.specs.declared.work.WorkOver.{WorkOver}
+
+-- the alternatives of each record are those that were, or no two of them can be joined
+abbrev pub KeepsOrMerges : State → State → Type 0
+KeepsOrMerges old new =
+    (id : ℕ)
+    → (alternatives id (rows_of new.tables (model_of_id id)) ≡ alternatives id (rows_of old.tables (model_of_id id)))
+    ⊎ AreMerged (alternatives id (rows_of new.tables (model_of_id id)))
 
 abbrev pub PlainTables : Type 0
 PlainTables = List (List PlainRow)
@@ -81,9 +91,10 @@ fitted_from models fields f (v ∷ vs) = fitting (kind_at models fields f) v ∷
 abbrev pub made_cells : List Entity → (ℕ → Bool) → ℕ → ℕ → List Value → List Value
 made_cells models w m id cells = shielded models w m id every_field (fitted_from models (fields_at models m) 0 cells)
 
--- the tables with a new record of these cells
+-- the tables with a new record of these cells, where the record is kept
 abbrev pub tables_made : List Entity → (ℕ → Bool) → ℕ → ℕ → List Value → PlainTables → PlainTables
-tables_made models w m id cells tables = tables_with m (plain_row id (made_cells models w m id cells)) tables
+tables_made models w m id cells tables =
+    tables_kept (is_kept models w m id) m (plain_row id (made_cells models w m id cells)) tables
 
 -- what a create leaves of tables that are sound, where the record comes before the next number and none of its
 -- id stands wherever the path condition holds

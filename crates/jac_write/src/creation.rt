@@ -1,22 +1,25 @@
 //! Records made under a path condition.
-ghost use Rattle.std.specs.Prelude.{◌≡◌, ◌<◌, ◌≤◌, ◌++◌, ◌∷◌, [], ℕ, Bool, true, length, if◌then◌else◌, All, IfOk, OnOk, IsTrue};
+ghost use Rattle.std.specs.Prelude.{◌≡◌, ◌<◌, ◌++◌, ◌∷◌, [], ℕ, Bool, true, length, if◌then◌else◌, All, IfOk, OnOk, IsTrue};
 ghost use Rattle.jac_value.specs.Ids.{is_id_of, model_of_id};
 ghost use Rattle.jac_lang.specs.Lookup.{fields_at};
 ghost use Rattle.jac_lang.specs.Mirror.{application_of};
 ghost use Rattle.jac_expr.specs.Tupled.{all_at};
 ghost use Rattle.jac_keep.specs.Worked.{state_of, IsTold, WritesWork};
+ghost use Rattle.jac_plain.specs.Records.{plain_row, tables_with};
 ghost use Rattle.jac_rows.specs.declared.row.Row.{Row as Seen};
 ghost use Rattle.jac_world.specs.World.{holds};
-ghost use Rattle.jac_write.specs.Writes.{Creates, StaysTold, cells_at, made_cells, tables_made};
+ghost use Rattle.jac_write.specs.Writes.{Creates, KeepsOrMerges, StaysTold, cells_at, made_cells, tables_made};
 
 use crate::alternatives::put_rows;
 use crate::drafts::new_drafts;
+use crate::hiding::kept_under;
+use crate::merged::merged_rows;
 use crate::named::Named;
 use crate::stored::add_stored;
 use jac_facet::{Facet, Facets};
 use jac_keep::{Keeper, Stop, Work, sound_after_change};
 use jac_lang::App;
-use jac_rows::{Row, Rows};
+use jac_rows::Row;
 use jac_value::{Id, Memory, Value, id_model};
 use jac_world::{Guard, Steps};
 use std::alloc::Global;
@@ -56,8 +59,40 @@ fn with_new_record<L: Ledger>(
     Ok(rows)
 }
 
+// Makes a record wherever the guard holds.
+fn make_under<K: Keeper, L: Ledger>(
+    alloc: Global,
+    work: &mut Work<'_, K>,
+    app: &App,
+    guard: &Guard,
+    id: Id,
+    cells: &Facets<Value>,
+    splits: &mut Steps<L>,
+) -> Result<(), Stop>
+    requires attached { IsTrue (K.seen work.old.keeper.now).store.attached }
+    requires a_table { IsTrue (K.seen work.old.keeper.now).tells → model_of_id id < length (K.seen work.old.keeper.now).state.tables }
+    requires model { model_of_id id < length app.now.models }
+    requires id { is_id_of id (model_of_id id) ≡ true }
+    requires each_field { length cells.now ≡ length (fields_at (application_of app.now).models (model_of_id id)) }
+    ensures left { IsTold K.seen work.new → OnOk result (Creates id (λ w. tables_with (model_of_id id) (plain_row id (made_cells (application_of app.now).models w (model_of_id id) id (all_at w cells.now)))) guard.now (state_of K.seen work.old) (state_of K.seen work.new)) }
+    ensures told { OnOk result (StaysTold K.seen work.old work.new) }
+    ensures merged { IsTold K.seen work.new → OnOk result (KeepsOrMerges (state_of K.seen work.old) (state_of K.seen work.new)) }
+    ensures keeps { WritesWork K.seen work.old work.new result }
+{
+    sound_after_change();
+    let model = id_model(id);
+    let standing = work.one(alloc, id)?;
+    let cells = cells.as_slice();
+    let standing = standing.into_vec();
+    let rows = with_new_record(alloc, app, guard, model, id, cells, standing, splits)?;
+    let merged = merged_rows(alloc, rows)?;
+    work.replace(id, merged)?;
+    Ok(())
+}
+
 /// Makes a record wherever the path condition holds, with one cell for each field of its model. A cell of
-/// another kind than its field's counts as the default of that kind.
+/// another kind than its field's counts as the default of that kind. Where a group hides the model's records, the
+/// record is made only where its label for that group is shown.
 pub fn create<K: Keeper, L: Ledger>(
     alloc: Global,
     work: &mut Work<'_, K>,
@@ -74,14 +109,14 @@ pub fn create<K: Keeper, L: Ledger>(
     requires each_field { length cells.now ≡ length (fields_at (application_of app.now).models (model_of_id id)) }
     ensures left { IsTold K.seen work.new → OnOk result (Creates id (λ w. tables_made (application_of app.now).models w (model_of_id id) id (all_at w cells.now)) pc.now (state_of K.seen work.old) (state_of K.seen work.new)) }
     ensures told { OnOk result (StaysTold K.seen work.old work.new) }
+    ensures merged { IsTold K.seen work.new → OnOk result (KeepsOrMerges (state_of K.seen work.old) (state_of K.seen work.new)) }
     ensures keeps { WritesWork K.seen work.old work.new result }
 {
-    sound_after_change();
-    let model = id_model(id);
-    let standing = work.one(alloc, id)?;
-    let cells = cells.as_slice();
-    let standing = standing.into_vec();
-    let rows = with_new_record(alloc, app, pc, model, id, cells, standing, splits)?;
-    work.replace(id, Rows::from_vec(rows))?;
-    Ok(())
+    match kept_under(alloc, app, pc, id)? {
+        Some(guard) => {
+            make_under(alloc, work, app, &guard, id, cells, splits)?;
+            Ok(())
+        }
+        None => Ok(()),
+    }
 }

@@ -1,16 +1,16 @@
 //! Records taken away under a path condition.
-ghost use Rattle.std.specs.Prelude.{◌≡◌, ◌<◌, ℕ, Bool, length, slice_set, OnOk, IsTrue};
+ghost use Rattle.std.specs.Prelude.{◌<◌, length, slice_set, OnOk, IsTrue};
 ghost use Rattle.jac_value.specs.Ids.{model_of_id};
 ghost use Rattle.jac_facet.specs.Shape.{at};
 ghost use Rattle.jac_rows.specs.Tables.{rows_of};
 ghost use Rattle.jac_keep.specs.Worked.{state_of, IsTold, WritesWork};
 ghost use Rattle.jac_plain.specs.Records.{tables_after, without};
-ghost use Rattle.jac_write.specs.Writes.{Writes, WritesEach, StaysTold};
+ghost use Rattle.jac_write.specs.Writes.{Writes, WritesEach, KeepsOrMerges, StaysTold};
 
 use crate::alternatives::outside;
+use crate::merged::merged_rows;
 use jac_facet::Facet;
 use jac_keep::{Keeper, Stop, Work, sound_after_change};
-use jac_rows::Rows;
 use jac_value::{Id, Value, id_model};
 use jac_world::Guard;
 use std::alloc::Global;
@@ -26,6 +26,7 @@ fn delete_alternatives<K: Keeper>(
     requires a_table { IsTrue (K.seen work.old.keeper.now).tells → model_of_id id < length (K.seen work.old.keeper.now).state.tables }
     ensures left { IsTold K.seen work.new → OnOk result (Writes (λ w ts. slice_set ts (model_of_id id) (without id (rows_of ts (model_of_id id)))) guard.now (state_of K.seen work.old) (state_of K.seen work.new)) }
     ensures told { OnOk result (StaysTold K.seen work.old work.new) }
+    ensures merged { IsTold K.seen work.new → OnOk result (KeepsOrMerges (state_of K.seen work.old) (state_of K.seen work.new)) }
     ensures keeps { WritesWork K.seen work.old work.new result }
 {
     sound_after_change();
@@ -34,7 +35,8 @@ fn delete_alternatives<K: Keeper>(
         return Ok(());
     }
     let kept = outside(alloc, guard, id, rows.as_slice())?;
-    work.replace(id, Rows::from_vec(kept))?;
+    let merged = merged_rows(alloc, kept)?;
+    work.replace(id, merged)?;
     Ok(())
 }
 
@@ -50,6 +52,7 @@ fn delete_record<K: Keeper>(
     requires a_table { IsTrue (K.seen work.old.keeper.now).tells → model < length (K.seen work.old.keeper.now).state.tables }
     ensures left { IsTold K.seen work.new → OnOk result (Writes (λ w ts. slice_set ts model (without id (rows_of ts model))) guard.now (state_of K.seen work.old) (state_of K.seen work.new)) }
     ensures told { OnOk result (StaysTold K.seen work.old work.new) }
+    ensures merged { IsTold K.seen work.new → OnOk result (KeepsOrMerges (state_of K.seen work.old) (state_of K.seen work.new)) }
     ensures keeps { WritesWork K.seen work.old work.new result }
 {
     if id_model(id) != model {
@@ -71,6 +74,7 @@ fn delete_where<K: Keeper>(
     requires a_table { IsTrue (K.seen work.old.keeper.now).tells → model < length (K.seen work.old.keeper.now).state.tables }
     ensures left { IsTold K.seen work.new → OnOk result (Writes (λ w. tables_after model target.now without) guard.now (state_of K.seen work.old) (state_of K.seen work.new)) }
     ensures told { OnOk result (StaysTold K.seen work.old work.new) }
+    ensures merged { IsTold K.seen work.new → OnOk result (KeepsOrMerges (state_of K.seen work.old) (state_of K.seen work.new)) }
     ensures keeps { WritesWork K.seen work.old work.new result }
 {
     match target {
@@ -92,6 +96,7 @@ fn delete_leaves<K: Keeper>(
     requires a_table { IsTrue (K.seen work.old.keeper.now).tells → model < length (K.seen work.old.keeper.now).state.tables }
     ensures left { IsTold K.seen work.new → OnOk result (WritesEach (λ w v. tables_after model v without) leaves.now (state_of K.seen work.old) (state_of K.seen work.new)) }
     ensures told { OnOk result (StaysTold K.seen work.old work.new) }
+    ensures merged { IsTold K.seen work.new → OnOk result (KeepsOrMerges (state_of K.seen work.old) (state_of K.seen work.new)) }
     ensures keeps { WritesWork K.seen work.old work.new result }
 {
     'leaves: for leaf in leaves {
@@ -113,6 +118,7 @@ pub fn delete<K: Keeper>(
     requires a_table { IsTrue (K.seen work.old.keeper.now).tells → model < length (K.seen work.old.keeper.now).state.tables }
     ensures left { IsTold K.seen work.new → OnOk result (Writes (λ w. tables_after model (at w target.now) without) pc.now (state_of K.seen work.old) (state_of K.seen work.new)) }
     ensures told { OnOk result (StaysTold K.seen work.old work.new) }
+    ensures merged { IsTold K.seen work.new → OnOk result (KeepsOrMerges (state_of K.seen work.old) (state_of K.seen work.new)) }
     ensures keeps { WritesWork K.seen work.old work.new result }
 {
     let leaves = target.leaves_under(alloc, pc)?;

@@ -54,13 +54,16 @@ fn tables_alone(alloc: Global, model: u8, row: Row) -> Result<Tables, Memory>
     Ok(Tables::from_vec(tables))
 }
 
+// A wide id is a multiple of this and a narrow id.
+const NARROW_IDS_END: u128 = 1 << 52;
+
 // The number after that of the request that made the record.
 fn next_number(id: Id, model: u8) -> u64
     requires { is_id_of id model ≡ true }
     ensures { result ≡ number_of_id id + 1 }
 {
     let _ = model;
-    (id.0 / 4096) as u64 + 1
+    (id.0 % NARROW_IDS_END / 4096) as u64 + 1
 }
 
 // The state in which a record stands alone, for everybody.

@@ -1,10 +1,10 @@
-//! The public expressions of fields, by number.
+//! The groups of a model: which one guards a field, which one hides records, and the public expressions.
 ghost use Rattle.std.specs.Prelude.{◌≡◌, ◌<◌, ◌≤◌, length, option_copied, option_map, slice_get, IfSome, Some};
-ghost use Rattle.jac_lang.specs.Lookup.{fields_at, group_in, groups_at};
+ghost use Rattle.jac_lang.specs.Lookup.{fields_at, group_in, groups_at, hiding_place};
 ghost use Rattle.jac_lang.specs.Mirror.{application_of, assigned_of, expression_of, groups_of};
 ghost use Rattle.jac_plain.specs.Records.{expression_for, guards_in, name_in, public_expression};
 
-use jac_lang::{App, Expr, Field, Group, ModelDef, Publics, group_of};
+use jac_lang::{App, Expr, Field, Group, ModelDef, Publics, group_of, hiding_group};
 use jac_value::Txt;
 
 /// The public expression of a field, if a group guards it.
@@ -46,6 +46,17 @@ pub(crate) fn guarding_group(app: &App, model: u8, field: u8) -> Option<u8>
     // The list of the groups tells how many there can be.
     let _ = groups_of_model(app, model);
     group_of(app, model, field)
+}
+
+/// The number of the group that hides the records of the model: one of at most 8.
+pub(crate) fn group_that_hides(app: &App, model: u8) -> Option<u8>
+    requires { model < length app.now.models }
+    ensures group { result ≡ hiding_place (groups_at (application_of app.now).models model) }
+    ensures few { IfSome result (λ g. g < 8) }
+{
+    // The list of the groups tells how many there can be.
+    let _ = groups_of_model(app, model);
+    hiding_group(app, model)
 }
 
 fn fields_of(app: &App, model: u8) -> &[Field]

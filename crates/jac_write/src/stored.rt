@@ -74,7 +74,7 @@ fn parted_cell<L: Ledger>(
     Ok(parted)
 }
 
-// What is stored of a field of a draft. Here alone the label of a group comes into a record.
+// What is stored of a field of a draft. Here alone the label of a group comes into the cells of a record.
 #[tactic(auto, using(crate::proofs::DraftLaws::parted_at))]
 fn stored_field<L: Ledger>(
     alloc: Global,

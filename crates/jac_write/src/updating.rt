@@ -10,17 +10,18 @@ ghost use Rattle.jac_plain.specs.Records.{changed};
 ghost use Rattle.jac_rows.specs.Tables.{rows_of};
 ghost use Rattle.jac_rows.specs.declared.row.Row.{Row as Seen};
 ghost use Rattle.jac_world.specs.World.{holds};
-ghost use Rattle.jac_write.specs.Writes.{Writes, WritesEach, StaysTold, cells_at, remade_cells, sets_at, tables_remade};
+ghost use Rattle.jac_write.specs.Writes.{Writes, WritesEach, KeepsOrMerges, StaysTold, cells_at, remade_cells, sets_at, tables_remade};
 
 use crate::Sets;
 use crate::alternatives::{outside, within};
 use crate::drafts::with_sets;
+use crate::merged::merged_rows;
 use crate::named::Named;
 use crate::stored::add_stored;
 use jac_facet::Facet;
 use jac_keep::{Keeper, Stop, Work, sound_after_change};
 use jac_lang::App;
-use jac_rows::{Row, Rows};
+use jac_rows::Row;
 use jac_value::{Id, Memory, Value, is_id};
 use jac_world::{Guard, Steps};
 use std::alloc::Global;
@@ -79,6 +80,7 @@ fn update_alternatives<K: Keeper, L: Ledger>(
     requires id { is_id_of id model ≡ true }
     ensures left { IsTold K.seen work.new → OnOk result (Writes (λ w ts. slice_set ts model (changed id (remade_cells (application_of app.now).models w model id (sets_at w sets.now)) (rows_of ts model))) guard.now (state_of K.seen work.old) (state_of K.seen work.new)) }
     ensures told { OnOk result (StaysTold K.seen work.old work.new) }
+    ensures merged { IsTold K.seen work.new → OnOk result (KeepsOrMerges (state_of K.seen work.old) (state_of K.seen work.new)) }
     ensures keeps { WritesWork K.seen work.old work.new result }
 {
     sound_after_change();
@@ -88,7 +90,8 @@ fn update_alternatives<K: Keeper, L: Ledger>(
         return Ok(());
     }
     let remade = remade_rows(alloc, app, guard, model, id, sets, rows, splits)?;
-    work.replace(id, Rows::from_vec(remade))?;
+    let merged = merged_rows(alloc, remade)?;
+    work.replace(id, merged)?;
     Ok(())
 }
 
@@ -109,6 +112,7 @@ fn update_record<K: Keeper, L: Ledger>(
     requires fields { All (λ (s : ℕ × Shape Plain). s.0 < length (fields_at (application_of app.now).models model)) sets.now }
     ensures left { IsTold K.seen work.new → OnOk result (Writes (λ w ts. slice_set ts model (changed id (remade_cells (application_of app.now).models w model id (sets_at w sets.now)) (rows_of ts model))) guard.now (state_of K.seen work.old) (state_of K.seen work.new)) }
     ensures told { OnOk result (StaysTold K.seen work.old work.new) }
+    ensures merged { IsTold K.seen work.new → OnOk result (KeepsOrMerges (state_of K.seen work.old) (state_of K.seen work.new)) }
     ensures keeps { WritesWork K.seen work.old work.new result }
 {
     if !is_id(id.0, model) {
@@ -135,6 +139,7 @@ fn update_where<K: Keeper, L: Ledger>(
     requires fields { All (λ (s : ℕ × Shape Plain). s.0 < length (fields_at (application_of app.now).models model)) sets.now }
     ensures left { IsTold K.seen work.new → OnOk result (Writes (λ w. tables_remade (application_of app.now).models w model target.now (sets_at w sets.now)) guard.now (state_of K.seen work.old) (state_of K.seen work.new)) }
     ensures told { OnOk result (StaysTold K.seen work.old work.new) }
+    ensures merged { IsTold K.seen work.new → OnOk result (KeepsOrMerges (state_of K.seen work.old) (state_of K.seen work.new)) }
     ensures keeps { WritesWork K.seen work.old work.new result }
 {
     match target {
@@ -161,6 +166,7 @@ fn update_leaves<K: Keeper, L: Ledger>(
     requires fields { All (λ (s : ℕ × Shape Plain). s.0 < length (fields_at (application_of app.now).models model)) sets.now }
     ensures left { IsTold K.seen work.new → OnOk result (WritesEach (λ w v. tables_remade (application_of app.now).models w model v (sets_at w sets.now)) leaves.now (state_of K.seen work.old) (state_of K.seen work.new)) }
     ensures told { OnOk result (StaysTold K.seen work.old work.new) }
+    ensures merged { IsTold K.seen work.new → OnOk result (KeepsOrMerges (state_of K.seen work.old) (state_of K.seen work.new)) }
     ensures keeps { WritesWork K.seen work.old work.new result }
 {
     'leaves: for leaf in leaves {
@@ -187,6 +193,7 @@ pub fn update<K: Keeper, L: Ledger>(
     requires fields { All (λ (s : ℕ × Shape Plain). s.0 < length (fields_at (application_of app.now).models model)) sets.now }
     ensures left { IsTold K.seen work.new → OnOk result (Writes (λ w. tables_remade (application_of app.now).models w model (at w target.now) (sets_at w sets.now)) pc.now (state_of K.seen work.old) (state_of K.seen work.new)) }
     ensures told { OnOk result (StaysTold K.seen work.old work.new) }
+    ensures merged { IsTold K.seen work.new → OnOk result (KeepsOrMerges (state_of K.seen work.old) (state_of K.seen work.new)) }
     ensures keeps { WritesWork K.seen work.old work.new result }
 {
     let leaves = target.leaves_under(alloc, pc)?;

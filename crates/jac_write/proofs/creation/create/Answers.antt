@@ -1,27 +1,31 @@
-use Rattle.std.proofs.Common.{◌≡◌, ◌∙◌, ap, ℕ, Bool, List, [], ◌∷◌, ◌++◌, if◌then◌else◌}
+use Rattle.std.proofs.Common.{refl}
 use Rattle.jac_value.specs.Ids.{model_of_id}
-use Rattle.jac_value.specs.declared.value.Value.{Value}
 use Rattle.jac_expr.specs.Tupled.{all_at}
 use Rattle.jac_keep.specs.Worked.{state_of}
 use Rattle.jac_lang.specs.Mirror.{application_of}
-use Rattle.jac_world.specs.World.{holds}
-use Rattle.jac_write.specs.Writes.{cells_at, made_cells}
-use Rattle.jac_write.proofs.WriteLaws.{created}
+use Rattle.jac_plain.specs.Records.{plain_row}
+use Rattle.jac_plain.specs.Statements.{is_kept}
+use Rattle.jac_write.specs.Writes.{made_cells}
+use Rattle.jac_write.proofs.HidingLaws.{made_where_kept, made_nowhere}
+use Rattle.jac_write.proofs.MergedLaws.{kept}
 use Rattle.jac_write.proofs.creation.create.Goals as goal
 
-pub returns-clause-left : goal.returns-clause-left
-returns-clause-left g c told n numbered fresh sound =
-    let read = c.in_ok-replace.ensures.back told in
+pub returns-in_ok-make_under-in-Some-clause-left : goal.returns-in_ok-make_under-in-Some-clause-left
+returns-in_ok-make_under-in-Some-clause-left g c told =
     let models = (application_of c.args.app.now).models in
     let id = c.args.id in
-    let cells = c.args.cells.now in
-    let made : (ℕ → Bool) → List Value = λ w. made_cells models w (model_of_id id) id (all_at w cells) in
-    let standing = c.into_vec-standing.result.items in
-    let shows : (w : ℕ → Bool) → cells_at w c.in_ok-rows.rows.items ≡ cells_at w standing ++ (if holds w c.args.pc.now then made w ∷ [] else []) = λ w.
-    c.in_ok-rows.ensures.shown w
-    ∙ ap (λ m. cells_at w standing ++ (if holds w c.args.pc.now then made_cells models w m id (all_at w c.as_slice-cells.result.now) ∷ [] else [])) c.id_model-model.ensures
-    ∙ ap (λ cs. cells_at w standing ++ (if holds w c.args.pc.now then made_cells models w (model_of_id id) id (all_at w cs) ∷ [] else [])) c.as_slice-cells.ensures in
-    created c.sound_after_change.ensures n id (model_of_id id) (state_of g.K.Keeper.seen c.args.work.now) (state_of g.K.Keeper.seen c.one.new.self)
-    (state_of g.K.Keeper.seen c.replace.new.self) c.args.pc.now c.in_ok-standing.standing standing c.in_ok-rows.rows.items c.from_vec.result made
-    numbered c.requires.id fresh sound (c.in_ok-standing.ensures.exact read) c.into_vec-standing.ensures c.in_ok-rows.ensures.own shows c.from_vec.ensures
-    (c.in_ok-standing.ensures.reads.same.same_state read) c.in_ok-replace.ensures.exact
+    made_where_kept id (model_of_id id) (λ w. is_kept models w (model_of_id id) id)
+    (λ w. plain_row id (made_cells models w (model_of_id id) id (all_at w c.args.cells.now))) c.args.pc.now c.in-Some.guard
+    (state_of g.K.Keeper.seen c.args.work.now) (state_of g.K.Keeper.seen c.make_under.new.work)
+    (rw c.in-Some.is at c.in_ok-guard.ensures) (c.in_ok-make_under-in-Some.ensures.left told)
+
+pub returns-in-None-clause-left : goal.returns-in-None-clause-left
+returns-in-None-clause-left g c told =
+    let models = (application_of c.args.app.now).models in
+    let id = c.args.id in
+    made_nowhere id (model_of_id id) (λ w. is_kept models w (model_of_id id) id)
+    (λ w. plain_row id (made_cells models w (model_of_id id) id (all_at w c.args.cells.now))) c.args.pc.now
+    (state_of g.K.Keeper.seen c.args.work.now) (rw c.in-None.is at c.in_ok-guard.ensures)
+
+pub returns-in-None-clause-merged : goal.returns-in-None-clause-merged
+returns-in-None-clause-merged g c told = kept (state_of g.K.Keeper.seen c.args.work.now) (state_of g.K.Keeper.seen c.args.work.now) refl

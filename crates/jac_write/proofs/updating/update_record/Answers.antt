@@ -5,6 +5,7 @@ use Rattle.jac_keep.specs.Worked.{state_of}
 use Rattle.jac_lang.specs.Mirror.{application_of}
 use Rattle.jac_plain.specs.Records.{changed}
 use Rattle.jac_write.specs.Writes.{remade_cells, sets_at}
+use Rattle.jac_write.proofs.MergedLaws.{kept}
 use Rattle.jac_write.proofs.RecordLaws.{absent, step_changed}
 use Rattle.jac_write.proofs.WriteLaws.{no_record}
 use Rattle.jac_write.proofs.updating.update_record.Goals as goal
@@ -17,3 +18,6 @@ returns-then-not-is_id-clause-left g c told n sound =
     let no : is_id_of id c.args.model ≡ false = search rules in
     absent n id c.args.model state c.args.guard.now (λ w. map (remake w)) (λ w. changed id (remake w)) sound (no_record n c.args.model id state sound no)
     (λ w. refl) (λ w. step_changed id (remake w))
+
+pub returns-then-not-is_id-clause-merged : goal.returns-then-not-is_id-clause-merged
+returns-then-not-is_id-clause-merged g c told = kept (state_of g.K.Keeper.seen c.args.work.now) (state_of g.K.Keeper.seen c.args.work.now) refl
