@@ -18,7 +18,7 @@ use Rattle.jac_plain.specs.Statements.{Setting, Run, world_of, value_in, choose,
 use Rattle.jac_query.specs.Live.{live}
 use Rattle.jac_query.specs.declared.tuple.Tuple.{Tuple}
 use Rattle.jac_expr.specs.Seen.{env_at, world_at, Means}
-use Rattle.jac_stmt.specs.Runs.{faceted, run_at, setting_at, Executes, RanEach, RunsEach, after_each, MayAll, chosen_at, MayChooseAt, bound_at, MayBindAt, live_under}
+use Rattle.jac_stmt.specs.Runs.{faceted, run_at, setting_at, setting_around, Executes, RanEach, RunsEach, after_each, MayAll, chosen_at, MayChooseAt, bound_at, MayBindAt, live_under}
 use Rattle.jac_stmt.proofs.RunLaws.{value_here, sound_too}
 
 -- one value, where the path condition holds
@@ -72,12 +72,12 @@ branches app ctx e first second pc start old new env env2 out out2 value leaves 
 
 -- the body for each tuple
 each-bound : (app : App) (ctx : Ctx) (bs : List Binder) (body : Statements) (w : ℕ → Bool) (tuples : List (List ℕ)) (r : Run)
-    → after_each (bound_at app ctx bs body w) tuples r ≡ for_each bs (leaves_all (setting_at app ctx w) body) tuples r
+    → after_each (bound_at app ctx bs body w) tuples r ≡ for_each bs (λ ids. leaves_all (setting_around app ctx ids w) body) tuples r
 each-bound app ctx bs body w [] r = refl
 each-bound app ctx bs body w (ids ∷ tuples) r = each-bound app ctx bs body w tuples (bound_at app ctx bs body w ids r)
 
 may-bound : (app : App) (ctx : Ctx) (bs : List Binder) (body : Statements) (n : ℕ) (w : ℕ → Bool) (tuples : List (List ℕ)) (r : Run)
-    → MayEach bs (leaves_all (setting_at app ctx w) body) (MayRunAll n (setting_at app ctx w) body) tuples r → MayAll (bound_at app ctx bs body w) (MayBindAt app ctx bs body n w) tuples r
+    → MayEach bs (λ ids. leaves_all (setting_around app ctx ids w) body) (λ ids. MayRunAll n (setting_around app ctx ids w) body) tuples r → MayAll (bound_at app ctx bs body w) (MayBindAt app ctx bs body n w) tuples r
 may-bound app ctx bs body n w [] r may = tt
 may-bound app ctx bs body n w (ids ∷ tuples) r may = (may.0, may-bound app ctx bs body n w tuples (bound_at app ctx bs body w ids r) may.1)
 
@@ -104,7 +104,7 @@ repeats app ctx q body pc start old new env env2 out out2 ts none same found eac
           ran.left w
           ∙ ap (λ s. after_each (bound_at app ctx bs body w) (live_under pc ts w) s) (before w)
           ∙ some_if (bound_at app ctx bs body w) (MayBindAt app ctx bs body n w) (holds w pc) (live w ts) (r w)
-          (for_each bs (leaves_all (setting_at app ctx w) body) (answers (world_of (setting_at app ctx w) (r w)) q (r w).env) (r w))
-          (λ held. each-bound app ctx bs body w (live w ts) (r w) ∙ ap (λ xs. for_each bs (leaves_all (setting_at app ctx w) body) xs (r w)) (tuples w held));
+          (for_each bs (λ ids. leaves_all (setting_around app ctx ids w) body) (answers (world_of (setting_at app ctx w) (r w)) q (r w).env) (r w))
+          (λ held. each-bound app ctx bs body w (live w ts) (r w) ∙ ap (λ xs. for_each bs (λ ids. leaves_all (setting_around app ctx ids w) body) xs (r w)) (tuples w held));
       sound = ran.sound;
     }

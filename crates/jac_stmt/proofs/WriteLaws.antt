@@ -1,15 +1,15 @@
 -- Statements that write: what they leave, by what the writes leave.
-use Rattle.std.proofs.Common.{◌≡◌, ◌∙◌, sym, ap, subst, arith, ℕ, ◌<◌, ◌^◌, Bool, true, false, List, Some, None}
-use Rattle.std.proofs.lemmas.Bool.Decides.{nat_tests}
+use Rattle.std.proofs.Common.{◌≡◌, ◌∙◌, sym, ap, subst, arith, ℕ, ◌+◌, ◌<◌, ◌^◌, Bool, true, false, List, Some, None}
 use Rattle.jac_value.specs.declared.value.Value.{Value}
 use Rattle.jac_value.specs.declared.value.Value.TheVariants as value
-use Rattle.jac_value.specs.Ids.{record_id, model_of_id, number_of_id, is_id_of}
+use Rattle.jac_value.specs.Ids.{record_id, model_of_id, number_of_id}
 use Rattle.jac_world.specs.World.{holds, wanted}
 use Rattle.jac_facet.specs.Shape.{Shape, one, at}
 use Rattle.jac_lang.specs.declared.application.App.{App}
-use Rattle.jac_lang.specs.Lookup.{model_place, fields_at}
+use Rattle.jac_lang.specs.Lookup.{model_place, fields_at, is_nested_at}
 use Rattle.jac_lang.specs.Mirror.{application_of}
 use Rattle.jac_lang.specs.Syntax.{Entity, Expression, Assigned, Statement, Statements}
+use Rattle.jac_rows.specs.Good.{IsMade}
 use Rattle.jac_rows.specs.Project.{project_at}
 use Rattle.jac_rows.specs.Tables.{rows_of}
 use Rattle.jac_rows.specs.declared.plain.PlainRow.{PlainRow}
@@ -19,8 +19,9 @@ use Rattle.jac_plain.specs.declared.page.Piece.{Piece}
 use Rattle.jac_plain.specs.Expressions.{mean, stands}
 use Rattle.jac_plain.specs.Making.{MayRun, MayRunAll, IsNew, MayCreate}
 use Rattle.jac_plain.specs.Records.{drafted, default_cells, plain_row, shielded, every_field, is_set, changed, without, tables_after}
-use Rattle.jac_plain.specs.Statements.{Run, value_in, with_record, created_cells, created, updated_cells, updated, deleted, leaves, leaves_all}
+use Rattle.jac_plain.specs.Statements.{Run, value_in, around_id, is_kept, with_made, created_cells, created, updated_cells, updated, deleted, leaves, leaves_all}
 use Rattle.jac_plain.specs.World.{record_with}
+use Rattle.jac_plain.proofs.MadeIds.{form_of, form_made}
 use Rattle.jac_expr.specs.Seen.{env_at, world_at, Means}
 use Rattle.jac_expr.specs.Tupled.{all_at}
 use Rattle.jac_write.specs.Writes.{Writes, Creates, fitted_from, tables_made, sets_at, remade_cells, tables_remade}
@@ -94,14 +95,15 @@ updates app ctx name e sets pc m start old new env out target put none place sam
 
 -- making records
 
-pub id_model : (n s m : ℕ) → s < 64 → m < 64 → model_of_id (record_id n s m) ≡ m
-id_model n s m site model = grind (arith, nat_tests, site, model)
+-- the id of a record that is made here, around the loop's record where the model is nested
+abbrev pub id_here : App → Ctx → ℕ → ℕ → ℕ
+id_here app ctx m site = around_id (is_nested_at (application_of app).models m) ctx.around (record_id ctx.number site m)
 
-pub id_number : (n s m : ℕ) → s < 64 → m < 64 → number_of_id (record_id n s m) ≡ n
-id_number n s m site model = grind (arith, nat_tests, site, model)
-
-pub id_is_one : (n s m : ℕ) → 0 < n → n < 2 ^ 40 → s < 64 → m < 64 → is_id_of (record_id n s m) (model_of_id (record_id n s m)) ≡ true
-id_is_one n s m some few site model = grind (arith, nat_tests, some, few, site, model)
+pub made_here : (app : App) (ctx : Ctx) (m site : ℕ) → 0 < ctx.number → ctx.number < 2 ^ 40 → site < 64 → m < 64
+    → IsMade m (ctx.number + 1) (id_here app ctx m site)
+made_here app ctx m site some room few_sites few_models =
+    form_made ctx.number site m (id_here app ctx m site) some room few_sites few_models
+    (form_of (is_nested_at (application_of app).models m) ctx.around (record_id ctx.number site m))
 
 pub creates_none : (app : App) (ctx : Ctx) (name model : List ℕ) (site : ℕ) (sets : List Assigned) (body : Statements) (pc : List (ℕ × Bool)) (s : State) (env : List (List ℕ × Shape Value)) (out : List (List (ℕ × Bool) × Piece))
     → model_place (application_of app).models model ≡ None → Executes app ctx (Statement.create name model site sets body) pc (faceted s env out) (faceted s env out)
@@ -109,48 +111,52 @@ creates_none app ctx name model site sets body pc s env out none =
     nothing_runs (λ w. leaves (setting_at app ctx w) (Statement.create name model site sets body)) (λ n w. MayRun n (setting_at app ctx w) (Statement.create name model site sets body)) (λ w. holds w pc) s env out
     (λ w held. ap (λ m. created (setting_at app ctx w) name m site sets (leaves_all (setting_at app ctx w) body) (run_at w (faceted s env out))) none)
 
--- a record is made where one is asked for
+-- a record is made where one is asked for, and kept where its label is shown
 make_runs : (app : App) (ctx : Ctx) (m site : ℕ) (sets : List Assigned) (pc : List (ℕ × Bool)) (start old new : State) (env : List (List ℕ × Shape Value)) (out : List (List (ℕ × Bool) × Piece)) (cells : List (Shape Value))
-    → let models = (application_of app).models in let id = record_id ctx.number site m in
-    holds (wanted pc) pc ≡ true → site < 64 → m < 64 → ctx.this ≡ None → old ≡ start
+    → let models = (application_of app).models in let id = id_here app ctx m site in
+    holds (wanted pc) pc ≡ true → IsMade m (ctx.number + 1) id → ctx.this ≡ None → old ≡ start
     → ((w : ℕ → Bool) → holds w pc ≡ true → fitted_from models (fields_at models m) 0 (all_at w cells) ≡ drafted models (fields_at models m) (λ x. mean (world_at app ctx start w) x (env_at w env)) sets (default_cells models (fields_at models m)))
     → Creates id (λ w. tables_made models w (model_of_id id) id (all_at w cells)) pc old new
-    → Runs (λ w r. with_record m (plain_row id (created_cells (setting_at app ctx w) m id sets r)) r) (λ n w r. IsNew n ctx.number id (rows_of r.tables m)) (λ w. holds w pc) (faceted start env out) (faceted new env out)
-make_runs app ctx m site sets pc start old new env out cells can_hold few_sites few_models none same drafts create n sound may =
+    → Runs (λ w r. with_made (is_kept models w m id) m (plain_row id (created_cells (setting_at app ctx w) m id sets r)) r) (λ n w r. IsNew n ctx.number id (rows_of r.tables m)) (λ w. holds w pc) (faceted start env out) (faceted new env out)
+make_runs app ctx m site sets pc start old new env out cells can_hold made none same drafts create n sound may =
     let models = (application_of app).models in
-    let id = record_id ctx.number site m in
-    let of_model : model_of_id id ≡ m = id_model ctx.number site m few_sites few_models in
-    let made : number_of_id id < n = subst (λ (x : ℕ). x < n) (sym (id_number ctx.number site m few_sites few_models)) (may (wanted pc) can_hold).numbered in
+    let id = id_here app ctx m site in
+    let of_model : model_of_id id ≡ m = made.of_model in
+    let earlier = made.made in
+    let next = (may (wanted pc) can_hold).numbered in
+    let numbered : number_of_id id < n = omega (arith, earlier, next) in
     let absent : (w : ℕ → Bool) → holds w pc ≡ true → stands (record_with id (rows_of (project_at w old).tables (model_of_id id))) ≡ false = λ w held.
     ap (λ (s : State). stands (record_with id (rows_of (project_at w s).tables (model_of_id id)))) same
     ∙ ap (λ (x : ℕ). stands (record_with id (rows_of (project_at w start).tables x))) of_model
     ∙ (may w held).absent in
-    written_ran n (λ w. tables_made models w (model_of_id id) id (all_at w cells)) (λ w r. with_record m (plain_row id (created_cells (setting_at app ctx w) m id sets r)) r)
+    written_ran n (λ w. tables_made models w (model_of_id id) id (all_at w cells)) (λ w r. with_made (is_kept models w m id) m (plain_row id (created_cells (setting_at app ctx w) m id sets r)) r)
     pc start old new env out same
     (λ w held.
     let r : Run = run_at w (faceted start env out) in
     let fields = fields_at models m in
-    ap (λ (value_of : Expression → Value). with_record m (plain_row id (shielded models w m id every_field (drafted models fields value_of sets (default_cells models fields)))) r) (values_here app ctx start env out w none)
-    ∙ ap (λ (draft : List Value). with_record m (plain_row id (shielded models w m id every_field draft)) r) (sym (drafts w held))
+    let row_made : List Value → Run = λ draft. with_made (is_kept models w m id) m (plain_row id (shielded models w m id every_field draft)) r in
+    ap (λ (value_of : Expression → Value). row_made (drafted models fields value_of sets (default_cells models fields))) (values_here app ctx start env out w none)
+    ∙ ap row_made (sym (drafts w held))
     ∙ ap (λ (x : ℕ). record r { tables = tables_made models w x id (all_at w cells) r.tables }) (sym of_model))
-    (create n made absent (sound_too n start old same sound))
+    (create n numbered absent (sound_too n start old same sound))
 
 -- a new record, and then the body with the name bound to it
 pub makes : (app : App) (ctx : Ctx) (name : List ℕ) (m site : ℕ) (sets : List Assigned) (body : Statements) (pc : List (ℕ × Bool)) (start old mid new : State) (env env2 : List (List ℕ × Shape Value)) (out out2 : List (List (ℕ × Bool) × Piece))
     (cells : List (Shape Value)) (made : Shape Value)
-    → let models = (application_of app).models in let id = record_id ctx.number site m in
-    holds (wanted pc) pc ≡ true → site < 64 → m < 64 → ctx.this ≡ None → old ≡ start
+    → let models = (application_of app).models in let id = id_here app ctx m site in
+    holds (wanted pc) pc ≡ true → IsMade m (ctx.number + 1) id → ctx.this ≡ None → old ≡ start
     → ((w : ℕ → Bool) → holds w pc ≡ true → fitted_from models (fields_at models m) 0 (all_at w cells) ≡ drafted models (fields_at models m) (λ x. mean (world_at app ctx start w) x (env_at w env)) sets (default_cells models (fields_at models m)))
     → Creates id (λ w. tables_made models w (model_of_id id) id (all_at w cells)) pc old mid
     → made ≡ one (value.Ref (Some id))
     → Runs (named_at app ctx name (λ w. at w made) body) (MayNameAt app ctx name (λ w. at w made) body) (λ w. holds w pc) (faceted mid env out) (faceted new env2 out2)
     → Runs (λ w. created (setting_at app ctx w) name (Some m) site sets (leaves_all (setting_at app ctx w) body)) (λ n w. MayCreate n (setting_at app ctx w) name (Some m) site sets (MayRunAll n (setting_at app ctx w) body))
     (λ w. holds w pc) (faceted start env out) (faceted new env2 out2)
-makes app ctx name m site sets body pc start old mid new env env2 out out2 cells made can_hold few_sites few_models none same drafts create is named =
-    let id = record_id ctx.number site m in
+makes app ctx name m site sets body pc start old mid new env env2 out out2 cells made can_hold is_made none same drafts create is named =
+    let models = (application_of app).models in
+    let id = id_here app ctx m site in
     let after : Runs (named_at app ctx name (λ w. value.Ref (Some id)) body) (MayNameAt app ctx name (λ w. value.Ref (Some id)) body) (λ w. holds w pc) (faceted mid env out) (faceted new env2 out2) =
     subst (λ (f : Shape Value). Runs (named_at app ctx name (λ w. at w f) body) (MayNameAt app ctx name (λ w. at w f) body) (λ w. holds w pc) (faceted mid env out) (faceted new env2 out2)) is named in
-    then_runs (λ w r. with_record m (plain_row id (created_cells (setting_at app ctx w) m id sets r)) r) (named_at app ctx name (λ w. value.Ref (Some id)) body)
+    then_runs (λ w r. with_made (is_kept models w m id) m (plain_row id (created_cells (setting_at app ctx w) m id sets r)) r) (named_at app ctx name (λ w. value.Ref (Some id)) body)
     (λ n w r. IsNew n ctx.number id (rows_of r.tables m)) (MayNameAt app ctx name (λ w. value.Ref (Some id)) body) (λ w. holds w pc)
     (faceted start env out) (faceted mid env out) (faceted new env2 out2)
-    (make_runs app ctx m site sets pc start old mid env out cells can_hold few_sites few_models none same drafts create) after
+    (make_runs app ctx m site sets pc start old mid env out cells can_hold is_made none same drafts create) after

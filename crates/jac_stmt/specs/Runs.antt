@@ -15,7 +15,7 @@ use Rattle.jac_plain.specs.declared.page.Piece.{Piece}
 use Rattle.jac_lang.specs.declared.queries.Binder.{Binder}
 use Rattle.jac_plain.specs.Expressions.{bound, binding, is_true}
 use Rattle.jac_plain.specs.Making.{MayRun, MayRunAll, MayChoose, with_env}
-use Rattle.jac_plain.specs.Statements.{Setting, Run, choose, scoped, with_binding, leaves, leaves_all}
+use Rattle.jac_plain.specs.Statements.{Setting, Run, choose, scoped, with_binding, loop_of, leaves, leaves_all}
 use Rattle.jac_query.specs.Live.{live}
 use Rattle.jac_query.specs.declared.tuple.Tuple.{Tuple}
 use Rattle.jac_expr.specs.Seen.{env_at}
@@ -36,7 +36,11 @@ run_at w f = record { tables = (project_at w f.state).tables; env = env_at w f.e
 
 -- what stays the same through a run, under an assignment
 abbrev pub setting_at : App → Ctx → (ℕ → Bool) → Setting
-setting_at app ctx w = record { models = (application_of app).models; shown = w; viewer = ctx.viewer; number = ctx.number }
+setting_at app ctx w = record { models = (application_of app).models; shown = w; viewer = ctx.viewer; number = ctx.number; around = ctx.around }
+
+-- the same for the body of a loop, at one of its answers
+abbrev pub setting_around : App → Ctx → List ℕ → (ℕ → Bool) → Setting
+setting_around app ctx ids w = record (setting_at app ctx w) { around = loop_of ids }
 
 -- where the test is true the run is what the step leaves, elsewhere it is as before; and tables that are sound
 -- with the next number n stay so
@@ -105,12 +109,12 @@ chosen_at app ctx first second w v = choose (is_true v) (leaves_all (setting_at 
 abbrev pub MayChooseAt : App → Ctx → Statements → Statements → ℕ → (ℕ → Bool) → Value → Run → Type 0
 MayChooseAt app ctx first second n w v = MayChoose (is_true v) (MayRunAll n (setting_at app ctx w) first) (MayRunAll n (setting_at app ctx w) second)
 
--- the body with the binders bound to a tuple
+-- the body with the binders bound to a tuple, around whose record it makes records
 abbrev pub bound_at : App → Ctx → List Binder → Statements → (ℕ → Bool) → List ℕ → Run → Run
-bound_at app ctx bs body w ids r = scoped (bound bs ids r.env) (leaves_all (setting_at app ctx w) body) r
+bound_at app ctx bs body w ids r = scoped (bound bs ids r.env) (leaves_all (setting_around app ctx ids w) body) r
 
 abbrev pub MayBindAt : App → Ctx → List Binder → Statements → ℕ → (ℕ → Bool) → List ℕ → Run → Type 0
-MayBindAt app ctx bs body n w ids r = MayRunAll n (setting_at app ctx w) body (with_env (bound bs ids r.env) r)
+MayBindAt app ctx bs body n w ids r = MayRunAll n (setting_around app ctx ids w) body (with_env (bound bs ids r.env) r)
 
 -- the body with a name bound to a value
 abbrev pub named_at : App → Ctx → List ℕ → ((ℕ → Bool) → Value) → Statements → (ℕ → Bool) → Run → Run

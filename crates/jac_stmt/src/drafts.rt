@@ -128,7 +128,7 @@ fn field_count(app: &App, model: u8) -> u8
     model.fields.as_slice().len() as u8
 }
 
-fn model_at(models: &[ModelDef], place: u8) -> &ModelDef
+pub(crate) fn model_at(models: &[ModelDef], place: u8) -> &ModelDef
     requires { place < length models.now }
     ensures model { slice_get models.now place ≡ Some result.now }
     ensures few { length result.now.fields ≤ 32 }

@@ -16,6 +16,7 @@ ghost use Rattle.jac_stmt.specs.Runs.{faceted, setting_at, Executes, ExecutesAll
 use crate::Out;
 use crate::assigning::assign;
 use crate::drafts::{new_cells, read_sets};
+use crate::loops::{looped, new_id};
 use crate::memory::from_world;
 use crate::pieces::{Form, add_missing, add_value};
 use jac_expr::{Ctx, Env, bind_tuple, eval, is_true, tuples};
@@ -23,15 +24,15 @@ use jac_facet::Facet;
 use jac_keep::{Keeper, Stop, Work};
 use jac_lang::{App, Binders, Expr, Publics, Query, Stmt, Stmts, model_of};
 use jac_query::Tuple;
-use jac_value::{Ids, Txt, Value, id_of};
+use jac_value::{Ids, Txt, Value};
 use jac_world::{Guard, Steps};
 use jac_write::{create, delete, update};
 use std::alloc::Global;
 use std::sync::ledger::Ledger;
 
 /// Runs the statements, one after another, wherever the path condition holds. Elsewhere all stays as it was.
-/// `this` of the context isn't asked: a statement has none. After a refusal the names and the pieces may hold a part of
-/// what was run.
+/// `this` of the context isn't asked: a statement has none. `around` is the record of the loop that the statements stand
+/// in, and none outside of loops. After a refusal the names and the pieces may hold a part of what was run.
 pub fn exec<K: Keeper, L: Ledger>(
     alloc: Global,
     work: &mut Work<'_, K>,
@@ -516,7 +517,7 @@ fn execute_tuple<K: Keeper, L: Ledger>(
     }
 }
 
-// The body with the binders bound to these records.
+// The body with the binders bound to these records, in the loop around them.
 #[cycle(exec)]
 fn execute_bound<K: Keeper, L: Ledger>(
     alloc: Global,
@@ -539,10 +540,11 @@ fn execute_bound<K: Keeper, L: Ledger>(
     ensures told { OnOk result (StaysTold K.seen work.old work.new) }
     ensures keeps { WritesWork K.seen work.old work.new result }
 {
-    let around = env.as_slice().len();
+    let outer = env.as_slice().len();
+    let ctx = looped(ctx, ids);
     bind_tuple(alloc, env, binders, ids)?;
-    execute_all(alloc, work, app, ctx, env, out, pc, body, splits)?;
-    env.cut(around);
+    execute_all(alloc, work, app, &ctx, env, out, pc, body, splits)?;
+    env.cut(outer);
     Ok(())
 }
 
@@ -615,7 +617,7 @@ fn execute_made<K: Keeper, L: Ledger>(
 {
     let _pairs = pc.pairs();
     let cells = new_cells(alloc, work, app, ctx, env, pc, model, cells, splits)?;
-    let id = id_of(ctx.number, site, model);
+    let id = new_id(app, ctx, model, site);
     create(alloc, work, app, pc, id, &cells, splits)?;
     let made = Facet::leaf(Value::Ref(Some(id)));
     execute_named(

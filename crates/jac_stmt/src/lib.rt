@@ -5,6 +5,7 @@
 mod assigning;
 mod drafts;
 mod execution;
+mod loops;
 mod memory;
 mod out;
 mod page;

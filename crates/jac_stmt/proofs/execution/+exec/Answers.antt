@@ -1,11 +1,12 @@
 use Rattle.std.proofs.Common.{◌∙◌, refl, sym, ap, subst, ℕ, List, [], ◌∷◌, ◌++◌, length, Some}
 use Rattle.jac_value.specs.declared.value.Value.TheVariants as value
-use Rattle.jac_value.specs.Ids.{record_id, model_of_id}
+use Rattle.jac_value.specs.Ids.{model_of_id}
 use Rattle.jac_world.specs.World.{holds}
 use Rattle.jac_facet.specs.Leaves.{seen}
 use Rattle.jac_facet.specs.Shape.{one, at}
 use Rattle.jac_keep.specs.Worked.{state_of}
 use Rattle.jac_lang.specs.Mirror.{application_of, assigned_of, binders_of, expression_of, question_of, statements_of}
+use Rattle.jac_plain.specs.declared.context.Ctx.{Ctx}
 use Rattle.jac_plain.specs.Expressions.{bound, binding}
 use Rattle.jac_plain.specs.Making.{MayRunAll}
 use Rattle.jac_plain.specs.Statements.{leaves_all}
@@ -14,10 +15,10 @@ use Rattle.jac_expr.proofs.Bound.{bound-shown}
 use Rattle.jac_expr.proofs.Names.{env_at-append}
 use Rattle.jac_query.specs.declared.tuple.Tuple.{Tuple}
 use Rattle.jac_write.specs.Writes.{Creates, tables_made}
-use Rattle.jac_stmt.specs.Runs.{faceted, setting_at, RunsEach, bound_at, MayBindAt, live_under}
+use Rattle.jac_stmt.specs.Runs.{faceted, setting_at, setting_around, Runs, RunsEach, bound_at, MayBindAt, live_under}
 use Rattle.jac_stmt.proofs.FormLaws.{branches, repeats}
 use Rattle.jac_stmt.proofs.RunLaws.{scopes}
-use Rattle.jac_stmt.proofs.WriteLaws.{makes}
+use Rattle.jac_stmt.proofs.WriteLaws.{id_here, made_here, makes}
 use Rattle.jac_stmt.proofs.execution.+exec.Goals as goal
 
 pub execute-returns-in_ok-execute_update-in-Update-clause-left : goal.execute-returns-in_ok-execute_update-in-Update-clause-left
@@ -37,15 +38,24 @@ execute_named-returns-clause-left g t c = λ told.
 
 pub execute_bound-returns-clause-left : goal.execute_bound-returns-clause-left
 execute_bound-returns-clause-left g t c = λ told.
+    let app = c.args.app.now in
     let body = statements_of c.args.body.now in
     let bs = binders_of c.args.binders.now in
-    let more = bindings_of bs c.args.ids.now in
-    scopes (λ w. leaves_all (setting_at c.args.app.now c.args.ctx.now w) body) (λ n w. MayRunAll n (setting_at c.args.app.now c.args.ctx.now w) body) (λ w. holds w c.args.pc.now)
-    (λ w env. bound bs c.args.ids.now env)
-    (state_of g.K.Keeper.seen c.args.work.now) (state_of g.K.Keeper.seen c.execute_all.new.work) c.args.env.now more c.bind_tuple.new.env c.execute_all.new.env c.cut.new.self
-    c.args.out.now c.execute_all.new.out (length c.as_slice-around.result.now)
-    c.in_ok-bind_tuple.ensures (λ w. sym (env_at-append w c.args.env.now more) ∙ bound-shown w bs c.args.ids.now c.args.env.now (c.args.env.now ++ more) refl)
-    (ap length c.as_slice-around.ensures) c.cut.ensures (c.in_ok-execute_all.ensures.left told)
+    let ids = c.args.ids.now in
+    let more = bindings_of bs ids in
+    let old = state_of g.K.Keeper.seen c.args.work.now in
+    let new = state_of g.K.Keeper.seen c.execute_all.new.work in
+    let ran : Runs (λ w. leaves_all (setting_around app c.args.ctx.now ids w) body) (λ n w. MayRunAll n (setting_around app c.args.ctx.now ids w) body) (λ w. holds w c.args.pc.now)
+    (faceted old c.bind_tuple.new.env c.args.out.now) (faceted new c.execute_all.new.env c.execute_all.new.out) =
+    subst (λ (x : Ctx). Runs (λ w. leaves_all (setting_at app x w) body) (λ n w. MayRunAll n (setting_at app x w) body) (λ w. holds w c.args.pc.now)
+    (faceted old c.bind_tuple.new.env c.args.out.now) (faceted new c.execute_all.new.env c.execute_all.new.out))
+    c.looped-ctx.ensures (c.in_ok-execute_all.ensures.left told) in
+    scopes (λ w. leaves_all (setting_around app c.args.ctx.now ids w) body) (λ n w. MayRunAll n (setting_around app c.args.ctx.now ids w) body) (λ w. holds w c.args.pc.now)
+    (λ w env. bound bs ids env)
+    old new c.args.env.now more c.bind_tuple.new.env c.execute_all.new.env c.cut.new.self
+    c.args.out.now c.execute_all.new.out (length c.as_slice-outer.result.now)
+    c.in_ok-bind_tuple.ensures (λ w. sym (env_at-append w c.args.env.now more) ∙ bound-shown w bs ids c.args.env.now (c.args.env.now ++ more) refl)
+    (ap length c.as_slice-outer.ensures) c.cut.ensures ran
 
 pub execute_if-returns-clause-left : goal.execute_if-returns-clause-left
 execute_if-returns-clause-left g t c = λ told.
@@ -81,13 +91,14 @@ execute_made-returns-clause-left g t c = λ told.
     let at_create = c.in_ok-create.ensures.told.back at_named in
     let app = c.args.app.now in
     let models = (application_of app).models in
-    let id = record_id c.args.ctx.now.number c.args.site c.args.model in
+    let id = id_here app c.args.ctx.now c.args.model c.args.site in
     let old = state_of g.K.Keeper.seen c.new_cells.new.work in
     let mid = state_of g.K.Keeper.seen c.create.new.work in
     let made : Creates id (λ w. tables_made models w (model_of_id id) id (all_at w c.in_ok-cells.cells)) c.args.pc.now old mid =
-    subst (λ (x : ℕ). Creates x (λ w. tables_made models w (model_of_id x) x (all_at w c.in_ok-cells.cells)) c.args.pc.now old mid) c.id_of-id.ensures (c.in_ok-create.ensures.left at_named) in
+    subst (λ (x : ℕ). Creates x (λ w. tables_made models w (model_of_id x) x (all_at w c.in_ok-cells.cells)) c.args.pc.now old mid) c.new_id-id.ensures.id (c.in_ok-create.ensures.left at_named) in
     makes app c.args.ctx.now c.args.name.now c.args.model c.args.site (assigned_of c.args.cells.now) (statements_of c.args.body.now) c.args.pc.now
     (state_of g.K.Keeper.seen c.args.work.now) old mid (state_of g.K.Keeper.seen c.execute_named.new.work)
     c.args.env.now c.execute_named.new.env c.args.out.now c.execute_named.new.out c.in_ok-cells.cells c.leaf-made.result
-    c.pairs-pairs.ensures.can_be_met c.requires.site c.requires.few c.requires.no_record (c.in_ok-cells.ensures.reads.same.same_state at_create)
-    (c.in_ok-cells.ensures.cells at_create) made (c.leaf-made.ensures ∙ ap (λ (x : ℕ). one (value.Ref (Some x))) c.id_of-id.ensures) (c.in_ok-execute_named.ensures.left told)
+    c.pairs-pairs.ensures.can_be_met (made_here app c.args.ctx.now c.args.model c.args.site c.requires.numbered c.requires.in_range c.requires.site c.requires.few)
+    c.requires.no_record (c.in_ok-cells.ensures.reads.same.same_state at_create)
+    (c.in_ok-cells.ensures.cells at_create) made (c.leaf-made.ensures ∙ ap (λ (x : ℕ). one (value.Ref (Some x))) c.new_id-id.ensures.id) (c.in_ok-execute_named.ensures.left told)
