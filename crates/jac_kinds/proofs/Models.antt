@@ -16,10 +16,10 @@ use Rattle.jac_rows.specs.Good.{IsGoodPlain, have_kinds}
 use Rattle.jac_rows.specs.Tables.{rows_of}
 use Rattle.jac_plain.specs.World.{record_with}
 use Rattle.jac_plain.specs.Expressions.{stands}
-use Rattle.jac_plain.specs.Models.{kinds_of}
+use Rattle.jac_plain.specs.Models.{shapes_of}
 use Rattle.jac_plain.specs.Policies.{has_record, labelled_group, policy_world}
 use Rattle.jac_plain.specs.Records.{alone, plain_row, expression_for, guards_in, name_in, public_in}
-use Rattle.jac_check.specs.Scope.{reference_to, field_kind, policy_scope, public_scope, is_one_of, is_guarded, has_model}
+use Rattle.jac_check.specs.Scope.{reference_to, field_kind, policy_scope, public_scope, is_one_of, is_guarded, is_hiding, has_model}
 use Rattle.jac_check.specs.Kinds.{has, kind_of, is_field}
 use Rattle.jac_check.specs.Well.{are_fields, are_guards, are_groups, are_models, are_pages, is_well}
 use Rattle.jac_kinds.specs.Fits.{Has, IsViewer}
@@ -55,8 +55,9 @@ guard_well app m earlier seen (a ∷ gs) name e h found =
 group_parts : (app : Application) (m : Entity) (earlier : List FieldGroup) (g : FieldGroup) (gs : List FieldGroup) → are_groups app m earlier (g ∷ gs) ≡ true
     → (are_guards app m earlier [] g.guards ≡ true) × (has Kind.Bool (kind_of (policy_scope app m) g.policy) ≡ true) × (are_groups app m (earlier ++ g ∷ []) gs ≡ true)
 group_parts app m earlier g gs h =
-    let p = and_parts (are_guards app m earlier [] g.guards && has Kind.Bool (kind_of (policy_scope app m) g.policy)) (are_groups app m (earlier ++ g ∷ []) gs) h in
-    let q = and_parts (are_guards app m earlier [] g.guards) (has Kind.Bool (kind_of (policy_scope app m) g.policy)) p.0 in
+    let p = and_parts (not (g.hides && is_hiding earlier) && (are_guards app m earlier [] g.guards && has Kind.Bool (kind_of (policy_scope app m) g.policy)))
+    (are_groups app m (earlier ++ g ∷ []) gs) h in
+    let q = and_parts (are_guards app m earlier [] g.guards) (has Kind.Bool (kind_of (policy_scope app m) g.policy)) (and_parts (not (g.hides && is_hiding earlier)) _ p.0).1 in
     (q.0, q.1, p.1)
 
 public_well : (app : Application) (m : Entity) (earlier gs : List FieldGroup) (i : ℕ) (name : List ℕ) (e : Expression) → are_groups app m earlier gs ≡ true
@@ -170,7 +171,7 @@ policy_in app t viewer id place g (Some m) h fit seen is e found =
     means (policy_world app t viewer id) g.policy (policy_scope app m) [] Kind.Bool
     (record { bindings = tt; this = this_refers app (model_of_id id) id m h e is; viewer = seen; tables = fit }) (has_is (kind_of (policy_scope app m) g.policy) Kind.Bool bool)
 
-pub policies_fit : (app : Application) (t : PlainState) (viewer : Option ℕ) (k : ℕ) (g : FieldGroup) → IsTrue (is_well app) → IsGoodPlain (kinds_of app) t
+pub policies_fit : (app : Application) (t : PlainState) (viewer : Option ℕ) (k : ℕ) (g : FieldGroup) → IsTrue (is_well app) → IsGoodPlain (shapes_of app) t
     → IsViewer app.models app.viewer viewer → has_record t k ≡ true → labelled_group app k ≡ Some g → IsOfKind (policy_world app t viewer (record_of_label k)) [] Kind.Bool g.policy
 policies_fit app t viewer k g h good seen stands found =
     let id = record_of_label k in

@@ -5,14 +5,14 @@ use Rattle.std.proofs.lemmas.Bool.{and_parts}
 use Rattle.jac_value.specs.declared.value.Kind.{Kind}
 use Rattle.jac_value.specs.declared.value.Value.{Value}
 use Rattle.jac_value.specs.declared.value.Value.TheVariants as value
-use Rattle.jac_value.specs.Ids.{record_id}
 use Rattle.jac_value.specs.Values.{value_text}
 use Rattle.jac_lang.specs.declared.bindings.Binding.{Binding}
 use Rattle.jac_lang.specs.declared.field_kinds.Field.{Field}
 use Rattle.jac_lang.specs.declared.pages.Verb.{Verb}
 use Rattle.jac_lang.specs.declared.pages.Verb.TheVariants as verbs
 use Rattle.jac_lang.specs.declared.queries.Binder.{Binder}
-use Rattle.jac_lang.specs.Lookup.{model_place, fields_at}
+use Rattle.jac_lang.specs.Lookup.{model_place, fields_at, is_nested_named}
+use Rattle.jac_lang.specs.Loops.{may_create}
 use Rattle.jac_lang.specs.Syntax.{Expression, Assigned, Statement, Statements, Page, Application}
 use Rattle.jac_rows.specs.declared.plain.PlainState.{PlainState}
 use Rattle.jac_plain.specs.declared.page.Piece.{Piece}
@@ -21,10 +21,10 @@ use Rattle.jac_plain.specs.Expressions.{is_true, bound, binding, bytes_of, answe
 use Rattle.jac_plain.specs.Making.{with_env, MayChoose, MayEach}
 use Rattle.jac_plain.specs.Models.{is_sited, are_sited}
 use Rattle.jac_plain.specs.Requests.{Visit, setting_of}
-use Rattle.jac_plain.specs.Statements.{Setting, Run, world_of, value_in, with_piece, html, scoped, choose, for_each, with_record, plain_row, created_cells, created, updated, deleted, leaves, leaves_all}
-use Rattle.jac_check.specs.Scope.{Named, Standing, is_get, page_standing, names_outside, named, named_binders, scope_at, bind, loop_within, within, reference_to, fields_of, fields_placed, field_kind}
+use Rattle.jac_plain.specs.Statements.{Setting, Run, world_of, value_in, with_piece, html, scoped, choose, for_each, loop_of, id_made, is_kept, with_made, plain_row, created_cells, created, updated, deleted, leaves, leaves_all}
+use Rattle.jac_check.specs.Scope.{Named, Standing, is_get, page_standing, named, named_binders, scope_at, bind, loop_within, within, reference_to, fields_of, fields_placed, field_kind}
 use Rattle.jac_check.specs.Kinds.{has, is_model, is_query, kind_of}
-use Rattle.jac_check.specs.Well.{kind_here, are_named, are_kinds, are_cells, is_statement, is_body, are_fields, are_params, are_pages, are_models, is_well}
+use Rattle.jac_check.specs.Well.{kind_here, are_named, are_kinds, are_cells, is_statement, is_body, are_fields, are_pages, are_models, is_well}
 use Rattle.jac_kinds.specs.Fits.{Has, AreBound, IsViewer}
 use Rattle.jac_kinds.specs.Runs.{Fits, FitsAs, CellsFit, CreateFits, UpdateFits, StatementFits, StatementsFit, HasIds, IsVisit, begun}
 use Rattle.jac_kinds.proofs.Tables.{AreFit, good_fit}
@@ -96,12 +96,21 @@ choice_goes : (k : Setting) (st : Standing) (c : Bool) (first second : Run → R
 choice_goes k st true first second First Second one two r g = one r g
 choice_goes k st false first second First Second one two r g = two r g
 
-each_goes : (k : Setting) (st : Standing) (bs : List Binder) (body : Run → Run) (Meets : Run → Type 0) → Goes k (loop_within bs (at k st)) body Meets
+-- in a loop, around whatever record
+around_goes : (k : Setting) (st : Standing) (around : Option ℕ) (step : Run → Run) (Meets : Run → Type 0) → Goes (record k { around = around }) st step Meets → Goes k st step Meets
+around_goes k st around step Meets goes r g =
+    let B = goes r (record { names = g.names; viewer = g.viewer; tables = g.tables }) in
+    (B.0, record { names = B.1.names; viewer = B.1.viewer; tables = B.1.tables })
+
+creates_around : (k : Setting) (around : Option ℕ) → CanCreate k → CanCreate (record k { around = around })
+creates_around k around h = record { some = h.some; room = h.room; few = h.few }
+
+each_goes : (k : Setting) (st : Standing) (bs : List Binder) (body : List ℕ → Run → Run) (Meets : List ℕ → Run → Type 0) → ((ids : List ℕ) → Goes k (loop_within bs (at k st)) (body ids) (Meets ids))
     → (tuples : List (List ℕ)) → AllByRecursion (Refer k.models bs) tuples → Goes k st (for_each bs body tuples) (MayEach bs body Meets tuples)
 each_goes k st bs body Meets goes [] a r g = (tt, g)
 each_goes k st bs body Meets goes (ids ∷ tuples) a r g =
-    let B = scope_goes k st (loop_within bs (at k st)) (named_binders k.models bs) (bound bs ids r.env) body Meets refl refl goes r g (bound_fits k.models bs ids st.names r.env g.names a.0) in
-    let rest = each_goes k st bs body Meets goes tuples a.1 (scoped (bound bs ids r.env) body r) B.1 in
+    let B = scope_goes k st (loop_within bs (at k st)) (named_binders k.models bs) (bound bs ids r.env) (body ids) (Meets ids) refl refl (goes ids) r g (bound_fits k.models bs ids st.names r.env g.names a.0) in
+    let rest = each_goes k st bs body Meets goes tuples a.1 (scoped (bound bs ids r.env) (body ids) r) B.1 in
     ((B.0, rest.0), rest.1)
 
 cells_fit : (k : Setting) (st : Standing) (fields : List Field) (cells : List Assigned) (r : Run) → Stands st k r → are_kinds (scope_at (at k st)) fields cells ≡ true → CellsFit k fields cells r
@@ -117,10 +126,11 @@ create_goes : (k : Setting) (st : Standing) (x name : List ℕ) (place : Option 
     → Goes k st (created k x place site cells body) (CreateFits k x place site cells Meets)
 create_goes k st x name None site cells body Meets ids publics few is there h goes r g = cc
 create_goes k st x name (Some m) site cells body Meets ids publics few is there h goes r g =
-    let id = record_id k.number site m in
-    let made = with_record m (plain_row id (created_cells k m id cells r)) r in
+    let id = id_made k m site in
+    let kept = is_kept k.models k.shown m id in
+    let made = with_made kept m (plain_row id (created_cells k m id cells r)) r in
     let new = id_fits k name site m ids few is in
-    let B = bind_goes k st x (Kind.Ref m) false (value.Ref (Some id)) body Meets goes made (record { names = g.names; viewer = g.viewer; tables = created_fit k m id cells r new g.tables }) new in
+    let B = bind_goes k st x (Kind.Ref m) false (value.Ref (Some id)) body Meets goes made (record { names = g.names; viewer = g.viewer; tables = created_fit k m id kept cells r new g.tables }) new in
     ((cells_fit k st (fields_at k.models m) cells r g h, new_draft k m id cells r publics new, B.0), B.1)
 
 update_fits : (k : Setting) (st : Standing) (place : Option ℕ) (target : Value) (cells : List Assigned) (r : Run) → Stands st k r → HasPublics k → is_some place ≡ true
@@ -167,12 +177,19 @@ mutual
       let p = and_parts (is_query s q.binders q.order (kind_of (within q.binders s) q.cond)) (is_body (loop_within q.binders (at k st)) body) h in
       let asked = asked_fits w s r.env q.binders q.cond q.order (suits k st r g) (means w q.cond) p.0 in
       let tuples = answers_in w s r.env q.binders q.cond q.order (suits k st r g) in
-      let B = each_goes k st q.binders (leaves_all k body) (StatementsFit k body) (body_goes k (loop_within q.binders (at k st)) body ids publics sited p.1) (answers w q r.env) tuples r g in
+      let inner = loop_within q.binders (at k st) in
+      let B = each_goes k st q.binders (λ tuple. leaves_all (record k { around = loop_of tuple }) body) (λ tuple. StatementsFit (record k { around = loop_of tuple }) body)
+      (λ tuple.
+      let around = loop_of tuple in
+      let here : Setting = record k { around = around } in
+      around_goes k inner around (leaves_all here body) (StatementsFit here body)
+      (body_goes here inner body (λ post. creates_around k around (ids post)) publics sited p.1))
+      (answers w q r.env) tuples r g in
       ((asked, B.0), B.1)
   statement_goes k st (Statement.create x m site cells body) ids publics sited h r g =
       let writes = and_parts (not st.is_get) _ h in
       let post = is_false st.is_get writes.0 in
-      let p = and_parts (not st.in_loop) _ writes.1 in
+      let p = and_parts (may_create (is_nested_named k.models m) st.loops) _ writes.1 in
       let q = and_parts (are_cells (at k st) m cells) (is_body (bind (at k st) x (reference_to k.models m) false) body) p.1 in
       let c = and_parts (is_model k.models m) _ q.0 in
       let few : nat_lt site 64 ≡ true = (and_parts (nat_lt site 64) (are_sited body) (sited post)).0 in
@@ -206,8 +223,8 @@ mutual
 page_well : (app : Application) (vs : List Page) (i : ℕ) (v : Page) → are_pages app vs ≡ true → slice_get vs i ≡ Some v → is_body (page_standing app v) v.body ≡ true
 page_well app [] i v h e = cc
 page_well app (u ∷ vs) zero v h e =
-    let p = and_parts (are_fields app.models [] u.params && (are_params u.params (names_outside u.path) && is_body (page_standing app u) u.body)) (are_pages app vs) h in
-    let here = (and_parts (are_params u.params (names_outside u.path)) _ (and_parts (are_fields app.models [] u.params) _ p.0).1).1 in
+    let p = and_parts _ (are_pages app vs) h in
+    let here = (and_parts _ (is_body (page_standing app u) u.body) (and_parts (are_fields app.models [] u.params) _ p.0).1).1 in
     let same : u ≡ v = cc in
     subst (λ (x : Page). is_body (page_standing app x) x.body ≡ true) same here
 page_well app (u ∷ vs) (suc i) v h e = page_well app vs i v (and_parts _ (are_pages app vs) h).1 e

@@ -1,21 +1,21 @@
 -- Tables that fit: each record's id is one of its model, and its cells have the kinds of the model's fields.
 use Rattle.std.specs.Prelude.{⊤, IsSomeAnd}
-use Rattle.std.proofs.Common.{◌≡◌, subst, ℕ, ◌+◌, ◌^◌, ◌<◌, ◌≤◌, ◌==◌, zero, suc, Bool, true, false, refl, List, [], ◌∷◌, Option, Some, None, is_some, slice_get, unwrap_or, if◌then◌else◌, arith}
+use Rattle.std.proofs.Common.{◌≡◌, subst, ℕ, ◌+◌, ◌==◌, zero, suc, Bool, true, false, refl, List, [], ◌∷◌, Option, Some, None, is_some, slice_get, unwrap_or, if◌then◌else◌, arith}
 use Rattle.std.specs.List.{AllByRecursion}
 use Rattle.std.proofs.lemmas.Bool.{and_parts}
 use Rattle.jac_value.specs.declared.value.Kind.{Kind}
 use Rattle.jac_value.specs.declared.value.Kind.TheVariants as kinds
 use Rattle.jac_value.specs.declared.value.Value.{Value}
 use Rattle.jac_value.specs.declared.value.Value.TheVariants as value
-use Rattle.jac_value.specs.Ids.{is_id_of, model_of_id, number_of_id}
+use Rattle.jac_value.specs.Ids.{is_id_of}
 use Rattle.jac_value.specs.Values.{has_kind, default_value}
 use Rattle.jac_lang.specs.declared.field_kinds.Field.{Field}
 use Rattle.jac_lang.specs.Syntax.{Entity}
 use Rattle.jac_lang.specs.Lookup.{fields_at, field_place, kind_at, kind_named}
 use Rattle.jac_rows.specs.declared.plain.PlainRow.{PlainRow}
-use Rattle.jac_rows.specs.Good.{IsRecord, ArePlain, have_kinds}
+use Rattle.jac_rows.specs.Good.{IsRecord, IsShaped, ArePlain, have_kinds}
 use Rattle.jac_rows.specs.Tables.{rows_of}
-use Rattle.jac_plain.specs.Models.{kinds_of_fields, kinds_of_models}
+use Rattle.jac_plain.specs.Models.{kinds_of_fields, shapes_of_models}
 use Rattle.jac_plain.specs.World.{World, rows_at_place, record_with, referred, cell_of, cell_named, got_of}
 use Rattle.jac_check.specs.Kinds.{is_field}
 use Rattle.jac_check.specs.Scope.{fields_placed, kind_placed, field_kind}
@@ -41,31 +41,26 @@ abbrev pub AreFit : List Entity → List (List PlainRow) → Type 0
 AreFit ms tables = (m : ℕ) → AreRows ms m (rows_of tables m)
 
 -- good tables fit
-pub id_in : (m next id : ℕ) → next ≤ 2 ^ 40 → model_of_id id ≡ m → 0 < number_of_id id → number_of_id id < next → is_id_of id m ≡ true
-id_in m next id h a b c = grind arith
+cells_fit : (all ms : List Entity) (m id : ℕ) (cells : List Value) → IsSomeAnd (slice_get (shapes_of_models all ms) m) (λ s. IsShaped s id cells)
+    → have_kinds (kinds_of_fields all (fields_at ms m)) cells ≡ true
+cells_fit all [] m id cells h = absurd h
+cells_fit all (e ∷ ms) zero id cells h = h.fit
+cells_fit all (e ∷ ms) (suc m) id cells h = cells_fit all ms m id cells h
 
-fit_at : (all ms : List Entity) (m : ℕ) (P : List Kind → Type 0) → IsSomeAnd (slice_get (kinds_of_models all ms) m) P → P (kinds_of_fields all (fields_at ms m))
-fit_at all [] m P h = absurd h
-fit_at all (e ∷ ms) zero P h = h
-fit_at all (e ∷ ms) (suc m) P h = fit_at all ms m P h
+record_fits : (ms : List Entity) (m next : ℕ) (r : PlainRow) → IsRecord (shapes_of_models ms ms) m next r.id r.cells → FitsModel ms m r
+record_fits ms m next r a = record { of_model = a.made.is_one; cells = cells_fit ms ms m r.id r.cells a.fit }
 
-record_fits : (ms : List Entity) (m next : ℕ) (r : PlainRow) → next ≤ 2 ^ 40 → IsRecord (kinds_of_models ms ms) m next r.id r.cells → FitsModel ms m r
-record_fits ms m next r h a = record {
-  of_model = id_in m next r.id h a.made.of_model a.made.numbered a.made.made;
-  cells = fit_at ms ms m (λ ks. have_kinds ks r.cells ≡ true) a.fit;
-}
-
-rows_fit : (ms : List Entity) (next from m : ℕ) (tables : List (List PlainRow)) → next ≤ 2 ^ 40 → ArePlain (kinds_of_models ms ms) next from tables → AreRows ms (from + m) (rows_of tables m)
-rows_fit ms next from m [] h g = tt
-rows_fit ms next from zero (t ∷ ts) h g =
+rows_fit : (ms : List Entity) (next from m : ℕ) (tables : List (List PlainRow)) → ArePlain (shapes_of_models ms ms) next from tables → AreRows ms (from + m) (rows_of tables m)
+rows_fit ms next from m [] g = tt
+rows_fit ms next from zero (t ∷ ts) g =
     let here : from + 0 ≡ from = omega arith in
-    rw here (all_with (λ (r : PlainRow). IsRecord (kinds_of_models ms ms) from next r.id r.cells) (FitsModel ms from) (λ r a. record_fits ms from next r h a) t g.1)
-rows_fit ms next from (suc m) (t ∷ ts) h g = let on : from + suc m ≡ from + 1 + m = omega arith in rw on (rows_fit ms next (from + 1) m ts h g.2)
+    rw here (all_with (λ (r : PlainRow). IsRecord (shapes_of_models ms ms) from next r.id r.cells) (FitsModel ms from) (λ r a. record_fits ms from next r a) t g.1)
+rows_fit ms next from (suc m) (t ∷ ts) g = let on : from + suc m ≡ from + 1 + m = omega arith in rw on (rows_fit ms next (from + 1) m ts g.2)
 
 pub good_fit : (ms : List Entity) (tables : List (List PlainRow)) → AreGood ms tables → AreFit ms tables
 good_fit ms tables g m =
     let start : 0 + m ≡ m = omega arith in
-    subst (λ (n : ℕ). AreRows ms n (rows_of tables m)) start (rows_fit ms g.next 0 m tables g.good.0.1 g.good.1)
+    subst (λ (n : ℕ). AreRows ms n (rows_of tables m)) start (rows_fit ms g.next 0 m tables g.good.1)
 
 -- the record, where there is one, fits
 abbrev pub IsSomeRow : List Entity → ℕ → Option PlainRow → Type 0

@@ -1,27 +1,28 @@
 -- Tables that fit stay so through what a statement writes.
-use Rattle.std.proofs.Common.{◌≡◌, refl, ℕ, zero, suc, ◌+◌, ◌<◌, ◌≤◌, ◌^◌, ◌==◌, nat_lt, Bool, true, false, if◌then◌else◌, List, [], ◌∷◌, length, Option, Some, None, arith}
+use Rattle.std.proofs.Common.{◌≡◌, refl, ℕ, zero, suc, ◌<◌, ◌≤◌, ◌^◌, ◌==◌, nat_lt, Bool, true, false, if◌then◌else◌, List, [], ◌∷◌, length, Option, Some, None, arith}
 use Rattle.std.specs.Prelude.{slice_get, slice_set}
 use Rattle.std.specs.List.{AllByRecursion}
 use Rattle.std.proofs.lemmas.Bool.{and_parts, and_from}
 use Rattle.std.proofs.lemmas.List.Quantifiers.{position-Some}
-use Rattle.jac_value.specs.Ids.{is_id_of, record_id, number_of_id}
+use Rattle.jac_value.specs.Ids.{is_id_of, record_id}
 use Rattle.jac_value.specs.Values.{has_kind}
 use Rattle.jac_value.specs.declared.value.Value.{Value}
 use Rattle.jac_value.specs.declared.value.Value.TheVariants as value
 use Rattle.jac_lang.specs.declared.field_kinds.Field.{Field}
-use Rattle.jac_lang.specs.Lookup.{same_text, model_place, fields_at, field_place, kind_named, kind_in}
+use Rattle.jac_lang.specs.Lookup.{same_text, model_place, fields_at, field_place, kind_named, kind_in, is_nested_at}
 use Rattle.jac_lang.specs.Syntax.{Entity, Expression, Assigned}
 use Rattle.jac_rows.specs.Good.{have_kinds}
 use Rattle.jac_rows.specs.Tables.{rows_of}
 use Rattle.jac_rows.specs.declared.plain.PlainRow.{PlainRow}
 use Rattle.jac_plain.specs.Models.{kinds_of_fields}
-use Rattle.jac_plain.specs.Records.{fitting, cell_set, drafted, default_cells, plain_row, every_field, is_set, with_ids, with_row, changed, without, tables_with, tables_after}
-use Rattle.jac_plain.specs.Statements.{Setting, Run, value_in, created_cells, updated_cells, updated, deleted}
+use Rattle.jac_plain.specs.Records.{fitting, cell_set, drafted, default_cells, plain_row, every_field, is_set, with_ids, with_row, changed, without, tables_after}
+use Rattle.jac_plain.specs.Statements.{Setting, Run, value_in, id_made, tables_made, created_cells, updated_cells, updated, deleted}
 use Rattle.jac_plain.proofs.GoodLaws.{fitting_kind, kinds_shielded}
+use Rattle.jac_plain.proofs.MadeIds.{form_of, form_made}
 use Rattle.jac_plain.specs.World.{referred}
 use Rattle.jac_kinds.specs.Publics.{PublicsFit}
 use Rattle.jac_kinds.specs.Runs.{DraftFits}
-use Rattle.jac_kinds.proofs.Tables.{FitsModel, AreRows, AreFit, IsSomeRow, referred_fits, kinds_at, default_has, id_in}
+use Rattle.jac_kinds.proofs.Tables.{FitsModel, AreRows, AreFit, IsSomeRow, referred_fits, kinds_at, default_has}
 use Rattle.jac_kinds.proofs.Tuples.{all_append}
 
 -- a property of rows, through each step on a table
@@ -112,18 +113,14 @@ abbrev pub HasPublics : Setting → Type 0
 HasPublics k = (m id : ℕ) (cells : List Value) → is_id_of id m ≡ true → have_kinds (kinds_at k.models m) cells ≡ true → PublicsFit k.models m id cells
 
 bare : Entity
-bare = record { name = []; fields = []; groups = [] }
-
-id_of_new : (n site m : ℕ) → 0 < n → n < 2 ^ 40 → site < 64 → m < 64 → is_id_of (record_id n site m) m ≡ true
-id_of_new n site m some room h j =
-    let number : number_of_id (record_id n site m) ≡ n = omega (arith, h, j) in
-    id_in m (n + 1) (record_id n site m) (omega (arith, room)) (omega (arith, j)) (rw number some) (rw number (omega arith))
+bare = record { name = []; nested = false; fields = []; groups = [] }
 
 -- the id of a new record is one of its model
-pub id_fits : (k : Setting) (name : List ℕ) (site m : ℕ) → CanCreate k → site < 64 → model_place k.models name ≡ Some m → is_id_of (record_id k.number site m) m ≡ true
+pub id_fits : (k : Setting) (name : List ℕ) (site m : ℕ) → CanCreate k → site < 64 → model_place k.models name ≡ Some m → is_id_of (id_made k m site) m ≡ true
 id_fits k name site m ids h e =
     let within = (position-Some (λ (x : Entity). same_text x.name name) k.models m bare e).0 in
-    id_of_new k.number site m ids.some ids.room h (omega (arith, within, ids.few))
+    (form_made k.number site m (id_made k m site) ids.some ids.room h (omega (arith, within, ids.few))
+    (form_of (is_nested_at k.models m) k.around (record_id k.number site m))).is_one
 
 -- the public values of a new record, and of one that is updated
 pub new_draft : (k : Setting) (m id : ℕ) (sets : List Assigned) (r : Run) → HasPublics k → is_id_of id m ≡ true
@@ -144,12 +141,15 @@ pub old_draft : (k : Setting) (m : ℕ) (target : Value) (sets : List Assigned) 
 old_draft k m target sets r publics g =
     draft_in k m sets r (referred target (rows_of r.tables m)) publics (referred_fits k.models m target (rows_of r.tables m) (g m))
 
-pub created_fit : (k : Setting) (m id : ℕ) (sets : List Assigned) (r : Run) → is_id_of id m ≡ true → AreFit k.models r.tables
-    → AreFit k.models (tables_with m (plain_row id (created_cells k m id sets r)) r.tables)
-created_fit k m id sets r h g =
-    let row = plain_row id (created_cells k m id sets r) in
-    table_set (AreRows k.models) r.tables m (with_row row (rows_of r.tables m)) g
-    (with_row_all (FitsModel k.models m) row (rows_of r.tables m) (record { of_model = h; cells = created_kinds k m id sets r }) (g m))
+kept_fit : (ms : List Entity) (m : ℕ) (kept : Bool) (row : PlainRow) (tables : List (List PlainRow)) → FitsModel ms m row → AreFit ms tables → AreFit ms (tables_made kept m row tables)
+kept_fit ms m true row tables h g =
+    table_set (AreRows ms) tables m (with_row row (rows_of tables m)) g (with_row_all (FitsModel ms m) row (rows_of tables m) h (g m))
+kept_fit ms m false row tables h g = g
+
+pub created_fit : (k : Setting) (m id : ℕ) (kept : Bool) (sets : List Assigned) (r : Run) → is_id_of id m ≡ true → AreFit k.models r.tables
+    → AreFit k.models (tables_made kept m (plain_row id (created_cells k m id sets r)) r.tables)
+created_fit k m id kept sets r h g =
+    kept_fit k.models m kept (plain_row id (created_cells k m id sets r)) r.tables (record { of_model = h; cells = created_kinds k m id sets r }) g
 
 after_fit : (ms : List Entity) (m : ℕ) (target : Value) (step : ℕ → List PlainRow → List PlainRow) (tables : List (List PlainRow))
     → ((id : ℕ) (rows : List PlainRow) → AreRows ms m rows → AreRows ms m (step id rows)) → AreFit ms tables → AreFit ms (tables_after m target step tables)

@@ -8,7 +8,7 @@ use Rattle.jac_lang.specs.declared.bindings.Binding.{Binding}
 use Rattle.jac_lang.specs.Syntax.{Entity}
 use Rattle.jac_rows.specs.declared.plain.PlainRow.{PlainRow}
 use Rattle.jac_rows.specs.Good.{IsGoodPlain}
-use Rattle.jac_plain.specs.Models.{kinds_of_models}
+use Rattle.jac_plain.specs.Models.{shapes_of_models}
 use Rattle.jac_plain.specs.World.{World}
 use Rattle.jac_check.specs.Scope.{Named, Scope, reference_to}
 
@@ -35,7 +35,7 @@ IsViewer ms viewers id = Refers (option_map (reference_to ms) viewers) id
 -- the tables are good, for some next number
 pub record AreGood (models : List Entity) (tables : List (List PlainRow)) : Type 0 where
   pub next : ℕ
-  pub good : IsGoodPlain (kinds_of_models models models) (record { tables = tables; number = next })
+  pub good : IsGoodPlain (shapes_of_models models models) (record { tables = tables; number = next })
 
 -- the world and the bindings are as the scope says, over good tables
 pub record IsIn (s : Scope) (w : World) (env : List Binding) : Type 0 where

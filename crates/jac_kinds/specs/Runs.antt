@@ -4,7 +4,6 @@ use Rattle.std.specs.Prelude.{◌≡◌, ℕ, ◌<◌, ◌≤◌, ◌^◌, true,
 use Rattle.jac_value.specs.declared.value.Kind.{Kind}
 use Rattle.jac_value.specs.declared.value.Value.{Value}
 use Rattle.jac_value.specs.declared.value.Value.TheVariants as value
-use Rattle.jac_value.specs.Ids.{record_id}
 use Rattle.jac_lang.specs.declared.field_kinds.Field.{Field}
 use Rattle.jac_lang.specs.declared.pages.Verb.{Verb}
 use Rattle.jac_lang.specs.Lookup.{model_place, fields_at}
@@ -16,9 +15,9 @@ use Rattle.jac_rows.specs.Tables.{rows_of}
 use Rattle.jac_plain.specs.World.{referred}
 use Rattle.jac_plain.specs.Expressions.{mean, look, is_true, binding, answers}
 use Rattle.jac_plain.specs.Making.{with_env, MayChoose, MayEach}
-use Rattle.jac_plain.specs.Models.{kinds_of, are_sited}
+use Rattle.jac_plain.specs.Models.{shapes_of, are_sited}
 use Rattle.jac_plain.specs.Requests.{Visit}
-use Rattle.jac_plain.specs.Statements.{Setting, Run, world_of, value_in, with_record, plain_row, drafted, default_cells, created_cells, leaves, leaves_all}
+use Rattle.jac_plain.specs.Statements.{Setting, Run, world_of, value_in, loop_of, id_made, is_kept, with_made, plain_row, drafted, default_cells, created_cells, leaves, leaves_all}
 use Rattle.jac_check.specs.Scope.{reference_to, named_fields, field_kind}
 use Rattle.jac_kinds.specs.Fits.{AreBound, IsViewer}
 use Rattle.jac_kinds.specs.Operands.{AreAlike, AskedFits, OperandsFit, IsOfKind}
@@ -54,8 +53,8 @@ UpdateFits k (Some m) target cells r = CellsFit k (fields_at k.models m) cells r
 abbrev pub CreateFits : Setting → List ℕ → Option ℕ → ℕ → List Assigned → (Run → Type 0) → Run → Type 0
 CreateFits k name None site cells Body r = ⊥
 CreateFits k name (Some m) site cells Body r =
-    let id = record_id k.number site m in
-    let made = with_record m (plain_row id (created_cells k m id cells r)) r in
+    let id = id_made k m site in
+    let made = with_made (is_kept k.models k.shown m id) m (plain_row id (created_cells k m id cells r)) r in
     CellsFit k (fields_at k.models m) cells r × DraftFits k m cells r (Some (plain_row id (default_cells k.models (fields_at k.models m))))
     × Body (with_env (made.env ++ binding name (value.Ref (Some id)) ∷ []) made)
 
@@ -69,7 +68,9 @@ abbrev mutual
   StatementFits k (Statement.branch c first second) r =
       FitsAs k Kind.Bool c r × MayChoose (is_true (value_in k c r)) (StatementsFit k first) (StatementsFit k second) r
   StatementFits k (Statement.each q body) r =
-      QueryFits k q r × MayEach q.binders (leaves_all k body) (StatementsFit k body) (answers (world_of k r) q r.env) r
+      QueryFits k q r
+      × MayEach q.binders (λ ids. leaves_all (record k { around = loop_of ids }) body) (λ ids. StatementsFit (record k { around = loop_of ids }) body)
+      (answers (world_of k r) q r.env) r
   StatementFits k (Statement.create x m site cells body) r = CreateFits k x (model_place k.models m) site cells (StatementsFit k body) r
   StatementFits k (Statement.update m e cells) r =
       FitsAs k (reference_to k.models m) e r × UpdateFits k (model_place k.models m) (value_in k e r) cells r
@@ -94,7 +95,7 @@ pub record HasIds (models : List Entity) (number : ℕ) (body : Statements) : Ty
 -- kind; and who asks is a record of the model of viewers, or nobody
 pub record IsVisit (app : Application) (t : PlainState) (visit : Visit) (v : Page) : Type 0 where
   pub view : slice_get app.views visit.view ≡ Some v
-  pub state : IsGoodPlain (kinds_of app) t
+  pub state : IsGoodPlain (shapes_of app) t
   pub ids : v.method ≡ Verb.Post → HasIds app.models t.number v.body
   pub params : AreBound (named_fields app.models v.params) visit.env
   pub viewer : IsViewer app.models app.viewer visit.viewer

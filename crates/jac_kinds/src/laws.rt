@@ -9,7 +9,7 @@ ghost use Rattle.jac_lang.specs.Lookup.{fields_at};
 ghost use Rattle.jac_lang.specs.Syntax.{Entity, Expression, FieldGroup, Page, Application};
 ghost use Rattle.jac_rows.specs.Good.{IsGoodPlain, have_kinds};
 ghost use Rattle.jac_rows.specs.declared.plain.PlainState.{PlainState};
-ghost use Rattle.jac_plain.specs.Models.{kinds_of, kinds_of_fields};
+ghost use Rattle.jac_plain.specs.Models.{shapes_of, kinds_of_fields};
 ghost use Rattle.jac_plain.specs.Policies.{has_record, labelled_group, policy_world};
 ghost use Rattle.jac_plain.specs.Requests.{Visit, method_in, setting_of, run_of};
 ghost use Rattle.jac_plain.specs.World.{World};
@@ -49,7 +49,7 @@ pub fn visits_fit()
 /// truth value, and each of its operands has the kind that its form wants.
 pub fn policies_fit()
     ensures { (app : Application) (t : PlainState) (viewer : Option ℕ) (label : ℕ) (g : FieldGroup) →
-        IsTrue (is_well app) → IsGoodPlain (kinds_of app) t → IsViewer app.models app.viewer viewer →
+        IsTrue (is_well app) → IsGoodPlain (shapes_of app) t → IsViewer app.models app.viewer viewer →
         has_record t label ≡ true → labelled_group app label ≡ Some g →
         IsOfKind (policy_world app t viewer (record_of_label label)) [] Kind.Bool g.policy }
 {}
