@@ -1,4 +1,4 @@
--- The schema text of a well application gives the kinds of its models.
+-- The schema text of a well application gives the shapes of its models.
 use Rattle.std.proofs.Common.{◌≡◌, ◌≢◌, ◌∙◌, refl, sym, ap, arith, ℕ, suc, ◌+◌, ◌≤◌, max, nat_le, nat_lt, cond, Bool, true, false, not, ◌&&◌, if◌then◌else◌, List, [], ◌∷◌, ◌++◌, length, Option, Some, None, is_some, codes, IsTrue}
 use Rattle.std.specs.Prelude.{slice_index, unwrap_or}
 use Rattle.std.specs.Char.{is_ascii_alphabetic}
@@ -7,9 +7,10 @@ use Rattle.std.specs.Option.{option_map, option_and_then}
 use Rattle.std.proofs.lemmas.Bool.Decides.{nat_tests}
 use Rattle.std.proofs.lemmas.List.Elements.{All-head, All-tail}
 use Rattle.jac_value.specs.Names.{is_name, is_reserved}
+use Rattle.jac_value.specs.declared.value.Kind.{Kind}
 use Rattle.jac_value.specs.declared.value.Kind.TheVariants as kind
 use Rattle.jac_tree.specs.Grammar.{are_atom_bytes}
-use Rattle.jac_tree.specs.Plain.{PlainTree, nesting, nesting_all}
+use Rattle.jac_tree.specs.Plain.{PlainTree, PlainTrees, nesting, nesting_all}
 use Rattle.jac_tree.specs.Printed.{printed, HasAtoms, HaveAtoms}
 use Rattle.jac_lang.specs.declared.field_kinds.Field.{Field}
 use Rattle.jac_lang.specs.declared.field_kinds.KindName.{KindName}
@@ -17,10 +18,10 @@ use Rattle.jac_lang.specs.declared.field_kinds.KindName.TheVariants as kinds
 use Rattle.jac_lang.specs.Lookup.{same_text, model_place, kind_named}
 use Rattle.jac_lang.specs.Syntax.{Assigned, FieldGroup, Entity, Application}
 use Rattle.jac_lang.specs.Written.{IsName, IsWrittenAssigned, IsWrittenKind, IsWrittenField, IsWrittenGroup, IsWrittenModel}
-use Rattle.jac_plain.specs.Models.{kinds_of_fields, kinds_of_models, kinds_of}
+use Rattle.jac_plain.specs.Models.{kinds_of_fields, shapes_of_models, shapes_of}
 use Rattle.jac_keep.specs.Schema as schema
-use Rattle.jac_keep.specs.Schema.{IsSchema, each_of, place_from, reference, kind_of, kind_of_field, kinds_of_model}
-use Rattle.jac_check.specs.Schema.{kind_tree, field_tree, field_trees, guard_trees, group_trees, fields_tree, groups_tree, model_tree, model_trees, schema_tree}
+use Rattle.jac_keep.specs.Schema.{IsSchema, each_of, place_from, reference, kind_of, kind_of_field, behind_nested, kinds_of_lists, kinds_of_model, starts_nested, nested_of_models, shapes_by}
+use Rattle.jac_check.specs.Schema.{kind_tree, field_tree, field_trees, guard_trees, group_trees, fields_tree, groups_tree, nested_before, list_trees, model_tree, model_trees, schema_tree}
 use Rattle.jac_check.specs.Well.{is_viewer, is_kind, are_fields, are_groups, are_models, is_well}
 
 -- both tests hold where both together do
@@ -52,6 +53,12 @@ fields_word = ((λ e. absurd (cc)), refl)
 groups_word : HasAtoms (PlainTree.atom (codes "groups"))
 groups_word = ((λ e. absurd (cc)), refl)
 
+hides_word : HasAtoms (PlainTree.atom (codes "hides"))
+hides_word = ((λ e. absurd (cc)), refl)
+
+nested_word : HasAtoms (PlainTree.atom (codes "nested"))
+nested_word = ((λ e. absurd (cc)), refl)
+
 ref_word : HasAtoms (PlainTree.atom (codes "ref"))
 ref_word = ((λ e. absurd (cc)), refl)
 
@@ -72,15 +79,25 @@ guards_atoms : (gs : List Assigned) → All IsWrittenAssigned gs → HaveAtoms (
 guards_atoms [] w = tt
 guards_atoms (g ∷ gs) w = (atom_of_name g.field (All-head IsWrittenAssigned g gs w).0, guards_atoms gs (All-tail IsWrittenAssigned g gs w))
 
+hiding_atoms : (hides : Bool) (gs : List Assigned) → All IsWrittenAssigned gs
+    → HasAtoms (if hides then PlainTree.atom (codes "hides") else PlainTree.list (guard_trees gs))
+hiding_atoms true gs w = hides_word
+hiding_atoms false gs w = guards_atoms gs w
+
 groups_atoms : (gs : List FieldGroup) → All IsWrittenGroup gs → HaveAtoms (group_trees gs)
 groups_atoms [] w = tt
-groups_atoms (g ∷ gs) w = (guards_atoms g.guards (All-head IsWrittenGroup g gs w).guards, groups_atoms gs (All-tail IsWrittenGroup g gs w))
+groups_atoms (g ∷ gs) w = (hiding_atoms g.hides g.guards (All-head IsWrittenGroup g gs w).guards, groups_atoms gs (All-tail IsWrittenGroup g gs w))
+
+nested_atoms : (nested : Bool) (ts : PlainTrees) → HaveAtoms ts → HaveAtoms (nested_before nested ts)
+nested_atoms true ts h = (nested_word, h)
+nested_atoms false ts h = h
 
 models_atoms : (ms : List Entity) → All IsWrittenModel ms → HaveAtoms (model_trees ms)
 models_atoms [] w = tt
 models_atoms (m ∷ ms) w =
     let one = All-head IsWrittenModel m ms w in
-    ((model_word, (atom_of_name m.name one.name, ((fields_word, fields_atoms m.fields one.fields), ((groups_word, groups_atoms m.groups one.groups), tt)))), models_atoms ms (All-tail IsWrittenModel m ms w))
+    let lists : HaveAtoms (list_trees m) = ((fields_word, fields_atoms m.fields one.fields), ((groups_word, groups_atoms m.groups one.groups), tt)) in
+    ((model_word, (atom_of_name m.name one.name, nested_atoms m.nested (list_trees m) lists)), models_atoms ms (All-tail IsWrittenModel m ms w))
 
 -- how deep the schema nests
 kind_shallow : (k : KindName) → nesting (kind_tree k) ≤ 1
@@ -101,9 +118,18 @@ guards_shallow : (gs : List Assigned) → nesting_all (guard_trees gs) ≤ 0
 guards_shallow [] = omega arith
 guards_shallow (g ∷ gs) = max_most 0 _ 0 (omega arith) (guards_shallow gs)
 
+hiding_shallow : (hides : Bool) (gs : List Assigned)
+    → nesting (if hides then PlainTree.atom (codes "hides") else PlainTree.list (guard_trees gs)) ≤ 1
+hiding_shallow true gs = omega arith
+hiding_shallow false gs = omega (arith, guards_shallow gs)
+
 groups_shallow : (gs : List FieldGroup) → nesting_all (group_trees gs) ≤ 1
 groups_shallow [] = omega arith
-groups_shallow (g ∷ gs) = max_most _ _ 1 (omega (arith, guards_shallow g.guards)) (groups_shallow gs)
+groups_shallow (g ∷ gs) = max_most _ _ 1 (hiding_shallow g.hides g.guards) (groups_shallow gs)
+
+nested_shallow : (nested : Bool) (ts : PlainTrees) (n : ℕ) → nesting_all ts ≤ n → nesting_all (nested_before nested ts) ≤ n
+nested_shallow true ts n h = max_most 0 _ n (omega arith) h
+nested_shallow false ts n h = h
 
 fields_tree_shallow : (fs : List Field) → nesting (fields_tree fs) ≤ 3
 fields_tree_shallow fs = omega (arith, max_most 0 _ 2 (omega arith) (fields_shallow fs))
@@ -115,8 +141,8 @@ model_shallow : (m : Entity) → nesting (model_tree m) ≤ 4
 model_shallow m =
     omega (
       arith,
-      max_most 0 _ 3 (omega arith) (max_most 0 _ 3 (omega arith)
-          (max_most _ _ 3 (fields_tree_shallow m.fields) (max_most _ 0 3 (groups_tree_shallow m.groups) (omega arith)))),
+      max_most 0 _ 3 (omega arith) (max_most 0 _ 3 (omega arith) (nested_shallow m.nested (list_trees m) 3
+          (max_most _ _ 3 (fields_tree_shallow m.fields) (max_most _ 0 3 (groups_tree_shallow m.groups) (omega arith))))),
     )
 
 models_shallow : (ms : List Entity) → nesting_all (model_trees ms) ≤ 4
@@ -187,24 +213,64 @@ guards_read : (gs : List Assigned) → All IsWrittenAssigned gs → schema.are_n
 guards_read [] w = refl
 guards_read (g ∷ gs) w = and_true (is_name g.field) _ (All-head IsWrittenAssigned g gs w).0 (guards_read gs (All-tail IsWrittenAssigned g gs w))
 
+hiding_read : (hides : Bool) (gs : List Assigned) → All IsWrittenAssigned gs
+    → schema.is_group (if hides then PlainTree.atom (codes "hides") else PlainTree.list (guard_trees gs)) ≡ true
+hiding_read true gs w = refl
+hiding_read false gs w = guards_read gs w
+
 groups_read : (gs : List FieldGroup) → All IsWrittenGroup gs → schema.are_groups (group_trees gs) ≡ true
 groups_read [] w = refl
-groups_read (g ∷ gs) w = and_true _ _ (guards_read g.guards (All-head IsWrittenGroup g gs w).guards) (groups_read gs (All-tail IsWrittenGroup g gs w))
+groups_read (g ∷ gs) w = and_true _ _ (hiding_read g.hides g.guards (All-head IsWrittenGroup g gs w).guards) (groups_read gs (All-tail IsWrittenGroup g gs w))
+
+behind_it : (nested : Bool) (m : Entity) → behind_nested (nested_before nested (list_trees m)) ≡ list_trees m
+behind_it true m = refl
+behind_it false m = refl
+
+lists_read : (models : List Entity) (m : Entity) → IsWrittenModel m → are_fields models [] m.fields ≡ true
+    → kinds_of_lists (model_trees models) (list_trees m) ≡ Some (kinds_of_fields models m.fields)
+lists_read models m w h = if_true _ _ None (groups_read m.groups w.groups) ∙ fields_read models [] m.fields w.fields h
 
 model_read : (models : List Entity) (m : Entity) → IsWrittenModel m → are_fields models [] m.fields ≡ true
     → kinds_of_model (model_trees models) (model_tree m) ≡ Some (kinds_of_fields models m.fields)
 model_read models m w h =
-    if_true _ _ None (and_true (is_name m.name) _ w.name (groups_read m.groups w.groups)) ∙ fields_read models [] m.fields w.fields h
+    if_true (is_name m.name) _ None w.name
+    ∙ (ap (λ (ts : PlainTrees). kinds_of_lists (model_trees models) ts) (behind_it m.nested m) ∙ lists_read models m w h)
+
+-- the kinds of the models' fields, and which models are nested
+abbrev kinds_of_all : List Entity → List Entity → List (List Kind)
+kinds_of_all models [] = []
+kinds_of_all models (m ∷ ms) = kinds_of_fields models m.fields ∷ kinds_of_all models ms
+
+abbrev nested_of_all : List Entity → List Bool
+nested_of_all [] = []
+nested_of_all (m ∷ ms) = m.nested ∷ nested_of_all ms
 
 models_read : (app : Application) (earlier ms : List Entity) → All IsWrittenModel ms → are_models app earlier ms ≡ true
-    → each_of (kinds_of_model (model_trees app.models)) (model_trees ms) ≡ Some (kinds_of_models app.models ms)
+    → each_of (kinds_of_model (model_trees app.models)) (model_trees ms) ≡ Some (kinds_of_all app.models ms)
 models_read app earlier [] w h = refl
 models_read app earlier (m ∷ ms) w h =
     let parts = both _ (are_models app (earlier ++ m ∷ []) ms) h in
     let inside = both _ _ parts.0 in
-    each_more _ (kinds_of_fields app.models m.fields) _ (kinds_of_models app.models ms)
+    each_more _ (kinds_of_fields app.models m.fields) _ (kinds_of_all app.models ms)
     (model_read app.models m (All-head IsWrittenModel m ms w) (both _ (are_groups app m [] m.groups) inside.1).0)
     (models_read app (earlier ++ m ∷ []) ms (All-tail IsWrittenModel m ms w) parts.1)
+
+starts_so : (nested : Bool) (m : Entity) → starts_nested (nested_before nested (list_trees m)) ≡ nested
+starts_so true m = refl
+starts_so false m = refl
+
+nested_read : (ms : List Entity) → nested_of_models (model_trees ms) ≡ nested_of_all ms
+nested_read [] = refl
+nested_read (m ∷ ms) = rw (starts_so m.nested m, nested_read ms) refl
+
+shapes_read : (models ms : List Entity) → shapes_by (kinds_of_all models ms) (nested_of_all ms) ≡ shapes_of_models models ms
+shapes_read models [] = refl
+shapes_read models (m ∷ ms) = rw (shapes_read models ms) refl
+
+-- the kinds that were read, beside which models are nested
+shapes_seen : (kinds : Option (List (List Kind))) (nested : List Bool) (models : List Entity) → kinds ≡ Some (kinds_of_all models models) → nested ≡ nested_of_all models
+    → option_map (λ ks. shapes_by ks nested) kinds ≡ Some (shapes_of_models models models)
+shapes_seen kinds nested models h k = rw (h, k, shapes_read models models) refl
 
 counted : (ms : List Entity) → schema.count (model_trees ms) ≡ length ms
 counted [] = refl
@@ -213,7 +279,7 @@ counted (m ∷ ms) = let rest = counted ms in omega (arith, rest)
 few : (ms : List Entity) → length ms ≤ 64 → nat_le (schema.count (model_trees ms)) 64 ≡ true
 few ms h = let n = counted ms in grind (nat_tests, arith, n, h)
 
-pub well_schema : (app : Application) → IsTrue (is_well app) → length app.models ≤ 64 → All IsWrittenModel app.models → IsSchema (printed (schema_tree app.models)) (kinds_of app)
+pub well_schema : (app : Application) → IsTrue (is_well app) → length app.models ≤ 64 → All IsWrittenModel app.models → IsSchema (printed (schema_tree app.models)) (shapes_of app)
 well_schema app well few_models written =
     let models : are_models app [] app.models ≡ true = (both _ _ (both (is_viewer app.models app.viewer) _ well).1).0 in
     record {
@@ -221,5 +287,5 @@ well_schema app well few_models written =
       atoms = (schema_word, models_atoms app.models written);
       shallow = schema_shallow app.models;
       spelled = refl;
-      read = if_true _ _ None (few app.models few_models) ∙ models_read app [] app.models written models;
+      read = shapes_seen _ _ app.models (if_true _ _ None (few app.models few_models) ∙ models_read app [] app.models written models) (nested_read app.models);
     }

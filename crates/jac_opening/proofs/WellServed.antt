@@ -1,13 +1,14 @@
 -- A well application whose sites are their places is one that is served.
-use Rattle.std.proofs.Common.{◌≡◌, ◌∙◌, rules, refl, ap, arith, ℕ, ◌+◌, ◌≤◌, ◌<◌, nat_le, nat_lt, Bool, true, false, not, ◌&&◌, List, [], ◌∷◌, length, is_some, zero, suc, IsTrue}
+use Rattle.std.proofs.Common.{◌≡◌, ◌∙◌, rules, refl, ap, arith, ℕ, ◌+◌, ◌≤◌, ◌<◌, nat_le, nat_lt, Bool, true, false, ◌&&◌, List, [], ◌∷◌, length, is_some, zero, suc, IsTrue}
 use Rattle.std.specs.List.{All, range_with_len}
 use Rattle.std.proofs.lemmas.Bool.Decides.{nat_tests}
 use Rattle.std.proofs.lemmas.List.Elements.{All-head, All-tail}
 use Rattle.jac_lang.specs.declared.pages.Verb.{Verb}
 use Rattle.jac_lang.specs.declared.pages.Verb.TheVariants as verbs
-use Rattle.jac_lang.specs.Syntax.{Statement, Statements, Page, Application}
+use Rattle.jac_lang.specs.Lookup.{is_nested_named}
+use Rattle.jac_lang.specs.Loops.{Loops, behind_for, may_create, is_placed, are_placed}
+use Rattle.jac_lang.specs.Syntax.{Entity, Statement, Statements, Page, Application}
 use Rattle.jac_lang.specs.Written.{sites}
-use Rattle.jac_plain.specs.Models.{is_unlooped, are_unlooped}
 use Rattle.jac_plain.specs.Reading.{is_reading, are_reading}
 use Rattle.jac_check.specs.Scope.{is_get}
 use Rattle.jac_check.specs.Well.{is_well}
@@ -24,80 +25,80 @@ two_true p q h k = rw (h, k) refl
 
 -- no template is left
 mutual
-  untemplated_one : (get looped : Bool) (s : Statement) → is_runnable get looped s ≡ true → is_untemplated s ≡ true
-  untemplated_one get looped (Statement.put e) h = refl
-  untemplated_one get looped (Statement.escape e) h = refl
-  untemplated_one get looped (Statement.bind x e body) h = untemplated get looped body h
-  untemplated_one get looped (Statement.assign x e) h = refl
-  untemplated_one get looped (Statement.branch c a b) h =
-      let parts = both_true _ (are_runnable get looped b) h in
-      two_true _ _ (untemplated get looped a parts.0) (untemplated get looped b parts.1)
-  untemplated_one get looped (Statement.each q body) h = untemplated get true body h
-  untemplated_one get looped (Statement.create x m site cells body) h = untemplated get looped body (both_true _ _ (both_true _ _ h).1).1
-  untemplated_one get looped (Statement.update m e cells) h = refl
-  untemplated_one get looped (Statement.delete m e) h = refl
-  untemplated_one get looped Statement.missing h = refl
-  untemplated_one get looped (Statement.redirect e) h = refl
-  untemplated_one get looped (Statement.template t) h = h
-  untemplated_one get looped (Statement.block body) h = untemplated get looped body h
+  untemplated_one : (get : Bool) (models : List Entity) (loops : Loops) (s : Statement) → is_runnable get models loops s ≡ true → is_untemplated s ≡ true
+  untemplated_one get models loops (Statement.put e) h = refl
+  untemplated_one get models loops (Statement.escape e) h = refl
+  untemplated_one get models loops (Statement.bind x e body) h = untemplated get models loops body h
+  untemplated_one get models loops (Statement.assign x e) h = refl
+  untemplated_one get models loops (Statement.branch c a b) h =
+      let parts = both_true _ (are_runnable get models loops b) h in
+      two_true _ _ (untemplated get models loops a parts.0) (untemplated get models loops b parts.1)
+  untemplated_one get models loops (Statement.each q body) h = untemplated get models (behind_for models q.binders loops) body h
+  untemplated_one get models loops (Statement.create x m site cells body) h = untemplated get models loops body (both_true _ _ (both_true _ _ h).1).1
+  untemplated_one get models loops (Statement.update m e cells) h = refl
+  untemplated_one get models loops (Statement.delete m e) h = refl
+  untemplated_one get models loops Statement.missing h = refl
+  untemplated_one get models loops (Statement.redirect e) h = refl
+  untemplated_one get models loops (Statement.template t) h = h
+  untemplated_one get models loops (Statement.block body) h = untemplated get models loops body h
 
-  untemplated : (get looped : Bool) (ss : Statements) → are_runnable get looped ss ≡ true → are_untemplated ss ≡ true
-  untemplated get looped Statements.none h = refl
-  untemplated get looped (Statements.more s ss) h =
-      let parts = both_true _ (are_runnable get looped ss) h in
-      two_true _ _ (untemplated_one get looped s parts.0) (untemplated get looped ss parts.1)
+  untemplated : (get : Bool) (models : List Entity) (loops : Loops) (ss : Statements) → are_runnable get models loops ss ≡ true → are_untemplated ss ≡ true
+  untemplated get models loops Statements.none h = refl
+  untemplated get models loops (Statements.more s ss) h =
+      let parts = both_true _ (are_runnable get models loops ss) h in
+      two_true _ _ (untemplated_one get models loops s parts.0) (untemplated get models loops ss parts.1)
 
 -- nothing is sited where the view answers GET
 mutual
-  reading_one : (looped : Bool) (s : Statement) → is_runnable true looped s ≡ true → is_reading s ≡ true
-  reading_one looped (Statement.put e) h = refl
-  reading_one looped (Statement.escape e) h = refl
-  reading_one looped (Statement.bind x e body) h = reading looped body h
-  reading_one looped (Statement.assign x e) h = refl
-  reading_one looped (Statement.branch c a b) h =
-      let parts = both_true _ (are_runnable true looped b) h in
-      two_true _ _ (reading looped a parts.0) (reading looped b parts.1)
-  reading_one looped (Statement.each q body) h = reading true body h
-  reading_one looped (Statement.create x m site cells body) h = h
-  reading_one looped (Statement.update m e cells) h = h
-  reading_one looped (Statement.delete m e) h = h
-  reading_one looped Statement.missing h = refl
-  reading_one looped (Statement.redirect e) h = refl
-  reading_one looped (Statement.template t) h = refl
-  reading_one looped (Statement.block body) h = reading looped body h
+  reading_one : (models : List Entity) (loops : Loops) (s : Statement) → is_runnable true models loops s ≡ true → is_reading s ≡ true
+  reading_one models loops (Statement.put e) h = refl
+  reading_one models loops (Statement.escape e) h = refl
+  reading_one models loops (Statement.bind x e body) h = reading models loops body h
+  reading_one models loops (Statement.assign x e) h = refl
+  reading_one models loops (Statement.branch c a b) h =
+      let parts = both_true _ (are_runnable true models loops b) h in
+      two_true _ _ (reading models loops a parts.0) (reading models loops b parts.1)
+  reading_one models loops (Statement.each q body) h = reading models (behind_for models q.binders loops) body h
+  reading_one models loops (Statement.create x m site cells body) h = h
+  reading_one models loops (Statement.update m e cells) h = h
+  reading_one models loops (Statement.delete m e) h = h
+  reading_one models loops Statement.missing h = refl
+  reading_one models loops (Statement.redirect e) h = refl
+  reading_one models loops (Statement.template t) h = refl
+  reading_one models loops (Statement.block body) h = reading models loops body h
 
-  reading : (looped : Bool) (ss : Statements) → are_runnable true looped ss ≡ true → are_reading ss ≡ true
-  reading looped Statements.none h = refl
-  reading looped (Statements.more s ss) h =
-      let parts = both_true _ (are_runnable true looped ss) h in
-      two_true _ _ (reading_one looped s parts.0) (reading looped ss parts.1)
+  reading : (models : List Entity) (loops : Loops) (ss : Statements) → are_runnable true models loops ss ≡ true → are_reading ss ≡ true
+  reading models loops Statements.none h = refl
+  reading models loops (Statements.more s ss) h =
+      let parts = both_true _ (are_runnable true models loops ss) h in
+      two_true _ _ (reading_one models loops s parts.0) (reading models loops ss parts.1)
 
--- no record is created inside of a `for`
+-- each create stands where it may
 mutual
-  unlooped_one : (get looped : Bool) (s : Statement) → is_runnable get looped s ≡ true → is_unlooped looped s ≡ true
-  unlooped_one get looped (Statement.put e) h = refl
-  unlooped_one get looped (Statement.escape e) h = refl
-  unlooped_one get looped (Statement.bind x e body) h = unlooped get looped body h
-  unlooped_one get looped (Statement.assign x e) h = refl
-  unlooped_one get looped (Statement.branch c a b) h =
-      let parts = both_true _ (are_runnable get looped b) h in
-      two_true _ _ (unlooped get looped a parts.0) (unlooped get looped b parts.1)
-  unlooped_one get looped (Statement.each q body) h = unlooped get true body h
-  unlooped_one get looped (Statement.create x m site cells body) h =
-      let parts = both_true (not looped) (are_runnable get looped body) (both_true _ _ h).1 in
-      two_true _ _ parts.0 (unlooped get looped body parts.1)
-  unlooped_one get looped (Statement.update m e cells) h = refl
-  unlooped_one get looped (Statement.delete m e) h = refl
-  unlooped_one get looped Statement.missing h = refl
-  unlooped_one get looped (Statement.redirect e) h = refl
-  unlooped_one get looped (Statement.template t) h = refl
-  unlooped_one get looped (Statement.block body) h = unlooped get looped body h
+  placed_one : (get : Bool) (models : List Entity) (loops : Loops) (s : Statement) → is_runnable get models loops s ≡ true → is_placed models loops s ≡ true
+  placed_one get models loops (Statement.put e) h = refl
+  placed_one get models loops (Statement.escape e) h = refl
+  placed_one get models loops (Statement.bind x e body) h = placed get models loops body h
+  placed_one get models loops (Statement.assign x e) h = refl
+  placed_one get models loops (Statement.branch c a b) h =
+      let parts = both_true _ (are_runnable get models loops b) h in
+      two_true _ _ (placed get models loops a parts.0) (placed get models loops b parts.1)
+  placed_one get models loops (Statement.each q body) h = placed get models (behind_for models q.binders loops) body h
+  placed_one get models loops (Statement.create x m site cells body) h =
+      let parts = both_true (may_create (is_nested_named models m) loops) (are_runnable get models loops body) (both_true _ _ h).1 in
+      two_true _ _ parts.0 (placed get models loops body parts.1)
+  placed_one get models loops (Statement.update m e cells) h = refl
+  placed_one get models loops (Statement.delete m e) h = refl
+  placed_one get models loops Statement.missing h = refl
+  placed_one get models loops (Statement.redirect e) h = refl
+  placed_one get models loops (Statement.template t) h = refl
+  placed_one get models loops (Statement.block body) h = placed get models loops body h
 
-  unlooped : (get looped : Bool) (ss : Statements) → are_runnable get looped ss ≡ true → are_unlooped looped ss ≡ true
-  unlooped get looped Statements.none h = refl
-  unlooped get looped (Statements.more s ss) h =
-      let parts = both_true _ (are_runnable get looped ss) h in
-      two_true _ _ (unlooped_one get looped s parts.0) (unlooped get looped ss parts.1)
+  placed : (get : Bool) (models : List Entity) (loops : Loops) (ss : Statements) → are_runnable get models loops ss ≡ true → are_placed models loops ss ≡ true
+  placed get models loops Statements.none h = refl
+  placed get models loops (Statements.more s ss) h =
+      let parts = both_true _ (are_runnable get models loops ss) h in
+      two_true _ _ (placed_one get models loops s parts.0) (placed get models loops ss parts.1)
 
 -- sites that are their places rise, and are below 64
 in_order : (n a : ℕ) → a + n ≤ 64 → is_some (behind_sites a (range_with_len a n)) ≡ true
@@ -113,16 +114,17 @@ own_sites : (v : Page) → IsSited v → is_some (behind_sites 0 (sites v.body))
 own_sites v sited =
     ap (λ (places : List ℕ). is_some (behind_sites 0 places)) sited.in_order ∙ in_order (length (sites v.body)) 0 (omega (arith, sited.few))
 
-body_served : (method : Verb) (v : Page) → v.method ≡ method → IsSited v → are_runnable (is_get method) false v.body ≡ true → is_served_body method v.body ≡ true
-body_served verbs.Get v same sited runs = two_true _ _ (untemplated true false v.body runs) (reading false v.body runs)
-body_served verbs.Post v same sited runs =
-    two_true _ _ (untemplated false false v.body runs) (two_true _ _ (own_sites v sited) (unlooped false false v.body runs))
+body_served : (models : List Entity) (method : Verb) (v : Page) → v.method ≡ method → IsSited v → are_runnable (is_get method) models Loops.none v.body ≡ true
+    → is_served_body models method v.body ≡ true
+body_served models verbs.Get v same sited runs = two_true _ _ (untemplated true models Loops.none v.body runs) (reading models Loops.none v.body runs)
+body_served models verbs.Post v same sited runs =
+    two_true _ _ (untemplated false models Loops.none v.body runs) (two_true _ _ (own_sites v sited) (placed false models Loops.none v.body runs))
 
-views_served : (vs : List Page) → All IsSited vs → All IsRunnable vs → are_served_views vs ≡ true
-views_served [] sited runs = refl
-views_served (v ∷ vs) sited runs =
-    two_true _ _ (body_served v.method v refl (All-head IsSited v vs sited) (All-head IsRunnable v vs runs))
-    (views_served vs (All-tail IsSited v vs sited) (All-tail IsRunnable v vs runs))
+views_served : (models : List Entity) (vs : List Page) → All IsSited vs → All (IsRunnable models) vs → are_served_views models vs ≡ true
+views_served models [] sited runs = refl
+views_served models (v ∷ vs) sited runs =
+    two_true _ _ (body_served models v.method v refl (All-head IsSited v vs sited) (All-head (IsRunnable models) v vs runs))
+    (views_served models vs (All-tail IsSited v vs sited) (All-tail (IsRunnable models) v vs runs))
 
 pub well_served : (app : Application) → All IsSited app.views → IsTrue (is_well app) → are_served app ≡ true
-well_served app sited well = views_served app.views sited (well-runs app well)
+well_served app sited well = views_served app.models app.views sited (well-runs app well)

@@ -169,6 +169,7 @@ cause_text (causes.TwiceNamed name) = name ++ codes " named twice"
 cause_text (causes.WrongKind want have) = codes "wrong kind: want " ++ (wanted_text want ++ (codes ", have " ++ kind_text have))
 cause_text causes.WriteInGet = codes "write in a get view"
 cause_text causes.CreateInLoop = codes "create in a loop"
+cause_text (causes.LoopWanted name) = name ++ codes " is created in a loop alone"
 cause_text causes.ViewerInPublic = codes "viewer in a public value"
 cause_text (causes.NotHere name) = name ++ codes " may not stand here"
 cause_text causes.Memory = []

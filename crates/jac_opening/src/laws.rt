@@ -3,7 +3,7 @@ ghost use Rattle.std.specs.List.{All};
 ghost use Rattle.jac_tree.specs.Printed.{printed};
 ghost use Rattle.jac_lang.specs.Syntax.{Application};
 ghost use Rattle.jac_lang.specs.Written.{IsWrittenModel};
-ghost use Rattle.jac_plain.specs.Models.{kinds_of};
+ghost use Rattle.jac_plain.specs.Models.{shapes_of};
 ghost use Rattle.jac_keep.specs.Schema.{IsSchema};
 ghost use Rattle.jac_check.specs.Schema.{schema_tree};
 ghost use Rattle.jac_check.specs.Well.{is_well};
@@ -14,7 +14,7 @@ pub fn well_is_served()
     ensures { (app : Application) → All IsSited app.views → IsTrue (is_well app) → are_served app ≡ true }
 {}
 
-/// A law: the schema text of a well application whose models were read has the kinds of its models.
+/// A law: the schema text of a well application whose models were read has the shapes of its models.
 pub fn schema_of_well()
-    ensures { (app : Application) → IsTrue (is_well app) → length app.models ≤ 64 → All IsWrittenModel app.models → IsSchema (printed (schema_tree app.models)) (kinds_of app) }
+    ensures { (app : Application) → IsTrue (is_well app) → length app.models ≤ 64 → All IsWrittenModel app.models → IsSchema (printed (schema_tree app.models)) (shapes_of app) }
 {}

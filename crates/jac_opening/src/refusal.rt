@@ -254,6 +254,7 @@ fn cause_text(alloc: Global, cause: &CheckCause) -> Result<Txt, Memory>
         CheckCause::WrongKind { want, have } => wrong_kind(alloc, want, have),
         CheckCause::WriteInGet => joined(alloc, "write in a get view", ""),
         CheckCause::CreateInLoop => joined(alloc, "create in a loop", ""),
+        CheckCause::LoopWanted(name) => joined(alloc, name.as_str(), " is created in a loop alone"),
         CheckCause::ViewerInPublic => joined(alloc, "viewer in a public value", ""),
         CheckCause::NotHere(name) => joined(alloc, name.as_str(), " may not stand here"),
         CheckCause::Memory => Err(Memory),

@@ -2,7 +2,7 @@ ghost use Rattle.std.specs.Prelude.{◌≡◌, ◌≤◌, length, true, IfOk};
 ghost use Rattle.jac_lang.specs.Mirror.{application_of};
 ghost use Rattle.jac_opening.specs.Served.{are_served};
 ghost use Rattle.jac_route.specs.Routes.{AreRoutes};
-ghost use Rattle.jac_plain.specs.Models.{kinds_of};
+ghost use Rattle.jac_plain.specs.Models.{shapes_of};
 ghost use Rattle.jac_keep.specs.Schema.{IsSchema};
 ghost use Rattle.jac_opening.specs.Application.{schema_text};
 
@@ -28,7 +28,7 @@ impl Model for Service {
     ghost use Rattle.jac_lang.specs.contracts.application.App as item;
     ghost use Rattle.jac_opening.specs.Served.{are_served};
     ghost use Rattle.jac_route.specs.Routes.{AreRoutes};
-    ghost use Rattle.jac_plain.specs.Models.{kinds_of};
+    ghost use Rattle.jac_plain.specs.Models.{shapes_of};
     ghost use Rattle.jac_keep.specs.Schema.{IsSchema};
     ghost use Rattle.jac_opening.specs.Application.{schema_text};
 
@@ -38,14 +38,14 @@ impl Model for Service {
 
     ghost view = { λ s. s.checked };
 
-    ghost invariant = { λ s. (are_served (application_of s.checked) ≡ true) × AreRoutes (application_of s.checked) s.routes × IsSchema (schema_text (application_of s.checked)) (kinds_of (application_of s.checked)) };
+    ghost invariant = { λ s. (are_served (application_of s.checked) ≡ true) × AreRoutes (application_of s.checked) s.routes × IsSchema (schema_text (application_of s.checked)) (shapes_of (application_of s.checked)) };
 }
 
 impl Service {
     pub fn new(checked: Checked, routes: Routes) -> Service
         requires served { are_served (application_of checked) ≡ true }
         requires routes { AreRoutes (application_of checked) routes }
-        requires schema { IsSchema (schema_text (application_of checked)) (kinds_of (application_of checked)) }
+        requires schema { IsSchema (schema_text (application_of checked)) (shapes_of (application_of checked)) }
         ensures { result ≡ checked }
     {
         Service { checked, routes }
@@ -71,7 +71,7 @@ impl Service {
     /// The schema that the application's records are stored under.
     pub fn schema(&self, alloc: Global) -> Result<Txt, Memory>
         ensures text { IfOk result (λ t. t ≡ schema_text (application_of self.now)) }
-        ensures schema { IsSchema (schema_text (application_of self.now)) (kinds_of (application_of self.now)) }
+        ensures schema { IsSchema (schema_text (application_of self.now)) (shapes_of (application_of self.now)) }
     {
         self.checked.schema(alloc)
     }
