@@ -1,16 +1,19 @@
 -- From the run of a view to the answer of a request.
-use Rattle.std.proofs.Common.{◌≡◌, ◌<◌, ◌+◌, ◌^◌, refl, ap, subst, ◌∙◌, arith, suc, ℕ, Bool, true, List, [], ◌∷◌, length, Some}
+use Rattle.std.proofs.Common.{◌≡◌, ◌<◌, ◌≤◌, ◌+◌, ◌^◌, refl, ap, sym, subst, ◌∙◌, arith, suc, ℕ, Bool, true, List, [], ◌∷◌, length, Some}
 use Rattle.std.specs.Prelude.{slice_get}
 use Rattle.jac_lang.specs.Syntax.{Page as View, Application}
 use Rattle.jac_lang.specs.declared.pages.Verb.TheVariants as verbs
 use Rattle.jac_world.specs.World.{shown}
 use Rattle.jac_rows.specs.Project.{project_at}
 use Rattle.jac_rows.specs.declared.plain.PlainRow.{PlainRow}
+use Rattle.jac_rows.specs.declared.plain.PlainState.{PlainState}
 use Rattle.jac_rows.specs.declared.row.Row.{Row}
 use Rattle.jac_rows.specs.declared.state.State.{State}
+use Rattle.jac_plain.specs.Models.{AreFlat}
 use Rattle.jac_plain.specs.Policies.{IsSettled}
 use Rattle.jac_plain.specs.Requests.{Worlds, page, page_of, after}
 use Rattle.jac_plain.specs.declared.page.Page.{Page}
+use Rattle.jac_plain.proofs.GoodLaws.{flat_after}
 use Rattle.jac_keep.specs.declared.alteration.Alteration.{Alteration}
 use Rattle.jac_keep.specs.declared.alteration.Change.{Change}
 use Rattle.jac_keep.specs.Alterations.{overlaid_from}
@@ -22,7 +25,8 @@ use Rattle.jac_opening.specs.Served.{is_served_body}
 use Rattle.jac_engine.specs.Start.{IsStart}
 use Rattle.jac_engine.specs.Viewed.{Stores}
 use Rattle.jac_engine.specs.Views.{ran_by, ShowsView, LeavesTables}
-use Rattle.jac_engine.proofs.ViewLaws.{may_show, may_store, sound_now, sound_next}
+use Rattle.jac_engine.proofs.ServedLaws.{storing}
+use Rattle.jac_engine.proofs.ViewLaws.{ordered, may_show, may_store, sound_now, sound_next}
 
 length_overlaid : (k : ℕ) (c : List Alteration) (ts : List (List Row)) → length (overlaid_from k c ts) ≡ length ts
 length_overlaid k c [] = refl
@@ -38,34 +42,45 @@ ran_after : (w : ℕ → Bool) (app : Application) (v : View) (ask : Ask) (place
 ran_after w app v ask place n s is_view is_post is_number = rw (is_view, is_post, is_view, is_number) refl
 
 -- the page of a view of GET
-pub page_shown : (app : Application) (v : View) (ask : Ask) (place n : ℕ) (s : State) (labels : List ℕ) (p : Page) → slice_get app.views place ≡ Some v → is_served_body verbs.Get v.body ≡ true
+pub page_shown : (app : Application) (v : View) (ask : Ask) (place n : ℕ) (s : State) (labels : List ℕ) (p : Page) → slice_get app.views place ≡ Some v → is_served_body app.models verbs.Get v.body ≡ true
     → n ≡ s.number → IsStart app s → ShowsView app v ask n s labels p
     → page_answer labels p ≡ page_answer labels (page (shown labels) app (project_at (shown labels) s) (visit_of app ask place))
 page_shown app v ask place n s labels p is_view served is_number start shows =
     ap (page_answer labels) (shows.page n (sound_now s n start.sound is_number) (may_show n app v ask n s served) ∙ ran_page app v ask place n s labels is_view is_number)
 
 -- the page of a view of POST
-pub page_stored : (app : Application) (v : View) (ask : Ask) (place n : ℕ) (s : State) (labels : List ℕ) (p : Page) → slice_get app.views place ≡ Some v → is_served_body verbs.Post v.body ≡ true
-    → n ≡ s.number → n < 2 ^ 40 → IsStart app s → ShowsView app v ask n s labels p
+pub page_stored : (app : Application) (v : View) (ask : Ask) (place n : ℕ) (s : State) (labels : List ℕ) (p : Page) → slice_get app.views place ≡ Some v → is_served_body app.models verbs.Post v.body ≡ true
+    → n ≡ s.number → n < 2 ^ 40 → IsStart app s → length app.models ≤ 64 → ShowsView app v ask n s labels p
     → page_answer labels p ≡ page_answer labels (page (shown labels) app (project_at (shown labels) s) (visit_of app ask place))
-page_stored app v ask place n s labels p is_view served is_number few start shows =
-    ap (page_answer labels) (shows.page (n + 1) (sound_next s n start.sound is_number few) (may_store app v ask n s served start.sound is_number) ∙ ran_page app v ask place n s labels is_view is_number)
+page_stored app v ask place n s labels p is_view served is_number few start most shows =
+    ap (page_answer labels) (shows.page (n + 1) (sound_next s n start.sound is_number few) (may_store app v ask n s served start most is_number few) ∙ ran_page app v ask place n s labels is_view is_number)
+
+-- what the interpreter leaves has wide ids in nested models alone
+flat_left : (w : ℕ → Bool) (app : Application) (v : View) (ask : Ask) (place n : ℕ) (s : State) → slice_get app.views place ≡ Some v → is_served_body app.models verbs.Post v.body ≡ true
+    → n ≡ s.number → n < 2 ^ 40 → IsStart app s → length app.models ≤ 64 → AreFlat app.models (after w app (project_at w s) (visit_of app ask place)).tables
+flat_left w app v ask place n s is_view served is_number few start most =
+    let keeps = storing app.models v.body served in
+    let least = start.sound.next.0 in
+    flat_after w app (project_at w s) (visit_of app ask place) (omega (arith, least)) (omega (arith, is_number, few)) most
+    (rw is_view keeps.sited) (rw is_view keeps.placed) (ordered w s start.sound) (start.flat w)
 
 -- the change of a run stores what the interpreter leaves, in every world
 pub change_stored : (app : Application) (v : View) (ask : Ask) (place n : ℕ) (s : State) (change : Change) → slice_get app.views place ≡ Some v → v.method ≡ verbs.Post
-    → is_served_body verbs.Post v.body ≡ true → n ≡ s.number → n < 2 ^ 40 → IsStart app s → change.number ≡ n + 1 → LeavesTables app v ask n s (applied change s).tables
+    → is_served_body app.models verbs.Post v.body ≡ true → n ≡ s.number → n < 2 ^ 40 → IsStart app s → length app.models ≤ 64 → change.number ≡ n + 1 → LeavesTables app v ask n s (applied change s).tables
     → Stores app s (visit_of app ask place) change
-change_stored app v ask place n s change is_view is_post served is_number few start next leaves =
-    let ran = leaves.ran (n + 1) (sound_next s n start.sound is_number few) (may_store app v ask n s served start.sound is_number) in
+change_stored app v ask place n s change is_view is_post served is_number few start most next leaves =
+    let ran = leaves.ran (n + 1) (sound_next s n start.sound is_number few) (may_store app v ask n s served start most is_number few) in
+    let left : (w : ℕ → Bool) → project_at w (applied change s) ≡ after w app (project_at w s) (visit_of app ask place) = λ w.
+    ap (λ (ts : List (List PlainRow)). record { tables = ts; number = change.number }) (ran.left w)
+    ∙ ap (λ (i : ℕ). record { tables = (ran_by w app v ask n s).tables; number = i }) next
+    ∙ ran_after w app v ask place n s is_view is_post is_number in
     record {
       room = omega (arith, is_number, few);
-      worlds = λ w.
-          ap (λ (ts : List (List PlainRow)). record { tables = ts; number = change.number }) (ran.left w)
-          ∙ ap (λ (i : ℕ). record { tables = (ran_by w app v ask n s).tables; number = i }) next
-          ∙ ran_after w app v ask place n s is_view is_post is_number;
+      worlds = left;
       start = record {
         sound = rw next ran.sound;
         tables = rw (length_overlaid 0 change.changed s.tables) start.tables;
+        flat = λ w. subst (λ (t : PlainState). AreFlat app.models t.tables) (sym (left w)) (flat_left w app v ask place n s is_view served is_number few start most);
       };
     }
 

@@ -8,7 +8,7 @@ use Rattle.jac_rows.specs.Good.{IsGood, IsGoodPlain}
 use Rattle.jac_rows.specs.Project.{project_at}
 use Rattle.jac_rows.specs.declared.plain.PlainState.{PlainState}
 use Rattle.jac_rows.specs.declared.state.State.{State}
-use Rattle.jac_plain.specs.Models.{kinds_of}
+use Rattle.jac_plain.specs.Models.{shapes_of}
 use Rattle.jac_plain.specs.Requests.{Visit, method_in, after, after_by}
 use Rattle.jac_plain.proofs.GoodLaws.{good_after}
 use Rattle.jac_keep.specs.declared.alteration.Change.{Change}
@@ -21,7 +21,7 @@ use Rattle.jac_engine.specs.Prepared.{IsPrepared, applied_if, worlds_of}
 use Rattle.jac_opening.specs.Served.{are_served}
 use Rattle.jac_engine.specs.Start.{IsStart}
 use Rattle.jac_engine.specs.Viewed.{IsPreparedBy, IsPreparedFor}
-use Rattle.jac_engine.proofs.ServedLaws.{sited_view}
+use Rattle.jac_engine.proofs.ServedLaws.{sited_view, placed_view}
 use Rattle.jac_replies.specs.declared.answer.Answer.{Answer}
 use Rattle.jac_replies.specs.declared.answer.Ask.{Ask}
 use Rattle.jac_engine.specs.declared.answer.Prepared.{Prepared}
@@ -112,17 +112,18 @@ start_for (founds.WrongMethod allow) tells app s ask p h told start = rw h start
 start_for (founds.View n pairs) tells app s ask p h told start = start_by (method_in (slice_get app.views n)) tells app s (visit_of app (asked_with pairs ask) n) p h told start
 
 good_by : (v : Verb) (tells : Bool) (app : Application) (s : State) (ask : Ask) (n : ℕ) (pairs : List Pair) (p : Prepared) → are_served app ≡ true → length app.models ≤ 64
-    → IsPreparedBy v tells app s (visit_of app (asked_with pairs ask) n) p → IsTrue tells → IsGood (kinds_of app) s → IsGood (kinds_of app) (applied_if p.change s)
+    → IsPreparedBy v tells app s (visit_of app (asked_with pairs ask) n) p → IsTrue tells → IsGood (shapes_of app) s → IsGood (shapes_of app) (applied_if p.change s)
 good_by verbs.Get tells app s ask n pairs p served few h told good = rw h.change good
 good_by verbs.Post tells app s ask n pairs p served few (inl full) told good = rw full.refusal good
 good_by verbs.Post tells app s ask n pairs p served few (inr stored) told good = λ w.
     let stores = stored.stores told in
     let after_change = ap (λ (c : Option Change). project_at w (applied_if c s)) stored.changes ∙ stores.worlds w in
-    subst (λ (t : PlainState). IsGoodPlain (kinds_of app) t) (sym after_change)
-    (good_after w app (project_at w s) (visit_of app (asked_with pairs ask) n) (good w) stores.room few (sited_view app n (slice_get app.views n) served refl))
+    subst (λ (t : PlainState). IsGoodPlain (shapes_of app) t) (sym after_change)
+    (good_after w app (project_at w s) (visit_of app (asked_with pairs ask) n) (good w) stores.room few (sited_view app n (slice_get app.views n) served refl)
+    (placed_view app n (slice_get app.views n) served refl))
 
 good_for : (f : Found) (tells : Bool) (app : Application) (s : State) (ask : Ask) (p : Prepared) → are_served app ≡ true → length app.models ≤ 64
-    → IsPreparedFor f tells app s ask p → IsTrue tells → IsGood (kinds_of app) s → IsGood (kinds_of app) (applied_if p.change s)
+    → IsPreparedFor f tells app s ask p → IsTrue tells → IsGood (shapes_of app) s → IsGood (shapes_of app) (applied_if p.change s)
 good_for founds.NoRoute tells app s ask p served few h told good = rw h good
 good_for (founds.WrongMethod allow) tells app s ask p served few h told good = rw h good
 good_for (founds.View n pairs) tells app s ask p served few h told good = good_by (method_in (slice_get app.views n)) tells app s ask n pairs p served few h told good

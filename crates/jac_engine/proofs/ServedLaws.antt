@@ -1,12 +1,13 @@
--- What the views of a served application keep: what they ask of a run, and the sites of their creates.
+-- What the views of a served application keep: what they ask of a run, and where their creates stand.
 use Rattle.std.proofs.Common.{◌≡◌, refl, arith, zero, suc, ℕ, ◌<◌, ◌^◌, ◌&&◌, nat_lt, Bool, true, false, List, [], ◌∷◌, Option, Some, None}
 use Rattle.std.specs.Prelude.{slice_get, is_some}
 use Rattle.std.proofs.lemmas.Bool.{and_parts}
-use Rattle.jac_lang.specs.Syntax.{Statement, Statements, Page as View, Application}
+use Rattle.jac_lang.specs.Loops.{Loops, behind_for, is_placed, are_placed}
+use Rattle.jac_lang.specs.Syntax.{Entity, Statement, Statements, Page as View, Application}
 use Rattle.jac_lang.specs.Written.{sites_in, sites}
 use Rattle.jac_lang.specs.declared.pages.Verb.{Verb}
 use Rattle.jac_lang.specs.declared.pages.Verb.TheVariants as verbs
-use Rattle.jac_plain.specs.Models.{is_sited, are_sited, is_unlooped, are_unlooped}
+use Rattle.jac_plain.specs.Models.{is_sited, are_sited}
 use Rattle.jac_plain.specs.Making.{are_apart}
 use Rattle.jac_plain.specs.Reading.{is_reading, are_reading}
 use Rattle.jac_plain.specs.Requests.{body_in}
@@ -76,29 +77,29 @@ mutual
       both_true (is_sited s) (are_sited rest) (reading_sited s parts.0) (all_reading_sited rest parts.1)
 
 mutual
-  -- and so none of it stands in a `for`
-  reading_unlooped : (looped : Bool) (s : Statement) → is_reading s ≡ true → is_unlooped looped s ≡ true
-  reading_unlooped looped (Statement.put e) h = refl
-  reading_unlooped looped (Statement.escape e) h = refl
-  reading_unlooped looped (Statement.bind x e body) h = all_reading_unlooped looped body h
-  reading_unlooped looped (Statement.assign x e) h = refl
-  reading_unlooped looped (Statement.branch c first second) h =
+  -- and so wherever it may
+  reading_placed : (models : List Entity) (loops : Loops) (s : Statement) → is_reading s ≡ true → is_placed models loops s ≡ true
+  reading_placed models loops (Statement.put e) h = refl
+  reading_placed models loops (Statement.escape e) h = refl
+  reading_placed models loops (Statement.bind x e body) h = all_reading_placed models loops body h
+  reading_placed models loops (Statement.assign x e) h = refl
+  reading_placed models loops (Statement.branch c first second) h =
       let parts = and_parts (are_reading first) (are_reading second) h in
-      both_true (are_unlooped looped first) (are_unlooped looped second) (all_reading_unlooped looped first parts.0) (all_reading_unlooped looped second parts.1)
-  reading_unlooped looped (Statement.each q body) h = all_reading_unlooped true body h
-  reading_unlooped looped (Statement.create x m site cells body) h = cc
-  reading_unlooped looped (Statement.update m e cells) h = refl
-  reading_unlooped looped (Statement.delete m e) h = refl
-  reading_unlooped looped Statement.missing h = refl
-  reading_unlooped looped (Statement.redirect e) h = refl
-  reading_unlooped looped (Statement.template t) h = refl
-  reading_unlooped looped (Statement.block body) h = all_reading_unlooped looped body h
+      both_true (are_placed models loops first) (are_placed models loops second) (all_reading_placed models loops first parts.0) (all_reading_placed models loops second parts.1)
+  reading_placed models loops (Statement.each q body) h = all_reading_placed models (behind_for models q.binders loops) body h
+  reading_placed models loops (Statement.create x m site cells body) h = cc
+  reading_placed models loops (Statement.update m e cells) h = refl
+  reading_placed models loops (Statement.delete m e) h = refl
+  reading_placed models loops Statement.missing h = refl
+  reading_placed models loops (Statement.redirect e) h = refl
+  reading_placed models loops (Statement.template t) h = refl
+  reading_placed models loops (Statement.block body) h = all_reading_placed models loops body h
 
-  pub all_reading_unlooped : (looped : Bool) (s : Statements) → are_reading s ≡ true → are_unlooped looped s ≡ true
-  all_reading_unlooped looped Statements.none h = refl
-  all_reading_unlooped looped (Statements.more s rest) h =
+  all_reading_placed : (models : List Entity) (loops : Loops) (s : Statements) → are_reading s ≡ true → are_placed models loops s ≡ true
+  all_reading_placed models loops Statements.none h = refl
+  all_reading_placed models loops (Statements.more s rest) h =
       let parts = and_parts (is_reading s) (are_reading rest) h in
-      both_true (is_unlooped looped s) (are_unlooped looped rest) (reading_unlooped looped s parts.0) (all_reading_unlooped looped rest parts.1)
+      both_true (is_placed models loops s) (are_placed models loops rest) (reading_placed models loops s parts.0) (all_reading_placed models loops rest parts.1)
 
 mutual
   below_sited : (s : Statement) → are_below (sites_in s) ≡ true → is_sited s ≡ true
@@ -127,42 +128,50 @@ mutual
       both_true (is_sited s) (are_sited rest) (below_sited s parts.0) (all_below_sited rest parts.1)
 
 -- what a body of a POST keeps
-pub record IsStoring (body : Statements) : Type 0 where
+pub record IsStoring (models : List Entity) (body : Statements) : Type 0 where
   pub expanded : are_untemplated body ≡ true
   pub sited : are_sited body ≡ true
   pub apart : are_apart (sites body) ≡ true
-  pub unlooped : are_unlooped false body ≡ true
+  pub placed : are_placed models Loops.none body ≡ true
 
-pub storing : (body : Statements) → is_served_body verbs.Post body ≡ true → IsStoring body
-storing body h =
-    let parts = and_parts (are_untemplated body) (have_own_sites body) h in
-    let own = and_parts (is_some (behind_sites 0 (sites body))) (are_unlooped false body) parts.1 in
+pub storing : (models : List Entity) (body : Statements) → is_served_body models verbs.Post body ≡ true → IsStoring models body
+storing models body h =
+    let parts = and_parts (are_untemplated body) (have_own_sites models body) h in
+    let own = and_parts (is_some (behind_sites 0 (sites body))) (are_placed models Loops.none body) parts.1 in
     record {
       expanded = parts.0;
       sited = all_below_sited body (below 0 (sites body) own.0);
       apart = apart 0 (sites body) own.0;
-      unlooped = own.1;
+      placed = own.1;
     }
 
-pub storing_runs : (n : ℕ) (body : Statements) → 0 < n → n < 2 ^ 40 → is_served_body verbs.Post body ≡ true → AreRunnable n body
-storing_runs n body some few h = let s = storing body h in all_writing_run n body some few s.expanded s.sited
+pub storing_runs : (models : List Entity) (n : ℕ) (body : Statements) → 0 < n → n < 2 ^ 40 → is_served_body models verbs.Post body ≡ true → AreRunnable n body
+storing_runs models n body some few h = let s = storing models body h in all_writing_run n body some few s.expanded s.sited
 
-body_among : (vs : List View) (n : ℕ) (v : View) → are_served_views vs ≡ true → slice_get vs n ≡ Some v → is_served_body v.method v.body ≡ true
-body_among [] n v h e = cc
-body_among (x ∷ xs) zero v h e =
+body_among : (models : List Entity) (vs : List View) (n : ℕ) (v : View) → are_served_views models vs ≡ true → slice_get vs n ≡ Some v → is_served_body models v.method v.body ≡ true
+body_among models [] n v h e = cc
+body_among models (x ∷ xs) zero v h e =
     let same : x ≡ v = cc in
-    rw (← same) (and_parts (is_served_view x) (are_served_views xs) h).0
-body_among (x ∷ xs) (suc n) v h e = body_among xs n v (and_parts (is_served_view x) (are_served_views xs) h).1 e
+    rw (← same) (and_parts (is_served_view models x) (are_served_views models xs) h).0
+body_among models (x ∷ xs) (suc n) v h e = body_among models xs n v (and_parts (is_served_view models x) (are_served_views models xs) h).1 e
 
 -- the body of a view of a served application
-pub served_body : (app : Application) (n : ℕ) (v : View) → are_served app ≡ true → slice_get app.views n ≡ Some v → is_served_body v.method v.body ≡ true
-served_body app n v h e = body_among app.views n v h e
+pub served_body : (app : Application) (n : ℕ) (v : View) → are_served app ≡ true → slice_get app.views n ≡ Some v → is_served_body app.models v.method v.body ≡ true
+served_body app n v h e = body_among app.models app.views n v h e
 
-sited_body : (v : Verb) (body : Statements) → is_served_body v body ≡ true → are_sited body ≡ true
-sited_body verbs.Get body h = all_reading_sited body (and_parts (are_untemplated body) (are_reading body) h).1
-sited_body verbs.Post body h = (storing body h).sited
+sited_body : (models : List Entity) (v : Verb) (body : Statements) → is_served_body models v body ≡ true → are_sited body ≡ true
+sited_body models verbs.Get body h = all_reading_sited body (and_parts (are_untemplated body) (are_reading body) h).1
+sited_body models verbs.Post body h = (storing models body h).sited
 
--- the creates of a view of a served application stand at sites below 64
+placed_body : (models : List Entity) (v : Verb) (body : Statements) → is_served_body models v body ≡ true → are_placed models Loops.none body ≡ true
+placed_body models verbs.Get body h = all_reading_placed models Loops.none body (and_parts (are_untemplated body) (are_reading body) h).1
+placed_body models verbs.Post body h = (storing models body h).placed
+
+-- the creates of a view of a served application stand at sites below 64, and where they may
 pub sited_view : (app : Application) (n : ℕ) (found : Option View) → are_served app ≡ true → slice_get app.views n ≡ found → are_sited (body_in found) ≡ true
 sited_view app n None h is = refl
-sited_view app n (Some v) h is = sited_body v.method v.body (served_body app n v h is)
+sited_view app n (Some v) h is = sited_body app.models v.method v.body (served_body app n v h is)
+
+pub placed_view : (app : Application) (n : ℕ) (found : Option View) → are_served app ≡ true → slice_get app.views n ≡ found → are_placed app.models Loops.none (body_in found) ≡ true
+placed_view app n None h is = refl
+placed_view app n (Some v) h is = placed_body app.models v.method v.body (served_body app n v h is)

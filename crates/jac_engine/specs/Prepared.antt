@@ -4,7 +4,7 @@ use Rattle.jac_lang.specs.Syntax.{Application}
 use Rattle.jac_rows.specs.Good.{IsGood}
 use Rattle.jac_rows.specs.Project.{project_at}
 use Rattle.jac_rows.specs.declared.state.State.{State}
-use Rattle.jac_plain.specs.Models.{kinds_of}
+use Rattle.jac_plain.specs.Models.{shapes_of}
 use Rattle.jac_plain.specs.Requests.{Worlds}
 use Rattle.jac_keep.specs.declared.alteration.Change.{Change}
 use Rattle.jac_keep.specs.Kept.{applied}
@@ -30,4 +30,4 @@ pub record IsPrepared (tells : Bool) (app : Application) (s : State) (ask : Ask)
   pub answered : IsTrue tells → IsAnswerTo app (worlds_of s) ask p.answer
   pub worlds : IsTrue tells → (w : ℕ → Bool) → project_at w (applied_if p.change s) ≡ left w app ask p.answer (project_at w s)
   pub start : IsTrue tells → IsStart app (applied_if p.change s)
-  pub good : IsTrue tells → IsGood (kinds_of app) s → IsGood (kinds_of app) (applied_if p.change s)
+  pub good : IsTrue tells → IsGood (shapes_of app) s → IsGood (shapes_of app) (applied_if p.change s)

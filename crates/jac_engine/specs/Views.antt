@@ -1,5 +1,5 @@
 -- The run of a view, in the world of each assignment.
-use Rattle.std.specs.Prelude.{◌≡◌, ℕ, Bool, List, [], map}
+use Rattle.std.specs.Prelude.{◌≡◌, ℕ, Bool, List, [], map, None}
 use Rattle.jac_facet.specs.Leaves.{seen}
 use Rattle.jac_lang.specs.Syntax.{Page as View, Application}
 use Rattle.jac_rows.specs.Good.{IsSound}
@@ -18,7 +18,7 @@ use Rattle.jac_replies.specs.declared.answer.Ask.{Ask}
 
 -- what stays the same through the run in the request of this number
 abbrev pub setting_in : (ℕ → Bool) → Application → Ask → ℕ → Setting
-setting_in w app ask number = record { models = app.models; shown = w; viewer = ask.viewer; number = number }
+setting_in w app ask number = record { models = app.models; shown = w; viewer = ask.viewer; number = number; around = None }
 
 -- where the run begins: the tables that the assignment shows, and the parameters
 abbrev pub begun : (ℕ → Bool) → Application → View → Ask → State → Run

@@ -1,4 +1,4 @@
-ghost use Rattle.std.specs.Prelude.{◌≡◌, ◌<◌, true, length, slice_get, IfOk, IsNone, OnOk, OnErr, IfSome, IsTrue, Some};
+ghost use Rattle.std.specs.Prelude.{◌≡◌, ◌<◌, ◌≤◌, true, length, slice_get, IfOk, IsNone, OnOk, OnErr, IfSome, IsTrue, Some};
 ghost use Rattle.jac_lang.specs.Mirror.{application_of, page_of, statements_of};
 ghost use Rattle.jac_lang.specs.declared.pages.Verb.TheVariants as verbs;
 ghost use Rattle.jac_plain.specs.Requests.{method_in};
@@ -73,6 +73,7 @@ fn prepare_found<K: Keeper, L: Ledger, M: Ledger>(
 ) -> Result<Prepared, Stop>
     requires attached { IsTrue (K.seen keeper.old).store.attached }
     requires served { are_served (application_of app.now) ≡ true }
+    requires few { length (application_of app.now).models ≤ 64 }
     requires routes { AreRoutes (application_of app.now) routes.now }
     requires start { IsTrue (K.seen keeper.old).tells → IsStart (application_of app.now) (K.seen keeper.old).state }
     ensures prepared { IfOk result (IsPreparedFor (found (application_of app.now) ask.now.method ask.now.path) (K.seen keeper.new).tells (application_of app.now) (K.seen keeper.old).state ask.now) }
@@ -117,6 +118,7 @@ fn answer_view<K: Keeper, L: Ledger, M: Ledger>(
 ) -> Result<Prepared, Stop>
     requires attached { IsTrue (K.seen keeper.old).store.attached }
     requires served { are_served (application_of app.now) ≡ true }
+    requires few { length (application_of app.now).models ≤ 64 }
     requires start { IsTrue (K.seen keeper.old).tells → IsStart (application_of app.now) (K.seen keeper.old).state }
     requires within { place < length app.now.views }
     ensures prepared { IfOk result (IsPreparedBy (method_in (slice_get (application_of app.now).views place)) (K.seen keeper.new).tells (application_of app.now) (K.seen keeper.old).state (visit_of (application_of app.now) (asked_with path.now ask.now) place)) }
@@ -160,7 +162,7 @@ fn show<K: Keeper, M: Ledger>(
     requires attached { IsTrue (K.seen keeper.old).store.attached }
     requires start { IsTrue (K.seen keeper.old).tells → IsStart (application_of app.now) (K.seen keeper.old).state }
     requires view { slice_get (application_of app.now).views place ≡ Some (page_of view.now) }
-    requires served { is_served_body verbs.Get (statements_of view.now.body) ≡ true }
+    requires served { is_served_body (application_of app.now).models verbs.Get (statements_of view.now.body) ≡ true }
     ensures shown { IfOk result (IsShown (K.seen keeper.new).tells (application_of app.now) (K.seen keeper.old).state (visit_of (application_of app.now) (asked_with path.now ask.now) place)) }
     ensures reads { Reads (K.seen keeper.old) (K.seen keeper.new) result }
 {
@@ -188,7 +190,8 @@ fn store<K: Keeper, L: Ledger, M: Ledger>(
     requires start { IsTrue (K.seen keeper.old).tells → IsStart (application_of app.now) (K.seen keeper.old).state }
     requires view { slice_get (application_of app.now).views place ≡ Some (page_of view.now) }
     requires method { view.now.method ≡ verbs.Post }
-    requires served { is_served_body verbs.Post (statements_of view.now.body) ≡ true }
+    requires served { is_served_body (application_of app.now).models verbs.Post (statements_of view.now.body) ≡ true }
+    requires few { length (application_of app.now).models ≤ 64 }
     ensures stored { IfOk result (λ p. IsPreparedBy verbs.Post (K.seen keeper.new).tells (application_of app.now) (K.seen keeper.old).state (visit_of (application_of app.now) (asked_with path.now ask.now) place) p) }
     ensures unsplit { IfOk result (λ p. IsNone p.change → splits.new ≡ splits.old) }
     ensures reads { Reads (K.seen keeper.old) (K.seen keeper.new) result }
