@@ -4,6 +4,7 @@ pub mod Numbers
 pub mod Places
 pub mod ReadingLaws
 pub mod Rooms
+pub mod Statuses
 pub mod Takes
 pub mod Texts
 pub mod Tokens

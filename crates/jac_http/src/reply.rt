@@ -2,6 +2,7 @@ ghost use Rattle.std.specs.Prelude.{◌≡◌, ◌++◌, [], false, true, None, 
 ghost use Rattle.std.specs.Option.{option_copied};
 ghost use Rattle.jac_http.specs.Replies.{phrase_of, status_text, field_line, field_line_if, media_type, body_of, status_line, content_lines, further_lines, reply_bytes, status_of_fixed};
 
+use http::StatusCode;
 use itoa::Buffer;
 use jac_value::{Bytes, Memory, Txt};
 use std::alloc::Global;
@@ -108,11 +109,22 @@ fn put_status(status: u16, to: &mut Vec<u8>) -> Result<(), Memory>
     ensures { OnOk result (to.new.items ≡ to.old.items ++ status_text status) }
 {
     let phrase = phrase(status).unwrap();
-    let mut digits = Buffer::new();
-    to.extend_from_slice(digits.format(status).as_bytes())?;
+    to.extend_from_slice(digits(status).as_bytes())?;
     to.extend_from_slice(b" ")?;
     to.extend_from_slice(phrase.as_bytes())?;
     Ok(())
+}
+
+// The three digits of a status that a reply may have.
+#[tactic(auto, using(crate::proofs::Statuses::has_digits))]
+fn digits(status: u16) -> &'static str
+    requires { IsSome (phrase_of status) }
+    ensures { result.now ≡ decimal status }
+{
+    match StatusCode::from_u16(status) {
+        Ok(code) => code.as_str(),
+        Err(_) => unreachable!(),
+    }
 }
 
 #[tactic(auto, unfolding(crate::specs::Replies::phrase_of))]
