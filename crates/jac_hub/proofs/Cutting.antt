@@ -34,7 +34,6 @@ next_earlier h n c one entry next = record {
   source = next.source;
   open_still = next.open_still;
   subject = next.subject;
-  fitting = next.fitting;
 }
 
 pub brought-earlier : {I A : Type 0} (h : Hearing I A) (n c : ℕ) (one : Connection I) (log : List (Entry I A)) → AreBrought h (n + 1) c one log → AreBrought h n c one (map earlier log)

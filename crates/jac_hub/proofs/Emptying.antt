@@ -183,40 +183,40 @@ call_gave h handles told memory n c known (Some GivenClosed) later hub between_h
 -- a connection that is served: the calls give one reply for each entry that its bytes bring, in their order,
 -- and then that it is closed, where it is
 pub serving-empties : {I A H : Type 0} (h : Hearing I A) (handles : H → ℕ → Heard → Sent → H → Type 0) (told : H → ℕ → Heard → Sent → H → A → Type 0) (memory : A)
-    (n c : ℕ) → Tells h handles told → h.fits broken memory
+    (n c : ℕ) → Tells h handles told
     → (outs : List HubOut) (hub new : HubSeen) (channel : ChannelSeen) (known : Connection I) (before after : H)
     → hub.turn ≡ Serving c → hub.channels c ≡ Some channel → IsLike h channel known → channel.closed ≡ false
     → IsEmptied h.reads handles hub outs new before after → Empties h told memory n c known hub outs new before after
-serving-empties h handles told memory n c tells fitting [] hub new channel known before after turn at like open_still emptied =
+serving-empties h handles told memory n c tells [] hub new channel known before after turn at like open_still emptied =
     let e : NextServing h.reads handles hub c (Some channel) None new before after =
     subst (λ (o : Option ChannelSeen). NextServing h.reads handles hub c o None new before after) at
     (subst (λ (t : Turn). Nexts h.reads handles hub t None new before after) turn emptied) in
     last_gave h told memory n c known e.0 e.1 hub new before after
-    (next-gave h handles told memory n c channel known e.0 e.1 before after tells fitting like open_still e.2) e.3 e.4
-serving-empties h handles told memory n c tells fitting (out ∷ outs) hub new channel known before after turn at like open_still (between_hub, between, next, rest) =
+    (next-gave h handles told memory n c channel known e.0 e.1 before after tells like open_still e.2) e.3 e.4
+serving-empties h handles told memory n c tells (out ∷ outs) hub new channel known before after turn at like open_still (between_hub, between, next, rest) =
     let e : NextServing h.reads handles hub c (Some channel) (Some out) between_hub before between =
     subst (λ (o : Option ChannelSeen). NextServing h.reads handles hub c o (Some out) between_hub before between) at
     (subst (λ (t : Turn). Nexts h.reads handles hub t (Some out) between_hub before between) turn next) in
     call_gave h handles told memory n c known e.0 e.1 hub between_hub new out outs before between after
-    (next-gave h handles told memory n c channel known e.0 e.1 before between tells fitting like open_still e.2) e.3 e.4 rest
-    (λ later now t a l o. serving-empties h handles told memory n c tells fitting outs between_hub new later now between after t a l o rest)
+    (next-gave h handles told memory n c channel known e.0 e.1 before between tells like open_still e.2) e.3 e.4 rest
+    (λ later now t a l o. serving-empties h handles told memory n c tells outs between_hub new later now between after t a l o rest)
 
 -- a connection for which memory ran out: the calls give the reply for that, and that it is closed
 pub breaking-empties : {I A H : Type 0} (h : Hearing I A) (handles : H → ℕ → Heard → Sent → H → Type 0) (told : H → ℕ → Heard → Sent → H → A → Type 0) (memory : A)
-    (n c : ℕ) → h.fits broken memory
+    (n c : ℕ)
     → (outs : List HubOut) (hub new : HubSeen) (channel : ChannelSeen) (known : Connection I) (before after : H)
     → hub.turn ≡ Breaking c → hub.channels c ≡ Some channel → IsNextIn h known broken → known.ended ≡ false
     → IsEmptied h.reads handles hub outs new before after → Empties h told memory n c known hub outs new before after
-breaking-empties h handles told memory n c fitting [] hub new channel known before after turn at next_in open_still emptied =
+breaking-empties h handles told memory n c [] hub new channel known before after turn at next_in open_still emptied =
     let e : (after ≡ before) × NextBreaking hub c (Some channel) None new =
     subst (λ (o : Option ChannelSeen). (after ≡ before) × NextBreaking hub c o None new) at
     (subst (λ (t : Turn). Nexts h.reads handles hub t None new before after) turn emptied) in
     absurd (none_some (Reply c fixed_500) e.1.0)
-breaking-empties {I = I} {A = A} h handles told memory n c fitting (out ∷ outs) hub new channel known before after turn at next_in open_still (between_hub, between, next, rest) =
+breaking-empties {I = I} {A = A} h handles told memory n c (out ∷ outs) hub new channel known before after turn at next_in open_still (between_hub, between, next, rest) =
     let e : (between ≡ before) × NextBreaking hub c (Some channel) (Some out) between_hub =
     subst (λ (o : Option ChannelSeen). (between ≡ before) × NextBreaking hub c o (Some out) between_hub) at
     (subst (λ (t : Turn). Nexts h.reads handles hub t (Some out) between_hub before between) turn next) in
     let entry : Entry I A = record { place = n; source = connection c; subject = broken; answer = memory } in
-    let is_next : IsNext h n c known entry = record { place = refl; source = refl; open_still = open_still; subject = next_in; fitting = fitting } in
+    let is_next : IsNext h n c known entry = record { place = refl; source = refl; open_still = open_still; subject = next_in } in
     closes_behind h handles told memory n c known entry fixed_500 (shut channel) hub between_hub new out outs before between after
     is_next (rw open_still refl) refl (e.0, refl, refl) (some_same out (Reply c fixed_500) e.1.0) e.1.1 rest

@@ -68,48 +68,48 @@ piece_part {I = I} h told memory n c bytes one known outs before after is open_s
 }
 
 pieces_part : {I A H : Type 0} (h : Hearing I A) → IsReading h.reads → (handles : H → ℕ → Heard → Sent → H → Type 0) (told : H → ℕ → Heard → Sent → H → A → Type 0)
-    (memory : A) (n c : ℕ) → Tells h handles told → h.fits broken memory → (bytes : List ℕ)
+    (memory : A) (n c : ℕ) → Tells h handles told → (bytes : List ℕ)
     (o : Option ChannelSeen) (known : Connections I) (result : Result (Unit {0}) HubFault) (old stepped new : HubSeen) (outs : List HubOut) (before after : H)
     → old.turn ≡ Idle → AreLike h old.channels known → old.channels c ≡ o → StepsPiece old c bytes o result stepped
     → IsGiven h.reads handles stepped outs new before after → IsServedInPart h told memory n (Piece c bytes) known outs before after
-pieces_part {I = I} h law handles told memory n c tells fitting bytes None known result old stepped new outs before after idle like at (refused, same) given =
+pieces_part {I = I} h law handles told memory n c tells bytes None known result old stepped new outs before after idle like at (refused, same) given =
     quiet_part h told memory n (Piece c bytes) known outs before after
     (subst (λ (o : Option (Connection I)). PieceBegins h n c bytes o []) (sym (none-too h old.channels known c like at)) refl)
     (idle-gives h handles outs stepped new before after (ap (λ (l : HubSeen). l.turn) same ∙ idle) given)
-pieces_part {I = I} h law handles told memory n c tells fitting bytes (Some channel) known result old stepped new outs before after idle like at (inl (closed, ok, made)) given =
+pieces_part {I = I} h law handles told memory n c tells bytes (Some channel) known result old stepped new outs before after idle like at (inl (closed, ok, made)) given =
     let b = begun-too h old.channels known c channel like at in
     let shut_before : is_closed b.one ≡ true = sym b.like.0 ∙ closed in
     quiet_part h told memory n (Piece c bytes) known outs before after
     (subst (λ (o : Option (Connection I)). PieceBegins h n c bytes o []) (sym b.is) (inl (shut_before, refl)))
     (done-gives h handles outs stepped new before after (ap (λ (l : HubSeen). l.turn) made) given)
-pieces_part h law handles told memory n c tells fitting bytes (Some channel) known result old stepped new outs before after idle like at (inr (inl (open_still, ok, made))) given =
+pieces_part h law handles told memory n c tells bytes (Some channel) known result old stepped new outs before after idle like at (inr (inl (open_still, ok, made))) given =
     let b = begun-too h old.channels known c channel like at in
     let open_before : is_closed b.one ≡ false = sym b.like.0 ∙ open_still in
     piece_part h told memory n c bytes b.one known outs before after b.is open_before
-    (serving-gives h handles told memory n c tells fitting outs stepped new (grown bytes channel) (with_bytes bytes b.one) before after
+    (serving-gives h handles told memory n c tells outs stepped new (grown bytes channel) (with_bytes bytes b.one) before after
     (ap (λ (l : HubSeen). l.turn) made) (ap (λ (l : HubSeen). l.channels c) made ∙ set-same c (Some (grown bytes channel)) old.channels)
     (grown-like h law channel b.one bytes (b.like.1 open_before)) open_still given)
-pieces_part h law handles told memory n c tells fitting bytes (Some channel) known result old stepped new outs before after idle like at (inr (inr (open_still, lost, made))) given =
+pieces_part h law handles told memory n c tells bytes (Some channel) known result old stepped new outs before after idle like at (inr (inr (open_still, lost, made))) given =
     let b = begun-too h old.channels known c channel like at in
     let open_before : is_closed b.one ≡ false = sym b.like.0 ∙ open_still in
     let was : IsLike h channel b.one = b.like.1 open_before in
     let now = grown-like h law channel b.one bytes was in
     let next_in : IsNextIn h (with_bytes bytes b.one) broken = ((grown bytes channel).unused, (grown bytes channel).unused, now.unused, refl) in
     piece_part h told memory n c bytes b.one known outs before after b.is open_before
-    (breaking-gives h handles told memory n c fitting outs stepped new channel (with_bytes bytes b.one) before after
+    (breaking-gives h handles told memory n c outs stepped new channel (with_bytes bytes b.one) before after
     (ap (λ (l : HubSeen). l.turn) made) (ap (λ (l : HubSeen). l.channels c) made ∙ at) next_in (sym was.closed ∙ open_still) given)
 
 -- an event, and some calls of `next` behind it, gave the beginning of what the definition brings
 pub event-served_in_part : {I A H : Type 0} (h : Hearing I A) → IsReading h.reads → (handles : H → ℕ → Heard → Sent → H → Type 0)
-    (told : H → ℕ → Heard → Sent → H → A → Type 0) (memory : A) (n : ℕ) → Tells h handles told → h.fits broken memory
+    (told : H → ℕ → Heard → Sent → H → A → Type 0) (memory : A) (n : ℕ) → Tells h handles told
     → (event : Event) (known : Connections I) (result : Result (Unit {0}) HubFault) (old stepped new : HubSeen) (outs : List HubOut) (before after : H)
     → old.turn ≡ Idle → AreLike h old.channels known → Steps old event result stepped
     → IsGiven h.reads handles stepped outs new before after → IsServedInPart h told memory n event known outs before after
-event-served_in_part h law handles told memory n tells fitting (Ask viewer method path query body) known result old stepped new outs before after idle like steps given =
+event-served_in_part h law handles told memory n tells (Ask viewer method path query body) known result old stepped new outs before after idle like steps given =
     absurd steps
-event-served_in_part h law handles told memory n tells fitting (Begin c) known result old stepped new outs before after idle like steps given =
+event-served_in_part h law handles told memory n tells (Begin c) known result old stepped new outs before after idle like steps given =
     quiet_part h told memory n (Begin c) known outs before after refl (begin_part h handles c (old.channels c) result old stepped new outs before after idle steps given)
-event-served_in_part h law handles told memory n tells fitting (Piece c bytes) known result old stepped new outs before after idle like steps given =
-    pieces_part h law handles told memory n c tells fitting bytes (old.channels c) known result old stepped new outs before after idle like refl steps given
-event-served_in_part h law handles told memory n tells fitting (Finish c) known result old stepped new outs before after idle like steps given =
+event-served_in_part h law handles told memory n tells (Piece c bytes) known result old stepped new outs before after idle like steps given =
+    pieces_part h law handles told memory n c tells bytes (old.channels c) known result old stepped new outs before after idle like refl steps given
+event-served_in_part h law handles told memory n tells (Finish c) known result old stepped new outs before after idle like steps given =
     quiet_part h told memory n (Finish c) known outs before after refl (finish_part h handles c (old.channels c) result old stepped new outs before after idle steps given)

@@ -176,18 +176,18 @@ piece_served {I = I} h told memory n c bytes one known channels hub new outs bef
     }
 
 pieces_served : {I A H : Type 0} (h : Hearing I A) → IsReading h.reads → (handles : H → ℕ → Heard → Sent → H → Type 0) (told : H → ℕ → Heard → Sent → H → A → Type 0)
-    (memory : A) (n c : ℕ) → Tells h handles told → h.fits broken memory → (bytes : List ℕ)
+    (memory : A) (n c : ℕ) → Tells h handles told → (bytes : List ℕ)
     (o : Option ChannelSeen) (known : Connections I) (result : Result (Unit {0}) HubFault) (old stepped new : HubSeen) (outs : List HubOut) (before after : H)
     → old.turn ≡ Idle → AreLike h old.channels known → old.channels c ≡ o → StepsPiece old c bytes o result stepped
     → IsEmptied h.reads handles stepped outs new before after → IsServed h told memory n (Piece c bytes) known outs new before after
-pieces_served {I = I} h law handles told memory n c tells fitting bytes None known result old stepped new outs before after idle like at (refused, same) emptied =
+pieces_served {I = I} h law handles told memory n c tells bytes None known result old stepped new outs before after idle like at (refused, same) emptied =
     let none : known c ≡ None = none-too h old.channels known c like at in
     let is : after_event (Piece c bytes) known ≡ known =
     ap (λ (o : Option (Connection I)). set_at c (option_map (with_bytes bytes) o) known) none ∙ set_known c None known none in
     refused_event h handles told memory n (Piece c bytes) known old stepped new outs before after idle like same
     (subst (λ (o : Option (Connection I)). PieceBrings h n c bytes o []) (sym none) refl) is
     (ap (λ (o : Option (Connection I)). closing c (not (is_shut o) && is_shut o)) none) emptied
-pieces_served {I = I} h law handles told memory n c tells fitting bytes (Some channel) known result old stepped new outs before after idle like at (inl (closed, ok, made)) emptied =
+pieces_served {I = I} h law handles told memory n c tells bytes (Some channel) known result old stepped new outs before after idle like at (inl (closed, ok, made)) emptied =
     let b = begun-too h old.channels known c channel like at in
     let shut_before : is_closed b.one ≡ true = sym b.like.0 ∙ closed in
     let shut_after : is_closed (with_bytes bytes b.one) ≡ true = closed-longer b.one bytes shut_before in
@@ -202,16 +202,16 @@ pieces_served {I = I} h law handles told memory n c tells fitting bytes (Some ch
     (subst (λ (o : Option (Connection I)). PieceBrings h n c bytes o []) (sym b.is) (inl (shut_before, refl))) is quiet
     (subst (λ (cs : ℕ → Option ChannelSeen). AreLike h cs (set_at c (Some (with_bytes bytes b.one)) known)) same_channels
     (set_like h old.channels known c (Some channel) (Some (with_bytes bytes b.one)) like here)) emptied
-pieces_served h law handles told memory n c tells fitting bytes (Some channel) known result old stepped new outs before after idle like at (inr (inl (open_still, ok, made))) emptied =
+pieces_served h law handles told memory n c tells bytes (Some channel) known result old stepped new outs before after idle like at (inr (inl (open_still, ok, made))) emptied =
     let b = begun-too h old.channels known c channel like at in
     let open_before : is_closed b.one ≡ false = sym b.like.0 ∙ open_still in
     let now = grown-like h law channel b.one bytes (b.like.1 open_before) in
     let others : (x : Option ChannelSeen) → set_at c x stepped.channels ≡ set_at c x old.channels =
     λ x. ap (λ (l : HubSeen). set_at c x l.channels) made ∙ set-set c x (Some (grown bytes channel)) old.channels in
     piece_served h told memory n c bytes b.one known old.channels stepped new outs before after like b.is open_before others
-    (serving-empties h handles told memory n c tells fitting outs stepped new (grown bytes channel) (with_bytes bytes b.one) before after
+    (serving-empties h handles told memory n c tells outs stepped new (grown bytes channel) (with_bytes bytes b.one) before after
     (ap (λ (l : HubSeen). l.turn) made) (ap (λ (l : HubSeen). l.channels c) made ∙ set-same c (Some (grown bytes channel)) old.channels) now open_still emptied)
-pieces_served h law handles told memory n c tells fitting bytes (Some channel) known result old stepped new outs before after idle like at (inr (inr (open_still, lost, made))) emptied =
+pieces_served h law handles told memory n c tells bytes (Some channel) known result old stepped new outs before after idle like at (inr (inr (open_still, lost, made))) emptied =
     let b = begun-too h old.channels known c channel like at in
     let open_before : is_closed b.one ≡ false = sym b.like.0 ∙ open_still in
     let was : IsLike h channel b.one = b.like.1 open_before in
@@ -219,20 +219,20 @@ pieces_served h law handles told memory n c tells fitting bytes (Some channel) k
     let next_in : IsNextIn h (with_bytes bytes b.one) broken = ((grown bytes channel).unused, (grown bytes channel).unused, now.unused, refl) in
     piece_served h told memory n c bytes b.one known old.channels stepped new outs before after like b.is open_before
     (λ x. ap (λ (l : HubSeen). set_at c x l.channels) made)
-    (breaking-empties h handles told memory n c fitting outs stepped new channel (with_bytes bytes b.one) before after
+    (breaking-empties h handles told memory n c outs stepped new channel (with_bytes bytes b.one) before after
     (ap (λ (l : HubSeen). l.turn) made) (ap (λ (l : HubSeen). l.channels c) made ∙ at) next_in (sym was.closed ∙ open_still) emptied)
 
 -- an event that a hub took, and the calls of `next` behind it, gave what the definition brings
 pub event-served : {I A H : Type 0} (h : Hearing I A) → IsReading h.reads → (handles : H → ℕ → Heard → Sent → H → Type 0) (told : H → ℕ → Heard → Sent → H → A → Type 0)
-    (memory : A) (n : ℕ) → Tells h handles told → h.fits broken memory
+    (memory : A) (n : ℕ) → Tells h handles told
     → (event : Event) (known : Connections I) (result : Result (Unit {0}) HubFault) (old stepped new : HubSeen) (outs : List HubOut) (before after : H)
     → old.turn ≡ Idle → AreLike h old.channels known → Steps old event result stepped → (IsLost event result → ⊥)
     → IsEmptied h.reads handles stepped outs new before after → IsServed h told memory n event known outs new before after
-event-served h law handles told memory n tells fitting (Ask viewer method path query body) known result old stepped new outs before after idle like steps kept emptied =
+event-served h law handles told memory n tells (Ask viewer method path query body) known result old stepped new outs before after idle like steps kept emptied =
     absurd steps
-event-served h law handles told memory n tells fitting (Begin c) known result old stepped new outs before after idle like steps kept emptied =
+event-served h law handles told memory n tells (Begin c) known result old stepped new outs before after idle like steps kept emptied =
     begin_served h handles told memory n c (old.channels c) known result old stepped new outs before after idle like refl steps kept emptied
-event-served h law handles told memory n tells fitting (Piece c bytes) known result old stepped new outs before after idle like steps kept emptied =
-    pieces_served h law handles told memory n c tells fitting bytes (old.channels c) known result old stepped new outs before after idle like refl steps emptied
-event-served h law handles told memory n tells fitting (Finish c) known result old stepped new outs before after idle like steps kept emptied =
+event-served h law handles told memory n tells (Piece c bytes) known result old stepped new outs before after idle like steps kept emptied =
+    pieces_served h law handles told memory n c tells bytes (old.channels c) known result old stepped new outs before after idle like refl steps emptied
+event-served h law handles told memory n tells (Finish c) known result old stepped new outs before after idle like steps kept emptied =
     finish_served h handles told memory n c (old.channels c) known result old stepped new outs before after idle like refl steps emptied

@@ -78,10 +78,10 @@ pub record GetsNext {I A : Type 0} (h : Hearing I A) (n c : ℕ) (known : Connec
 
 -- a subject at the front of what is unused is the next; behind it `rest` is unused
 gets_next : {I A : Type 0} (h : Hearing I A) (n c : ℕ) (channel : ChannelSeen) (known : Connection I) (subject : Subject I) (rest : List ℕ) (answer : A)
-    → IsLike h channel known → channel.closed ≡ false → StandsAt h subject channel.unused rest → h.fits subject answer
+    → IsLike h channel known → channel.closed ≡ false → StandsAt h subject channel.unused rest
     → let entry : Entry I A = record { place = n; source = connection c; subject = subject; answer = answer } in
     GetsNext h n c known entry (record { unused = rest; taken = channel.taken; closed = is_closing h entry })
-gets_next h n c channel known subject rest answer like open_still stands fitting =
+gets_next h n c channel known subject rest answer like open_still stands =
     let still_open : known.ended ≡ false = sym like.closed ∙ open_still in
     record {
       next = record {
@@ -89,7 +89,6 @@ gets_next h n c channel known subject rest answer like open_still stands fitting
         source = refl;
         open_still = still_open;
         subject = (channel.unused, rest, like.unused, stands);
-        fitting = fitting;
       };
       like = record {
         taken = like.taken;
@@ -154,9 +153,9 @@ read_gave {I = I} {A = A} h handles told memory n c channel known (Whole request
     let t = tells before after c (HeardWhole request) sent handled in
     let subject : Subject I = whole (h.wants request) request.close in
     let entry : Entry I A = record { place = n; source = connection c; subject = subject; answer = t.0 } in
-    let gets = gets_next h n c channel known subject (drop used channel.unused) t.0 like open_still (request, used, reads, refl, refl, refl) t.2.1 in
+    let gets = gets_next h n c channel known subject (drop used channel.unused) t.0 like open_still (request, used, reads, refl, refl, refl) in
     let closing : record { unused = drop used channel.unused; taken = channel.taken; closed = is_closing h entry } ≡ later =
-    (λ i. record { unused = drop used channel.unused; taken = channel.taken; closed = request.close || sym t.2.0 i }) ∙ sym made in
+    (λ i. record { unused = drop used channel.unused; taken = channel.taken; closed = request.close || sym t.2 i }) ∙ sym made in
     let gave : GaveReply h told memory n c known sent later before after = record {
       entry = entry;
       gets = subst (λ (l : ChannelSeen). GetsNext h n c known entry l) closing gets;
@@ -166,7 +165,7 @@ read_gave {I = I} {A = A} h handles told memory n c channel known (Whole request
 read_gave {I = I} {A = A} h handles told memory n c channel known (Refused status) given later before after tells like open_still reads (sent, handled, is, made) =
     let t = tells before after c (HeardRefused status) sent handled in
     let entry : Entry I A = record { place = n; source = connection c; subject = refused status; answer = t.0 } in
-    let gets = gets_next h n c channel known (refused status) channel.unused t.0 like open_still (reads, refl) t.2 in
+    let gets = gets_next h n c channel known (refused status) channel.unused t.0 like open_still (reads, refl) in
     let gave : GaveReply h told memory n c known sent later before after = record {
       entry = entry;
       gets = subst (λ (l : ChannelSeen). GetsNext h n c known entry l) (sym made) gets;
@@ -178,15 +177,15 @@ read_gave {I = I} {A = A} h handles told memory n c channel known (Refused statu
 -- the entries are all that the event brings
 pub next-gave : {I A H : Type 0} (h : Hearing I A) (handles : H → ℕ → Heard → Sent → H → Type 0) (told : H → ℕ → Heard → Sent → H → A → Type 0) (memory : A)
     (n c : ℕ) (channel : ChannelSeen) (known : Connection I) (given : Option Given) (later : ChannelSeen) (before after : H)
-    → Tells h handles told → h.fits broken memory → IsLike h channel known → channel.closed ≡ false
+    → Tells h handles told → IsLike h channel known → channel.closed ≡ false
     → NextOfChannel h.reads handles c channel given later before after → Gave h told memory n c known given later before after
-next-gave {I = I} {A = A} h handles told memory n c channel known given later before after tells fitting like open_still (inl (same, is, made)) =
+next-gave {I = I} {A = A} h handles told memory n c channel known given later before after tells like open_still (inl (same, is, made)) =
     let entry : Entry I A = record { place = n; source = connection c; subject = broken; answer = memory } in
     let gave : GaveReply h told memory n c known fixed_500 later before after = record {
       entry = entry;
-      gets = subst (λ (l : ChannelSeen). GetsNext h n c known entry l) (sym made) (gets_next h n c channel known broken channel.unused memory like open_still refl fitting);
+      gets = subst (λ (l : ChannelSeen). GetsNext h n c known entry l) (sym made) (gets_next h n c channel known broken channel.unused memory like open_still refl);
       answered = (same, refl, refl);
     } in
     subst (λ (o : Option Given). Gave h told memory n c known o later before after) (sym is) gave
-next-gave h handles told memory n c channel known given later before after tells fitting like open_still (inr (taken, reads, answers)) =
+next-gave h handles told memory n c channel known given later before after tells like open_still (inr (taken, reads, answers)) =
     read_gave h handles told memory n c channel known taken given later before after tells like open_still reads answers

@@ -164,33 +164,33 @@ call_gives h handles told memory n c known (Some GivenClosed) later hub between_
 
 -- a connection that is served
 pub serving-gives : {I A H : Type 0} (h : Hearing I A) (handles : H → ℕ → Heard → Sent → H → Type 0) (told : H → ℕ → Heard → Sent → H → A → Type 0) (memory : A)
-    (n c : ℕ) → Tells h handles told → h.fits broken memory
+    (n c : ℕ) → Tells h handles told
     → (outs : List HubOut) (hub new : HubSeen) (channel : ChannelSeen) (known : Connection I) (before after : H)
     → hub.turn ≡ Serving c → hub.channels c ≡ Some channel → IsLike h channel known → channel.closed ≡ false
     → IsGiven h.reads handles hub outs new before after → Gives h told memory n c known outs before after
-serving-gives h handles told memory n c tells fitting [] hub new channel known before after turn at like open_still given =
+serving-gives h handles told memory n c tells [] hub new channel known before after turn at like open_still given =
     record { mine = []; replies = []; begun = tt; answered = (refl, given.1); put = inl refl }
-serving-gives h handles told memory n c tells fitting (out ∷ outs) hub new channel known before after turn at like open_still (between_hub, between, next, rest) =
+serving-gives h handles told memory n c tells (out ∷ outs) hub new channel known before after turn at like open_still (between_hub, between, next, rest) =
     let e : NextServing h.reads handles hub c (Some channel) (Some out) between_hub before between =
     subst (λ (o : Option ChannelSeen). NextServing h.reads handles hub c o (Some out) between_hub before between) at
     (subst (λ (t : Turn). Nexts h.reads handles hub t (Some out) between_hub before between) turn next) in
     call_gives h handles told memory n c known e.0 e.1 hub between_hub new out outs before between after
-    (next-gave h handles told memory n c channel known e.0 e.1 before between tells fitting like open_still e.2) e.3 e.4 rest
-    (λ later now t a l o. serving-gives h handles told memory n c tells fitting outs between_hub new later now between after t a l o rest)
+    (next-gave h handles told memory n c channel known e.0 e.1 before between tells like open_still e.2) e.3 e.4 rest
+    (λ later now t a l o. serving-gives h handles told memory n c tells outs between_hub new later now between after t a l o rest)
 
 -- a connection for which memory ran out
 pub breaking-gives : {I A H : Type 0} (h : Hearing I A) (handles : H → ℕ → Heard → Sent → H → Type 0) (told : H → ℕ → Heard → Sent → H → A → Type 0) (memory : A)
-    (n c : ℕ) → h.fits broken memory
+    (n c : ℕ)
     → (outs : List HubOut) (hub new : HubSeen) (channel : ChannelSeen) (known : Connection I) (before after : H)
     → hub.turn ≡ Breaking c → hub.channels c ≡ Some channel → IsNextIn h known broken → known.ended ≡ false
     → IsGiven h.reads handles hub outs new before after → Gives h told memory n c known outs before after
-breaking-gives h handles told memory n c fitting [] hub new channel known before after turn at next_in open_still given =
+breaking-gives h handles told memory n c [] hub new channel known before after turn at next_in open_still given =
     record { mine = []; replies = []; begun = tt; answered = (refl, given.1); put = inl refl }
-breaking-gives {I = I} {A = A} h handles told memory n c fitting (out ∷ outs) hub new channel known before after turn at next_in open_still (between_hub, between, next, rest) =
+breaking-gives {I = I} {A = A} h handles told memory n c (out ∷ outs) hub new channel known before after turn at next_in open_still (between_hub, between, next, rest) =
     let e : (between ≡ before) × NextBreaking hub c (Some channel) (Some out) between_hub =
     subst (λ (o : Option ChannelSeen). (between ≡ before) × NextBreaking hub c o (Some out) between_hub) at
     (subst (λ (t : Turn). Nexts h.reads handles hub t (Some out) between_hub before between) turn next) in
     let entry : Entry I A = record { place = n; source = connection c; subject = broken; answer = memory } in
-    let is_next : IsNext h n c known entry = record { place = refl; source = refl; open_still = open_still; subject = next_in; fitting = fitting } in
+    let is_next : IsNext h n c known entry = record { place = refl; source = refl; open_still = open_still; subject = next_in } in
     closes_behind h handles told memory n c known entry fixed_500 between_hub new out outs before between after
     is_next (rw open_still refl) (e.0, refl, refl) (some_same out (Reply c fixed_500) e.1.0) (ap (λ (l : HubSeen). l.turn) e.1.1) rest

@@ -74,7 +74,6 @@ next-longer h law n c one entry bytes next = record {
   source = next.source;
   open_still = next.open_still;
   subject = next_in-longer h law one entry.subject bytes next.subject;
-  fitting = next.fitting;
 }
 
 -- the entries before a cut and those behind it, without it

@@ -7,7 +7,7 @@ use Rattle.jac_hub.specs.Served.{Agrees, plain_hearing, sends}
 use Rattle.jac_hub.proofs.Following.{Tells}
 
 agrees : (heard : Heard) (sent : Sent) → Agrees plain_hearing heard sent sent
-agrees (Whole request) sent = (refl, tt)
+agrees (Whole request) sent = refl
 agrees (Refused status) sent = tt
 
 pub plain-tells : {H : Type 0} (handles : H → ℕ → Heard → Sent → H → Type 0) → Tells plain_hearing handles (sends handles)

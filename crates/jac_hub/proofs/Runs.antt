@@ -20,16 +20,16 @@ pub record HasLog {I A H : Type 0} (h : Hearing I A) (told : H → ℕ → Heard
   pub served : AreServed h told memory known n events log outs before after
 
 pub run-served : {I A H : Type 0} (h : Hearing I A) → IsReading h.reads → (handles : H → ℕ → Heard → Sent → H → Type 0)
-    (told : H → ℕ → Heard → Sent → H → A → Type 0) (memory : A) → Tells h handles told → h.fits broken memory
+    (told : H → ℕ → Heard → Sent → H → A → Type 0) (memory : A) → Tells h handles told
     → (events : List Event) (n : ℕ) (known : Connections I) (hub new : HubSeen) (outs : List HubOut) (before after : H)
     → hub.turn ≡ Idle → AreLike h hub.channels known → Runs h.reads handles hub events outs new before after
     → HasLog h told memory known n events outs before after
-run-served h law handles told memory tells fitting [] n known hub new outs before after idle like (nothing, same, kept) =
+run-served h law handles told memory tells [] n known hub new outs before after idle like (nothing, same, kept) =
     record { log = []; served = (refl, nothing, kept) }
-run-served h law handles told memory tells fitting (event ∷ events) n known hub new outs before after idle like
+run-served h law handles told memory tells (event ∷ events) n known hub new outs before after idle like
     (result, stepped, later, mine, rest, between, steps, kept, emptied, split, more) =
-    let first = event-served h law handles told memory n tells fitting event known result hub stepped later mine before between idle like steps kept emptied in
-    let others = run-served h law handles told memory tells fitting events (n + 1) (after_both h event first.mine known) later new rest between after first.idle first.like more in
+    let first = event-served h law handles told memory n tells event known result hub stepped later mine before between idle like steps kept emptied in
+    let others = run-served h law handles told memory tells events (n + 1) (after_both h event first.mine known) later new rest between after first.idle first.like more in
     record {
       log = first.mine ++ others.log;
       served = (

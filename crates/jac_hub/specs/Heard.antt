@@ -104,7 +104,6 @@ pub record IsNext {I A : Type 0} (h : Hearing I A) (n c : ℕ) (known : Connecti
   pub source : entry.source ≡ connection c
   pub open_still : known.ended ≡ false
   pub subject : IsNextIn h known entry.subject
-  pub fitting : h.fits entry.subject entry.answer
 
 -- the entries of a connection in the n-th event, until it is closed or all is read
 abbrev pub AreBrought : {I A : Type 0} → Hearing I A → ℕ → ℕ → Connection I → List (Entry I A) → Type 0

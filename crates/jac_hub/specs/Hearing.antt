@@ -32,5 +32,3 @@ pub record Hearing (I A : Type 0) : Type 1 where
   pub asks : Option ℕ → List ℕ → List ℕ → List ℕ → List ℕ → I
   -- the answer closes its connection
   pub ends : A → Bool
-  -- the answer is one to this subject
-  pub fits : Subject I → A → Type 0

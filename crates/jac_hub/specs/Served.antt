@@ -83,10 +83,10 @@ AreAnswered {H = H} h told memory before (entry ∷ log) outs after =
     (c : ℕ) × (sent : Sent) × (rest : List HubOut) × (between : H) × (entry.source ≡ connection c) × (outs ≡ Reply c sent ∷ rest)
     × IsAnswered h told memory c entry.subject entry.answer sent before between × AreAnswered h told memory between log rest after
 
--- what is sent agrees with the answer: it closes where that does, and the answer is one to what was heard
+-- what is sent to a request agrees with the answer: it closes where that does
 abbrev pub Agrees : {I A : Type 0} → Hearing I A → Heard → Sent → A → Type 0
-Agrees h (HeardWhole request) sent answer = (sent_closes sent ≡ h.ends answer) × h.fits (whole (h.wants request) request.close) answer
-Agrees h (HeardRefused status) sent answer = h.fits (refused status) answer
+Agrees h (HeardWhole request) sent answer = sent_closes sent ≡ h.ends answer
+Agrees h (HeardRefused status) sent answer = Unit {0}
 
 -- want of memory at a Begin: it is the one event that a hub may not take
 abbrev pub IsLost : Event → Result (Unit {0}) HubFault → Type 0
@@ -143,7 +143,6 @@ plain_hearing = record {
   wants = λ request. request;
   asks = asked_request;
   ends = sent_closes;
-  fits = λ subject sent. Unit {0};
 }
 
 abbrev pub sends : {H : Type 0} → (H → ℕ → Heard → Sent → H → Type 0) → H → ℕ → Heard → Sent → H → Sent → Type 0

@@ -117,7 +117,7 @@ module _ (app : Answering) (lawful : IsAnswering app) (law : IsReading IsTaken) 
       → IsHeardOn app new (span a b) served brought n event known out audit
   heard_on new brought p =
       let h = hearing app in
-      let s = event-served h law (handled spellings.Raw app) (IsHandled spellings.Raw app) (refusal 500 None) n (handled-tells spellings.Raw app) tt
+      let s = event-served h law (handled spellings.Raw app) (IsHandled spellings.Raw app) (refusal 500 None) n (handled-tells spellings.Raw app)
       event known took.0 old stepped new p.outs a b idle like took.1 (not_lost old event took.0 may) p.emptied in
       let later = after_both h event s.mine known in
       let lines = lines_all spellings.Raw app lawful s.mine s.replies a b start s.answered in
@@ -145,7 +145,7 @@ module _ (app : Answering) (lawful : IsAnswering app) (law : IsReading IsTaken) 
   cut_with : (p : PutsSomeOn app stepped (span a b) served out audit) → (cut : IsCutOn app (span a b) served n event known out audit) × AreLinesOf p.outs cut.mine
   cut_with p =
       let h = hearing app in
-      let s = event-served_in_part h law (handled spellings.Raw app) (IsHandled spellings.Raw app) (refusal 500 None) n (handled-tells spellings.Raw app) tt
+      let s = event-served_in_part h law (handled spellings.Raw app) (IsHandled spellings.Raw app) (refusal 500 None) n (handled-tells spellings.Raw app)
       event known took.0 old stepped p.later p.outs a b idle like took.1 p.given in
       let lines = lines_all spellings.Raw app lawful s.mine s.replies a b start s.answered in
       let all = by_put s.mine s.replies p.outs lines s.put in (

@@ -287,7 +287,7 @@ pub event_torn : (x : Answering) (lawful : IsAnswering x) → IsReading IsTaken 
     → old.turn ≡ turns.Idle → AreLike (hearing x) old.channels known → Steps old event taken stepped → x.ready a
     → PutsSome x stepped (span a b) served out audit → IsEventTorn x (span a b) served n event known out audit
 event_torn x lawful law n served event known taken old stepped a b out audit idle like steps start p =
-    let s = event-served_in_part (hearing x) law (handled spellings.Quoted x) (IsHandled spellings.Quoted x) (refusal 500 None) n (handled-tells spellings.Quoted x) tt
+    let s = event-served_in_part (hearing x) law (handled spellings.Quoted x) (IsHandled spellings.Quoted x) (refusal 500 None) n (handled-tells spellings.Quoted x)
     event known taken old stepped p.left (p.outs ++ p.last ∷ []) a b idle like steps p.given in
     let lines = lines_all spellings.Quoted x lawful s.mine s.replies a b start s.answered in
     record {

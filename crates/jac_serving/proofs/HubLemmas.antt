@@ -31,7 +31,7 @@ use Rattle.jac_serving.specs.Serve.{IsHandled, handled, sent_on, sent_line, sent
 
 agrees : (spelling : Spelling) (x : Answering) (before after : KeeperSeen) (c : ℕ) (heard : Heard) (sent : Sent) (answer : Answer)
     → IsHandled spelling x before c heard sent after answer → Agrees (hearing x) heard sent answer
-agrees spelling x before after c (HeardWhole request) sent answer h = (h.closing, tt)
+agrees spelling x before after c (HeardWhole request) sent answer h = h.closing
 agrees spelling x before after c (HeardRefused status) sent answer h = tt
 
 -- what is handled is told with its answer
@@ -144,7 +144,7 @@ pub event_whole : (x : Answering) (lawful : IsAnswering x) → IsReading IsTaken
     → IsEventServed x new (span a b) served count n event known out audit
 event_whole x lawful law n served count event known taken old stepped new a b out audit idle like steps kept start p =
     let h = hearing x in
-    let s = event-served h law (handled spellings.Quoted x) (IsHandled spellings.Quoted x) (refusal 500 None) n (handled-tells spellings.Quoted x) tt
+    let s = event-served h law (handled spellings.Quoted x) (IsHandled spellings.Quoted x) (refusal 500 None) n (handled-tells spellings.Quoted x)
     event known taken old stepped new p.outs a b idle like steps kept p.emptied in
     let later = after_both h event s.mine known in
     let lines = lines_all spellings.Quoted x lawful s.mine s.replies a b start s.answered in

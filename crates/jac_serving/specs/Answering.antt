@@ -30,7 +30,6 @@ hearing_by wants asks = record {
   wants = wants;
   asks = asks;
   ends = is_failure;
-  fits = λ subject answer. Unit {0};
 }
 
 -- how an application answers

@@ -6,4 +6,4 @@ use Rattle.jac_hub.proofs.laws.events_are_heard_in_part.Goals as goal
 
 pub returns : goal.returns
 returns g c = λ n. event-served_in_part plain_hearing c.requests_are_read.ensures g.H.Handler.handles (sends g.H.Handler.handles) fixed_500 n
-    (plain-tells g.H.Handler.handles) tt
+    (plain-tells g.H.Handler.handles)
