@@ -18,7 +18,7 @@ use Rattle.jac_plain.specs.World.{World, rows_at_place, records, record_with, re
 use Rattle.jac_plain.specs.Expressions.{is_true, is_less, two, pick, bytes_of, stands, is_live, look, bound, extended, crossed, tuples_from, kept_by, model_of_binder, key_of, sorted, ordered, answers_by, count_of, sum_of, some_of, first_of, mean, texts}
 use Rattle.jac_plain.specs.Policies.{has_record, labelled_group, policy_world, policy_is_true, is_allowed}
 use Rattle.jac_plain.specs.Records.{each_cell, plain_row}
-use Rattle.jac_open.specs.Open.{is_guarded_at, is_open_place, is_open_in, is_open_field, is_open_order, is_open, are_open, have_open_policies, are_open_models, is_open_app, masked_cells, masked_rows, masked_tables, AreAlike, is_policy_true}
+use Rattle.jac_open.specs.Open.{is_guarded_at, is_open_place, is_open_in, is_open_field, is_open_order, is_open, are_open, are_open_groups, are_open_models, is_open_app, masked_cells, masked_rows, masked_tables, AreAlike, is_policy_true}
 
 abbrev masked_row : List Entity → ℕ → PlainRow → PlainRow
 masked_row models m r = plain_row r.id (masked_cells models m r.cells)
@@ -221,19 +221,27 @@ same_meaning app t u this viewer e env h alike =
 
 -- each policy of an open application is open
 
+both_open : (models : List Entity) (g : FieldGroup) (gs : List FieldGroup) → are_open_groups models (g ∷ gs) ≡ true
+    → (is_open models g.policy ≡ true) × (are_open_groups models gs ≡ true)
+both_open models g gs h =
+    and_parts (is_open models g.policy) (are_open_groups models gs)
+    (and_parts (not g.hides) (is_open models g.policy && are_open_groups models gs) h).1
+
 policy_in : (models : List Entity) (gs : List FieldGroup) (i : ℕ) (g : FieldGroup)
-    → have_open_policies models gs ≡ true → slice_get gs i ≡ Some g → is_open models g.policy ≡ true
+    → are_open_groups models gs ≡ true → slice_get gs i ≡ Some g → is_open models g.policy ≡ true
 policy_in models [] zero g h e = cc
 policy_in models [] (suc i) g h e = cc
-policy_in models (x ∷ gs) zero g h e = let same : x ≡ g = cc in ap (λ (y : FieldGroup). is_open models y.policy) (sym same) ∙ (and_parts (is_open models x.policy) (have_open_policies models gs) h).0
-policy_in models (x ∷ gs) (suc i) g h e = policy_in models gs i g (and_parts (is_open models x.policy) (have_open_policies models gs) h).1 e
+policy_in models (x ∷ gs) zero g h e =
+    let same : x ≡ g = cc in
+    ap (λ (y : FieldGroup). is_open models y.policy) (sym same) ∙ (both_open models x gs h).0
+policy_in models (x ∷ gs) (suc i) g h e = policy_in models gs i g (both_open models x gs h).1 e
 
 policies_at : (models rest : List Entity) (m : ℕ) → are_open_models models rest ≡ true
-    → have_open_policies models (groups_at rest m) ≡ true
+    → are_open_groups models (groups_at rest m) ≡ true
 policies_at models [] zero h = refl
 policies_at models [] (suc m) h = refl
-policies_at models (x ∷ rest) zero h = (and_parts (have_open_policies models x.groups) (are_open_models models rest) h).0
-policies_at models (x ∷ rest) (suc m) h = policies_at models rest m (and_parts (have_open_policies models x.groups) (are_open_models models rest) h).1
+policies_at models (x ∷ rest) zero h = (and_parts (are_open_groups models x.groups) (are_open_models models rest) h).0
+policies_at models (x ∷ rest) (suc m) h = policies_at models rest m (and_parts (are_open_groups models x.groups) (are_open_models models rest) h).1
 
 pub same_record : (app : Application) (t u : PlainState) (k : ℕ) → AreAlike app t u
     → has_record t k ≡ has_record u k

@@ -1,4 +1,5 @@
--- Open applications, whose policies read no field that a group guards, and the states between which they can't tell.
+-- Open applications, which hide no record and whose policies read no field that a group guards, and the states between
+-- which they can't tell.
 use Rattle.std.specs.Prelude.{◌≡◌, ℕ, ◌+◌, ◌&&◌, not, Bool, true, false, if◌then◌else◌, List, [], ◌∷◌, Option, Some, None, is_some}
 use Rattle.jac_value.specs.declared.value.Value.{Value}
 use Rattle.jac_value.specs.declared.value.Value.TheVariants as value
@@ -64,18 +65,19 @@ abbrev mutual
   are_open models Expressions.none = true
   are_open models (Expressions.more e es) = is_open models e && are_open models es
 
--- the policies of these groups
-abbrev pub have_open_policies : List Entity → List FieldGroup → Bool
-have_open_policies models [] = true
-have_open_policies models (g ∷ gs) = is_open models g.policy && have_open_policies models gs
+-- none of these groups hides records, and their policies are open
+abbrev pub are_open_groups : List Entity → List FieldGroup → Bool
+are_open_groups models [] = true
+are_open_groups models (g ∷ gs) =
+    not g.hides && (is_open models g.policy && are_open_groups models gs)
 
--- the policies of these models
+-- the groups of these models
 abbrev pub are_open_models : List Entity → List Entity → Bool
 are_open_models models [] = true
 are_open_models models (m ∷ more) =
-    have_open_policies models m.groups && are_open_models models more
+    are_open_groups models m.groups && are_open_models models more
 
--- an application is open where no policy of it reads a field that a group guards
+-- an application is open where no group hides a record, and no policy reads a field that a group guards
 abbrev pub is_open_app : Application → Bool
 is_open_app app = are_open_models app.models app.models
 
