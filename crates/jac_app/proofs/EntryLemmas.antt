@@ -14,7 +14,7 @@ use Rattle.jac_keep.specs.declared.alteration.Change.{Change}
 use Rattle.jac_keep.specs.declared.stop.Stop.{Stop}
 use Rattle.jac_keep.specs.declared.stop.Stop.TheVariants as stops
 use Rattle.jac_keep.specs.KeeperSeen.{KeeperSeen}
-use Rattle.jac_plain.specs.Models.{kinds_of}
+use Rattle.jac_plain.specs.Models.{shapes_of}
 use Rattle.jac_keep.specs.Kept.{applied}
 use Rattle.jac_engine.specs.Answers.{IsSomePage, HasFormOf, HasFormBy, HasForm, left_by}
 use Rattle.jac_replies.specs.Refused.{refusal}
@@ -157,7 +157,7 @@ is_failed app k ask close stop same told start later rose = record {
       ap (λ (s : State). project_at w s) (same tells)
       ∙ sym (left_without (found app ask.method ask.path) w app ask (project_at w k.before.state));
   goes_on = λ tells. subst (λ (s : State). IsStart app s) (sym (same tells)) (start (told tells));
-  good = λ tells good. subst (λ (s : State). IsGood (kinds_of app) s) (sym (same tells)) good;
+  good = λ tells good. subst (λ (s : State). IsGood (shapes_of app) s) (sym (same tells)) good;
   faults = grew_if _ _ stop later rose;
 }
 

@@ -4,7 +4,7 @@ use Rattle.jac_lang.specs.Syntax.{Application}
 use Rattle.jac_rows.specs.Good.{IsGood}
 use Rattle.jac_rows.specs.Project.{project_at}
 use Rattle.jac_keep.specs.KeeperSeen.{KeeperSeen}
-use Rattle.jac_plain.specs.Models.{kinds_of}
+use Rattle.jac_plain.specs.Models.{shapes_of}
 use Rattle.jac_engine.specs.Answers.{IsAnswerTo, HasForm, left}
 use Rattle.jac_engine.specs.Prepared.{worlds_of}
 use Rattle.jac_engine.specs.Start.{IsStart}
@@ -49,7 +49,7 @@ pub record IsAnswerMade (app : Application) (k : Span KeeperSeen) (via : Via) (a
   pub answered : IsTrue k.after.tells → IsAnswerTo app (worlds_of k.before.state) ask answer
   pub worlds : IsTrue k.after.tells → (w : ℕ → Bool) → project_at w k.after.state ≡ left w app ask answer (project_at w k.before.state)
   pub goes_on : IsTrue k.after.tells → IsStart app k.after.state
-  pub good : IsTrue k.after.tells → IsGood (kinds_of app) k.before.state → IsGood (kinds_of app) k.after.state
+  pub good : IsTrue k.after.tells → IsGood (shapes_of app) k.before.state → IsGood (shapes_of app) k.after.state
   pub reply_made : reply ≡ reply_on (spelling_of via) (source_of via) (whole ask (close_of via)) answer
   pub audit_made : audit ≡ audit_rest answer.status ask.viewer answer.shown
 
@@ -60,7 +60,7 @@ pub record IsEntryOf (app : Application) (k : Span KeeperSeen) (subject : Subjec
   pub answered : IsTrue k.after.tells → IsAnswer app (worlds_of k.before.state) subject answer
   pub worlds : IsTrue k.after.tells → (w : ℕ → Bool) → project_at w k.after.state ≡ left_of w app subject answer (project_at w k.before.state)
   pub goes_on : IsTrue k.after.tells → IsStart app k.after.state
-  pub good : IsTrue k.after.tells → IsGood (kinds_of app) k.before.state → IsGood (kinds_of app) k.after.state
+  pub good : IsTrue k.after.tells → IsGood (shapes_of app) k.before.state → IsGood (shapes_of app) k.after.state
   pub faults : Grew k.before.faults (if is_fault answer then 1 else 0) k.after.faults
 
 -- some subjects were answered one after another
@@ -70,7 +70,7 @@ pub record AreEntries (app : Application) (k : Span KeeperSeen) (log : List Entr
   pub answered : IsTrue k.after.tells → AreAnswered app (worlds_of k.before.state) log
   pub worlds : IsTrue k.after.tells → (w : ℕ → Bool) → project_at w k.after.state ≡ after_log w app log (project_at w k.before.state)
   pub goes_on : IsTrue k.after.tells → IsStart app k.after.state
-  pub good : IsTrue k.after.tells → IsGood (kinds_of app) k.before.state → IsGood (kinds_of app) k.after.state
+  pub good : IsTrue k.after.tells → IsGood (shapes_of app) k.before.state → IsGood (shapes_of app) k.after.state
   pub faults : Grew k.before.faults (faults_in log) k.after.faults
 
 -- what is sent for what is refused with this status, unless memory runs out

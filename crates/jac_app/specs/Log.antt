@@ -5,7 +5,7 @@ use Rattle.jac_rows.specs.Good.{IsGood}
 use Rattle.jac_rows.specs.Project.{project_at}
 use Rattle.jac_rows.specs.declared.plain.PlainState.{PlainState}
 use Rattle.jac_rows.specs.declared.state.State.{State}
-use Rattle.jac_plain.specs.Models.{kinds_of}
+use Rattle.jac_plain.specs.Models.{shapes_of}
 use Rattle.jac_plain.specs.Requests.{Worlds}
 use Rattle.jac_engine.specs.Answers.{IsAnswerTo, HasForm, left}
 use Rattle.jac_replies.specs.Refused.{refusal}
@@ -72,7 +72,7 @@ pub record Serves (early : Bool) (app : Application) (sessions : List Session) (
   pub answered : AreAnswered app (worlds_of start) log
   pub worlds : (w : ℕ → Bool) → project_at w finish ≡ after_log w app log (project_at w start)
   pub goes_on : IsStart app finish
-  pub good : IsGood (kinds_of app) start → IsGood (kinds_of app) finish
+  pub good : IsGood (shapes_of app) start → IsGood (shapes_of app) finish
 
 abbrev pub AreFormed : Application → List Entry → Type 0
 AreFormed app [] = ⊤

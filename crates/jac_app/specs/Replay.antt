@@ -5,7 +5,7 @@ use Rattle.jac_lang.specs.Syntax.{Application}
 use Rattle.jac_keep.specs.Schema.{IsFit}
 use Rattle.jac_keep.specs.Attaching.{Attaches, IsRefused}
 use Rattle.jac_keep.specs.KeeperSeen.{KeeperSeen}
-use Rattle.jac_plain.specs.Models.{kinds_of}
+use Rattle.jac_plain.specs.Models.{shapes_of}
 use Rattle.jac_route.specs.declared.sessions.Session.{Session}
 use Rattle.jac_words.specs.declared.words.Command.{Command}
 use Rattle.jac_app.specs.declared.ending.Ending.{Ending}
@@ -23,7 +23,7 @@ use Rattle.jac_serving.specs.Serve.{PutsServed, PutsTorn}
 -- a store of this name was attached for the application, of whose kinds its cells are, and no other since
 pub record IsAttached (db : Option (List ℕ)) (app : Application) (k : Span KeeperSeen) (opened : KeeperSeen) : Type 0 where
   pub attaches : Attaches k.before opened db (schema_text app) (Ok tt)
-  pub fit : IsTrue opened.tells → IsFit (kinds_of app) opened.state
+  pub fit : IsTrue opened.tells → IsFit (shapes_of app) opened.state
   pub stays : k.after.store ≡ opened.store
 
 -- no store was attached: nothing was put, and what was stored is as it was
@@ -41,7 +41,7 @@ pub record IsOther (k : Span KeeperSeen) (stored wanted : List ℕ) : Type 0 whe
 
 -- how attaching a store for the application ends
 abbrev pub AttachesAs : Option (List ℕ) → Application → Span KeeperSeen → Result (Unit {0}) Ending → Type 0
-AttachesAs db app k (Ok done) = Attaches k.before k.after db (schema_text app) (Ok tt) × (IsTrue k.after.tells → IsFit (kinds_of app) k.after.state)
+AttachesAs db app k (Ok done) = Attaches k.before k.after db (schema_text app) (Ok tt) × (IsTrue k.after.tells → IsFit (shapes_of app) k.after.state)
 AttachesAs db app k (Err endings.StoreFault) = Rose k.before.faults k.after.faults × IsUnattached k [] []
 AttachesAs db app k (Err (endings.OtherStore stored wanted)) = (wanted ≡ schema_text app) × IsOther k stored wanted × IsUnattached k [] []
 AttachesAs db app k (Err endings.Memory) = IsUnattached k [] []

@@ -1,7 +1,7 @@
 ghost use Rattle.std.specs.Prelude.{◌≡◌, IsTrue, OnOk, false};
 ghost use Rattle.std.specs.Option.{option_copied};
 ghost use Rattle.jac_lang.specs.Mirror.{application_of};
-ghost use Rattle.jac_plain.specs.Models.{kinds_of};
+ghost use Rattle.jac_plain.specs.Models.{shapes_of};
 ghost use Rattle.jac_keep.specs.Schema.{IsSchema};
 ghost use Rattle.jac_engine.specs.Start.{IsStart};
 ghost use Rattle.jac_serving.specs.Outside.{span};
@@ -24,7 +24,7 @@ pub fn attach<K: Vault>(
 ) -> Result<(), Ending>
     requires first { (K.seen vault.old).store.called ≡ false }
     requires own { schema ≡ schema_text (application_of service.now) }
-    requires schema { IsSchema schema (kinds_of (application_of service.now)) }
+    requires schema { IsSchema schema (shapes_of (application_of service.now)) }
     ensures attaches { AttachesAs (option_copied db.entry) (application_of service.now) (span (K.seen vault.old) (K.seen vault.new)) result }
     ensures attached { OnOk result (IsTrue (K.seen vault.new).store.attached) }
     ensures start { IsTrue (K.seen vault.new).tells → OnOk result (IsStart (application_of service.now) (K.seen vault.new).state) }

@@ -5,7 +5,7 @@ ghost use Rattle.jac_demo.specs.Calendar.{calendar_text};
 ghost use Rattle.jac_events.specs.Lines.{line_of};
 ghost use Rattle.jac_io.specs.Faults.{Rose};
 ghost use Rattle.jac_lang.specs.Mirror.{application_of};
-ghost use Rattle.jac_plain.specs.Models.{kinds_of};
+ghost use Rattle.jac_plain.specs.Models.{shapes_of};
 ghost use Rattle.jac_keep.specs.Cause.{HasCause};
 ghost use Rattle.jac_keep.specs.Schema.{IsSchema};
 ghost use Rattle.jac_engine.specs.Start.{IsStart};
@@ -371,7 +371,7 @@ fn tally_attached<U: AuditSink, K: Vault, L: Ledger, M: Ledger>(
     requires few { count ≤ 2000 }
     requires first { (K.seen vault.old).store.called ≡ false }
     requires own { schema ≡ schema_text (application_of service.now) }
-    requires schema { IsSchema schema (kinds_of (application_of service.now)) }
+    requires schema { IsSchema schema (shapes_of (application_of service.now)) }
     ensures served { WentTo (span (U.seen audit.old) (U.seen audit.new))
         (EndsTallying (application_of service.now) (span (K.seen vault.old) (K.seen vault.new)) count result) }
     ensures cause { result ≡ Err endings.WriteFault → Rose (U.seen audit.old).faults (U.seen audit.new).faults }
@@ -402,7 +402,7 @@ fn tell_attached<O: Sink, U: AuditSink, K: Vault, L: Ledger, M: Ledger>(
     requires few { count ≤ 2000 }
     requires first { (K.seen vault.old).store.called ≡ false }
     requires own { schema ≡ schema_text (application_of service.now) }
-    requires schema { IsSchema schema (kinds_of (application_of service.now)) }
+    requires schema { IsSchema schema (shapes_of (application_of service.now)) }
     ensures { Went (sinks (O.seen out.old) (O.seen out.new) (U.seen audit.old) (U.seen audit.new))
         (IsTold (sinks (O.seen out.old) (O.seen out.new) (U.seen audit.old) (U.seen audit.new)) (application_of service.now) (span (K.seen vault.old) (K.seen vault.new)) count result) }
 {
@@ -440,7 +440,7 @@ fn count_calendar<O: Sink, U: AuditSink, K: Vault, L: Ledger, M: Ledger>(
     requires few { count ≤ 2000 }
     requires first { (K.seen vault.old).store.called ≡ false }
     requires own { schema ≡ schema_text (application_of service.now) }
-    requires schema { IsSchema schema (kinds_of (application_of service.now)) }
+    requires schema { IsSchema schema (shapes_of (application_of service.now)) }
     ensures { WentAimed (sinks (O.seen out.old) (O.seen out.new) (U.seen audit.old) (U.seen audit.new))
         (EndsCounting (sinks (O.seen out.old) (O.seen out.new) (U.seen audit.old) (U.seen audit.new)) (application_of service.now) (span (K.seen vault.old) (K.seen vault.new)) count result) }
 {

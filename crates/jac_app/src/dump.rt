@@ -4,7 +4,7 @@ ghost use Rattle.std.specs.Option.{option_copied};
 ghost use Rattle.jac_io.specs.Faults.{Rose};
 ghost use Rattle.jac_world.specs.World.{shown, holds};
 ghost use Rattle.jac_lang.specs.Mirror.{application_of, entities_of, entity_of};
-ghost use Rattle.jac_plain.specs.Models.{kinds_of};
+ghost use Rattle.jac_plain.specs.Models.{shapes_of};
 ghost use Rattle.jac_rows.specs.Project.{rows_at, project_at};
 ghost use Rattle.jac_rows.specs.Tables.{rows_of};
 ghost use Rattle.jac_keep.specs.Schema.{IsSchema};
@@ -87,7 +87,7 @@ fn dump_store<O: Sink, K: Vault>(
 ) -> Result<(), Ending>
     requires first { (K.seen vault.old).store.called ≡ false }
     requires own { schema ≡ schema_text (application_of service.now) }
-    requires schema { IsSchema schema (kinds_of (application_of service.now)) }
+    requires schema { IsSchema schema (shapes_of (application_of service.now)) }
     ensures { Closed (span (O.seen out.old) (O.seen out.new))
         (EndsDumping (option_copied db.entry) (application_of service.now) (shown assignment.now) (span (O.seen out.old) (O.seen out.new)) (span (K.seen vault.old) (K.seen vault.new)) result) }
 {

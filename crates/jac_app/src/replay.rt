@@ -1,7 +1,7 @@
 ghost use Rattle.std.specs.Prelude.{◌≡◌, ◌<◌, ◌^◌, length, IsTrue, IfOk, Err, false};
 ghost use Rattle.std.specs.Option.{option_copied};
 ghost use Rattle.jac_lang.specs.Mirror.{application_of};
-ghost use Rattle.jac_plain.specs.Models.{kinds_of};
+ghost use Rattle.jac_plain.specs.Models.{shapes_of};
 ghost use Rattle.jac_keep.specs.Schema.{IsSchema};
 ghost use Rattle.jac_app.specs.declared.ending.Ending.TheVariants as endings;
 ghost use Rattle.jac_serving.specs.Outside.{AWriteFailed, Went, WentAimed, span, sinks};
@@ -50,7 +50,7 @@ fn serve_attached<O: Sink, U: AuditSink, K: Vault, L: Ledger, M: Ledger>(
     requires short { length events.now < 2 ^ 32 }
     requires first { (K.seen desk.old.keeper.now).store.called ≡ false }
     requires own { schema ≡ schema_text (application_of desk.old.service.now) }
-    requires schema { IsSchema schema (kinds_of (application_of desk.old.service.now)) }
+    requires schema { IsSchema schema (shapes_of (application_of desk.old.service.now)) }
     ensures served { Went (sinks (O.seen out.old) (O.seen out.new) (U.seen audit.old) (U.seen audit.new))
         (EndsAttaching (option_copied db.entry) (application_of desk.old.service.now) desk.old.sessions.now (span (K.seen desk.old.keeper.now) (K.seen desk.new.keeper.now)) (script_of events.now) result) }
     ensures cause { result ≡ Err endings.WriteFault → AWriteFailed (sinks (O.seen out.old) (O.seen out.new) (U.seen audit.old) (U.seen audit.new)) }
@@ -79,7 +79,7 @@ fn serve<O: Sink, U: AuditSink, K: Vault, L: Ledger, M: Ledger>(
     requires first { (K.seen desk.old.keeper.now).store.called ≡ false }
     requires aim { aim ≡ command.now.audit }
     requires own { schema ≡ schema_text (application_of desk.old.service.now) }
-    requires schema { IsSchema schema (kinds_of (application_of desk.old.service.now)) }
+    requires schema { IsSchema schema (shapes_of (application_of desk.old.service.now)) }
     ensures served { WentAimed (sinks (O.seen out.old) (O.seen out.new) (U.seen audit.old) (U.seen audit.new))
         (EndsServing (sinks (O.seen out.old) (O.seen out.new) (U.seen audit.old) (U.seen audit.new)) (commands.Replay command.now) (application_of desk.old.service.now) desk.old.sessions.now (span (K.seen desk.old.keeper.now) (K.seen desk.new.keeper.now)) (script_of events.now) result) }
     ensures same_reference { desk.new.keeper.ghost_name ≡ desk.old.keeper.ghost_name }
@@ -109,7 +109,7 @@ fn serve_over<O: Sink, U: AuditSink, K: Vault, L: Ledger, M: Ledger>(
     requires first { (K.seen vault.old).store.called ≡ false }
     requires aim { aim ≡ command.now.audit }
     requires own { schema ≡ schema_text (application_of service.now) }
-    requires schema { IsSchema schema (kinds_of (application_of service.now)) }
+    requires schema { IsSchema schema (shapes_of (application_of service.now)) }
     ensures served { WentAimed (sinks (O.seen out.old) (O.seen out.new) (U.seen audit.old) (U.seen audit.new))
         (EndsServing (sinks (O.seen out.old) (O.seen out.new) (U.seen audit.old) (U.seen audit.new)) (commands.Replay command.now) (application_of service.now) sessions.now (span (K.seen vault.old) (K.seen vault.new)) (script_of events.now) result) }
 {

@@ -2,7 +2,7 @@
 ghost use Rattle.std.specs.Prelude.{◌≡◌, IsTrue, Err, false};
 ghost use Rattle.jac_io.specs.Linked.{DoorLasts};
 ghost use Rattle.jac_lang.specs.Mirror.{application_of};
-ghost use Rattle.jac_plain.specs.Models.{kinds_of};
+ghost use Rattle.jac_plain.specs.Models.{shapes_of};
 ghost use Rattle.jac_keep.specs.Schema.{IsSchema};
 ghost use Rattle.jac_serving.specs.Desk.{MayServe, Keeps};
 ghost use Rattle.jac_app.specs.Answered.{answering, desk_of};
@@ -116,7 +116,7 @@ fn serve_attached<O: Sink, U: AuditSink, K: Vault, D: Door, L: Ledger, M: Ledger
 ) -> Result<(), Ending>
     requires first { (K.seen desk.old.keeper.now).store.called ≡ false }
     requires own { schema ≡ schema_text (application_of desk.old.service.now) }
-    requires schema { IsSchema schema (kinds_of (application_of desk.old.service.now)) }
+    requires schema { IsSchema schema (shapes_of (application_of desk.old.service.now)) }
     ensures served { Went (sinks (O.seen out.old) (O.seen out.new) (U.seen audit.old) (U.seen audit.new))
         (EndsAttached D.Line.seen (application_of desk.old.service.now) desk.old.sessions.now serving.now (span (D.seen door.old) (D.seen door.new)) (span (K.seen desk.old.keeper.now) (K.seen desk.new.keeper.now)) result) }
     ensures cause { result ≡ Err endings.WriteFault → AWriteFailed (sinks (O.seen out.old) (O.seen out.new) (U.seen audit.old) (U.seen audit.new)) }
@@ -148,7 +148,7 @@ fn serve_aimed<O: Sink, U: AuditSink, K: Vault, D: Door, L: Ledger, M: Ledger>(
     requires first { (K.seen desk.old.keeper.now).store.called ≡ false }
     requires aim { aim ≡ serving.now.audit }
     requires own { schema ≡ schema_text (application_of desk.old.service.now) }
-    requires schema { IsSchema schema (kinds_of (application_of desk.old.service.now)) }
+    requires schema { IsSchema schema (shapes_of (application_of desk.old.service.now)) }
     ensures served { WentAimed (sinks (O.seen out.old) (O.seen out.new) (U.seen audit.old) (U.seen audit.new))
         (EndsAimed D.Line.seen (sinks (O.seen out.old) (O.seen out.new) (U.seen audit.old) (U.seen audit.new)) (application_of desk.old.service.now) desk.old.sessions.now serving.now
         (span (D.seen door.old) (D.seen door.new)) (span (K.seen desk.old.keeper.now) (K.seen desk.new.keeper.now)) result) }
@@ -179,7 +179,7 @@ fn serve_over<O: Sink, U: AuditSink, K: Vault, D: Door, L: Ledger, M: Ledger>(
     requires first { (K.seen vault.old).store.called ≡ false }
     requires aim { aim ≡ serving.now.audit }
     requires own { schema ≡ schema_text (application_of service.now) }
-    requires schema { IsSchema schema (kinds_of (application_of service.now)) }
+    requires schema { IsSchema schema (shapes_of (application_of service.now)) }
     ensures served { WentAimed (sinks (O.seen out.old) (O.seen out.new) (U.seen audit.old) (U.seen audit.new))
         (EndsAimed D.Line.seen (sinks (O.seen out.old) (O.seen out.new) (U.seen audit.old) (U.seen audit.new)) (application_of service.now) sessions.now serving.now
         (span (D.seen door.old) (D.seen door.new)) (span (K.seen vault.old) (K.seen vault.new)) result) }
