@@ -6,7 +6,7 @@ use jac_cached::CachedKeeper;
 use jac_io::Calls;
 use jac_keep::{Keeper, MemoryKeeper};
 use jac_rows::{State, Tables};
-use jac_value::{Id, Memory};
+use jac_value::{Id, Memory, Value};
 use std::alloc::Global;
 use std::test::Fail;
 
@@ -38,6 +38,14 @@ fn has_one(alloc: Global, keeper: &mut CachedKeeper<MemoryKeeper>, id: Id) -> bo
     keeper.one(alloc, id).is_ok()
 }
 
+fn finds(alloc: Global, keeper: &mut CachedKeeper<MemoryKeeper>, model: u8) -> bool
+    requires { IsTrue keeper.old.store.attached }
+    ensures { IsTrue keeper.new.store.attached }
+{
+    let value = Value::Bool(true);
+    keeper.rows_with(alloc, model, 0, &value).is_ok()
+}
+
 #[test]
 fn a_table_that_was_read_is_held(rt: HostRuntime) -> Result<(), Fail> {
     let alloc = rt.alloc();
@@ -46,5 +54,16 @@ fn a_table_that_was_read_is_held(rt: HostRuntime) -> Result<(), Fail> {
     assert!(rt; has_rows(alloc, &mut keeper, 0));
     assert!(rt; has_one(alloc, &mut keeper, Id(4096)));
     assert!(rt; !has_rows(alloc, &mut keeper, 1));
+    Ok(())
+}
+
+#[test]
+fn a_table_in_which_records_were_found_is_held(rt: HostRuntime) -> Result<(), Fail> {
+    let alloc = rt.alloc();
+    let mut keeper = read_once(alloc)?;
+    assert!(rt; finds(alloc, &mut keeper, 0));
+    assert!(rt; has_rows(alloc, &mut keeper, 0));
+    assert!(rt; finds(alloc, &mut keeper, 0));
+    assert!(rt; !finds(alloc, &mut keeper, 1));
     Ok(())
 }

@@ -1,7 +1,7 @@
 //! A row and its bytes, worked out by hand.
 use jac_rows::Row;
-use jac_stored::{decode_id, decode_row, encode_id, encode_row};
-use jac_value::{Cells, Id, Kind, Memory, Txt, Value};
+use jac_stored::{RowFault, decode_id, decode_row, encode_id, encode_row};
+use jac_value::{Cells, Id, Kind, Memory, Txt, Value, loop_id_of};
 use jac_world::{Guard, Label};
 use std::alloc::Global;
 use std::test::Fail;
@@ -56,4 +56,40 @@ fn an_id_is_one_of_its_model(rt: HostRuntime) -> Result<(), Fail> {
     assert_eq!(rt; bytes, [0, 0, 0, 0, 0, 0, 0, 0, 0, 0, 0, 0, 0, 0, 0x30, 1]);
     assert_eq!(rt; decode_id(bytes.as_slice(), 1), Some(Id(12289)));
     Ok(())
+}
+
+// The id 12289 of the second model around the record 4096: 4096 * 2^52 is 2^64.
+const AROUND: [u8; 16] = [0, 0, 0, 0, 0, 0, 0, 1, 0, 0, 0, 0, 0, 0, 0x30, 1];
+
+#[test]
+fn an_id_is_made_around_another(rt: HostRuntime) -> Result<(), Fail> {
+    let id = loop_id_of(Id(4096), Id(12289));
+    assert_eq!(rt; id, Id(18446744073709563905));
+    assert_eq!(rt; encode_id(id), AROUND);
+    assert_eq!(rt; decode_id(&AROUND, 1), Some(id));
+    assert_eq!(rt; decode_id(&AROUND, 0), None);
+    Ok(())
+}
+
+// A reference to it, and three whose bytes 2, 8 and 9 are those of no id: too great a record, and too great an id that
+// is around none.
+const REFERENCE: [u8; 18] = [4, 1, 0, 0, 0, 0, 0, 0, 0, 1, 0, 0, 0, 0, 0, 0, 0x30, 1];
+
+const AT_2: [u8; 18] = [4, 1, 0, 0, 1, 0, 0, 0, 0, 1, 0, 0, 0, 0, 0, 0, 0x30, 1];
+
+const AT_8: [u8; 18] = [4, 1, 0, 0, 0, 0, 0, 0, 0, 0, 1, 0, 0, 0, 0, 0, 0x30, 1];
+
+const AT_9: [u8; 18] = [4, 1, 0, 0, 0, 0, 0, 0, 0, 0, 0, 0x10, 0, 0, 0, 0, 0x30, 1];
+
+fn fault(alloc: Global, body: &[u8]) -> Option<RowFault> {
+    decode_row(alloc, Id(12289), &[Kind::Ref(1)], &[], body).err()
+}
+
+#[test]
+fn bytes_of_no_id_are_told(rt: HostRuntime) {
+    let alloc = rt.alloc();
+    assert_eq!(rt; fault(alloc, &REFERENCE), None);
+    assert_eq!(rt; fault(alloc, &AT_2), Some(RowFault::Body(4)));
+    assert_eq!(rt; fault(alloc, &AT_8), Some(RowFault::Body(10)));
+    assert_eq!(rt; fault(alloc, &AT_9), Some(RowFault::Body(11)));
 }

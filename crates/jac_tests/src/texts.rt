@@ -1,8 +1,8 @@
-//! An application that is written again, the printing of texts, and the schema that a store keeps.
+//! An application that is written again, the printing of texts, the faults of a tag, and the schema that a store keeps.
 use jac_check::check;
-use jac_forms::app_of;
+use jac_forms::{FormFault, Want, app_of};
 use jac_lang::App;
-use jac_template::escape;
+use jac_template::{TemplateFault, escape, expand};
 use jac_tree::{Tree, print_tree, read_tree};
 use jac_unparse::tree_of;
 use jac_value::{Bytes, Txt};
@@ -63,5 +63,22 @@ fn texts_are_printed(rt: HostRuntime) -> Result<(), Fail> {
 fn markup_is_escaped(rt: HostRuntime) -> Result<(), Fail> {
     let text = escape(rt.alloc(), b"a<b>&\"'")?;
     assert!(rt; text.as_slice() == b"a&lt;b&gt;&amp;&quot;&#39;".as_slice());
+    Ok(())
+}
+
+// Whether the text is refused for its tag at 0, which is itself no expression.
+fn is_no_expression(alloc: Global, text: &Txt) -> bool {
+    match expand(alloc, text) {
+        Err(TemplateFault::Form(0, FormFault::Form { path, want })) => {
+            path.as_slice().is_empty() && want == Want::Expression
+        }
+        _ => false,
+    }
+}
+
+#[test]
+fn a_tag_has_the_fault_of_its_form(rt: HostRuntime) -> Result<(), Fail> {
+    let text = Txt::from_str(rt.alloc(), "{{ (add 1) }}")?;
+    assert!(rt; is_no_expression(rt.alloc(), &text));
     Ok(())
 }
