@@ -142,7 +142,7 @@ def unknown_fields(data, tree):
 def unknown_kinds(data, tree):
     for model in tree.children:
         if model.head() == 'model':
-            for field in model.children[2].children[1:]:
+            for field in finger.fields_in(model).children[1:]:
                 if field.children[1].kind == 'atom':
                     yield with_text(data, field.children[1].start, field.children[1].end, b'string'), field.children[1].start
 
@@ -175,8 +175,8 @@ def comments(data, tree):
 def twice_named(data, tree):
     for model in tree.children:
         if model.head() == 'model':
-            field = model.children[2].children[1]
-            at = model.children[2].end - 1
+            field = finger.fields_in(model).children[1]
+            at = finger.fields_in(model).end - 1
             yield with_text(data, at, at, b' ' + data[field.start:field.end]), at + 2
 
 

@@ -25,11 +25,11 @@ EXAMPLES = {
     'examples/calendar/app': [(194, 12, SCRIPT)],
     'examples/conference/app': [(131, 17, BRANCH), (305, 12, SCRIPT)],
     'examples/courses/app': [(61, 80, BRANCH), (262, 12, SCRIPT)],
-    'examples/health/app': [(60, 30, BRANCH), (233, 12, SCRIPT)],
+    'examples/health/app': [(68, 30, BRANCH), (79, 34, BRANCH), (301, 12, SCRIPT)],
     'examples/agenda.app': [(22, 35, BRANCH)],
     'examples/meetings.app': [(12, 13, SCRIPT), (15, 13, SCRIPT), (19, 13, SCRIPT), (20, 47, BRANCH)],
-    **{'examples/%s.app' % name: [] for name in ('calendar', 'courses', 'guestbook', 'guests', 'hello', 'library', 'notes',
-                                                  'people', 'shop')},
+    **{'examples/%s.app' % name: [] for name in ('calendar', 'courses', 'guestbook', 'guests', 'hello', 'invitations',
+                                                  'library', 'notes', 'people', 'records', 'shop')},
 }
 
 MODEL = '''(app (viewer User)
@@ -91,6 +91,11 @@ AUDITS = [
         'reply 14: 404 to POST /drop for User 8192 (made by POST 2), who is shown\n'
         '    Event 16385 (made by POST 4): title\n'
         'reply 15: ']),
+    (['examples/invitations.app', 'examples/invitations.audit', 'examples/invitations.events'], [
+        'reply 15: 200 to GET / for User 12288 (made by POST 3), who is shown\n'
+        '    Party 20481 (made by POST 5): title\n'
+        '    Invite 55340232221128695810 (made by POST 10 around User 12288): the record\n'
+        'reply 16: ']),
 ]
 
 

@@ -1,8 +1,8 @@
 #!/usr/bin/env python3
 """Says of the larger examples, and of the README's calendar, which guarded fields their policies read: an application
-is open where they read none (`is_open_app` in crates/jac_open/specs/Open.antt). Compares that with the table of
-docs/GUARANTEES.md: where the page is out of date it says so, and its status is 1. With the word --write it writes the
-table anew. With other words it tells the same of these files."""
+is open where they read none and no group hides records (`is_open_app` in crates/jac_open/specs/Open.antt). Compares that
+with the table of docs/GUARANTEES.md: where the page is out of date it says so, and its status is 1. With the word
+--write it writes the table anew. With other words it tells the same of these files."""
 import re
 import sys
 
@@ -51,14 +51,19 @@ def hidden_reads(text):
     """The guarded fields that policies of the application read, in the order of its models."""
     models = parts(tree(text), 'model')
     groups = [(model[1], group) for model in models for group in parts(model, 'group')]
-    guarded = [model + '.' + guard[0] for model, group in groups for guard in parts(group, 'guards')[0][1:]]
+    guarded = [model + '.' + guard[0] for model, group in groups for guards in parts(group, 'guards') for guard in guards[1:]]
     wanted = {field for _, group in groups for field in fields_read(parts(group, 'policy')[0][1])}
     return [field for field in guarded if field in wanted]
 
 
+def has_hidden_records(text):
+    return any('hides' in group for model in parts(tree(text), 'model') for group in parts(model, 'group'))
+
+
 def row(name):
-    found = hidden_reads(read(name))
-    return '| `%s` | %s | %s |' % (name, 'no' if found else 'yes', ', '.join('`%s`' % f for f in found) or 'none')
+    text = read(name)
+    found = hidden_reads(text)
+    return '| `%s` | %s | %s |' % (name, 'no' if found or has_hidden_records(text) else 'yes', ', '.join('`%s`' % f for f in found) or 'none')
 
 
 def table(names):

@@ -41,6 +41,16 @@ PLAIN = CALENDAR % b''
 WITH_NOTES = CALENDAR % b' (model Note (fields (body text)))'
 SCHEMA = '(schema (model User (fields (name text)) (groups))' \
          ' (model Event (fields (title text) (host (ref User)) (open bool)) (groups (title)))%s)'
+# a reminder is made around each event, and a draft is there for the event's host alone
+SHAPED = (CALENDAR % b''' (model Remind nested (fields (about (ref Event))))
+ (model Draft (fields (of (ref Event)))
+  (group hides (policy (eq (get Event host (get Draft of this)) viewer))))''').rstrip()[:-1] + b'''
+ (view post "/remind" (params)
+  (for (from ((e Event)) true key) (create r Remind (set (about e)))))
+ (view post "/draft" (params (e (ref Event))) (create d Draft (set (of e)))))
+'''
+SHAPES = ' (model Remind nested (fields (about (ref Event))) (groups))' \
+         ' (model Draft (fields (of (ref Event))) (groups hides))'
 STORED = SCHEMA % ''
 WANTED = SCHEMA % ' (model Note (fields (body text)) (groups))'
 STORY = b'ask - POST "/join" "name=Ann"\nask - POST "/join" "name=Bob"\nask 4096 POST "/add" "title=raid&open=0"\n'
@@ -126,6 +136,18 @@ def spelled(at):
     yield expect('rows of users', rows[:2], users)
     yield expect('rows of events', [row[:3] for row in rows[2:]], [(1, number(12289), 0), (1, number(12289), 1)])
     yield expect('what is shown and hidden', dict((row[3], row[4]) for row in rows[2:]), titles)
+
+
+def shaped(at):
+    """A record of a loop is one row with no guard, whose number has that of the loop's record before its own, though that
+    record has two alternatives; a hidden record has no public row."""
+    at.replay(STORY + b'ask - POST "/remind" ""\nask 4096 POST "/draft" "e=12289"\n', app=SHAPED)
+    yield expect('the schema of shapes', at.read('SELECT schema FROM meta'), [(SCHEMA % SHAPES,)])
+    event = b'\x04\x01' + number(12289)
+    yield expect('a record of a loop', at.read('SELECT jid, alt, jvars, body FROM rec WHERE model = 2'),
+                 [(number(12289 * 2 ** 52 + 16386), 0, b'', event)])
+    yield expect('a hidden record', at.read('SELECT jid, alt, jvars, body FROM rec WHERE model = 3'),
+                 [(number(20483), 0, guard((163864, True)), event)])
 
 
 def made_by_hand(at):
@@ -274,7 +296,7 @@ def fresh():
 
 def main():
     results = []
-    for part in (kept, spelled, made_by_hand, damaged, refused, full, of_another, of_another_program, killed):
+    for part in (kept, spelled, shaped, made_by_hand, damaged, refused, full, of_another, of_another_program, killed):
         with fresh() as at:
             results += list(part(at)) or [None]
     for wrong in filter(None, results):
