@@ -1,6 +1,6 @@
 #!/usr/bin/env python3
 """Tells the lines of an audit in words: who asked, what was answered, and which guarded fields of which records are
-shown to the viewer as they are.
+shown to the viewer as they are, or which hidden records stand for the viewer.
 Words: the application's file, the audit's file, and, where there is one, the file of the events that were answered,
 whose `ask` lines tell which view was asked.
 
@@ -17,20 +17,32 @@ sys.path.insert(0, os.path.dirname(os.path.abspath(__file__)))
 import finger                                                               # noqa: E402
 
 
+# a record that was made in a loop has the number of the loop's record times this before its own
+LOOP = 2 ** 52
+
+
 class Names:
     """What the numbers of an application mean."""
 
     def __init__(self, data):
         checker = finger.Checker(finger.read_tree(data, list(range(len(data) + 1))))
         self.models = [model.children[1].value for model in checker.models]
-        self.groups = [[[guard.children[0].value for guard in group.children[1].children[1:]]
-                        for group in model.children[3:]] for model in checker.models]
+        self.groups = [[self.parts(group) for group in finger.groups_in(model)] for model in checker.models]
+
+    @staticmethod
+    def parts(group):
+        return ['the record'] if finger.hides(group) else [guard.children[0].value for guard in finger.guards_in(group)]
 
     def record(self, number):
-        model, post = number % 64, number // 4096
+        model, post, around = number % 64, number % LOOP // 4096, number // LOOP
         if model >= len(self.models) or post == 0:
             return 'record %d' % number
-        return '%s %d (made by POST %d)' % (self.models[model], number, post)
+        return '%s %d (made by POST %d%s)' % (
+            self.models[model], number, post, ' around %s' % self.name(around) if around else '')
+
+    def name(self, number):
+        model = number % 64
+        return '%s %d' % (self.models[model] if model < len(self.models) else 'record', number)
 
     def label(self, number):
         record, group = number // 8, number % 8

@@ -31,13 +31,14 @@ OPERANDS.update({word: 2 for word in ('add', 'sub', 'mul', 'eq', 'lt', 'and', 'o
 NUMBERS = ['none', 'one', 'two', 'three', 'four', 'five', 'six', 'seven', 'eight', 'nine', 'ten']
 WANTED = {
     'app': 'an application: (app (viewer MODEL) model .. view ..), in this order',
-    'item': 'a model or a view: (model NAME (fields ..) (group ..) ..), or (view get "/path" (params ..) statement ..)',
+    'item': 'a model or a view: (model NAME (fields ..) (group ..) ..), with nested behind the NAME of a model whose '
+            'records are created in a for, or (view get "/path" (params ..) statement ..)',
     'name': 'a name: up to 64 letters, digits, _ and -, of which the first is a letter, and none of '
             'this, viewer, true, false',
     'fields': 'the fields: (fields (NAME kind) ..)',
     'field': 'a field: (NAME kind)',
     'kind': 'a kind: int, text, bool or (ref MODEL)',
-    'group': 'a group: (group (guards (FIELD public-value) ..) (policy truth))',
+    'group': 'a group: (group (guards (FIELD public-value) ..) (policy truth)), or (group hides (policy truth))',
     'guard': 'a guarded field and its public value: (FIELD value)',
     'policy': 'a policy: (policy truth)',
     'method': 'a method: get or post, in small letters',
@@ -267,6 +268,28 @@ def moved(node, places):
             one.places = [places[place] for place in one.places]
         left += one.children
     return node
+
+
+# The parts of models, whose name the atom `nested` may follow, and of groups.
+
+def is_nested(model):
+    return model.children[2].is_atom('nested')
+
+
+def fields_in(model):
+    return model.children[3 if is_nested(model) else 2]
+
+
+def groups_in(model):
+    return model.children[4 if is_nested(model) else 3:]
+
+
+def hides(group):
+    return group.children[1].is_atom('hides')
+
+
+def guards_in(group):
+    return [] if hides(group) else group.children[1].children[1:]
 
 
 # Forms. Each reader gets a tree and its path, and raises the first fault in reading order.
@@ -531,11 +554,12 @@ class Checker:
         self.models = [item for item in items if item.head() == 'model']
         self.views = [item for item in items if item.head() == 'view']
         self.names = {model.children[1].value for model in self.models}
-        self.fields = {}
+        self.fields, self.nested = {}, {}
         for model in self.models:
             name = model.children[1].value
             if name not in self.fields:
-                self.fields[name] = self.fields_of(model.children[2].children[1:])
+                self.fields[name] = self.fields_of(fields_in(model).children[1:])
+                self.nested[name] = is_nested(model)
 
     def fields_of(self, nodes):
         kinds = {}
@@ -589,13 +613,15 @@ class Checker:
     # models and views
 
     def model(self, place, model):
-        name, fields, groups = model.children[1], model.children[2], model.children[3:]
+        name, fields, groups = model.children[1], fields_in(model), groups_in(model)
         if any(other.children[1].value == name.value for other in self.models[:place]):
             self.twice(name, 'application')
         self.field_list(fields.children[1:], 'model')
         guarded = set()
-        for group in groups:
-            for guard in group.children[1].children[1:]:
+        for number, group in enumerate(groups):
+            if hides(group) and any(hides(other) for other in groups[:number]):
+                raise CheckFault(group.children[1], 'hides named twice', 'a group before this one hides the records of this model')
+            for guard in guards_in(group):
                 field, value = guard.children
                 self.known_field_of(fields, field)
                 if field.value in guarded:
@@ -631,39 +657,39 @@ class Checker:
                 span = Node('atom', path.places[found.start()], path.places[found.end() - 1] + 1, found.group(1).decode())
                 self.unknown(span, known, 'parameter')
         names = [(name, kind, False) for name, kind in known.items()]
-        self.body(body, Scope(names), method == 'get', False)
+        self.body(body, Scope(names), method == 'get', [])
 
-    # statements
+    # statements; with them go the models of the binders of each loop round them
 
-    def body(self, statements, scope, is_get, in_loop):
+    def body(self, statements, scope, is_get, loops):
         for statement in statements:
-            self.statement(statement, scope, is_get, in_loop)
+            self.statement(statement, scope, is_get, loops)
 
-    def statement(self, node, scope, is_get, in_loop):
+    def statement(self, node, scope, is_get, loops):
         word, parts = node.head(), node.children[1:]
         if word in ('put', 'esc'):
             self.judge(parts[0], scope)
         elif word == 'let':
             kind = self.judge(parts[1], scope)
-            self.body(parts[2:], scope.with_names([(parts[0].value, kind, True)]), is_get, in_loop)
+            self.body(parts[2:], scope.with_names([(parts[0].value, kind, True)]), is_get, loops)
         elif word == 'assign':
             self.assign(node, parts, scope)
         elif word == 'if':
             self.want('bool', self.judge(parts[0], scope), parts[0], 'the condition of an if')
-            self.body(parts[1].children, scope, is_get, in_loop)
-            self.body(parts[2].children, scope, is_get, in_loop)
+            self.body(parts[1].children, scope, is_get, loops)
+            self.body(parts[2].children, scope, is_get, loops)
         elif word == 'for':
             inner = self.query(node, parts[0], scope, 'for')
-            self.body(parts[1:], inner, is_get, True)
+            models = [binder.children[1].value for binder in parts[0].children[1].children]
+            self.body(parts[1:], inner, is_get, loops + [models])
         elif word == 'create':
             self.write(node, is_get)
-            if in_loop:
-                raise CheckFault(node, 'create in a loop', 'a create may not stand inside of a for')
             name, model, cells = parts[:3]
             self.known_model(model)
             self.cell_names(model.value, cells.children[1:])
+            self.loop(node, model, loops)
             self.cell_values(model.value, cells.children[1:], scope)
-            self.body(parts[3:], scope.with_names([(name.value, ('ref', model.value), False)]), is_get, in_loop)
+            self.body(parts[3:], scope.with_names([(name.value, ('ref', model.value), False)]), is_get, loops)
         elif word == 'update':
             self.write(node, is_get)
             model, target, cells = parts
@@ -681,7 +707,7 @@ class Checker:
         elif word == 'redirect':
             self.want('text', self.judge(parts[0], scope), parts[0], 'where a redirect leads')
         elif word == 'template':
-            self.body(statements_of(parts[0]), scope, is_get, in_loop)
+            self.body(statements_of(parts[0]), scope, is_get, loops)
 
     def assign(self, node, parts, scope):
         found = scope.look_up(parts[0].value)
@@ -695,6 +721,13 @@ class Checker:
     def write(node, is_get):
         if is_get:
             raise CheckFault(node, 'write in a get view', 'a get view may not create, update or delete: make it a post view')
+
+    def loop(self, node, model, loops):
+        if self.nested[model.value] and not (len(loops) == 1 and len(loops[0]) == 1 and not self.nested[loops[0][0]]):
+            raise CheckFault(node, model.value + ' is created in a loop alone',
+                             'a record of a nested model is created in exactly one for, over one name of a model that is not nested')
+        if loops and not self.nested[model.value]:
+            raise CheckFault(node, 'create in a loop', 'a create may not stand inside of a for, where its model is not nested')
 
     def cell_names(self, model, cells):
         seen = set()
@@ -724,7 +757,7 @@ class Checker:
 
     def kinds(self):
         """The models that kinds of fields and of parameters name."""
-        lists = [model.children[2] for model in self.models] + [view.children[3] for view in self.views]
+        lists = [fields_in(model) for model in self.models] + [view.children[3] for view in self.views]
         return [field.children[1].children[1] for fields in lists for field in fields.children[1:]
                 if field.children[1].kind == 'list']
 

@@ -33,12 +33,10 @@ class Look:
         self.tree = finger.read_tree(data, list(range(len(data) + 1)))
         self.checker = finger.Checker(self.tree)
         self.checker.check()
-        self.guarded = {model.children[1].value: {guard.children[0].value for group in model.children[3:]
-                                                  for guard in group.children[1].children[1:]}
-                        for model in self.checker.models}
         self.groups = {model.children[1].value: [{guard.children[0].value: guard.children[1]
-                                                  for guard in group.children[1].children[1:]}
-                                                 for group in model.children[3:]] for model in self.checker.models}
+                                                  for guard in finger.guards_in(group)}
+                                                 for group in finger.groups_in(model)] for model in self.checker.models}
+        self.guarded = {model: set().union(*groups) for model, groups in self.groups.items()}
         self.found = []
 
     def at(self, node, words):
@@ -168,7 +166,7 @@ class Look:
 
     def sums(self):
         for item in self.checker.models + self.checker.views:
-            for top in item.children[3:]:
+            for top in finger.groups_in(item) if item.head() == 'model' else item.children[3:]:
                 for node in self.inside(top):
                     if node.head() == 'sum':
                         for one in self.reads_guarded(node.children[2], {}):
