@@ -1,0 +1,82 @@
+ghost use Rattle.std.specs.Prelude.{◌≡◌, ◌==◌, ◌||◌, ◌&&◌, not, ℕ, Bool, false, IfOk, OnOk, OnErr};
+ghost use Rattle.jac_world.specs.World.{shown, IsAscending};
+ghost use Rattle.jac_value.specs.declared.value.Value.{Value as Cell};
+ghost use Rattle.jac_index.specs.Triples.{same_value, has_pair, IsPairAdded, IsPairRemoved};
+
+use crate::RisingIds;
+use jac_value::{Id, Ids, Memory, Value};
+use std::alloc::Global;
+use std::collections::BTreeMap;
+
+/// The records that have a value, by the value.
+#[derive(Debug, Drop)]
+pub struct ByValue {
+    ids: BTreeMap<Value, RisingIds>,
+}
+
+impl ByValue {
+    pub fn new(alloc: Global) -> ByValue
+        ensures { (v : Cell) (id : ℕ) → has_pair result v id ≡ false }
+    {
+        ByValue {
+            ids: BTreeMap::new(alloc),
+        }
+    }
+
+    /// The same pairs and this one.
+    pub fn add(&mut self, alloc: Global, value: &Value, id: Id) -> Result<(), Memory>
+        ensures added { OnOk result (IsPairAdded value.now id self.old self.new) }
+        ensures kept { OnErr result ((v : Cell) (k : ℕ) → has_pair self.new v k ≡ has_pair self.old v k) }
+    {
+        if self.ids.contains_key(value) {
+            self.add_more(value, id)
+        } else {
+            self.add_first(alloc, value, id)
+        }
+    }
+
+    fn add_more(&mut self, value: &Value, id: Id) -> Result<(), Memory>
+        ensures added { OnOk result (IsPairAdded value.now id self.old self.new) }
+        ensures kept { OnErr result ((v : Cell) (k : ℕ) → has_pair self.new v k ≡ has_pair self.old v k) }
+    {
+        match self.ids.get_mut(value) {
+            Some(ids) => ids.add(id),
+            None => Err(Memory),
+        }
+    }
+
+    fn add_first(&mut self, alloc: Global, value: &Value, id: Id) -> Result<(), Memory>
+        requires { (k : ℕ) → has_pair self.old value.now k ≡ false }
+        ensures added { OnOk result (IsPairAdded value.now id self.old self.new) }
+        ensures kept { OnErr result ((v : Cell) (k : ℕ) → has_pair self.new v k ≡ has_pair self.old v k) }
+    {
+        let mut ids = RisingIds::empty(alloc);
+        ids.add(id)?;
+        let key = value.copy(alloc)?;
+        self.ids.insert(key, ids)?;
+        Ok(())
+    }
+
+    /// The same pairs but this one. Takes no memory.
+    pub fn remove(&mut self, value: &Value, id: Id)
+        ensures { IsPairRemoved value.now id self.old self.new }
+    {
+        if let Some(ids) = self.ids.get_mut(value) {
+            ids.remove(id);
+        }
+    }
+
+    /// The records that have the value, by rising id, each once.
+    pub fn find(&self, alloc: Global, value: &Value) -> Result<Ids, Memory>
+        ensures found { IfOk result (λ ids. (k : ℕ) → shown ids k ≡ has_pair self.now value.now k) }
+        ensures ascending { IfOk result IsAscending }
+    {
+        match self.ids.get(value) {
+            Some(ids) => {
+                let found = Vec::from_slice(alloc, ids.as_slice())?;
+                Ok(Ids::from_vec(found))
+            }
+            None => Ok(Ids::empty(alloc)),
+        }
+    }
+}

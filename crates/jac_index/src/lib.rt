@@ -1,0 +1,10 @@
+//! An index of records by the values of their fields.
+#![tactic(auto)]
+
+mod by_value;
+mod index;
+mod rising;
+
+pub use by_value::ByValue;
+pub use index::Index;
+pub use rising::RisingIds;
