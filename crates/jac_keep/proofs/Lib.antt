@@ -6,5 +6,8 @@ pub mod SoundLaws
 pub mod OrderLaws
 pub mod OpeningLaws
 pub mod SchemaLaws
-pub mod Bisected
+pub mod ReshapingLaws
+pub mod Adding
+pub mod Forgotten
+pub mod Gathered
 pub mod Held

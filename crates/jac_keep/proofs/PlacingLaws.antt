@@ -55,7 +55,7 @@ below_and_above a b h i = grind arith
 above_above_less : (a b : ℕ) → a < b → (i : ℕ) → (nat_lt a i && nat_lt b i) ≡ nat_lt b i
 above_above_less a b h i = grind arith
 
-and-turned : (p q : Bool) → (p && q) ≡ (q && p)
+pub and-turned : (p q : Bool) → (p && q) ≡ (q && p)
 and-turned p q = grind arith
 
 above_above : (a b : ℕ) → a < b → (i : ℕ) → (nat_lt b i && nat_lt a i) ≡ nat_lt b i

@@ -26,11 +26,6 @@ use Rattle.jac_keep.proofs.SoundLaws as sound
 abbrev pub made_before : {A : Type 0} → List A → Option (List A) → Option (List A)
 made_before made rest = option_map (λ more. made ++ more) rest
 
--- one table more
-pub empties_more : (n : ℕ) → empties n ++ [] ∷ [] ≡ empties (suc n)
-empties_more zero = refl
-empties_more (suc n) = ap (λ (ts : List (List Row)). [] ∷ ts) (empties_more n)
-
 -- a schema text spells its tree
 pub schema_spells : (text : List ℕ) (kinds : List ModelShape) → (s : IsSchema text kinds) → Spells text s.tree
 schema_spells text kinds s = subst (λ (bytes : List ℕ). Spells bytes s.tree) (sym s.spelled) (printed_spells s.tree s.atoms)

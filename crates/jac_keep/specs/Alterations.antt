@@ -1,5 +1,5 @@
 -- records with all their new alternatives
-use Rattle.std.specs.Prelude.{ℕ, ◌+◌, ◌<◌, ◌==◌, nat_lt, if◌then◌else◌, List, [], ◌∷◌, length, ⊤, Option, Some, None}
+use Rattle.std.specs.Prelude.{ℕ, ◌+◌, ◌<◌, ◌==◌, nat_lt, Bool, false, ◌||◌, if◌then◌else◌, List, [], ◌∷◌, length, ⊤, Option, Some, None}
 use Rattle.jac_value.specs.Ids.{model_of_id}
 use Rattle.jac_world.specs.World.{IsRisingBy}
 use Rattle.jac_rows.specs.declared.row.Row.{Row}
@@ -34,6 +34,11 @@ abbrev pub altered : ℕ → List Alteration → List Row → List Row
 altered model [] rows = rows
 altered model (a ∷ rest) rows =
     altered model rest (if model_of_id a.id == model then placed a.id a.rows rows else rows)
+
+-- whether a record of the model is altered
+abbrev pub alters : ℕ → List Alteration → Bool
+alters model [] = false
+alters model (a ∷ rest) = model_of_id a.id == model || alters model rest
 
 -- the alterations of a model's records
 abbrev pub of_model : ℕ → List Alteration → List Alteration

@@ -5,8 +5,13 @@ use Rattle.jac_io.specs.Calls.{listed}
 use Rattle.jac_rows.specs.declared.state.State.{State}
 use Rattle.jac_rows.specs.Good.{IsNext, IsSound}
 use Rattle.jac_rows.specs.Good.{ModelShape}
+use Rattle.jac_keep.specs.Indexed.{AreIndexesIfMade}
 use Rattle.jac_keep.specs.KeeperSeen.{KeeperSeen, Store}
+use Rattle.jac_keep.specs.Kept.{applied}
+use Rattle.jac_keep.specs.Reshaping.{widened}
 use Rattle.jac_keep.specs.Schema.{IsSchema, IsFit, empties}
+use Rattle.jac_keep.specs.declared.alteration.Change.{Change}
+use Rattle.jac_keep.specs.declared.table_indexes.TableIndexes.{TableIndexes}
 
 -- the state, its store, the reads and the applies that are to fail, and how many of each there were and how many
 -- calls failed
@@ -49,9 +54,10 @@ abbrev pub IsStored : Option (List ℕ) → State → Type 0
 IsStored None s = (s.tables ≡ []) × IsNext s.number
 IsStored (Some schema) s = ((shapes : List ModelShape) × IsSchema schema shapes) × ((shapes : List ModelShape) → IsSchema schema shapes → IsFit shapes s)
 
--- its state is sound, and may be attached as long as nobody tried to
-pub record IsKeeping (state : State) (store : Store) : Type 0 where
+-- its state is sound, and may be attached as long as nobody tried to; its indexes are of its tables
+pub record IsKeeping (state : State) (store : Store) (indexes : Option TableIndexes) : Type 0 where
   pub sound : IsSound state
+  pub indexed : AreIndexesIfMade state.tables indexes
   pub called : IsTrue store.attached → IsTrue store.called
   pub stored : store.called ≡ false → IsStored store.schema state
 
@@ -76,4 +82,11 @@ abbrev pub after_attach : Option (List ℕ) → List ℕ → ℕ → KeeperState
 after_attach name schema models k = record k {
   state = attached_state k.store.schema models k.state;
   store = record { called = true; attached = true; schema = Some schema; name = name };
+}
+
+-- what a reshape leaves that is accepted
+abbrev pub after_reshape : Change → List ℕ → ℕ → KeeperState → KeeperState
+after_reshape change schema models k = record (after_apply k) {
+  state = widened models (applied change k.state);
+  store = record k.store { schema = Some schema };
 }

@@ -10,3 +10,5 @@ pub mod Opened
 pub mod Schema
 pub mod Attaching
 pub mod Holding
+pub mod Indexed
+pub mod Reshaping

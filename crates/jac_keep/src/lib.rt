@@ -3,6 +3,7 @@
 
 mod alteration;
 mod exchange;
+mod gathering;
 mod keeper;
 mod laws;
 mod masking;
@@ -10,11 +11,12 @@ mod memory_keeper;
 mod opening;
 mod places;
 mod placing;
-mod rising;
 mod scanning;
 mod schema;
 mod splitting;
 mod stop;
+mod table_index;
+mod table_indexes;
 mod vault;
 mod work;
 
@@ -22,8 +24,10 @@ pub use alteration::{Alteration, Alterations, Change};
 pub use keeper::Keeper;
 pub use laws::{record_after_change, sound_after_change, sound_if_good};
 pub use memory_keeper::MemoryKeeper;
+pub use placing::is_in_order;
 pub use scanning::holders;
 pub use schema::{one_schema, shape_of};
 pub use stop::Stop;
+pub use table_indexes::TableIndexes;
 pub use vault::{AttachFault, Vault};
 pub use work::{Overlay, Work, WorkOver};

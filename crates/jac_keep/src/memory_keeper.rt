@@ -1,4 +1,5 @@
 ghost use Rattle.std.specs.Prelude.{◌≡◌, ◌≤◌, ◌^◌, ◌↔◌, ◌++◌, ◌∷◌, [], ℕ, List, Some, None, Err, true, false, IfOk, IfSome, OnOk, OnErr, IsTrue, IsErrOf, length};
+ghost use Rattle.jac_rows.specs.declared.row.Row.{Row as Seen};
 ghost use Rattle.std.specs.Option.{option_copied};
 ghost use Rattle.jac_rows.specs.Good.{ModelShape};
 ghost use Rattle.jac_value.specs.Ids.{model_of_id};
@@ -6,25 +7,27 @@ ghost use Rattle.jac_rows.specs.Good.{IsSound};
 ghost use Rattle.jac_rows.specs.Tables.{rows_of};
 ghost use Rattle.jac_keep.specs.Records.{alternatives};
 ghost use Rattle.jac_keep.specs.Holding.{holders};
+ghost use Rattle.jac_keep.specs.Indexed.{AreIndexesOf, AreIndexesIfMade};
+ghost use Rattle.jac_keep.specs.Alterations.{overlaid};
 ghost use Rattle.jac_keep.specs.Cause.{HasCause};
 ghost use Rattle.jac_keep.specs.KeeperSeen.{Keeps, Reads};
 ghost use Rattle.jac_keep.specs.Kept.{applied};
 ghost use Rattle.jac_keep.specs.Attaching.{Attaches};
-ghost use Rattle.jac_keep.specs.Schema.{IsSchema, empties};
+ghost use Rattle.jac_keep.specs.Reshaping.{widened, Reshapes};
+ghost use Rattle.jac_keep.specs.Schema.{IsSchema, IsFit, empties};
 ghost use Rattle.jac_keep.specs.declared.vault.AttachFault.TheVariants.{Failed, Other};
 
-use crate::opening::alter_tables;
+use crate::opening::{alter_tables, reshape_tables, widen};
 use crate::places::place_in;
-use crate::scanning::holders;
-use crate::{Alterations, AttachFault, Change, Keeper, Stop, Vault, shape_of};
+use crate::{Alteration, AttachFault, Change, Keeper, Stop, TableIndexes, Vault, shape_of};
 use jac_io::Calls;
-use jac_rows::{Row, Rows, State, Table, Tables};
-use jac_value::{Id, Kinds, Memory, Txt, Value, id_model};
+use jac_rows::{Row, Rows, State, Tables};
+use jac_value::{Id, Memory, Txt, Value, id_model};
 use std::alloc::Global;
 use std::marker::Model;
 
 /// A keeper in memory, which tells its state. A call fails where it is a listed one. Reads are the calls of
-/// `number`, `rows` and `one`; they and the applies are counted apart, from 1.
+/// `number`, `rows`, `rows_with` and `one`; they are counted apart from the applies, a reshape among these, from 1.
 #[derive(Debug, Drop)]
 pub struct MemoryKeeper {
     called: bool,
@@ -32,6 +35,8 @@ pub struct MemoryKeeper {
     schema: Option<Txt>,
     name: Option<Txt>,
     state: State,
+    // Of the fields that `rows_with` was asked for, once it was; of no table that changed since.
+    indexes: Option<TableIndexes>,
     fail_reads: Calls,
     fail_applies: Calls,
     reads: u64,
@@ -46,7 +51,7 @@ impl Model for MemoryKeeper {
 
     ghost view = { λ k. record { state = k.state; store = record { called = k.called; attached = k.attached; schema = k.schema; name = k.name }; fail_reads = k.fail_reads; fail_applies = k.fail_applies; reads = k.reads; applies = k.applies; faults = k.faults } };
 
-    ghost invariant = { λ k. IsKeeping k.state (record { called = k.called; attached = k.attached; schema = k.schema; name = k.name }) };
+    ghost invariant = { λ k. IsKeeping k.state (record { called = k.called; attached = k.attached; schema = k.schema; name = k.name }) k.indexes };
 }
 
 impl MemoryKeeper {
@@ -68,6 +73,7 @@ impl MemoryKeeper {
             schema,
             name: None,
             state,
+            indexes: None,
             fail_reads,
             fail_applies,
             reads: 0,
@@ -87,6 +93,7 @@ impl MemoryKeeper {
             schema: None,
             name: None,
             state,
+            indexes: None,
             fail_reads,
             fail_applies,
             reads: 0,
@@ -105,6 +112,7 @@ impl MemoryKeeper {
 
 impl MemoryKeeper {
     ghost use Rattle.jac_keep.specs.KeeperState.{read_fails, after_read};
+    ghost use Rattle.jac_keep.specs.KeeperState.{apply_fails, after_apply};
 
     // Counts a read, and stops it if it is listed.
     fn count_read(&mut self) -> Result<(), Stop>
@@ -115,6 +123,22 @@ impl MemoryKeeper {
     {
         self.reads = self.reads.saturating_add(1);
         let listed = self.fail_reads.lists(self.reads);
+        if listed {
+            self.faults = self.faults.saturating_add(1);
+            return Err(Stop::Keeper);
+        }
+        Ok(())
+    }
+
+    // Counts an apply, and stops it if it is listed.
+    fn count_apply(&mut self) -> Result<(), Stop>
+        ensures left { self.new ≡ after_apply self.old }
+        ensures stopped { IsErrOf result Stop.Keeper ↔ IsTrue (apply_fails self.old) }
+        ensures good { IsSound self.new.state }
+        ensures cause { HasCause self.old.faults self.new.faults result }
+    {
+        self.applies = self.applies.saturating_add(1);
+        let listed = self.fail_applies.lists(self.applies);
         if listed {
             self.faults = self.faults.saturating_add(1);
             return Err(Stop::Keeper);
@@ -174,7 +198,7 @@ impl Keeper for MemoryKeeper {
         ensures reads { Reads (seen_keeper self.old) (seen_keeper self.new) result }
     {
         self.count_read()?;
-        let rows = holders(alloc, self.state.tables.rows(model), field, value)?;
+        let rows = find(alloc, &self.state, &mut self.indexes, model, field, value)?;
         Ok(rows)
     }
 
@@ -186,20 +210,16 @@ impl Keeper for MemoryKeeper {
         ensures stopped { IsErrOf result Stop.Keeper ↔ IsTrue (apply_fails self.old) }
         ensures kept { Keeps (seen_keeper self.old) (seen_keeper self.new) result }
     {
-        self.applies = self.applies.saturating_add(1);
-        let listed = self.fail_applies.lists(self.applies);
-        if listed {
-            self.faults = self.faults.saturating_add(1);
-            return Err(Stop::Keeper);
-        }
+        self.count_apply()?;
         alter_tables(alloc, &mut self.state.tables, &change.changed)?;
         self.state.number = change.number;
+        forget(&mut self.indexes, change.changed.as_slice());
         Ok(())
     }
 }
 
 impl Vault for MemoryKeeper {
-    ghost use Rattle.jac_keep.specs.KeeperState.{after_attach, after_refusal, seen_keeper};
+    ghost use Rattle.jac_keep.specs.KeeperState.{after_attach, after_refusal, after_apply, after_reshape, apply_fails, seen_keeper};
 
     /// It never fails, and keeps the name without using it.
     fn attach(&mut self, alloc: Global, name: Option<&Txt>, schema: &Txt) -> Result<(), AttachFault>
@@ -224,6 +244,26 @@ impl Vault for MemoryKeeper {
             }
         }
     }
+
+    /// It is one of the applies.
+    fn reshape(&mut self, alloc: Global, change: &Change, schema: &Txt) -> Result<(), Stop>
+        requires attached { IsTrue self.old.store.attached }
+        requires schema { (shapes : List ModelShape) × IsSchema schema.now shapes
+            × (IsTrue (seen_keeper self.old).tells → IsFit shapes (widened (length shapes) (applied change.now (seen_keeper self.old).state))) }
+        ensures ok { OnOk result ((shapes : List ModelShape) → IsSchema schema.now shapes → self.new ≡ after_reshape change.now schema.now (length shapes) self.old) }
+        ensures err { OnErr result (self.new ≡ after_apply self.old) }
+        ensures stopped { IsErrOf result Stop.Keeper ↔ IsTrue (apply_fails self.old) }
+        ensures reshapes { Reshapes (seen_keeper self.old) (seen_keeper self.new) change.now schema.now result }
+    {
+        self.count_apply()?;
+        let models = count_models(alloc, schema)?;
+        let schema = schema.copy(alloc)?;
+        reshape_tables(alloc, &mut self.state.tables, &change.changed, models)?;
+        self.state.number = change.number;
+        self.schema = Some(schema);
+        self.indexes = None;
+        Ok(())
+    }
 }
 
 impl MemoryKeeper {
@@ -233,6 +273,7 @@ impl MemoryKeeper {
         ensures { self.new ≡ record self.old { state = record self.old.state { tables = made.tables }; store = record { called = true; attached = true; schema = Some made.schema; name = name } } }
     {
         self.state.tables = made.tables;
+        self.indexes = None;
         self.schema = Some(made.schema);
         self.name = name;
         self.called = true;
@@ -287,23 +328,20 @@ fn new_tables(alloc: Global, schema: &Txt) -> Result<Tables, Memory>
     requires { (shapes : List ModelShape) × IsSchema schema.now shapes }
     ensures { IfOk result (λ tables. (shapes : List ModelShape) → IsSchema schema.now shapes → tables ≡ empties (length shapes)) }
 {
-    match shape_of(alloc, schema)? {
-        Some(shape) => {
-            let tables = empty_tables(alloc, shape.kinds.as_slice())?;
-            Ok(tables)
-        }
-        None => unreachable!(),
-    }
+    let models = count_models(alloc, schema)?;
+    let room = Vec::with_capacity(alloc, models)?;
+    Ok(Tables::from_vec(widen(alloc, room, models)))
 }
 
-fn empty_tables(alloc: Global, models: &[Kinds]) -> Result<Tables, Memory>
-    ensures { IfOk result (λ tables. tables ≡ empties (length models.now)) }
+// How many models the schema has.
+fn count_models(alloc: Global, schema: &Txt) -> Result<usize, Memory>
+    requires { (shapes : List ModelShape) × IsSchema schema.now shapes }
+    ensures { IfOk result (λ models. (shapes : List ModelShape) → IsSchema schema.now shapes → models ≡ length shapes) }
 {
-    let mut tables = Vec::new(alloc);
-    'models: for _model in models {
-        tables.push(Table::empty(alloc))?;
+    match shape_of(alloc, schema)? {
+        Some(shape) => Ok(shape.kinds.as_slice().len()),
+        None => unreachable!(),
     }
-    Ok(Tables::from_vec(tables))
 }
 
 fn copy_name(alloc: Global, name: Option<&Txt>) -> Result<Option<Txt>, Memory>
@@ -315,6 +353,48 @@ fn copy_name(alloc: Global, name: Option<&Txt>) -> Result<Option<Txt>, Memory>
             Ok(Some(name))
         }
         None => Ok(None),
+    }
+}
+
+// All alternatives of each record of which one has the value at the field. The first question for a field makes its
+// index.
+fn find(
+    alloc: Global,
+    state: &State,
+    indexes: &mut Option<TableIndexes>,
+    model: u8,
+    field: u8,
+    value: &Value,
+) -> Result<Rows, Memory>
+    requires sound { IsSound state.now }
+    requires indexed { AreIndexesIfMade state.now.tables indexes.old }
+    ensures found { IfOk result (λ rows. rows ≡ holders field value.now (rows_of state.now.tables model)) }
+    ensures indexed { AreIndexesIfMade state.now.tables indexes.new }
+{
+    let rows = state.tables.rows(model);
+    let mut made = take_indexes(alloc, indexes);
+    let found = made.find(alloc, rows, model, field, value);
+    *indexes = Some(made);
+    found
+}
+
+// The indexes, or none yet.
+fn take_indexes(alloc: Global, indexes: &mut Option<TableIndexes>) -> TableIndexes
+    ensures { (tables : List (List Seen)) → AreIndexesIfMade tables indexes.old → AreIndexesOf tables result }
+{
+    match indexes.take() {
+        Some(made) => made,
+        None => TableIndexes::none(alloc),
+    }
+}
+
+// The indexes of the altered records' tables are gone.
+fn forget(indexes: &mut Option<TableIndexes>, changed: &[Alteration])
+    ensures { (tables : List (List Seen)) → AreIndexesIfMade tables indexes.old → AreIndexesIfMade (overlaid changed.now tables) indexes.new }
+{
+    match indexes {
+        Some(made) => made.forget(changed),
+        None => (),
     }
 }
 

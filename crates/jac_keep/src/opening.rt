@@ -1,9 +1,10 @@
 //! Tables whose rows are taken out, given room, altered and put back.
-ghost use Rattle.std.specs.Prelude.{◌≡◌, ◌+◌, ◌≤◌, ◌++◌, ◌∷◌, [], Bool, if◌then◌else◌, length, vec_len, vec_capacity, IfOk, OnOk, OnErr, IsTrue};
+ghost use Rattle.std.specs.Prelude.{◌≡◌, ◌+◌, ◌-◌, ◌≤◌, ◌++◌, ◌∷◌, [], Bool, if◌then◌else◌, length, vec_len, vec_capacity, IfOk, OnOk, OnErr, IsTrue};
 ghost use Rattle.std.specs.List.{AllByRecursion};
 ghost use Rattle.jac_rows.specs.Good.{AreRising};
 ghost use Rattle.jac_keep.specs.Records.{AreOrdered};
 ghost use Rattle.jac_keep.specs.Alterations.{AreOwn, of_model, placed_each, brought, overlaid};
+ghost use Rattle.jac_keep.specs.Schema.{empties};
 ghost use Rattle.jac_keep.specs.Sound.{AreTables};
 ghost use Rattle.jac_keep.specs.Opened.{rows_in, rows_after, IsReady, AreReady, CanPlace};
 
@@ -29,13 +30,46 @@ pub fn alter_tables(alloc: Global, tables: &mut Tables, changed: &Alterations) -
     ensures ok { OnOk result (tables.new ≡ overlaid changed.now tables.old) }
     ensures err { OnErr result (tables.new ≡ tables.old) }
 {
+    reshape_tables(alloc, tables, changed, 0)
+}
+
+/// The same, and empty tables are added until there are so many.
+pub fn reshape_tables(
+    alloc: Global,
+    tables: &mut Tables,
+    changed: &Alterations,
+    models: usize,
+) -> Result<(), Memory>
+    requires rising { AreTables tables.old }
+    requires stay { AreTables (overlaid changed.now tables.old) }
+    ensures ok { OnOk result (tables.new ≡ overlaid changed.now tables.old ++ empties (models - length (overlaid changed.now tables.old))) }
+    ensures err { OnErr result (tables.new ≡ tables.old) }
+{
     let count = tables.as_slice().len();
     let opened = Vec::with_capacity(alloc, count)?;
-    let closed = Vec::with_capacity(alloc, count)?;
+    let closed = Vec::with_capacity(alloc, count.max(models))?;
     let old = replace(tables, Tables::empty(alloc)).into_vec();
     let (opened, ready) = open_all(alloc, old, changed.as_slice(), opened);
-    *tables = Tables::from_vec(close_all(opened, ready, closed));
-    if ready { Ok(()) } else { Err(Memory) }
+    let closed = close_all(opened, ready, closed);
+    if ready {
+        *tables = Tables::from_vec(widen(alloc, closed, models));
+        Ok(())
+    } else {
+        *tables = Tables::from_vec(closed);
+        Err(Memory)
+    }
+}
+
+/// The tables, and empty ones behind them until there are so many. It takes no memory.
+pub fn widen(alloc: Global, tables: Vec<Table>, models: usize) -> Vec<Table>
+    requires { models ≤ vec_capacity tables }
+    ensures { result.items ≡ tables.items ++ empties (models - length tables.items) }
+{
+    let mut tables = tables;
+    'models: while tables.len() < models {
+        tables.push_reserved(Table::empty(alloc));
+    }
+    tables
 }
 
 // The tables' rows and copies of the alterations, and whether there was memory for all.
@@ -81,7 +115,8 @@ fn close_all(opened: Vec<Opened>, ready: bool, closed: Vec<Table>) -> Vec<Table>
     requires room { length opened.items ≤ vec_capacity closed }
     requires can { IsTrue ready → AllByRecursion CanPlace opened.items }
     requires rising { AreTables (rows_after ready opened.items) }
-    ensures { result.items ≡ rows_after ready opened.items }
+    ensures rows { result.items ≡ rows_after ready opened.items }
+    ensures capacity { vec_capacity result ≡ vec_capacity closed }
 {
     let mut tables = closed;
     'opened: for one in opened {

@@ -27,8 +27,8 @@ pub fn alter_rows(
     }
 }
 
-// Whether the ids don't fall.
-fn is_in_order(rows: &[Row]) -> bool
+/// Whether the ids don't fall.
+pub fn is_in_order(rows: &[Row]) -> bool
     ensures { result ≡ are_in_order 0 rows.now }
 {
     let mut last = Id(0);

@@ -1,12 +1,12 @@
 //! The records of a table of which an alternative has a cell, by a scan that copies no other row.
 ghost use Rattle.std.specs.Prelude.{◌≡◌, ◌==◌, ◌&&◌, ◌||◌, ◌++◌, ◌∷◌, [], ℕ, IfOk, OnOk};
-ghost use Rattle.jac_world.specs.World.{shown, IsAscending};
+ghost use Rattle.jac_world.specs.World.{shown};
 ghost use Rattle.jac_keep.specs.Records.{with_id};
 ghost use Rattle.jac_keep.specs.Holding.{has_cell, holds_cell, holders};
 
-use crate::rising::{add_id, is_among};
+use jac_index::RisingIds;
 use jac_rows::{Row, Rows};
-use jac_value::{Id, Memory, Value};
+use jac_value::{Memory, Value};
 use std::alloc::Global;
 
 /// All alternatives of each record of which one has the value at the field, in their order.
@@ -14,16 +14,15 @@ pub fn holders(alloc: Global, rows: &[Row], field: u8, value: &Value) -> Result<
     ensures { IfOk result (λ found. found ≡ holders field value.now rows.now) }
 {
     let ids = holding(alloc, rows, field, value)?;
-    let found = copies_of(alloc, rows, ids.as_slice())?;
+    let found = copies_of(alloc, rows, &ids)?;
     Ok(Rows::from_vec(found))
 }
 
 // The ids of the records of which an alternative has the value.
-fn holding(alloc: Global, rows: &[Row], field: u8, value: &Value) -> Result<Vec<Id>, Memory>
-    ensures held { IfOk result (λ ids. (k : ℕ) → shown ids.items k ≡ holds_cell field value.now rows.now k) }
-    ensures ascending { IfOk result (λ ids. IsAscending ids.items) }
+fn holding(alloc: Global, rows: &[Row], field: u8, value: &Value) -> Result<RisingIds, Memory>
+    ensures { IfOk result (λ ids. (k : ℕ) → shown ids k ≡ holds_cell field value.now rows.now k) }
 {
-    let mut ids = Vec::new(alloc);
+    let mut ids = RisingIds::empty(alloc);
     'rows: for row in rows {
         add_if(&mut ids, row, field, value)?;
     }
@@ -31,13 +30,11 @@ fn holding(alloc: Global, rows: &[Row], field: u8, value: &Value) -> Result<Vec<
 }
 
 // Adds the row's id if it has the value.
-fn add_if(ids: &mut Vec<Id>, row: &Row, field: u8, value: &Value) -> Result<(), Memory>
-    requires { IsAscending ids.old.items }
-    ensures added { OnOk result ((k : ℕ) → shown ids.new.items k ≡ ((row.now.id == k && has_cell field value.now row.now) || shown ids.old.items k)) }
-    ensures ascending { IsAscending ids.new.items }
+fn add_if(ids: &mut RisingIds, row: &Row, field: u8, value: &Value) -> Result<(), Memory>
+    ensures { OnOk result ((k : ℕ) → shown ids.new k ≡ ((row.now.id == k && has_cell field value.now row.now) || shown ids.old k)) }
 {
     if has_cell(row, field, value) {
-        add_id(ids, row.id)
+        ids.add(row.id)
     } else {
         Ok(())
     }
@@ -54,8 +51,7 @@ pub(crate) fn has_cell(row: &Row, field: u8, value: &Value) -> bool
 }
 
 // Copies of the rows whose ids are among these.
-fn copies_of(alloc: Global, rows: &[Row], ids: &[Id]) -> Result<Vec<Row>, Memory>
-    requires { IsAscending ids.now }
+fn copies_of(alloc: Global, rows: &[Row], ids: &RisingIds) -> Result<Vec<Row>, Memory>
     ensures { IfOk result (λ v. v.items ≡ with_id (shown ids.now) rows.now) }
 {
     let mut found = Vec::new(alloc);
@@ -66,11 +62,15 @@ fn copies_of(alloc: Global, rows: &[Row], ids: &[Id]) -> Result<Vec<Row>, Memory
 }
 
 // Adds a copy of the row if its id is among these.
-fn add_if_among(alloc: Global, found: &mut Vec<Row>, row: &Row, ids: &[Id]) -> Result<(), Memory>
-    requires { IsAscending ids.now }
+fn add_if_among(
+    alloc: Global,
+    found: &mut Vec<Row>,
+    row: &Row,
+    ids: &RisingIds,
+) -> Result<(), Memory>
     ensures { OnOk result (found.new.items ≡ found.old.items ++ with_id (shown ids.now) (row.now ∷ [])) }
 {
-    if is_among(ids, row.id) {
+    if ids.has(row.id) {
         let copy = row.copy(alloc)?;
         found.push(copy)?;
     }

@@ -79,8 +79,8 @@ fn add_row(low: &mut Vec<Row>, high: &mut Vec<Row>, id: Id, row: Row) -> Result<
     Ok(())
 }
 
-// Adds copies of the rows.
-fn add_copies(alloc: Global, rows: &mut Vec<Row>, new: &[Row]) -> Result<(), Memory>
+/// Adds copies of the rows.
+pub(crate) fn add_copies(alloc: Global, rows: &mut Vec<Row>, new: &[Row]) -> Result<(), Memory>
     ensures { OnOk result (rows.new.items ≡ rows.old.items ++ new.now) }
 {
     'new: for row in new {

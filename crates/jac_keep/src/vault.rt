@@ -1,11 +1,13 @@
-ghost use Rattle.std.specs.Prelude.{◌≡◌, List, Option, IsTrue, IfOk, false};
+ghost use Rattle.std.specs.Prelude.{◌≡◌, List, Option, IsTrue, IfOk, length, false};
 ghost use Rattle.std.specs.Option.{option_copied};
 ghost use Rattle.jac_rows.specs.Good.{ModelShape};
-ghost use Rattle.jac_keep.specs.Schema.{IsSchema};
+ghost use Rattle.jac_keep.specs.Kept.{applied};
+ghost use Rattle.jac_keep.specs.Schema.{IsSchema, IsFit};
 ghost use Rattle.jac_keep.specs.Attaching.{Attaches};
+ghost use Rattle.jac_keep.specs.Reshaping.{widened, Reshapes};
 ghost use Rattle.jac_keep.specs.declared.vault.AttachFault.TheVariants as faults;
 
-use crate::Keeper;
+use crate::{Change, Keeper, Stop};
 use jac_value::{Memory, Txt};
 use std::alloc::Global;
 
@@ -35,4 +37,12 @@ pub trait Vault: Keeper {
         requires first { (Self.seen self.old).store.called ≡ false }
         requires schema { (shapes : List ModelShape) × IsSchema schema.now shapes }
         ensures { Attaches (Self.seen self.old) (Self.seen self.new) (option_copied name.entry) schema.now result };
+
+    /// Applies the change, keeps this schema from now on, and gives each model that it adds an empty table, all or
+    /// nothing. The change names records of the models that the store has; the schema begins with these models.
+    fn reshape(&mut self, alloc: Global, change: &Change, schema: &Txt) -> Result<(), Stop>
+        requires attached { IsTrue (Self.seen self.old).store.attached }
+        requires schema { (shapes : List ModelShape) × IsSchema schema.now shapes
+            × (IsTrue (Self.seen self.old).tells → IsFit shapes (widened (length shapes) (applied change.now (Self.seen self.old).state))) }
+        ensures { Reshapes (Self.seen self.old) (Self.seen self.new) change.now schema.now result };
 }

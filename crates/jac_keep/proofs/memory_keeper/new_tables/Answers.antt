@@ -1,15 +1,9 @@
-use Rattle.std.proofs.Common.{rules, ◌≡◌, ◌∙◌, ap, sym, length}
-use Rattle.jac_keep.specs.Schema.{IsSchema, empties, shapes_by}
-use Rattle.jac_keep.proofs.SchemaLaws.{schema_one, length_shapes}
+use Rattle.std.proofs.Common.{◌≡◌, ◌∙◌, ◌-◌, arith, ◌++◌, List, length, ap}
+use Rattle.jac_rows.specs.declared.row.Row.{Row}
+use Rattle.jac_keep.specs.Schema.{empties}
 use Rattle.jac_keep.proofs.memory_keeper.new_tables.Goals as goal
-
-pub unreachable-requires : goal.unreachable-requires
-unreachable-requires c = c.in_ok-shape.ensures.none c.in-None.is c.requires.0 c.requires.1
 
 pub returns : goal.returns
 returns c shapes is =
-    let kinds = c.in-Some.shape.kinds in
-    let nested = c.in-Some.shape.nested in
-    let found : IsSchema c.args.schema.now (shapes_by kinds nested) = search rules in
-    let same : shapes_by kinds nested ≡ shapes = schema_one c.args.schema.now (shapes_by kinds nested) shapes found is in
-    c.in_ok-tables-in-Some.ensures ∙ (ap (λ ks. empties (length ks)) c.as_slice.ensures ∙ (ap empties (sym (length_shapes kinds nested)) ∙ ap (λ ss. empties (length ss)) same))
+    let all : c.in_ok-models.models - 0 ≡ c.in_ok-models.models = omega arith in
+    c.from_vec.ensures ∙ c.widen.ensures ∙ ap (λ (ts : List (List Row)). ts ++ empties (c.in_ok-models.models - length ts)) c.in_ok-room.ensures.items ∙ ap empties all ∙ ap empties (c.in_ok-models.ensures shapes is)

@@ -11,3 +11,4 @@ invariant-opened l =
     × AreTables (rows_after l.ready (into_iter_items l.one-iterator))
     × (IsTrue l.ready → AllByRecursion CanPlace (into_iter_items l.one-iterator))
     × (vec_len l.tables + length (into_iter_items l.one-iterator) ≤ vec_capacity l.tables)
+    × (vec_capacity l.tables ≡ vec_capacity l.fn.closed)

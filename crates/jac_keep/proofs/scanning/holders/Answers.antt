@@ -1,6 +1,5 @@
-use Rattle.std.proofs.Common.{◌∙◌, ap}
+use Rattle.std.proofs.Common.{◌∙◌}
 use Rattle.jac_world.specs.World.{shown}
-use Rattle.jac_keep.specs.Records.{with_id}
 use Rattle.jac_keep.proofs.PlacingLaws.{with_id-like}
 use Rattle.jac_keep.specs.Holding.{holds_cell}
 use Rattle.jac_keep.proofs.scanning.holders.Goals as goal
@@ -10,5 +9,4 @@ returns c =
     let rows = c.args.rows.now in
     c.from_vec.ensures
     ∙ c.in_ok-found.ensures
-    ∙ ap (λ ids. with_id (shown ids) rows) c.as_slice.ensures.value
-    ∙ with_id-like (shown c.in_ok-ids.ids.items) (holds_cell c.args.field c.args.value.now rows) rows c.in_ok-ids.ensures.held
+    ∙ with_id-like (shown c.in_ok-ids.ids) (holds_cell c.args.field c.args.value.now rows) rows c.in_ok-ids.ensures

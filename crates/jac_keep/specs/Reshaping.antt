@@ -1,0 +1,31 @@
+-- What bringing a store to another schema leaves.
+use Rattle.std.specs.Prelude.{◌≡◌, ℕ, ◌-◌, List, ◌++◌, Some, Result, OnOk, OnErr, IsTrue, length}
+use Rattle.jac_keep.specs.Cause.{HasCause}
+use Rattle.jac_rows.specs.Good.{ModelShape}
+use Rattle.jac_rows.specs.declared.state.State.{State}
+use Rattle.jac_keep.specs.declared.alteration.Change.{Change}
+use Rattle.jac_keep.specs.declared.stop.Stop.{Stop}
+use Rattle.jac_keep.specs.KeeperSeen.{KeeperSeen}
+use Rattle.jac_keep.specs.Kept.{applied}
+use Rattle.jac_keep.specs.Schema.{IsSchema, empties}
+
+-- the state, with empty tables behind its own where it is to have so many
+abbrev pub widened : ℕ → State → State
+widened models s = record s { tables = s.tables ++ empties (models - length s.tables) }
+
+-- the change is applied, the schema stored, and each model that it adds has an empty table
+pub record IsReshaped (old new : KeeperSeen) (change : Change) (schema : List ℕ) : Type 0 where
+  pub store : new.store ≡ record old.store { schema = Some schema }
+  pub state : IsTrue new.tells → (shapes : List ModelShape) → IsSchema schema shapes → new.state ≡ widened (length shapes) (applied change old.state)
+
+-- the state and the schema are as they were
+pub record IsUnshaped (old new : KeeperSeen) : Type 0 where
+  pub same_store : new.store ≡ old.store
+  pub same_state : IsTrue new.tells → new.state ≡ old.state
+
+-- it is all or nothing, and fails only where the count of faults rose
+pub record Reshapes (old new : KeeperSeen) (change : Change) (schema : List ℕ) (result : Result (Unit {0}) Stop) : Type 0 where
+  pub cause : HasCause old.faults new.faults result
+  pub told : IsTrue new.tells → IsTrue old.tells
+  pub ok : OnOk result (IsReshaped old new change schema)
+  pub err : OnErr result (IsUnshaped old new)
