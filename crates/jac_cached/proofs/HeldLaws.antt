@@ -1,44 +1,21 @@
 -- What keeps the tables that are held those of the keeper's state.
-use Rattle.std.proofs.Common.{◌≡◌, ℕ, zero, suc, ◌+◌, ◌==◌, ◌||◌, Bool, true, false, not, nat_lt, nat_le, if◌then◌else◌, IsTrue, List, [], ◌∷◌, take, drop, Option, Some, None, Result, Ok, Err, OnOk, OnErr, add-zero, refl, sym, ◌∙◌, ap, subst, arith}
+use Rattle.std.proofs.Common.{◌≡◌, ℕ, Bool, true, false, not, nat_lt, nat_le, if◌then◌else◌, IsTrue, List, take, drop, Option, Some, None, Result, Ok, Err, OnOk, OnErr, refl, sym, ◌∙◌, ap, subst}
 use Rattle.jac_value.specs.Ids.{model_of_id}
 use Rattle.jac_rows.specs.Good.{IsSound}
 use Rattle.jac_rows.specs.Tables.{rows_of}
 use Rattle.jac_rows.specs.declared.row.Row.{Row}
 use Rattle.jac_rows.specs.declared.state.State.{State}
-use Rattle.jac_keep.specs.declared.alteration.Alteration.{Alteration}
 use Rattle.jac_keep.specs.declared.alteration.Change.{Change}
 use Rattle.jac_keep.specs.declared.stop.Stop.{Stop}
-use Rattle.jac_keep.specs.Alterations.{altered, overlaid_from, overlaid}
+use Rattle.jac_keep.specs.Alterations.{alters}
 use Rattle.jac_keep.specs.KeeperSeen.{KeeperSeen, Keeps}
 use Rattle.jac_keep.specs.Kept.{applied}
 use Rattle.jac_keep.specs.Records.{AreOrdered, with_id, alternatives}
 use Rattle.jac_keep.proofs.Bisection.{own_through}
+use Rattle.jac_keep.proofs.Forgotten.{rows_unaltered}
 use Rattle.jac_keep.proofs.OrderLaws.{ordered_if_rising, ordered-with_id}
 use Rattle.jac_keep.proofs.SoundLaws.{rows_of_sound}
-use Rattle.jac_cached.specs.Held.{held, alters, IsTableIn, AreHeld}
-
-neither : (b c : Bool) → (b || c) ≡ false → (b ≡ false) × (c ≡ false)
-neither true c e = absurd cc
-neither false c e = (refl, e)
-
-altered_other : (model : ℕ) (changed : List Alteration) (rows : List Row) → alters model changed ≡ false → altered model changed rows ≡ rows
-altered_other model [] rows none = refl
-altered_other model (a ∷ rest) rows none =
-    let both = neither (model_of_id a.id == model) (alters model rest) none in
-    rw both.0 (altered_other model rest rows both.1)
-
-rows_unaltered_from : (first model : ℕ) (changed : List Alteration) (tables : List (List Row)) → alters (first + model) changed ≡ false
-    → rows_of (overlaid_from first changed tables) model ≡ rows_of tables model
-rows_unaltered_from first zero changed [] none = refl
-rows_unaltered_from first (suc model) changed [] none = refl
-rows_unaltered_from first zero changed (t ∷ tables) none = altered_other first changed t (rw (add-zero first) at none)
-rows_unaltered_from first (suc model) changed (t ∷ tables) none =
-    let next : first + suc model ≡ (first + 1) + model = omega arith in
-    rows_unaltered_from (first + 1) model changed tables (subst (λ m. alters m changed ≡ false) next none)
-
--- a change leaves the table of a model of which it alters no record
-rows_unaltered : (model : ℕ) (changed : List Alteration) (tables : List (List Row)) → alters model changed ≡ false → rows_of (overlaid changed tables) model ≡ rows_of tables model
-rows_unaltered model changed tables none = rows_unaltered_from 0 model changed tables (subst (λ m. alters m changed ≡ false) (omega arith) none)
+use Rattle.jac_cached.specs.Held.{held, IsTableIn, AreHeld}
 
 kept_table : (old new : State) (change : Change) (m : ℕ) (rows : List Row) (table : Option (List Row)) (b : Bool) → alters m change.changed ≡ b
     → (table ≡ Some rows → IsTableIn old m rows) → IsSound new → new ≡ applied change old

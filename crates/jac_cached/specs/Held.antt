@@ -1,11 +1,13 @@
 -- The tables that are held over a keeper.
-use Rattle.std.specs.Prelude.{◌≡◌, ℕ, Bool, false, ◌==◌, ◌||◌, List, [], ◌∷◌, Option, Some, None, slice_get, IsTrue}
-use Rattle.jac_value.specs.Ids.{model_of_id}
+use Rattle.std.specs.Prelude.{◌≡◌, ℕ, List, Option, Some, None, slice_get, IsTrue}
 use Rattle.jac_rows.specs.Good.{IsSound}
-use Rattle.jac_rows.specs.Tables.{rows_of}
+use Rattle.jac_rows.specs.Tables.{rows_of, rows_or_none}
 use Rattle.jac_rows.specs.declared.row.Row.{Row}
 use Rattle.jac_rows.specs.declared.state.State.{State}
-use Rattle.jac_keep.specs.declared.alteration.Alteration.{Alteration}
+use Rattle.jac_keep.specs.declared.table_index.TableIndex.{TableIndex}
+use Rattle.jac_keep.specs.declared.table_indexes.TableIndexes.{TableIndexes}
+use Rattle.jac_keep.specs.Indexed.{index_at, IsIndexOf}
+use Rattle.jac_keep.specs.Records.{AreOrdered}
 use Rattle.jac_keep.specs.KeeperSeen.{KeeperSeen}
 
 abbrev pub table_or_none : Option (Option (List Row)) → Option (List Row)
@@ -16,10 +18,15 @@ table_or_none (Some table) = table
 abbrev pub held : ℕ → List (Option (List Row)) → Option (List Row)
 held model tables = table_or_none (slice_get tables model)
 
--- whether a record of the model is altered
-abbrev pub alters : ℕ → List Alteration → Bool
-alters model [] = false
-alters model (a ∷ rest) = model_of_id a.id == model || alters model rest
+-- its rows, or none where it isn't held
+abbrev pub rows_held : ℕ → List (Option (List Row)) → List Row
+rows_held model tables = rows_or_none (held model tables)
+
+-- the tables that are held are by rising id, and the indexes are of these
+pub record IsHolding (tables : List (Option (List Row))) (indexes : TableIndexes) : Type 0 where
+  pub ordered : (model : ℕ) → AreOrdered (rows_held model tables)
+  pub indexed : (model : ℕ) (x : TableIndex) → index_at model indexes ≡ Some x
+      → IsIndexOf (rows_held model tables) x
 
 -- the rows are those of the model in a sound state
 pub record IsTableIn (s : State) (model : ℕ) (rows : List Row) : Type 0 where
@@ -28,4 +35,5 @@ pub record IsTableIn (s : State) (model : ℕ) (rows : List Row) : Type 0 where
 
 -- where the keeper tells, each table that is held is that of its state
 pub record AreHeld (seen : KeeperSeen) (tables : List (Option (List Row))) : Type 0 where
-  pub shown : IsTrue seen.tells → (model : ℕ) (rows : List Row) → held model tables ≡ Some rows → IsTableIn seen.state model rows
+  pub shown : IsTrue seen.tells → (model : ℕ) (rows : List Row) → held model tables ≡ Some rows
+      → IsTableIn seen.state model rows

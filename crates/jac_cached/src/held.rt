@@ -1,27 +1,35 @@
-//! The tables that are held, each at the place of its model.
-ghost use Rattle.std.specs.Prelude.{◌≡◌, ◌<◌, ◌==◌, ℕ, [], Some, None, length, if◌then◌else◌, OnOk, OnErr};
-ghost use Rattle.std.specs.Option.{option_copied};
-ghost use Rattle.jac_cached.specs.Held.{held, alters};
+//! The tables that are held, each at the place of its model, and their indexes.
+ghost use Rattle.std.specs.Prelude.{◌≡◌, ◌<◌, ◌==◌, ◌&&◌, ℕ, true, List, [], Some, None, length, if◌then◌else◌, IfOk, OnOk, OnErr};
+ghost use Rattle.std.specs.Option.{option_copied, option_map};
+ghost use Rattle.jac_rows.specs.declared.row.Row.{Row as Seen};
+ghost use Rattle.jac_keep.specs.Alterations.{alters};
+ghost use Rattle.jac_keep.specs.Holding.{holders};
+ghost use Rattle.jac_keep.specs.Records.{are_in_order};
+ghost use Rattle.jac_cached.specs.Held.{held, IsHolding};
 
-use jac_keep::Alteration;
+use jac_keep::{Alteration, TableIndexes, is_in_order};
 use jac_rows::Rows;
-use jac_value::{Memory, id_model};
+use jac_value::{Memory, Value, id_model};
 use std::alloc::Global;
 use std::marker::Model;
 
-/// The rows of the models whose tables are held.
+/// The rows of the models whose tables are held, and the indexes of the fields that were asked for.
 #[derive(Debug, Drop)]
 pub struct HeldTables {
     tables: Vec<Option<Rows>>,
+    indexes: TableIndexes,
 }
 
 impl Model for HeldTables {
     ghost use Rattle.std.specs.Prelude.{List, Option};
     ghost use Rattle.jac_rows.specs.declared.row.Row.{Row as Item};
+    ghost use Rattle.jac_cached.specs.Held.{IsHolding};
 
     ghost Value = { List (Option (List Item)) };
 
     ghost view = { λ h. h.tables.items };
+
+    ghost invariant = { λ h. IsHolding h.tables.items h.indexes };
 }
 
 impl HeldTables {
@@ -30,6 +38,7 @@ impl HeldTables {
     {
         HeldTables {
             tables: Vec::new(alloc),
+            indexes: TableIndexes::none(alloc),
         }
     }
 
@@ -37,38 +46,134 @@ impl HeldTables {
     pub fn find(&self, model: u8) -> Option<&Rows>
         ensures { option_copied result ≡ held model self.now }
     {
-        match self.tables.as_slice().get(usize::from(model)) {
-            Some(table) => match table {
-                Some(rows) => Some(rows),
-                None => None,
-            },
-            None => None,
-        }
+        table_of(self.tables.as_slice(), model)
     }
 
-    /// Holds these rows as the model's table.
+    /// All alternatives of each record of which one has the value at the field, if the model's
+    /// table is held. The first question for a field makes its index.
+    pub fn find_with(
+        &mut self,
+        alloc: Global,
+        model: u8,
+        field: u8,
+        value: &Value,
+    ) -> Result<Option<Rows>, Memory>
+        ensures found { IfOk result (λ found.
+            found ≡ option_map (holders field value.now) (held model self.old)) }
+        ensures held { OnErr result ((rows : List Seen) × (held model self.old ≡ Some rows)) }
+        ensures same { self.new ≡ self.old }
+    {
+        let tables = self.tables.as_slice();
+        find_in(alloc, tables, &mut self.indexes, model, field, value)
+    }
+
+    /// Holds these rows as the model's table, if they are by rising id.
     pub fn hold(&mut self, model: u8, rows: Rows) -> Result<(), Memory>
-        ensures put { OnOk result ((m : ℕ) → held m self.new ≡ (if model == m then Some rows else held m self.old)) }
+        ensures put { OnOk result ((m : ℕ) → held m self.new
+            ≡ (if model == m && are_in_order 0 rows then Some rows else held m self.old)) }
         ensures kept { OnErr result ((m : ℕ) → held m self.new ≡ held m self.old) }
     {
-        make_room(&mut self.tables, usize::from(model))?;
-        put_at(&mut self.tables, usize::from(model), Some(rows));
-        Ok(())
+        if is_in_order(rows.as_slice()) {
+            hold_in(&mut self.tables, &mut self.indexes, model, rows)
+        } else {
+            Ok(())
+        }
     }
 
     /// Holds the tables of the altered records no longer.
     pub fn forget(&mut self, changed: &[Alteration])
-        ensures { (m : ℕ) → held m self.new ≡ (if alters m changed.now then None else held m self.old) }
+        ensures { (m : ℕ) → held m self.new
+            ≡ (if alters m changed.now then None else held m self.old) }
     {
-        'changed: for alteration in changed {
-            forget_one(&mut self.tables, usize::from(id_model(alteration.id)));
-        }
+        forget_in(&mut self.tables, &mut self.indexes, changed);
     }
 
-    pub fn forget_all(&mut self)
+    pub fn forget_all(&mut self, alloc: Global)
         ensures { self.new ≡ [] }
     {
         self.tables.clear();
+        self.indexes = TableIndexes::none(alloc);
+    }
+}
+
+fn table_of(tables: &[Option<Rows>], model: u8) -> Option<&Rows>
+    ensures { option_copied result ≡ held model tables.now }
+{
+    match tables.get(usize::from(model)) {
+        Some(table) => match table {
+            Some(rows) => Some(rows),
+            None => None,
+        },
+        None => None,
+    }
+}
+
+fn find_in(
+    alloc: Global,
+    tables: &[Option<Rows>],
+    indexes: &mut TableIndexes,
+    model: u8,
+    field: u8,
+    value: &Value,
+) -> Result<Option<Rows>, Memory>
+    requires { IsHolding tables.now indexes.old }
+    ensures found { IfOk result (λ found.
+        found ≡ option_map (holders field value.now) (held model tables.now)) }
+    ensures held { OnErr result ((rows : List Seen) × (held model tables.now ≡ Some rows)) }
+    ensures holding { IsHolding tables.now indexes.new }
+{
+    match table_of(tables, model) {
+        Some(rows) => {
+            let found = indexes.find(alloc, rows.as_slice(), model, field, value)?;
+            Ok(Some(found))
+        }
+        None => Ok(None),
+    }
+}
+
+fn hold_in(
+    tables: &mut Vec<Option<Rows>>,
+    indexes: &mut TableIndexes,
+    model: u8,
+    rows: Rows,
+) -> Result<(), Memory>
+    requires holding { IsHolding tables.old.items indexes.old }
+    requires ordered { are_in_order 0 rows ≡ true }
+    ensures put { OnOk result ((m : ℕ) → held m tables.new.items
+        ≡ (if model == m then Some rows else held m tables.old.items)) }
+    ensures kept { OnErr result ((m : ℕ) → held m tables.new.items ≡ held m tables.old.items) }
+    ensures holding { IsHolding tables.new.items indexes.new }
+{
+    indexes.forget_one(model);
+    put_in(tables, model, rows)
+}
+
+fn put_in(tables: &mut Vec<Option<Rows>>, model: u8, rows: Rows) -> Result<(), Memory>
+    ensures put { OnOk result ((m : ℕ) → held m tables.new.items
+        ≡ (if model == m then Some rows else held m tables.old.items)) }
+    ensures kept { OnErr result ((m : ℕ) → held m tables.new.items ≡ held m tables.old.items) }
+{
+    make_room(tables, usize::from(model))?;
+    put_at(tables, usize::from(model), Some(rows));
+    Ok(())
+}
+
+fn forget_in(tables: &mut Vec<Option<Rows>>, indexes: &mut TableIndexes, changed: &[Alteration])
+    requires { IsHolding tables.old.items indexes.old }
+    ensures left { (m : ℕ) → held m tables.new.items
+        ≡ (if alters m changed.now then None else held m tables.old.items) }
+    ensures holding { IsHolding tables.new.items indexes.new }
+{
+    forget_each(tables, changed);
+    indexes.forget(changed);
+}
+
+fn forget_each(tables: &mut Vec<Option<Rows>>, changed: &[Alteration])
+    ensures { (m : ℕ) → held m tables.new.items
+        ≡ (if alters m changed.now then None else held m tables.old.items) }
+{
+    'changed: for alteration in changed {
+        forget_one(tables, usize::from(id_model(alteration.id)));
     }
 }
 
@@ -85,13 +190,15 @@ fn make_room(tables: &mut Vec<Option<Rows>>, at: usize) -> Result<(), Memory>
 
 fn put_at(tables: &mut Vec<Option<Rows>>, at: usize, table: Option<Rows>)
     requires { at < length tables.old.items }
-    ensures { (m : ℕ) → held m tables.new.items ≡ (if at == m then table else held m tables.old.items) }
+    ensures { (m : ℕ) → held m tables.new.items
+        ≡ (if at == m then table else held m tables.old.items) }
 {
     tables[at] = table;
 }
 
 fn forget_one(tables: &mut Vec<Option<Rows>>, at: usize)
-    ensures { (m : ℕ) → held m tables.new.items ≡ (if at == m then None else held m tables.old.items) }
+    ensures { (m : ℕ) → held m tables.new.items
+        ≡ (if at == m then None else held m tables.old.items) }
 {
     if at < tables.len() {
         put_at(tables, at, None);

@@ -1,4 +1,4 @@
-ghost use Rattle.std.specs.Prelude.{◌≡◌, ◌≤◌, ◌^◌, List, IfOk, OnOk, OnErr, IsTrue, false};
+ghost use Rattle.std.specs.Prelude.{◌≡◌, ◌≤◌, ◌^◌, List, length, IfOk, OnOk, OnErr, IsTrue, false};
 ghost use Rattle.std.specs.Option.{option_copied};
 ghost use Rattle.jac_value.specs.Ids.{model_of_id};
 ghost use Rattle.jac_rows.specs.Good.{ModelShape, IsSound};
@@ -7,8 +7,9 @@ ghost use Rattle.jac_keep.specs.Records.{alternatives};
 ghost use Rattle.jac_keep.specs.Holding.{holders};
 ghost use Rattle.jac_keep.specs.KeeperSeen.{Keeps, Reads};
 ghost use Rattle.jac_keep.specs.Kept.{applied};
-ghost use Rattle.jac_keep.specs.Schema.{IsSchema};
+ghost use Rattle.jac_keep.specs.Schema.{IsSchema, IsFit};
 ghost use Rattle.jac_keep.specs.Attaching.{Attaches};
+ghost use Rattle.jac_keep.specs.Reshaping.{widened, Reshapes};
 
 use crate::held::HeldTables;
 use crate::places::own_rows;
@@ -18,8 +19,8 @@ use jac_value::{Id, Txt, Value, id_model};
 use std::alloc::Global;
 use std::marker::Model;
 
-/// A keeper over another one, seen as that one. It holds each table that was read, and reads the table and its
-/// records there, until a change names a record of the model.
+/// A keeper over another one, seen as that one. It holds each table that was read, and reads the
+/// table and its records there, until a change names a record of the model.
 #[derive(Drop)]
 pub struct CachedKeeper<K: Keeper> {
     keeper: K,
@@ -74,7 +75,8 @@ impl<K: Keeper> Keeper for CachedKeeper<K> {
         self.keeper.one(alloc, id)
     }
 
-    /// It reads the whole table where that isn't held, and holds it then.
+    /// It reads the whole table where that isn't held, and holds it then. A table that is held is
+    /// asked by an index.
     fn rows_with(
         &mut self,
         alloc: Global,
@@ -82,8 +84,7 @@ impl<K: Keeper> Keeper for CachedKeeper<K> {
         field: u8,
         value: &Value,
     ) -> Result<Rows, Stop> {
-        if let Some(rows) = self.tables.find(model) {
-            let found = holders(alloc, rows.as_slice(), field, value)?;
+        if let Some(found) = self.tables.find_with(alloc, model, field, value)? {
             return Ok(found);
         }
         let rows = self.keeper.rows(alloc, model)?;
@@ -106,7 +107,13 @@ impl<K: Vault> Vault for CachedKeeper<K> {
         name: Option<&Txt>,
         schema: &Txt,
     ) -> Result<(), AttachFault> {
-        self.tables.forget_all();
+        self.tables.forget_all(alloc);
         self.keeper.attach(alloc, name, schema)
+    }
+
+    /// It holds nothing afterwards.
+    fn reshape(&mut self, alloc: Global, change: &Change, schema: &Txt) -> Result<(), Stop> {
+        self.tables.forget_all(alloc);
+        self.keeper.reshape(alloc, change, schema)
     }
 }

@@ -1,5 +1,6 @@
 use Rattle.std.proofs.Common.{◌∙◌, None, if◌then◌else◌, ap}
-use Rattle.jac_cached.specs.Held.{held, alters}
+use Rattle.jac_keep.specs.Alterations.{alters}
+use Rattle.jac_cached.specs.Held.{held}
 use Rattle.jac_cached.proofs.HeldLaws.{held_after}
 use Rattle.jac_cached.proofs.keeper.CachedKeeperKeeper.apply.Goals as goal
 

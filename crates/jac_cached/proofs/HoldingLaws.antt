@@ -1,0 +1,99 @@
+-- What keeps the indexes those of the tables that are held.
+use Rattle.std.proofs.Common.{◌≡◌, ℕ, zero, suc, ◌==◌, Bool, true, false, if◌then◌else◌, List, [], ◌∷◌, Option, Some, None, Result, Ok, Err, OnOk, OnErr, refl, sym, ◌∙◌, subst}
+use Rattle.jac_value.specs.declared.memory.Memory.{Memory}
+use Rattle.jac_rows.specs.Tables.{rows_of, rows_or_none}
+use Rattle.jac_rows.specs.declared.row.Row.{Row}
+use Rattle.jac_keep.specs.declared.alteration.Alteration.{Alteration}
+use Rattle.jac_keep.specs.declared.table_index.TableIndex.{TableIndex}
+use Rattle.jac_keep.specs.declared.table_indexes.TableIndexes.{TableIndexes}
+use Rattle.jac_keep.specs.Alterations.{alters}
+use Rattle.jac_keep.specs.Indexed.{index_at, IsIndexOf, AreIndexesOf}
+use Rattle.jac_keep.specs.Records.{AreOrdered, are_in_order}
+use Rattle.jac_keep.proofs.OrderLaws.{ordered_if_tested}
+use Rattle.jac_cached.specs.Held.{held, rows_held, IsHolding}
+
+-- the tables that are held, and none for each other model
+abbrev pub all_held : List (Option (List Row)) → List (List Row)
+all_held [] = []
+all_held (t ∷ ts) = rows_or_none t ∷ all_held ts
+
+pub rows_of_all : (tables : List (Option (List Row))) (model : ℕ) → rows_of (all_held tables) model ≡ rows_held model tables
+rows_of_all [] zero = refl
+rows_of_all [] (suc model) = refl
+rows_of_all (t ∷ tables) zero = refl
+rows_of_all (t ∷ tables) (suc model) = rows_of_all tables model
+
+pub are_indexes : (tables : List (Option (List Row))) (indexes : TableIndexes) → IsHolding tables indexes → AreIndexesOf (all_held tables) indexes
+are_indexes tables indexes holding m x is = subst (λ (rows : List Row). IsIndexOf rows x) (sym (rows_of_all tables m)) (holding.indexed m x is)
+
+pub is_holding : (tables : List (Option (List Row))) (old new : TableIndexes) → IsHolding tables old → AreIndexesOf (all_held tables) new → IsHolding tables new
+is_holding tables old new holding right = record {
+  ordered = holding.ordered;
+  indexed = λ m x is. subst (λ (rows : List Row). IsIndexOf rows x) (rows_of_all tables m) (right m x is);
+}
+
+-- none is held
+pub holding_none : (indexes : TableIndexes) → ((tables : List (List Row)) → AreIndexesOf tables indexes) → IsHolding [] indexes
+holding_none indexes right = record {
+  ordered = λ m. subst AreOrdered (rows_of_all [] m) (none m);
+  indexed = λ m x is. subst (λ (rows : List Row). IsIndexOf rows x) (rows_of_all [] m) (right [] m x is);
+}
+  where
+    none : (m : ℕ) → AreOrdered (rows_of [] m)
+    none zero = tt
+    none (suc m) = tt
+
+-- a table that is no longer held has no index
+ordered_if : (b : Bool) (table : Option (List Row)) → AreOrdered (rows_or_none table) → AreOrdered (rows_or_none (if b then None else table))
+ordered_if true table ordered = tt
+ordered_if false table ordered = ordered
+
+indexed_if : (b : Bool) (table : Option (List Row)) (found : Option TableIndex) (x : TableIndex) → (found ≡ Some x → IsIndexOf (rows_or_none table) x)
+    → (if b then None else found) ≡ Some x → IsIndexOf (rows_or_none (if b then None else table)) x
+indexed_if true table found x indexed is = absurd cc
+indexed_if false table found x indexed is = indexed is
+
+pub holding_left : (changed : List Alteration) (before after : List (Option (List Row))) (old new : TableIndexes) → IsHolding before old
+    → ((m : ℕ) → held m after ≡ (if alters m changed then None else held m before)) → ((m : ℕ) → index_at m new ≡ (if alters m changed then None else index_at m old))
+    → IsHolding after new
+holding_left changed before after old new holding left gone = record {
+  ordered = λ m. subst (λ t. AreOrdered (rows_or_none t)) (sym (left m)) (ordered_if (alters m changed) (held m before) (holding.ordered m));
+  indexed = λ m x is.
+      subst (λ (t : Option (List Row)). IsIndexOf (rows_or_none t) x) (sym (left m))
+      (indexed_if (alters m changed) (held m before) (index_at m old) x (holding.indexed m x) (sym (gone m) ∙ is));
+}
+
+-- one more table, whose model has no index then
+ordered_put : (b : Bool) (rows : List Row) (table : Option (List Row)) → AreOrdered rows → AreOrdered (rows_or_none table)
+    → AreOrdered (rows_or_none (if b then Some rows else table))
+ordered_put true rows table new old = new
+ordered_put false rows table new old = old
+
+indexed_put : (b : Bool) (rows : List Row) (table : Option (List Row)) (found : Option TableIndex) (x : TableIndex) → (found ≡ Some x → IsIndexOf (rows_or_none table) x)
+    → (if b then None else found) ≡ Some x → IsIndexOf (rows_or_none (if b then Some rows else table)) x
+indexed_put true rows table found x indexed is = absurd cc
+indexed_put false rows table found x indexed is = indexed is
+
+indexed_same : (b : Bool) (table : Option (List Row)) (found : Option TableIndex) (x : TableIndex) → (found ≡ Some x → IsIndexOf (rows_or_none table) x)
+    → (if b then None else found) ≡ Some x → IsIndexOf (rows_or_none table) x
+indexed_same true table found x indexed is = absurd cc
+indexed_same false table found x indexed is = indexed is
+
+pub holding_put : (result : Result (Unit {0}) Memory) (model : ℕ) (rows : List Row) (before after : List (Option (List Row))) (old new : TableIndexes) → IsHolding before old
+    → are_in_order 0 rows ≡ true → ((m : ℕ) → index_at m new ≡ (if model == m then None else index_at m old))
+    → OnOk result ((m : ℕ) → held m after ≡ (if model == m then Some rows else held m before)) → OnErr result ((m : ℕ) → held m after ≡ held m before)
+    → IsHolding after new
+holding_put (Ok done) model rows before after old new holding order gone put kept = record {
+  ordered = λ m.
+      subst (λ t. AreOrdered (rows_or_none t)) (sym (put m))
+      (ordered_put (model == m) rows (held m before) (ordered_if_tested 0 rows order) (holding.ordered m));
+  indexed = λ m x is.
+      subst (λ (t : Option (List Row)). IsIndexOf (rows_or_none t) x) (sym (put m))
+      (indexed_put (model == m) rows (held m before) (index_at m old) x (holding.indexed m x) (sym (gone m) ∙ is));
+}
+holding_put (Err e) model rows before after old new holding order gone put kept = record {
+  ordered = λ m. subst (λ t. AreOrdered (rows_or_none t)) (sym (kept m)) (holding.ordered m);
+  indexed = λ m x is.
+      subst (λ (t : Option (List Row)). IsIndexOf (rows_or_none t) x) (sym (kept m))
+      (indexed_same (model == m) (held m before) (index_at m old) x (holding.indexed m x) (sym (gone m) ∙ is));
+}
