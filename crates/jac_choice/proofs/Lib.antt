@@ -1,0 +1,3 @@
+pub mod Narrowing
+pub mod Choosing
+pub mod Finding

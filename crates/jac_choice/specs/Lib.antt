@@ -1,0 +1,4 @@
+pub mod Asking
+pub mod Cut
+pub mod Fixed
+pub mod Found
