@@ -1,5 +1,6 @@
 pub mod AtTuples
 pub mod Bound
+pub mod FewerRows
 pub mod Joining
 pub mod Names
 pub mod Rows

@@ -1,3 +1,4 @@
 pub mod Leafed
+pub mod Searched
 pub mod Seen
 pub mod Tupled

@@ -10,6 +10,7 @@ mod naming;
 mod operations;
 mod product;
 mod reading;
+mod searching;
 mod sorting;
 mod standing;
 mod texts;

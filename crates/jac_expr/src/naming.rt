@@ -23,7 +23,11 @@ pub(crate) fn look_up(alloc: Global, env: &Env, name: &Txt) -> Result<Facet<Valu
     }
 }
 
-fn innermost<'e>(bindings: &'e [(Txt, Facet<Value>)], name: &Txt) -> Option<&'e Facet<Value>>
+// What the name is bound to.
+pub(crate) fn innermost<'e>(
+    bindings: &'e [(Txt, Facet<Value>)],
+    name: &Txt,
+) -> Option<&'e Facet<Value>>
     ensures { (w : ℕ → Bool) → shown_or_zero w (option_copied result) ≡ look (env_at w bindings.now) name.now }
 {
     let mut rest = bindings;
