@@ -1,3 +1,4 @@
+pub mod Beginning
 pub mod Bound
 pub mod Going
 pub mod Growing
@@ -11,3 +12,4 @@ pub mod Products
 pub mod Rows
 pub mod Running
 pub mod Working
+pub mod Chosen

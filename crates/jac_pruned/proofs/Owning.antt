@@ -28,16 +28,20 @@ use Rattle.jac_rows.specs.declared.state.State.{State}
 use Rattle.jac_rows.specs.Good.{IsRecord, IsShaped, AreTablesOf, have_kinds}
 use Rattle.jac_rows.specs.Project.{rows_at, project_at}
 use Rattle.jac_rows.specs.Tables.{rows_of}
-use Rattle.jac_keep.specs.Records.{alternatives}
+use Rattle.jac_keep.specs.Records.{alternatives, with_id}
+use Rattle.jac_keep.specs.Holding.{holders, holds_cell}
+use Rattle.jac_value.specs.contracts.value.ValuePartialEq.TheImpl as equality
+use Rattle.jac_pruned.specs.Wanted.{Wanted, behind_first, first_shown, firsts_wanted, rows_with_value, rows_wanted, shown_wanted, tuples_wanted}
 use Rattle.jac_plain.specs.Expressions.{mean, is_true, two, nearest, look_from, bound, binding, extended, crossed, tuples_from, kept_by, inserted, sorted, ordered, answers_by, is_less, key_of, summed, some_of, first_of, pick, is_single, model_of_binder}
 use Rattle.jac_pruned.specs.Local.{is_free, is_free_place, is_free_model, is_free_kind, is_free_field_at, is_free_field_in, is_free_viewer_of, is_free_viewer, are_free, is_free_order, refers_free, is_this, IsOwnLabel, IsOfViewers, IsLocalCase}
 use Rattle.jac_plain.specs.Models.{is_none, shapes_of, kinds_of_fields, shapes_of_models}
 use Rattle.jac_plain.specs.Policies.{is_some_group}
 use Rattle.jac_plain.specs.World.{World, records, rows_at_place, record_with, referred, cell_of, cell_named, got_of}
-use Rattle.jac_pruned.specs.Tupled.{first_bound, left_behind, lengthened, lengthened_all, with_last}
+use Rattle.jac_pruned.specs.Tupled.{first_bound, but_last, left_behind, lengthened, lengthened_all, row_ids}
+use Rattle.jac_pruned.specs.Begun.{IsBegun}
 use Rattle.jac_pruned.proofs.Bound.{bound-longer}
 use Rattle.jac_pruned.proofs.Rows.{rows_of-project}
-use Rattle.jac_pruned.specs.Own.{is_of, IsOwn, is_own_pair, names_own, has_own_guard, is_own_row, are_own_rows, is_own_table, reads_own, stands_own, table_at, table_named, are_own_tables, is_own_order, is_free_value, is_free_env, IsLocally}
+use Rattle.jac_pruned.specs.Own.{is_of, IsOwn, is_own_pair, names_own, has_own_guard, is_own_row, are_own_rows, is_own_table, reads_own, stands_own, table_at, table_named, are_own_tables, is_own_order, is_free_value, is_free_env, begins_free, IsLocally}
 
 -- tests of all
 
@@ -99,11 +103,48 @@ all_at p (y ∷ xs) x (suc i) item below h = all_at p xs x i item (omega (arith,
 pub all_head : {X : Type 0} (p : X → Bool) (x : X) (xs all : List X) → all ≡ x ∷ xs → list_all p all ≡ true → (p x ≡ true) × (list_all p xs ≡ true)
 all_head p x xs all e h = and_parts (p x) (list_all p xs) (ap (list_all p) (sym e) ∙ h)
 
-pub all_alternatives : (p : Row → Bool) (id : ℕ) (rows : List Row) → list_all p rows ≡ true → list_all p (alternatives id rows) ≡ true
-all_alternatives p id [] h = refl
-all_alternatives p id (r ∷ rows) h =
+pub all_with_id : (p : Row → Bool) (test : ℕ → Bool) (rows : List Row) → list_all p rows ≡ true → list_all p (with_id test rows) ≡ true
+all_with_id p test [] h = refl
+all_with_id p test (r ∷ rows) h =
     let a = and_parts (p r) (list_all p rows) h in
-    all_if p (r.id == id) r (alternatives id rows) a.0 (all_alternatives p id rows a.1)
+    all_if p (test r.id) r (with_id test rows) a.0 (all_with_id p test rows a.1)
+
+pub all_alternatives : (p : Row → Bool) (id : ℕ) (rows : List Row) → list_all p rows ≡ true → list_all p (alternatives id rows) ≡ true
+all_alternatives p id rows h = all_with_id p (λ i. i == id) rows h
+
+all_found : (p : Row → Bool) (b : Bool) (f : ℕ) (v : Value) (rows : List Row) → list_all p rows ≡ true → list_all p (if b then rows else holders f v rows) ≡ true
+all_found p true f v rows h = h
+all_found p false f v rows h = all_with_id p (holds_cell f v rows) rows h
+
+all_valued : (p : Row → Bool) (models : List Entity) (m : ℕ) (f : Option ℕ) (v : Value) (rows : List Row) → list_all p rows ≡ true → list_all p (rows_with_value models m f v rows) ≡ true
+all_valued p models m None v rows h = h
+all_valued p models m (Some f) v rows h = all_found p (equality.ghosts.eq (default_value (kind_at models (fields_at models m) f)) v) f v rows h
+
+-- what holds of all rows holds of the wanted ones
+pub all_wanted : (p : Row → Bool) (models : List Entity) (m : ℕ) (o : Option Wanted) (rows : List Row) → list_all p rows ≡ true → list_all p (rows_wanted models m o rows) ≡ true
+all_wanted p models m None rows h = h
+all_wanted p models m (Some s) rows h = all_valued p models m (field_place (fields_at models m) s.field) s.value rows h
+
+module _ (P : Row → Type 0) where
+  each_if : (b : Bool) (r : Row) (rows : List Row) → P r → AllByRecursion P rows → AllByRecursion P (if b then r ∷ rows else rows)
+  each_if true r rows h a = (h, a)
+  each_if false r rows h a = a
+
+  each_with_id : (test : ℕ → Bool) (rows : List Row) → AllByRecursion P rows → AllByRecursion P (with_id test rows)
+  each_with_id test [] a = tt
+  each_with_id test (r ∷ rows) a = each_if (test r.id) r (with_id test rows) a.0 (each_with_id test rows a.1)
+
+  each_found : (b : Bool) (f : ℕ) (v : Value) (rows : List Row) → AllByRecursion P rows → AllByRecursion P (if b then rows else holders f v rows)
+  each_found true f v rows a = a
+  each_found false f v rows a = each_with_id (holds_cell f v rows) rows a
+
+  each_valued : (models : List Entity) (m : ℕ) (f : Option ℕ) (v : Value) (rows : List Row) → AllByRecursion P rows → AllByRecursion P (rows_with_value models m f v rows)
+  each_valued models m None v rows a = a
+  each_valued models m (Some f) v rows a = each_found (equality.ghosts.eq (default_value (kind_at models (fields_at models m) f)) v) f v rows a
+
+  each_wanted : (models : List Entity) (m : ℕ) (o : Option Wanted) (rows : List Row) → AllByRecursion P rows → AllByRecursion P (rows_wanted models m o rows)
+  each_wanted models m None rows a = a
+  each_wanted models m (Some s) rows a = each_valued models m (field_place (fields_at models m) s.field) s.value rows a
 
 -- supports
 
@@ -307,6 +348,24 @@ module _ (app : Application) where
   first_free ([] ∷ tuples) h = refl
   first_free ((id ∷ ids) ∷ tuples) h = (and_parts (is_free_id id) (are_free_ids ids) (and_parts (are_free_ids (id ∷ ids)) (list_all are_free_ids tuples) h).0).0
 
+-- fewer binders
+
+behind_first_free : (models : List Entity) (bs : List Binder) → are_free models bs ≡ true → are_free models (behind_first bs) ≡ true
+behind_first_free models [] free = refl
+behind_first_free models (b ∷ bs) free = (and_parts (is_free_model models b.model) (are_free models bs) free).1
+
+but_last_free : (models : List Entity) (bs : List Binder) → are_free models bs ≡ true → are_free models (but_last bs) ≡ true
+but_last_free models [] free = refl
+but_last_free models (b ∷ []) free = refl
+but_last_free models (b ∷ (c ∷ bs)) free =
+    let a = and_parts (is_free_model models b.model) (are_free models (c ∷ bs)) free in
+    both (is_free_model models b.model) (are_free models (but_last (c ∷ bs))) a.0 (but_last_free models (c ∷ bs) a.1)
+
+pub left_free : (models : List Entity) (bs : List Binder) (ids : List ℕ) → are_free models bs ≡ true → are_free models (left_behind bs ids) ≡ true
+left_free models [] ids free = refl
+left_free models (b ∷ bs) [] free = free
+left_free models (b ∷ bs) (i ∷ ids) free = left_free models bs ids (and_parts (is_free_model models b.model) (are_free models bs) free).1
+
 -- what an assignment shows of a local state
 module _ (app : Application) (s : State) (viewer : Option ℕ) (case : IsLocalCase app s viewer) (u : ℕ → Bool) (this : Option ℕ) where
   abbrev seen : World
@@ -343,6 +402,44 @@ module _ (app : Application) (s : State) (viewer : Option ℕ) (case : IsLocalCa
 
   pub tuples_free : (bs : List Binder) → are_free app.models bs ≡ true → list_all (are_free_ids app) (tuples_from seen bs ([] ∷ [])) ≡ true
   tuples_free bs free = tuples_free_from bs ([] ∷ []) free refl
+
+  wanted_ids : (place : Option ℕ) (o : Option Wanted) → is_free_place app.models place ≡ true → AllByRecursion (λ (r : PlainRow). is_free_id app r.id ≡ true) (shown_wanted app.models u s.tables place o)
+  wanted_ids None o free = tt
+  wanted_ids (Some m) o free =
+      ids_free m (rows_at u (rows_wanted app.models m o (rows_of s.tables m))) free
+      (seen_rows m (rows_wanted app.models m o (rows_of s.tables m))
+      (each_wanted (λ (r : Row). IsRecord (shapes_of app) m case.next r.id r.cells) app.models m o (rows_of s.tables m) (records_of app s viewer case m)))
+
+  wanted_firsts : (bs : List Binder) (o : Option Wanted) → are_free app.models bs ≡ true → list_all (are_free_ids app) (firsts_wanted app.models u s.tables bs o) ≡ true
+  wanted_firsts [] o free = refl
+  wanted_firsts (b ∷ bs) o free =
+      crossed_free app ([] ∷ []) (shown_wanted app.models u s.tables (model_place app.models b.model) o) refl
+      (wanted_ids (model_place app.models b.model) o (and_parts (is_free_model app.models b.model) (are_free app.models bs) free).0)
+
+  pub wanted_free : (bs : List Binder) (o : Option Wanted) → are_free app.models bs ≡ true → list_all (are_free_ids app) (tuples_wanted seen u s.tables bs o) ≡ true
+  wanted_free bs o free =
+      tuples_free_from (behind_first bs) (firsts_wanted app.models u s.tables bs o) (behind_first_free app.models bs free) (wanted_firsts bs o free)
+
+  most_free : (bs : List Binder) (o : Option Wanted) → are_free app.models bs ≡ true →
+      list_all (are_free_ids app) (tuples_from seen (but_last (behind_first bs)) (firsts_wanted app.models u s.tables bs o)) ≡ true
+  most_free bs o free =
+      tuples_free_from (but_last (behind_first bs)) (firsts_wanted app.models u s.tables bs o)
+      (but_last_free app.models (behind_first bs) (behind_first_free app.models bs free)) (wanted_firsts bs o free)
+
+  each_bound : (env : List Binding) (name : List ℕ) (rows : List PlainRow) → is_free_env app env ≡ true → AllByRecursion (λ (r : PlainRow). is_free_id app r.id ≡ true) rows →
+      list_all (λ j. is_free_env app (env ++ binding name (value.Ref (Some j)) ∷ [])) (row_ids rows) ≡ true
+  each_bound env name [] h a = refl
+  each_bound env name (r ∷ rows) h a =
+      both (is_free_env app (env ++ binding name (value.Ref (Some r.id)) ∷ [])) (list_all (λ j. is_free_env app (env ++ binding name (value.Ref (Some j)) ∷ [])) (row_ids rows))
+      (env_with app env name r.id h a.0) (each_bound env name rows h a.1)
+
+  -- the wanted records of the first binder that is left are bound to its name
+  pub shown_free : (left : List Binder) (o : Option Wanted) (env : List Binding) → is_free_env app env ≡ true → are_free app.models left ≡ true →
+      list_all (λ j. is_free_env app (env ++ first_bound left (value.Ref (Some j)))) (row_ids (first_shown app.models u s.tables left o)) ≡ true
+  shown_free [] o env h free = refl
+  shown_free (b ∷ bs) o env h free =
+      each_bound env b.name (shown_wanted app.models u s.tables (model_place app.models b.model) o) h
+      (wanted_ids (model_place app.models b.model) o (and_parts (is_free_model app.models b.model) (are_free app.models bs) free).0)
 
   pub answers_free : (bs : List Binder) (o : Order) (cond : List Binding → Value) (env : List Binding) → are_free app.models bs ≡ true → list_all (are_free_ids app) (answers_by seen bs o cond env) ≡ true
   answers_free bs o cond env free =
@@ -521,23 +618,27 @@ pub bound_all : (app : Application) (bs : List Binder) (env : List Binding) (tup
     list_all (λ ids. is_free_env app (bound bs ids env)) tuples ≡ true
 bound_all app bs env tuples h free = all_less (are_free_ids app) (λ ids. is_free_env app (bound bs ids env)) (λ ids f. bound_free app bs ids env h f) tuples free
 
--- what passes for all tuples passes for those that one of them begins
-pub begun_at : (q : List ℕ → Bool) (last : Option (List ℕ)) (begun : List (List ℕ)) (ids : List ℕ) (i : ℕ) → ids ≡ get_or begun i ids → i < length begun →
-    list_all q (with_last last begun) ≡ true → list_all q (with_last last (ids ∷ [])) ≡ true
-begun_at q None begun ids i item below h = both (q ids) true (all_at q begun ids i item below h) refl
-begun_at q (Some js) [] ids i item below h = absurd (omega (arith, below))
-begun_at q (Some js) (t ∷ ts) ids zero item below h =
+each_lengthened : (q : List ℕ → Bool) (js : List ℕ) (ts : List (List ℕ)) → list_all q (lengthened_all ts js) ≡ true → list_all (λ ids. list_all q (lengthened ids js)) ts ≡ true
+each_lengthened q js [] h = refl
+each_lengthened q js (t ∷ ts) h =
     let a = and_parts (list_all q (lengthened t js)) (list_all q (lengthened_all ts js)) (sym (list_all-append q (lengthened t js) (lengthened_all ts js)) ∙ h) in
-    ap (λ l. list_all q (lengthened l js ++ [])) item ∙ all_append q (lengthened t js) [] a.0 refl
-begun_at q (Some js) (t ∷ ts) ids (suc i) item below h =
-    let a = and_parts (list_all q (lengthened t js)) (list_all q (lengthened_all ts js)) (sym (list_all-append q (lengthened t js) (lengthened_all ts js)) ∙ h) in
-    begun_at q (Some js) ts ids i item (omega (arith, below)) a.1
+    both (list_all q (lengthened t js)) (list_all (λ ids. list_all q (lengthened ids js)) ts) a.0 (each_lengthened q js ts a.1)
 
-pub one_whole : (q : List ℕ → Bool) (ids whole : List ℕ) → whole ≡ ids → list_all q (with_last None (ids ∷ [])) ≡ true → q whole ≡ true
-one_whole q ids whole same h = ap q same ∙ (and_parts (q ids) true h).0
-
-pub one_begun : (q : List ℕ → Bool) (ids js : List ℕ) → list_all q (with_last (Some js) (ids ∷ [])) ≡ true → list_all q (lengthened ids js) ≡ true
-one_begun q ids js h = ap (list_all q) (sym (append-nil (lengthened ids js))) ∙ h
+-- the tuples of a product begin free ones
+pub begun_free : (app : Application) (s : State) (viewer : Option ℕ) (case : IsLocalCase app s viewer) (u : ℕ → Bool) (this : Option ℕ) (bs : List Binder) (o : Option Wanted) (env : List Binding)
+    (last : Option (List ℕ)) (tuples : List (List ℕ)) → is_free_env app env ≡ true → are_free app.models bs ≡ true →
+    IsBegun (seen app s viewer case u this) (behind_first bs) (firsts_wanted app.models u s.tables bs o) last tuples → list_all (begins_free app bs env last) tuples ≡ true
+begun_free app s viewer case u this bs o env (Some js) tuples h free begun =
+    let q : List ℕ → Bool = λ ids. is_free_env app (bound bs ids env) in
+    each_lengthened q js tuples
+    (ap (list_all q) begun
+    ∙ bound_all app bs env (tuples_wanted (seen app s viewer case u this) u s.tables bs o) h (wanted_free app s viewer case u this bs o free))
+begun_free app s viewer case u this bs o env None tuples h free begun =
+    let q : List ℕ → Bool = λ ids. is_free_env app (bound bs ids env) in
+    let most = tuples_from (seen app s viewer case u this) (but_last (behind_first bs)) (firsts_wanted app.models u s.tables bs o) in
+    ap (list_all (begins_free app bs env None)) begun
+    ∙ all_less q (begins_free app bs env None) (λ ids f. both (q ids) (are_free app.models bs) f free) most
+    (bound_all app bs env most h (most_free app s viewer case u this bs o free))
 
 -- the tuple bound before, and then each last id
 pub last_free : (app : Application) (bs left : List Binder) (env inner : List Binding) (ids js : List ℕ) → inner ≡ bound bs ids env → left ≡ left_behind bs ids →

@@ -1,4 +1,5 @@
 pub mod Alike
+pub mod Begun
 pub mod Consulted
 pub mod Local
 pub mod Own
@@ -6,3 +7,4 @@ pub mod Places
 pub mod Runs
 pub mod Seen
 pub mod Tupled
+pub mod Wanted

@@ -14,8 +14,9 @@ use Rattle.jac_lang.specs.Syntax.{Expression, Expressions, Application, Question
 use Rattle.jac_rows.specs.declared.row.Row.{Row}
 use Rattle.jac_rows.specs.declared.state.State.{State}
 use Rattle.jac_rows.specs.Tables.{rows_of}
-use Rattle.jac_plain.specs.Expressions.{model_of_binder}
-use Rattle.jac_pruned.specs.Local.{is_free, is_free_viewer, is_free_query, is_local, are_local, IsLocalCase}
+use Rattle.jac_plain.specs.Expressions.{bound, model_of_binder}
+use Rattle.jac_pruned.specs.Tupled.{lengthened}
+use Rattle.jac_pruned.specs.Local.{are_free, is_free, is_free_viewer, is_free_query, is_local, are_local, IsLocalCase}
 
 -- the id is that of the record, if there is one
 abbrev pub is_of : Option ℕ → ℕ → Bool
@@ -88,6 +89,12 @@ is_free_value app v = true
 -- no name is bound to a record of a model that has groups
 abbrev pub is_free_env : Application → List Binding → Bool
 is_free_env app env = list_all (λ b. is_free_value app b.bound_to) env
+
+-- what the tuples that one begins bind with the last ids refers to records of free models; without last ids, what it
+-- binds itself does, and each binder ranges over such a model
+abbrev pub begins_free : Application → List Binder → List Binding → Option (List ℕ) → List ℕ → Bool
+begins_free app bs env (Some js) ids = list_all (λ t. is_free_env app (bound bs t env)) (lengthened ids js)
+begins_free app bs env None ids = is_free_env app (bound bs ids env) && are_free app.models bs
 
 -- a local case, and a test that is true
 pub record IsLocally (app : Application) (s : State) (viewer : Option ℕ) (test : Bool) : Type 0 where

@@ -19,6 +19,7 @@ mod sorting;
 mod standing;
 mod support;
 mod texts;
+mod wanting;
 
 pub use evaluation::eval_at;
 pub use jac_lang::PlainEnv;
