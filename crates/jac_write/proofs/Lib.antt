@@ -7,3 +7,4 @@ pub mod SchemaLaws
 pub mod AloneLaws
 pub mod WriteLaws
 pub mod HidingLaws
+pub mod GroupedLaws

@@ -46,7 +46,7 @@ passing_if w test r rs false true p h e = rw (p, h) (rw p e)
 passing_if w test r rs false false p h e = rw (p, h) e
 
 -- the rows of some ids, in one world
-with_ids_at : (w : ℕ → Bool) (test : ℕ → Bool) (rows : List Row) → rows_at w (with_id test rows) ≡ with_ids test (rows_at w rows)
+pub with_ids_at : (w : ℕ → Bool) (test : ℕ → Bool) (rows : List Row) → rows_at w (with_id test rows) ≡ with_ids test (rows_at w rows)
 with_ids_at w test [] = refl
 with_ids_at w test (r ∷ rows) = passing_if w test r rows (test r.id) (holds w r.guard) refl refl (with_ids_at w test rows)
 
@@ -256,7 +256,7 @@ cells_shown w id table =
     sym (cells-named id (cells_at w (alternatives id table)))
     ∙ ap (map cells) (sym (rows_named w id (alternatives id table) (of-alternatives id table)) ∙ with_ids_at w (λ i. i == id) table)
 
-few_cells : (w : ℕ → Bool) (id : ℕ) (table : List Row) → AreRising table → length (cells_at w (alternatives id table)) ≤ 1
+pub few_cells : (w : ℕ → Bool) (id : ℕ) (table : List Row) → AreRising table → length (cells_at w (alternatives id table)) ≤ 1
 few_cells w id table h =
     let long : length (cells_at w (alternatives id table)) ≡ length (with_ids (λ i. i == id) (rows_at w table)) =
     ap length (cells_shown w id table) ∙ length-map cells (with_ids (λ i. i == id) (rows_at w table)) in
@@ -298,11 +298,11 @@ rising_of id (x ∷ xs) h few = (
   rising_of id xs h.1 (λ w. rest_if (holds w x.guard) x.cells (cells_at w xs) (few w)),
 )
 
-own_all : (id : ℕ) (rows : List Row) → AreOf id rows → AllByRecursion (λ (r : Row). r.id ≡ id) rows
+pub own_all : (id : ℕ) (rows : List Row) → AreOf id rows → AllByRecursion (λ (r : Row). r.id ≡ id) rows
 own_all id [] h = tt
 own_all id (r ∷ rows) h = (h.0, own_all id rows h.1)
 
-made_all : (m n id : ℕ) (rows : List Row) → AreOf id rows → IsMade m n id → AllByRecursion (λ (r : Row). IsMade m n r.id) rows
+pub made_all : (m n id : ℕ) (rows : List Row) → AreOf id rows → IsMade m n id → AllByRecursion (λ (r : Row). IsMade m n r.id) rows
 made_all m n id [] h made = tt
 made_all m n id (r ∷ rows) h made = (subst (λ i. IsMade m n i) (sym h.0) made, made_all m n id rows h.1 made)
 

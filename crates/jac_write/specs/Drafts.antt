@@ -7,7 +7,8 @@ use Rattle.jac_plain.specs.Records.{every_field, is_hidden, public_cell}
 use Rattle.jac_write.specs.declared.cells.Spot.{Spot}
 use Rattle.jac_write.specs.declared.cells.Spot.TheVariants.{Behind, At}
 use Rattle.jac_write.specs.declared.named.Named.{Named}
-use Rattle.jac_write.specs.declared.named.Named.TheVariants.{Every, Set}
+use Rattle.jac_write.specs.declared.named.Named.TheVariants.{Every, Set, From}
+use Rattle.jac_write.specs.Regrouped.{is_guarded_from}
 use Rattle.jac_write.specs.Writes.{is_put, sets_at}
 
 -- the cells with the value in its spot
@@ -21,9 +22,10 @@ with_each w spot cells [] = []
 with_each w spot cells (p ∷ leaves) = (if holds w p.0 then with_cell spot p.1 cells ∷ [] else []) ++ with_each w spot cells leaves
 
 -- the fields that a write names
-abbrev pub named_by : (ℕ → Bool) → Named → ℕ → Bool
-named_by w Every = every_field
-named_by w (Set sets) = is_put (sets_at w sets.now)
+abbrev pub named_by : List Entity → ℕ → (ℕ → Bool) → Named → ℕ → Bool
+named_by models m w Every = every_field
+named_by models m w (Set sets) = is_put (sets_at w sets.now)
+named_by models m w (From first) = is_guarded_from models m first
 
 -- a label hides, where there is one
 abbrev pub hides : (ℕ → Bool) → Option ℕ → Bool

@@ -7,6 +7,7 @@ mod creation;
 mod deletion;
 mod drafts;
 mod fit;
+mod grouping;
 mod hiding;
 mod memory;
 mod merged;
@@ -19,6 +20,7 @@ mod updating;
 
 pub use creation::create;
 pub use deletion::delete;
+pub use grouping::regrouped;
 pub use public_values::public_value;
 pub use sets::Sets;
 pub use updating::update;

@@ -42,9 +42,9 @@ fn label_if_named(app: &App, model: u8, id: Id, named: Named<'_>, field: u8) -> 
     requires model { model < length app.now.models }
     requires field { field < length (fields_at (application_of app.now).models model) }
     requires id { is_id_of id model ≡ true }
-    ensures { (w : ℕ → Bool) → hides w result ≡ (named_by w named.entry field && is_hidden (application_of app.now).models w model id field) }
+    ensures { (w : ℕ → Bool) → hides w result ≡ (named_by (application_of app.now).models model w named.entry field && is_hidden (application_of app.now).models w model id field) }
 {
-    if is_named(named, field) {
+    if is_named(app, model, named, field) {
         return label_of_field(app, model, id, field);
     }
     None
@@ -91,7 +91,7 @@ fn stored_field<L: Ledger>(
     requires field { field < length (fields_at (application_of app.now).models model) }
     requires id { is_id_of id model ≡ true }
     requires cell { slice_get draft.now field ≡ Some cell.now }
-    ensures { IfOk result (λ s. (w : ℕ → Bool) → at w s ≡ stored_at (application_of app.now).models w model id (named_by w named.entry) draft.now field cell.now) }
+    ensures { IfOk result (λ s. (w : ℕ → Bool) → at w s ≡ stored_at (application_of app.now).models w model id (named_by (application_of app.now).models model w named.entry) draft.now field cell.now) }
 {
     match label_if_named(app, model, id, named, field) {
         Some(label) => {
@@ -121,7 +121,7 @@ fn stored_cell<L: Ledger>(
     requires model { model < length app.now.models }
     requires id { is_id_of id model ≡ true }
     requires cell { slice_get draft.now field ≡ Some cell.now }
-    ensures { IfOk result (λ s. (w : ℕ → Bool) → at w s ≡ stored_at (application_of app.now).models w model id (named_by w named.entry) draft.now field cell.now) }
+    ensures { IfOk result (λ s. (w : ℕ → Bool) → at w s ≡ stored_at (application_of app.now).models w model id (named_by (application_of app.now).models model w named.entry) draft.now field cell.now) }
 {
     if field < usize::from(field_count(app, model)) {
         let field = field as u8;
@@ -146,7 +146,7 @@ fn stored_draft<L: Ledger>(
     requires model { model < length app.now.models }
     requires id { is_id_of id model ≡ true }
     ensures own { IfOk result (λ v. All (λ (r : Seen). r.id ≡ id) v.items) }
-    ensures shown { IfOk result (λ v. (w : ℕ → Bool) → cells_at w v.items ≡ map (shielded (application_of app.now).models w model id (named_by w named.entry)) (cells_at w (draft.now ∷ []))) }
+    ensures shown { IfOk result (λ v. (w : ℕ → Bool) → cells_at w v.items ≡ map (shielded (application_of app.now).models w model id (named_by (application_of app.now).models model w named.entry)) (cells_at w (draft.now ∷ []))) }
 {
     let mut stored = without_cells(alloc, id, &draft.guard)?;
     let cells = draft.cells.as_slice();
@@ -182,7 +182,7 @@ fn add_stored_draft<L: Ledger>(
     requires id { is_id_of id model ≡ true }
     requires own { All (λ (r : Seen). r.id ≡ id) out.old.items }
     ensures own { OnOk result (All (λ (r : Seen). r.id ≡ id) out.new.items) }
-    ensures shown { OnOk result ((w : ℕ → Bool) → cells_at w out.new.items ≡ cells_at w out.old.items ++ map (shielded (application_of app.now).models w model id (named_by w named.entry)) (cells_at w (draft.now ∷ []))) }
+    ensures shown { OnOk result ((w : ℕ → Bool) → cells_at w out.new.items ≡ cells_at w out.old.items ++ map (shielded (application_of app.now).models w model id (named_by (application_of app.now).models model w named.entry)) (cells_at w (draft.now ∷ []))) }
 {
     let stored = stored_draft(alloc, app, model, id, named, draft, splits)?;
     put_rows(id, stored, out)?;
@@ -206,7 +206,7 @@ pub(crate) fn add_stored<L: Ledger>(
     requires id { is_id_of id model ≡ true }
     requires own { All (λ (r : Seen). r.id ≡ id) out.old.items }
     ensures own { OnOk result (All (λ (r : Seen). r.id ≡ id) out.new.items) }
-    ensures shown { OnOk result ((w : ℕ → Bool) → cells_at w out.new.items ≡ cells_at w out.old.items ++ map (shielded (application_of app.now).models w model id (named_by w named.entry)) (cells_at w drafts.now)) }
+    ensures shown { OnOk result ((w : ℕ → Bool) → cells_at w out.new.items ≡ cells_at w out.old.items ++ map (shielded (application_of app.now).models w model id (named_by (application_of app.now).models model w named.entry)) (cells_at w drafts.now)) }
 {
     'drafts: for draft in drafts {
         add_stored_draft(alloc, app, model, id, named, draft, out, splits)?;

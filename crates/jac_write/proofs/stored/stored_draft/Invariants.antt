@@ -10,5 +10,5 @@ use Rattle.jac_write.proofs.stored.stored_draft.Given as goal
 abbrev pub invariant-fields : goal.invariant-fields
 invariant-fields g l =
     All (λ (r : Row). r.id ≡ l.id) l.stored.items
-    × ((w : ℕ → Bool) → finished (each_cell (stored_at (application_of l.app).models w l.model l.id (named_by w l.named) l.draft.cells) l.field (drop l.field l.draft.cells)) (cells_at w l.stored.items)
-    ≡ map (shielded (application_of l.app).models w l.model l.id (named_by w l.named)) (cells_at w (l.draft ∷ [])))
+    × ((w : ℕ → Bool) → finished (each_cell (stored_at (application_of l.app).models w l.model l.id (named_by (application_of l.app).models l.model w l.named) l.draft.cells) l.field (drop l.field l.draft.cells)) (cells_at w l.stored.items)
+    ≡ map (shielded (application_of l.app).models w l.model l.id (named_by (application_of l.app).models l.model w l.named)) (cells_at w (l.draft ∷ [])))
