@@ -1,0 +1,13 @@
+pub mod Counting
+pub mod Drafted
+pub mod Itself
+pub mod Meeting
+pub mod Walking
+pub mod Modeling
+pub mod Renaming
+pub mod Prefixes
+pub mod Extensional
+pub mod Applied
+pub mod Fits
+pub mod Naming
+pub mod Finished

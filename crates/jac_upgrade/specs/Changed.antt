@@ -1,0 +1,22 @@
+-- The change that brings a state to an application.
+use Rattle.std.specs.Prelude.{◌≡◌, ℕ, ◌==◌, Bool, false, true, if◌then◌else◌, List, [], ◌∷◌, map}
+use Rattle.jac_value.specs.Ids.{model_of_id}
+use Rattle.jac_world.specs.World.{shown, IsAscending}
+use Rattle.jac_rows.specs.declared.row.Row.{Row}
+use Rattle.jac_rows.specs.declared.state.State.{State}
+use Rattle.jac_rows.specs.Tables.{rows_of}
+use Rattle.jac_keep.specs.declared.alteration.Alteration.{Alteration}
+
+-- the record has a row among these
+abbrev pub has_alternative : ℕ → List Row → Bool
+has_alternative id [] = false
+has_alternative id (r ∷ rows) = if r.id == id then true else has_alternative id rows
+
+-- the records that are named
+abbrev pub changed_ids : List Alteration → List ℕ
+changed_ids changed = map (λ a. a.id) changed
+
+-- the records of the state that have a row, each once, by rising id
+pub record AreIdsOf (s : State) (ids : List ℕ) : Type 0 where
+  pub ascending : IsAscending ids
+  pub each : (id : ℕ) → shown ids id ≡ has_alternative id (rows_of s.tables (model_of_id id))

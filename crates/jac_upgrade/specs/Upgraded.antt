@@ -1,0 +1,49 @@
+-- What the records of an application become in one that extends it, in the world of one assignment.
+use Rattle.std.specs.Prelude.{ℕ, ◌+◌, ◌-◌, zero, suc, Bool, if◌then◌else◌, List, [], ◌∷◌, ◌++◌, length, drop}
+use Rattle.jac_value.specs.declared.value.Value.{Value}
+use Rattle.jac_lang.specs.Lookup.{fields_at, groups_at}
+use Rattle.jac_lang.specs.Syntax.{Entity}
+use Rattle.jac_rows.specs.declared.plain.PlainRow.{PlainRow}
+use Rattle.jac_rows.specs.declared.plain.PlainState.{PlainState}
+use Rattle.jac_plain.specs.Records.{default_cells, plain_row, shielded}
+use Rattle.jac_write.specs.Regrouped.{is_guarded_from, stays}
+
+-- how many groups the model has, which are those that stand in front of the added ones
+abbrev pub group_count : List Entity → ℕ → ℕ
+group_count models m = length (groups_at models m)
+
+-- the cells, and then the defaults of the fields that were added
+abbrev pub draft_of : List Entity → List Entity → ℕ → List Value → List Value
+draft_of olds news m cells = cells ++ default_cells news (drop (length (fields_at olds m)) (fields_at news m))
+
+-- where the label of an added group isn't shown, the fields that it guards have their public values over the draft
+abbrev pub upgraded_cells : (ℕ → Bool) → List Entity → List Entity → ℕ → ℕ → List Value → List Value
+upgraded_cells w olds news m id cells =
+    shielded news w m id (is_guarded_from news m (group_count olds m)) (draft_of olds news m cells)
+
+abbrev pub upgraded_row : (ℕ → Bool) → List Entity → List Entity → ℕ → PlainRow → PlainRow
+upgraded_row w olds news m r = plain_row r.id (upgraded_cells w olds news m r.id r.cells)
+
+-- a record is left out where an added group hides it
+abbrev pub upgraded_rows : (ℕ → Bool) → List Entity → List Entity → ℕ → List PlainRow → List PlainRow
+upgraded_rows w olds news m [] = []
+upgraded_rows w olds news m (r ∷ rows) =
+    if stays news w m r.id (group_count olds m)
+    then upgraded_row w olds news m r ∷ upgraded_rows w olds news m rows
+    else upgraded_rows w olds news m rows
+
+-- the tables of the models from this one on
+abbrev pub upgraded_tables : (ℕ → Bool) → List Entity → List Entity → ℕ → List (List PlainRow) → List (List PlainRow)
+upgraded_tables w olds news m [] = []
+upgraded_tables w olds news m (t ∷ ts) = upgraded_rows w olds news m t ∷ upgraded_tables w olds news (m + 1) ts
+
+abbrev pub empty_tables : ℕ → List (List PlainRow)
+empty_tables zero = []
+empty_tables (suc n) = [] ∷ empty_tables n
+
+-- a model that was added has no records
+abbrev pub upgraded : (ℕ → Bool) → List Entity → List Entity → PlainState → PlainState
+upgraded w olds news t = record {
+  tables = upgraded_tables w olds news 0 t.tables ++ empty_tables (length news - length t.tables);
+  number = t.number;
+}
