@@ -1,0 +1,4 @@
+pub mod Named
+pub mod Scene
+pub mod Watched
+pub mod Whys

@@ -1,0 +1,72 @@
+-- What stands against the labels that a viewer isn't shown.
+use Rattle.std.specs.Prelude.{◌≡◌, ◌&&◌, ◌==◌, ◌++◌, ℕ, Bool, not, nat_lt, true, false, if◌then◌else◌, List, [], ◌∷◌, Option, Some, None}
+use Rattle.std.specs.Option.{option_map}
+use Rattle.jac_world.specs.World.{shown}
+use Rattle.jac_lang.specs.Syntax.{Application}
+use Rattle.jac_rows.specs.declared.plain.PlainState.{PlainState}
+use Rattle.jac_plain.specs.Policies.{is_allowed, IsLiveLabel}
+use Rattle.jac_why.specs.declared.reasons.Reason.{Reason}
+use Rattle.jac_why.specs.declared.reasons.Explanation.{Explanation}
+use Rattle.jac_why.specs.Named.{as_reason, names_its_label}
+use Rattle.jac_why.specs.Scene.{PlainScene}
+
+-- rising labels with one more in its place, once
+abbrev pub with_one_more : ℕ → List ℕ → List ℕ
+with_one_more k [] = k ∷ []
+with_one_more k (x ∷ xs) =
+    if nat_lt x k then x ∷ with_one_more k xs else (if x == k then x ∷ xs else k ∷ (x ∷ xs))
+
+-- the first of the labels that isn't allowed in a world
+abbrev pub first_forbidden : Application → PlainState → Option ℕ → List ℕ → Option ℕ
+first_forbidden app t viewer [] = None
+first_forbidden app t viewer (k ∷ ks) =
+    if is_allowed app t viewer k then first_forbidden app t viewer ks else Some k
+
+-- a label with what stands against it, if anything does
+abbrev pub why_of : ℕ → Option Reason → List Explanation
+why_of k None = []
+why_of k (Some r) = record { hidden = k; reason = r } ∷ []
+
+module _ (scene : PlainScene) where
+  -- the labels that are shown, and this one
+  abbrev pub beside : ℕ → List ℕ
+  beside k = with_one_more k scene.labels
+
+  -- the world that they show
+  abbrev pub world_beside : ℕ → PlainState
+  world_beside k = scene.worlds (shown (beside k))
+
+  -- what stands against a label: the least of those that are shown, and of it, that isn't
+  -- allowed under them
+  abbrev pub why_hidden : ℕ → Option Reason
+  why_hidden k =
+      option_map as_reason
+      (first_forbidden scene.app (world_beside k) scene.viewer (beside k))
+
+  -- whether the reason stands against a label: it is one of those that are shown, or it, and
+  -- isn't allowed under them
+  abbrev pub stands_against : ℕ → Reason → Bool
+  stands_against k r =
+      shown (beside k) r.label
+      && (names_its_label r && not (is_allowed scene.app (world_beside k) scene.viewer r.label))
+
+  -- whether what is found for a label stands against it
+  abbrev pub is_standing : Explanation → Bool
+  is_standing e = stands_against e.hidden e.reason
+
+  -- what stands against a label, where it isn't shown
+  abbrev pub why_at : ℕ → List Explanation
+  why_at k = if shown scene.labels k then [] else why_of k (why_hidden k)
+
+  -- the labels that aren't shown, in their order, with what stands against each
+  abbrev pub all_whys : List ℕ → List Explanation
+  all_whys [] = []
+  all_whys (k ∷ ks) = why_at k ++ all_whys ks
+
+  -- a reason stands against each live label that isn't shown
+  pub record AreExplained : Type 0 where
+    pub reason :
+        (k : ℕ) → IsLiveLabel scene.app scene.worlds k → shown scene.labels k ≡ false → Reason
+    pub stands :
+        (k : ℕ) (live : IsLiveLabel scene.app scene.worlds k)
+        (hidden : shown scene.labels k ≡ false) → stands_against k (reason k live hidden) ≡ true

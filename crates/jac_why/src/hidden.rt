@@ -1,0 +1,319 @@
+//! Which policy stands against a hidden label.
+ghost use Rattle.std.specs.Prelude.{◌≡◌, ◌≤◌, ◌++◌, [], IfOk, OnOk, IsTrue};
+ghost use Rattle.std.specs.Option.{option_map};
+ghost use Rattle.jac_world.specs.World.{shown};
+ghost use Rattle.jac_lang.specs.Mirror.{application_of};
+ghost use Rattle.jac_keep.specs.Worked.{state_of, IsTold, ReadsWork};
+ghost use Rattle.jac_plain.specs.Policies.{is_allowed, AreAllowed};
+ghost use Rattle.jac_resolve.specs.Rounds.{worlds_of};
+ghost use Rattle.jac_why.specs.Named.{as_reason};
+ghost use Rattle.jac_why.specs.Scene.{scene_on};
+ghost use Rattle.jac_why.specs.Watched.{IsWatching, AreWatching};
+ghost use Rattle.jac_why.specs.Whys.{with_one_more, first_forbidden, why_hidden, stands_against, why_of, why_at, all_whys};
+
+use crate::memory::from_world;
+use crate::watch::Watchers;
+use crate::{Explanation, Reason, Scene};
+use jac_keep::{Keeper, Stop, Work};
+use jac_lang::App;
+use jac_resolve::allowed;
+use jac_value::{Id, Memory};
+use jac_world::{Assignment, Label, Steps};
+use std::alloc::Global;
+use std::sync::ledger::Ledger;
+
+/// What stands against a hidden label: of the labels that are shown and this one, the least that
+/// isn't allowed under them. There is none exactly where all are allowed.
+pub fn why<K: Keeper, M: Ledger>(
+    alloc: Global,
+    work: &mut Work<'_, K>,
+    scene: &Scene<'_>,
+    hidden: Label,
+    evaluations: &mut Steps<M>,
+) -> Result<Option<Reason>, Stop>
+    requires { IsTrue (K.seen work.old.keeper.now).store.attached }
+    ensures reason { IsTold K.seen work.new → IfOk result
+        (λ r. r ≡ why_hidden (scene_on (state_of K.seen work.old) scene.now) hidden) }
+    ensures later { evaluations.old ≤ evaluations.new }
+    ensures reads { ReadsWork K.seen work.old work.new result }
+{
+    let beside = with_label(alloc, scene.labels, hidden)?;
+    let labels = beside.as_slice();
+    let app = scene.app;
+    let viewer = &scene.viewer;
+    let first = find_forbidden(alloc, work, app, viewer, &beside, labels, evaluations)?;
+    Ok(as_reason(first))
+}
+
+/// Whether the reason stands against a hidden label: whether its label is one of those that are
+/// shown and this one, has this model and this group, and isn't allowed under them.
+pub fn check_reason<K: Keeper, M: Ledger>(
+    alloc: Global,
+    work: &mut Work<'_, K>,
+    scene: &Scene<'_>,
+    hidden: Label,
+    reason: &Reason,
+    evaluations: &mut Steps<M>,
+) -> Result<bool, Stop>
+    requires { IsTrue (K.seen work.old.keeper.now).store.attached }
+    ensures stands { IsTold K.seen work.new → IfOk result (λ b.
+        b ≡ stands_against (scene_on (state_of K.seen work.old) scene.now) hidden reason.now) }
+    ensures later { evaluations.old ≤ evaluations.new }
+    ensures reads { ReadsWork K.seen work.old work.new result }
+{
+    let beside = with_label(alloc, scene.labels, hidden)?;
+    if !beside.shows(reason.label) {
+        return Ok(false);
+    }
+    if !reason.names_its_label() {
+        return Ok(false);
+    }
+    let app = scene.app;
+    let holds = ask(
+        alloc,
+        work,
+        app,
+        scene.viewer,
+        &beside,
+        reason.label,
+        evaluations,
+    )?;
+    Ok(!holds)
+}
+
+/// The live labels that aren't shown, in their order, with what stands against each. Where those
+/// that are shown are all allowed, each label costs no more than those that consulted it.
+pub fn whys<K: Keeper, M: Ledger>(
+    alloc: Global,
+    work: &mut Work<'_, K>,
+    scene: &Scene<'_>,
+    live: &[Label],
+    evaluations: &mut Steps<M>,
+) -> Result<Vec<Explanation>, Stop>
+    requires { IsTrue (K.seen work.old.keeper.now).store.attached }
+    ensures whys { IsTold K.seen work.new
+        → AreAllowed (application_of scene.now.app.now) (worlds_of (state_of K.seen work.old))
+        scene.now.viewer scene.now.labels.now
+        → IfOk result
+        (λ v. v.items ≡ all_whys (scene_on (state_of K.seen work.old) scene.now) live.now) }
+    ensures later { evaluations.old ≤ evaluations.new }
+    ensures reads { ReadsWork K.seen work.old work.new result }
+{
+    let watchers = watchers(alloc, work, scene, evaluations)?;
+    let whys = watched_whys(alloc, work, scene, live, &watchers, evaluations)?;
+    Ok(whys)
+}
+
+// The same, by who watches which label.
+fn watched_whys<K: Keeper, M: Ledger>(
+    alloc: Global,
+    work: &mut Work<'_, K>,
+    scene: &Scene<'_>,
+    live: &[Label],
+    watchers: &Watchers,
+    evaluations: &mut Steps<M>,
+) -> Result<Vec<Explanation>, Stop>
+    requires { IsTrue (K.seen work.old.keeper.now).store.attached }
+    ensures whys { IsTold K.seen work.new
+        → AreAllowed (application_of scene.now.app.now) (worlds_of (state_of K.seen work.old))
+        scene.now.viewer scene.now.labels.now
+        → AreWatching (scene_on (state_of K.seen work.old) scene.now) [] watchers.now
+        → IfOk result
+        (λ v. v.items ≡ all_whys (scene_on (state_of K.seen work.old) scene.now) live.now) }
+    ensures later { evaluations.old ≤ evaluations.new }
+    ensures reads { ReadsWork K.seen work.old work.new result }
+{
+    let mut whys = Vec::new(alloc);
+    'labels: for label in live {
+        add_why(alloc, work, scene, *label, watchers, &mut whys, evaluations)?;
+    }
+    Ok(whys)
+}
+
+// What stands against the label, where it isn't shown.
+fn add_why<K: Keeper, M: Ledger>(
+    alloc: Global,
+    work: &mut Work<'_, K>,
+    scene: &Scene<'_>,
+    label: Label,
+    watchers: &Watchers,
+    whys: &mut Vec<Explanation>,
+    evaluations: &mut Steps<M>,
+) -> Result<(), Stop>
+    requires { IsTrue (K.seen work.old.keeper.now).store.attached }
+    ensures added { IsTold K.seen work.new
+        → AreAllowed (application_of scene.now.app.now) (worlds_of (state_of K.seen work.old))
+        scene.now.viewer scene.now.labels.now
+        → AreWatching (scene_on (state_of K.seen work.old) scene.now) [] watchers.now
+        → OnOk result (whys.new.items
+        ≡ whys.old.items ++ why_at (scene_on (state_of K.seen work.old) scene.now) label) }
+    ensures later { evaluations.old ≤ evaluations.new }
+    ensures reads { ReadsWork K.seen work.old work.new result }
+{
+    if scene.labels.shows(label) {
+        return Ok(());
+    }
+    let reason = watched_why(alloc, work, scene, label, watchers, evaluations)?;
+    push_why(whys, label, reason)?;
+    Ok(())
+}
+
+// What stands against a label: only it, and those that watch it, are asked.
+fn watched_why<K: Keeper, M: Ledger>(
+    alloc: Global,
+    work: &mut Work<'_, K>,
+    scene: &Scene<'_>,
+    label: Label,
+    watchers: &Watchers,
+    evaluations: &mut Steps<M>,
+) -> Result<Option<Reason>, Stop>
+    requires { IsTrue (K.seen work.old.keeper.now).store.attached }
+    ensures reason { IsTold K.seen work.new
+        → AreAllowed (application_of scene.now.app.now) (worlds_of (state_of K.seen work.old))
+        scene.now.viewer scene.now.labels.now
+        → AreWatching (scene_on (state_of K.seen work.old) scene.now) [] watchers.now
+        → IfOk result
+        (λ r. r ≡ why_hidden (scene_on (state_of K.seen work.old) scene.now) label) }
+    ensures later { evaluations.old ≤ evaluations.new }
+    ensures reads { ReadsWork K.seen work.old work.new result }
+{
+    let beside = with_label(alloc, scene.labels, label)?;
+    let asked = watchers.asked(alloc, label)?;
+    let labels = asked.as_slice();
+    let app = scene.app;
+    let viewer = &scene.viewer;
+    let first = find_forbidden(alloc, work, app, viewer, &beside, labels, evaluations)?;
+    // Labels that are read ascend.
+    let _ = scene.labels.as_slice();
+    Ok(as_reason(first))
+}
+
+// Which of the labels that are shown consulted which others.
+fn watchers<K: Keeper, M: Ledger>(
+    alloc: Global,
+    work: &mut Work<'_, K>,
+    scene: &Scene<'_>,
+    evaluations: &mut Steps<M>,
+) -> Result<Watchers, Stop>
+    requires { IsTrue (K.seen work.old.keeper.now).store.attached }
+    ensures watching { IsTold K.seen work.new
+        → IfOk result (AreWatching (scene_on (state_of K.seen work.old) scene.now) []) }
+    ensures later { evaluations.old ≤ evaluations.new }
+    ensures reads { ReadsWork K.seen work.old work.new result }
+{
+    let mut watchers = Watchers::empty(alloc);
+    'labels: for label in scene.labels.as_slice() {
+        add_watcher(alloc, work, scene, *label, &mut watchers, evaluations)?;
+    }
+    Ok(watchers)
+}
+
+// The label watches all that its policy consults.
+fn add_watcher<K: Keeper, M: Ledger>(
+    alloc: Global,
+    work: &mut Work<'_, K>,
+    scene: &Scene<'_>,
+    label: Label,
+    watchers: &mut Watchers,
+    evaluations: &mut Steps<M>,
+) -> Result<(), Stop>
+    requires { IsTrue (K.seen work.old.keeper.now).store.attached }
+    ensures watching { IsTold K.seen work.new → OnOk result (IsWatching
+        (scene_on (state_of K.seen work.old) scene.now) label watchers.old watchers.new) }
+    ensures later { evaluations.old ≤ evaluations.new }
+    ensures reads { ReadsWork K.seen work.old work.new result }
+{
+    let shown = scene.labels;
+    let (_, consulted) = allowed(
+        alloc,
+        work,
+        scene.app,
+        scene.viewer,
+        shown,
+        label,
+        evaluations,
+    )?;
+    watchers.watch(alloc, label, consulted.as_slice())?;
+    Ok(())
+}
+
+fn push_why(
+    whys: &mut Vec<Explanation>,
+    hidden: Label,
+    reason: Option<Reason>,
+) -> Result<(), Memory>
+    ensures { OnOk result (whys.new.items ≡ whys.old.items ++ why_of hidden reason) }
+{
+    if let Some(reason) = reason {
+        whys.push(Explanation { hidden, reason })?;
+    }
+    Ok(())
+}
+
+// The first of the labels that isn't allowed under the assignment.
+fn find_forbidden<K: Keeper, M: Ledger>(
+    alloc: Global,
+    work: &mut Work<'_, K>,
+    app: &App,
+    viewer: &Option<Id>,
+    a: &Assignment,
+    labels: &[Label],
+    evaluations: &mut Steps<M>,
+) -> Result<Option<Label>, Stop>
+    requires { IsTrue (K.seen work.old.keeper.now).store.attached }
+    ensures first { IsTold K.seen work.new → IfOk result (λ r.
+        r ≡ first_forbidden (application_of app.now)
+        (worlds_of (state_of K.seen work.old) (shown a.now)) viewer.now labels.now) }
+    ensures later { evaluations.old ≤ evaluations.new }
+    ensures reads { ReadsWork K.seen work.old work.new result }
+{
+    'labels: for label in labels {
+        let holds = ask(alloc, work, app, *viewer, a, *label, evaluations)?;
+        if !holds {
+            return Ok(Some(*label));
+        }
+    }
+    Ok(None)
+}
+
+// Whether the label is allowed under the assignment.
+fn ask<K: Keeper, M: Ledger>(
+    alloc: Global,
+    work: &mut Work<'_, K>,
+    app: &App,
+    viewer: Option<Id>,
+    a: &Assignment,
+    label: Label,
+    evaluations: &mut Steps<M>,
+) -> Result<bool, Stop>
+    requires { IsTrue (K.seen work.old.keeper.now).store.attached }
+    ensures answer { IsTold K.seen work.new → IfOk result (λ b.
+        b ≡ is_allowed (application_of app.now)
+        (worlds_of (state_of K.seen work.old) (shown a.now)) viewer label) }
+    ensures later { evaluations.old ≤ evaluations.new }
+    ensures reads { ReadsWork K.seen work.old work.new result }
+{
+    let (holds, _) = allowed(alloc, work, app, viewer, a, label, evaluations)?;
+    Ok(holds)
+}
+
+// The labels that are shown, and this one.
+fn with_label(alloc: Global, shown: &Assignment, label: Label) -> Result<Assignment, Memory>
+    ensures { IfOk result (λ a. a ≡ with_one_more label shown.now) }
+{
+    let beside = from_world(shown.with(alloc, label))?;
+    // Labels that are read ascend.
+    let _ = shown.as_slice();
+    let _ = beside.as_slice();
+    Ok(beside)
+}
+
+// The label as a reason.
+fn as_reason(label: Option<Label>) -> Option<Reason>
+    ensures { result ≡ option_map as_reason label }
+{
+    match label {
+        Some(label) => Some(Reason::of(label)),
+        None => None,
+    }
+}

@@ -1,0 +1,16 @@
+//! Why a label stays hidden from a viewer: a label that isn't allowed once it is shown too.
+#![tactic(auto, using(jac_pruned::proofs::Growing::agrees_same))]
+
+mod hidden;
+mod laws;
+mod memory;
+mod reasons;
+mod scene;
+mod watch;
+
+pub use hidden::{check_reason, why, whys};
+pub use laws::{
+    explained_is_full, none_where_allowed, settled_is_explained, why_stands, whys_stand,
+};
+pub use reasons::{Explanation, Reason};
+pub use scene::Scene;

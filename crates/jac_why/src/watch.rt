@@ -1,0 +1,86 @@
+//! Which of the labels that are shown are asked again, where one more is.
+ghost use Rattle.std.specs.Prelude.{◌≡◌, ◌==◌, ◌||◌, ◌&&◌, ℕ, false, IfOk, OnOk};
+ghost use Rattle.std.specs.Ordering.{nat_cmp};
+ghost use Rattle.std.specs.BTreeMap.{get};
+ghost use Rattle.jac_world.specs.World.{shown};
+ghost use Rattle.jac_resolve.specs.Recalled.{watched_in};
+ghost use Rattle.jac_why.specs.Watched.{asks_again};
+
+use jac_resolve::Labels;
+use jac_value::Memory;
+use jac_world::Label;
+use std::alloc::Global;
+use std::collections::BTreeMap;
+
+/// By each label those that consulted it: they are asked again, where it is shown too.
+#[derive(Debug, Drop)]
+pub struct Watchers {
+    lists: BTreeMap<Label, Labels>,
+}
+
+impl Watchers {
+    pub fn empty(alloc: Global) -> Watchers
+        ensures { (k j : ℕ) → asks_again result k j ≡ false }
+    {
+        Watchers {
+            lists: BTreeMap::new(alloc),
+        }
+    }
+
+    /// The label is asked again with each of those that it consulted.
+    pub fn watch(&mut self, alloc: Global, label: Label, consulted: &[Label]) -> Result<(), Memory>
+        ensures { OnOk result ((k j : ℕ) → asks_again self.new k j
+            ≡ ((shown consulted.now k && label == j) || asks_again self.old k j)) }
+    {
+        watch_all(&mut self.lists, alloc, consulted, label)
+    }
+
+    /// The labels that are asked where this one is shown too: those that consulted it, and it.
+    pub fn asked(&self, alloc: Global, label: Label) -> Result<Labels, Memory>
+        ensures { IfOk result (λ ls. (j : ℕ) →
+            shown ls j ≡ (label == j || asks_again self.now label j)) }
+    {
+        let mut labels = self.watchers(alloc, label)?;
+        labels.add(label)?;
+        Ok(labels)
+    }
+
+    fn watchers(&self, alloc: Global, label: Label) -> Result<Labels, Memory>
+        ensures { IfOk result (λ ls. (j : ℕ) → shown ls j ≡ asks_again self.now label j) }
+    {
+        match self.lists.get(&label) {
+            Some(watchers) => watchers.copy(alloc),
+            None => Ok(Labels::empty(alloc)),
+        }
+    }
+}
+
+fn watch_all(
+    lists: &mut BTreeMap<Label, Labels>,
+    alloc: Global,
+    consulted: &[Label],
+    label: Label,
+) -> Result<(), Memory>
+    ensures { OnOk result ((k j : ℕ) → watched_in (get nat_cmp lists.new k) j
+        ≡ ((shown consulted.now k && label == j) || watched_in (get nat_cmp lists.old k) j)) }
+{
+    'labels: for watched in consulted {
+        watch(lists, alloc, *watched, label)?;
+    }
+    Ok(())
+}
+
+// The first label is watched by the second.
+fn watch(
+    lists: &mut BTreeMap<Label, Labels>,
+    alloc: Global,
+    watched: Label,
+    label: Label,
+) -> Result<(), Memory>
+    ensures { OnOk result ((k j : ℕ) → watched_in (get nat_cmp lists.new k) j
+        ≡ ((watched == k && label == j) || watched_in (get nat_cmp lists.old k) j)) }
+{
+    let of_watched = lists.entry(watched)?.or_insert(Labels::empty(alloc));
+    of_watched.add(label)?;
+    Ok(())
+}
