@@ -14,12 +14,13 @@ use Rattle.jac_serving.specs.Serve.{handled, AnswersLine}
 
 module _ {O : Type 0} (answering : O → Answering) where
   pub keeps-none : (a : DeskSeen O) → MayServe answering a → Keeps answering a a
-  keeps-none a may = record { same = refl; store = refl; ready = may.ready }
+  keeps-none a may = record { same = refl; store = refl; ready = may.ready; settled = may.settled }
 
   pub keeps-may : (a b : DeskSeen O) → MayServe answering a → Keeps answering a b → MayServe answering b
   keeps-may a b may keeps = record {
     attached = subst (λ (s : Store). IsTrue s.attached) (sym keeps.store) may.attached;
     ready = subst (λ (o : O). (answering o).ready b.keeper) (sym keeps.same) keeps.ready;
+    settled = subst (λ (o : O). (answering o).settled b.keeper b.sittings) (sym keeps.same) keeps.settled;
   }
 
   pub keeps-then : (a b c : DeskSeen O) → Keeps answering a b → Keeps answering b c → Keeps answering a c
@@ -27,6 +28,7 @@ module _ {O : Type 0} (answering : O → Answering) where
     same = two.same ∙ one.same;
     store = two.store ∙ one.store;
     ready = subst (λ (o : O). (answering o).ready c.keeper) one.same two.ready;
+    settled = subst (λ (o : O). (answering o).settled c.keeper c.sittings) one.same two.settled;
   }
 
   -- what holds of whom a desk is, of whom it was

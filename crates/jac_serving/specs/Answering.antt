@@ -10,6 +10,7 @@ use Rattle.jac_replies.specs.Refused.{refusal}
 use Rattle.jac_replies.specs.declared.answer.Answer.{Answer}
 use Rattle.jac_replies.specs.declared.answer.Ask.{Ask}
 use Rattle.jac_serving.specs.Outside.{Span, span}
+use Rattle.jac_sittings.specs.declared.sittings.Sitting.{Sitting}
 
 -- what was answered: a request, and whether it closes its connection; what is refused; or that memory ran out
 abbrev pub Subject : Type 0
@@ -40,6 +41,8 @@ pub record Answering : Type 1 where
   pub asks : Option ℕ → List ℕ → List ℕ → List ℕ → List ℕ → Ask
   -- what is kept may be answered on
   pub ready : KeeperSeen → Type 0
+  -- what was settled for those who looked still is, on what is kept
+  pub settled : KeeperSeen → List Sitting → Type 0
   -- the subject has this answer, and what that leaves of what is kept
   pub entry : Span KeeperSeen → Subject → Answer → Type 0
   -- some subjects were answered one after another, and what that leaves
