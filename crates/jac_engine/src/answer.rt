@@ -1,4 +1,4 @@
-ghost use Rattle.std.specs.Prelude.{◌≡◌, ◌<◌, ◌≤◌, true, length, slice_get, IfOk, IsNone, OnOk, OnErr, IfSome, IsTrue, Some};
+ghost use Rattle.std.specs.Prelude.{◌≡◌, ◌<◌, ◌≤◌, true, length, slice_get, IfOk, IsNone, OnOk, OnErr, IfSome, IsTrue, Some, None};
 ghost use Rattle.jac_lang.specs.Mirror.{application_of, page_of, statements_of};
 ghost use Rattle.jac_lang.specs.declared.pages.Verb.TheVariants as verbs;
 ghost use Rattle.jac_plain.specs.Requests.{method_in};
@@ -10,14 +10,15 @@ ghost use Rattle.jac_rows.specs.Good.{IsSound};
 ghost use Rattle.jac_route.specs.Found.{found, IsWithin};
 ghost use Rattle.jac_route.specs.Routes.{AreRoutes};
 ghost use Rattle.jac_engine.specs.Answers.{asked_with, visit_of, page_answer};
-ghost use Rattle.jac_engine.specs.Prepared.{IsPrepared, applied_if};
+ghost use Rattle.jac_plain.specs.Policies.{IsSettled};
+ghost use Rattle.jac_engine.specs.Prepared.{IsPrepared, applied_if, worlds_of};
 ghost use Rattle.jac_opening.specs.Served.{are_served, is_served_body};
 ghost use Rattle.jac_engine.specs.Start.{IsStart};
 ghost use Rattle.jac_engine.specs.Viewed.{IsPreparedBy, IsPreparedFor, IsShown};
 
 use crate::lookup::view_at;
 use crate::refusal::{refuse, refuse_method};
-use crate::visit::{Labelled, shown_page, stored_page};
+use crate::visit::{Labelled, known_page, shown_page, stored_page};
 use jac_keep::{Change, Keeper, Stop};
 use jac_lang::{App, Verb, View};
 use jac_opening::Service;
@@ -25,7 +26,7 @@ use jac_plain::Page;
 use jac_replies::{Answer, Ask};
 use jac_route::{Found, Pairs, Routes, find};
 use jac_value::Memory;
-use jac_world::Steps;
+use jac_world::{Assignment, Steps};
 use std::alloc::Global;
 use std::sync::ledger::Ledger;
 
@@ -59,6 +60,122 @@ pub fn prepare<K: Keeper, L: Ledger, M: Ledger>(
     let routes = service.routes();
     let prepared = prepare_found(alloc, app, routes, keeper, ask, splits, evaluations)?;
     Ok(prepared)
+}
+
+/// The page of a GET, where these labels were settled for who looks, on what the keeper keeps; none where the request asks
+/// for anything else. No policy is asked.
+pub fn show_again<K: Keeper>(
+    alloc: Global,
+    service: &Service,
+    keeper: &mut K,
+    ask: &Ask,
+    labels: Assignment,
+) -> Result<Option<Prepared>, Stop>
+    requires attached { IsTrue (K.seen keeper.old).store.attached }
+    requires start { IsTrue (K.seen keeper.old).tells → IsStart (application_of service.now) (K.seen keeper.old).state }
+    requires settled { IsTrue (K.seen keeper.old).tells
+        → IsSettled (application_of service.now) (worlds_of (K.seen keeper.old).state) ask.now.viewer labels }
+    ensures prepared { IfOk result (λ p. IfSome p
+        (IsPrepared (K.seen keeper.new).tells (application_of service.now) (K.seen keeper.old).state ask.now)) }
+    ensures reads { Reads (K.seen keeper.old) (K.seen keeper.new) result }
+{
+    let app = service.app();
+    let routes = service.routes();
+    match show_found_again(alloc, app, routes, keeper, ask, labels)? {
+        Some(prepared) => Ok(Some(prepared)),
+        None => Ok(None),
+    }
+}
+
+// The same, by what the request finds.
+fn show_found_again<K: Keeper>(
+    alloc: Global,
+    app: &App,
+    routes: &Routes,
+    keeper: &mut K,
+    ask: &Ask,
+    labels: Assignment,
+) -> Result<Option<Prepared>, Stop>
+    requires attached { IsTrue (K.seen keeper.old).store.attached }
+    requires served { are_served (application_of app.now) ≡ true }
+    requires routes { AreRoutes (application_of app.now) routes.now }
+    requires start { IsTrue (K.seen keeper.old).tells → IsStart (application_of app.now) (K.seen keeper.old).state }
+    requires settled { IsTrue (K.seen keeper.old).tells
+        → IsSettled (application_of app.now) (worlds_of (K.seen keeper.old).state) ask.now.viewer labels }
+    ensures prepared { IfOk result (λ p. IfSome p
+        (IsPreparedFor (found (application_of app.now) ask.now.method ask.now.path) (K.seen keeper.new).tells (application_of app.now)
+        (K.seen keeper.old).state ask.now)) }
+    ensures reads { Reads (K.seen keeper.old) (K.seen keeper.new) result }
+{
+    let found = find_view(alloc, app, routes, ask)?;
+    match found {
+        Found::View { view, pairs } => {
+            let prepared = show_view_again(alloc, app, keeper, ask, &pairs, view, labels)?;
+            Ok(prepared)
+        }
+        Found::NoRoute => Ok(None),
+        Found::WrongMethod(_) => Ok(None),
+    }
+}
+
+// The same, by the view at this place.
+fn show_view_again<K: Keeper>(
+    alloc: Global,
+    app: &App,
+    keeper: &mut K,
+    ask: &Ask,
+    path: &Pairs,
+    place: u32,
+    labels: Assignment,
+) -> Result<Option<Prepared>, Stop>
+    requires attached { IsTrue (K.seen keeper.old).store.attached }
+    requires served { are_served (application_of app.now) ≡ true }
+    requires start { IsTrue (K.seen keeper.old).tells → IsStart (application_of app.now) (K.seen keeper.old).state }
+    requires settled { IsTrue (K.seen keeper.old).tells
+        → IsSettled (application_of app.now) (worlds_of (K.seen keeper.old).state) ask.now.viewer labels }
+    requires within { place < length app.now.views }
+    ensures prepared { IfOk result (λ p. IfSome p
+        (IsPreparedBy (method_in (slice_get (application_of app.now).views place)) (K.seen keeper.new).tells (application_of app.now)
+        (K.seen keeper.old).state (visit_of (application_of app.now) (asked_with path.now ask.now) place))) }
+    ensures reads { Reads (K.seen keeper.old) (K.seen keeper.new) result }
+{
+    let view = view_at(app, place);
+    match view.method {
+        Verb::Get => {
+            let prepared = show_known(alloc, app, keeper, ask, path, place, view, labels)?;
+            Ok(Some(prepared))
+        }
+        Verb::Post => Ok(None),
+    }
+}
+
+// The page of a view that shows, under labels that are known to be settled.
+fn show_known<K: Keeper>(
+    alloc: Global,
+    app: &App,
+    keeper: &mut K,
+    ask: &Ask,
+    path: &Pairs,
+    place: u32,
+    view: &View,
+    labels: Assignment,
+) -> Result<Prepared, Stop>
+    requires attached { IsTrue (K.seen keeper.old).store.attached }
+    requires start { IsTrue (K.seen keeper.old).tells → IsStart (application_of app.now) (K.seen keeper.old).state }
+    requires settled { IsTrue (K.seen keeper.old).tells
+        → IsSettled (application_of app.now) (worlds_of (K.seen keeper.old).state) ask.now.viewer labels }
+    requires view { slice_get (application_of app.now).views place ≡ Some (page_of view.now) }
+    requires served { is_served_body (application_of app.now).models verbs.Get (statements_of view.now.body) ≡ true }
+    ensures shown { IfOk result (IsShown (K.seen keeper.new).tells (application_of app.now) (K.seen keeper.old).state
+        (visit_of (application_of app.now) (asked_with path.now ask.now) place)) }
+    ensures reads { Reads (K.seen keeper.old) (K.seen keeper.new) result }
+{
+    let number = keeper.number()?;
+    let page = known_page(alloc, app, keeper, ask, path, view, number, &labels)?;
+    Ok(Prepared {
+        answer: answer_of(Labelled { page, labels }),
+        change: None,
+    })
 }
 
 // The same, by what the request finds.

@@ -87,6 +87,51 @@ fn show_view<K: Keeper, M: Ledger>(
     ensures keeps { WritesWork K.seen work.old work.new result }
 {
     let labels = resolve(alloc, work, app, ask.viewer, evaluations)?;
+    let page = page_under(alloc, work, app, ask, path, view, number, &labels)?;
+    Ok(Labelled { page, labels })
+}
+
+/// The page of the view, which writes nothing, under labels that are known to be settled on what the keeper keeps.
+pub(crate) fn known_page<K: Keeper>(
+    alloc: Global,
+    app: &App,
+    keeper: &mut K,
+    ask: &Ask,
+    path: &Pairs,
+    view: &View,
+    number: u64,
+    labels: &Assignment,
+) -> Result<Page, Stop>
+    requires attached { IsTrue (K.seen keeper.old).store.attached }
+    requires reading { are_reading (statements_of view.now.body) ≡ true }
+    ensures made { IfOk result IsMade }
+    ensures page { IsTrue (K.seen keeper.new).tells → IfOk result (ShowsView (application_of app.now) (view_of view.now) (asked_with path.now ask.now) number (K.seen keeper.old).state labels.now) }
+    ensures left { IsLeft (K.seen keeper.old) (K.seen keeper.new) }
+    ensures rose { IsErrOf result Stop.Keeper → Rose (K.seen keeper.old).faults (K.seen keeper.new).faults }
+{
+    let mut work = Work::new(alloc, keeper);
+    let page = page_under(alloc, &mut work, app, ask, path, view, number, labels)?;
+    Ok(page)
+}
+
+// Makes the page in the world that the labels show.
+fn page_under<K: Keeper>(
+    alloc: Global,
+    work: &mut Work<'_, K>,
+    app: &App,
+    ask: &Ask,
+    path: &Pairs,
+    view: &View,
+    number: u64,
+    labels: &Assignment,
+) -> Result<Page, Stop>
+    requires attached { IsTrue (K.seen work.old.keeper.now).store.attached }
+    requires reading { are_reading (statements_of view.now.body) ≡ true }
+    ensures made { IfOk result IsMade }
+    ensures page { IsTold K.seen work.new → IfOk result (ShowsView (application_of app.now) (view_of view.now) (asked_with path.now ask.now) number (state_of K.seen work.old) labels.now) }
+    ensures told { OnOk result (StaysTold K.seen work.old work.new) }
+    ensures keeps { WritesWork K.seen work.old work.new result }
+{
     let env = bind(alloc, &view.params, app, path, &ask.pairs)?;
     let ctx = Ctx {
         viewer: ask.viewer,
@@ -100,12 +145,12 @@ fn show_view<K: Keeper, M: Ledger>(
         work,
         app,
         &ctx,
-        &labels,
+        labels,
         &view.body,
         env,
         &mut support,
     )?;
-    Ok(Labelled { page, labels })
+    Ok(page)
 }
 
 /// The page of the view, under labels that are settled on what its run leaves, and what is to be stored.
