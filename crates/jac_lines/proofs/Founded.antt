@@ -148,7 +148,7 @@ starts old new schema count has none h =
       rec_is = ap (λ (d : Database). d.trees 1) now ∙ ap (λ (t : Trees). t 1) trees ∙ step.tables.1.0 (λ e. absurd (omega (arith, e)));
     }
 
-no_facts : (first n : ℕ) → facts_from first (empties n) ≡ []
+pub no_facts : (first n : ℕ) → facts_from first (empties n) ≡ []
 no_facts first zero = refl
 no_facts first (suc n) = no_facts (first + 1) n
 

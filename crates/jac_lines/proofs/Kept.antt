@@ -1,5 +1,7 @@
 -- A database that stands for a state tells it, and a change that was applied leaves one that tells the changed state.
-use Rattle.std.proofs.Common.{◌≡◌, refl, sym, ap, subst, ◌∙◌, ℕ, zero, suc, ◌+◌, ◌<◌, ◌^◌, ◌≤◌, ◌==◌, Bool, true, false, cond, List, [], ◌∷◌, ◌++◌, length, Ok, Err, Result, IsTrue, arith}
+use Rattle.std.proofs.Common.{◌≡◌, refl, sym, ap, subst, ◌∙◌, ℕ, zero, suc, ◌+◌, ◌<◌, ◌^◌, ◌≤◌, ◌==◌, Bool, true, false, cond, List, [], ◌∷◌, ◌++◌, length, Some, Ok, Err, Result, IsTrue, arith}
+use Rattle.std.specs.Prelude.{◌-◌, slice_index_or}
+use Rattle.sqlite_value.specs.Order.{column}
 use Rattle.std.specs.List.{AllByRecursion}
 use Rattle.sqlite_trees.specs.declared.store.Store.{Ghosts}
 use Rattle.sqlite.specs.declared.error.Error.{Error}
@@ -7,7 +9,7 @@ use Rattle.sqlite.specs.Effect.{Database}
 use Rattle.sqlite.specs.Held.{Held, state}
 use Rattle.sqlite.specs.State.{State as Sql, HasCleanDisk}
 use Rattle.jac_value.specs.Ids.{model_of_id}
-use Rattle.jac_rows.specs.Good.{AreSound, IsSound}
+use Rattle.jac_rows.specs.Good.{ModelShape, AreSound, IsSound}
 use Rattle.jac_rows.specs.declared.row.Row.{Row}
 use Rattle.jac_rows.specs.declared.state.State.{State}
 use Rattle.jac_stored.specs.Faults.{CanBeSpelled}
@@ -16,20 +18,22 @@ use Rattle.jac_keep.specs.declared.alteration.Change.{Change}
 use Rattle.jac_keep.specs.Alterations.{AreOwn, ArePlaced, altered, overlaid_from}
 use Rattle.jac_keep.specs.Kept.{applied}
 use Rattle.jac_keep.specs.Records.{AreOf, before, behind, placed}
-use Rattle.jac_keep.specs.Schema.{empties}
+use Rattle.jac_keep.specs.Reshaping.{widened}
+use Rattle.jac_keep.specs.Schema.{IsFit, empties}
 use Rattle.jac_keep.proofs.SchemaLaws.{length_empties}
-use Rattle.jac_keep.proofs.SoundLaws.{all-with_id, all-append}
-use Rattle.jac_lines.specs.Facts.{Fact}
+use Rattle.jac_keep.proofs.SoundLaws.{all-with_id, all-append, sound_if_good}
+use Rattle.jac_lines.specs.Facts.{Fact, none_yet, numbered, facts_from}
 use Rattle.jac_lines.specs.Spelled.{IsSpelled}
-use Rattle.jac_lines.specs.Stands.{Stands, AreNarrow}
-use Rattle.jac_lines.specs.Statements.{statements_of, founding}
+use Rattle.jac_lines.specs.Stands.{Holds, Stands, AreNarrow}
+use Rattle.jac_lines.specs.Statements.{statements_of, statements_with, founding}
 use Rattle.jac_lines.specs.Tables.{nothing}
-use Rattle.jac_lines.specs.Told.{told, tables_in, AreSpelled}
-use Rattle.jac_lines.specs.Telling.{empty_state, IsTold, IsKept, CanAllBeSpelled, CanBeStored, AppliesTold}
+use Rattle.jac_lines.specs.Told.{told, tables_in, chars_in, schema_in, AreSpelled}
+use Rattle.jac_lines.specs.Telling.{empty_state, IsTold, IsKept, CanAllBeSpelled, CanBeStored, AppliesTold, ReshapesTold}
 use Rattle.jac_lines.specs.Transaction.{Leaves, Transacts, Ends}
 use Rattle.jac_lines.proofs.Changed.{long_with}
 use Rattle.jac_lines.proofs.Exact.{change_exact}
-use Rattle.jac_lines.proofs.Founded.{founded}
+use Rattle.jac_lines.proofs.Founded.{founded, no_facts}
+use Rattle.jac_lines.proofs.Whole.{reshaped}
 use Rattle.jac_lines.proofs.Once.{stands_told}
 use Rattle.jac_lines.proofs.Sound.{kept_if_sound}
 use Rattle.jac_lines.proofs.Stays.{clean_if_open}
@@ -37,6 +41,10 @@ use Rattle.jac_lines.proofs.Stays.{clean_if_open}
 pub long_tables : (first n : ℕ) (all : List Fact) → length (tables_in first n all) ≡ n
 long_tables first zero all = refl
 long_tables first (suc n) all = ap suc (long_tables (first + 1) n all)
+
+-- a database has the schema text that it stands for a state with
+pub schema_stands : (schema : List ℕ) (db : Database) (s : State) → Stands schema db s → schema_in db ≡ schema
+schema_stands schema db s st = ap (λ rows. chars_in (column (slice_index_or rows 0 []) 3)) st.meta
 
 -- a database that stands for a sound and spelled state of so many models tells it
 pub told_if_stands : (models : ℕ) (schema : List ℕ) (db : Database) (s : State) → length s.tables ≡ models → Stands schema db s → IsSound s → AreSpelled s.tables → (told models db ≡ s) × IsTold models db
@@ -107,22 +115,84 @@ module _ {S : Type 0} (g : Ghosts S) (models : ℕ) (old new : Held S) (c : Chan
         refused = λ opened. ap (told models) (same opened);
       }
 
+-- ---- tables without rows
+
+pub empty_spelled : (n : ℕ) → AreSpelled (empties n)
+empty_spelled zero = tt
+empty_spelled (suc n) = (tt, empty_spelled n)
+
+-- ---- a change that brings another schema
+
+same_facts : (first n : ℕ) (ts : List (List Row)) → facts_from first (ts ++ empties n) ≡ facts_from first ts
+same_facts first n [] = no_facts first n
+same_facts first n (t ∷ ts) = ap (λ fs. numbered first none_yet t ++ fs) (same_facts (first + 1) n ts)
+
+spelled_more : (n : ℕ) (ts : List (List Row)) → AreSpelled ts → AreSpelled (ts ++ empties n)
+spelled_more n [] are = empty_spelled n
+spelled_more n (t ∷ ts) are = (are.0, spelled_more n ts are.1)
+
+-- empty tables show nowhere
+stands_widened : (schema : List ℕ) (db : Database) (models : ℕ) (s : State) → Stands schema db s → Stands schema db (widened models s)
+stands_widened schema db models s st = record {
+  schema_is = st.schema_is;
+  meta = st.meta;
+  rec = subst (Holds (db.trees 1)) (sym (same_facts 0 (models - length s.tables) s.tables)) st.rec;
+}
+
+module _ {S : Type 0} (g : Ghosts S) (shapes : List ModelShape) (models : ℕ) (old new : Held S) (c : Change) (schema : List ℕ) (law : (state g new).is_clean ≡ false → (state g new).is_open ≡ false)
+    (ends : HasCleanDisk (state g new) → Ends (state g old) (state g new)) (was : IsKept models (state g old))
+    (fits : IsTrue (state g old).is_open → IsFit shapes (widened (length shapes) (applied c (told models (state g old).now)))) where
+  reshape_done : (db : Database) → IsTrue (state g old).is_open → CanBeStored models c.changed → Leaves g (statements_with c (Some schema)) old db
+      → (told (length shapes) db ≡ widened (length shapes) (applied c (told models (state g old).now))) × IsTold (length shapes) db × (schema_in db ≡ schema)
+  reshape_done db opened may left =
+      let it = was.told_by opened in
+      let s = told models (state g old).now in
+      let long : length s.tables ≡ models = long_tables 0 models _ in
+      let ran = reshaped g it.schema c schema (record old { in_transaction = true }) left.last s may.narrow may.own (subst (ArePlaced c.changed) (sym long) may.placed) (kept_if_sound s it.sound) left.ran it.stands in
+      let st : Stands schema db (applied c s) = subst (λ d. Stands schema d (applied c s)) (sym left.left) ran in
+      let fit = fits opened in
+      let pair = told_if_stands (length shapes) schema db (widened (length shapes) (applied c s)) fit.tables (stands_widened schema db (length shapes) (applied c s) st)
+      (sound_if_good shapes (widened (length shapes) (applied c s)) fit.good) (spelled_more _ (applied c s).tables (overlaid_spelled 0 c.changed s.tables may.narrow may.own may.spelled it.spelled)) in
+      (pair.0, pair.1, schema_stands schema db (applied c s) st)
+
+  reshape_end : IsTrue (state g new).is_open → Ends (state g old) (state g new)
+  reshape_end opened = ends (clean_if_open (state g new) law opened)
+
+  -- one transaction of a change that brings another schema, over a database that tells
+  pub reshape_told : (r : Result (Unit {0}) Error) → Rattle.std.specs.Prelude.OnOk r (CanBeStored models c.changed) → Transacts g (statements_with c (Some schema)) old new r → ReshapesTold g models (length shapes) c schema old new r
+  reshape_told (Ok u) may t =
+      let whole = λ (opened : IsTrue (state g new).is_open). reshape_done (state g new).committed ((reshape_end opened).was_open opened) may (t.all (clean_if_open (state g new) law opened)) in
+      record {
+        told_before = λ opened. (reshape_end opened).was_open opened;
+        kept = record { settled = λ opened. (reshape_end opened).settled opened; told_by = λ opened. subst (IsTold (length shapes)) (sym ((reshape_end opened).settled opened)) (whole opened).1 };
+        same = tt;
+        exact = λ opened. ap (told (length shapes)) ((reshape_end opened).settled opened) ∙ (whole opened).0;
+        refused = λ opened. tt;
+        stored = λ opened. ap schema_in ((reshape_end opened).settled opened) ∙ (whole opened).2;
+      }
+  reshape_told (Err e) may t =
+      let same = λ (opened : IsTrue (state g new).is_open). (t.none (clean_if_open (state g new) law opened) opened).0 in
+      record {
+        told_before = λ opened. (reshape_end opened).was_open opened;
+        kept = tt;
+        same = record { settled = λ opened. (reshape_end opened).settled opened; told_by = λ opened. subst (IsTold models) (sym (same opened)) (was.told_by ((reshape_end opened).was_open opened)) };
+        exact = λ opened. tt;
+        refused = λ opened. ap (told models) (same opened);
+        stored = λ opened. tt;
+      }
+
 -- ---- a store that was founded
 
 empty_sound : (first n next : ℕ) → AreSound next first (empties n)
 empty_sound first zero next = tt
 empty_sound first (suc n) next = (tt, tt, empty_sound (first + 1) n next)
 
-empty_spelled : (n : ℕ) → AreSpelled (empties n)
-empty_spelled zero = tt
-empty_spelled (suc n) = (tt, empty_spelled n)
-
 -- one transaction of the founding leaves a database that tells the empty state
 pub founded_told : {S T : Type 0} (g : Ghosts S) (schema : List ℕ) (models : ℕ) (old new : Held S) (t : T) → (state g old).now.schema ≡ nothing → ((state g new).is_clean ≡ false → (state g new).is_open ≡ false)
     → (HasCleanDisk (state g new) → Ends (state g old) (state g new)) → Transacts g (founding schema) old new (Ok t)
-    → IsKept models (state g new) × (IsTrue (state g new).is_open → told models (state g new).now ≡ empty_state models)
+    → IsKept models (state g new) × (IsTrue (state g new).is_open → told models (state g new).now ≡ empty_state models) × (IsTrue (state g new).is_open → schema_in (state g new).now ≡ schema)
 founded_told g schema models old new t none law ends transacts =
-    let both : IsTrue (state g new).is_open → ((state g new).now ≡ (state g new).committed) × (told models (state g new).now ≡ empty_state models) × IsTold models (state g new).now = λ opened.
+    let both : IsTrue (state g new).is_open → ((state g new).now ≡ (state g new).committed) × (told models (state g new).now ≡ empty_state models) × IsTold models (state g new).now × (schema_in (state g new).now ≡ schema) = λ opened.
     let clean = clean_if_open (state g new) law opened in
     let left = transacts.all clean in
     let settled = (ends clean).settled opened in
@@ -130,5 +200,5 @@ founded_told g schema models old new t none law ends transacts =
     let here : Stands schema (state g new).now (empty_state models) = subst (λ d. Stands schema d (empty_state models)) (sym (settled ∙ left.left)) st in
     let sound : IsSound (empty_state models) = record { next = (omega arith, omega arith); tables = empty_sound 0 models 1 } in
     let pair = told_if_stands models schema (state g new).now (empty_state models) (length_empties models) here sound (empty_spelled models) in
-    (settled, pair.0, pair.1) in
-    (record { settled = λ opened. (both opened).0; told_by = λ opened. (both opened).2 }, λ opened. (both opened).1)
+    (settled, pair.0, pair.1, schema_stands schema (state g new).now (empty_state models) here) in
+    (record { settled = λ opened. (both opened).0; told_by = λ opened. (both opened).2 }, (λ opened. (both opened).1), (λ opened. (both opened).3))

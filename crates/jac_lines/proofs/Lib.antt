@@ -6,12 +6,15 @@ pub mod Exact
 pub mod FactLaws
 pub mod Found
 pub mod Founded
+pub mod Gathered
 pub mod IdOrder
 pub mod Kept
 pub mod Numbered
 pub mod Once
 pub mod Permuted
+pub mod RawRows
 pub mod ReadRows
+pub mod Reopened
 pub mod Sound
 pub mod Stays
 pub mod Stepped

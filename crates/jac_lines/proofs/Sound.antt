@@ -51,7 +51,7 @@ narrow_cell kinds.Int (values.Ref (Some id)) e = let f : false ≡ true = e in c
 narrow_cell kinds.Text (values.Ref (Some id)) e = let f : false ≡ true = e in cc
 narrow_cell kinds.Bool (values.Ref (Some id)) e = let f : false ≡ true = e in cc
 
-both_true : (a b : Bool) → (a && b) ≡ true → (a ≡ true) × (b ≡ true)
+pub both_true : (a b : Bool) → (a && b) ≡ true → (a ≡ true) × (b ≡ true)
 both_true true b e = (refl, e)
 both_true false b e = let f : false ≡ true = e in cc
 

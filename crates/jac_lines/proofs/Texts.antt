@@ -64,6 +64,9 @@ add_text = codes "INSERT INTO rec(model, jid, alt, jvars, body) VALUES(?1, ?2, ?
 abbrev pub set_text : List ℕ
 set_text = codes "UPDATE meta SET number = ?1 WHERE k = 0"
 
+abbrev pub reshape_text : List ℕ
+reshape_text = codes "UPDATE meta SET number = ?1, schema = ?2 WHERE k = 0"
+
 abbrev pub all_text : List ℕ
 all_text = codes "SELECT model, jid, alt, jvars, body FROM rec ORDER BY model, jid, alt"
 
@@ -95,6 +98,11 @@ add_plain = (refl, refl)
 pub set_is : command_of (understood (two_tables 0 1 2) set_text) ≡ Update 0 (record { lets = []; body = over 0 (is (col 1 0) (lit (Int (pos 0))) ∷ []) (col 1 0 ∷ col 1 0 ∷ lit Null ∷ col 0 0 ∷ col 1 3 ∷ []) [] })
 unfolding understood everything
 set_is = refl
+
+pub reshape_is : command_of (understood (two_tables 0 1 2) reshape_text)
+    ≡ Update 0 (record { lets = []; body = over 0 (is (col 1 0) (lit (Int (pos 0))) ∷ []) (col 1 0 ∷ col 1 0 ∷ lit Null ∷ col 0 0 ∷ col 0 1 ∷ []) [] })
+unfolding understood everything
+reshape_is = refl
 
 pub all_is : command_of (understood (two_tables 0 1 2) all_text)
     ≡ Select (record { lets = []; body = over 1 [] (col 1 1 ∷ col 1 2 ∷ col 1 3 ∷ col 1 4 ∷ col 1 5 ∷ []) (by 1 ∷ by 2 ∷ by 3 ∷ []) })

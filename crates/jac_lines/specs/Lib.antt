@@ -7,5 +7,6 @@ pub mod Stands
 pub mod Statements
 pub mod Tables
 pub mod Telling
+pub mod Testing
 pub mod Told
 pub mod Transaction

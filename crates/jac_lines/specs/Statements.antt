@@ -1,5 +1,5 @@
 -- The statements that found a store, and those that store a change.
-use Rattle.std.specs.Prelude.{ℕ, ◌+◌, pos, List, [], ◌∷◌, ◌++◌, codes}
+use Rattle.std.specs.Prelude.{ℕ, ◌+◌, pos, List, [], ◌∷◌, ◌++◌, Option, Some, None, codes}
 use Rattle.std.specs.Int.{w128, to_be_bytes}
 use Rattle.sqlite_value.specs.Order.{Row as Values}
 use Rattle.sqlite_value.specs.declared.value.Value.TheVariants.{Int, Text, Blob}
@@ -25,6 +25,16 @@ founding schema =
 -- what is asked for the number and the schema
 unfoldable pub reading : List ℕ
 reading = codes "SELECT number, schema FROM meta WHERE k = 0"
+
+-- what is asked for the keys of meta, for the rowids of rec, and for all its rows
+unfoldable pub key_reading : List ℕ
+key_reading = codes "SELECT k FROM meta"
+
+unfoldable pub rowid_reading : List ℕ
+rowid_reading = codes "SELECT rowid FROM rec ORDER BY rowid"
+
+unfoldable pub all_reading : List ℕ
+all_reading = codes "SELECT model, jid, alt, jvars, body FROM rec ORDER BY model, jid, alt"
 
 -- what is asked for the rows of a model, and for those of a record
 unfoldable pub model_reading : ℕ → Statement
@@ -58,6 +68,13 @@ numbering number = record {
   params = Int (pos number) ∷ [];
 }
 
+-- the number and the schema text
+unfoldable pub reshaping : ℕ → List ℕ → Statement
+reshaping number schema = record {
+  text = codes "UPDATE meta SET number = ?1, schema = ?2 WHERE k = 0";
+  params = Int (pos number) ∷ Text schema ∷ [];
+}
+
 -- the alternatives, numbered from this one on
 abbrev pub additions : ℕ → List Row → List Statement
 additions alt [] = []
@@ -73,3 +90,12 @@ replacements (a ∷ rest) = replacement a ++ replacements rest
 
 abbrev pub statements_of : Change → List Statement
 statements_of change = replacements change.changed ++ (numbering change.number ∷ [])
+
+-- the number, and a schema text where there is one
+abbrev pub settings : ℕ → Option (List ℕ) → List Statement
+settings number None = numbering number ∷ []
+settings number (Some schema) = reshaping number schema ∷ []
+
+-- those of a change that may bring another schema
+abbrev pub statements_with : Change → Option (List ℕ) → List Statement
+statements_with change schema = replacements change.changed ++ settings change.number schema

@@ -14,9 +14,10 @@ use Rattle.jac_keep.specs.declared.alteration.Alteration.{Alteration}
 use Rattle.jac_keep.specs.declared.alteration.Change.{Change}
 use Rattle.jac_keep.specs.Alterations.{AreOwn, ArePlaced}
 use Rattle.jac_keep.specs.Kept.{applied}
+use Rattle.jac_keep.specs.Reshaping.{widened}
 use Rattle.jac_keep.specs.Schema.{empties}
 use Rattle.jac_lines.specs.Stands.{Stands, AreNarrow}
-use Rattle.jac_lines.specs.Told.{told, AreSpelled}
+use Rattle.jac_lines.specs.Told.{told, schema_in, AreSpelled}
 
 -- a state of so many models that has no records
 abbrev pub empty_state : ℕ → State
@@ -62,3 +63,12 @@ pub record AppliesTold {S : Type 0} (g : Ghosts S) (models : ℕ) (change : Chan
   pub told_before : IsTrue (state g new).is_open → IsTrue (state g old).is_open
   pub exact : IsTrue (state g new).is_open → OnOk result (told models (state g new).now ≡ applied change (told models (state g old).now))
   pub refused : IsTrue (state g new).is_open → OnErr result (told models (state g new).now ≡ told models (state g old).now)
+
+-- the change was applied and the store brought to so many models where it was told that it was, and else nothing was changed
+pub record ReshapesTold {S : Type 0} (g : Ghosts S) (models more : ℕ) (change : Change) (schema : List ℕ) (old new : Held S) (result : Result (Unit {0}) Error) : Type 0 where
+  pub told_before : IsTrue (state g new).is_open → IsTrue (state g old).is_open
+  pub kept : OnOk result (IsKept more (state g new))
+  pub same : OnErr result (IsKept models (state g new))
+  pub exact : IsTrue (state g new).is_open → OnOk result (told more (state g new).now ≡ widened more (applied change (told models (state g old).now)))
+  pub refused : IsTrue (state g new).is_open → OnErr result (told models (state g new).now ≡ told models (state g old).now)
+  pub stored : IsTrue (state g new).is_open → OnOk result (schema_in (state g new).now ≡ schema)

@@ -26,6 +26,13 @@ bytes_in (Int n) = []
 bytes_in (Real x) = []
 bytes_in (Text t) = []
 
+abbrev pub chars_in : Value → List ℕ
+chars_in (Text t) = t
+chars_in Null = []
+chars_in (Int n) = []
+chars_in (Real x) = []
+chars_in (Blob b) = []
+
 -- the fact of a row of rec
 abbrev pub fact_in : Values → Fact
 fact_in r = record { model = natural_in (column r 1); jid = bytes_in (column r 2); alt = natural_in (column r 3); jvars = bytes_in (column r 4); body = bytes_in (column r 5) }
@@ -43,6 +50,10 @@ told models db = record {
   tables = tables_in 0 models (sort_by fact_cmp (map fact_in (db.trees 1)));
   number = natural_in (column (slice_index_or (db.trees 0) 0 []) 2);
 }
+
+-- the schema text of the first row of meta
+abbrev pub schema_in : Database → List ℕ
+schema_in db = chars_in (column (slice_index_or (db.trees 0) 0 []) 3)
 
 abbrev pub AreSpelled : List (List Row) → Type 0
 AreSpelled [] = ⊤
