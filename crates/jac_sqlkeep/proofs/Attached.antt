@@ -4,11 +4,13 @@ use Rattle.jac_value.specs.declared.value.Kind.{Kind}
 use Rattle.jac_rows.specs.Good.{ModelShape}
 use Rattle.jac_rows.specs.declared.state.State.{State}
 use Rattle.jac_keep.specs.Attaching.{Attaches}
-use Rattle.jac_keep.specs.Schema.{IsSchema, IsFit, empties, shapes_by}
+use Rattle.jac_keep.specs.Kept.{applied}
+use Rattle.jac_keep.specs.Reshaping.{widened, Reshapes}
+use Rattle.jac_keep.specs.Schema.{IsSchema, IsFit, shapes_by}
+use Rattle.jac_keep.specs.declared.alteration.Change.{Change}
 use Rattle.jac_keep.specs.declared.vault.AttachFault.{AttachFault}
-use Rattle.jac_keep.proofs.SchemaLaws.{schema_one, empties_fit, length_shapes}
-use Rattle.jac_lines.specs.Telling.{empty_state}
-use Rattle.jac_sqlkeep.specs.Based.{Based}
+use Rattle.jac_keep.proofs.SchemaLaws.{schema_one, length_shapes}
+use Rattle.jac_sqlkeep.specs.Based.{Based, ReshapesBased}
 use Rattle.jac_sqlkeep.specs.Kept.{Kept, seen_kept, tells_of, state_of}
 
 -- before it was called it told nothing
@@ -16,18 +18,15 @@ untold : (database : Option Based) (called : Bool) → (IsTrue (is_some database
 untold None called known first = refl
 untold (Some d) called known first = absurd (true≢false (sym (known refl) ∙ first))
 
-fits_empty : (shapes : List ModelShape) (s : State) → s ≡ empty_state (length shapes) → IsFit shapes s
-fits_empty shapes s is = subst (IsFit shapes) (sym is) (empties_fit shapes (record { tables = []; number = 1 }) (omega arith, omega arith))
-
 module _ (old new : Kept) (name : Option (List ℕ)) (schema : List ℕ) (kinds : List (List Kind)) (nested : List Bool) (d : Based) where
   pub attached_now : (IsTrue (is_some old.database) → IsTrue old.store.called) → old.store.called ≡ false → new.store.called ≡ true → new.store.attached ≡ true → new.store.name ≡ name → new.store.schema ≡ Some schema
-      → old.faults ≤ new.faults → new.database ≡ Some d → IsSchema schema (shapes_by kinds nested) → (IsTrue d.tells → d.state ≡ empty_state (length kinds))
+      → old.faults ≤ new.faults → new.database ≡ Some d → IsSchema schema (shapes_by kinds nested) → (IsTrue d.tells → IsFit (shapes_by kinds nested) d.state)
       → Attaches (seen_kept old) (seen_kept new) name schema (Ok tt)
-  attached_now known first called attached named stored later base is empty =
+  attached_now known first called attached named stored later base is fits =
       let before : tells_of old.database ≡ false = untold old.database old.store.called known first in
       let shapes : List ModelShape = shapes_by kinds nested in
-      let state : IsTrue (tells_of new.database) → state_of new.database ≡ empty_state (length shapes) = λ told.
-      ap state_of base ∙ empty (sym (ap tells_of base) ∙ told) ∙ ap empty_state (sym (length_shapes kinds nested)) in
+      let state : IsTrue (tells_of new.database) → IsFit shapes (state_of new.database) = λ told.
+      subst (λ (o : Option Based). IsFit shapes (state_of o)) (sym base) (fits (sym (ap tells_of base) ∙ told)) in
       record {
         later = later;
         called = called;
@@ -35,7 +34,7 @@ module _ (old new : Kept) (name : Option (List ℕ)) (schema : List ℕ) (kinds 
           attached = attached;
           named = named;
           stored = stored;
-          fit = λ told others also. subst (λ ks. IsFit ks (state_of new.database)) (schema_one schema shapes others is also) (fits_empty shapes (state_of new.database) (state told));
+          fit = λ told others also. subst (λ ks. IsFit ks (state_of new.database)) (schema_one schema shapes others is also) (state told);
           known = λ told then. absurd (true≢false (sym then ∙ before));
           kept = λ told then. absurd (true≢false (sym then ∙ before));
           made = λ told then. absurd (true≢false (sym then ∙ before));
@@ -46,3 +45,38 @@ module _ (old new : Kept) (name : Option (List ℕ)) (schema : List ℕ) (kinds 
         other = λ stored_text is_other. absurd cc;
         known_other = λ stored_text is_other. absurd cc;
       }
+
+-- ---- a keeper that is brought to another schema
+
+pub brought_fit : (k : Kept) (d : Based) (schema : List ℕ) (shapes : List ModelShape) (kinds : List (List Kind)) (nested : List Bool) (change : Change) → k.database ≡ Some d → IsSchema schema shapes → IsSchema schema (shapes_by kinds nested)
+    → (IsTrue (seen_kept k).tells → IsFit shapes (widened (length shapes) (applied change (seen_kept k).state))) → IsTrue d.tells → IsFit (shapes_by kinds nested) (widened (length kinds) (applied change d.state))
+brought_fit k d schema shapes kinds nested change base is also fits told =
+    let same : shapes ≡ shapes_by kinds nested = schema_one schema shapes (shapes_by kinds nested) is also in
+    let s = applied change d.state in
+    let fit : IsFit shapes (widened (length shapes) s) = subst (λ (o : Option Based). IsFit shapes (widened (length shapes) (applied change (state_of o)))) base (fits (ap tells_of base ∙ told)) in
+    subst (λ n. IsFit (shapes_by kinds nested) (widened n s)) (length_shapes kinds nested) (subst (λ ks. IsFit ks (widened (length ks) s)) same fit)
+
+module _ (called : Bool) (before name : Option (List ℕ)) (faults : ℕ) (refused database : Option Based) where
+  -- what such a keeper was
+  abbrev was : Kept
+  was = record { store = record { called = called; attached = is_some database; schema = before; name = name }; faults = faults; database = database; refused = refused }
+
+  abbrev brought : Based → List ℕ → Kept
+  brought e copy = record { store = record { called = called; attached = true; schema = Some copy; name = name }; faults = faults; database = Some e; refused = refused }
+
+  pub reshaped_now : (old : Kept) (d e : Based) (copy schema : List ℕ) (change : Change) (kinds : List (List Kind)) (nested : List Bool) → was ≡ old → database ≡ Some d → copy ≡ schema → IsSchema schema (shapes_by kinds nested)
+      → ReshapesBased change schema (length kinds) d e (Ok tt) → Reshapes (seen_kept old) (seen_kept (brought e copy)) change schema (Ok tt)
+  reshaped_now old d e copy schema change kinds nested view base copied is reshapes =
+      let attached : true ≡ is_some database = sym (ap is_some base) in
+      subst (λ (k : Kept). Reshapes (seen_kept k) (seen_kept (brought e copy)) change schema (Ok tt)) view (record {
+        cause = record { later = omega arith; rose = λ failed. absurd cc };
+        told = λ told. ap tells_of base ∙ reshapes.told_before told;
+        ok = record {
+          store = λ i. record { called = called; attached = attached i; schema = Some (copied i); name = name };
+          state = λ told shapes also.
+              let same : shapes_by kinds nested ≡ shapes = schema_one schema (shapes_by kinds nested) shapes is also in
+              let long : length kinds ≡ length shapes = sym (length_shapes kinds nested) ∙ ap length same in
+              reshapes.exact told ∙ ap (λ n. widened n (applied change d.state)) long ∙ ap (λ (o : Option Based). widened (length shapes) (applied change (state_of o))) (sym base);
+        };
+        err = tt;
+      })

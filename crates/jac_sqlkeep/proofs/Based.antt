@@ -3,6 +3,7 @@ use Rattle.std.proofs.Common.{◌≡◌, refl, sym, ap, subst, ◌∙◌, ℕ, z
 use Rattle.sqlite_trees.specs.declared.store.Store.{Ghosts}
 use Rattle.sqlite.specs.declared.error.Error.{Error}
 use Rattle.sqlite.specs.Held.{Held, state}
+use Rattle.sqlite.specs.State.{HasCleanDisk}
 use Rattle.jac_value.specs.Ids.{model_of_id}
 use Rattle.jac_value.specs.declared.value.Kind.{Kind}
 use Rattle.jac_value.specs.declared.value.Value.{Value}
@@ -15,9 +16,15 @@ use Rattle.jac_keep.specs.Kept.{applied}
 use Rattle.jac_keep.specs.Records.{alternatives}
 use Rattle.jac_keep.specs.Holding.{holders}
 use Rattle.jac_lines.specs.Facts.{Fact}
-use Rattle.jac_lines.specs.Told.{told, tables_in}
-use Rattle.jac_lines.specs.Telling.{empty_state, IsKept, ReadsTold, AppliesTold}
-use Rattle.jac_sqlkeep.specs.Based.{Based, based, ReadsBased, AppliesBased, OpensBased}
+use Rattle.jac_keep.specs.Reshaping.{widened}
+use Rattle.jac_keep.specs.Schema.{IsFit, shapes_by}
+use Rattle.jac_keep.proofs.SchemaLaws.{length_shapes, empties_fit}
+use Rattle.jac_lines.specs.Told.{told, tables_in, schema_in}
+use Rattle.jac_lines.specs.Statements.{statements_with}
+use Rattle.jac_lines.specs.Telling.{empty_state, IsKept, ReadsTold, AppliesTold, ReshapesTold, CanBeStored}
+use Rattle.jac_lines.specs.Transaction.{Transacts, Ends}
+use Rattle.jac_lines.proofs.Kept.{reshape_told}
+use Rattle.jac_sqlkeep.specs.Based.{Based, based, ReadsBased, AppliesBased, ReshapesBased, OpensBased}
 
 never : {A : Type 0} → IsTrue false → A
 never t = absurd (true≢false (sym t))
@@ -40,6 +47,30 @@ pub sound_before : {S : Type 0} (g : Ghosts S) (kinds : List (List Kind)) (h : H
     → IsTrue (state g h).is_open → IsSound (applied change (told (length kinds) (state g h).now))
 sound_before g kinds h change true known sound opened = sound opened
 sound_before g kinds h change false known sound opened = never known
+
+module _ {S : Type 0} (g : Ghosts S) (kinds more : List (List Kind)) (nested : List Bool) (old new : Held S) (change : Change) (schema : List ℕ) where
+  -- a change that brings another schema, over a database that tells
+  pub reshaped_told : ((state g new).is_clean ≡ false → (state g new).is_open ≡ false) → (HasCleanDisk (state g new) → Ends (state g old) (state g new)) → (known : Bool) → (IsTrue known → IsKept (length kinds) (state g old))
+      → (IsTrue (based g kinds known old).tells → IsFit (shapes_by more nested) (widened (length more) (applied change (based g kinds known old).state))) → (r : Result (Unit {0}) Error)
+      → OnOk r (CanBeStored (length kinds) change.changed) → Transacts g (statements_with change (Some schema)) old new r → IsTrue known → ReshapesTold g (length kinds) (length more) change schema old new r
+  reshaped_told law ends false was fits r may t known = never known
+  reshaped_told law ends true was fits r may t known =
+      let s = applied change (told (length kinds) (state g old).now) in
+      subst (λ n. ReshapesTold g (length kinds) n change schema old new r) (length_shapes more nested)
+      (reshape_told g (shapes_by more nested) (length kinds) old new change schema law ends (was refl)
+      (λ opened. subst (λ n. IsFit (shapes_by more nested) (widened n s)) (sym (length_shapes more nested)) (fits opened)) r may t)
+
+  pub reshapes_ok : (known : Bool) → (IsTrue known → ReshapesTold g (length kinds) (length more) change schema old new (Ok tt)) → ReshapesBased change schema (length more) (based g kinds known old) (based g more known new) (Ok tt)
+  reshapes_ok false told = record { told_before = λ t. t; exact = λ t. never t; stored = λ t. never t; refused = λ t. tt }
+  reshapes_ok true told =
+      let it = told refl in
+      record { told_before = it.told_before; exact = it.exact; stored = it.stored; refused = λ t. tt }
+
+  pub reshapes_err : (known : Bool) (e : Error) → (IsTrue known → ReshapesTold g (length kinds) (length more) change schema old new (Err e)) → ReshapesBased change schema (length more) (based g kinds known old) (based g kinds known new) (Err e)
+  reshapes_err false e told = record { told_before = λ t. t; exact = λ t. tt; stored = λ t. tt; refused = λ t. never t }
+  reshapes_err true e told =
+      let it = told refl in
+      record { told_before = it.told_before; exact = λ t. tt; stored = λ t. tt; refused = it.refused }
 
 -- ---- a model beyond the schema has no rows
 
@@ -87,9 +118,17 @@ found_based field value model old new r found reads are none = record {
 
 -- ---- opening
 
-pub opens_new : (schema : List ℕ) (kinds : List (List Kind)) (d : Based) → (IsTrue d.tells → d.state ≡ empty_state (length kinds)) → OpensBased schema kinds (d, None)
-opens_new schema kinds d empty = record { empty = empty; other = tt }
+-- a state without records fits every schema
+pub fits_empty : (kinds : List (List Kind)) (nested : List Bool) (s : State) → s ≡ empty_state (length kinds) → IsFit (shapes_by kinds nested) s
+fits_empty kinds nested s is =
+    subst (IsFit (shapes_by kinds nested)) (sym (is ∙ ap empty_state (sym (length_shapes kinds nested)))) (empties_fit (shapes_by kinds nested) (record { tables = []; number = 1 }) (omega arith, omega arith))
 
-pub opens_old : (schema : List ℕ) (kinds : List (List Kind)) (r : Result (Based × Option (List ℕ)) Error) → IfOk r (λ found. (found.0.tells ≡ false) × IfSome found.1 (λ stored. ¬ (stored ≡ schema))) → IfOk r (OpensBased schema kinds)
-opens_old schema kinds (Ok found) h = record { empty = λ t. absurd (true≢false (sym t ∙ h.0)); other = h.1 }
-opens_old schema kinds (Err e) h = tt
+module _ {S : Type 0} (g : Ghosts S) (schema : List ℕ) (kinds : List (List Kind)) (nested : List Bool) (h : Held S) where
+  -- one that is told, with a schema that it has
+  pub opens_told : (IsTrue (state g h).is_open → IsFit (shapes_by kinds nested) (told (length kinds) (state g h).now)) → (IsTrue (state g h).is_open → schema_in (state g h).now ≡ schema)
+      → OpensBased schema kinds nested (based g kinds true h, None)
+  opens_told fit stored = record { fit = fit; stored = stored; other = tt }
+
+  -- one of another schema
+  pub opens_other : (other : List ℕ) → (IsTrue (state g h).is_open → schema_in (state g h).now ≡ other) → ¬ (other ≡ schema) → OpensBased schema kinds nested (based g kinds false h, Some other)
+  opens_other other stored is_other = record { fit = λ t. never t; stored = stored; other = is_other }

@@ -1,4 +1,7 @@
 pub mod Attached
 pub mod Based
+pub mod Parts
 pub mod Read
+pub mod Reopens
+pub mod Rows
 pub mod Steps

@@ -1,3 +1,4 @@
 pub mod Based
+pub mod Form
 pub mod Kept
 pub mod Opening

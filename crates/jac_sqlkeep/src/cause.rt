@@ -25,3 +25,26 @@ pub fn stop_of(error: Error, faults: &mut u64) -> Stop
         }
     }
 }
+
+/// Why what is stored isn't attached.
+#[derive(Clone, Copy, Debug)]
+pub enum Unfit {
+    /// A statement was refused.
+    Refused(Error),
+    /// The database has other tables than a keeper's.
+    Form,
+    /// The table of the number and the schema hasn't its one row.
+    Meta,
+    /// The row at this place, in the order of models, records and alternatives, can't stand there.
+    Row(usize),
+}
+
+/// The error of what isn't attached.
+pub fn error_of(unfit: Unfit) -> Error {
+    match unfit {
+        Unfit::Refused(error) => error,
+        Unfit::Form => CORRUPT,
+        Unfit::Meta => CORRUPT,
+        Unfit::Row(_) => CORRUPT,
+    }
+}

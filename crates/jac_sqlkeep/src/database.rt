@@ -1,23 +1,27 @@
 //! A database with the tables of a keeper.
-ghost use Rattle.std.specs.Prelude.{◌≡◌, false, length, slice_get, Err, IfOk, IfErr, IfSome, IsTrue};
-ghost use Rattle.std.specs.Option.{option_copied};
+ghost use Rattle.std.specs.Prelude.{◌≡◌, false, length, Err, IfOk, IfErr, IsTrue};
 ghost use Rattle.sqlite.specs.Held.{state};
+ghost use Rattle.sqlite.specs.State.{IsLive};
 ghost use Rattle.jac_value.specs.Ids.{model_of_id};
 ghost use Rattle.jac_rows.specs.Good.{IsNext, IsSound};
 ghost use Rattle.jac_rows.specs.Tables.{rows_of};
 ghost use Rattle.jac_keep.specs.Kept.{applied};
 ghost use Rattle.jac_keep.specs.Records.{alternatives};
 ghost use Rattle.jac_keep.specs.Holding.{holders};
-ghost use Rattle.jac_lines.specs.Tables.{nothing};
-ghost use Rattle.jac_lines.specs.Telling.{empty_state};
-ghost use Rattle.jac_sqlkeep.specs.Based.{ReadsBased, AppliesBased, OpensBased};
+ghost use Rattle.jac_keep.specs.Reshaping.{widened};
+ghost use Rattle.jac_keep.specs.Schema.{IsFit, shapes_by};
+ghost use Rattle.jac_lines.specs.Tables.{nothing, two_tables};
+ghost use Rattle.jac_sqlkeep.specs.Based.{ReadsBased, AppliesBased, ReshapesBased, OpensBased};
 
-use crate::cause::{CORRUPT, NO_MEMORY};
-use crate::meta::{find_schema, has_nothing, make_tables, read_number};
+use crate::cause::{CORRUPT, NO_MEMORY, Unfit};
+use crate::form::has_form;
+use crate::meta::{find_schema, has_nothing, make_tables, read_number, test_key};
+use crate::models::kinds_of;
 use crate::records::{read_model, read_record, write_change};
+use crate::stored::test_stored;
 use jac_keep::{Change, holders};
 use jac_rows::{Rows, Shape};
-use jac_value::{Id, Kind, Memory, Txt, Value, id_model};
+use jac_value::{Id, Memory, Txt, Value, id_model};
 use sqlite::{Alter, Connection, Error};
 use std::alloc::Global;
 use std::marker::Model;
@@ -46,57 +50,86 @@ impl<S: Alter> Model for Database<S> {
 
 impl<S: Alter + Drop> Database<S> {
     /// Opens what is stored for this schema, or makes it where the database has nothing. Another schema that is stored
-    /// is told.
-    #[tactic(auto, using(crate::proofs::Based::opens_new, crate::proofs::Based::opens_old))]
+    /// is told; of its store nothing is known.
     pub fn open(
         alloc: Global,
         conn: Connection<S>,
         shape: Shape,
         schema: &Txt,
-    ) -> Result<(Database<S>, Option<Txt>), Error>
-        ensures { IfOk result (OpensBased schema.now shape.kinds) }
+    ) -> Result<(Database<S>, Option<Txt>), Unfit>
+        ensures { IfOk result (OpensBased schema.now shape.kinds shape.nested) }
     {
         if !conn.is_autocommit() {
-            return Err(CORRUPT);
+            return Err(Unfit::Refused(CORRUPT));
         }
         if has_nothing(&conn) {
-            let database = Database::found(conn, shape, schema)?;
-            return Ok((database, None));
+            return Database::found(conn, shape, schema);
+        }
+        if !has_form(&conn) {
+            return Err(Unfit::Form);
         }
         Database::reopen(alloc, conn, shape, schema)
     }
 
-    // A new store, whose rows are known.
-    fn found(mut conn: Connection<S>, shape: Shape, schema: &Txt) -> Result<Database<S>, Error>
+    // A new store.
+    fn found(
+        mut conn: Connection<S>,
+        shape: Shape,
+        schema: &Txt,
+    ) -> Result<(Database<S>, Option<Txt>), Unfit>
         requires outside { conn.in_transaction ≡ false }
         requires none { (state S.Store conn).now.schema ≡ nothing }
-        ensures { IfOk result (λ d. IsTrue d.tells → d.state ≡ empty_state (length shape.kinds)) }
+        ensures { IfOk result (OpensBased schema.now shape.kinds shape.nested) }
     {
-        make_tables(&mut conn, schema)?;
-        Ok(Database {
-            conn,
-            shape,
-            known: true,
-        })
+        match make_tables(&mut conn, schema) {
+            Ok(()) => Ok((
+                Database {
+                    conn,
+                    shape,
+                    known: true,
+                },
+                None,
+            )),
+            Err(error) => Err(Unfit::Refused(error)),
+        }
     }
 
-    // A store that was made before, of which nothing is known.
+    // A store that was made before.
     fn reopen(
         alloc: Global,
         mut conn: Connection<S>,
         shape: Shape,
         schema: &Txt,
-    ) -> Result<(Database<S>, Option<Txt>), Error>
-        requires { conn.in_transaction ≡ false }
-        ensures { IfOk result (λ found. (found.0.tells ≡ false) × IfSome found.1 (λ stored. ¬ (stored ≡ schema.now))) }
+    ) -> Result<(Database<S>, Option<Txt>), Unfit>
+        requires outside { conn.in_transaction ≡ false }
+        requires settled { IsTrue (state S.Store conn).is_open → (state S.Store conn).now ≡ (state S.Store conn).committed }
+        requires form { (state S.Store conn).now.schema ≡ two_tables 0 1 2 }
+        requires live { IsLive (state S.Store conn) }
+        ensures { IfOk result (OpensBased schema.now shape.kinds shape.nested) }
     {
-        let other = find_schema(alloc, &mut conn, schema)?;
-        let database = Database {
-            conn,
-            shape,
-            known: false,
-        };
-        Ok((database, other))
+        test_key(&mut conn)?;
+        match find_schema(alloc, &mut conn, schema) {
+            Ok(None) => {
+                test_stored(alloc, &mut conn, &shape)?;
+                Ok((
+                    Database {
+                        conn,
+                        shape,
+                        known: true,
+                    },
+                    None,
+                ))
+            }
+            Ok(Some(stored)) => Ok((
+                Database {
+                    conn,
+                    shape,
+                    known: false,
+                },
+                Some(stored),
+            )),
+            Err(error) => Err(Unfit::Refused(error)),
+        }
     }
 }
 
@@ -156,7 +189,28 @@ impl<S: Alter> Database<S> {
         ensures applies { AppliesBased change.now self.old self.new result }
     {
         let models = self.shape.kinds.as_slice().len();
-        write_change(alloc, &mut self.conn, models, change)
+        write_change(alloc, &mut self.conn, models, change, None)
+    }
+
+    /// The change, and from then on a state of this schema.
+    pub fn reshape(
+        &mut self,
+        alloc: Global,
+        change: &Change,
+        shape: Shape,
+        schema: &Txt,
+    ) -> Result<(), Error>
+        requires fit { IsTrue self.old.tells → IsFit (shapes_by shape.kinds shape.nested) (widened (length shape.kinds) (applied change.now self.old.state)) }
+        ensures { ReshapesBased change.now schema.now (length shape.kinds) self.old self.new result }
+    {
+        let models = self.shape.kinds.as_slice().len();
+        match write_change(alloc, &mut self.conn, models, change, Some(schema)) {
+            Ok(()) => {
+                self.shape = shape;
+                Ok(())
+            }
+            Err(error) => Err(error),
+        }
     }
 }
 
@@ -177,14 +231,5 @@ fn found_among(
     match holders(alloc, rows.as_slice(), field, value) {
         Ok(found) => Ok(found),
         Err(Memory) => Err(NO_MEMORY),
-    }
-}
-
-fn kinds_of(shape: &Shape, model: u8) -> Option<&[Kind]>
-    ensures { option_copied result ≡ slice_get shape.now.kinds model }
-{
-    match shape.kinds.as_slice().get(usize::from(model)) {
-        Some(kinds) => Some(kinds.as_slice()),
-        None => None,
     }
 }

@@ -1,4 +1,4 @@
-ghost use Rattle.std.specs.Prelude.{◌≡◌, ◌≤◌, ℕ, List, Option, IfOk, OnOk, OnErr, IsTrue, true, false, is_some};
+ghost use Rattle.std.specs.Prelude.{◌≡◌, ◌≤◌, ◌||◌, ℕ, List, Option, Err, IfOk, OnOk, OnErr, IsSomeAnd, IsTrue, true, false, is_some, length};
 ghost use Rattle.std.specs.Option.{option_copied};
 ghost use Rattle.jac_value.specs.Ids.{model_of_id};
 ghost use Rattle.jac_io.specs.Faults.{Rose};
@@ -8,13 +8,15 @@ ghost use Rattle.jac_keep.specs.KeeperSeen.{Keeps, Reads};
 ghost use Rattle.jac_keep.specs.Kept.{applied};
 ghost use Rattle.jac_keep.specs.Records.{alternatives};
 ghost use Rattle.jac_keep.specs.Holding.{holders};
-ghost use Rattle.jac_keep.specs.Schema.{IsSchema, shapes_by};
+ghost use Rattle.jac_keep.specs.Reshaping.{widened, Reshapes};
+ghost use Rattle.jac_keep.specs.Schema.{IsSchema, IsFit, shapes_by};
 ghost use Rattle.jac_keep.specs.Attaching.{Attaches};
+ghost use Rattle.jac_keep.specs.declared.vault.AttachFault.TheVariants.{Other};
 ghost use Rattle.jac_sqlkeep.specs.Based.{Based};
-ghost use Rattle.jac_sqlkeep.specs.Kept.{IsRefusedAs};
+ghost use Rattle.jac_sqlkeep.specs.Kept.{HasSchema, TellsSchema, IsRefusedAs};
 
 use crate::Opener;
-use crate::cause::stop_of;
+use crate::cause::{Unfit, error_of, stop_of};
 use crate::database::Database;
 use jac_keep::{AttachFault, Change, Keeper, Stop, Vault, shape_of};
 use jac_rows::{Rows, Shape};
@@ -23,9 +25,10 @@ use sqlite::Connection;
 use std::alloc::Global;
 use std::marker::Model;
 
-/// A keeper in a database. It tells its state where it made the store itself, as long as the connection is open. It
-/// counts each statement that was refused but for want of memory, each stored row that is none of its model, each change
-/// of a record that is none of its models, and each opening that failed.
+/// A keeper in a database. It tells its state from when it is attached, as long as the connection is open. It counts each
+/// statement that was refused but for want of memory, each store whose tables or rows aren't those of a state that fits
+/// its schema, each stored row that is none of its model, each change of a record that is none of its models, and each
+/// opening that failed.
 #[derive(Drop)]
 pub struct SqlKeeper<O: Opener> {
     opener: O,
@@ -33,6 +36,8 @@ pub struct SqlKeeper<O: Opener> {
     schema: Option<Txt>,
     name: Option<Txt>,
     database: Option<Database<O::Store>>,
+    refused: Option<Database<O::Store>>,
+    unfit: Option<Unfit>,
     faults: u64,
 }
 
@@ -42,7 +47,7 @@ impl<O: Opener> Model for SqlKeeper<O> {
 
     ghost Value = { Kept };
 
-    ghost view = { λ k. record { store = record { called = k.called; attached = is_some k.database; schema = k.schema; name = k.name }; faults = k.faults; database = k.database } };
+    ghost view = { λ k. record { store = record { called = k.called; attached = is_some k.database; schema = k.schema; name = k.name }; faults = k.faults; database = k.database; refused = k.refused } };
 
     ghost invariant = { λ k. IsTrue (is_some k.database) → IsTrue k.called };
 }
@@ -60,15 +65,26 @@ impl<O: Opener> SqlKeeper<O> {
             schema: None,
             name: None,
             database: None,
+            refused: None,
+            unfit: None,
             faults: 0,
         }
+    }
+
+    pub fn opener(&self) -> &O {
+        &self.opener
+    }
+
+    /// Why what is stored wasn't attached, where it could be opened.
+    pub fn unfit(&self) -> Option<Unfit> {
+        self.unfit
     }
 }
 
 impl<O: Opener + Drop> SqlKeeper<O> {
-    /// The connection, if it is attached.
+    /// The connection, if it is attached, or that to a store of another schema, which was refused.
     pub fn into_connection(self) -> Option<Connection<O::Store>>
-        ensures { is_some result ≡ self.store.attached }
+        ensures { is_some result ≡ (is_some self.database || is_some self.refused) }
     {
         let SqlKeeper {
             opener: _,
@@ -76,11 +92,16 @@ impl<O: Opener + Drop> SqlKeeper<O> {
             schema: _,
             name: _,
             database,
+            refused,
+            unfit: _,
             faults: _,
         } = self;
         match database {
             Some(database) => Some(database.into_connection()),
-            None => None,
+            None => match refused {
+                Some(refused) => Some(refused.into_connection()),
+                None => None,
+            },
         }
     }
 }
@@ -151,13 +172,14 @@ impl<O: Opener> Keeper for SqlKeeper<O> {
 impl<O: Opener> Vault for SqlKeeper<O> {
     ghost use Rattle.jac_sqlkeep.specs.Kept.{seen_kept};
 
-    /// A store that was made before is attached without being told. A database of another program is left as it is.
-    fn attach(
-        &mut self,
-        alloc: Global,
-        name: Option<&Txt>,
-        schema: &Txt,
-    ) -> Result<(), AttachFault> {
+    /// A store that was made before is read and tested whole. What is no store is left as it is.
+    fn attach(&mut self, alloc: Global, name: Option<&Txt>, schema: &Txt) -> Result<(), AttachFault>
+        requires first { self.old.store.called ≡ false }
+        requires schema { (shapes : List ModelShape) × IsSchema schema.now shapes }
+        ensures attaches { Attaches (seen_kept self.old) (seen_kept self.new) (option_copied name.entry) schema.now result }
+        ensures stored { OnOk result (IsSomeAnd self.new.database (HasSchema schema.now)) }
+        ensures other_stored { (stored : List ℕ) → result ≡ Err (Other stored) → IsSomeAnd self.new.refused (HasSchema stored) }
+    {
         self.called = true;
         let Ok(known) = known_of(alloc, name, schema) else {
             return Err(AttachFault::Memory);
@@ -177,9 +199,36 @@ impl<O: Opener> Vault for SqlKeeper<O> {
                     self.begin(database, name, copy);
                     Ok(())
                 }
-                Some(stored) => self.refuse(alloc, stored),
+                Some(stored) => self.refuse(alloc, database, stored),
             },
-            Err(error) => Err(fault_of(stop_of(error, &mut self.faults))),
+            Err(unfit) => Err(self.fail(unfit)),
+        }
+    }
+
+    fn reshape(&mut self, alloc: Global, change: &Change, schema: &Txt) -> Result<(), Stop>
+        requires attached { IsTrue self.old.store.attached }
+        requires schema { (shapes : List ModelShape) × IsSchema schema.now shapes
+            × (IsTrue (seen_kept self.old).tells → IsFit shapes (widened (length shapes) (applied change.now (seen_kept self.old).state))) }
+        ensures reshapes { Reshapes (seen_kept self.old) (seen_kept self.new) change.now schema.now result }
+        ensures stored { OnOk result (IsSomeAnd self.new.database (TellsSchema schema.now)) }
+    {
+        let Ok(known) = known_of(alloc, None, schema) else {
+            return Err(Stop::Memory);
+        };
+        let Known {
+            name: _,
+            shape,
+            schema: copy,
+        } = known;
+        let Some(database) = &mut self.database else {
+            unreachable!()
+        };
+        match database.reshape(alloc, change, shape, schema) {
+            Ok(()) => {
+                self.schema = Some(copy);
+                Ok(())
+            }
+            Err(error) => Err(stop_of(error, &mut self.faults)),
         }
     }
 }
@@ -196,16 +245,33 @@ impl<O: Opener> SqlKeeper<O> {
     }
 
     // What is stored has another schema.
-    fn refuse(&mut self, alloc: Global, stored: Txt) -> Result<(), AttachFault>
-        ensures refused { IsRefusedAs self.old self.new stored result }
+    fn refuse(
+        &mut self,
+        alloc: Global,
+        database: Database<O::Store>,
+        stored: Txt,
+    ) -> Result<(), AttachFault>
+        ensures refused { IsRefusedAs self.old self.new database stored result }
     {
         match stored.copy(alloc) {
             Ok(copy) => {
                 self.schema = Some(copy);
+                self.refused = Some(database);
                 Err(AttachFault::Other(stored))
             }
             Err(Memory) => Err(AttachFault::Memory),
         }
+    }
+
+    // What is stored isn't attached.
+    fn fail(&mut self, unfit: Unfit) -> AttachFault
+        ensures later { self.old.faults ≤ self.new.faults }
+        ensures rose { result ≡ AttachFault.Failed → Rose self.old.faults self.new.faults }
+        ensures other { (stored : List ℕ) → ¬ (result ≡ AttachFault.Other stored) }
+        ensures same { self.new ≡ record self.old { faults = self.new.faults } }
+    {
+        self.unfit = Some(unfit);
+        fault_of(stop_of(error_of(unfit), &mut self.faults))
     }
 }
 

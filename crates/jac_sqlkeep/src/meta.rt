@@ -1,15 +1,19 @@
 //! The table `meta`: the number of the next accepted request, and the schema of what is stored.
-ghost use Rattle.std.specs.Prelude.{◌≡◌, ◌∷◌, [], true, false, IfOk, IfErr, IfSome};
+ghost use Rattle.std.specs.Prelude.{◌≡◌, ◌∷◌, [], pos, true, false, IfOk, IfErr, IfSome, OnOk, OnErr, IsErr};
+ghost use Rattle.std.specs.Option.{option_copied};
+ghost use Rattle.sqlite_value.specs.Order.{column};
+ghost use Rattle.sqlite_value.specs.declared.value.Value.TheVariants.{Int};
 ghost use Rattle.sqlite.specs.Held.{state};
 ghost use Rattle.sqlite.specs.State.{HasCleanDisk};
 ghost use Rattle.jac_rows.specs.Good.{IsNext};
 ghost use Rattle.jac_lines.specs.Founding.{HasNumber, IsAsked, IsFrom, FindsSchema, Tells};
-ghost use Rattle.jac_lines.specs.Statements.{founding, numbering};
+ghost use Rattle.jac_lines.specs.Statements.{founding, numbering, reshaping, settings};
 ghost use Rattle.jac_lines.specs.Tables.{nothing};
 ghost use Rattle.jac_lines.specs.Telling.{IsKept, ReadsTold};
+ghost use Rattle.jac_lines.specs.Testing.{IsOneKey, ShowsKey};
 ghost use Rattle.jac_lines.specs.Transaction.{Inside, Transacts, Ends};
 
-use crate::cause::{CORRUPT, NO_MEMORY};
+use crate::cause::{CORRUPT, NO_MEMORY, Unfit};
 use crate::step::run;
 use jac_value::{Txt, TxtFault};
 use sqlite::types::ValueRef;
@@ -27,7 +31,11 @@ const START: &str = "INSERT INTO meta(k, number, schema) VALUES(0, 1, ?1)";
 
 const READ: &str = "SELECT number, schema FROM meta WHERE k = 0";
 
+const KEYS: &str = "SELECT k FROM meta";
+
 const SET_NUMBER: &str = "UPDATE meta SET number = ?1 WHERE k = 0";
+
+const RESHAPE: &str = "UPDATE meta SET number = ?1, schema = ?2 WHERE k = 0";
 
 /// The greatest number, 2^40.
 const LAST_NUMBER: i64 = 1 << 40;
@@ -73,12 +81,38 @@ fn number_of(row: &Row) -> Option<u64>
 }
 
 #[tactic(auto, unfolding(jac_lines::specs::Statements::numbering))]
-pub fn set_number<S: Alter>(tx: &mut Transaction<'_, S>, number: u64) -> Result<(), Error>
+fn set_number<S: Alter>(tx: &mut Transaction<'_, S>, number: u64) -> Result<(), Error>
     ensures same { tx.new.conn.ghost_name ≡ tx.old.conn.ghost_name }
     ensures inside { Inside S.Store (numbering number ∷ []) tx.old.conn.now tx.new.conn.now result }
 {
     match i64::try_from(number) {
         Ok(number) => run(tx, SET_NUMBER, params![number]),
+        Err(_) => Err(Error::IntegralValueOutOfRange(0)),
+    }
+}
+
+/// Sets the number, and the schema text where there is one.
+pub fn set_meta<S: Alter>(
+    tx: &mut Transaction<'_, S>,
+    number: u64,
+    schema: Option<&Txt>,
+) -> Result<(), Error>
+    ensures same { tx.new.conn.ghost_name ≡ tx.old.conn.ghost_name }
+    ensures inside { Inside S.Store (settings number (option_copied schema.entry)) tx.old.conn.now tx.new.conn.now result }
+{
+    match schema {
+        None => set_number(tx, number),
+        Some(schema) => set_schema(tx, number, schema),
+    }
+}
+
+#[tactic(auto, unfolding(jac_lines::specs::Statements::reshaping))]
+fn set_schema<S: Alter>(tx: &mut Transaction<'_, S>, number: u64, schema: &Txt) -> Result<(), Error>
+    ensures same { tx.new.conn.ghost_name ≡ tx.old.conn.ghost_name }
+    ensures inside { Inside S.Store (reshaping number schema.now ∷ []) tx.old.conn.now tx.new.conn.now result }
+{
+    match i64::try_from(number) {
+        Ok(number) => run(tx, RESHAPE, params![number, schema.as_str()]),
         Err(_) => Err(Error::IntegralValueOutOfRange(0)),
     }
 }
@@ -98,6 +132,50 @@ fn is_nothing(schema: &Schema) -> bool
         return false;
     }
     schema.views.is_empty()
+}
+
+/// Tests that the table has one row, and that its key is 0.
+#[tactic(auto, unfolding(jac_lines::specs::Statements::key_reading))]
+pub fn test_key<S: Alter>(conn: &mut Connection<S>) -> Result<(), Unfit>
+    ensures shown { HasCleanDisk (state S.Store conn.new) → OnOk result (ShowsKey S.Store conn.old conn.new) }
+    ensures mode { conn.old.in_transaction ≡ false → conn.new.in_transaction ≡ false }
+{
+    let found = conn.query_all(KEYS, &[]);
+    key_found(found)
+}
+
+fn key_found(found: Result<Vec<Row>, Error>) -> Result<(), Unfit>
+    ensures one { IfOk found (λ found. OnOk result (IsOneKey found.items)) }
+    ensures none { OnErr found (IsErr result) }
+{
+    match found {
+        Ok(found) => {
+            if is_one_key(found.as_slice()) {
+                Ok(())
+            } else {
+                Err(Unfit::Meta)
+            }
+        }
+        Err(error) => Err(Unfit::Refused(error)),
+    }
+}
+
+fn is_one_key(found: &[Row]) -> bool
+    ensures { result ≡ true → IsOneKey found.now }
+{
+    let [only] = found else {
+        return false;
+    };
+    is_zero(only)
+}
+
+fn is_zero(row: &Row) -> bool
+    ensures { result ≡ true → column row.now 0 ≡ Int (pos 0) }
+{
+    match row.get_ref(0) {
+        Ok(ValueRef::Int(0)) => true,
+        _ => false,
+    }
 }
 
 /// The schema that is stored, where it isn't this one.

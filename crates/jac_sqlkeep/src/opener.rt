@@ -6,6 +6,7 @@ use jac_keep::{AttachFault, Stop};
 use jac_value::Txt;
 use sqlite::{Alter, Connection, Error, ErrorCode, File, FileStore, MemStore};
 use std::alloc::Global;
+use std::fs;
 
 /// What opens a database.
 pub trait Opener {
@@ -24,16 +25,42 @@ pub trait Opener {
         ensures { OpensFile (faults self.old) (faults self.new) result };
 }
 
+/// Why a file wasn't opened.
+#[derive(Clone, Copy, Debug)]
+pub enum OpenFault {
+    /// It isn't there, and none is to be made.
+    Missing,
+    /// Another program has it open.
+    Held,
+    /// What it holds is no sound database.
+    Unsound,
+    Memory,
+    Other,
+}
+
 /// Opens files.
 #[derive(Drop)]
 pub struct FileOpener {
     rt: HostRuntime,
+    makes: bool,
+    fault: Option<OpenFault>,
     faults: u64,
 }
 
 impl FileOpener {
-    pub fn new(rt: HostRuntime) -> FileOpener {
-        FileOpener { rt, faults: 0 }
+    /// One that makes the files that aren't there, or one that doesn't open them.
+    pub fn new(rt: HostRuntime, makes: bool) -> FileOpener {
+        FileOpener {
+            rt,
+            makes,
+            fault: None,
+            faults: 0,
+        }
+    }
+
+    /// Why the last opening failed.
+    pub fn fault(&self) -> Option<OpenFault> {
+        self.fault
     }
 }
 
@@ -50,13 +77,39 @@ impl Opener for FileOpener {
     ) -> Result<Connection<FileStore<File>>, AttachFault>
         ensures { OpensFile self.old.faults self.new.faults result }
     {
+        if !self.makes && !is_there(&self.rt, name) {
+            self.fault = Some(OpenFault::Missing);
+            self.faults = self.faults.saturating_add(1);
+            return Err(AttachFault::Failed);
+        }
         match open_file(&self.rt, name) {
             Ok(conn) => Ok(conn),
-            Err(error) => match stop_of(error, &mut self.faults) {
-                Stop::Keeper => Err(AttachFault::Failed),
-                Stop::Memory => Err(AttachFault::Memory),
-            },
+            Err(error) => {
+                self.fault = Some(fault_of(error));
+                match stop_of(error, &mut self.faults) {
+                    Stop::Keeper => Err(AttachFault::Failed),
+                    Stop::Memory => Err(AttachFault::Memory),
+                }
+            }
         }
+    }
+}
+
+// Whether there is such a file, which can be read.
+fn is_there(rt: &HostRuntime, name: Option<&Txt>) -> bool {
+    match name {
+        Some(name) => fs::File::open(rt, name.as_str()).is_ok(),
+        None => false,
+    }
+}
+
+fn fault_of(error: Error) -> OpenFault {
+    match error {
+        Error::SqliteFailure(ErrorCode::DatabaseBusy) => OpenFault::Held,
+        Error::SqliteFailure(ErrorCode::NotADatabase | ErrorCode::DatabaseCorrupt) =>
+            OpenFault::Unsound,
+        Error::SqliteFailure(ErrorCode::OutOfMemory) => OpenFault::Memory,
+        _ => OpenFault::Other,
     }
 }
 

@@ -1,6 +1,7 @@
 //! The table `rec`: the alternatives of each record, numbered from 0.
 ghost use Rattle.std.specs.Prelude.{◌≡◌, ◌<◌, ◌^◌, ◌∷◌, [], length, true, false, IfOk, IfErr, OnOk, Err};
 ghost use Rattle.std.specs.List.{AllByRecursion};
+ghost use Rattle.std.specs.Option.{option_copied};
 ghost use Rattle.sqlite_value.specs.Order.{column};
 ghost use Rattle.sqlite_value.specs.declared.value.Value.TheVariants.{Blob};
 ghost use Rattle.sqlite.specs.Held.{state};
@@ -13,18 +14,18 @@ ghost use Rattle.jac_stored.specs.Spelling.{guard_bytes, cells_bytes};
 ghost use Rattle.jac_keep.specs.Alterations.{ArePlaced};
 ghost use Rattle.jac_keep.specs.Records.{alternatives};
 ghost use Rattle.jac_lines.specs.Reading.{AreShown, Each, IsModelRow, IsRecordRow, IsRowIn};
-ghost use Rattle.jac_lines.specs.Statements.{model_reading, record_reading, removal, addition, replacement, replacements, statements_of};
+ghost use Rattle.jac_lines.specs.Statements.{model_reading, record_reading, removal, addition, replacement, replacements, statements_with};
 ghost use Rattle.jac_lines.specs.Stands.{AreNarrow};
 ghost use Rattle.jac_lines.specs.Telling.{IsKept, ReadsTold, CanAllBeSpelled, CanBeStored};
 ghost use Rattle.jac_lines.specs.Transaction.{Inside, Transacts, Ends};
 
 use crate::cause::{CORRUPT, NO_MEMORY};
-use crate::meta::set_number;
+use crate::meta::set_meta;
 use crate::step::run;
 use jac_keep::{Alteration, Change};
 use jac_rows::{Row, Rows};
 use jac_stored::{RowFault, Stored, decode_id, decode_row, encode_id, encode_row};
-use jac_value::{Id, Kind, Memory, id_model};
+use jac_value::{Id, Kind, Memory, Txt, id_model};
 use sqlite::types::ValueRef;
 use sqlite::{Alter, Connection, Error, ErrorCode, Row as Found, Transaction, params};
 use std::alloc::Global;
@@ -134,8 +135,8 @@ fn row_of_model(alloc: Global, values: &Found, model: u8, kinds: &[Kind]) -> Res
     }
 }
 
-// The row of this id whose guard and cells stand in these columns.
-fn row_in(
+/// The row of this id whose guard and cells stand in these columns.
+pub fn row_in(
     alloc: Global,
     id: Id,
     kinds: &[Kind],
@@ -154,7 +155,8 @@ fn row_in(
     }
 }
 
-fn blob_at(values: &Found, at: usize) -> Result<&[u8], Error>
+/// The bytes in this column.
+pub fn blob_at(values: &Found, at: usize) -> Result<&[u8], Error>
     ensures { IfOk result (λ bytes. column values.now at ≡ Blob bytes.now) }
 {
     match values.get_ref(at) {
@@ -163,15 +165,16 @@ fn blob_at(values: &Found, at: usize) -> Result<&[u8], Error>
     }
 }
 
-/// Replaces the named records and sets the number, all or nothing. Where a record is none of so many models, it does
-/// nothing.
+/// Replaces the named records, and sets the number and the schema text where there is one, all or nothing. Where a
+/// record is none of so many models, it does nothing.
 pub fn write_change<S: Alter>(
     alloc: Global,
     conn: &mut Connection<S>,
     models: usize,
     change: &Change,
+    schema: Option<&Txt>,
 ) -> Result<(), Error>
-    ensures transacts { Transacts S.Store (statements_of change.now) conn.old conn.new result }
+    ensures transacts { Transacts S.Store (statements_with change.now (option_copied schema.entry)) conn.old conn.new result }
     ensures ends { HasCleanDisk (state S.Store conn.new) → conn.old.in_transaction ≡ false → Ends (state S.Store conn.old) (state S.Store conn.new) }
     ensures mode { conn.old.in_transaction ≡ false → conn.new.in_transaction ≡ false }
     ensures stored { OnOk result (CanBeStored models change.now.changed) }
@@ -183,7 +186,7 @@ pub fn write_change<S: Alter>(
         return Err(CORRUPT);
     }
     let mut tx = conn.transaction();
-    match write(alloc, &mut tx, change) {
+    match write(alloc, &mut tx, change, schema) {
         Ok(()) => tx.commit(),
         Err(error) => {
             tx.rollback();
@@ -213,13 +216,18 @@ fn is_placed(id: Id, models: usize) -> bool
 }
 
 #[tactic(auto, using(crate::proofs::Steps::inside_then, crate::proofs::Steps::failed_of))]
-fn write<S: Alter>(alloc: Global, tx: &mut Transaction<'_, S>, change: &Change) -> Result<(), Error>
+fn write<S: Alter>(
+    alloc: Global,
+    tx: &mut Transaction<'_, S>,
+    change: &Change,
+    schema: Option<&Txt>,
+) -> Result<(), Error>
     ensures same { tx.new.conn.ghost_name ≡ tx.old.conn.ghost_name }
-    ensures inside { Inside S.Store (statements_of change.now) tx.old.conn.now tx.new.conn.now result }
+    ensures inside { Inside S.Store (statements_with change.now (option_copied schema.entry)) tx.old.conn.now tx.new.conn.now result }
     ensures spelled { OnOk result (CanAllBeSpelled change.now.changed) }
 {
     write_records(alloc, tx, change.changed.as_slice())?;
-    set_number(tx, change.number)
+    set_meta(tx, change.number, schema)
 }
 
 #[tactic(auto, using(crate::proofs::Steps::halfway_start, crate::proofs::Steps::changed_next, crate::proofs::Steps::changed_end, crate::proofs::Steps::halfway_failed))]

@@ -1,14 +1,14 @@
-use Rattle.std.proofs.Common.{◌≡◌, Err, sym, subst, rules}
+use Rattle.std.proofs.Common.{◌≡◌, Err, option_copied, sym, subst, rules}
 use Rattle.sqlite.specs.Held.{Held, state}
 use Rattle.sqlite.specs.State.{HasCleanDisk}
-use Rattle.jac_lines.specs.Statements.{statements_of}
+use Rattle.jac_lines.specs.Statements.{statements_with}
 use Rattle.jac_lines.specs.Transaction.{Transacts, Ends}
 use Rattle.jac_sqlkeep.proofs.Steps.{transacts_end, transacts_none, ends_end, ends_none}
 use Rattle.jac_sqlkeep.proofs.records.write_change.Goals as goal
 
 pub returns-in-Ok-clause-transacts : goal.returns-in-Ok-clause-transacts
 returns-in-Ok-clause-transacts g c =
-    let xs = statements_of c.args.change.now in
+    let xs = statements_with c.args.change.now (option_copied c.args.schema) in
     let end = c.commit.new.self.0 in
     let same : end ≡ c.conn-1.given.0 = search rules in
     subst (λ (h : Held g.row.S.Denot). Transacts {T = Unit {0}} g.S.Store xs c.args.conn.now h c.commit.result) same
@@ -17,7 +17,7 @@ returns-in-Ok-clause-transacts g c =
 
 pub returns-in-Err-clause-transacts : goal.returns-in-Err-clause-transacts
 returns-in-Err-clause-transacts g c =
-    let xs = statements_of c.args.change.now in
+    let xs = statements_with c.args.change.now (option_copied c.args.schema) in
     let end = c.rollback.new.self.0 in
     let same : end ≡ c.conn-in-Err-1.given.0 = search rules in
     subst (λ (h : Held g.row.S.Denot). Transacts {T = Unit {0}} g.S.Store xs c.args.conn.now h (Err c.in-Err.error)) same
@@ -26,7 +26,7 @@ returns-in-Err-clause-transacts g c =
 
 pub returns-in-Ok-clause-ends : goal.returns-in-Ok-clause-ends
 returns-in-Ok-clause-ends g c clean outside =
-    let xs = statements_of c.args.change.now in
+    let xs = statements_with c.args.change.now (option_copied c.args.schema) in
     let end = c.commit.new.self.0 in
     let same : end ≡ c.conn-1.given.0 = search rules in
     let early = subst (λ (h : Held g.row.S.Denot). HasCleanDisk (state g.S.Store h)) (sym same) clean in
@@ -36,7 +36,7 @@ returns-in-Ok-clause-ends g c clean outside =
 
 pub returns-in-Err-clause-ends : goal.returns-in-Err-clause-ends
 returns-in-Err-clause-ends g c clean outside =
-    let xs = statements_of c.args.change.now in
+    let xs = statements_with c.args.change.now (option_copied c.args.schema) in
     let end = c.rollback.new.self.0 in
     let same : end ≡ c.conn-in-Err-1.given.0 = search rules in
     let early = subst (λ (h : Held g.row.S.Denot). HasCleanDisk (state g.S.Store h)) (sym same) clean in

@@ -1,0 +1,138 @@
+-- Rows that an earlier run stored, one behind another.
+use Rattle.std.proofs.Common.{◌≡◌, refl, sym, ap, subst, ◌∙◌, ℕ, zero, suc, ◌+◌, ◌<◌, ◌≤◌, Bool, true, false, not, ◌&&◌, ◌||◌, ◌==◌, List, [], ◌∷◌, ◌++◌, length, get_or, Option, Some, None, IsSomeAnd, slice_get, unwrap_or, Result, Ok, Err, IfOk, OnOk, OnErr, IsErr, pos, arith}
+use Rattle.std.specs.List.{AllByRecursion}
+use Rattle.std.specs.Bool.{beq}
+use Rattle.std.specs.Prelude.{nat_lt, nat_le, ◌/◌, ◌%◌, ◌^◌}
+use Rattle.std.proofs.lemmas.Bool.Decides.{nat_tests}
+use Rattle.sqlite_value.specs.Order.{Row as Values, column}
+use Rattle.sqlite_value.specs.declared.value.Value.TheVariants.{Int, Blob}
+use Rattle.sqlite_trees.specs.declared.store.Store.{Ghosts}
+use Rattle.sqlite.specs.Held.{Held, state}
+use Rattle.sqlite.specs.State.{State as Sql, Shown, HasCleanDisk}
+use Rattle.sqlite.specs.declared.error.Error.{Error}
+use Rattle.jac_value.specs.Ids.{is_id_of, is_narrow, is_wide, number_of_id, model_of_id}
+use Rattle.jac_value.specs.declared.value.Kind.{Kind}
+use Rattle.jac_world.specs.World.{IsApart}
+use Rattle.jac_rows.specs.Good.{ModelShape, IsNext, IsRecord, IsShaped}
+use Rattle.jac_rows.specs.declared.row.Row.{Row}
+use Rattle.jac_stored.specs.Faults.{IsIdOf}
+use Rattle.jac_stored.specs.Spelling.{guard_bytes}
+use Rattle.jac_keep.specs.Schema.{shapes_by}
+use Rattle.jac_lines.specs.Reading.{IsRowIn}
+use Rattle.jac_lines.specs.Founding.{IsAsked}
+use Rattle.jac_lines.specs.Testing.{MovesOn, ReadsOn, IsStoredRow, AreLinesOf, ShowsRowids, ShowsLines, ShowsStored}
+use Rattle.jac_lines.proofs.Gathered.{Gathered, gathered_start, gathered_next, gathered_end}
+use Rattle.jac_lines.proofs.Reopened.{stored_shown}
+use Rattle.jac_lines.proofs.Sound.{narrow_cells, id_room, both_true}
+
+-- what a question showed, where the rows passed a test
+pub tested : {V E Q : Type 0} (old new : Sql) (text : List ℕ) (items : V → List Values) (P : List Values → Type 0) → ((found : List Values) → Shown text [] old new found → P found → Q)
+    → (answer : Result V Error) (r : Result (Unit {0}) E) → IfOk answer (λ v. Shown text [] old new (items v)) → IfOk answer (λ v. OnOk r (P (items v))) → OnErr answer (IsErr r) → OnOk r Q
+tested old new text items P whole (Ok v) (Ok done) shown passed failed = whole (items v) shown passed
+tested old new text items P whole (Ok v) (Err e) shown passed failed = tt
+tested old new text items P whole (Err e) (Ok done) shown passed failed = absurd (let f : false ≡ true = failed in cc)
+tested old new text items P whole (Err e) (Err f) shown passed failed = tt
+
+pub ok_then : {T E : Type 0} (P Q : T → Type 0) (r : Result T E) → IfOk r P → ((t : T) → P t → Q t) → IfOk r Q
+ok_then P Q (Ok t) p then = then t p
+ok_then P Q (Err e) p then = tt
+
+-- ---- the shape of a model
+
+shape_at : (kinds : List (List Kind)) (nested : List Bool) (model : ℕ) (ks : List Kind) → slice_get kinds model ≡ Some ks
+    → slice_get (shapes_by kinds nested) model ≡ Some (record { kinds = ks; nested = unwrap_or (slice_get nested model) false })
+shape_at [] nested model ks known = absurd (let e : None ≡ Some ks = known in cc)
+shape_at (x ∷ kinds) [] zero ks known = let same : x ≡ ks = cc in ap (λ (k : List Kind). Some (record { kinds = k; nested = false })) same
+shape_at (x ∷ kinds) (n ∷ nested) zero ks known = let same : x ≡ ks = cc in ap (λ (k : List Kind). Some (record { kinds = k; nested = n })) same
+shape_at (x ∷ kinds) [] (suc model) ks known = shape_at kinds [] model ks known
+shape_at (x ∷ kinds) (n ∷ nested) (suc model) ks known = shape_at kinds nested model ks known
+
+-- an id is wide where it isn't narrow
+narrow_alone : (id : ℕ) → is_narrow id ≡ true → is_wide id ≡ false
+narrow_alone id narrow =
+    let low : id / 2 ^ 52 ≡ 0 = grind (arith, nat_tests, narrow) in
+    ap (λ n. is_narrow n && is_narrow (id % 2 ^ 52)) low
+
+wide_if : (id model : ℕ) (b : Bool) → is_id_of id model ≡ true → is_narrow id ≡ b → is_wide id ≡ not b
+wide_if id model true is narrow = narrow_alone id narrow
+wide_if id model false is narrow = sym (ap (λ b. b || is_wide id) narrow) ∙ (both_true (is_narrow id || is_wide id) (model_of_id id == model) is).0
+
+unlike : (a b : Bool) → beq a b ≡ false → not a ≡ b
+unlike true true other = absurd (let f : true ≡ false = other in cc)
+unlike true false other = refl
+unlike false true other = refl
+unlike false false other = absurd (let f : true ≡ false = other in cc)
+
+pub stored_row_is : (kinds : List (List Kind)) (nested : List Bool) (number model : ℕ) (v : Values) (id : ℕ) (jid : List ℕ) (ks : List Kind) → column v 1 ≡ Blob jid → IsIdOf jid model id → slice_get kinds model ≡ Some ks
+    → (0 < number_of_id id) × (number_of_id id < number) → beq (is_narrow id) (unwrap_or (slice_get nested model) false) ≡ false → (r : Result Row Error) → IfOk r (IsRowIn 3 4 ks v id) → IfOk r (IsStoredRow (shapes_by kinds nested) number model v)
+stored_row_is kinds nested number model v id jid ks stored is known numbered width (Err e) row = tt
+stored_row_is kinds nested number model v id jid ks stored is known numbered width (Ok row) in_row =
+    let same : id ≡ row.id = sym in_row.spelled.same_id in
+    let wide : is_wide id ≡ unwrap_or (slice_get nested model) false = wide_if id model (is_narrow id) is.of_model refl ∙ unlike (is_narrow id) (unwrap_or (slice_get nested model) false) width in
+    let fit : have_kinds_of ks row ≡ true = in_row.spelled.cells.fit in
+    let one : IsRecord (shapes_by kinds nested) model number id row.cells = record {
+      made = record {
+        of_model = grind (arith, nat_tests, (both_true (is_narrow id || is_wide id) (model_of_id id == model) is.of_model).1);
+        is_one = is.of_model;
+        numbered = numbered.0;
+        made = numbered.1;
+      };
+      fit = subst (λ (o : Option ModelShape). IsSomeAnd o (λ s. IsShaped s id row.cells)) (sym (shape_at kinds nested model ks known)) (record { fit = fit; wide = wide });
+    } in
+    record {
+      jid = subst (λ n. column v 1 ≡ Blob (Rattle.std.specs.Int.to_be_bytes Rattle.std.specs.Int.w128 n)) same (stored ∙ ap Blob is.spelled);
+      jvars = in_row.guard_stored ∙ ap Blob in_row.spelled.jvars_spelled;
+      body = in_row.cells_stored ∙ ap Blob in_row.spelled.body_spelled;
+      is_record = subst (λ n. IsRecord (shapes_by kinds nested) model number n row.cells) same one;
+      spelled = record {
+        room = subst (λ n. n < 2 ^ 128) same (id_room id model is.of_model);
+        guard = in_row.spelled.guard;
+        cells = in_row.spelled.cells.each;
+        narrow = narrow_cells ks row.cells fit;
+      };
+    }
+  where
+    have_kinds_of : List Kind → Row → Bool
+    have_kinds_of ks r = Rattle.jac_rows.specs.Good.have_kinds ks r.cells
+
+-- ---- a row behind the others
+
+pub reads_on_is : (shapes : List ModelShape) (number model id : ℕ) (guards : List (List (ℕ × Bool))) (v : Values) (next_model : ℕ) (row : Row) (before : List (List (ℕ × Bool))) (end_model end_id : ℕ) (end_guards : List (List (ℕ × Bool)))
+    → column v 0 ≡ Int (pos next_model) → IsStoredRow shapes number next_model v row → MovesOn model id guards next_model row.id before → end_model ≡ next_model → end_id ≡ row.id → column v 2 ≡ Int (pos (length before))
+    → AllByRecursion (λ g. IsApart g row.guard) before → end_guards ≡ before ++ row.guard ∷ [] → ReadsOn shapes number model id guards v end_model end_id end_guards
+reads_on_is shapes number model id guards v next_model row before end_model end_id end_guards of_model stored moved same_model same_id alt apart pushed =
+    subst (λ m. ReadsOn shapes number model id guards v m end_id end_guards) (sym same_model)
+    (subst (λ i. ReadsOn shapes number model id guards v next_model i end_guards) (sym same_id) (record {
+      before = before;
+      moved = moved;
+      line = record {
+        row = row;
+        same_id = refl;
+        shown = record { model = of_model; jid = stored.jid; alt = alt; jvars = stored.jvars; body = stored.body };
+        is_record = stored.is_record;
+        spelled = stored.spelled;
+        apart = apart;
+        guards_are = pushed;
+      };
+    }))
+
+-- ---- the loop
+
+module _ (shapes : List ModelShape) (number : ℕ) (found : List Values) where
+  pub read_start : IsNext number → Gathered shapes number found 0 0 0 []
+  read_start next = gathered_start shapes number found next
+
+  pub read_next : (at model id : ℕ) (guards : List (List (ℕ × Bool))) (v : Values) (next_model next_id : ℕ) (next_guards : List (List (ℕ × Bool))) → at < length found → v ≡ get_or found at v
+      → ReadsOn shapes number model id guards v next_model next_id next_guards → Gathered shapes number found at model id guards → Gathered shapes number found (at + 1) next_model next_id next_guards
+  read_next at = gathered_next shapes number found at
+
+  pub read_end : (at model id : ℕ) (guards : List (List (ℕ × Bool))) → length found ≤ at → Gathered shapes number found at model id guards → AreLinesOf shapes number found
+  read_end at = gathered_end shapes number found at
+
+-- ---- the whole store
+
+pub stored_on_ok : {S E : Type 0} (g : Ghosts S) (shapes : List ModelShape) (number : ℕ) (old first second new : Held S) → ((state g first).is_clean ≡ false → (state g first).is_open ≡ false)
+    → ((state g second).is_clean ≡ false → (state g second).is_open ≡ false) → (HasCleanDisk (state g first) → IsAsked g old first number) → (HasCleanDisk (state g second) → ShowsRowids g first second)
+    → (r : Result (Unit {0}) E) → (HasCleanDisk (state g new) → OnOk r (ShowsLines g shapes number second new)) → HasCleanDisk (state g new) → OnOk r (ShowsStored g shapes old new)
+stored_on_ok g shapes number old first second new shuts_first shuts_second asked ids (Ok done) lines clean = stored_shown g shapes number old first second new shuts_first shuts_second asked ids lines clean
+stored_on_ok g shapes number old first second new shuts_first shuts_second asked ids (Err e) lines clean = tt
