@@ -4,6 +4,8 @@ use Rattle.jac_io.specs.Faults.{Rose}
 use Rattle.jac_keep.specs.KeeperSeen.{KeeperSeen, Store, Keeps, Reads}
 use Rattle.jac_keep.specs.KeeperState.{KeeperState, seen_keeper}
 use Rattle.jac_keep.specs.Attaching.{Attaches, Opens, IsRefused}
+use Rattle.jac_keep.specs.Reshaping.{Reshapes}
+use Rattle.jac_keep.specs.declared.alteration.Change.{Change}
 use Rattle.jac_keep.specs.declared.stop.Stop.{Stop}
 use Rattle.jac_keep.specs.declared.vault.AttachFault.{AttachFault}
 use Rattle.jac_sqlkeep.specs.Kept.{Kept, seen_kept, untouched}
@@ -32,6 +34,21 @@ memory_keeps old new result keeps = record {
   told = attached_before old new keeps.same_store;
   good = λ told. keeps.good refl;
   same_store = keeps.same_store;
+}
+
+pub memory_reshapes : (old new : KeeperState) (change : Change) (schema : List ℕ) (result : Result (Unit {0}) Stop) → IsTrue old.store.attached → Reshapes (seen_keeper old) (seen_keeper new) change schema result
+    → Reshapes (seen_memory old) (seen_memory new) change schema result
+memory_reshapes old new change schema (Ok done) attached reshapes = record {
+  cause = reshapes.cause;
+  told = λ told. attached;
+  ok = record { store = reshapes.ok.store; state = λ told. reshapes.ok.state refl };
+  err = tt;
+}
+memory_reshapes old new change schema (Err e) attached reshapes = record {
+  cause = reshapes.cause;
+  told = λ told. attached;
+  ok = tt;
+  err = record { same_store = reshapes.err.same_store; same_state = λ told. reshapes.err.same_state refl };
 }
 
 -- ---- before anything was attached, memory is what is called

@@ -1,15 +1,20 @@
 ghost use Rattle.std.specs.Prelude.{◌≡◌};
 
+use crate::told::tell;
 use jac_keep::{AttachFault, Change, Keeper, Stop, Vault};
 use jac_rows::Rows;
-use jac_sqlkeep::{FileOpener, SqlKeeper};
-use jac_value::{Id, Txt, Value};
+use jac_sqlkeep::{FileOpener, OpenFault, SqlKeeper};
+use jac_value::{Id, Memory, Txt, Value};
 use std::alloc::Global;
+use std::fs::{File, remove_file};
 use std::marker::Model;
 
-/// A keeper in a file. It tells its state where it made the file. As it is dropped, the file is closed.
+/// A keeper in a file. It tells its state from when it is attached: what the file holds was then read and tested. As it
+/// is dropped, the file is closed.
 pub struct FileKeeper {
+    rt: HostRuntime,
     keeper: SqlKeeper<FileOpener>,
+    log: Option<Txt>,
 }
 
 impl Model for FileKeeper {
@@ -21,12 +26,16 @@ impl Model for FileKeeper {
 }
 
 // It is written out, so that a caller does not prove again how each part is dropped. What can't be copied from the log
-// into the file stays in the log beside it, where the next opening finds it.
+// into the file stays in the log beside it, where the next opening finds it. A log that a refused opening left beside a
+// file that had none holds nothing, and goes.
 impl Drop for FileKeeper {
     fn drop(self) {
-        let FileKeeper { keeper } = self;
+        let FileKeeper { rt, keeper, log } = self;
         if let Some(conn) = keeper.into_connection() {
             let _ = conn.close();
+        }
+        if let Some(log) = log {
+            let _ = remove_file(&rt, log.as_str());
         }
     }
 }
@@ -34,14 +43,35 @@ impl Drop for FileKeeper {
 impl FileKeeper {
     ghost use Rattle.jac_sqlkeep.specs.Kept.{untouched};
 
-    /// A keeper that wasn't attached yet.
-    pub fn new(rt: HostRuntime) -> FileKeeper
+    /// A keeper that wasn't attached yet. Where it makes no files it opens those alone that are there.
+    pub fn new(rt: HostRuntime, makes: bool) -> FileKeeper
         ensures { result ≡ untouched }
     {
         FileKeeper {
-            keeper: SqlKeeper::new(FileOpener::new(rt)),
+            rt,
+            keeper: SqlKeeper::new(FileOpener::new(rt, makes)),
+            log: None,
         }
     }
+}
+
+// The name of the log beside a file, where there is none yet.
+fn log_to_come(rt: &HostRuntime, name: Option<&Txt>) -> Option<Txt> {
+    let name = name?;
+    let log = match log_of(rt.alloc(), name) {
+        Ok(log) => log,
+        Err(Memory) => return None,
+    };
+    match File::open(rt, log.as_str()) {
+        Ok(_) => None,
+        Err(_) => Some(log),
+    }
+}
+
+fn log_of(alloc: Global, name: &Txt) -> Result<Txt, Memory> {
+    let mut log = name.copy(alloc)?.into_string();
+    log.push_str("-wal")?;
+    Ok(Txt::from_string(log))
 }
 
 impl Keeper for FileKeeper {
@@ -77,12 +107,35 @@ impl Keeper for FileKeeper {
 }
 
 impl Vault for FileKeeper {
+    /// What a refused file lacks is told on standard error, and nothing is left beside it.
     fn attach(
         &mut self,
         alloc: Global,
         name: Option<&Txt>,
         schema: &Txt,
     ) -> Result<(), AttachFault> {
-        self.keeper.attach(alloc, name, schema)
+        let log = log_to_come(&self.rt, name);
+        let attached = self.keeper.attach(alloc, name, schema);
+        if attached.is_err() {
+            if let Some(name) = name {
+                tell(&self.rt, name, &self.keeper);
+            }
+            if !is_held(&self.keeper) {
+                self.log = log;
+            }
+        }
+        attached
+    }
+
+    fn reshape(&mut self, alloc: Global, change: &Change, schema: &Txt) -> Result<(), Stop> {
+        self.keeper.reshape(alloc, change, schema)
+    }
+}
+
+// Whether another program has the file open.
+fn is_held(keeper: &SqlKeeper<FileOpener>) -> bool {
+    match keeper.opener().fault() {
+        Some(OpenFault::Held) => true,
+        _ => false,
     }
 }

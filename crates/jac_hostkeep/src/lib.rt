@@ -3,6 +3,7 @@
 #![tactic(auto)]
 
 mod file;
+mod told;
 mod vault;
 
 pub use file::FileKeeper;

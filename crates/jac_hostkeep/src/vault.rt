@@ -15,6 +15,7 @@ use std::marker::Model;
 #[derive(Drop)]
 pub struct HostVault {
     rt: HostRuntime,
+    makes: bool,
     memory: MemoryKeeper,
     file: Option<CachedKeeper<FileKeeper>>,
 }
@@ -30,13 +31,15 @@ impl Model for HostVault {
 }
 
 impl HostVault {
-    /// A vault that wasn't attached yet, whose state in memory is this one.
-    pub fn new(alloc: Global, state: State, rt: HostRuntime) -> HostVault
+    /// A vault that wasn't attached yet, whose state in memory is this one, and which makes the files that aren't there
+    /// or refuses them.
+    pub fn new(alloc: Global, state: State, rt: HostRuntime, makes: bool) -> HostVault
         requires { IsStored None state }
         ensures { result ≡ record { memory = record { state = state; store = unopened None; fail_reads = []; fail_applies = []; reads = 0; applies = 0; faults = 0 }; file = None } }
     {
         HostVault {
             rt,
+            makes,
             memory: MemoryKeeper::new(state, None, Calls::empty(alloc), Calls::empty(alloc)),
             file: None,
         }
@@ -106,12 +109,20 @@ impl Vault for HostVault {
     ) -> Result<(), AttachFault> {
         match name {
             Some(name) => {
-                let mut file = CachedKeeper::new(alloc, FileKeeper::new(self.rt));
+                let mut file = CachedKeeper::new(alloc, FileKeeper::new(self.rt, self.makes));
                 let attached = file.attach(alloc, Some(name), schema);
                 self.file = Some(file);
                 attached
             }
             None => self.memory.attach(alloc, None, schema),
+        }
+    }
+
+    #[tactic(auto, using(crate::proofs::Attached::memory_reshapes))]
+    fn reshape(&mut self, alloc: Global, change: &Change, schema: &Txt) -> Result<(), Stop> {
+        match &mut self.file {
+            Some(file) => file.reshape(alloc, change, schema),
+            None => self.memory.reshape(alloc, change, schema),
         }
     }
 }
