@@ -4,11 +4,12 @@ use Rattle.std.specs.Prelude.{⊤}
 use Rattle.std.specs.Option.{option_map, option_and_then}
 use Rattle.std.proofs.lemmas.Bool.Decides.{nat_tests}
 use Rattle.clap.specs.Words.{Kinds, Row, fault_of, first_of, subcommand_of}
+use Rattle.jac_route.specs.Words.{viewer_read}
 use Rattle.jac_words.specs.Grammar.{jac}
 use Rattle.jac_words.specs.declared.words.Command.{Command}
 use Rattle.jac_words.specs.declared.words.Command.TheVariants as commands
 use Rattle.jac_words.specs.Commands.{HasCount}
-use Rattle.jac_words.specs.Words.{between, number_within, number_in, is_number, labels_of, file_in, option_in, options_in, check_in, replay_in, serve_in, demo_in, dump_in, command_named, entered_command, unless_fault, command_of}
+use Rattle.jac_words.specs.Words.{between, number_within, number_in, is_number, labels_of, file_in, option_in, options_in, check_in, replay_in, serve_in, demo_in, dump_in, upgrade_in, why_in, command_named, entered_command, unless_fault, command_of}
 use Rattle.std.specs.Str.Parse.{digits_value}
 use Rattle.std.specs.Str.{bytes_eq}
 
@@ -76,13 +77,25 @@ dump_counts rows =
     then_counts _ _ (file_in (codes "APP") rows)
     (λ app. then_counts _ _ (option_and_then labels_of (first_of (codes "LABELS") rows)) (λ labels. map_counts _ _ (option_in (codes "db") rows) (λ db. tt)))
 
+upgrade_counts : (rows : List Row) → HasCounts (upgrade_in rows)
+upgrade_counts rows =
+    then_counts _ _ (file_in (codes "OLD") rows)
+    (λ app. then_counts _ _ (file_in (codes "NEW") rows) (λ next. map_counts _ _ (file_in (codes "db") rows) (λ db. tt)))
+
+why_counts : (rows : List Row) → HasCounts (why_in rows)
+why_counts rows =
+    then_counts _ _ (file_in (codes "APP") rows)
+    (λ app. then_counts _ _ (option_and_then viewer_read (first_of (codes "VIEWER") rows)) (λ viewer. map_counts _ _ (option_in (codes "db") rows) (λ db. tt)))
+
 named_counts : (name : List ℕ) (rows : List Row) → HasCounts (command_named name rows)
 named_counts name rows =
     if_counts (bytes_eq name (codes "check")) _ _ (check_counts rows)
     (if_counts (bytes_eq name (codes "replay")) _ _ (replay_counts rows)
     (if_counts (bytes_eq name (codes "serve")) _ _ (serve_counts rows)
     (if_counts (bytes_eq name (codes "demo")) _ _ (demo_counts rows)
-    (if_counts (bytes_eq name (codes "dump")) _ _ (dump_counts rows) tt))))
+    (if_counts (bytes_eq name (codes "dump")) _ _ (dump_counts rows)
+    (if_counts (bytes_eq name (codes "upgrade")) _ _ (upgrade_counts rows)
+    (if_counts (bytes_eq name (codes "why")) _ _ (why_counts rows) tt))))))
 
 unless_counts : (kinds : Kinds) (o : Option Command) → HasCounts o → HasCounts (unless_fault kinds o)
 unless_counts [] o h = h

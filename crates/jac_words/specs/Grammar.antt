@@ -1,4 +1,4 @@
--- The grammar of the command line, in the terms of the crate `clap`: five commands, with what each takes.
+-- The grammar of the command line, in the terms of the crate `clap`: seven commands, with what each takes.
 use Rattle.std.specs.Prelude.{List, ℕ, Some, true, codes}
 use Rattle.clap.specs.Words.{App, Rule, new_app, new_rule, with_rule, with_subcommand}
 use Rattle.clap.specs.Simple.{on_top}
@@ -37,6 +37,12 @@ demo_app = with_operand (codes "N") (new_app (codes "demo"))
 abbrev pub dump_app : App
 dump_app = with_option (codes "db") (with_operand (codes "LABELS") (with_operand (codes "APP") (new_app (codes "dump"))))
 
+abbrev pub upgrade_app : App
+upgrade_app = with_option (codes "db") (with_operand (codes "NEW") (with_operand (codes "OLD") (new_app (codes "upgrade"))))
+
+abbrev pub why_app : App
+why_app = with_option (codes "db") (with_operand (codes "VIEWER") (with_operand (codes "APP") (new_app (codes "why"))))
+
 abbrev pub with_command : App → App → App
 with_command command app = with_subcommand app command.top
 
@@ -45,4 +51,6 @@ abbrev pub bare_app : App
 bare_app = on_top (λ s. record s { no_binary_name = true; disable_help_flag = true; disable_help_subcommand = true; subcommand_required = true }) (new_app (codes "jac"))
 
 unfoldable pub jac : App
-jac = with_command dump_app (with_command demo_app (with_command serve_app (with_command replay_app (with_command check_app bare_app))))
+jac =
+    with_command why_app (with_command upgrade_app
+    (with_command dump_app (with_command demo_app (with_command serve_app (with_command replay_app (with_command check_app bare_app))))))

@@ -7,6 +7,7 @@ use Rattle.std.specs.Char.{is_ascii_digit}
 use Rattle.std.specs.Str.{bytes_eq}
 use Rattle.std.specs.Str.Parse.{digits_value}
 use Rattle.clap.specs.Words.{Kinds, Row, fault_of, first_of, subcommand_of}
+use Rattle.jac_route.specs.Words.{viewer_read}
 use Rattle.jac_words.specs.Grammar.{jac}
 use Rattle.jac_words.specs.declared.words.Command.{Command}
 use Rattle.jac_words.specs.declared.words.Command.TheVariants as commands
@@ -108,6 +109,25 @@ dump_in rows =
     (option_and_then labels_of (first_of (codes "LABELS") rows)))
     (file_in (codes "APP") rows)
 
+-- without a store there is nothing to upgrade
+abbrev pub upgrade_in : List Row → Option Command
+upgrade_in rows =
+    option_and_then (λ app.
+    option_and_then (λ next.
+    option_map (λ db. commands.Upgrade (record { app = app; next = next; db = db }))
+    (file_in (codes "db") rows))
+    (file_in (codes "NEW") rows))
+    (file_in (codes "OLD") rows)
+
+abbrev pub why_in : List Row → Option Command
+why_in rows =
+    option_and_then (λ app.
+    option_and_then (λ viewer.
+    option_map (λ db. commands.Why (record { app = app; viewer = viewer; db = db }))
+    (option_in (codes "db") rows))
+    (option_and_then viewer_read (first_of (codes "VIEWER") rows)))
+    (file_in (codes "APP") rows)
+
 abbrev pub command_named : List ℕ → List Row → Option Command
 command_named name rows =
     if bytes_eq name (codes "check") then check_in rows else
@@ -115,6 +135,8 @@ command_named name rows =
     if bytes_eq name (codes "serve") then serve_in rows else
     if bytes_eq name (codes "demo") then demo_in rows else
     if bytes_eq name (codes "dump") then dump_in rows else
+    if bytes_eq name (codes "upgrade") then upgrade_in rows else
+    if bytes_eq name (codes "why") then why_in rows else
     None
 
 abbrev pub entered_command : Option (List ℕ × List Row) → Option Command

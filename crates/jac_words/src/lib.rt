@@ -5,4 +5,4 @@ mod role;
 mod words;
 
 pub use role::Role;
-pub use words::{Command, Dumping, Labels, Replay, Serving, command_of};
+pub use words::{Command, Dumping, Explaining, Labels, Replay, Serving, Upgrading, command_of};

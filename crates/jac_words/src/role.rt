@@ -2,6 +2,8 @@
 #[derive(Clone, Copy, Debug, PartialEq, Eq)]
 pub enum Role {
     App,
+    /// The application that an upgrade brings a store to.
+    New,
     Sessions,
     Events,
 }

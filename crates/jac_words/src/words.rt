@@ -1,7 +1,8 @@
 ghost use Rattle.std.specs.Prelude.{◌≡◌, ◌≢◌, ◌≤◌, IfOk, IfSome, None, codes, map};
 ghost use Rattle.std.specs.Option.{option_map, option_and_then};
 ghost use Rattle.clap.specs.Words.{first_of, found_of, kind_of, rows_of, subcommand_rows_of};
-ghost use Rattle.jac_words.specs.Words.{filled, labels_of, file_in, option_in, number_in, number_within, options_in, check_in, replay_in, serve_in, demo_in, dump_in, command_named, entered_command, command_of};
+ghost use Rattle.jac_route.specs.Words.{viewer_read};
+ghost use Rattle.jac_words.specs.Words.{filled, labels_of, file_in, option_in, number_in, number_within, options_in, check_in, replay_in, serve_in, demo_in, dump_in, upgrade_in, why_in, command_named, entered_command, command_of};
 
 mod grammar;
 mod labels;
@@ -10,6 +11,7 @@ mod numbers;
 use clap::error::ErrorKind;
 use clap::{ArgMatches, Error};
 use grammar::jac;
+use jac_route::read_viewer;
 use jac_value::{Memory, Txt};
 pub use labels::Labels;
 use labels::labels_of;
@@ -26,6 +28,8 @@ pub enum Command {
     /// The number of events, from 1 to 2,000.
     Demo(u64),
     Dump(Dumping),
+    Upgrade(Upgrading),
+    Why(Explaining),
 }
 
 /// The files of a replay.
@@ -54,6 +58,23 @@ pub struct Serving {
 pub struct Dumping {
     pub app: Txt,
     pub labels: Labels,
+    pub db: Option<Txt>,
+}
+
+/// A store of an application, to bring to the next one.
+#[derive(Debug, Drop)]
+pub struct Upgrading {
+    pub app: Txt,
+    pub next: Txt,
+    pub db: Txt,
+}
+
+/// A store of which to tell what stands against each label that a viewer isn't shown. The viewer is the number of a
+/// record, as the word has it.
+#[derive(Debug, Drop)]
+pub struct Explaining {
+    pub app: Txt,
+    pub viewer: Option<u128>,
     pub db: Option<Txt>,
 }
 
@@ -130,6 +151,12 @@ fn command_named(
     }
     if name == "dump" {
         return dump_in(alloc, matches);
+    }
+    if name == "upgrade" {
+        return upgrade_in(alloc, matches);
+    }
+    if name == "why" {
+        return why_in(alloc, matches);
     }
     Ok(None)
 }
@@ -211,6 +238,36 @@ fn dump_in(alloc: Global, matches: &ArgMatches<'_>) -> Result<Option<Command>, M
     Ok(Some(Command::Dump(Dumping { app, labels, db })))
 }
 
+fn upgrade_in(alloc: Global, matches: &ArgMatches<'_>) -> Result<Option<Command>, Memory>
+    ensures { IfOk result (λ command. command ≡ upgrade_in (rows_of (found_of matches.now))) }
+{
+    let Some(app) = file_in(alloc, matches, "OLD")? else {
+        return Ok(None);
+    };
+    let Some(next) = file_in(alloc, matches, "NEW")? else {
+        return Ok(None);
+    };
+    let Some(db) = file_in(alloc, matches, "db")? else {
+        return Ok(None);
+    };
+    Ok(Some(Command::Upgrade(Upgrading { app, next, db })))
+}
+
+fn why_in(alloc: Global, matches: &ArgMatches<'_>) -> Result<Option<Command>, Memory>
+    ensures { IfOk result (λ command. command ≡ why_in (rows_of (found_of matches.now))) }
+{
+    let Some(app) = file_in(alloc, matches, "APP")? else {
+        return Ok(None);
+    };
+    let Some(viewer) = viewer_in(matches) else {
+        return Ok(None);
+    };
+    let Some(db) = option_in(alloc, matches, "db")? else {
+        return Ok(None);
+    };
+    Ok(Some(Command::Why(Explaining { app, viewer, db })))
+}
+
 fn options_in(alloc: Global, matches: &ArgMatches<'_>) -> Result<Option<Options>, Memory>
     ensures { IfOk result (λ options. options ≡ options_in (rows_of (found_of matches.now))) }
 {
@@ -230,7 +287,7 @@ fn options_in(alloc: Global, matches: &ArgMatches<'_>) -> Result<Option<Options>
     }))
 }
 
-// The file that an operand names.
+// The file that an operand names, or an option that has to be there.
 fn file_in(alloc: Global, matches: &ArgMatches<'_>, id: &str) -> Result<Option<Txt>, Memory>
     ensures { IfOk result (λ file. file ≡ file_in id.now (rows_of (found_of matches.now))) }
 {
@@ -312,6 +369,16 @@ fn labels_in(alloc: Global, matches: &ArgMatches<'_>) -> Result<Option<Labels>, 
     match value_in(matches, "LABELS") {
         Some(text) => labels_of(alloc, text.as_bytes()),
         None => Ok(None),
+    }
+}
+
+// The viewer, as a line of an events file names one.
+fn viewer_in(matches: &ArgMatches<'_>) -> Option<Option<u128>>
+    ensures { result ≡ option_and_then viewer_read (first_of (codes "VIEWER") (rows_of (found_of matches.now))) }
+{
+    match value_in(matches, "VIEWER") {
+        Some(text) => read_viewer(text.as_bytes()),
+        None => None,
     }
 }
 

@@ -1,13 +1,13 @@
 ghost use Rattle.std.specs.Prelude.{◌≡◌, false, IfOk};
 ghost use Rattle.clap.specs.Words.{app_of, rule_of, with_rule};
 ghost use Rattle.clap.specs.declared.Command.TheViews.{out-Command};
-ghost use Rattle.jac_words.specs.Grammar.{operand_rule, option_rule, with_operand, with_option, with_files, check_app, replay_app, serve_app, demo_app, dump_app, bare_app, with_command, jac};
+ghost use Rattle.jac_words.specs.Grammar.{operand_rule, option_rule, with_operand, with_option, with_files, check_app, replay_app, serve_app, demo_app, dump_app, upgrade_app, why_app, bare_app, with_command, jac};
 
 use clap::{Arg, ArgAction, Command};
 use jac_value::Memory;
 use std::alloc::Global;
 
-/// The five commands with their operands and options.
+/// The seven commands with their operands and options.
 pub(super) fn jac<'a>(alloc: Global) -> Result<Command<'a>, Memory>
     ensures { IfOk result (λ c. app_of c ≡ jac) }
 {
@@ -16,7 +16,9 @@ pub(super) fn jac<'a>(alloc: Global) -> Result<Command<'a>, Memory>
     let command = with_command(command, replay(alloc)?)?;
     let command = with_command(command, serve(alloc)?)?;
     let command = with_command(command, demo(alloc)?)?;
-    with_command(command, dump(alloc)?)
+    let command = with_command(command, dump(alloc)?)?;
+    let command = with_command(command, upgrade(alloc)?)?;
+    with_command(command, why(alloc)?)
 }
 
 // No command yet, and neither an option nor a word for help.
@@ -72,6 +74,26 @@ fn dump<'a>(alloc: Global) -> Result<Command<'a>, Memory>
     let command = Command::new(alloc, "dump");
     let command = with_operand(alloc, command, "APP")?;
     let command = with_operand(alloc, command, "LABELS")?;
+    with_option(alloc, command, "db")
+}
+
+fn upgrade<'a>(alloc: Global) -> Result<Command<'a>, Memory>
+    ensures app { IfOk result (λ c. app_of c ≡ upgrade_app) }
+    ensures local { IfOk result (λ c. (out-Command c).has_globals ≡ false) }
+{
+    let command = Command::new(alloc, "upgrade");
+    let command = with_operand(alloc, command, "OLD")?;
+    let command = with_operand(alloc, command, "NEW")?;
+    with_option(alloc, command, "db")
+}
+
+fn why<'a>(alloc: Global) -> Result<Command<'a>, Memory>
+    ensures app { IfOk result (λ c. app_of c ≡ why_app) }
+    ensures local { IfOk result (λ c. (out-Command c).has_globals ≡ false) }
+{
+    let command = Command::new(alloc, "why");
+    let command = with_operand(alloc, command, "APP")?;
+    let command = with_operand(alloc, command, "VIEWER")?;
     with_option(alloc, command, "db")
 }
 
