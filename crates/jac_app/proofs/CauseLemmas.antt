@@ -1,35 +1,46 @@
 -- Each status of a run comes for its cause.
-use Rattle.std.proofs.Common.{Bool, ◌≡◌, sym, subst, refl, ℕ, inl, inr, Result, Ok, Err, Some, List}
+use Rattle.std.proofs.Common.{Bool, false, is_some, IsTrue, arith, ◌≡◌, sym, subst, refl, ℕ, inl, inr, Result, Ok, Err, Option, Some, List}
 use Rattle.jac_io.specs.Linked.{LinkSeen, DoorSeen}
 use Rattle.jac_lang.specs.Syntax.{Application}
 use Rattle.jac_route.specs.declared.sessions.Session.{Session}
 use Rattle.jac_words.specs.declared.words.Command.{Command}
 use Rattle.jac_words.specs.declared.words.Command.TheVariants as commands
 use Rattle.jac_words.specs.declared.words.Serving.{Serving}
-use Rattle.jac_app.specs.declared.ending.Ending.{Ending}
-use Rattle.jac_app.specs.declared.ending.Ending.TheVariants as endings
+use Rattle.jac_ending.specs.declared.ending.Ending.{Ending}
+use Rattle.jac_ending.specs.declared.ending.Ending.TheVariants as endings
 use Rattle.jac_words.specs.declared.role.Role.TheVariants as roles
-use Rattle.jac_app.specs.declared.status.Status.{Status}
-use Rattle.jac_app.specs.declared.status.Status.TheVariants as statuses
+use Rattle.jac_ending.specs.declared.status.Status.{Status}
+use Rattle.jac_ending.specs.declared.status.Status.TheVariants as statuses
 use Rattle.jac_serving.specs.Script.{script_of}
 use Rattle.jac_opening.specs.Application.{IsApplication}
-use Rattle.jac_serving.specs.Outside.{Span, AWriteFailed}
+use Rattle.jac_serving.specs.Outside.{Span, span, AWriteFailed}
 use Rattle.jac_words.specs.Words.{command_of}
-use Rattle.jac_words.specs.Commands.{db_of}
-use Rattle.jac_app.specs.Files.{Sight, sinks_of, IsRead, HasApplication, IsOpened, IsUnopened}
-use Rattle.jac_app.specs.Ending.{Closes, Finishes, fault_line, status_of}
-use Rattle.jac_app.specs.Replay.{IsOther, EndsServing, EndsOpening}
+use Rattle.jac_words.specs.Commands.{file_of, db_of}
+use Rattle.jac_words.specs.declared.words.Upgrading.{Upgrading}
+use Rattle.jac_io.specs.Faults.{Rose}
+use Rattle.jac_keep.specs.KeeperSeen.{KeeperSeen}
+use Rattle.jac_admin.specs.Upgrade.{lack_line, upgraded_line, IsLacking, IsKept, EndsReshaping, EndsMoving, EndsUpgrading}
+use Rattle.jac_admin.specs.Explain.{asker_in, EndsExplained, EndsExplaining}
+use Rattle.jac_serving.proofs.OutsideLemmas.{Rose-widen}
+use Rattle.jac_ending.specs.Files.{Sight, sinks_of, IsRead, HasApplication, HasNext, IsOpened, IsUnopened}
+use Rattle.jac_ending.specs.Ending.{Closes, Finishes, fault_line, status_of, PutsText}
+use Rattle.jac_ending.specs.Attached.{IsOther, AttachesAs}
+use Rattle.jac_app.specs.Replay.{EndsServing}
+use Rattle.jac_ending.specs.Early.{EndsOpening}
 use Rattle.jac_app.specs.Server.{EndsAimed}
-use Rattle.jac_app.specs.Check.{PutsText, checked_text}
+use Rattle.jac_app.specs.Check.{checked_text}
 use Rattle.jac_app.specs.Run.{Ends, Runs, IsSource, Sources, ComesFor, usage_line}
 use Rattle.jac_demo.specs.Calendar.{calendar_text}
 use Rattle.jac_app.specs.declared.summary.Summary.{Summary}
 use Rattle.jac_world.specs.World.{shown}
-use Rattle.jac_app.specs.Dump.{EndsDumping}
+use Rattle.jac_admin.specs.Dump.{EndsDumping}
 use Rattle.jac_app.specs.Demo.{EndsCounting, EndsTallying, PutsSummary, summary_line}
 
 pub same_ending : (x y : Ending) → ◌≡◌ {A = Result (Unit {0}) Ending} (Err x) (Err y) → x ≡ y
 same_ending x y e = cc
+
+pub none_there : IsTrue false → ⊥
+none_there is = cc
 
 module _ {L : Type 0} (line : L → LinkSeen) (seen : Sight) (door : Span (DoorSeen L)) (words : List (List ℕ)) where
   cause_of_closing : (line : List ℕ) (status : Status) (put : List ℕ) (answer : Status)
@@ -38,17 +49,21 @@ module _ {L : Type 0} (line : L → LinkSeen) (seen : Sight) (door : Span (DoorS
   cause_of_closing line status put answer cause (inr h) = subst (λ (s : Status). ComesFor seen door words s) (sym h.1) (inl h.2)
 
   cause_of_opening : (command : Command) (ending : Ending)
-      → ((bytes : List ℕ) → IsRead seen command roles.App bytes → IsSource seen command bytes) → command_of words ≡ Some command → EndsOpening seen command ending → ComesFor seen door words (status_of ending)
-  cause_of_opening command (endings.ReadFault role) source is h = h.1
-  cause_of_opening command (endings.TooLong role) source is h = (command, is, (role, h.0, h.1))
-  cause_of_opening command (endings.AppRefused line) source is h = (command, is, (h.0, source h.0 h.1, h.2.none))
-  cause_of_opening command (endings.SessionsRefused line) source is h = (command, is, inr (h.0, (line, h.1)))
-  cause_of_opening command endings.Memory source is h = tt
-  cause_of_opening command (endings.LineRefused lapse) source is h = absurd h
-  cause_of_opening command endings.WriteFault source is h = absurd h
-  cause_of_opening command endings.StoreFault source is h = absurd h
-  cause_of_opening command endings.DoorFault source is h = absurd h
-  cause_of_opening command (endings.OtherStore stored wanted) source is h = absurd h
+      → ((bytes : List ℕ) → IsRead seen command roles.App bytes → IsSource seen command bytes)
+      → (IsTrue (is_some (file_of command roles.New)) → (bytes : List ℕ) → IsRead seen command roles.New bytes → IsSource seen command bytes)
+      → command_of words ≡ Some command → EndsOpening seen command ending → ComesFor seen door words (status_of ending)
+  cause_of_opening command (endings.ReadFault role) source next is h = h.1
+  cause_of_opening command (endings.TooLong role) source next is h = (command, is, (role, h.0, h.1))
+  cause_of_opening command (endings.AppRefused line) source next is h = (command, is, (h.0, source h.0 h.1, h.2.none))
+  cause_of_opening command (endings.NewRefused line) source next is h = (command, is, (h.1.0, next h.0.1 h.1.0 h.1.1, h.1.2.none))
+  cause_of_opening command (endings.UpgradeRefused line) source next is h = absurd h
+  cause_of_opening command (endings.SessionsRefused line) source next is h = (command, is, inr (h.0, (line, h.1)))
+  cause_of_opening command endings.Memory source next is h = tt
+  cause_of_opening command (endings.LineRefused lapse) source next is h = absurd h
+  cause_of_opening command endings.WriteFault source next is h = absurd h
+  cause_of_opening command endings.StoreFault source next is h = absurd h
+  cause_of_opening command endings.DoorFault source next is h = absurd h
+  cause_of_opening command (endings.OtherStore stored wanted) source next is h = absurd h
 
   -- the cause of an ending behind the files
   cause_of_serving : (command : Command) (app : Application) (sessions : List Session) (events out audit : List ℕ) (ending : Ending)
@@ -65,6 +80,8 @@ module _ {L : Type 0} (line : L → LinkSeen) (seen : Sight) (door : Span (DoorS
   cause_of_serving command app sessions events out audit (endings.ReadFault role) source is opened h = absurd h.1.ends
   cause_of_serving command app sessions events out audit (endings.TooLong role) source is opened h = absurd h.1.ends
   cause_of_serving command app sessions events out audit (endings.AppRefused line) source is opened h = absurd h.1.ends
+  cause_of_serving command app sessions events out audit (endings.NewRefused line) source is opened h = absurd h.1.ends
+  cause_of_serving command app sessions events out audit (endings.UpgradeRefused line) source is opened h = absurd h.1.ends
   cause_of_serving command app sessions events out audit (endings.SessionsRefused line) source is opened h = absurd h.1.ends
 
   cause_of_text : (text out : List ℕ) (ending : Ending) → PutsText seen.out text (Err ending) out → ComesFor seen door words (status_of ending)
@@ -76,6 +93,8 @@ module _ {L : Type 0} (line : L → LinkSeen) (seen : Sight) (door : Span (DoorS
   cause_of_text text out (endings.ReadFault role) h = absurd h
   cause_of_text text out (endings.TooLong role) h = absurd h
   cause_of_text text out (endings.AppRefused line) h = absurd h
+  cause_of_text text out (endings.NewRefused line) h = absurd h
+  cause_of_text text out (endings.UpgradeRefused line) h = absurd h
   cause_of_text text out (endings.LineRefused lapse) h = absurd h
   cause_of_text text out (endings.SessionsRefused line) h = absurd h
 
@@ -98,6 +117,8 @@ module _ {L : Type 0} (line : L → LinkSeen) (seen : Sight) (door : Span (DoorS
   cause_of_tallying n app audit (endings.ReadFault role) is calendar rose h = absurd h
   cause_of_tallying n app audit (endings.TooLong role) is calendar rose h = absurd h
   cause_of_tallying n app audit (endings.AppRefused line) is calendar rose h = absurd h
+  cause_of_tallying n app audit (endings.NewRefused line) is calendar rose h = absurd h
+  cause_of_tallying n app audit (endings.UpgradeRefused line) is calendar rose h = absurd h
   cause_of_tallying n app audit endings.DoorFault is calendar rose h = absurd h
   cause_of_tallying n app audit (endings.LineRefused lapse) is calendar rose h = absurd h
   cause_of_tallying n app audit (endings.SessionsRefused line) is calendar rose h = absurd h
@@ -128,6 +149,8 @@ module _ {L : Type 0} (line : L → LinkSeen) (seen : Sight) (door : Span (DoorS
   cause_of_dumping command app w put (endings.ReadFault role) is source h = absurd h.ends.puts
   cause_of_dumping command app w put (endings.TooLong role) is source h = absurd h.ends.puts
   cause_of_dumping command app w put (endings.AppRefused line) is source h = absurd h.ends.puts
+  cause_of_dumping command app w put (endings.NewRefused line) is source h = absurd h.ends.puts
+  cause_of_dumping command app w put (endings.UpgradeRefused line) is source h = absurd h.ends.puts
   cause_of_dumping command app w put endings.DoorFault is source h = absurd h.ends.puts
   cause_of_dumping command app w put (endings.LineRefused lapse) is source h = absurd h.ends.puts
   cause_of_dumping command app w put (endings.SessionsRefused line) is source h = absurd h.ends.puts
@@ -145,23 +168,93 @@ module _ {L : Type 0} (line : L → LinkSeen) (seen : Sight) (door : Span (DoorS
   cause_of_aimed serving app sessions out audit (endings.ReadFault role) is had h = absurd h.1.ends.ends
   cause_of_aimed serving app sessions out audit (endings.TooLong role) is had h = absurd h.1.ends.ends
   cause_of_aimed serving app sessions out audit (endings.AppRefused text) is had h = absurd h.1.ends.ends
+  cause_of_aimed serving app sessions out audit (endings.NewRefused text) is had h = absurd h.1.ends.ends
+  cause_of_aimed serving app sessions out audit (endings.UpgradeRefused text) is had h = absurd h.1.ends.ends
   cause_of_aimed serving app sessions out audit (endings.LineRefused lapse) is had h = absurd h.1.ends.ends
   cause_of_aimed serving app sessions out audit (endings.SessionsRefused n) is had h = absurd h.1.ends.ends
 
+  -- the causes of an upgrade's endings
+  caused_so : (ending cause : Ending) → ◌≡◌ {A = Result (Unit {0}) Ending} (Err ending) (Err cause) → ComesFor seen door words (status_of cause) → ComesFor seen door words (status_of ending)
+  caused_so ending cause same h = subst (λ (e : Ending). ComesFor seen door words (status_of e)) (sym (same_ending ending cause same)) h
+
+  cause_of_attaching : (command : Command) (old : Application) (ending : Ending)
+      → command_of words ≡ Some command → Sources seen command old → AttachesAs (db_of command) old seen.keeper (Err ending) → ComesFor seen door words (status_of ending)
+  cause_of_attaching command old endings.StoreFault is source h = h.0
+  cause_of_attaching command old (endings.OtherStore stored wanted) is source h =
+      (command, is, (old, source, (stored, subst (λ (text : List ℕ). IsOther seen.keeper stored text) h.0 h.1)))
+  cause_of_attaching command old endings.Memory is source h = tt
+  cause_of_attaching command old (endings.ReadFault role) is source h = absurd h
+  cause_of_attaching command old (endings.TooLong role) is source h = absurd h
+  cause_of_attaching command old (endings.AppRefused line) is source h = absurd h
+  cause_of_attaching command old (endings.NewRefused line) is source h = absurd h
+  cause_of_attaching command old (endings.UpgradeRefused line) is source h = absurd h
+  cause_of_attaching command old endings.DoorFault is source h = absurd h
+  cause_of_attaching command old endings.WriteFault is source h = absurd h
+  cause_of_attaching command old (endings.LineRefused lapse) is source h = absurd h
+  cause_of_attaching command old (endings.SessionsRefused line) is source h = absurd h
+
+  cause_of_kept : (ending : Ending) (k : Span KeeperSeen) (put : List ℕ) → (Rose k.before.faults k.after.faults → Rose seen.keeper.before.faults seen.keeper.after.faults)
+      → IsKept k (Err ending) put → ComesFor seen door words (status_of ending)
+  cause_of_kept ending k put rose h = elim h.ended [ inl e ↦ caused_so ending endings.StoreFault e.0 (rose e.1) | inr e ↦ caused_so ending endings.Memory e tt ]
+
+  cause_of_reshaping : (old new : Application) (k : Span KeeperSeen) (put : List ℕ) (ending : Ending)
+      → (Rose k.before.faults k.after.faults → Rose seen.keeper.before.faults seen.keeper.after.faults) → EndsReshaping old new seen.out k (Err ending) put → ComesFor seen door words (status_of ending)
+  cause_of_reshaping old new k put ending rose (inl h) = cause_of_text (upgraded_line h.count) put ending h.puts
+  cause_of_reshaping old new k put ending rose (inr h) = cause_of_kept ending k put rose h
+
+  cause_of_moving : (command : Command) (old new : Application) (put : List ℕ) (ending : Ending)
+      → command_of words ≡ Some command → Sources seen command old → EndsMoving (db_of command) old new seen.out seen.keeper (Err ending) put → ComesFor seen door words (status_of ending)
+  cause_of_moving command old new put ending is source (inl h) = caused_so ending h.ending h.ended (cause_of_attaching command old h.ending is source h.attaches)
+  cause_of_moving command old new put ending is source (inr h) =
+      cause_of_reshaping old new (span h.opened seen.keeper.after) put ending (λ rose. Rose-widen _ _ _ _ h.attached.0.later (omega arith) rose) h.ends
+
+  -- the causes of the endings of a `why`
+  cause_of_explained : (app : Application) (viewer : Option ℕ) (k : Span KeeperSeen) (put : List ℕ) (ending : Ending)
+      → (Rose k.before.faults k.after.faults → Rose seen.keeper.before.faults seen.keeper.after.faults) → EndsExplained app viewer seen.out k (Err ending) put → ComesFor seen door words (status_of ending)
+  cause_of_explained app viewer k put ending rose (inl h) = cause_of_text h.text put ending h.puts
+  cause_of_explained app viewer k put ending rose (inr h) = cause_of_kept ending k put rose h
+
+  cause_of_explaining : (command : Command) (app : Application) (viewer : Option ℕ) (put : List ℕ) (ending : Ending)
+      → command_of words ≡ Some command → Sources seen command app → EndsExplaining (db_of command) app viewer seen.out seen.keeper (Err ending) put → ComesFor seen door words (status_of ending)
+  cause_of_explaining command app viewer put ending is source (inl h) = caused_so ending h.ending h.ended (cause_of_attaching command app h.ending is source h.attaches)
+  cause_of_explaining command app viewer put ending is source (inr h) =
+      cause_of_explained app viewer (span h.opened seen.keeper.after) put ending (λ rose. Rose-widen _ _ _ _ h.attached.0.later (omega arith) rose) h.ends
+
+  cause_of_lacking : (upgrading : Upgrading) (old new : Application) (put : List ℕ) (ending : Ending)
+      → command_of words ≡ Some (commands.Upgrade upgrading) → HasApplication seen (commands.Upgrade upgrading) old → HasNext seen (commands.Upgrade upgrading) new
+      → IsLacking old new seen.keeper (Err ending) put → ComesFor seen door words (status_of ending)
+  cause_of_lacking upgrading old new put ending is had next h = elim h.told [
+    | inl told ↦ caused_so ending (endings.UpgradeRefused (lack_line old.models h.fault)) told (upgrading, is, (old, had, (new, next, (h.fault, h.lacks))))
+    | inr memory ↦ caused_so ending endings.Memory memory tt
+  ]
+
+  cause_of_upgrading : (upgrading : Upgrading) (old new : Application) (put : List ℕ) (ending : Ending)
+      → command_of words ≡ Some (commands.Upgrade upgrading) → HasApplication seen (commands.Upgrade upgrading) old → HasNext seen (commands.Upgrade upgrading) new
+      → EndsUpgrading (Some upgrading.db) old new seen.out seen.keeper (Err ending) put → ComesFor seen door words (status_of ending)
+  cause_of_upgrading upgrading old new put ending is had next (inl h) = cause_of_lacking upgrading old new put ending is had next h
+  cause_of_upgrading upgrading old new put ending is had next (inr h) = cause_of_moving (commands.Upgrade upgrading) old new put ending is had h.1
+
   cause_of_ending : (command : Command) (out audit : List ℕ) (ending : Ending)
       → command_of words ≡ Some command → Ends line seen door command (Err ending) out audit → ComesFor seen door words (status_of ending)
-  cause_of_ending (commands.Check app) out audit ending is (inl h, uncalled) = cause_of_opening (commands.Check app) ending (λ bytes read. read) is h.0
+  cause_of_ending (commands.Check app) out audit ending is (inl h, uncalled) = cause_of_opening (commands.Check app) ending (λ bytes read. read) (λ there bytes read. absurd (none_there there)) is h.0
   cause_of_ending (commands.Check app) out audit ending is (inr h, uncalled) = cause_of_text (checked_text h.app) out ending h.text
-  cause_of_ending (commands.Replay replay) out audit ending is (inl h, uncalled) = cause_of_opening (commands.Replay replay) ending (λ bytes read. read) is h.0
+  cause_of_ending (commands.Replay replay) out audit ending is (inl h, uncalled) = cause_of_opening (commands.Replay replay) ending (λ bytes read. read) (λ there bytes read. absurd (none_there there)) is h.0
   cause_of_ending (commands.Replay replay) out audit ending is (inr h, uncalled) =
       cause_of_serving (commands.Replay replay) h.app h.sessions h.events out audit ending (λ had. had) is h.opened h.ends
-  cause_of_ending (commands.Serve serving) out audit ending is (inl h) = cause_of_opening (commands.Serve serving) ending (λ bytes read. read) is h.0.0
+  cause_of_ending (commands.Serve serving) out audit ending is (inl h) = cause_of_opening (commands.Serve serving) ending (λ bytes read. read) (λ there bytes read. absurd (none_there there)) is h.0.0
   cause_of_ending (commands.Serve serving) out audit ending is (inr h) = cause_of_aimed serving h.app h.sessions out audit ending is h.application h.ends
   cause_of_ending (commands.Demo n) out audit ending is (inl h, uncalled) = cause_of_uncounted n out audit ending is h.0
   cause_of_ending (commands.Demo n) out audit ending is (inr h, uncalled) = cause_of_counting n h.app out audit ending is h.calendar h.ends
-  cause_of_ending (commands.Dump dumping) out audit ending is (inl h, uncalled) = cause_of_opening (commands.Dump dumping) ending (λ bytes read. read) is h.0
+  cause_of_ending (commands.Dump dumping) out audit ending is (inl h, uncalled) = cause_of_opening (commands.Dump dumping) ending (λ bytes read. read) (λ there bytes read. absurd (none_there there)) is h.0
   cause_of_ending (commands.Dump dumping) out audit ending is (inr h, uncalled) =
       cause_of_dumping (commands.Dump dumping) h.app (shown dumping.labels) out ending is h.application h.ends
+  cause_of_ending (commands.Upgrade upgrading) out audit ending is (inl h, uncalled) =
+      cause_of_opening (commands.Upgrade upgrading) ending (λ bytes read. inl read) (λ there bytes read. inr read) is h.0
+  cause_of_ending (commands.Why explaining) out audit ending is (inl h, uncalled) =
+      cause_of_opening (commands.Why explaining) ending (λ bytes read. read) (λ there bytes read. absurd (none_there there)) is h.0
+  cause_of_ending (commands.Why explaining) out audit ending is (inr h, uncalled) =
+      cause_of_explaining (commands.Why explaining) h.app (asker_in (commands.Why explaining) h.app) out ending is h.application h.ends
+  cause_of_ending (commands.Upgrade upgrading) out audit ending is (inr h, uncalled) = cause_of_upgrading upgrading h.old h.new out ending is h.application h.next h.ends
 
   cause_of_finish : (command : Command) (out audit : List ℕ) (ended : Result (Unit {0}) Ending) (last : List ℕ) (answer : Status)
       → command_of words ≡ Some command → Ends line seen door command ended out audit → Finishes seen.out command ended last answer → ComesFor seen door words answer

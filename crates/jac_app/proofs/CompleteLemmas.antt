@@ -1,5 +1,5 @@
 -- Where nothing is missing and nothing fails, all is done.
-use Rattle.std.proofs.Common.{Bool, false, ◌≡◌, ◌∙◌, ap, sym, subst, refl, ℕ, ◌≤◌, ◌<◌, ◌⊎◌, inl, inr, is_some, IsTrue, IsSomeAnd, Result, Ok, Err, Option, Some, None, List, length, arith}
+use Rattle.std.proofs.Common.{Bool, true, false, is_none, ◌≡◌, ◌∙◌, ap, sym, subst, refl, ℕ, ◌≤◌, ◌<◌, ◌⊎◌, inl, inr, is_some, IsTrue, IsSomeAnd, Result, Ok, Err, Option, Some, None, List, length, arith}
 use Rattle.jac_io.specs.Faults.{Rose}
 use Rattle.jac_io.specs.Seen.{FilesSeen, SinkSeen}
 use Rattle.jac_io.specs.Linked.{LinkSeen, DoorSeen}
@@ -7,30 +7,38 @@ use Rattle.jac_lang.specs.Syntax.{Application}
 use Rattle.jac_route.specs.Sessions.{sessions_in}
 use Rattle.jac_words.specs.declared.words.Command.{Command}
 use Rattle.jac_words.specs.declared.words.Command.TheVariants as commands
-use Rattle.jac_app.specs.declared.ending.Ending.{Ending}
-use Rattle.jac_app.specs.declared.ending.Ending.TheVariants as endings
+use Rattle.jac_ending.specs.declared.ending.Ending.{Ending}
+use Rattle.jac_ending.specs.declared.ending.Ending.TheVariants as endings
 use Rattle.jac_words.specs.declared.role.Role.{Role}
 use Rattle.jac_words.specs.declared.role.Role.TheVariants as roles
 use Rattle.jac_app.specs.declared.summary.Summary.{Summary}
-use Rattle.jac_app.specs.declared.status.Status.{Status}
-use Rattle.jac_app.specs.declared.status.Status.TheVariants as statuses
+use Rattle.jac_ending.specs.declared.status.Status.{Status}
+use Rattle.jac_ending.specs.declared.status.Status.TheVariants as statuses
 use Rattle.jac_serving.specs.Script.{script_of}
 use Rattle.jac_opening.specs.Application.{IsApplication}
-use Rattle.jac_serving.specs.Outside.{Span, AWriteFailed}
+use Rattle.jac_opening.specs.Refusal.{IsRefusedBy}
+use Rattle.jac_keep.specs.KeeperSeen.{KeeperSeen}
+use Rattle.jac_upgrade.specs.Extends.{models_lack}
+use Rattle.jac_upgrade.specs.declared.fault.UpgradeFault.{UpgradeFault}
+use Rattle.jac_admin.specs.Upgrade.{lack_line, upgraded_line, IsUnmoved, IsKept, EndsReshaping, EndsMoving, EndsUpgrade}
+use Rattle.jac_admin.specs.Explain.{asker_in, EndsExplained, EndsExplaining, EndsExplain}
+use Rattle.jac_ending.specs.Attached.{AttachesAs}
+use Rattle.jac_serving.specs.Outside.{Span, span, AWriteFailed}
 use Rattle.jac_words.specs.Words.{command_of}
 use Rattle.jac_words.specs.Commands.{file_of, name_of, name_or_empty, limit_of}
 use Rattle.jac_demo.specs.Calendar.{calendar_text}
-use Rattle.jac_app.specs.Files.{Sight, sinks_of, IsUnopened, IsRead, IsLong, HasBadLine, IsReached}
-use Rattle.jac_app.specs.Ending.{Finishes, status_of}
-use Rattle.jac_app.specs.Replay.{EndsOpening, EndsReplay}
+use Rattle.jac_ending.specs.Files.{Sight, sinks_of, IsUnopened, IsRead, IsLong, HasApplication, HasNext, HasBadLine, IsReached}
+use Rattle.jac_ending.specs.Ending.{Finishes, status_of, PutsText}
+use Rattle.jac_ending.specs.Early.{EndsOpening}
+use Rattle.jac_app.specs.Replay.{EndsReplay}
 use Rattle.jac_app.specs.Server.{EndsServer}
-use Rattle.jac_app.specs.Check.{EndsCheck, PutsText, checked_text}
+use Rattle.jac_app.specs.Check.{EndsCheck, checked_text}
 use Rattle.jac_world.specs.World.{shown as shown_labels}
-use Rattle.jac_app.specs.Dump.{EndsDump, EndsDumping}
+use Rattle.jac_admin.specs.Dump.{EndsDump, EndsDumping}
 use Rattle.jac_app.specs.Demo.{EndsDemo, EndsCounting, EndsTallying, PutsSummary, summary_line}
-use Rattle.jac_app.specs.Run.{Ends, Runs, IsCompleted, CanHaveSessions, CanOpen, CanReplay, CanServe, CanCheck, CanDemo, CanDump}
+use Rattle.jac_app.specs.Run.{Ends, Runs, IsCompleted, CanHaveSessions, CanOpen, CanReplay, CanServe, CanCheck, CanDemo, CanDump, CanExplain, CanUpgrade, Extends}
 use Rattle.jac_calendar.proofs.CalendarOpens.{calendar, calendar_is}
-use Rattle.jac_app.proofs.CauseLemmas.{same_ending}
+use Rattle.jac_app.proofs.CauseLemmas.{same_ending, none_there}
 use Rattle.jac_opening.proofs.OpeningLemmas.{some_same}
 
 -- a file that was read is the one that is there
@@ -64,30 +72,34 @@ not_long_named files (Some name) is can long =
 module _ (seen : Sight) (command : Command) (app : Application) (can : CanOpen seen command app) where
   no_opening_fault : (ending : Ending) → EndsOpening seen command ending
       → ((role : Role) → IsReached seen command role → IsLong seen command role → ⊥) → ((line : ℕ) → HasBadLine seen.files (file_of command roles.Sessions) line → ⊥)
+      → (IsTrue (is_some (file_of command roles.New)) → (bytes line : List ℕ) → IsRead seen command roles.New bytes → IsRefusedBy bytes line → ⊥)
       → status_of ending ≡ statuses.Memory
-  no_opening_fault (endings.ReadFault role) h long bad = absurd (can.no_read_fault h.1)
-  no_opening_fault (endings.TooLong role) h long bad = absurd (long role h.0 h.1)
-  no_opening_fault (endings.SessionsRefused line) h long bad = absurd (bad line h.1)
-  no_opening_fault (endings.AppRefused line) h long bad =
+  no_opening_fault (endings.ReadFault role) h long bad next = absurd (can.no_read_fault h.1)
+  no_opening_fault (endings.TooLong role) h long bad next = absurd (long role h.0 h.1)
+  no_opening_fault (endings.SessionsRefused line) h long bad next = absurd (bad line h.1)
+  no_opening_fault (endings.AppRefused line) h long bad next =
       let same = same_bytes seen command roles.App can.bytes h.0 can.told can.file h.1 in
       absurd (h.2.none app (subst (λ (b : List ℕ). IsApplication b app) (sym same) can.application))
-  no_opening_fault endings.Memory h long bad = refl
-  no_opening_fault (endings.LineRefused lapse) h long bad = absurd h
-  no_opening_fault endings.WriteFault h long bad = absurd h
-  no_opening_fault endings.StoreFault h long bad = absurd h
-  no_opening_fault endings.DoorFault h long bad = absurd h
-  no_opening_fault (endings.OtherStore stored wanted) h long bad = absurd h
+  no_opening_fault (endings.NewRefused line) h long bad next = absurd (next h.0.1 h.1.0 line h.1.1 h.1.2)
+  no_opening_fault (endings.UpgradeRefused line) h long bad next = absurd h
+  no_opening_fault endings.Memory h long bad next = refl
+  no_opening_fault (endings.LineRefused lapse) h long bad next = absurd h
+  no_opening_fault endings.WriteFault h long bad next = absurd h
+  no_opening_fault endings.StoreFault h long bad next = absurd h
+  no_opening_fault endings.DoorFault h long bad next = absurd h
+  no_opening_fault (endings.OtherStore stored wanted) h long bad next = absurd h
 
   app_not_long : IsLong seen command roles.App → ⊥
   app_not_long long = not_long seen command roles.App can.bytes can.told can.file can.application.1.short long
 
 -- a command of which no put fails has a status that is done, want of memory or that of an ending of its steps
 module _ {L : Type 0} (line : L → LinkSeen) (seen : Sight) (door : Span (DoorSeen L)) (words : List (List ℕ)) (command : Command) (is_command : command_of words ≡ Some command)
-    (no_write_fault : AWriteFailed (sinks_of seen) → ⊥) (Is : Status → Type 0) (done : Is statuses.Done) (memory : Is statuses.Memory)
+    (no_write_fault : AWriteFailed (sinks_of seen) → ⊥) (Is : Status → Type 0)
+    (done : (out audit : List ℕ) (finished : Unit {0}) → Ends line seen door command (Ok finished) out audit → Is statuses.Done) (memory : Is statuses.Memory)
     (ends : (out audit : List ℕ) (ending : Ending) → Ends line seen door command (Err ending) out audit → Is (status_of ending)) where
   finished_so : (out audit : List ℕ) (ended : Result (Unit {0}) Ending) (last : List ℕ) (answer : Status)
       → Ends line seen door command ended out audit → Finishes seen.out command ended last answer → Is answer
-  finished_so out audit (Ok finished) last answer ended h = subst Is (sym h.1) done
+  finished_so out audit (Ok finished) last answer ended h = subst Is (sym h.1) (done out audit finished ended)
   finished_so out audit (Err ending) last answer ended (inl h) = subst Is (sym h.1) (ends out audit ending ended)
   finished_so out audit (Err ending) last answer ended (inr h) = absurd (no_write_fault (inl h.2))
 
@@ -109,6 +121,8 @@ no_text_fault sink none text put (endings.OtherStore stored wanted) h = h
 no_text_fault sink none text put (endings.ReadFault role) h = h
 no_text_fault sink none text put (endings.TooLong role) h = h
 no_text_fault sink none text put (endings.AppRefused line) h = h
+no_text_fault sink none text put (endings.NewRefused line) h = h
+no_text_fault sink none text put (endings.UpgradeRefused line) h = h
 no_text_fault sink none text put endings.DoorFault h = h
 no_text_fault sink none text put (endings.LineRefused lapse) h = h
 no_text_fault sink none text put (endings.SessionsRefused line) h = h
@@ -120,12 +134,13 @@ module _ {L : Type 0} (line : L → LinkSeen) (seen : Sight) (door : Span (DoorS
 
   no_long : (role : Role) → IsReached seen its role → IsLong seen its role → ⊥
   no_long roles.App reached long = app_not_long seen its can.app can.opens long
+  no_long roles.New reached long = none_there reached.1
   no_long roles.Sessions reached long = not_long_named seen.files can.replay.sessions reached.1 can.sessions_file (long can.opens.told)
   no_long roles.Events reached long = not_long seen its roles.Events can.events can.opens.told can.events_file can.short long
 
   no_ending : (out audit : List ℕ) (ending : Ending) → EndsReplay seen its (Err ending) out audit → IsCompleted (status_of ending)
   no_ending out audit ending (inl h) =
-      inr (inl (no_opening_fault seen its can.app can.opens ending h.0 no_long (λ line bad. no_bad_line seen.files can.replay.sessions line can.opens.told can.sessions_file bad)))
+      inr (inl (no_opening_fault seen its can.app can.opens ending h.0 no_long (λ line bad. no_bad_line seen.files can.replay.sessions line can.opens.told can.sessions_file bad) (λ there bytes line. absurd (none_there there))))
   no_ending out audit endings.WriteFault (inr h) = absurd (can.opens.no_write_fault h.ends.0)
   no_ending out audit endings.Memory (inr h) = inr (inl refl)
   no_ending out audit endings.StoreFault (inr h) = inr (inr (inl refl))
@@ -138,14 +153,13 @@ module _ {L : Type 0} (line : L → LinkSeen) (seen : Sight) (door : Span (DoorS
   no_ending out audit (endings.ReadFault role) (inr h) = absurd h.ends.1.ends
   no_ending out audit (endings.TooLong role) (inr h) = absurd h.ends.1.ends
   no_ending out audit (endings.AppRefused line) (inr h) = absurd h.ends.1.ends
+  no_ending out audit (endings.NewRefused line) (inr h) = absurd h.ends.1.ends
+  no_ending out audit (endings.UpgradeRefused line) (inr h) = absurd h.ends.1.ends
   no_ending out audit (endings.SessionsRefused line) (inr h) = absurd h.ends.1.ends
 
   -- where nothing is missing and no read or put fails, all is served, unless memory runs out or the store refuses
   pub is_served : (answer : Status) (out audit : List ℕ) → Runs line seen door words answer out audit → IsCompleted answer
-  is_served = ran_so line seen door words its can.is_command can.opens.no_write_fault IsCompleted (inl refl) (inr (inl refl)) (λ out audit ending ends. no_ending out audit ending ends.0)
-
-none_there : IsTrue false → ⊥
-none_there is = cc
+  is_served = ran_so line seen door words its can.is_command can.opens.no_write_fault IsCompleted (λ out audit finished ended. inl refl) (inr (inl refl)) (λ out audit ending ends. no_ending out audit ending ends.0)
 
 -- the same of a check
 module _ {L : Type 0} (line : L → LinkSeen) (seen : Sight) (door : Span (DoorSeen L)) (words : List (List ℕ)) (can : CanCheck seen words) where
@@ -154,17 +168,18 @@ module _ {L : Type 0} (line : L → LinkSeen) (seen : Sight) (door : Span (DoorS
 
   check_long : (role : Role) → IsReached seen checked role → IsLong seen checked role → ⊥
   check_long roles.App reached long = app_not_long seen checked can.app can.opens long
+  check_long roles.New reached long = none_there reached.1
   check_long roles.Sessions reached long = none_there reached.1
   check_long roles.Events reached long = none_there reached.2
 
   no_check_ending : (out audit : List ℕ) (ending : Ending) → EndsCheck seen checked (Err ending) out audit → status_of ending ≡ statuses.Memory
-  no_check_ending out audit ending (inl h) = no_opening_fault seen checked can.app can.opens ending h.0 check_long (λ line bad. absurd bad)
+  no_check_ending out audit ending (inl h) = no_opening_fault seen checked can.app can.opens ending h.0 check_long (λ line bad. absurd bad) (λ there bytes line. absurd (none_there there))
   no_check_ending out audit ending (inr h) = absurd (no_text_fault seen.out (λ rose. can.opens.no_write_fault (inl rose)) (checked_text h.app) out ending h.text)
 
   -- where the application is there and no read or put fails, it is checked, unless memory runs out
   pub is_checked : (answer : Status) (out audit : List ℕ) → Runs line seen door words answer out audit → (answer ≡ statuses.Done) ⊎ (answer ≡ statuses.Memory)
   is_checked =
-      ran_so line seen door words checked can.is_command can.opens.no_write_fault (λ status. (status ≡ statuses.Done) ⊎ (status ≡ statuses.Memory)) (inl refl) (inr refl)
+      ran_so line seen door words checked can.is_command can.opens.no_write_fault (λ status. (status ≡ statuses.Done) ⊎ (status ≡ statuses.Memory)) (λ out audit finished ended. inl refl) (inr refl)
       (λ out audit ending ends. inr (no_check_ending out audit ending ends.0))
 
 -- the same of a demo
@@ -186,6 +201,8 @@ module _ {L : Type 0} (line : L → LinkSeen) (seen : Sight) (door : Span (DoorS
   not_tallied app audit (endings.ReadFault role) rose h = absurd h
   not_tallied app audit (endings.TooLong role) rose h = absurd h
   not_tallied app audit (endings.AppRefused line) rose h = absurd h
+  not_tallied app audit (endings.NewRefused line) rose h = absurd h
+  not_tallied app audit (endings.UpgradeRefused line) rose h = absurd h
   not_tallied app audit endings.DoorFault rose h = absurd h
   not_tallied app audit (endings.LineRefused lapse) rose h = absurd h
   not_tallied app audit (endings.SessionsRefused line) rose h = absurd h
@@ -208,7 +225,7 @@ module _ {L : Type 0} (line : L → LinkSeen) (seen : Sight) (door : Span (DoorS
 
   -- where no put fails, all requests are answered, unless memory runs out or the store refuses
   pub is_shown : (answer : Status) (out audit : List ℕ) → Runs line seen door words answer out audit → IsCompleted answer
-  is_shown = ran_so line seen door words shown can.is_command can.no_write_fault IsCompleted (inl refl) (inr (inl refl)) (λ out audit ending ends. no_demo_ending out audit ending ends.0)
+  is_shown = ran_so line seen door words shown can.is_command can.no_write_fault IsCompleted (λ out audit finished ended. inl refl) (inr (inl refl)) (λ out audit ending ends. no_demo_ending out audit ending ends.0)
 
 -- the same of a dump
 module _ {L : Type 0} (line : L → LinkSeen) (seen : Sight) (door : Span (DoorSeen L)) (words : List (List ℕ)) (can : CanDump seen words) where
@@ -217,6 +234,7 @@ module _ {L : Type 0} (line : L → LinkSeen) (seen : Sight) (door : Span (DoorS
 
   dump_long : (role : Role) → IsReached seen dumped role → IsLong seen dumped role → ⊥
   dump_long roles.App reached long = app_not_long seen dumped can.app can.opens long
+  dump_long roles.New reached long = none_there reached.1
   dump_long roles.Sessions reached long = none_there reached.1
   dump_long roles.Events reached long = none_there reached.2
 
@@ -229,17 +247,166 @@ module _ {L : Type 0} (line : L → LinkSeen) (seen : Sight) (door : Span (DoorS
   not_dumped app w put (endings.ReadFault role) h = absurd h.ends.puts
   not_dumped app w put (endings.TooLong role) h = absurd h.ends.puts
   not_dumped app w put (endings.AppRefused line) h = absurd h.ends.puts
+  not_dumped app w put (endings.NewRefused line) h = absurd h.ends.puts
+  not_dumped app w put (endings.UpgradeRefused line) h = absurd h.ends.puts
   not_dumped app w put endings.DoorFault h = absurd h.ends.puts
   not_dumped app w put (endings.LineRefused lapse) h = absurd h.ends.puts
   not_dumped app w put (endings.SessionsRefused line) h = absurd h.ends.puts
 
   no_dump_ending : (out audit : List ℕ) (ending : Ending) → EndsDump seen dumped (Err ending) out audit → IsCompleted (status_of ending)
-  no_dump_ending out audit ending (inl h) = inr (inl (no_opening_fault seen dumped can.app can.opens ending h.0 dump_long (λ line bad. absurd bad)))
+  no_dump_ending out audit ending (inl h) = inr (inl (no_opening_fault seen dumped can.app can.opens ending h.0 dump_long (λ line bad. absurd bad) (λ there bytes line. absurd (none_there there))))
   no_dump_ending out audit ending (inr h) = not_dumped h.app (shown_labels can.dumping.labels) out ending h.ends
 
   -- where the application is there and no read or put fails, the store is dumped, unless memory runs out or the store refuses
   pub is_dumped : (answer : Status) (out audit : List ℕ) → Runs line seen door words answer out audit → IsCompleted answer
-  is_dumped = ran_so line seen door words dumped can.is_command can.opens.no_write_fault IsCompleted (inl refl) (inr (inl refl)) (λ out audit ending ends. no_dump_ending out audit ending ends.0)
+  is_dumped = ran_so line seen door words dumped can.is_command can.opens.no_write_fault IsCompleted (λ out audit finished ended. inl refl) (inr (inl refl)) (λ out audit ending ends. no_dump_ending out audit ending ends.0)
+
+-- a store that isn't attached completes so
+not_attached : (db : Option (List ℕ)) (app : Application) (k : Span KeeperSeen) (ending : Ending) → AttachesAs db app k (Err ending) → IsCompleted (status_of ending)
+not_attached db app k endings.StoreFault h = inr (inr (inl refl))
+not_attached db app k (endings.OtherStore stored wanted) h = inr (inr (inr refl))
+not_attached db app k endings.Memory h = inr (inl refl)
+not_attached db app k (endings.ReadFault role) h = absurd h
+not_attached db app k (endings.TooLong role) h = absurd h
+not_attached db app k (endings.AppRefused line) h = absurd h
+not_attached db app k (endings.NewRefused line) h = absurd h
+not_attached db app k (endings.UpgradeRefused line) h = absurd h
+not_attached db app k endings.DoorFault h = absurd h
+not_attached db app k endings.WriteFault h = absurd h
+not_attached db app k (endings.LineRefused lapse) h = absurd h
+not_attached db app k (endings.SessionsRefused line) h = absurd h
+
+completed_so : (ending cause : Ending) → ◌≡◌ {A = Result (Unit {0}) Ending} (Err ending) (Err cause) → IsCompleted (status_of cause) → IsCompleted (status_of ending)
+completed_so ending cause same h = subst (λ (e : Ending). IsCompleted (status_of e)) (sym (same_ending ending cause same)) h
+
+not_moved_from : (db : Option (List ℕ)) (app : Application) (k : Span KeeperSeen) (put : List ℕ) (ending : Ending) → IsUnmoved db app k (Err ending) put → IsCompleted (status_of ending)
+not_moved_from db app k put ending h = completed_so ending h.ending h.ended (not_attached db app k h.ending h.attaches)
+
+-- and so does one that was kept
+kept_so : (k : Span KeeperSeen) (put : List ℕ) (ending : Ending) → IsKept k (Err ending) put → IsCompleted (status_of ending)
+kept_so k put ending h = elim h.ended [
+  | inl e ↦ completed_so ending endings.StoreFault e.0 (inr (inr (inl refl)))
+  | inr e ↦ completed_so ending endings.Memory e (inr (inl refl))
+]
+
+-- the same of a `why`
+module _ {L : Type 0} (line : L → LinkSeen) (seen : Sight) (door : Span (DoorSeen L)) (words : List (List ℕ)) (can : CanExplain seen words) where
+  abbrev explained : Command
+  explained = commands.Why can.explaining
+
+  explain_long : (role : Role) → IsReached seen explained role → IsLong seen explained role → ⊥
+  explain_long roles.App reached long = app_not_long seen explained can.app can.opens long
+  explain_long roles.New reached long = none_there reached.1
+  explain_long roles.Sessions reached long = none_there reached.1
+  explain_long roles.Events reached long = none_there reached.2
+
+  not_explained : (app : Application) (viewer : Option ℕ) (k : Span KeeperSeen) (put : List ℕ) (ending : Ending) → EndsExplained app viewer seen.out k (Err ending) put → IsCompleted (status_of ending)
+  not_explained app viewer k put ending (inl h) = absurd (no_text_fault seen.out (λ rose. can.opens.no_write_fault (inl rose)) h.text put ending h.puts)
+  not_explained app viewer k put ending (inr h) = kept_so k put ending h
+
+  not_explaining : (app : Application) (viewer : Option ℕ) (put : List ℕ) (ending : Ending)
+      → EndsExplaining can.explaining.db app viewer seen.out seen.keeper (Err ending) put → IsCompleted (status_of ending)
+  not_explaining app viewer put ending (inl h) = not_moved_from can.explaining.db app seen.keeper put ending h
+  not_explaining app viewer put ending (inr h) = not_explained app viewer (span h.opened seen.keeper.after) put ending h.ends
+
+  no_explain_ending : (out audit : List ℕ) (ending : Ending) → EndsExplain seen explained (Err ending) out audit → IsCompleted (status_of ending)
+  no_explain_ending out audit ending (inl h) =
+      inr (inl (no_opening_fault seen explained can.app can.opens ending h.0 explain_long (λ line bad. absurd bad) (λ there bytes line. absurd (none_there there))))
+  no_explain_ending out audit ending (inr h) = not_explaining h.app (asker_in explained h.app) out ending h.ends
+
+  -- where the application is there and no read or put fails, it is told, unless memory runs out or the store refuses
+  pub is_explained : (answer : Status) (out audit : List ℕ) → Runs line seen door words answer out audit → IsCompleted answer
+  is_explained =
+      ran_so line seen door words explained can.is_command can.opens.no_write_fault IsCompleted (λ out audit finished ended. inl refl) (inr (inl refl))
+      (λ out audit ending ends. no_explain_ending out audit ending ends.0)
+
+-- the same of an upgrade
+module _ {L : Type 0} (line : L → LinkSeen) (seen : Sight) (door : Span (DoorSeen L)) (words : List (List ℕ)) (can : CanUpgrade seen words) where
+  abbrev moving : Command
+  moving = commands.Upgrade can.upgrading
+
+  upgrade_long : (role : Role) → IsReached seen moving role → IsLong seen moving role → ⊥
+  upgrade_long roles.App reached long = app_not_long seen moving can.old can.opens long
+  upgrade_long roles.New reached long = not_long seen moving roles.New can.next_bytes can.opens.told can.next_file can.next_application.1.short long
+  upgrade_long roles.Sessions reached long = none_there reached.1
+  upgrade_long roles.Events reached long = none_there reached.2
+
+  next_spelled : (bytes line : List ℕ) → IsRead seen moving roles.New bytes → IsRefusedBy bytes line → ⊥
+  next_spelled bytes line read refused =
+      let same = same_bytes seen moving roles.New can.next_bytes bytes can.opens.told can.next_file read in
+      refused.none can.new (subst (λ (b : List ℕ). IsApplication b can.new) (sym same) can.next_application)
+
+  no_upgrade_opening : (ending : Ending) → EndsOpening seen moving ending → status_of ending ≡ statuses.Memory
+  no_upgrade_opening ending h = no_opening_fault seen moving can.old can.opens ending h upgrade_long (λ n bad. absurd bad) (λ there bytes line. next_spelled bytes line)
+
+  -- what is read of either file is what the file spells
+  found : (extends : Bool) → Extends seen words can extends → (old new : Application) → HasApplication seen moving old → HasNext seen moving new
+      → is_none (models_lack 0 old.models new.models) ≡ extends
+  found extends finds old new had next =
+      let same = same_bytes seen moving roles.App can.opens.bytes had.bytes can.opens.told can.opens.file had.read in
+      let next_same = same_bytes seen moving roles.New can.next_bytes next.bytes can.opens.told can.next_file next.read in
+      finds old new (subst (λ (b : List ℕ). IsApplication b old) same had.spelled) (subst (λ (b : List ℕ). IsApplication b new) next_same next.spelled)
+
+  not_reshaped : (old new : Application) (k : Span KeeperSeen) (put : List ℕ) (ending : Ending) → EndsReshaping old new seen.out k (Err ending) put → IsCompleted (status_of ending)
+  not_reshaped old new k put ending (inl h) =
+      absurd (no_text_fault seen.out (λ rose. can.opens.no_write_fault (inl rose)) (upgraded_line h.count) put ending h.puts)
+  not_reshaped old new k put ending (inr h) = kept_so k put ending h
+
+  not_moved : (old new : Application) (put : List ℕ) (ending : Ending)
+      → EndsMoving (Some can.upgrading.db) old new seen.out seen.keeper (Err ending) put → IsCompleted (status_of ending)
+  not_moved old new put ending (inl h) = not_moved_from (Some can.upgrading.db) old seen.keeper put ending h
+  not_moved old new put ending (inr h) = not_reshaped old new (span h.opened seen.keeper.after) put ending h.ends
+
+  no_lack : (lack : Option UpgradeFault) (fault : UpgradeFault) → lack ≡ Some fault → is_none lack ≡ true → ⊥
+  no_lack lack fault lacks none = cc
+
+  no_extension : (lack : Option UpgradeFault) → lack ≡ None → is_none lack ≡ false → ⊥
+  no_extension lack none some = cc
+
+  no_upgrade_ending : Extends seen words can true → (out audit : List ℕ) (ending : Ending) → EndsUpgrade seen moving (Err ending) out audit → IsCompleted (status_of ending)
+  no_upgrade_ending finds out audit ending (inl h) = inr (inl (no_upgrade_opening ending h.0))
+  no_upgrade_ending finds out audit ending (inr h) = elim h.ends [
+    | inl lacking ↦ absurd (no_lack (models_lack 0 h.old.models h.new.models) lacking.fault lacking.lacks (found true finds h.old h.new h.application h.next))
+    | inr moved ↦ not_moved h.old h.new out ending moved.1
+  ]
+
+  -- where both applications are there, the second extends the first, and no read or put fails, the store is brought to
+  -- the second, unless memory runs out or the store refuses
+  pub is_upgraded : Extends seen words can true → (answer : Status) (out audit : List ℕ) → Runs line seen door words answer out audit → IsCompleted answer
+  is_upgraded finds =
+      ran_so line seen door words moving can.is_command can.opens.no_write_fault IsCompleted (λ out audit finished ended. inl refl) (inr (inl refl)) (λ out audit ending ends. no_upgrade_ending finds out audit ending ends.0)
+
+  refused_so : (ending : Ending) (line : List ℕ) → (◌≡◌ {A = Result (Unit {0}) Ending} (Err ending) (Err (endings.UpgradeRefused line))) ⊎ (◌≡◌ {A = Result (Unit {0}) Ending} (Err ending) (Err endings.Memory))
+      → (status_of ending ≡ statuses.UpgradeRefused) ⊎ (status_of ending ≡ statuses.Memory)
+  refused_so ending line (inl told) = inl (ap status_of (same_ending ending (endings.UpgradeRefused line) told))
+  refused_so ending line (inr memory) = inr (ap status_of (same_ending ending endings.Memory memory))
+
+  no_refusal_ending : Extends seen words can false → (out audit : List ℕ) (ending : Ending) → EndsUpgrade seen moving (Err ending) out audit
+      → (status_of ending ≡ statuses.UpgradeRefused) ⊎ (status_of ending ≡ statuses.Memory)
+  no_refusal_ending finds out audit ending (inl h) = inr (no_upgrade_opening ending h.0)
+  no_refusal_ending finds out audit ending (inr h) = elim h.ends [
+    | inl lacking ↦ refused_so ending (lack_line h.old.models lacking.fault) lacking.told
+    | inr moved ↦ absurd (no_extension (models_lack 0 h.old.models h.new.models) moved.0 (found false finds h.old h.new h.application h.next))
+  ]
+
+  no_result : (finished : Unit {0}) (line : List ℕ) → (◌≡◌ {A = Result (Unit {0}) Ending} (Ok finished) (Err (endings.UpgradeRefused line))) ⊎ (◌≡◌ {A = Result (Unit {0}) Ending} (Ok finished) (Err endings.Memory)) → ⊥
+  no_result finished line (inl told) = cc
+  no_result finished line (inr memory) = cc
+
+  not_done : Extends seen words can false → (out audit : List ℕ) (finished : Unit {0}) → EndsUpgrade seen moving (Ok finished) out audit → ⊥
+  not_done finds out audit finished (inl h) = h
+  not_done finds out audit finished (inr h) = elim h.ends [
+    | inl lacking ↦ no_result finished (lack_line h.old.models lacking.fault) lacking.told
+    | inr moved ↦ no_extension (models_lack 0 h.old.models h.new.models) moved.0 (found false finds h.old h.new h.application h.next)
+  ]
+
+  -- and where the second doesn't extend the first, it is refused, unless memory runs out
+  pub is_refused : Extends seen words can false → (answer : Status) (out audit : List ℕ) → Runs line seen door words answer out audit
+      → (answer ≡ statuses.UpgradeRefused) ⊎ (answer ≡ statuses.Memory)
+  is_refused finds =
+      ran_so line seen door words moving can.is_command can.opens.no_write_fault (λ status. (status ≡ statuses.UpgradeRefused) ⊎ (status ≡ statuses.Memory))
+      (λ out audit finished ended. absurd (not_done finds out audit finished ended.0)) (inr refl)
+      (λ out audit ending ends. no_refusal_ending finds out audit ending ends.0)
 
 -- the same of serving a door
 module _ {L : Type 0} (line : L → LinkSeen) (seen : Sight) (door : Span (DoorSeen L)) (words : List (List ℕ)) (can : CanServe seen door words) where
@@ -248,12 +415,13 @@ module _ {L : Type 0} (line : L → LinkSeen) (seen : Sight) (door : Span (DoorS
 
   serve_long : (role : Role) → IsReached seen listening role → IsLong seen listening role → ⊥
   serve_long roles.App reached long = app_not_long seen listening can.app can.opens long
+  serve_long roles.New reached long = none_there reached.1
   serve_long roles.Sessions reached long = not_long_named seen.files can.serving.sessions reached.1 can.sessions_file (long can.opens.told)
   serve_long roles.Events reached long = none_there reached.2
 
   no_serve_ending : (out audit : List ℕ) (ending : Ending) → EndsServer line seen door can.serving (Err ending) out audit → IsCompleted (status_of ending)
   no_serve_ending out audit ending (inl h) =
-      inr (inl (no_opening_fault seen listening can.app can.opens ending h.0.0 serve_long (λ n bad. no_bad_line seen.files can.serving.sessions n can.opens.told can.sessions_file bad)))
+      inr (inl (no_opening_fault seen listening can.app can.opens ending h.0.0 serve_long (λ n bad. no_bad_line seen.files can.serving.sessions n can.opens.told can.sessions_file bad) (λ there bytes line. absurd (none_there there))))
   no_serve_ending out audit endings.WriteFault (inr h) = absurd (can.opens.no_write_fault h.ends.0)
   no_serve_ending out audit endings.DoorFault (inr h) = absurd (can.no_door_fault h.ends.1.ends.0)
   no_serve_ending out audit endings.Memory (inr h) = inr (inl refl)
@@ -262,9 +430,11 @@ module _ {L : Type 0} (line : L → LinkSeen) (seen : Sight) (door : Span (DoorS
   no_serve_ending out audit (endings.ReadFault role) (inr h) = absurd h.ends.1.ends.ends
   no_serve_ending out audit (endings.TooLong role) (inr h) = absurd h.ends.1.ends.ends
   no_serve_ending out audit (endings.AppRefused text) (inr h) = absurd h.ends.1.ends.ends
+  no_serve_ending out audit (endings.NewRefused text) (inr h) = absurd h.ends.1.ends.ends
+  no_serve_ending out audit (endings.UpgradeRefused text) (inr h) = absurd h.ends.1.ends.ends
   no_serve_ending out audit (endings.LineRefused lapse) (inr h) = absurd h.ends.1.ends.ends
   no_serve_ending out audit (endings.SessionsRefused n) (inr h) = absurd h.ends.1.ends.ends
 
   -- where nothing is missing and no read, put or call of the door fails, it is served, unless memory runs out or the store refuses
   pub is_listened : (answer : Status) (out audit : List ℕ) → Runs line seen door words answer out audit → IsCompleted answer
-  is_listened = ran_so line seen door words listening can.is_command can.opens.no_write_fault IsCompleted (inl refl) (inr (inl refl)) no_serve_ending
+  is_listened = ran_so line seen door words listening can.is_command can.opens.no_write_fault IsCompleted (λ out audit finished ended. inl refl) (inr (inl refl)) no_serve_ending

@@ -20,28 +20,28 @@ use Rattle.jac_events.specs.declared.event.Event.TheVariants.{Ask as Asking, Beg
 use Rattle.jac_events.specs.Lines.{line_of}
 use Rattle.jac_hub.specs.Hearing.{whole}
 use Rattle.jac_hub.specs.Heard.{no_connections}
-use Rattle.jac_app.specs.declared.answer.Via.TheVariants as ways
+use Rattle.jac_desk.specs.declared.answer.Via.TheVariants as ways
 use Rattle.jac_app.specs.declared.demo.DemoFault.{DemoFault}
 use Rattle.jac_app.specs.declared.demo.DemoFault.TheVariants as faults
-use Rattle.jac_app.specs.declared.ending.Ending.{Ending}
-use Rattle.jac_app.specs.declared.ending.Ending.TheVariants as endings
+use Rattle.jac_ending.specs.declared.ending.Ending.{Ending}
+use Rattle.jac_ending.specs.declared.ending.Ending.TheVariants as endings
 use Rattle.jac_app.specs.declared.summary.Summary.{Summary}
 use Rattle.jac_app.specs.declared.summary.Tally.{Tally}
-use Rattle.jac_app.specs.Asked.{ask_in}
+use Rattle.jac_desk.specs.Asked.{ask_in}
 use Rattle.jac_app.specs.Demo.{asks_by, bytes_in, labels_shown, labels_in, summary_of, tally_of, counted, IsCounted, PutsTally, TalliesAsk, TearsAsk, TalliesLine, Tallied, TalliedTorn, Tallies, IsTalliedOn, EndsTallying, PutsSummary, IsTold, EndsCounting, summary_line, demo_script}
 use Rattle.jac_replies.specs.Failed.{status_of_stop}
-use Rattle.jac_app.specs.Log.{hearing}
+use Rattle.jac_desk.specs.Log.{hearing}
 use Rattle.jac_serving.specs.Answering.{Entry, IsHeardBy}
 use Rattle.jac_serving.specs.Log.{Brings, method_of, audit_line, audited}
 use Rattle.jac_replies.specs.Spelled.{audit_text}
 use Rattle.jac_serving.specs.Outside.{Span, span, sinks, IsFront, IsPut, Went, WentAimed, WentTo}
-use Rattle.jac_app.specs.Replay.{AttachesAs}
+use Rattle.jac_ending.specs.Attached.{AttachesAs}
 use Rattle.jac_serving.specs.Script.{Script, script_from, script_of, script_step}
-use Rattle.jac_app.specs.Answered.{IsEntryOf, AreEntries, answering_of}
-use Rattle.jac_serving.proofs.OutsideLemmas.{Lasts-none, Lasts-then, Took-none, Took-then, Rose-widen}
-use Rattle.jac_app.proofs.ReplayLemmas.{is_attached, text_on}
-use Rattle.jac_app.proofs.EntryLemmas.{is_made}
-use Rattle.jac_app.proofs.EntriesLemmas.{entries-none, entries-one, entries-then}
+use Rattle.jac_desk.specs.Answered.{IsEntryOf, AreEntries, answering_of}
+use Rattle.jac_serving.proofs.OutsideLemmas.{Lasts-none, Took-none, Rose-widen}
+use Rattle.jac_ending.proofs.EndingLemmas.{is_attached, text_on}
+use Rattle.jac_desk.proofs.EntryLemmas.{is_made}
+use Rattle.jac_desk.proofs.EntriesLemmas.{entries-none, entries-one, entries-then}
 use Rattle.jac_serving.proofs.EntriesLemmas.{entries-still}
 use Rattle.jac_serving.proofs.BringsLemmas.{brings-push, brings-begun}
 use Rattle.jac_serving.proofs.EventLemmas.{ask_entry}
@@ -316,6 +316,8 @@ tally_unattached app k count endings.Memory h = inl h
 tally_unattached app k count (endings.ReadFault role) h = absurd h
 tally_unattached app k count (endings.TooLong role) h = absurd h
 tally_unattached app k count (endings.AppRefused line) h = absurd h
+tally_unattached app k count (endings.NewRefused line) h = absurd h
+tally_unattached app k count (endings.UpgradeRefused line) h = absurd h
 tally_unattached app k count endings.DoorFault h = absurd h
 tally_unattached app k count (endings.LineRefused lapse) h = absurd h
 tally_unattached app k count (endings.SessionsRefused line) h = absurd h

@@ -1,81 +1,28 @@
 -- The endings of a run, seen when another line was put.
-use Rattle.std.proofs.Common.{Bool, ℕ, ◌≤◌, ◌⊎◌, inl, inr, Result, Ok, Err, Option, List, [], arith}
-use Rattle.jac_io.specs.Faults.{Rose}
+use Rattle.std.proofs.Common.{ℕ, ◌≤◌, inl, inr, Result, Ok, Err, List}
 use Rattle.jac_io.specs.Seen.{SinkSeen}
 use Rattle.jac_io.specs.Linked.{LinkSeen, DoorSeen}
 use Rattle.jac_lang.specs.Syntax.{Application}
-use Rattle.jac_keep.specs.KeeperSeen.{KeeperSeen}
 use Rattle.jac_route.specs.declared.sessions.Session.{Session}
 use Rattle.jac_words.specs.declared.words.Command.{Command}
 use Rattle.jac_words.specs.declared.words.Command.TheVariants as commands
 use Rattle.jac_words.specs.declared.words.Serving.{Serving}
-use Rattle.jac_app.specs.declared.ending.Ending.{Ending}
-use Rattle.jac_app.specs.declared.ending.Ending.TheVariants as endings
-use Rattle.jac_words.specs.declared.role.Role.{Role}
-use Rattle.jac_words.specs.declared.role.Role.TheVariants as roles
-use Rattle.jac_app.specs.declared.status.Status.{Status}
+use Rattle.jac_ending.specs.declared.ending.Ending.{Ending}
+use Rattle.jac_ending.specs.declared.ending.Ending.TheVariants as endings
 use Rattle.jac_serving.specs.Script.{Script, script_of}
-use Rattle.jac_serving.specs.Outside.{Span, span, AWriteFailed}
-use Rattle.jac_words.specs.Commands.{db_of}
-use Rattle.jac_app.specs.Files.{Sight, sinks_of, IsRead, HasApplication, IsOpened, IsReached}
-use Rattle.jac_app.specs.Ending.{Closes, Finishes, fault_line, status_of}
-use Rattle.jac_app.specs.Replay.{IsUnattached, EndsServing, EndsOpening, IsEndedEarly, EndsReplay}
+use Rattle.jac_serving.specs.Outside.{Span, span}
+use Rattle.jac_ending.specs.Files.{Sight, sinks_of}
+use Rattle.jac_app.specs.Replay.{EndsServing, EndsReplay}
 use Rattle.jac_app.specs.Server.{EndsAimed, EndsServer}
 use Rattle.jac_app.specs.Check.{EndsCheck, checked_text}
 use Rattle.jac_app.specs.Run.{Ends}
-use Rattle.jac_app.specs.Dump.{IsPrinted, EndsRead, IsDumped, EndsDumping, EndsDump, labels_in}
-use Rattle.jac_world.specs.World.{shown}
 use Rattle.jac_app.specs.Demo.{EndsDemo, IsUncounted, EndsCounting, IsTold}
 use Rattle.jac_app.proofs.DemoLemmas.{summary_on}
-use Rattle.jac_app.proofs.ReplayLemmas.{text_on}
-use Rattle.jac_serving.proofs.OutsideLemmas.{Rose-widen, failed_later}
-
--- the same, seen when out is a later one
-abbrev pub at_later : Sight → SinkSeen → Sight
-at_later seen later = record seen { out = span seen.out.before later }
-
-read_later : (seen : Sight) (later : SinkSeen) (command : Command) (role : Role) (bytes : List ℕ)
-    → IsRead seen command role bytes → IsRead (at_later seen later) command role bytes
-read_later seen later command role bytes h = record { short = h.short; told = h.told }
-
-application_later : (seen : Sight) (later : SinkSeen) (command : Command) (app : Application) → HasApplication seen command app → HasApplication (at_later seen later) command app
-application_later seen later command app h = record { bytes = h.bytes; read = read_later seen later command roles.App h.bytes h.read; spelled = h.spelled }
-
-opened_later : (seen : Sight) (later : SinkSeen) (command : Command) (app : Application) (sessions : List Session) (events : List ℕ)
-    → IsOpened seen command app sessions events → IsOpened (at_later seen later) command app sessions events
-opened_later seen later command app sessions events h = record {
-  application = application_later seen later command app h.application;
-  sessions_had = h.sessions_had;
-  events_read = read_later seen later command roles.Events events h.events_read;
-}
-
-reached_later : (seen : Sight) (later : SinkSeen) (command : Command) (role : Role) → IsReached seen command role → IsReached (at_later seen later) command role
-reached_later seen later command roles.App h = tt
-reached_later seen later command roles.Sessions h = ((h.0.0, application_later seen later command h.0.0 h.0.1), h.1)
-reached_later seen later command roles.Events h = ((h.0.0, application_later seen later command h.0.0 h.0.1), h.1, h.2)
-
-opening_later : (seen : Sight) (later : SinkSeen) (command : Command) (ending : Ending) → EndsOpening seen command ending → EndsOpening (at_later seen later) command ending
-opening_later seen later command (endings.ReadFault role) h = (reached_later seen later command role h.0, h.1)
-opening_later seen later command (endings.TooLong role) h = (reached_later seen later command role h.0, h.1)
-opening_later seen later command (endings.AppRefused line) h = (h.0, read_later seen later command roles.App h.0 h.1, h.2)
-opening_later seen later command (endings.SessionsRefused line) h = ((h.0.0, application_later seen later command h.0.0 h.0.1), h.1)
-opening_later seen later command endings.Memory h = tt
-opening_later seen later command (endings.LineRefused lapse) h = absurd h
-opening_later seen later command endings.WriteFault h = absurd h
-opening_later seen later command endings.StoreFault h = absurd h
-opening_later seen later command endings.DoorFault h = absurd h
-opening_later seen later command (endings.OtherStore stored wanted) h = absurd h
-
-early_later : (seen : Sight) (later : SinkSeen) (command : Command) (ended : Result (Unit {0}) Ending) (out audit : List ℕ)
-    → IsEndedEarly seen command ended out audit → IsEndedEarly (at_later seen later) command ended out audit
-early_later seen later command (Ok done) out audit h = absurd h
-early_later seen later command (Err ending) out audit h = (opening_later seen later command ending h.0, h.1)
-
-rose_later : (seen : Sight) (later : SinkSeen) → seen.out.after.faults ≤ later.faults → Rose seen.out.before.faults seen.out.after.faults → Rose seen.out.before.faults later.faults
-rose_later seen later le rose = Rose-widen _ _ _ _ (omega arith) le rose
-
-write_later : (seen : Sight) (later : SinkSeen) → seen.out.after.faults ≤ later.faults → AWriteFailed (sinks_of seen) → AWriteFailed (sinks_of (at_later seen later))
-write_later seen later le failed = failed_later (sinks_of (at_later seen later)) (sinks_of seen) (omega arith) (omega arith) le (omega arith) failed
+use Rattle.jac_ending.proofs.EndingLemmas.{text_on}
+use Rattle.jac_ending.proofs.LaterLemmas.{at_later, application_later, opened_later, early_later, rose_later, write_later}
+use Rattle.jac_admin.proofs.DumpLater.{dump_later}
+use Rattle.jac_admin.proofs.UpgradeLater.{upgrade_later}
+use Rattle.jac_admin.proofs.ExplainLater.{explain_later}
 
 serving_later : (seen : Sight) (later : SinkSeen) → seen.out.after.faults ≤ later.faults → (command : Command) (app : Application) (sessions : List Session) (script : Script)
     (ended : Result (Unit {0}) Ending) (out audit : List ℕ)
@@ -90,6 +37,8 @@ serving_later seen later le command app sessions script (Err (endings.OtherStore
 serving_later seen later le command app sessions script (Err (endings.ReadFault role)) out audit h = h
 serving_later seen later le command app sessions script (Err (endings.TooLong role)) out audit h = h
 serving_later seen later le command app sessions script (Err (endings.AppRefused line)) out audit h = h
+serving_later seen later le command app sessions script (Err (endings.NewRefused line)) out audit h = h
+serving_later seen later le command app sessions script (Err (endings.UpgradeRefused line)) out audit h = h
 serving_later seen later le command app sessions script (Err (endings.LineRefused lapse)) out audit h = h
 serving_later seen later le command app sessions script (Err (endings.SessionsRefused line)) out audit h = h
 
@@ -142,63 +91,6 @@ demo_later seen later le n out audit ended (inr h) = inr (record {
   ends = counting_later seen later le h.app n out audit ended h.ends;
 })
 
-printed_later : (app : Application) (w : ℕ → Bool) (before after later : SinkSeen) → after.faults ≤ later.faults → (k : KeeperSeen) (ended : Result (Unit {0}) Ending) (put : List ℕ)
-    → IsPrinted app w (span before after) k ended put → IsPrinted app w (span before later) k ended put
-printed_later app w before after later le k ended put h = record { text = h.text; told = h.told; puts = text_on (span before after) (span before later) (λ rose. Rose-widen _ _ _ _ (omega arith) le rose) h.text ended put h.puts }
-
-reads_later : (app : Application) (w : ℕ → Bool) (before after later : SinkSeen) → after.faults ≤ later.faults → (k : Span KeeperSeen) (ended : Result (Unit {0}) Ending) (put : List ℕ)
-    → EndsRead app w (span before after) k ended put → EndsRead app w (span before later) k ended put
-reads_later app w before after later le k (Ok done) put h = printed_later app w before after later le k.after (Ok done) put h
-reads_later app w before after later le k (Err (endings.ReadFault role)) put h = printed_later app w before after later le k.after (Err (endings.ReadFault role)) put h
-reads_later app w before after later le k (Err (endings.TooLong role)) put h = printed_later app w before after later le k.after (Err (endings.TooLong role)) put h
-reads_later app w before after later le k (Err (endings.AppRefused line)) put h = printed_later app w before after later le k.after (Err (endings.AppRefused line)) put h
-reads_later app w before after later le k (Err endings.DoorFault) put h = printed_later app w before after later le k.after (Err endings.DoorFault) put h
-reads_later app w before after later le k (Err (endings.LineRefused lapse)) put h = printed_later app w before after later le k.after (Err (endings.LineRefused lapse)) put h
-reads_later app w before after later le k (Err (endings.SessionsRefused line)) put h = printed_later app w before after later le k.after (Err (endings.SessionsRefused line)) put h
-reads_later app w before after later le k (Err endings.WriteFault) put h = printed_later app w before after later le k.after (Err endings.WriteFault) put h
-reads_later app w before after later le k (Err endings.StoreFault) put h = h
-reads_later app w before after later le k (Err (endings.OtherStore stored wanted)) put h = printed_later app w before after later le k.after (Err (endings.OtherStore stored wanted)) put h
-reads_later app w before after later le k (Err endings.Memory) put h = h
-
-dumped_later : (db : Option (List ℕ)) (app : Application) (w : ℕ → Bool) (before after later : SinkSeen) → after.faults ≤ later.faults → (k : Span KeeperSeen) (ended : Result (Unit {0}) Ending) (put : List ℕ)
-    → IsDumped db app w (span before after) k ended put → IsDumped db app w (span before later) k ended put
-dumped_later db app w before after later le k ended put h = record {
-  opened = h.opened;
-  attached = h.attached;
-  left = h.left;
-  ends = reads_later app w before after later le (span h.opened k.after) ended put h.ends;
-}
-
-stopped_later : (db : Option (List ℕ)) (app : Application) (w : ℕ → Bool) (before after later : SinkSeen) → after.faults ≤ later.faults → (k : Span KeeperSeen) (ended : Result (Unit {0}) Ending) (put : List ℕ)
-    → IsUnattached k put [] ⊎ IsDumped db app w (span before after) k ended put → IsUnattached k put [] ⊎ IsDumped db app w (span before later) k ended put
-stopped_later db app w before after later le k ended put (inl h) = inl h
-stopped_later db app w before after later le k ended put (inr h) = inr (dumped_later db app w before after later le k ended put h)
-
-dumping_later : (db : Option (List ℕ)) (app : Application) (w : ℕ → Bool) (before after later : SinkSeen) → after.faults ≤ later.faults → (k : Span KeeperSeen) (ended : Result (Unit {0}) Ending) (put : List ℕ)
-    → EndsDumping db app w (span before after) k ended put → EndsDumping db app w (span before later) k ended put
-dumping_later db app w before after later le k (Ok done) put h = dumped_later db app w before after later le k (Ok done) put h
-dumping_later db app w before after later le k (Err (endings.ReadFault role)) put h = dumped_later db app w before after later le k (Err (endings.ReadFault role)) put h
-dumping_later db app w before after later le k (Err (endings.TooLong role)) put h = dumped_later db app w before after later le k (Err (endings.TooLong role)) put h
-dumping_later db app w before after later le k (Err (endings.AppRefused line)) put h = dumped_later db app w before after later le k (Err (endings.AppRefused line)) put h
-dumping_later db app w before after later le k (Err endings.DoorFault) put h = dumped_later db app w before after later le k (Err endings.DoorFault) put h
-dumping_later db app w before after later le k (Err (endings.LineRefused lapse)) put h = dumped_later db app w before after later le k (Err (endings.LineRefused lapse)) put h
-dumping_later db app w before after later le k (Err (endings.SessionsRefused line)) put h = dumped_later db app w before after later le k (Err (endings.SessionsRefused line)) put h
-dumping_later db app w before after later le k (Err endings.WriteFault) put h = dumped_later db app w before after later le k (Err endings.WriteFault) put h
-dumping_later db app w before after later le k (Err endings.StoreFault) put h = (h.0, stopped_later db app w before after later le k (Err endings.StoreFault) put h.1)
-dumping_later db app w before after later le k (Err (endings.OtherStore stored wanted)) put h = h
-dumping_later db app w before after later le k (Err endings.Memory) put h = stopped_later db app w before after later le k (Err endings.Memory) put h
-
-dump_later : (seen : Sight) (later : SinkSeen) → seen.out.after.faults ≤ later.faults → (command : Command) (out audit : List ℕ) (ended : Result (Unit {0}) Ending)
-    → EndsDump seen command ended out audit → EndsDump (at_later seen later) command ended out audit
-dump_later seen later le command out audit ended (inl h) = inl (early_later seen later command ended out audit h)
-dump_later seen later le command out audit ended (inr h) = inr (record {
-  app = h.app;
-  application = application_later seen later command h.app h.application;
-  no_audit = h.no_audit;
-  unaimed = h.unaimed;
-  ends = dumping_later (db_of command) h.app (shown (labels_in command)) seen.out.before seen.out.after later le seen.keeper ended out h.ends;
-})
-
 aimed_later : {L : Type 0} (line : L → LinkSeen) (seen : Sight) (later : SinkSeen) → seen.out.after.faults ≤ later.faults → (door : Span (DoorSeen L)) (app : Application) (sessions : List Session)
     (serving : Serving) (ended : Result (Unit {0}) Ending) (out audit : List ℕ)
     → EndsAimed line (sinks_of seen) app sessions serving door seen.keeper ended out audit
@@ -212,6 +104,8 @@ aimed_later line seen later le door app sessions serving (Err (endings.OtherStor
 aimed_later line seen later le door app sessions serving (Err (endings.ReadFault role)) out audit h = h
 aimed_later line seen later le door app sessions serving (Err (endings.TooLong role)) out audit h = h
 aimed_later line seen later le door app sessions serving (Err (endings.AppRefused text)) out audit h = h
+aimed_later line seen later le door app sessions serving (Err (endings.NewRefused text)) out audit h = h
+aimed_later line seen later le door app sessions serving (Err (endings.UpgradeRefused text)) out audit h = h
 aimed_later line seen later le door app sessions serving (Err (endings.LineRefused lapse)) out audit h = h
 aimed_later line seen later le door app sessions serving (Err (endings.SessionsRefused n)) out audit h = h
 
@@ -233,13 +127,5 @@ Ends-later line seen later le door (commands.Replay replay) out audit ended h = 
 Ends-later line seen later le door (commands.Serve serving) out audit ended h = server_later line seen later le door serving out audit ended h
 Ends-later line seen later le door (commands.Demo n) out audit ended h = (demo_later seen later le n out audit ended h.0, h.1)
 Ends-later line seen later le door (commands.Dump dumping) out audit ended h = (dump_later seen later le (commands.Dump dumping) out audit ended h.0, h.1)
-
-Closes-widen : (a b c : SinkSeen) → a.faults ≤ b.faults → (line : List ℕ) (status : Status) (put : List ℕ) (answer : Status)
-    → Closes (span b c) line status put answer → Closes (span a c) line status put answer
-Closes-widen a b c later line status put answer (inl h) = inl h
-Closes-widen a b c later line status put answer (inr h) = inr (h.0, h.1, Rose-widen _ _ _ _ later (omega arith) h.2)
-
-pub Finishes-widen : (a b c : SinkSeen) → a.faults ≤ b.faults → (command : Command) (ended : Result (Unit {0}) Ending) (put : List ℕ) (answer : Status)
-    → Finishes (span b c) command ended put answer → Finishes (span a c) command ended put answer
-Finishes-widen a b c later command (Ok done) put answer h = h
-Finishes-widen a b c later command (Err ending) put answer h = Closes-widen a b c later (fault_line command ending) (status_of ending) put answer h
+Ends-later line seen later le door (commands.Upgrade upgrading) out audit ended h = (upgrade_later seen later le (commands.Upgrade upgrading) out audit ended h.0, h.1)
+Ends-later line seen later le door (commands.Why explaining) out audit ended h = (explain_later seen later le (commands.Why explaining) out audit ended h.0, h.1)

@@ -1,12 +1,7 @@
-pub mod EntryLemmas
-pub mod EntriesLemmas
-pub mod HandlingLemmas
-pub mod DeskLaws
+pub mod AttachLemmas
 pub mod ReplayLemmas
 pub mod LaterLemmas
 pub mod CauseLemmas
 pub mod CompleteLemmas
 pub mod ServerLemmas
-pub mod AttachLemmas
-pub mod DumpLemmas
 pub mod DemoLemmas

@@ -12,17 +12,17 @@ use Rattle.jac_words.specs.declared.words.Serving.{Serving}
 use Rattle.jac_links.specs.declared.door.DoorHalt.{DoorHalt}
 use Rattle.jac_links.specs.declared.door.DoorHalt.TheVariants as halts
 use Rattle.jac_links.specs.declared.door.Tally.{Tally}
-use Rattle.jac_app.specs.declared.ending.Ending.{Ending}
-use Rattle.jac_app.specs.declared.ending.Ending.TheVariants as endings
-use Rattle.jac_app.specs.Answered.{answering_of}
+use Rattle.jac_ending.specs.declared.ending.Ending.{Ending}
+use Rattle.jac_ending.specs.declared.ending.Ending.TheVariants as endings
+use Rattle.jac_desk.specs.Answered.{answering_of}
 use Rattle.jac_serving.specs.Outside.{Span, span, Sinks, sinks, IsPut, Went, WentTo, WentAimed, AWriteFailed}
-use Rattle.jac_app.specs.Files.{Sight, sinks_of, HasApplication, HasSessions, IsAimed}
-use Rattle.jac_app.specs.Replay.{AttachesAs}
+use Rattle.jac_ending.specs.Files.{Sight, sinks_of, HasApplication, HasSessions, IsAimed}
+use Rattle.jac_ending.specs.Attached.{AttachesAs}
 use Rattle.jac_links.specs.Door.{Visit, IsEnding, AreLinksServed}
 use Rattle.jac_serving.specs.Answering.{Entry}
 use Rattle.jac_app.specs.Server.{served_line, halted, EndsConnections, IsListenedAt, EndsDoor, IsServedAt, EndsAttached, EndsAimed, EndsServer}
 use Rattle.jac_serving.proofs.OutsideLemmas.{Lasts-none, Took-none, Rose-widen}
-use Rattle.jac_app.proofs.ReplayLemmas.{is_attached}
+use Rattle.jac_ending.proofs.EndingLemmas.{is_attached}
 
 -- a door that halted ends the command by a write fault only where a put on the audit failed
 pub write_failed : (s : Sinks) (halt : DoorHalt) (ending : Ending) → ending ≡ halted halt → (◌≡◌ {A = Result Tally DoorHalt} (Err halt) (Err halts.Write) → Rose s.audit.before.faults s.audit.after.faults)
@@ -117,6 +117,8 @@ module _ {L : Type 0} (line : L → LinkSeen) (app : Application) (sessions : Li
     connections_from most k (Err (endings.ReadFault role)) out audit h = absurd h
     connections_from most k (Err (endings.TooLong role)) out audit h = absurd h
     connections_from most k (Err (endings.AppRefused text)) out audit h = absurd h
+    connections_from most k (Err (endings.NewRefused text)) out audit h = absurd h
+    connections_from most k (Err (endings.UpgradeRefused text)) out audit h = absurd h
     connections_from most k (Err (endings.LineRefused lapse)) out audit h = absurd h
     connections_from most k (Err (endings.SessionsRefused n)) out audit h = absurd h
 
@@ -141,6 +143,8 @@ module _ {L : Type 0} (line : L → LinkSeen) (app : Application) (sessions : Li
     door_ends k (Err (endings.ReadFault role)) out audit h = absurd h
     door_ends k (Err (endings.TooLong role)) out audit h = absurd h
     door_ends k (Err (endings.AppRefused text)) out audit h = absurd h
+    door_ends k (Err (endings.NewRefused text)) out audit h = absurd h
+    door_ends k (Err (endings.UpgradeRefused text)) out audit h = absurd h
     door_ends k (Err (endings.LineRefused lapse)) out audit h = absurd h
     door_ends k (Err (endings.SessionsRefused n)) out audit h = absurd h
 
@@ -171,6 +175,8 @@ module _ {L : Type 0} (line : L → LinkSeen) (app : Application) (sessions : Li
     attached_ends (Err (endings.ReadFault role)) out audit h = absurd h.ends
     attached_ends (Err (endings.TooLong role)) out audit h = absurd h.ends
     attached_ends (Err (endings.AppRefused text)) out audit h = absurd h.ends
+    attached_ends (Err (endings.NewRefused text)) out audit h = absurd h.ends
+    attached_ends (Err (endings.UpgradeRefused text)) out audit h = absurd h.ends
     attached_ends (Err (endings.LineRefused lapse)) out audit h = absurd h.ends
     attached_ends (Err (endings.SessionsRefused n)) out audit h = absurd h.ends
 
@@ -185,6 +191,8 @@ module _ {L : Type 0} (line : L → LinkSeen) (app : Application) (sessions : Li
   unattached_ends serving door k (endings.ReadFault role) h = absurd h
   unattached_ends serving door k (endings.TooLong role) h = absurd h
   unattached_ends serving door k (endings.AppRefused text) h = absurd h
+  unattached_ends serving door k (endings.NewRefused text) h = absurd h
+  unattached_ends serving door k (endings.UpgradeRefused text) h = absurd h
   unattached_ends serving door k (endings.LineRefused lapse) h = absurd h
   unattached_ends serving door k (endings.SessionsRefused n) h = absurd h
 
@@ -203,6 +211,8 @@ module _ {L : Type 0} (line : L → LinkSeen) (app : Application) (sessions : Li
   aimed_ends s serving door k (Err (endings.ReadFault role)) out audit failed aimed h = (aimed, h)
   aimed_ends s serving door k (Err (endings.TooLong role)) out audit failed aimed h = (aimed, h)
   aimed_ends s serving door k (Err (endings.AppRefused text)) out audit failed aimed h = (aimed, h)
+  aimed_ends s serving door k (Err (endings.NewRefused text)) out audit failed aimed h = (aimed, h)
+  aimed_ends s serving door k (Err (endings.UpgradeRefused text)) out audit failed aimed h = (aimed, h)
   aimed_ends s serving door k (Err (endings.LineRefused lapse)) out audit failed aimed h = (aimed, h)
   aimed_ends s serving door k (Err (endings.SessionsRefused n)) out audit failed aimed h = (aimed, h)
 

@@ -1,24 +1,15 @@
 -- How the steps of a check end.
-use Rattle.std.specs.Prelude.{◌≡◌, ◌⊎◌, ℕ, Result, Ok, Err, List, [], ◌++◌, length, codes, decimal}
-use Rattle.jac_io.specs.Faults.{Rose}
-use Rattle.jac_io.specs.Seen.{SinkSeen}
+use Rattle.std.specs.Prelude.{◌⊎◌, ℕ, Result, List, [], ◌++◌, length, codes, decimal}
 use Rattle.jac_lang.specs.Syntax.{Application}
 use Rattle.jac_words.specs.declared.words.Command.{Command}
-use Rattle.jac_app.specs.declared.ending.Ending.{Ending}
-use Rattle.jac_app.specs.declared.ending.Ending.TheVariants as endings
-use Rattle.jac_serving.specs.Outside.{Span, IsFront}
-use Rattle.jac_app.specs.Files.{Sight, HasApplication, IsIdle}
-use Rattle.jac_app.specs.Replay.{IsEndedEarly}
+use Rattle.jac_ending.specs.declared.ending.Ending.{Ending}
+use Rattle.jac_ending.specs.Files.{Sight, HasApplication, IsIdle}
+use Rattle.jac_ending.specs.Early.{IsEndedEarly}
+use Rattle.jac_ending.specs.Ending.{PutsText}
 
 -- `ok M models, V views`, and how many there are
 abbrev pub checked_text : Application → List ℕ
 checked_text app = codes "ok " ++ decimal (length app.models) ++ codes " models, " ++ decimal (length app.views) ++ codes " views\n"
-
--- a text was put on a sink, or the front of it where a put failed
-abbrev pub PutsText : Span SinkSeen → List ℕ → Result (Unit {0}) Ending → List ℕ → Type 0
-PutsText sink text (Ok done) put = put ≡ text
-PutsText sink text (Err endings.WriteFault) put = IsFront put text × Rose sink.before.faults sink.after.faults
-PutsText sink text (Err ending) put = ⊥
 
 -- the application was read, and its counts were put
 pub record PutsChecked (seen : Sight) (command : Command) (result : Result (Unit {0}) Ending) (out audit : List ℕ) : Type 0 where

@@ -13,25 +13,25 @@ use Rattle.jac_replies.specs.declared.answer.Ask.{Ask}
 use Rattle.jac_events.specs.declared.event.Event.{Event}
 use Rattle.jac_events.specs.declared.event.Event.TheVariants.{Ask as Asking, Begin, Piece, Finish}
 use Rattle.jac_hub.specs.Hearing.{whole}
-use Rattle.jac_app.specs.declared.answer.Via.TheVariants as ways
+use Rattle.jac_desk.specs.declared.answer.Via.TheVariants as ways
 use Rattle.jac_app.specs.declared.demo.DemoFault.{DemoFault}
 use Rattle.jac_app.specs.declared.demo.DemoFault.TheVariants as faults
-use Rattle.jac_app.specs.declared.ending.Ending.{Ending}
-use Rattle.jac_app.specs.declared.ending.Ending.TheVariants as endings
+use Rattle.jac_ending.specs.declared.ending.Ending.{Ending}
+use Rattle.jac_ending.specs.declared.ending.Ending.TheVariants as endings
 use Rattle.jac_app.specs.declared.summary.Summary.{Summary}
 use Rattle.jac_app.specs.declared.summary.Tally.{Tally}
 use Rattle.jac_opening.specs.Application.{IsApplication, schema_text}
-use Rattle.jac_app.specs.Asked.{ask_in}
-use Rattle.jac_app.specs.Check.{PutsText}
-use Rattle.jac_app.specs.Files.{IsAimed, IsIdle, IsUnopened}
+use Rattle.jac_desk.specs.Asked.{ask_in}
+use Rattle.jac_ending.specs.Ending.{PutsText}
+use Rattle.jac_ending.specs.Files.{IsAimed, IsIdle, IsUnopened}
 use Rattle.jac_serving.specs.Keeping.{IsStill}
 use Rattle.jac_serving.specs.Answering.{Entry}
 use Rattle.jac_serving.specs.Log.{method_of, audit_line, audited}
 use Rattle.jac_replies.specs.Spelled.{audit_text}
-use Rattle.jac_serving.specs.Outside.{Span, span, Sinks, Took, IsFront}
-use Rattle.jac_app.specs.Replay.{IsAttached, IsUnattached, IsOther}
+use Rattle.jac_serving.specs.Outside.{Span, span, Sinks, IsFront}
+use Rattle.jac_ending.specs.Attached.{IsAttached, IsUnattached, IsOther}
 use Rattle.jac_serving.specs.Script.{Script, script_of}
-use Rattle.jac_app.specs.Answered.{IsAnswerMade, IsEntryOf, answering_of}
+use Rattle.jac_desk.specs.Answered.{IsAnswerMade, IsEntryOf, answering_of}
 use Rattle.jac_serving.specs.Serve.{IsServed}
 
 -- how many entries are of requests by this method

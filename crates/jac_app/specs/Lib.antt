@@ -1,13 +1,5 @@
-pub mod Asked
-pub mod Log
-pub mod Answered
-pub mod Files
-pub mod Ending
 pub mod Replay
 pub mod Check
-pub mod Dump
-pub mod Made
 pub mod Server
-pub mod Run
-pub mod Status
 pub mod Demo
+pub mod Run

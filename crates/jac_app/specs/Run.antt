@@ -1,5 +1,5 @@
 -- A run: its command, what it puts, and its status.
-use Rattle.std.specs.Prelude.{◌≡◌, ◌≤◌, ◌⊎◌, ⊤, ℕ, IsTrue, Result, Ok, Option, Some, None, List, [], ◌++◌, length, codes}
+use Rattle.std.specs.Prelude.{◌≡◌, ◌≤◌, ◌⊎◌, ⊤, ℕ, Bool, true, false, is_none, IsTrue, Result, Ok, Option, Some, None, List, [], ◌++◌, length, codes}
 use Rattle.jac_io.specs.Faults.{Rose}
 use Rattle.jac_io.specs.Seen.{FilesSeen}
 use Rattle.jac_io.specs.Linked.{LinkSeen, DoorSeen, DoorLasts}
@@ -8,31 +8,38 @@ use Rattle.jac_route.specs.declared.sessions.Session.{Session}
 use Rattle.jac_route.specs.Sessions.{sessions_in}
 use Rattle.jac_words.specs.declared.words.Command.{Command}
 use Rattle.jac_words.specs.declared.words.Command.TheVariants as commands
-use Rattle.jac_app.specs.declared.ending.Ending.{Ending}
+use Rattle.jac_ending.specs.declared.ending.Ending.{Ending}
 use Rattle.jac_words.specs.declared.role.Role.{Role}
 use Rattle.jac_words.specs.declared.role.Role.TheVariants as roles
 use Rattle.jac_serving.specs.declared.serve.Lapse.{Lapse}
-use Rattle.jac_app.specs.declared.status.Status.{Status}
-use Rattle.jac_app.specs.declared.status.Status.TheVariants as statuses
+use Rattle.jac_ending.specs.declared.status.Status.{Status}
+use Rattle.jac_ending.specs.declared.status.Status.TheVariants as statuses
 use Rattle.jac_opening.specs.Application.{IsApplication, schema_text}
 use Rattle.jac_serving.specs.Outside.{Span, AWriteFailed, WentAimed}
 use Rattle.jac_words.specs.Words.{command_of}
 use Rattle.jac_words.specs.Commands.{file_of, name_of}
-use Rattle.jac_app.specs.Files.{Sight, sinks_of, IsRead, IsLong, HasApplication, HasBadLine, IsOpened, IsReached, IsIdle}
+use Rattle.jac_ending.specs.Files.{Sight, sinks_of, IsRead, IsLong, HasApplication, HasNext, HasBadLine, IsOpened, IsReached, IsIdle}
 use Rattle.jac_serving.specs.Script.{script_of}
 use Rattle.jac_words.specs.declared.words.Dumping.{Dumping}
 use Rattle.jac_words.specs.declared.words.Replay.{Replay}
 use Rattle.jac_words.specs.declared.words.Serving.{Serving}
-use Rattle.jac_app.specs.Ending.{Closes, Finishes}
+use Rattle.jac_words.specs.declared.words.Upgrading.{Upgrading}
+use Rattle.jac_words.specs.declared.words.Explaining.{Explaining}
+use Rattle.jac_upgrade.specs.Extends.{models_lack}
+use Rattle.jac_upgrade.specs.declared.fault.UpgradeFault.{UpgradeFault}
+use Rattle.jac_admin.specs.Upgrade.{EndsUpgrade}
+use Rattle.jac_admin.specs.Explain.{EndsExplain}
+use Rattle.jac_ending.specs.Ending.{Closes, Finishes}
 use Rattle.jac_app.specs.Check.{EndsCheck}
 use Rattle.jac_app.specs.Demo.{EndsDemo}
-use Rattle.jac_app.specs.Dump.{EndsDump}
+use Rattle.jac_admin.specs.Dump.{EndsDump}
 use Rattle.jac_demo.specs.Calendar.{calendar_text}
-use Rattle.jac_app.specs.Replay.{IsOther, EndsReplay}
+use Rattle.jac_ending.specs.Attached.{IsOther}
+use Rattle.jac_app.specs.Replay.{EndsReplay}
 use Rattle.jac_app.specs.Server.{EndsServer}
 
 abbrev pub usage_line : List ℕ
-usage_line = codes "usage: jac check APP, replay APP EVENTS, serve APP PORT COUNT, demo N, dump APP LABELS; options --db FILE --sessions FILE --audit FILE\n"
+usage_line = codes "usage: jac check APP, replay APP EVENTS, serve APP PORT COUNT, demo N, dump APP LABELS, upgrade OLD NEW, why APP VIEWER; options --db FILE --sessions FILE --audit FILE\n"
 
 -- the door wasn't called
 abbrev pub IsUncalled : {L : Type 0} → Span (DoorSeen L) → Type 0
@@ -45,6 +52,8 @@ Ends line seen door (commands.Replay replay) result out audit = EndsReplay seen 
 Ends line seen door (commands.Serve serving) result out audit = EndsServer line seen door serving result out audit
 Ends line seen door (commands.Demo n) result out audit = EndsDemo (sinks_of seen) seen.keeper n result out audit × IsUncalled door
 Ends line seen door (commands.Dump dumping) result out audit = EndsDump seen (commands.Dump dumping) result out audit × IsUncalled door
+Ends line seen door (commands.Upgrade upgrading) result out audit = EndsUpgrade seen (commands.Upgrade upgrading) result out audit × IsUncalled door
+Ends line seen door (commands.Why explaining) result out audit = EndsExplain seen (commands.Why explaining) result out audit × IsUncalled door
 
 -- the words are a command whose steps were run
 pub record RunsCommand {L : Type 0} (line : L → LinkSeen) (seen : Sight) (door : Span (DoorSeen L)) (words : List (List ℕ)) (status : Status) (out audit : List ℕ) : Type 0 where
@@ -124,15 +133,40 @@ pub record CanDump (seen : Sight) (words : List (List ℕ)) : Type 0 where
   pub is_command : command_of words ≡ Some (commands.Dump dumping)
   pub opens : CanOpen seen (commands.Dump dumping) app
 
+-- the same of a `why`
+pub record CanExplain (seen : Sight) (words : List (List ℕ)) : Type 0 where
+  pub explaining : Explaining
+  pub app : Application
+  pub is_command : command_of words ≡ Some (commands.Why explaining)
+  pub opens : CanOpen seen (commands.Why explaining) app
+
+-- the same of an upgrade, where the second application's file is there, and spells one
+pub record CanUpgrade (seen : Sight) (words : List (List ℕ)) : Type 0 where
+  pub upgrading : Upgrading
+  pub old : Application
+  pub new : Application
+  pub next_bytes : List ℕ
+  pub is_command : command_of words ≡ Some (commands.Upgrade upgrading)
+  pub opens : CanOpen seen (commands.Upgrade upgrading) old
+  pub next_file : seen.files.before.file upgrading.next ≡ Some next_bytes
+  pub next_application : IsApplication next_bytes new
+
+-- whether the application that the second file spells extends the one that the first spells
+abbrev pub Extends : (seen : Sight) (words : List (List ℕ)) → CanUpgrade seen words → Bool → Type 0
+Extends seen words can extends =
+    (old new : Application) → IsApplication can.opens.bytes old → IsApplication can.next_bytes new → is_none (models_lack 0 old.models new.models) ≡ extends
+
 -- no put of a demo fails
 pub record CanDemo (seen : Sight) (words : List (List ℕ)) : Type 0 where
   pub count : ℕ
   pub is_command : command_of words ≡ Some (commands.Demo count)
   pub no_write_fault : AWriteFailed (sinks_of seen) → ⊥
 
--- the bytes that a command reads its application in: those of its file, or the calendar's
+-- the bytes that a command reads an application in: those of its file, of either file of an upgrade, or the calendar's
 abbrev pub IsSource : Sight → Command → List ℕ → Type 0
 IsSource seen (commands.Demo n) bytes = bytes ≡ calendar_text
+IsSource seen (commands.Upgrade upgrading) bytes =
+    IsRead seen (commands.Upgrade upgrading) roles.App bytes ⊎ IsRead seen (commands.Upgrade upgrading) roles.New bytes
 IsSource seen command bytes = IsRead seen command roles.App bytes
 
 -- the application that they spell
@@ -158,6 +192,10 @@ ComesFor seen door words statuses.DoorFault = Rose door.before.faults door.after
 ComesFor seen door words statuses.OtherStore =
     (command : Command) × (command_of words ≡ Some command)
     × ((app : Application) × Sources seen command app × ((stored : List ℕ) × IsOther seen.keeper stored (schema_text app)))
+ComesFor seen door words statuses.UpgradeRefused =
+    (upgrading : Upgrading) × (command_of words ≡ Some (commands.Upgrade upgrading))
+    × ((old : Application) × HasApplication seen (commands.Upgrade upgrading) old
+    × ((new : Application) × HasNext seen (commands.Upgrade upgrading) new × ((fault : UpgradeFault) × (models_lack 0 old.models new.models ≡ Some fault))))
 ComesFor seen door words statuses.Memory = ⊤
 ComesFor seen door words statuses.TooLong =
     (command : Command) × (command_of words ≡ Some command) × ((role : Role) × IsReached seen command role × IsLong seen command role)
@@ -176,5 +214,8 @@ pub record IsRun {L : Type 0} (line : L → LinkSeen) (seen : Sight) (door : Spa
   pub replays : CanReplay seen words → IsCompleted status
   pub serves : CanServe seen door words → IsCompleted status
   pub dumps : CanDump seen words → IsCompleted status
+  pub explains : CanExplain seen words → IsCompleted status
+  pub upgrades : (can : CanUpgrade seen words) → Extends seen words can true → IsCompleted status
+  pub refuses : (can : CanUpgrade seen words) → Extends seen words can false → (status ≡ statuses.UpgradeRefused) ⊎ (status ≡ statuses.Memory)
   pub demos : CanDemo seen words → IsCompleted status
   pub checks : CanCheck seen words → (status ≡ statuses.Done) ⊎ (status ≡ statuses.Memory)

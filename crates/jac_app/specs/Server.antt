@@ -10,14 +10,15 @@ use Rattle.jac_words.specs.declared.words.Serving.{Serving}
 use Rattle.jac_links.specs.declared.door.DoorHalt.{DoorHalt}
 use Rattle.jac_links.specs.declared.door.DoorHalt.TheVariants as halts
 use Rattle.jac_links.specs.declared.door.Tally.{Tally}
-use Rattle.jac_app.specs.declared.ending.Ending.{Ending}
-use Rattle.jac_app.specs.declared.ending.Ending.TheVariants as endings
+use Rattle.jac_ending.specs.declared.ending.Ending.{Ending}
+use Rattle.jac_ending.specs.declared.ending.Ending.TheVariants as endings
 use Rattle.jac_serving.specs.Keeping.{IsStill}
-use Rattle.jac_app.specs.Answered.{answering_of}
+use Rattle.jac_desk.specs.Answered.{answering_of}
 use Rattle.jac_serving.specs.Outside.{Span, span, Sinks, IsFront, AWriteFailed}
-use Rattle.jac_app.specs.Files.{Sight, sinks_of, HasApplication, HasSessions, IsAimed, IsIdle}
+use Rattle.jac_ending.specs.Files.{Sight, sinks_of, HasApplication, HasSessions, IsAimed, IsIdle}
 use Rattle.jac_opening.specs.Application.{schema_text}
-use Rattle.jac_app.specs.Replay.{IsAttached, IsUnattached, IsOther, IsEndedEarly}
+use Rattle.jac_ending.specs.Attached.{IsAttached, IsUnattached, IsOther}
+use Rattle.jac_ending.specs.Early.{IsEndedEarly}
 use Rattle.jac_links.specs.Door.{AreLinksServed}
 
 -- `served C connections, K replies`

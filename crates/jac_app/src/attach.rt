@@ -6,15 +6,15 @@ ghost use Rattle.jac_keep.specs.Schema.{IsSchema};
 ghost use Rattle.jac_engine.specs.Start.{IsStart};
 ghost use Rattle.jac_serving.specs.Outside.{span};
 ghost use Rattle.jac_opening.specs.Application.{schema_text};
-ghost use Rattle.jac_app.specs.Replay.{AttachesAs};
+ghost use Rattle.jac_ending.specs.Attached.{AttachesAs};
 
-use crate::ending::Ending;
-use jac_keep::{AttachFault, Vault};
+use jac_ending::Ending;
+use jac_keep::Vault;
 use jac_opening::Service;
 use jac_value::Txt;
 use std::alloc::Global;
 
-/// Attaches the store of this name for the application, whose schema this is.
+/// Attaches the store of this name for the application, whose schema this is, so that its requests may be answered.
 pub fn attach<K: Vault>(
     alloc: Global,
     service: &Service,
@@ -29,13 +29,5 @@ pub fn attach<K: Vault>(
     ensures attached { OnOk result (IsTrue (K.seen vault.new).store.attached) }
     ensures start { IsTrue (K.seen vault.new).tells → OnOk result (IsStart (application_of service.now) (K.seen vault.new).state) }
 {
-    match vault.attach(alloc, db, &schema) {
-        Ok(()) => Ok(()),
-        Err(AttachFault::Failed) => Err(Ending::StoreFault),
-        Err(AttachFault::Memory) => Err(Ending::Memory),
-        Err(AttachFault::Other(stored)) => Err(Ending::OtherStore {
-            stored,
-            wanted: schema,
-        }),
-    }
+    jac_ending::attach(alloc, service, db, schema, vault)
 }

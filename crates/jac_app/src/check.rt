@@ -2,12 +2,11 @@ ghost use Rattle.std.specs.Prelude.{◌≡◌, length, IfOk};
 ghost use Rattle.jac_words.specs.declared.words.Command.TheVariants as commands;
 ghost use Rattle.jac_lang.specs.Mirror.{application_of};
 ghost use Rattle.jac_serving.specs.Outside.{IsPut, WentAimed, span, sinks};
-ghost use Rattle.jac_app.specs.Files.{sight};
+ghost use Rattle.jac_ending.specs.Files.{sight};
 ghost use Rattle.jac_app.specs.Check.{EndsCheck, checked_text};
 
-use crate::ending::Ending;
-use crate::files::{open_app, read_file};
 use itoa::Buffer;
+use jac_ending::{Ending, open_app, read_file};
 use jac_io::{AuditSink, Failed, Files, Sink};
 use jac_keep::Keeper;
 use jac_lang::App;

@@ -2,24 +2,16 @@
 //! events file, or of a door's connections, is answered over a keeper.
 #![tactic(auto)]
 
-mod answer;
-mod asks;
 mod attach;
 mod check;
 mod demo;
-mod dump;
-mod ending;
-mod files;
-mod handler;
 mod link;
 mod program;
 mod replay;
 mod server;
-mod status;
 mod summary;
 
 pub use attach::attach as attach_store;
-pub use ending::Ending;
+pub use jac_ending::{Ending, Status};
 pub use link::serve_link;
 pub use program::run;
-pub use status::Status;

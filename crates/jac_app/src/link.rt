@@ -5,15 +5,16 @@ ghost use Rattle.jac_lang.specs.Mirror.{application_of};
 ghost use Rattle.jac_engine.specs.Start.{IsStart};
 ghost use Rattle.jac_links.specs.Link.{as_sink, IsLinkServed};
 ghost use Rattle.jac_serving.specs.Outside.{Went, sinks, span};
-ghost use Rattle.jac_app.specs.Answered.{answering_of};
+ghost use Rattle.jac_desk.specs.Answered.{answering_of};
 
-use crate::handler::Answerer;
+use jac_desk::Answerer;
 use jac_io::{AuditSink, Link};
 use jac_keep::Keeper;
 use jac_links::Halt;
 use jac_opening::Service;
 use jac_replies::Spelling;
 use jac_route::Sessions;
+use jac_sittings::Sittings;
 use jac_world::Steps;
 use std::alloc::Global;
 use std::sync::ledger::Ledger;
@@ -41,6 +42,7 @@ pub fn serve_link<N: Link, U: AuditSink, K: Keeper, L: Ledger, M: Ledger>(
     ensures start { IsTrue (K.seen keeper.new).tells → IsStart (application_of service.now) (K.seen keeper.new).state }
     ensures attached { (K.seen keeper.new).store ≡ (K.seen keeper.old).store }
 {
+    let mut sittings = Sittings::none(alloc);
     let mut desk = Answerer {
         keeper,
         splits,
@@ -49,6 +51,7 @@ pub fn serve_link<N: Link, U: AuditSink, K: Keeper, L: Ledger, M: Ledger>(
         spelling: Spelling::Raw,
         service,
         sessions,
+        sittings: &mut sittings,
     };
     jac_links::serve_link(&mut desk, conn, first, link, audit)
 }

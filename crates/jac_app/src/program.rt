@@ -1,18 +1,17 @@
 ghost use Rattle.std.specs.Prelude.{◌≡◌, IsTrue, IfOk, IfSome, codes, false};
 ghost use Rattle.jac_serving.specs.Outside.{WentAimed, span, sinks};
 ghost use Rattle.jac_words.specs.Commands.{HasCount};
-ghost use Rattle.jac_app.specs.Files.{sight};
-ghost use Rattle.jac_app.specs.Ending.{Closed, Closes, Finishes};
+ghost use Rattle.jac_ending.specs.Files.{sight};
+ghost use Rattle.jac_ending.specs.Ending.{Closed, Closes, Finishes};
 ghost use Rattle.jac_app.specs.Run.{Ends, Runs, IsRun, usage_line};
 ghost use Rattle.jac_io.specs.Linked.{DoorLasts};
 
 use crate::check::check;
 use crate::demo::demo;
-use crate::dump::dump;
-use crate::ending::{Ending, put_fault, status_of};
 use crate::replay::replay;
 use crate::server::serve;
-use crate::status::Status;
+use jac_admin::{dump, explain, upgrade};
+use jac_ending::{Ending, Status, put_fault, status_of};
 use jac_io::{AuditSink, Door, Failed, Files, Sink};
 use jac_keep::Vault;
 use jac_serving::put;
@@ -36,7 +35,7 @@ fn finish<O: Sink>(out: &mut O, command: &Command, ended: Result<(), Ending>) ->
 }
 
 const USAGE: &[u8] =
-    b"usage: jac check APP, replay APP EVENTS, serve APP PORT COUNT, demo N, dump APP LABELS; options --db FILE --sessions FILE --audit FILE\n";
+    b"usage: jac check APP, replay APP EVENTS, serve APP PORT COUNT, demo N, dump APP LABELS, upgrade OLD NEW, why APP VIEWER; options --db FILE --sessions FILE --audit FILE\n";
 
 fn refuse_words<O: Sink>(out: &mut O) -> Status
     ensures { Closed (span (O.seen out.old) (O.seen out.new)) (λ put. Closes (span (O.seen out.old) (O.seen out.new)) usage_line Status.Usage put result) }
@@ -100,6 +99,10 @@ fn take_steps<F: Files, O: Sink, U: AuditSink, K: Vault, D: Door, L: Ledger, M: 
         ),
         Command::Demo(count) => demo(alloc, *count, out, audit, vault, splits, evaluations),
         Command::Dump(dumping) => dump(alloc, dumping, files, out, audit, vault),
+        Command::Upgrade(upgrading) => upgrade(alloc, upgrading, files, out, audit, vault, splits),
+        Command::Why(explaining) => {
+            explain(alloc, explaining, files, out, audit, vault, evaluations)
+        }
     }
 }
 
@@ -156,6 +159,10 @@ fn run_words<F: Files, O: Sink, U: AuditSink, K: Vault, D: Door, L: Ledger, M: L
 ///   counts them: `asks N posts P gets G bytes B labels L`.
 /// - `dump APP LABELS` puts a line for each record that the labels show of the store of `--db FILE`, or of a new one,
 ///   and the number of the next request.
+/// - `upgrade OLD NEW` brings the records of the store of `--db FILE` from one application to the next, which extends
+///   it, all or nothing, and puts how many they are: `upgraded R records`.
+/// - `why APP VIEWER` puts the labels that the viewer is shown of the store of `--db FILE`, or of a new one, and of each
+///   other live label which policy stands against it.
 ///
 /// A status other than `Done` has its line as the last one on `out`.
 pub fn run<F: Files, O: Sink, U: AuditSink, K: Vault, D: Door, L: Ledger, M: Ledger>(

@@ -3,25 +3,25 @@ ghost use Rattle.std.specs.Option.{option_copied};
 ghost use Rattle.jac_lang.specs.Mirror.{application_of};
 ghost use Rattle.jac_plain.specs.Models.{shapes_of};
 ghost use Rattle.jac_keep.specs.Schema.{IsSchema};
-ghost use Rattle.jac_app.specs.declared.ending.Ending.TheVariants as endings;
+ghost use Rattle.jac_ending.specs.declared.ending.Ending.TheVariants as endings;
 ghost use Rattle.jac_serving.specs.Outside.{AWriteFailed, Went, WentAimed, span, sinks};
 ghost use Rattle.jac_words.specs.declared.words.Command.TheVariants as commands;
 ghost use Rattle.jac_serving.specs.Script.{script_of};
-ghost use Rattle.jac_app.specs.Ending.{ending_of};
-ghost use Rattle.jac_app.specs.Files.{sight};
+ghost use Rattle.jac_ending.specs.Ending.{ending_of};
+ghost use Rattle.jac_ending.specs.Files.{sight};
 ghost use Rattle.jac_opening.specs.Application.{schema_text};
 ghost use Rattle.jac_app.specs.Replay.{EndsAttaching, EndsServing, EndsReplay};
 
 use crate::attach::attach;
-use crate::ending::Ending;
-use crate::files::{open_app, read_file, read_sessions};
-use crate::handler::Answerer;
+use jac_desk::Answerer;
+use jac_ending::{Ending, copy_name, named, open_app, read_file, read_sessions};
 use jac_io::{AuditSink, Failed, Files, Sink};
 use jac_keep::Vault;
 use jac_opening::Service;
 use jac_replies::Spelling;
 use jac_route::Sessions;
 use jac_serving::{Stopped, serve_events};
+use jac_sittings::Sittings;
 use jac_value::{Memory, Txt};
 use jac_words::{Replay, Role};
 use jac_world::Steps;
@@ -40,7 +40,7 @@ fn ending_of(stopped: Stopped) -> Ending
 
 // Attaches the store, and serves the events.
 fn serve_attached<O: Sink, U: AuditSink, K: Vault, L: Ledger, M: Ledger>(
-    desk: &mut Answerer<'_, '_, '_, '_, '_, K, L, M>,
+    desk: &mut Answerer<'_, '_, '_, '_, '_, '_, K, L, M>,
     db: Option<&Txt>,
     schema: Txt,
     events: &[u8],
@@ -57,17 +57,20 @@ fn serve_attached<O: Sink, U: AuditSink, K: Vault, L: Ledger, M: Ledger>(
     ensures same_reference { desk.new.keeper.ghost_name ≡ desk.old.keeper.ghost_name }
 {
     match attach(desk.alloc, desk.service, db, schema, desk.keeper) {
-        Ok(()) => match serve_events(desk, events, out, audit) {
-            Ok(()) => Ok(()),
-            Err(stopped) => Err(ending_of(stopped)),
-        },
+        Ok(()) => {
+            desk.sittings.forget();
+            match serve_events(desk, events, out, audit) {
+                Ok(()) => Ok(()),
+                Err(stopped) => Err(ending_of(stopped)),
+            }
+        }
         Err(ending) => Err(ending),
     }
 }
 
 // Aims the audit, attaches the store, and serves the events.
 fn serve<O: Sink, U: AuditSink, K: Vault, L: Ledger, M: Ledger>(
-    desk: &mut Answerer<'_, '_, '_, '_, '_, K, L, M>,
+    desk: &mut Answerer<'_, '_, '_, '_, '_, '_, K, L, M>,
     command: &Replay,
     aim: Option<Txt>,
     schema: Txt,
@@ -113,6 +116,7 @@ fn serve_over<O: Sink, U: AuditSink, K: Vault, L: Ledger, M: Ledger>(
     ensures served { WentAimed (sinks (O.seen out.old) (O.seen out.new) (U.seen audit.old) (U.seen audit.new))
         (EndsServing (sinks (O.seen out.old) (O.seen out.new) (U.seen audit.old) (U.seen audit.new)) (commands.Replay command.now) (application_of service.now) sessions.now (span (K.seen vault.old) (K.seen vault.new)) (script_of events.now) result) }
 {
+    let mut sittings = Sittings::none(alloc);
     let mut desk = Answerer {
         keeper: vault,
         splits,
@@ -121,6 +125,7 @@ fn serve_over<O: Sink, U: AuditSink, K: Vault, L: Ledger, M: Ledger>(
         spelling: Spelling::Quoted,
         service,
         sessions,
+        sittings: &mut sittings,
     };
     serve(&mut desk, command, aim, schema, events, out, audit)
 }
@@ -179,27 +184,4 @@ pub fn replay<F: Files, O: Sink, U: AuditSink, K: Vault, L: Ledger, M: Ledger>(
         out,
         audit,
     )
-}
-
-/// A copy of the name, if there is one.
-pub fn copy_name(alloc: Global, name: Option<&Txt>) -> Result<Option<Txt>, Memory>
-    ensures { IfOk result (λ copy. copy ≡ option_copied name.entry) }
-{
-    match name {
-        None => Ok(None),
-        Some(name) => {
-            let copy = name.copy(alloc)?;
-            Ok(Some(copy))
-        }
-    }
-}
-
-/// The name, if there is one.
-pub fn named(name: &Option<Txt>) -> Option<&Txt>
-    ensures { option_copied result ≡ name.now }
-{
-    match name {
-        None => None,
-        Some(name) => Some(name),
-    }
 }

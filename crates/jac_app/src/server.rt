@@ -5,19 +5,17 @@ ghost use Rattle.jac_lang.specs.Mirror.{application_of};
 ghost use Rattle.jac_plain.specs.Models.{shapes_of};
 ghost use Rattle.jac_keep.specs.Schema.{IsSchema};
 ghost use Rattle.jac_serving.specs.Desk.{MayServe, Keeps};
-ghost use Rattle.jac_app.specs.Answered.{answering, desk_of};
-ghost use Rattle.jac_app.specs.declared.ending.Ending.TheVariants as endings;
+ghost use Rattle.jac_desk.specs.Answered.{answering, desk_of};
+ghost use Rattle.jac_ending.specs.declared.ending.Ending.TheVariants as endings;
 ghost use Rattle.jac_serving.specs.Outside.{AWriteFailed, IsPut, Went, WentAimed, span, sinks};
-ghost use Rattle.jac_app.specs.Files.{sight};
+ghost use Rattle.jac_ending.specs.Files.{sight};
 ghost use Rattle.jac_opening.specs.Application.{schema_text};
 ghost use Rattle.jac_app.specs.Server.{served_line, halted, EndsConnections, EndsDoor, EndsAttached, EndsAimed, EndsServer};
 
 use crate::attach::attach;
-use crate::ending::Ending;
-use crate::files::{open_app, read_file, read_sessions};
-use crate::handler::Answerer;
-use crate::replay::{copy_name, named};
 use itoa::Buffer;
+use jac_desk::Answerer;
+use jac_ending::{Ending, copy_name, named, open_app, read_file, read_sessions};
 use jac_io::{AuditSink, Door, Failed, Files, Sink};
 use jac_keep::{Keeper, Vault};
 use jac_links::{DoorHalt, Tally, serve_links};
@@ -25,6 +23,7 @@ use jac_opening::Service;
 use jac_replies::Spelling;
 use jac_route::Sessions;
 use jac_serving::put_five;
+use jac_sittings::Sittings;
 use jac_value::{Memory, Txt};
 use jac_words::{Role, Serving};
 use jac_world::Steps;
@@ -61,19 +60,19 @@ fn put_served<O: Sink>(out: &mut O, tally: Tally) -> Result<(), Failed>
 
 // Serves the door's connections, and tells how many there were.
 fn serve_connections<O: Sink, U: AuditSink, K: Keeper, D: Door, L: Ledger, M: Ledger>(
-    desk: &mut Answerer<'_, '_, '_, '_, '_, K, L, M>,
+    desk: &mut Answerer<'_, '_, '_, '_, '_, '_, K, L, M>,
     serving: &Serving,
     out: &mut O,
     audit: &mut U,
     door: &mut D,
 ) -> Result<(), Ending>
-    requires desk { MayServe answering (desk_of (application_of desk.old.service.now) desk.old.sessions.now desk.old.keeper.ghost_name (K.seen desk.old.keeper.now)) }
+    requires desk { MayServe answering (desk_of (application_of desk.old.service.now) desk.old.sessions.now desk.old.keeper.ghost_name (K.seen desk.old.keeper.now) desk.old.sittings.now) }
     ensures served { Went (sinks (O.seen out.old) (O.seen out.new) (U.seen audit.old) (U.seen audit.new))
         (EndsConnections D.Line.seen (application_of desk.old.service.now) desk.old.sessions.now serving.now.count (span (D.seen door.old) (D.seen door.new)) (span (K.seen desk.old.keeper.now) (K.seen desk.new.keeper.now)) result) }
     ensures cause { result ≡ Err endings.WriteFault → AWriteFailed (sinks (O.seen out.old) (O.seen out.new) (U.seen audit.old) (U.seen audit.new)) }
     ensures lasts { DoorLasts (D.seen door.old) (D.seen door.new) }
     ensures same_port { IsTrue (D.seen door.new).tells → (D.seen door.new).port ≡ (D.seen door.old).port }
-    ensures keeps { Keeps answering (desk_of (application_of desk.old.service.now) desk.old.sessions.now desk.old.keeper.ghost_name (K.seen desk.old.keeper.now)) (desk_of (application_of desk.new.service.now) desk.new.sessions.now desk.new.keeper.ghost_name (K.seen desk.new.keeper.now)) }
+    ensures keeps { Keeps answering (desk_of (application_of desk.old.service.now) desk.old.sessions.now desk.old.keeper.ghost_name (K.seen desk.old.keeper.now) desk.old.sittings.now) (desk_of (application_of desk.new.service.now) desk.new.sessions.now desk.new.keeper.ghost_name (K.seen desk.new.keeper.now) desk.new.sittings.now) }
 {
     match serve_links(desk, serving.count, door, audit) {
         Ok(tally) => match put_served(out, tally) {
@@ -86,18 +85,18 @@ fn serve_connections<O: Sink, U: AuditSink, K: Keeper, D: Door, L: Ledger, M: Le
 
 // Has the door listen, and serves its connections.
 fn serve_door<O: Sink, U: AuditSink, K: Keeper, D: Door, L: Ledger, M: Ledger>(
-    desk: &mut Answerer<'_, '_, '_, '_, '_, K, L, M>,
+    desk: &mut Answerer<'_, '_, '_, '_, '_, '_, K, L, M>,
     serving: &Serving,
     out: &mut O,
     audit: &mut U,
     door: &mut D,
 ) -> Result<(), Ending>
-    requires desk { MayServe answering (desk_of (application_of desk.old.service.now) desk.old.sessions.now desk.old.keeper.ghost_name (K.seen desk.old.keeper.now)) }
+    requires desk { MayServe answering (desk_of (application_of desk.old.service.now) desk.old.sessions.now desk.old.keeper.ghost_name (K.seen desk.old.keeper.now) desk.old.sittings.now) }
     ensures served { Went (sinks (O.seen out.old) (O.seen out.new) (U.seen audit.old) (U.seen audit.new))
         (EndsDoor D.Line.seen (application_of desk.old.service.now) desk.old.sessions.now serving.now (span (D.seen door.old) (D.seen door.new)) (span (K.seen desk.old.keeper.now) (K.seen desk.new.keeper.now)) result) }
     ensures cause { result ≡ Err endings.WriteFault → AWriteFailed (sinks (O.seen out.old) (O.seen out.new) (U.seen audit.old) (U.seen audit.new)) }
     ensures lasts { DoorLasts (D.seen door.old) (D.seen door.new) }
-    ensures keeps { Keeps answering (desk_of (application_of desk.old.service.now) desk.old.sessions.now desk.old.keeper.ghost_name (K.seen desk.old.keeper.now)) (desk_of (application_of desk.new.service.now) desk.new.sessions.now desk.new.keeper.ghost_name (K.seen desk.new.keeper.now)) }
+    ensures keeps { Keeps answering (desk_of (application_of desk.old.service.now) desk.old.sessions.now desk.old.keeper.ghost_name (K.seen desk.old.keeper.now) desk.old.sittings.now) (desk_of (application_of desk.new.service.now) desk.new.sessions.now desk.new.keeper.ghost_name (K.seen desk.new.keeper.now) desk.new.sittings.now) }
 {
     match door.listen(serving.port) {
         Ok(()) => serve_connections(desk, serving, out, audit, door),
@@ -107,7 +106,7 @@ fn serve_door<O: Sink, U: AuditSink, K: Keeper, D: Door, L: Ledger, M: Ledger>(
 
 // Attaches the store, and serves the door.
 fn serve_attached<O: Sink, U: AuditSink, K: Vault, D: Door, L: Ledger, M: Ledger>(
-    desk: &mut Answerer<'_, '_, '_, '_, '_, K, L, M>,
+    desk: &mut Answerer<'_, '_, '_, '_, '_, '_, K, L, M>,
     serving: &Serving,
     schema: Txt,
     out: &mut O,
@@ -130,14 +129,17 @@ fn serve_attached<O: Sink, U: AuditSink, K: Vault, D: Door, L: Ledger, M: Ledger
         schema,
         desk.keeper,
     ) {
-        Ok(()) => serve_door(desk, serving, out, audit, door),
+        Ok(()) => {
+            desk.sittings.forget();
+            serve_door(desk, serving, out, audit, door)
+        }
         Err(ending) => Err(ending),
     }
 }
 
 // Aims the audit, attaches the store, and serves the door.
 fn serve_aimed<O: Sink, U: AuditSink, K: Vault, D: Door, L: Ledger, M: Ledger>(
-    desk: &mut Answerer<'_, '_, '_, '_, '_, K, L, M>,
+    desk: &mut Answerer<'_, '_, '_, '_, '_, '_, K, L, M>,
     serving: &Serving,
     aim: Option<Txt>,
     schema: Txt,
@@ -185,6 +187,7 @@ fn serve_over<O: Sink, U: AuditSink, K: Vault, D: Door, L: Ledger, M: Ledger>(
         (span (D.seen door.old) (D.seen door.new)) (span (K.seen vault.old) (K.seen vault.new)) result) }
     ensures lasts { DoorLasts (D.seen door.old) (D.seen door.new) }
 {
+    let mut sittings = Sittings::none(alloc);
     let mut desk = Answerer {
         keeper: vault,
         splits,
@@ -193,6 +196,7 @@ fn serve_over<O: Sink, U: AuditSink, K: Vault, D: Door, L: Ledger, M: Ledger>(
         spelling: Spelling::Raw,
         service,
         sessions,
+        sittings: &mut sittings,
     };
     serve_aimed(&mut desk, serving, aim, schema, out, audit, door)
 }

@@ -3,9 +3,9 @@ use Rattle.jac_lang.specs.Mirror.{application_of}
 use Rattle.jac_words.specs.declared.role.Role.TheVariants as roles
 use Rattle.jac_words.specs.declared.words.Command.TheVariants as commands
 use Rattle.jac_serving.specs.Outside.{span}
-use Rattle.jac_app.specs.Files.{sight}
+use Rattle.jac_ending.specs.Files.{sight}
 use Rattle.jac_serving.proofs.OutsideLemmas.{Took-none}
-use Rattle.jac_app.proofs.ReplayLemmas.{unread_ends, unopened_ends, idle_ends, still_idle}
+use Rattle.jac_ending.proofs.EndingLemmas.{unread_ends, unopened_ends, idle_ends, still_idle}
 use Rattle.jac_app.proofs.check.check.Goals as goal
 
 pub returns-in-Err : goal.returns-in-Err

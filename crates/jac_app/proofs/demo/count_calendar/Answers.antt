@@ -2,7 +2,7 @@ use Rattle.std.proofs.Common.{inr, None}
 use Rattle.jac_lang.specs.Mirror.{application_of}
 use Rattle.jac_serving.specs.Outside.{span}
 use Rattle.jac_app.proofs.DemoLemmas.{told_behind, unaimed}
-use Rattle.jac_app.proofs.ReplayLemmas.{went_aimed}
+use Rattle.jac_ending.proofs.EndingLemmas.{went_aimed}
 use Rattle.jac_app.proofs.demo.count_calendar.Goals as goal
 
 pub returns-in-Ok : goal.returns-in-Ok

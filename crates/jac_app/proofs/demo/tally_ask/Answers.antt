@@ -1,11 +1,11 @@
 use Rattle.std.proofs.Common.{◌+◌, ap, Err, false}
 use Rattle.jac_keep.specs.declared.stop.Stop.{Stop}
 use Rattle.jac_lang.specs.Mirror.{application_of}
-use Rattle.jac_app.specs.Asked.{ask_in}
+use Rattle.jac_desk.specs.Asked.{ask_in}
 use Rattle.jac_serving.specs.Outside.{span}
 use Rattle.jac_serving.proofs.OutsideLemmas.{WentTo-on}
 use Rattle.jac_app.proofs.DemoLemmas.{ask_counted, ask_stopped, same_line}
-use Rattle.jac_app.proofs.EntryLemmas.{is_failed}
+use Rattle.jac_desk.proofs.EntryLemmas.{is_failed}
 use Rattle.jac_app.proofs.demo.tally_ask.Goals as goal
 
 pub returns-in-Ok-clause-answered : goal.returns-in-Ok-clause-answered

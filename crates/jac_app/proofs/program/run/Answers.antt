@@ -1,7 +1,7 @@
 use Rattle.jac_serving.specs.Outside.{span}
-use Rattle.jac_app.specs.Files.{sight}
+use Rattle.jac_ending.specs.Files.{sight}
 use Rattle.jac_app.proofs.CauseLemmas.{comes_for}
-use Rattle.jac_app.proofs.CompleteLemmas.{is_served, is_checked, is_shown, is_dumped, is_listened}
+use Rattle.jac_app.proofs.CompleteLemmas.{is_served, is_checked, is_shown, is_dumped, is_explained, is_upgraded, is_refused, is_listened}
 use Rattle.jac_app.proofs.program.run.Goals as goal
 
 pub returns : goal.returns
@@ -24,6 +24,9 @@ returns g c =
       replays = λ can. is_served line seen door c.args.words.now can c.run_words.result ran.out ran.audit ran.holds;
       serves = λ can. is_listened line seen door c.args.words.now can c.run_words.result ran.out ran.audit ran.holds;
       dumps = λ can. is_dumped line seen door c.args.words.now can c.run_words.result ran.out ran.audit ran.holds;
+      explains = λ can. is_explained line seen door c.args.words.now can c.run_words.result ran.out ran.audit ran.holds;
+      upgrades = λ can extends. is_upgraded line seen door c.args.words.now can extends c.run_words.result ran.out ran.audit ran.holds;
+      refuses = λ can extends. is_refused line seen door c.args.words.now can extends c.run_words.result ran.out ran.audit ran.holds;
       demos = λ can. is_shown line seen door c.args.words.now can c.run_words.result ran.out ran.audit ran.holds;
       checks = λ can. is_checked line seen door c.args.words.now can c.run_words.result ran.out ran.audit ran.holds;
     }

@@ -1,10 +1,11 @@
 use Rattle.std.proofs.Common.{◌∙◌, sym, refl, inl, inr, [], ◌++◌, arith}
 use Rattle.jac_serving.specs.Outside.{span}
-use Rattle.jac_app.specs.Files.{sight}
+use Rattle.jac_ending.specs.Files.{sight}
 use Rattle.jac_serving.proofs.OutsideLemmas.{Lasts-then, Took-none, Took-then}
 use Rattle.jac_words.proofs.CountLemmas.{has_count}
-use Rattle.jac_app.proofs.ReplayLemmas.{still_idle}
-use Rattle.jac_app.proofs.LaterLemmas.{Ends-later, Finishes-widen}
+use Rattle.jac_ending.proofs.EndingLemmas.{still_idle}
+use Rattle.jac_app.proofs.LaterLemmas.{Ends-later}
+use Rattle.jac_ending.proofs.LaterLemmas.{Finishes-widen}
 use Rattle.jac_app.proofs.program.run_words.Goals as goal
 
 pub take_steps-ended-requires-clause-count : goal.take_steps-ended-requires-clause-count

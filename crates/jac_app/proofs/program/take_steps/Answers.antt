@@ -1,5 +1,5 @@
 use Rattle.std.proofs.Common.{refl}
-use Rattle.jac_app.proofs.ReplayLemmas.{WentAimed-on}
+use Rattle.jac_ending.proofs.EndingLemmas.{WentAimed-on}
 use Rattle.jac_app.proofs.program.take_steps.Goals as goal
 
 pub returns-in-Check-clause-ends : goal.returns-in-Check-clause-ends
@@ -13,3 +13,9 @@ returns-in-Demo-clause-ends g c = rw c.in-Demo.is (WentAimed-on _ _ _ (λ out au
 
 pub returns-in-Dump-clause-ends : goal.returns-in-Dump-clause-ends
 returns-in-Dump-clause-ends g c = rw c.in-Dump.is (WentAimed-on _ _ _ (λ out audit ends. (ends, refl)) c.dump.ensures)
+
+pub returns-in-Upgrade-clause-ends : goal.returns-in-Upgrade-clause-ends
+returns-in-Upgrade-clause-ends g c = rw c.in-Upgrade.is (WentAimed-on _ _ _ (λ out audit ends. (ends, refl)) c.upgrade.ensures)
+
+pub returns-in-Why-clause-ends : goal.returns-in-Why-clause-ends
+returns-in-Why-clause-ends g c = rw c.in-Why.is (WentAimed-on _ _ _ (λ out audit ends. (ends, refl)) c.explain.ensures)

@@ -3,8 +3,9 @@ use Rattle.jac_lang.specs.Mirror.{application_of}
 use Rattle.jac_words.specs.declared.role.Role.TheVariants as roles
 use Rattle.jac_serving.specs.Outside.{span}
 use Rattle.jac_words.specs.declared.words.Command.TheVariants as commands
-use Rattle.jac_app.specs.Files.{sight}
-use Rattle.jac_app.proofs.ReplayLemmas.{unread_ends, unopened_ends, sessionless_ends, sessions_within, served_ends, idle_ends, still_idle, WentAimed-on}
+use Rattle.jac_ending.specs.Files.{sight}
+use Rattle.jac_ending.proofs.EndingLemmas.{unread_ends, unopened_ends, sessionless_ends, sessions_within, idle_ends, still_idle, WentAimed-on}
+use Rattle.jac_app.proofs.ReplayLemmas.{served_ends}
 use Rattle.jac_app.proofs.replay.replay.Goals as goal
 
 pub returns-in-Err : goal.returns-in-Err

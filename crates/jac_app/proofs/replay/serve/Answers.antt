@@ -2,7 +2,8 @@ use Rattle.jac_lang.specs.Mirror.{application_of}
 use Rattle.jac_words.specs.declared.words.Command.TheVariants as commands
 use Rattle.jac_serving.specs.Outside.{span, sinks}
 use Rattle.jac_serving.specs.Script.{script_of}
-use Rattle.jac_app.proofs.ReplayLemmas.{went_aimed, failed_behind, serving_behind, aim_failed}
+use Rattle.jac_ending.proofs.EndingLemmas.{went_aimed, failed_behind}
+use Rattle.jac_app.proofs.ReplayLemmas.{serving_behind, aim_failed}
 use Rattle.jac_app.proofs.replay.serve.Goals as goal
 
 pub returns-in-Ok-clause-served : goal.returns-in-Ok-clause-served

@@ -3,6 +3,7 @@ use Rattle.jac_lang.specs.Mirror.{application_of}
 use Rattle.jac_serving.specs.Outside.{span}
 use Rattle.jac_serving.specs.Script.{script_of}
 use Rattle.jac_serving.proofs.OutsideLemmas.{Went-none, Went-on}
+use Rattle.jac_desk.proofs.SittingLaws.{none_settled}
 use Rattle.jac_app.proofs.ReplayLemmas.{attach_ends, serve_whole, serve_stopped}
 use Rattle.jac_app.proofs.replay.serve_attached.Goals as goal
 
@@ -33,7 +34,11 @@ returns-in-Err-clause-served g c =
     c.in-Err.ending c.in-Err.ensures.attaches)
 
 pub serve_events-requires-clause-desk : goal.serve_events-requires-clause-desk
-serve_events-requires-clause-desk g c = record { attached = c.in-Ok.ensures.attached; ready = c.in-Ok.ensures.start }
+serve_events-requires-clause-desk g c = record {
+  attached = c.in-Ok.ensures.attached;
+  ready = c.in-Ok.ensures.start;
+  settled = none_settled (application_of c.args.desk.now.service.now) (g.K.Keeper.seen c.attach.new.vault) _ c.forget.ensures;
+}
 
 pub returns-in-Ok-serve_events-clause-same_reference : goal.returns-in-Ok-serve_events-clause-same_reference
 returns-in-Ok-serve_events-clause-same_reference g c = λ i. (c.in-Ok-serve_events.ensures.keeps.same i).keeper

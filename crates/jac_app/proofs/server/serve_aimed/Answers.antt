@@ -1,6 +1,6 @@
 use Rattle.jac_lang.specs.Mirror.{application_of}
 use Rattle.jac_serving.specs.Outside.{span, sinks}
-use Rattle.jac_app.proofs.ReplayLemmas.{went_aimed, failed_behind}
+use Rattle.jac_ending.proofs.EndingLemmas.{went_aimed, failed_behind}
 use Rattle.jac_app.proofs.ServerLemmas.{aimed_ends, unaimed_ends}
 use Rattle.jac_app.proofs.server.serve_aimed.Goals as goal
 

@@ -1,6 +1,7 @@
 use Rattle.jac_lang.specs.Mirror.{application_of}
 use Rattle.jac_serving.specs.Outside.{span}
 use Rattle.jac_serving.proofs.OutsideLemmas.{Went-none, Went-on}
+use Rattle.jac_desk.proofs.SittingLaws.{none_settled}
 use Rattle.jac_app.proofs.ServerLemmas.{attached_ends, unattached_ends}
 use Rattle.jac_app.proofs.server.serve_attached.Goals as goal
 
@@ -23,7 +24,13 @@ returns-in-Err-clause-served g c =
     c.in-Err.ending c.in-Err.ensures.attaches)
 
 pub serve_door-requires : goal.serve_door-requires
-serve_door-requires g c = record { desk = record { attached = c.in-Ok.ensures.attached; ready = c.in-Ok.ensures.start } }
+serve_door-requires g c = record {
+  desk = record {
+    attached = c.in-Ok.ensures.attached;
+    ready = c.in-Ok.ensures.start;
+    settled = none_settled (application_of c.args.desk.now.service.now) (g.K.Keeper.seen c.attach.new.vault) _ c.forget.ensures;
+  };
+}
 
 pub returns-in-Ok-clause-same_reference : goal.returns-in-Ok-clause-same_reference
 returns-in-Ok-clause-same_reference g c = λ i. (c.serve_door.ensures.keeps.same i).keeper

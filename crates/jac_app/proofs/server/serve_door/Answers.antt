@@ -2,7 +2,7 @@ use Rattle.jac_lang.specs.Mirror.{application_of}
 use Rattle.jac_serving.specs.Outside.{span}
 use Rattle.jac_serving.proofs.DeskLemmas.{keeps-none}
 use Rattle.jac_serving.proofs.OutsideLemmas.{Went-none, Went-on}
-use Rattle.jac_app.specs.Answered.{answering, desk_of}
+use Rattle.jac_desk.specs.Answered.{answering, desk_of}
 use Rattle.jac_app.proofs.ServerLemmas.{door_ends, unheard_ends}
 use Rattle.jac_app.proofs.server.serve_door.Goals as goal
 
@@ -25,4 +25,4 @@ returns-in-Err-clause-served g c =
 pub returns-in-Err-clause-keeps : goal.returns-in-Err-clause-keeps
 returns-in-Err-clause-keeps g c =
     let desk = c.args.desk.now in
-    keeps-none answering (desk_of (application_of desk.service.now) desk.sessions.now desk.keeper.ghost_name (g.K.Keeper.seen desk.keeper.now)) c.requires.desk
+    keeps-none answering (desk_of (application_of desk.service.now) desk.sessions.now desk.keeper.ghost_name (g.K.Keeper.seen desk.keeper.now) desk.sittings.now) c.requires.desk

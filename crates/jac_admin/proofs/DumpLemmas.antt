@@ -1,0 +1,139 @@
+-- The text of a store, table by table, and how the steps of a dump end.
+use Rattle.std.proofs.Common.{◌≡◌, inl, inr, ◌∙◌, ap, sym, subst, refl, ℕ, ◌+◌, Bool, true, false, if◌then◌else◌, IsTrue, Result, Ok, Err, arith, List, [], ◌∷◌, ◌++◌, append_assoc, append-nil, length, map, Option, Some, None, slice_get}
+use Rattle.std.specs.Option.{option_map}
+use Rattle.std.proofs.lemmas.Option.{slice_get-map}
+use Rattle.jac_io.specs.Seen.{SinkSeen}
+use Rattle.jac_world.specs.World.{holds}
+use Rattle.jac_lang.specs.declared.application.App.{App}
+use Rattle.jac_lang.specs.declared.schema.ModelDef.{ModelDef}
+use Rattle.jac_lang.specs.Mirror.{application_of, entities_of, entity_of}
+use Rattle.jac_lang.specs.Syntax.{Application, Entity}
+use Rattle.jac_rows.specs.declared.row.Row.{Row}
+use Rattle.jac_rows.specs.declared.plain.PlainRow.{PlainRow}
+use Rattle.jac_rows.specs.declared.state.State.{State}
+use Rattle.jac_rows.specs.Project.{rows_at, project_at}
+use Rattle.jac_rows.specs.Tables.{rows_of, rows_or_none}
+use Rattle.jac_keep.specs.KeeperSeen.{KeeperSeen, Store, IsLeft}
+use Rattle.jac_ending.specs.declared.ending.Ending.{Ending}
+use Rattle.jac_ending.specs.declared.ending.Ending.TheVariants as endings
+use Rattle.jac_serving.specs.Outside.{Span, span}
+use Rattle.jac_ending.specs.Attached.{AttachesAs}
+use Rattle.jac_admin.specs.Dump.{record_line, table_text, tables_text, number_line, dump_text, EndsRead, IsDumped, EndsDumping}
+use Rattle.jac_serving.proofs.OutsideLemmas.{Rose-widen}
+use Rattle.jac_ending.proofs.EndingLemmas.{is_attached}
+
+-- the text of the tables from one on
+abbrev pub text_from : (ℕ → Bool) → List ModelDef → ℕ → KeeperSeen → List ℕ
+text_from w models place k = tables_text (entities_of models) place (map (rows_at w) k.state.tables)
+
+-- a loop over the models: the store was read, and the text so far, before that of the tables left, is that of all
+pub record Pushes (old new : KeeperSeen) (w : ℕ → Bool) (models : List ModelDef) (before : List ℕ) (left : List ModelDef) (place : ℕ) (text : List ℕ) : Type 0 where
+  pub is_left : IsLeft old new
+  pub attached : IsTrue new.store.attached
+  pub counted : place + length left ≡ length models
+  pub joined : IsTrue new.tells → text ++ text_from w left place old ≡ before ++ text_from w models 0 old
+
+-- what is left between two moments and on to a third
+pub left_then : (a b c : KeeperSeen) → IsLeft a b → IsLeft b c → IsLeft a c
+left_then a b c one two = record {
+  later = omega (arith, one.later, two.later);
+  told = λ told. one.told (two.told told);
+  same_state = λ told. two.same_state told ∙ one.same_state (two.told told);
+  same_store = two.same_store ∙ one.same_store;
+}
+
+or_none-map : (w : ℕ → Bool) (o : Option (List Row)) → rows_or_none (option_map (rows_at w) o) ≡ rows_at w (rows_or_none o)
+or_none-map w None = refl
+or_none-map w (Some t) = refl
+
+-- the table of a model, projected
+rows_of-project : (w : ℕ → Bool) (tables : List (List Row)) (m : ℕ) → rows_of (map (rows_at w) tables) m ≡ rows_at w (rows_of tables m)
+rows_of-project w tables m = ap rows_or_none (slice_get-map (rows_at w) tables m) ∙ or_none-map w (slice_get tables m)
+
+-- a loop over the models goes on with the next one, and ends
+pub push_next : (old now new : KeeperSeen) (w : ℕ → Bool) (models : List ModelDef) (before : List ℕ) (model : ModelDef) (rest : List ModelDef) (place : ℕ) (text next : List ℕ)
+    → Pushes old now w models before (model ∷ rest) place text → IsLeft now new
+    → (IsTrue new.tells → next ≡ text ++ table_text (entity_of model) (rows_at w (rows_of now.state.tables place)))
+    → Pushes old new w models before rest (place + 1) next
+push_next old now new w models before model rest place text next p left pushed = record {
+  is_left = left_then old now new p.is_left left;
+  attached = subst (λ (s : Store). IsTrue s.attached) (sym left.same_store) p.attached;
+  counted = omega (arith, p.counted);
+  joined = λ told.
+      let back = left.told told in
+      let table = λ (s : State). table_text (entity_of model) (rows_at w (rows_of s.tables place)) in
+      ap (λ (t : List ℕ). t ++ text_from w rest (place + 1) old) (pushed told)
+      ∙ append_assoc text (table now.state) (text_from w rest (place + 1) old)
+      ∙ ap (λ (s : State). text ++ (table s ++ text_from w rest (place + 1) old)) (p.is_left.same_state back)
+      ∙ ap (λ (rows : List PlainRow). text ++ (table_text (entity_of model) rows ++ text_from w rest (place + 1) old)) (sym (rows_of-project w old.state.tables place))
+      ∙ p.joined back;
+}
+
+pub push_end : (old now : KeeperSeen) (w : ℕ → Bool) (models : List ModelDef) (before : List ℕ) (place : ℕ) (text : List ℕ)
+    → Pushes old now w models before [] place text → IsTrue now.tells → text ≡ before ++ text_from w models 0 old
+push_end old now w models before place text p told = sym (append-nil text) ∙ p.joined told
+
+held_step : (model : Entity) (r : PlainRow) (held : Bool) (rest : List PlainRow) →
+    table_text model (if held then r ∷ rest else rest) ≡ (if held then record_line model r else []) ++ table_text model rest
+held_step model r true rest = refl
+held_step model r false rest = refl
+
+-- a row before the rows behind it
+pub row_step : (model : Entity) (w : ℕ → Bool) (row : Row) (rest : List Row) →
+    table_text model (rows_at w (row ∷ rest)) ≡ (if holds w row.guard then record_line model (record { id = row.id; cells = row.cells }) else []) ++ table_text model (rows_at w rest)
+row_step model w row rest = held_step model (record { id = row.id; cells = row.cells }) (holds w row.guard) (rows_at w rest)
+
+-- all tables were put, and then the number
+pub state_dumped : (app : App) (w : ℕ → Bool) (old mid new : KeeperSeen) (tables text : List ℕ) (number : ℕ)
+    → IsLeft old mid → IsLeft mid new
+    → (IsTrue mid.tells → tables ≡ [] ++ text_from w app.models 0 old) → (IsTrue new.tells → number ≡ mid.state.number)
+    → text ≡ tables ++ number_line number
+    → IsTrue new.tells → text ≡ dump_text (application_of app) (project_at w new.state)
+state_dumped app w old mid new tables text number first second pushed counted joined told =
+    let back = second.told told in
+    joined
+    ∙ ap (λ (t : List ℕ). t ++ number_line number) (pushed back)
+    ∙ ap (λ (n : ℕ). text_from w app.models 0 old ++ number_line n) (counted told)
+    ∙ ap (λ (s : State). tables_text (entities_of app.models) 0 (map (rows_at w) s.tables) ++ number_line mid.state.number) (sym (first.same_state back))
+    ∙ ap (λ (s : State). dump_text (application_of app) (project_at w s)) (sym (second.same_state told))
+
+-- assignments that show the same labels are equal
+pub same_shown : (P : (ℕ → Bool) → Type 0) (v w : ℕ → Bool) → ((k : ℕ) → v k ≡ w k) → P v → P w
+same_shown P v w same h = subst P (λ i k. same k i) h
+
+-- a store that wasn't attached ends the steps
+pub unattached_ends : (db : Option (List ℕ)) (app : Application) (w : ℕ → Bool) (out : Span SinkSeen) (k : Span KeeperSeen) (ending : Ending)
+    → AttachesAs db app k (Err ending) → EndsDumping db app w out k (Err ending) []
+unattached_ends db app w out k endings.StoreFault h = (h.0, inl h.1)
+unattached_ends db app w out k (endings.OtherStore stored wanted) h = h
+unattached_ends db app w out k endings.Memory h = inl h
+unattached_ends db app w out k (endings.ReadFault role) h = absurd h
+unattached_ends db app w out k (endings.TooLong role) h = absurd h
+unattached_ends db app w out k (endings.AppRefused line) h = absurd h
+unattached_ends db app w out k (endings.NewRefused line) h = absurd h
+unattached_ends db app w out k (endings.UpgradeRefused line) h = absurd h
+unattached_ends db app w out k endings.DoorFault h = absurd h
+unattached_ends db app w out k (endings.LineRefused lapse) h = absurd h
+unattached_ends db app w out k (endings.SessionsRefused line) h = absurd h
+unattached_ends db app w out k endings.WriteFault h = absurd h
+
+-- an attached store was read
+module _ (db : Option (List ℕ)) (app : Application) (w : ℕ → Bool) (out : Span SinkSeen) (before opened after : KeeperSeen)
+    (attaches : AttachesAs db app (span before opened) (Ok tt)) (left : IsLeft opened after) where
+  dumped : (result : Result (Unit {0}) Ending) (put : List ℕ) → EndsRead app w out (span opened after) result put → IsDumped db app w out (span before after) result put
+  dumped result put ends = record { opened = opened; attached = is_attached db app before opened after attaches left.same_store; left = left; ends = ends }
+
+  pub read_ends : (result : Result (Unit {0}) Ending) (put : List ℕ) → EndsRead app w out (span opened after) result put → EndsDumping db app w out (span before after) result put
+  read_ends (Ok done) put h = dumped (Ok done) put h
+  read_ends (Err endings.StoreFault) put h = (Rose-widen _ _ _ _ attaches.0.later (omega arith) h.1, inr (dumped (Err endings.StoreFault) put h))
+  read_ends (Err endings.Memory) put h = inr (dumped (Err endings.Memory) put h)
+  read_ends (Err endings.WriteFault) put h = dumped (Err endings.WriteFault) put h
+  read_ends (Err (endings.OtherStore stored wanted)) put h = absurd h.puts
+  read_ends (Err (endings.ReadFault role)) put h = dumped (Err (endings.ReadFault role)) put h
+  read_ends (Err (endings.TooLong role)) put h = dumped (Err (endings.TooLong role)) put h
+  read_ends (Err (endings.AppRefused line)) put h = dumped (Err (endings.AppRefused line)) put h
+  read_ends (Err (endings.NewRefused line)) put h = dumped (Err (endings.NewRefused line)) put h
+  read_ends (Err (endings.UpgradeRefused line)) put h = dumped (Err (endings.UpgradeRefused line)) put h
+  read_ends (Err endings.DoorFault) put h = dumped (Err endings.DoorFault) put h
+  read_ends (Err (endings.LineRefused lapse)) put h = dumped (Err (endings.LineRefused lapse)) put h
+  read_ends (Err (endings.SessionsRefused line)) put h = dumped (Err (endings.SessionsRefused line)) put h

@@ -1,0 +1,80 @@
+-- The lines of a `why`, and how its steps end.
+use Rattle.std.proofs.Common.{◌≡◌, ◌∙◌, ◌≤◌, ap, sym, subst, refl, arith, ℕ, zero, suc, drop, length, ◌⊎◌, ◌&&◌, inl, inr, Bool, true, IsTrue, Result, Ok, Err, Option, List, [], ◌∷◌, ◌++◌, append_assoc, append-nil}
+use Rattle.std.specs.List.{list_all}
+use Rattle.std.proofs.lemmas.Bool.{and_parts}
+use Rattle.jac_io.specs.Faults.{Rose}
+use Rattle.jac_io.specs.Seen.{SinkSeen}
+use Rattle.jac_world.specs.World.{IsAscending}
+use Rattle.jac_lang.specs.Syntax.{Application, Entity}
+use Rattle.jac_rows.specs.declared.state.State.{State}
+use Rattle.jac_plain.specs.Models.{shapes_of}
+use Rattle.jac_plain.specs.Policies.{AreAllowed, IsSettled}
+use Rattle.jac_keep.specs.KeeperSeen.{KeeperSeen, IsLeft}
+use Rattle.jac_keep.specs.Schema.{IsFit}
+use Rattle.jac_keep.proofs.SoundLaws.{sound_if_good}
+use Rattle.jac_resolve.specs.Rounds.{worlds_of, AreLive, HasSoundTables}
+use Rattle.jac_serving.specs.Outside.{Span, span}
+use Rattle.jac_why.specs.declared.reasons.Explanation.{Explanation}
+use Rattle.jac_why.specs.Whys.{all_whys, is_standing}
+use Rattle.jac_why.proofs.Explaining.{all_stand}
+use Rattle.jac_ending.specs.declared.ending.Ending.{Ending}
+use Rattle.jac_ending.specs.declared.ending.Ending.TheVariants as endings
+use Rattle.jac_ending.specs.Attached.{AttachesAs}
+use Rattle.jac_admin.specs.Explain.{why_line, why_lines, whys_text, scene_with, IsExplanation, EndsExplained, IsExplained, EndsExplaining}
+use Rattle.jac_admin.specs.Upgrade.{IsUnmoved, IsKept}
+
+-- a state that fits has sound tables
+pub sound_tables : (app : Application) (s : State) → IsFit (shapes_of app) s → HasSoundTables s
+sound_tables app s fit = record { next = s.number; sound = sound_if_good (shapes_of app) s fit.good }
+
+-- one line more
+pub lines_on : (models : List Entity) (left more : List Explanation) (x : Explanation) (text new all : List ℕ) → left ≡ x ∷ more
+    → new ≡ text ++ why_line models x → text ++ why_lines models left ≡ all → new ++ why_lines models more ≡ all
+lines_on models left more x text new all is added so_far =
+    ap (λ (t : List ℕ). t ++ why_lines models more) added
+    ∙ append_assoc text (why_line models x) (why_lines models more)
+    ∙ ap (λ (es : List Explanation). text ++ why_lines models es) (sym is)
+    ∙ so_far
+
+pub lines_end : (models : List Entity) (left : List Explanation) (text all : List ℕ) → left ≡ [] → text ++ why_lines models left ≡ all → text ≡ all
+lines_end models left text all none so_far = sym (append-nil text) ∙ ap (λ (es : List Explanation). text ++ why_lines models es) (sym none) ∙ so_far
+
+pub none_behind : (es : List Explanation) (i : ℕ) → length es ≤ i → drop i es ≡ []
+none_behind [] zero past = refl
+none_behind [] (suc i) past = refl
+none_behind (e ∷ es) zero past = absurd (omega (arith, past))
+none_behind (e ∷ es) (suc i) past = none_behind es i (omega (arith, past))
+
+-- the first of those that stand, and the rest
+pub standing_parts : (p : Explanation → Bool) (left more : List Explanation) (x : Explanation) → left ≡ x ∷ more → list_all p left ≡ true → (p x ≡ true) × (list_all p more ≡ true)
+standing_parts p left more x is stand = and_parts (p x) (list_all p more) (ap (list_all p) (sym is) ∙ stand)
+
+-- the lines of all answers, where each was found and then stood the test
+pub all_lines : (app : Application) (viewer : Option ℕ) (s testing : State) (labels live text : List ℕ) (es : List Explanation)
+    → testing ≡ s → es ≡ all_whys (scene_with app viewer s labels) live
+    → (list_all (is_standing (scene_with app viewer testing labels)) es ≡ true → text ≡ whys_text app.models labels es)
+    → text ≡ whys_text app.models labels (all_whys (scene_with app viewer s labels) live)
+all_lines app viewer s testing labels live text es same found tested =
+    let scene = scene_with app viewer s labels in
+    let tested_now : list_all (is_standing scene) es ≡ true → text ≡ whys_text app.models labels es =
+    subst (λ (t : State). list_all (is_standing (scene_with app viewer t labels)) es ≡ true → text ≡ whys_text app.models labels es) same tested in
+    tested_now (ap (list_all (is_standing scene)) found ∙ all_stand scene live) ∙ ap (whys_text app.models labels) found
+
+-- what was read at three moments, of which each tells the state of the first
+pub explained : (app : Application) (viewer : Option ℕ) (s settling asking : State) (live labels text : List ℕ)
+    → settling ≡ s → asking ≡ s
+    → IsAscending live → AreLive app (worlds_of s) live → IsSettled app (worlds_of settling) viewer labels
+    → (AreAllowed app (worlds_of asking) viewer labels → text ≡ whys_text app.models labels (all_whys (scene_with app viewer asking labels) live))
+    → IsExplanation app viewer s text
+explained app viewer s settling asking live labels text one two up are settled lines =
+    let settled_now : IsSettled app (worlds_of s) viewer labels = subst (λ (t : State). IsSettled app (worlds_of t) viewer labels) one settled in
+    record {
+      labels = labels;
+      live = live;
+      settled = settled_now;
+      ascending = up;
+      are_live = are;
+      is_text =
+          subst (λ (t : State). AreAllowed app (worlds_of t) viewer labels → text ≡ whys_text app.models labels (all_whys (scene_with app viewer t labels) live)) two lines
+          settled_now.allowed;
+    }

@@ -1,0 +1,128 @@
+-- How the steps of a `why` end.
+use Rattle.std.specs.Prelude.{◌≡◌, ◌⊎◌, ℕ, IsTrue, Result, Ok, Err, Option, Some, None, List, [], ◌∷◌, ◌++◌, slice_get, codes, decimal}
+use Rattle.std.specs.Option.{option_and_then}
+use Rattle.jac_io.specs.Seen.{SinkSeen}
+use Rattle.jac_value.specs.Ids.{record_of_label}
+use Rattle.jac_world.specs.World.{IsAscending}
+use Rattle.jac_lang.specs.Syntax.{Application, Entity}
+use Rattle.jac_check.specs.Causes.{name_in}
+use Rattle.jac_rows.specs.declared.state.State.{State}
+use Rattle.jac_plain.specs.Policies.{IsSettled}
+use Rattle.jac_keep.specs.KeeperSeen.{KeeperSeen, IsLeft}
+use Rattle.jac_resolve.specs.Rounds.{worlds_of, AreLive}
+use Rattle.jac_replies.specs.Spelled.{labels_text}
+use Rattle.jac_route.specs.Parameters.{viewer_of}
+use Rattle.jac_words.specs.declared.words.Command.{Command}
+use Rattle.jac_words.specs.declared.words.Command.TheVariants as commands
+use Rattle.jac_words.specs.Commands.{db_of}
+use Rattle.jac_serving.specs.Outside.{Span, span}
+use Rattle.jac_why.specs.declared.reasons.Explanation.{Explanation}
+use Rattle.jac_why.specs.declared.reasons.Reason.{Reason}
+use Rattle.jac_why.specs.Named.{as_reason}
+use Rattle.jac_why.specs.Scene.{PlainScene}
+use Rattle.jac_why.specs.Whys.{all_whys}
+use Rattle.jac_ending.specs.declared.ending.Ending.{Ending}
+use Rattle.jac_ending.specs.Attached.{AttachesAs}
+use Rattle.jac_ending.specs.Early.{IsEndedEarly}
+use Rattle.jac_ending.specs.Ending.{PutsText}
+use Rattle.jac_ending.specs.Files.{Sight, HasApplication}
+use Rattle.jac_admin.specs.Upgrade.{IsUnmoved, IsKept}
+
+-- ---- the lines
+
+-- the labels that the viewer is shown, as the audit writes them
+abbrev pub shown_line : List ℕ → List ℕ
+shown_line labels = codes "shown " ++ (labels_text labels ++ codes "\n")
+
+-- `LABEL MODEL ID GROUP`
+abbrev pub reason_text : List Entity → Reason → List ℕ
+reason_text models r =
+    decimal r.label
+    ++ (codes " " ++ (name_in (slice_get models r.model)
+    ++ (codes " " ++ (decimal (record_of_label r.label) ++ (codes " " ++ decimal r.group)))))
+
+-- a label that isn't shown, and what stands against it
+abbrev pub why_line : List Entity → Explanation → List ℕ
+why_line models e =
+    reason_text models (as_reason e.hidden)
+    ++ (codes " because " ++ (reason_text models e.reason ++ codes "\n"))
+
+abbrev pub why_lines : List Entity → List Explanation → List ℕ
+why_lines models [] = []
+why_lines models (e ∷ es) = why_line models e ++ why_lines models es
+
+abbrev pub whys_text : List Entity → List ℕ → List Explanation → List ℕ
+whys_text models labels es = shown_line labels ++ why_lines models es
+
+-- the labels with the worlds of a state
+abbrev pub scene_with : Application → Option ℕ → State → List ℕ → PlainScene
+scene_with app viewer s labels = record {
+  app = app;
+  worlds = worlds_of s;
+  viewer = viewer;
+  labels = labels;
+}
+
+-- the text has first labels that are settled for the viewer, and then each other live label of
+-- the state, rising, with what stands against it
+pub record IsExplanation (app : Application) (viewer : Option ℕ) (s : State) (text : List ℕ)
+    : Type 0 where
+  pub labels : List ℕ
+  pub live : List ℕ
+  pub settled : IsSettled app (worlds_of s) viewer labels
+  pub ascending : IsAscending live
+  pub are_live : AreLive app (worlds_of s) live
+  pub is_text : text ≡ whys_text app.models labels (all_whys (scene_with app viewer s labels) live)
+
+-- ---- the steps
+
+-- who asks by a number: nobody, where it is no id of the viewer's model
+abbrev pub asker_of : Application → Option ℕ → Option ℕ
+asker_of app number = option_and_then (viewer_of app) number
+
+abbrev pub asker_in : Command → Application → Option ℕ
+asker_in (commands.Why explaining) app = asker_of app explaining.viewer
+asker_in command app = None
+
+-- the text of what the store tells was put, or the front of it
+pub record IsAnswered (app : Application) (viewer : Option ℕ) (out : Span SinkSeen) (k : KeeperSeen)
+    (result : Result (Unit {0}) Ending) (put : List ℕ) : Type 0 where
+  pub text : List ℕ
+  pub explains : IsTrue k.tells → IsExplanation app viewer k.state text
+  pub puts : PutsText out text result put
+
+-- an attached store was read: nothing was put where that failed or memory ran out, and else its text
+abbrev pub EndsExplained : Application → Option ℕ → Span SinkSeen → Span KeeperSeen
+    → Result (Unit {0}) Ending → List ℕ → Type 0
+EndsExplained app viewer out k result put =
+    IsAnswered app viewer out k.after result put ⊎ IsKept k result put
+
+-- a store was attached and read, which left it as it was
+pub record IsExplained (db : Option (List ℕ)) (app : Application) (viewer : Option ℕ)
+    (out : Span SinkSeen) (k : Span KeeperSeen) (result : Result (Unit {0}) Ending) (put : List ℕ)
+    : Type 0 where
+  pub opened : KeeperSeen
+  pub attached : AttachesAs db app (span k.before opened) (Ok tt)
+  pub left : IsLeft opened k.after
+  pub ends : EndsExplained app viewer out (span opened k.after) result put
+
+-- how the steps from the attaching on end
+abbrev pub EndsExplaining : Option (List ℕ) → Application → Option ℕ → Span SinkSeen
+    → Span KeeperSeen → Result (Unit {0}) Ending → List ℕ → Type 0
+EndsExplaining db app viewer out k result put =
+    IsUnmoved db app k result put ⊎ IsExplained db app viewer out k result put
+
+-- the application was read, and its store was asked; the audit was left alone
+pub record IsExplaining (seen : Sight) (command : Command) (result : Result (Unit {0}) Ending)
+    (out_bytes audit_bytes : List ℕ) : Type 0 where
+  pub app : Application
+  pub application : HasApplication seen command app
+  pub no_audit : audit_bytes ≡ []
+  pub unaimed : IsTrue seen.audit.after.tells → seen.audit.after.aims ≡ seen.audit.before.aims
+  pub ends :
+      EndsExplaining (db_of command) app (asker_in command app) seen.out seen.keeper result out_bytes
+
+-- what the steps of a `why` put, and why they ended
+abbrev pub EndsExplain : Sight → Command → Result (Unit {0}) Ending → List ℕ → List ℕ → Type 0
+EndsExplain seen command result out audit =
+    IsEndedEarly seen command result out audit ⊎ IsExplaining seen command result out audit

@@ -1,0 +1,142 @@
+-- How the steps of an upgrade end.
+use Rattle.std.specs.Prelude.{◌≡◌, ◌≤◌, ◌⊎◌, ℕ, Bool, IsTrue, Result, Ok, Err, Option, Some, None, List, [], ◌∷◌, ◌++◌, length, slice_get, codes, decimal}
+use Rattle.jac_io.specs.Faults.{Rose}
+use Rattle.jac_io.specs.Seen.{SinkSeen}
+use Rattle.jac_lang.specs.Lookup.{fields_at}
+use Rattle.jac_lang.specs.Syntax.{Application, Entity}
+use Rattle.jac_check.specs.Causes.{name_in}
+use Rattle.jac_rows.specs.Project.{project_at}
+use Rattle.jac_plain.specs.Models.{shapes_of}
+use Rattle.jac_plain.specs.Records.{name_in as field_name_in}
+use Rattle.jac_keep.specs.KeeperSeen.{KeeperSeen, IsLeft}
+use Rattle.jac_keep.specs.Schema.{IsFit}
+use Rattle.jac_opening.specs.Application.{schema_text}
+use Rattle.jac_words.specs.declared.words.Command.{Command}
+use Rattle.jac_words.specs.Commands.{db_of}
+use Rattle.jac_serving.specs.Keeping.{IsStill}
+use Rattle.jac_serving.specs.Outside.{Span, span}
+use Rattle.jac_upgrade.specs.Changed.{AreIdsOf}
+use Rattle.jac_upgrade.specs.Extends.{models_lack}
+use Rattle.jac_upgrade.specs.Upgraded.{upgraded}
+use Rattle.jac_upgrade.specs.declared.fault.UpgradeFault.{UpgradeFault}
+use Rattle.jac_upgrade.specs.declared.fault.UpgradeFault.TheVariants as lacks
+use Rattle.jac_ending.specs.declared.ending.Ending.{Ending}
+use Rattle.jac_ending.specs.declared.ending.Ending.TheVariants as endings
+use Rattle.jac_ending.specs.Attached.{AttachesAs}
+use Rattle.jac_ending.specs.Early.{IsEndedEarly}
+use Rattle.jac_ending.specs.Ending.{PutsText}
+use Rattle.jac_ending.specs.Files.{Sight, HasApplication, HasNext}
+
+-- ---- the lines
+
+-- why the second application doesn't extend the first: `model NAME`, `field NAME FIELD` or
+-- `group NAME G` of the first
+abbrev pub lack_line : List Entity → UpgradeFault → List ℕ
+lack_line models (lacks.Model m) =
+    codes "upgrade: model " ++ (name_in (slice_get models m) ++ 10 ∷ [])
+lack_line models (lacks.Field m f) =
+    codes "upgrade: field "
+    ++ (name_in (slice_get models m)
+    ++ (codes " " ++ (field_name_in (slice_get (fields_at models m) f) ++ 10 ∷ [])))
+lack_line models (lacks.Group m g) =
+    codes "upgrade: group "
+    ++ (name_in (slice_get models m) ++ (codes " " ++ (decimal g ++ 10 ∷ [])))
+
+-- how many records were brought to the second application
+abbrev pub upgraded_line : ℕ → List ℕ
+upgraded_line n = codes "upgraded " ++ (decimal n ++ codes " records\n")
+
+-- ---- the steps
+
+-- the second application doesn't extend the first: the first part that it lacks, or has
+-- otherwise, is told, or memory ran out; the store was not called
+pub record IsLacking (old new : Application) (k : Span KeeperSeen)
+    (result : Result (Unit {0}) Ending) (put : List ℕ) : Type 0 where
+  pub fault : UpgradeFault
+  pub lacks : models_lack 0 old.models new.models ≡ Some fault
+  pub told :
+      (result ≡ Err (endings.UpgradeRefused (lack_line old.models fault)))
+      ⊎ (result ≡ Err endings.Memory)
+  pub no_out : put ≡ []
+  pub still : IsStill k
+
+-- the store was not attached for the first application, and is as it was
+pub record IsUnmoved (db : Option (List ℕ)) (old : Application) (k : Span KeeperSeen)
+    (result : Result (Unit {0}) Ending) (put : List ℕ) : Type 0 where
+  pub ending : Ending
+  pub ended : result ≡ Err ending
+  pub attaches : AttachesAs db old k (Err ending)
+  pub no_out : put ≡ []
+
+-- so many records were brought to the second application, under which they are stored from now
+-- on: what the store keeps shows under every assignment the upgraded tables, and is good for that
+-- application
+pub record IsUpgraded (old new : Application) (k : Span KeeperSeen) (count : ℕ) : Type 0 where
+  pub later : k.before.faults ≤ k.after.faults
+  pub store : k.after.store ≡ record k.before.store { schema = Some (schema_text new) }
+  pub told : IsTrue k.after.tells → IsTrue k.before.tells
+  pub worlds : IsTrue k.after.tells → (w : ℕ → Bool) →
+      project_at w k.after.state ≡ upgraded w old.models new.models (project_at w k.before.state)
+  pub fit : IsTrue k.after.tells → IsFit (shapes_of new) k.after.state
+  pub counted : IsTrue k.after.tells →
+      (ids : List ℕ) × AreIdsOf k.before.state ids × (count ≡ length ids)
+
+-- they were, and how many there are was put, or the front of it
+pub record IsReported (old new : Application) (out : Span SinkSeen) (k : Span KeeperSeen)
+    (result : Result (Unit {0}) Ending) (put : List ℕ) : Type 0 where
+  pub count : ℕ
+  pub upgraded : IsUpgraded old new k count
+  pub puts : PutsText out (upgraded_line count) result put
+
+-- a read of the store or its change failed, or memory ran out: its rows, its number and its schema
+-- are as they were
+pub record IsKept (k : Span KeeperSeen) (result : Result (Unit {0}) Ending) (put : List ℕ)
+    : Type 0 where
+  pub left : IsLeft k.before k.after
+  pub ended :
+      ((result ≡ Err endings.StoreFault) × Rose k.before.faults k.after.faults)
+      ⊎ (result ≡ Err endings.Memory)
+  pub no_out : put ≡ []
+
+-- an attached store was brought to the second application, all or nothing
+abbrev pub EndsReshaping : Application → Application → Span SinkSeen → Span KeeperSeen
+    → Result (Unit {0}) Ending → List ℕ → Type 0
+EndsReshaping old new out k result put =
+    IsReported old new out k result put ⊎ IsKept k result put
+
+-- a store was attached for the first application, and then brought to the second
+pub record IsMoved (db : Option (List ℕ)) (old new : Application) (out : Span SinkSeen)
+    (k : Span KeeperSeen) (result : Result (Unit {0}) Ending) (put : List ℕ) : Type 0 where
+  pub opened : KeeperSeen
+  pub attached : AttachesAs db old (span k.before opened) (Ok tt)
+  pub ends : EndsReshaping old new out (span opened k.after) result put
+
+-- how the steps from the attaching on end
+abbrev pub EndsMoving : Option (List ℕ) → Application → Application → Span SinkSeen
+    → Span KeeperSeen → Result (Unit {0}) Ending → List ℕ → Type 0
+EndsMoving db old new out k result put =
+    IsUnmoved db old k result put ⊎ IsMoved db old new out k result put
+
+-- how the steps behind both files end: the store is attached where the second application extends
+-- the first
+abbrev pub EndsUpgrading : Option (List ℕ) → Application → Application → Span SinkSeen
+    → Span KeeperSeen → Result (Unit {0}) Ending → List ℕ → Type 0
+EndsUpgrading db old new out k result put =
+    IsLacking old new k result put
+    ⊎ ((models_lack 0 old.models new.models ≡ None) × EndsMoving db old new out k result put)
+
+-- both applications were read; the audit was left alone
+pub record IsUpgrading (seen : Sight) (command : Command) (result : Result (Unit {0}) Ending)
+    (out_bytes audit_bytes : List ℕ) : Type 0 where
+  pub old : Application
+  pub new : Application
+  pub application : HasApplication seen command old
+  pub next : HasNext seen command new
+  pub no_audit : audit_bytes ≡ []
+  pub unaimed : IsTrue seen.audit.after.tells → seen.audit.after.aims ≡ seen.audit.before.aims
+  pub ends : EndsUpgrading (db_of command) old new seen.out seen.keeper result out_bytes
+
+-- what the steps of an upgrade put, and why they ended
+abbrev pub EndsUpgrade : Sight → Command → Result (Unit {0}) Ending → List ℕ → List ℕ → Type 0
+EndsUpgrade seen command result out audit =
+    IsEndedEarly seen command result out audit ⊎ IsUpgrading seen command result out audit

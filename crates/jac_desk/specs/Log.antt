@@ -1,0 +1,88 @@
+-- What a run did: an entry for each request that was answered.
+use Rattle.std.specs.Prelude.{◌≡◌, ℕ, ◌+◌, ◌==◌, ◌&&◌, ◌⊎◌, Bool, false, is_none, if◌then◌else◌, None, List, [], ◌∷◌, ⊤}
+use Rattle.jac_lang.specs.Syntax.{Application}
+use Rattle.jac_rows.specs.Good.{IsGood}
+use Rattle.jac_rows.specs.Project.{project_at}
+use Rattle.jac_rows.specs.declared.plain.PlainState.{PlainState}
+use Rattle.jac_rows.specs.declared.state.State.{State}
+use Rattle.jac_plain.specs.Models.{shapes_of}
+use Rattle.jac_plain.specs.Requests.{Worlds}
+use Rattle.jac_engine.specs.Answers.{IsAnswerTo, HasForm, left}
+use Rattle.jac_replies.specs.Refused.{refusal}
+use Rattle.jac_engine.specs.Prepared.{worlds_of}
+use Rattle.jac_engine.specs.Start.{IsStart}
+use Rattle.jac_replies.specs.declared.answer.Answer.{Answer}
+use Rattle.jac_replies.specs.declared.answer.Ask.{Ask}
+use Rattle.jac_events.specs.declared.event.Event.{Event}
+use Rattle.jac_http.specs.Replies.{body_of}
+use Rattle.jac_hub.specs.Hearing.{whole, refused, broken, Hearing}
+use Rattle.jac_route.specs.declared.sessions.Session.{Session}
+use Rattle.jac_serving.specs.Answering.{Subject, Entry, IsHeardBy, hearing_by}
+use Rattle.jac_desk.specs.Asked.{ask_in, request_in}
+
+-- how an application's requests are understood
+abbrev pub hearing : Application → List Session → Hearing Ask Answer
+hearing app sessions = hearing_by (request_in app sessions) (ask_in app)
+
+-- the answer to what is refused
+abbrev pub refused_with : ℕ → Answer
+refused_with status = record { status = status; location = None; allow = None; body = body_of status [] false; shown = None }
+
+-- what stands in for an answer where memory ran out or the keeper failed
+abbrev pub HasFailed : Answer → Type 0
+HasFailed answer = (answer ≡ refusal 500 None) ⊎ (answer ≡ refusal 503 None)
+
+-- the subject is answered in these worlds, or it was met by want of memory or a fault of the keeper, which is asked
+-- for requests alone
+abbrev pub IsAnswer : Application → Worlds → Subject → Answer → Type 0
+IsAnswer app worlds (whole ask closes) answer = HasFailed answer ⊎ IsAnswerTo app worlds ask answer
+IsAnswer app worlds (refused status) answer = (answer ≡ refusal 500 None) ⊎ (answer ≡ refused_with status)
+IsAnswer app worlds broken answer = answer ≡ refusal 500 None
+
+-- where nothing is told of worlds: each refusal has its cause, and each page is one that a run made
+abbrev pub IsFormed : Application → Subject → Answer → Type 0
+IsFormed app (whole ask closes) answer = HasFailed answer ⊎ HasForm app ask answer
+IsFormed app (refused status) answer = (answer ≡ refusal 500 None) ⊎ (answer ≡ refused_with status)
+IsFormed app broken answer = answer ≡ refusal 500 None
+
+abbrev pub left_of : (ℕ → Bool) → Application → Subject → Answer → PlainState → PlainState
+left_of w app (whole ask closes) answer t = left w app ask answer t
+left_of w app (refused status) answer t = t
+left_of w app broken answer t = t
+
+-- what an entry leaves of the world of an assignment
+abbrev pub after_entry : (ℕ → Bool) → Application → Entry → PlainState → PlainState
+after_entry w app entry t = left_of w app entry.subject entry.answer t
+
+-- what a log leaves of it
+abbrev pub after_log : (ℕ → Bool) → Application → List Entry → PlainState → PlainState
+after_log w app [] t = t
+after_log w app (entry ∷ log) t = after_log w app log (after_entry w app entry t)
+
+-- each entry, in the worlds that the entries before it leave
+abbrev pub AreAnswered : Application → Worlds → List Entry → Type 0
+AreAnswered app worlds [] = ⊤
+AreAnswered app worlds (entry ∷ log) =
+    IsAnswer app worlds entry.subject entry.answer × AreAnswered app (λ w. after_entry w app entry (worlds w)) log
+
+-- the log answers what the events bring, each in the worlds before it; and under every assignment the state at
+-- the end shows the world that the log leaves of what the start shows; a good start stays good
+pub record Serves (early : Bool) (app : Application) (sessions : List Session) (start : State) (events : List Event) (log : List Entry) (finish : State) : Type 0 where
+  pub subjects : IsHeardBy early (hearing app sessions) events log
+  pub answered : AreAnswered app (worlds_of start) log
+  pub worlds : (w : ℕ → Bool) → project_at w finish ≡ after_log w app log (project_at w start)
+  pub goes_on : IsStart app finish
+  pub good : IsGood (shapes_of app) start → IsGood (shapes_of app) finish
+
+abbrev pub AreFormed : Application → List Entry → Type 0
+AreFormed app [] = ⊤
+AreFormed app (entry ∷ log) = IsFormed app entry.subject entry.answer × AreFormed app log
+
+-- the answer stands for a fault of the keeper: 503 without a page
+abbrev pub is_fault : Answer → Bool
+is_fault answer = is_none answer.shown && answer.status == 503
+
+-- how many entries do
+abbrev pub faults_in : List Entry → ℕ
+faults_in [] = 0
+faults_in (entry ∷ log) = (if is_fault entry.answer then 1 else 0) + faults_in log

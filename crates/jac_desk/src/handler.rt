@@ -1,0 +1,256 @@
+//! A desk: an application over a keeper, with what is counted and allocated as it answers.
+ghost use Rattle.std.specs.Prelude.{◌≡◌, ◌<◌, [], false, true, IfOk, IfSome, IsTrue, OnErr, None};
+ghost use Rattle.jac_lang.specs.Mirror.{application_of};
+ghost use Rattle.jac_keep.specs.Cause.{HasCause};
+ghost use Rattle.jac_http.specs.Requests.{IsTaken};
+ghost use Rattle.jac_http.specs.Replies.{reply_bytes};
+ghost use Rattle.jac_hub.specs.declared.handler.Heard.TheVariants.{Whole as whole_heard};
+ghost use Rattle.jac_hub.specs.declared.hub.Turn.TheVariants.{Idle};
+ghost use Rattle.jac_hub.specs.declared.sent.Sent.TheVariants.{Made as made_sent};
+ghost use Rattle.jac_hub.specs.Hub.{seen, Nexts, left};
+ghost use Rattle.jac_hub.specs.Refusals.{is_refusal};
+ghost use Rattle.jac_replies.specs.Spelled.{spelled, audit_rest};
+ghost use Rattle.jac_serving.specs.Desk.{MayServe, Keeps, kept};
+ghost use Rattle.jac_serving.specs.Outside.{span};
+ghost use Rattle.jac_serving.specs.Serve.{handled};
+ghost use Rattle.jac_desk.specs.Answered.{IsAnswerMade, IsRefusalSent, AreSettled, answering, answering_of, desk_of};
+ghost use Rattle.jac_desk.specs.Asked.{ask_in, request_in};
+ghost use Rattle.jac_desk.specs.declared.answer.Via.TheVariants as ways;
+
+use crate::answer::{Lines, Via, answer_ask};
+use crate::asks::{ask_in, request_in, request_viewer, viewer_in};
+use jac_http::{Fixed, Request};
+use jac_hub::{Handler, Heard, Hub, HubOut, Sent};
+use jac_keep::{Keeper, Stop};
+use jac_opening::Service;
+use jac_replies::{Spelling, audit_rest, fixed_of, is_head, refusal_reply, text_bytes};
+use jac_route::Sessions;
+use jac_serving::{Asked, Desk};
+use jac_sittings::Sittings;
+use jac_value::{Bytes, Memory, Txt};
+use jac_world::Steps;
+use std::alloc::Global;
+use std::sync::ledger::Ledger;
+
+/// An application over a keeper. It is made once a command, and lent down.
+pub struct Answerer<'k, 's, 'e, 'a, 'b, 't, K: Keeper, L: Ledger, M: Ledger> {
+    pub keeper: &'k mut K,
+    /// The facets that were split.
+    pub splits: &'s mut Steps<L>,
+    /// The policies that were asked.
+    pub evaluations: &'e mut Steps<M>,
+    pub alloc: Global,
+    /// How what is sent on a connection is spelled.
+    pub spelling: Spelling,
+    pub service: &'a Service,
+    pub sessions: &'b Sessions,
+    /// What was settled for those who looked, since something was stored.
+    pub sittings: &'t mut Sittings,
+}
+
+impl<K: Keeper, L: Ledger, M: Ledger> Drop for Answerer<'_, '_, '_, '_, '_, '_, K, L, M> {
+    fn drop(self)
+        ensures { self.exit.0.now ≡ self.entry.keeper.now }
+    {
+        let Answerer {
+            keeper: _,
+            splits: _,
+            evaluations: _,
+            alloc: _,
+            spelling: _,
+            service: _,
+            sessions: _,
+            sittings: _,
+        } = self;
+    }
+}
+
+impl<K: Keeper, L: Ledger, M: Ledger> Handler for Answerer<'_, '_, '_, '_, '_, '_, K, L, M> {
+    ghost use Rattle.std.specs.Prelude.{◌≡◌, IsTrue};
+    ghost use Rattle.jac_lang.specs.Mirror.{application_of};
+    ghost use Rattle.jac_serving.specs.Desk.{MayServe, Keeps};
+    ghost use Rattle.jac_serving.specs.Serve.{handled};
+    ghost use Rattle.jac_desk.specs.Answered.{answering, answering_of, desk_of};
+
+    ghost ready = { λ a. MayServe answering (desk_of (application_of a.service.now) a.sessions.now a.keeper.ghost_name (K.seen a.keeper.now) a.sittings.now) };
+
+    ghost handles = { λ before conn heard sent after. Keeps answering (desk_of (application_of before.service.now) before.sessions.now before.keeper.ghost_name (K.seen before.keeper.now) before.sittings.now) (desk_of (application_of after.service.now) after.sessions.now after.keeper.ghost_name (K.seen after.keeper.now) after.sittings.now)
+        × handled before.spelling (answering_of (application_of before.service.now) before.sessions.now) (K.seen before.keeper.now) conn heard sent (K.seen after.keeper.now) };
+
+    fn handle(&mut self, conn: u32, heard: &Heard) -> Sent {
+        match heard {
+            Heard::Whole(request) => answer_request(self, conn, request),
+            Heard::Refused(status) => answer_refused(self.alloc, self.spelling, conn, *status),
+        }
+    }
+}
+
+impl<K: Keeper, L: Ledger, M: Ledger> Desk for Answerer<'_, '_, '_, '_, '_, '_, K, L, M> {
+    ghost use Rattle.jac_lang.specs.Mirror.{application_of};
+    ghost use Rattle.jac_desk.specs.Answered.{DeskOf, answering, desk_of};
+
+    ghost Of = { DeskOf };
+
+    ghost answering = { answering };
+
+    ghost seen = { λ a. desk_of (application_of a.service.now) a.sessions.now a.keeper.ghost_name (K.seen a.keeper.now) a.sittings.now };
+
+    fn alloc(&self) -> Global {
+        self.alloc
+    }
+
+    fn lawful(&self) {}
+
+    fn next_out(&mut self, spelling: Spelling, hub: &mut Hub) -> Option<HubOut> {
+        self.spelling = spelling;
+        ask_hub(self, hub)
+    }
+
+    fn ask(
+        &mut self,
+        viewer: Option<u128>,
+        method: &Txt,
+        path: &Txt,
+        query: &Bytes,
+        body: &Bytes,
+    ) -> Asked {
+        match ask_lines(self, viewer, method, path, query, body) {
+            Ok(lines) => Asked::Answered {
+                reply: lines.reply,
+                audit: lines.audit,
+            },
+            Err(stop) => Asked::Unanswered {
+                stop,
+                viewer: viewer_in(self.service.app(), viewer),
+            },
+        }
+    }
+}
+
+// The next thing that a hub gives, which is spelled as the desk says.
+fn ask_hub<K: Keeper, L: Ledger, M: Ledger>(
+    desk: &mut Answerer<'_, '_, '_, '_, '_, '_, K, L, M>,
+    hub: &mut Hub,
+) -> Option<HubOut>
+    requires { MayServe answering (desk_of (application_of desk.old.service.now) desk.old.sessions.now desk.old.keeper.ghost_name (K.seen desk.old.keeper.now) desk.old.sittings.now) }
+    ensures next { Nexts IsTaken (handled desk.old.spelling (answering_of (application_of desk.old.service.now) desk.old.sessions.now)) (seen hub.old) (seen hub.old).turn result (seen hub.new) (K.seen desk.old.keeper.now) (K.seen desk.new.keeper.now) }
+    ensures idle { result ≡ None → (seen hub.new).turn ≡ Idle }
+    ensures nearer { IfSome result (λ out. left (seen hub.new) < left (seen hub.old)) }
+    ensures keeps { Keeps answering (desk_of (application_of desk.old.service.now) desk.old.sessions.now desk.old.keeper.ghost_name (K.seen desk.old.keeper.now) desk.old.sittings.now) (desk_of (application_of desk.new.service.now) desk.new.sessions.now desk.new.keeper.ghost_name (K.seen desk.new.keeper.now) desk.new.sittings.now) }
+{
+    let alloc = desk.alloc;
+    hub.next(alloc, desk)
+}
+
+// Answers the request of an `ask` line.
+fn ask_lines<K: Keeper, L: Ledger, M: Ledger>(
+    desk: &mut Answerer<'_, '_, '_, '_, '_, '_, K, L, M>,
+    viewer: Option<u128>,
+    method: &Txt,
+    path: &Txt,
+    query: &Bytes,
+    body: &Bytes,
+) -> Result<Lines, Stop>
+    requires { MayServe answering (desk_of (application_of desk.old.service.now) desk.old.sessions.now desk.old.keeper.ghost_name (K.seen desk.old.keeper.now) desk.old.sittings.now) }
+    ensures made { IfOk result (λ lines. IsAnswerMade (application_of desk.old.service.now) (span (K.seen desk.old.keeper.now) (K.seen desk.new.keeper.now)) ways.Line
+        (ask_in (application_of desk.old.service.now) viewer method.now path.now query.now body.now) lines.reply lines.audit) }
+    ensures refused { IsTrue (K.seen desk.new.keeper.now).tells → OnErr result ((K.seen desk.new.keeper.now).state ≡ (K.seen desk.old.keeper.now).state) }
+    ensures told { IsTrue (K.seen desk.new.keeper.now).tells → IsTrue (K.seen desk.old.keeper.now).tells }
+    ensures cause { HasCause (K.seen desk.old.keeper.now).faults (K.seen desk.new.keeper.now).faults result }
+    ensures same_reference { desk.new.keeper.ghost_name ≡ desk.old.keeper.ghost_name }
+    ensures same_service { desk.new.service ≡ desk.old.service }
+    ensures same_sessions { desk.new.sessions ≡ desk.old.sessions }
+    ensures attached { (K.seen desk.new.keeper.now).store ≡ (K.seen desk.old.keeper.now).store }
+    ensures settled { AreSettled (application_of desk.old.service.now) (K.seen desk.new.keeper.now) desk.new.sittings.now }
+{
+    let ask = ask_in(
+        desk.alloc,
+        desk.service.app(),
+        viewer,
+        method,
+        path,
+        query,
+        body,
+    )?;
+    answer_ask(desk, Via::Line, &ask)
+}
+
+fn request_lines<K: Keeper, L: Ledger, M: Ledger>(
+    desk: &mut Answerer<'_, '_, '_, '_, '_, '_, K, L, M>,
+    conn: u32,
+    request: &Request,
+) -> Result<Lines, Stop>
+    requires { MayServe answering (desk_of (application_of desk.old.service.now) desk.old.sessions.now desk.old.keeper.ghost_name (K.seen desk.old.keeper.now) desk.old.sittings.now) }
+    ensures made { IfOk result (λ lines. IsAnswerMade (application_of desk.old.service.now) (span (K.seen desk.old.keeper.now) (K.seen desk.new.keeper.now)) (ways.Connection conn request.now.close desk.old.spelling)
+        (request_in (application_of desk.old.service.now) desk.old.sessions.now request.now) lines.reply lines.audit) }
+    ensures refused { IsTrue (K.seen desk.new.keeper.now).tells → OnErr result ((K.seen desk.new.keeper.now).state ≡ (K.seen desk.old.keeper.now).state) }
+    ensures told { IsTrue (K.seen desk.new.keeper.now).tells → IsTrue (K.seen desk.old.keeper.now).tells }
+    ensures cause { HasCause (K.seen desk.old.keeper.now).faults (K.seen desk.new.keeper.now).faults result }
+    ensures same_reference { desk.new.keeper.ghost_name ≡ desk.old.keeper.ghost_name }
+    ensures same_service { desk.new.service ≡ desk.old.service }
+    ensures same_sessions { desk.new.sessions ≡ desk.old.sessions }
+    ensures attached { (K.seen desk.new.keeper.now).store ≡ (K.seen desk.old.keeper.now).store }
+    ensures settled { AreSettled (application_of desk.old.service.now) (K.seen desk.new.keeper.now) desk.new.sittings.now }
+{
+    let ask = request_in(desk.alloc, desk.service.app(), desk.sessions, request)?;
+    let via = Via::Connection {
+        conn,
+        close: request.close,
+        spelling: desk.spelling,
+    };
+    answer_ask(desk, via, &ask)
+}
+
+fn answer_request<K: Keeper, L: Ledger, M: Ledger>(
+    desk: &mut Answerer<'_, '_, '_, '_, '_, '_, K, L, M>,
+    conn: u32,
+    request: &Request,
+) -> Sent
+    requires { MayServe answering (desk_of (application_of desk.old.service.now) desk.old.sessions.now desk.old.keeper.ghost_name (K.seen desk.old.keeper.now) desk.old.sittings.now) }
+    ensures handled { handled desk.old.spelling (answering_of (application_of desk.old.service.now) desk.old.sessions.now) (K.seen desk.old.keeper.now) conn (whole_heard request.now) result (K.seen desk.new.keeper.now) }
+    ensures keeps { Keeps answering (desk_of (application_of desk.old.service.now) desk.old.sessions.now desk.old.keeper.ghost_name (K.seen desk.old.keeper.now) desk.old.sittings.now) (desk_of (application_of desk.new.service.now) desk.new.sessions.now desk.new.keeper.ghost_name (K.seen desk.new.keeper.now) desk.new.sittings.now) }
+{
+    match request_lines(desk, conn, request) {
+        Ok(lines) => made(lines),
+        Err(stop) => Sent::Still {
+            status: fixed_of(stop),
+            head: is_head(request.method.as_bytes()),
+            viewer: request_viewer(desk.service.app(), desk.sessions, request),
+        },
+    }
+}
+
+fn made(lines: Lines) -> Sent
+    ensures { result ≡ made_sent lines.reply lines.audit false }
+{
+    Sent::Made {
+        line: lines.reply,
+        audit: text_bytes(lines.audit),
+        close: false,
+    }
+}
+
+// What is sent for what is refused.
+fn answer_refused(alloc: Global, spelling: Spelling, conn: u32, status: u16) -> Sent
+    requires refusal { is_refusal status ≡ true }
+    ensures { IsRefusalSent spelling conn status result }
+{
+    match refused_lines(alloc, spelling, conn, status) {
+        Ok(lines) => made(lines),
+        Err(Memory) => Sent::Still {
+            status: Fixed::Memory500,
+            head: false,
+            viewer: None,
+        },
+    }
+}
+
+fn refused_lines(alloc: Global, spelling: Spelling, conn: u32, status: u16) -> Result<Lines, Memory>
+    requires refusal { is_refusal status ≡ true }
+    ensures reply { IfOk result (λ lines. lines.reply ≡ spelled spelling conn (reply_bytes status None None [] false false true)) }
+    ensures audit { IfOk result (λ lines. lines.audit ≡ audit_rest status None None) }
+{
+    let reply = refusal_reply(alloc, spelling, conn, status)?;
+    let audit = audit_rest(alloc, status, None, &None)?;
+    Ok(Lines { reply, audit })
+}

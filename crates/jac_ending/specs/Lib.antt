@@ -1,0 +1,5 @@
+pub mod Status
+pub mod Ending
+pub mod Files
+pub mod Attached
+pub mod Early

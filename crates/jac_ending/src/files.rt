@@ -1,0 +1,114 @@
+ghost use Rattle.std.specs.Prelude.{◌≡◌, ◌⊎◌, ◌≤◌, length, IsTrue, IfOk, IfErr, Some, Ok};
+ghost use Rattle.std.specs.Option.{option_copied};
+ghost use Rattle.jac_io.specs.Seen.{FilesLast};
+ghost use Rattle.jac_lang.specs.Mirror.{application_of};
+ghost use Rattle.jac_route.specs.Sessions.{sessions_in};
+ghost use Rattle.jac_opening.specs.Application.{IsApplication};
+ghost use Rattle.jac_opening.specs.Refusal.{refusal_text};
+ghost use Rattle.jac_serving.specs.Outside.{span};
+ghost use Rattle.jac_words.specs.Commands.{limit_of};
+ghost use Rattle.jac_ending.specs.Files.{HasSessions, IsUnread, IsUnopened, IsNextUnopened, IsUnlisted, IsSessionless, of_next};
+
+use crate::ending::{Ending, limit};
+use jac_io::{FileFault, Files};
+use jac_opening::{Refusal, Service, read_application, refusal_line};
+use jac_route::{SessionFault, Sessions, sessions_of};
+use jac_value::{Bytes, Memory, Txt};
+use jac_words::Role;
+use std::alloc::Global;
+
+pub fn read_file<F: Files>(
+    alloc: Global,
+    files: &mut F,
+    name: &Txt,
+    role: Role,
+) -> Result<Bytes, Ending>
+    ensures lasts { FilesLast (F.seen files.old) (F.seen files.new) }
+    ensures short { IfOk result (λ bytes. length bytes ≤ limit_of role) }
+    ensures told { IsTrue (F.seen files.new).tells → IfOk result (λ bytes. (F.seen files.old).file name.now ≡ Some bytes) }
+    ensures unread { IfErr result (IsUnread (span (F.seen files.old) (F.seen files.new)) name.now role) }
+{
+    match files.read_all(alloc, name, limit(role)) {
+        Ok(bytes) => Ok(bytes),
+        Err(FileFault::Failed) => Err(Ending::ReadFault(role)),
+        Err(FileFault::TooLong) => Err(Ending::TooLong(role)),
+        Err(FileFault::Memory) => Err(Ending::Memory),
+    }
+}
+
+pub fn open_app(alloc: Global, bytes: &[u8]) -> Result<Service, Ending>
+    requires { length bytes.now ≤ limit_of Role.App }
+    ensures opened { IfOk result (λ service. IsApplication bytes.now (application_of service)) }
+    ensures few { IfOk result (λ service. length (application_of service).models ≤ 64) }
+    ensures unopened { IfErr result (λ ending. IsUnopened bytes.now ending) }
+{
+    match read_application(alloc, bytes) {
+        Ok(service) => {
+            let _app = service.app();
+            Ok(service)
+        }
+        Err(refusal) => Err(refused(alloc, &refusal)),
+    }
+}
+
+/// The same of the application that a store is to be brought to.
+pub fn open_next(alloc: Global, bytes: &[u8]) -> Result<Service, Ending>
+    requires { length bytes.now ≤ limit_of Role.New }
+    ensures opened { IfOk result (λ service. IsApplication bytes.now (application_of service)) }
+    ensures few { IfOk result (λ service. length (application_of service).models ≤ 64) }
+    ensures unopened { IfErr result (λ ending. IsNextUnopened bytes.now ending) }
+{
+    match open_app(alloc, bytes) {
+        Ok(service) => Ok(service),
+        Err(ending) => Err(of_next(ending)),
+    }
+}
+
+fn of_next(ending: Ending) -> Ending
+    ensures { result ≡ of_next ending }
+{
+    match ending {
+        Ending::AppRefused(line) => Ending::NewRefused(line),
+        other => other,
+    }
+}
+
+fn refused(alloc: Global, refusal: &Refusal) -> Ending
+    ensures { ((¬ (refusal.now ≡ Refusal.Memory)) × (result ≡ Ending.AppRefused (refusal_text refusal.now))) ⊎ (result ≡ Ending.Memory) }
+{
+    match refusal_line(alloc, refusal) {
+        Ok(line) => Ending::AppRefused(line),
+        Err(Memory) => Ending::Memory,
+    }
+}
+
+// The sessions of the file of this name; without a name there are none.
+pub fn read_sessions<F: Files>(
+    alloc: Global,
+    files: &mut F,
+    name: Option<&Txt>,
+) -> Result<Sessions, Ending>
+    ensures lasts { FilesLast (F.seen files.old) (F.seen files.new) }
+    ensures had { IfOk result (HasSessions (span (F.seen files.old) (F.seen files.new)) (option_copied name.entry)) }
+    ensures sessionless { IfErr result (IsSessionless (span (F.seen files.old) (F.seen files.new)) (option_copied name.entry)) }
+{
+    let name = match name {
+        None => return Ok(Sessions::empty(alloc)),
+        Some(name) => name,
+    };
+    match read_file(alloc, files, name, Role::Sessions) {
+        Ok(bytes) => list_sessions(alloc, bytes.as_slice()),
+        Err(ending) => Err(ending),
+    }
+}
+
+fn list_sessions(alloc: Global, bytes: &[u8]) -> Result<Sessions, Ending>
+    ensures listed { IfOk result (λ sessions. sessions_in bytes.now ≡ Ok sessions) }
+    ensures unlisted { IfErr result (IsUnlisted bytes.now) }
+{
+    match sessions_of(alloc, bytes) {
+        Ok(sessions) => Ok(sessions),
+        Err(SessionFault::BadLine(line)) => Err(Ending::SessionsRefused(line)),
+        Err(SessionFault::Memory) => Err(Ending::Memory),
+    }
+}

@@ -1,0 +1,14 @@
+//! How a command ends, the files that it reads before, and the store that it attaches.
+#![tactic(auto)]
+
+mod attaching;
+mod ending;
+mod files;
+mod names;
+mod status;
+
+pub use attaching::attach;
+pub use ending::{Ending, put_fault, status_of};
+pub use files::{open_app, open_next, read_file, read_sessions};
+pub use names::{copy_name, named};
+pub use status::Status;
