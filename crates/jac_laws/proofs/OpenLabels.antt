@@ -20,7 +20,7 @@ use Rattle.jac_engine.specs.Prepared.{worlds_of}
 use Rattle.jac_replies.specs.declared.answer.Answer.{Answer}
 use Rattle.jac_replies.specs.declared.answer.Ask.{Ask}
 use Rattle.jac_serving.specs.Answering.{Subject, Entry, is_failure}
-use Rattle.jac_app.specs.Log.{IsAnswer, AreAnswered, hearing, left_of}
+use Rattle.jac_desk.specs.Log.{IsAnswer, AreAnswered, hearing, left_of}
 use Rattle.jac_laws.specs.TwoRuns.{OneRun, IsServed, NoneFailed, AreSameWhereShown, IsSameWhereShown, IsSameAsked}
 use Rattle.jac_laws.specs.OpenRuns.{is_stored_page, OnlyReads, StartAlike, IsShownSame, AreShownSame}
 use Rattle.jac_laws.proofs.SameSubjects.{AskedAlike}

@@ -16,7 +16,7 @@ use Rattle.jac_replies.specs.declared.answer.Answer.{Answer}
 use Rattle.jac_replies.specs.declared.answer.Ask.{Ask}
 use Rattle.jac_hub.specs.Hearing.{whole, refused, broken}
 use Rattle.jac_serving.specs.Answering.{Subject, is_failure}
-use Rattle.jac_app.specs.Log.{HasFailed, IsAnswer, left_of, refused_with}
+use Rattle.jac_desk.specs.Log.{HasFailed, IsAnswer, left_of, refused_with}
 use Rattle.jac_laws.proofs.SameSubjects.{IsLegible}
 
 -- the interpreter's page under some labels

@@ -14,7 +14,7 @@ use Rattle.jac_hub.specs.Heard.{no_connections}
 use Rattle.jac_route.specs.declared.sessions.Session.{Session}
 use Rattle.jac_serving.specs.Answering.{Subject, Entry, is_failure, IsHeardBy}
 use Rattle.jac_serving.specs.Log.{reply_on}
-use Rattle.jac_app.specs.Log.{hearing, IsAnswer, left_of, after_entry, after_log, AreAnswered}
+use Rattle.jac_desk.specs.Log.{hearing, IsAnswer, left_of, after_entry, after_log, AreAnswered}
 use Rattle.jac_laws.specs.TwoRuns.{OneRun, IsServed, LookSame, NoneFailed, NeitherFailed, IsSameAsked, HaveSameSubjects, IsSameStep, AgreeAfterEach, EndAlike, IsSameReply, IsSameWhereShown, AreSameWhereShown, seen_by, labels_of, LookSameFor, AreSeenAlike}
 use Rattle.jac_laws.proofs.SameSubjects.{Stands, AskedAlike, HeardFrom, asked_alike}
 use Rattle.jac_laws.proofs.SameAnswers.{LookAlike, legible, left_same, look_same}
@@ -184,7 +184,7 @@ module _ (app : Application) (sessions : List Session) (events : List Event) (on
   pages_agree =
       look_from one.start two.start one.early two.early app sessions (worlds_of one.start) (worlds_of two.start) one.log two.log (λ w same. same) asks served.answered served'.answered
 
-  subjects_agree : NoneFailed one.log → NoneFailed two.log → HaveSameSubjects one.early two.early one.log two.log
+  pub subjects_agree : NoneFailed one.log → NoneFailed two.log → HaveSameSubjects one.early two.early one.log two.log
   subjects_agree none none' =
       subjects_from one.early two.early app sessions (worlds_of one.start) (worlds_of two.start) one.log two.log asks served.answered served'.answered none none'
 

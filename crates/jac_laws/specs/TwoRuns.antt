@@ -10,7 +10,7 @@ use Rattle.jac_hub.specs.Hearing.{Source, Entry as EntryOf}
 use Rattle.jac_route.specs.declared.sessions.Session.{Session}
 use Rattle.jac_serving.specs.Answering.{Subject, Entry, is_failure}
 use Rattle.jac_serving.specs.Log.{entry_on}
-use Rattle.jac_app.specs.Log.{Serves, after_entry}
+use Rattle.jac_desk.specs.Log.{Serves, after_entry}
 use Rattle.jac_replies.specs.declared.reply.Spelling.{Spelling}
 
 -- a run: whether it may stop early, the state that it starts from, its log, and the state that it leaves

@@ -9,8 +9,8 @@ ghost use Rattle.jac_keep.specs.KeeperSeen.{KeeperSeen};
 ghost use Rattle.jac_serving.specs.Answering.{Subject, Entry};
 ghost use Rattle.jac_serving.specs.Outside.{Span};
 ghost use Rattle.jac_serving.specs.Serve.{IsServed as IsServedBy};
-ghost use Rattle.jac_app.specs.Answered.{answering_of};
-ghost use Rattle.jac_app.specs.Log.{Serves};
+ghost use Rattle.jac_desk.specs.Answered.{answering_of};
+ghost use Rattle.jac_desk.specs.Log.{Serves};
 ghost use Rattle.jac_laws.specs.OpenRuns.{AreShownSame, OnlyReads, StartAlike};
 ghost use Rattle.jac_laws.specs.TwoRuns.{OneRun, IsServed, LookSame, NoneFailed, AgreeAfterEach, EndAlike, AreSameWhereShown, AreSeenAlike, seen_by};
 
