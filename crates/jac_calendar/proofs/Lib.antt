@@ -1,3 +1,3 @@
 pub mod AskingLemmas
-mod ReadTexts
+pub mod ReadTexts
 pub mod CalendarOpens

@@ -1,3 +1,5 @@
 pub mod Inserting
 pub mod Masked
 pub mod Settling
+pub mod OwnedRows
+pub mod OwnedRuns

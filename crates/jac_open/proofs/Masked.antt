@@ -27,7 +27,7 @@ abbrev masked_record : List Entity → ℕ → Option PlainRow → Option PlainR
 masked_record models m None = None
 masked_record models m (Some r) = Some (masked_row models m r)
 
-abbrev masked_world : World → World
+abbrev pub masked_world : World → World
 masked_world w = record w { tables = masked_tables w.models 0 w.tables }
 
 -- the cell at a place where the function changes nothing
@@ -149,7 +149,7 @@ ordered_masked w bs (orders.Up name field) tuples h = ap (λ key. sorted is_less
 ordered_masked w bs (orders.Down name field) tuples h = ap (λ key. sorted (λ a b. is_less b a) key tuples) (key_masked w bs name field h)
 
 -- two functions that are equal at each argument are equal
-answers_masked : (w : World) (bs : List Binder) (o : Order) (cond other : List Binding → Value) (env : List Binding)
+pub answers_masked : (w : World) (bs : List Binder) (o : Order) (cond other : List Binding → Value) (env : List Binding)
     → is_open_order w.models bs o ≡ true → cond ≡ other
     → answers_by (masked_world w) bs o cond env ≡ answers_by w bs o other env
 answers_masked w bs o cond other env h same =
@@ -158,7 +158,7 @@ answers_masked w bs o cond other env h same =
     ∙ ordered_masked w bs o (kept_by bs other env (tuples_from w bs ([] ∷ []))) h
 
 mutual
-  mean_masked : (w : World) (e : Expression) (env : List Binding) → is_open w.models e ≡ true
+  pub mean_masked : (w : World) (e : Expression) (env : List Binding) → is_open w.models e ≡ true
       → mean (masked_world w) e env ≡ mean w e env
   mean_masked w (Expression.int i) env h = refl
   mean_masked w (Expression.text t) env h = refl

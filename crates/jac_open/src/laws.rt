@@ -7,9 +7,10 @@ ghost use Rattle.jac_rows.specs.declared.plain.PlainState.{PlainState};
 ghost use Rattle.jac_rows.specs.declared.state.State.{State};
 ghost use Rattle.jac_plain.specs.Expressions.{mean};
 ghost use Rattle.jac_plain.specs.Policies.{is_allowed, IsSettled};
-ghost use Rattle.jac_plain.specs.Requests.{Worlds};
+ghost use Rattle.jac_plain.specs.Requests.{Visit, Worlds, after};
 ghost use Rattle.jac_open.specs.Open.{is_open, is_open_app, AreAlike, AreEven, IsEven, IsGranted, nothing};
 ghost use Rattle.jac_open.specs.Allowed.{allowed_labels};
+ghost use Rattle.jac_open.specs.Owned.{HangOnOwn, HideNothing, is_stored_openly};
 
 /// A law: an expression that reads no guarded field means the same in two states that are equal but for the cells of
 /// guarded fields.
@@ -71,4 +72,19 @@ pub fn same_shown()
         AreAlike app (project_at nothing s) (project_at nothing t) →
         IsSettled app (λ w. project_at w s) viewer labels →
         IsSettled app (λ w. project_at w t) viewer others → labels ≡ others }
+{}
+
+/// A law: let what records hold hang on their own labels alone, as in every state that shows the
+/// same under each assignment, and let no group hide records. A request that is a `GET`, or whose
+/// view reads no field that a group guards, leaves it so, whatever it writes: which records there
+/// are and what their clear cells hold hangs on no label, and what a guarded cell holds on labels
+/// of its own record.
+///
+/// A view that reads a guarded field may store a record because of what it holds, which then hangs
+/// on the label of another one.
+pub fn open_requests_keep_own()
+    ensures start { (app : Application) (t : PlainState) → HangOnOwn app (λ w. t) }
+    ensures step { (app : Application) (worlds : Worlds) (visit : Visit) → HideNothing app.models →
+        is_stored_openly app visit.view ≡ true → HangOnOwn app worlds →
+        HangOnOwn app (λ w. after w app (worlds w) visit) }
 {}

@@ -5,6 +5,6 @@
 mod laws;
 
 pub use laws::{
-    alike_meanings, alike_policies, even_policies, one_is_settled, open_settled, same_settled,
-    same_shown,
+    alike_meanings, alike_policies, even_policies, one_is_settled, open_requests_keep_own,
+    open_settled, same_settled, same_shown,
 };

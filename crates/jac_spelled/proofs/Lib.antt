@@ -1,0 +1,3 @@
+pub mod OneSpelled
+pub mod EightOpens
+pub mod Known
