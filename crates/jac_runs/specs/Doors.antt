@@ -1,0 +1,97 @@
+-- Two runs of the top call that serve the same words over the same files, whose doors gave links
+-- with the same input.
+use Rattle.std.specs.Prelude.{◌≡◌, ⊤, ℕ, IsTrue, IsErr, Option, Some, None, List, [], ◌∷◌, ◌++◌, map}
+use Rattle.jac_io.specs.Faults.{Rose}
+use Rattle.jac_io.specs.Linked.{LinkSeen}
+use Rattle.jac_world.specs.World.{shown}
+use Rattle.jac_lang.specs.Syntax.{Application}
+use Rattle.jac_rows.specs.declared.state.State.{State}
+use Rattle.jac_keep.specs.KeeperSeen.{KeeperSeen}
+use Rattle.jac_opening.specs.Application.{IsApplication}
+use Rattle.jac_route.specs.declared.sessions.Session.{Session}
+use Rattle.jac_links.specs.Door.{Visit, AreVisited}
+use Rattle.jac_serving.specs.Answering.{Entry}
+use Rattle.jac_serving.specs.Log.{audited}
+use Rattle.jac_serving.specs.Outside.{Took}
+use Rattle.jac_words.specs.declared.words.Serving.{Serving}
+use Rattle.jac_ending.specs.Attached.{IsAttached}
+use Rattle.jac_desk.specs.Answered.{answering_of}
+use Rattle.jac_laws.specs.TwoRuns.{LookSame}
+use Rattle.jac_runs.specs.Replayed.{TopRun, HoldSessions}
+
+-- the files of a serve hold this application and these sessions
+pub record HoldServing (file : List ℕ → Option (List ℕ)) (serving : Serving) (app : Application)
+    (sessions : List Session) : Type 0 where
+  pub app_bytes : List ℕ
+  pub app_file : file serving.app ≡ Some app_bytes
+  pub spelled : IsApplication app_bytes app
+  pub sessions_held : HoldSessions file serving.sessions sessions
+
+-- the links that a door gave were served one after another, from what the store had once it was
+-- attached; the log is that of all of them, whose audit lines were put
+pub record IsDoorServed {L : Type 0} (serving : Serving) (top : TopRun L) (app : Application)
+    (sessions : List Session) (start : State) (visits : List (Visit L)) (log : List Entry)
+    (audit : List ℕ) : Type 0 where
+  pub opened : KeeperSeen
+  pub attached : IsAttached serving.db app top.seen.keeper opened
+  pub starts : start ≡ opened.state
+  pub came :
+      IsTrue top.door.after.tells
+      → top.door.before.coming ≡ map (λ visit. visit.came) visits ++ top.door.after.coming
+  pub returned :
+      IsTrue top.door.after.tells
+      → top.door.after.returned ≡ top.door.before.returned ++ map (λ visit. visit.gone) visits
+  pub visited :
+      AreVisited top.line (answering_of app sessions) 1 0 opened visits log audit
+      top.seen.keeper.after
+  pub audit_is : audit ≡ audited log
+  pub audit_took : Took top.seen.audit audit
+
+-- what a serve read, and how it answered what came
+pub record HasServed {L : Type 0} (serving : Serving) (top : TopRun L) : Type 0 where
+  pub app : Application
+  pub sessions : List Session
+  pub start : State
+  pub visits : List (Visit L)
+  pub log : List Entry
+  pub audit : List ℕ
+  pub held : HoldServing top.seen.files.before.file serving app sessions
+  pub door_served : IsDoorServed serving top app sessions start visits log audit
+
+-- the link tells to the end, it brought something, all of which was taken, and neither it nor the
+-- call on it failed
+pub record IsTakenWhole {L : Type 0} (line : L → LinkSeen) (visit : Visit L) : Type 0 where
+  pub told : IsTrue (line visit.gone).tells
+  pub some : (line visit.came).left ≡ [] → ⊥
+  pub all : (line visit.gone).left ≡ []
+  pub no_fault : Rose (line visit.came).faults (line visit.gone).faults → ⊥
+  pub answered : IsErr visit.result → ⊥
+
+-- link by link the same input came, and all of it was taken in both
+abbrev pub AreTakenAlike : {L M : Type 0} → (L → LinkSeen) → (M → LinkSeen) → List (Visit L)
+    → List (Visit M) → Type 0
+AreTakenAlike line other [] [] = ⊤
+AreTakenAlike line other [] (two ∷ more) = ⊥
+AreTakenAlike line other (one ∷ visits) [] = ⊥
+AreTakenAlike line other (one ∷ visits) (two ∷ more) =
+    IsTakenWhole line one × IsTakenWhole other two
+    × ((line one.came).left ≡ (other two.came).left)
+    × AreTakenAlike line other visits more
+
+-- the same was asked; replies without a page are the same, and so are those whose pages were made
+-- under the same labels, where these show the same of both starts
+pub record IsLikeWhereShown (start other : State) (one two : Entry) : Type 0 where
+  pub source : one.source ≡ two.source
+  pub subject : one.subject ≡ two.subject
+  pub refusal : one.answer.shown ≡ None → two.answer.shown ≡ None → one.answer ≡ two.answer
+  pub page :
+      (labels : List ℕ) → LookSame (shown labels) start other
+      → one.answer.shown ≡ Some labels → two.answer.shown ≡ Some labels → one.answer ≡ two.answer
+
+-- entry by entry, of as many
+abbrev pub AreLikeWhereShown : State → State → List Entry → List Entry → Type 0
+AreLikeWhereShown start other [] [] = ⊤
+AreLikeWhereShown start other [] (two ∷ others) = ⊥
+AreLikeWhereShown start other (one ∷ log) [] = ⊥
+AreLikeWhereShown start other (one ∷ log) (two ∷ others) =
+    IsLikeWhereShown start other one two × AreLikeWhereShown start other log others

@@ -1,0 +1,9 @@
+//! The laws of two runs of the top call, of the same words over the same files: what they read is
+//! the same, and what they put is the same where their audits are.
+#![tactic(auto)]
+
+mod laws;
+
+pub use laws::{
+    audits_tell_failures, bytes_agree, replay_answers, replays_answer, serve_answers, serves_agree,
+};
