@@ -52,7 +52,7 @@ fn run_words<L: Ledger, M: Ledger>(
         tables: Tables::empty(alloc),
         number: 1,
     };
-    let mut vault = HostVault::new(alloc, state, *rt);
+    let mut vault = HostVault::new(alloc, state, *rt, makes_files(words.as_slice()));
     let mut files = HostFiles::new(rt);
     let mut out = Stdout::new(rt);
     let mut audit = HostAudit::new(rt);
@@ -71,6 +71,17 @@ fn run_words<L: Ledger, M: Ledger>(
         &mut evaluations,
     );
     Ok(status)
+}
+
+// Whether the command makes a store that isn't there: a dump, an upgrade and a why take one that is.
+fn makes_files(words: &[Txt]) -> bool {
+    match words.first() {
+        Some(command) => {
+            let word = command.as_str();
+            word != "dump" && word != "upgrade" && word != "why"
+        }
+        None => true,
+    }
 }
 
 // The words after the program's name. Words that aren't UTF-8 are no command, so they count as none.

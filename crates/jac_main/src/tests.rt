@@ -5,6 +5,7 @@ use jac_app::{Status, run};
 use jac_io::{Calls, Links, MemoryDoor, MemoryFiles, MemoryLink, MemorySink, NamedFiles, Pieces};
 use jac_keep::MemoryKeeper;
 use jac_rows::{State, Tables};
+use jac_sqlkeep::{MemoryOpener, SqlKeeper};
 use jac_value::{Bytes, Memory, Txt};
 use jac_world::Steps;
 use std::alloc::Global;
@@ -18,6 +19,9 @@ const PEOPLE: &str = "(app (model User (fields (name text)))
  (view post \"/join\" (params (name text)) (create u User (set (name name)) (put u)))
  (view get \"/all\" (params)
   (for (from ((u User)) true key) (put (get User name u)) (put \";\"))))";
+
+const PEOPLE_WITH_NOTES: &[u8] = b"(app (model User (fields (name text) (mail text)))
+ (model Note (fields (body text))))";
 
 const JOIN_AND_LIST: &[u8] =
     b"ask - POST \"/join\" \"name=Ann\"\nask - POST \"/join\" \"name=Bob\"\nask - GET \"/all\" \"\"\n";
@@ -185,6 +189,62 @@ fn run_counted<L: Ledger, M: Ledger>(
     })
 }
 
+// The same over a database in memory: how it ended, and what it put.
+fn run_in_database<L: Ledger, M: Ledger>(
+    alloc: Global,
+    words: &[Txt],
+    files: MemoryFiles,
+    blank: Blank,
+    second: Blank,
+) -> Result<(Status, MemorySink), Memory>
+    requires name { blank.name ≡ L.name }
+    requires parts { blank.parts ≡ L.parts }
+    requires some { 0 < blank.parts }
+    requires second_name { second.name ≡ M.name }
+    requires second_parts { second.parts ≡ M.parts }
+    requires second_some { 0 < second.parts }
+{
+    let mut files = files;
+    let mut out = MemorySink::new(alloc, SINK_ROOM, Calls::empty(alloc))?;
+    let mut audit = MemorySink::new(alloc, SINK_ROOM, Calls::empty(alloc))?;
+    let mut keeper = SqlKeeper::new(MemoryOpener::new());
+    let mut door = door_of(alloc, &[], Calls::empty(alloc))?;
+    let mut splits: Steps<L> = Steps::new(blank);
+    let mut evaluations: Steps<M> = Steps::new(second);
+    let status = run(
+        alloc,
+        words,
+        &mut files,
+        &mut out,
+        &mut audit,
+        &mut keeper,
+        &mut door,
+        &mut splits,
+        &mut evaluations,
+    );
+    Ok((status, out))
+}
+
+#[test]
+fn a_store_in_a_database_is_served(rt: HostRuntime) -> Result<(), Fail> {
+    let alloc = rt.alloc();
+    let words = words_of(alloc, &["replay", "app", "events"])?;
+    let files = files_of(alloc, PEOPLE, JOIN_AND_LIST)?;
+    let (status, out) = run_in_database::<Brand, Brand>(
+        alloc,
+        words.as_slice(),
+        files,
+        Blank::new(1),
+        Blank::new(1),
+    )?;
+    assert_eq!(rt; status, Status::Done);
+    assert_eq!(rt;
+        out.taken(),
+        b"reply 200 \"\" \"4096\"\nreply 200 \"\" \"8192\"\nreply 200 \"\" \"Ann;Bob;\"\n".as_slice()
+    );
+    Ok(())
+}
+
 #[test]
 fn a_failed_put_ends_the_run_after_the_audit_line(rt: HostRuntime) -> Result<(), Fail> {
     let alloc = rt.alloc();
@@ -245,6 +305,41 @@ fn a_post_past_the_last_number_is_refused(rt: HostRuntime) -> Result<(), Fail> {
     );
     assert_eq!(rt; left.audit.taken(), b"1 507 - nopage\n".as_slice());
     assert_eq!(rt; left.number, last);
+    Ok(())
+}
+
+#[test]
+fn an_upgrade_is_applied_or_leaves_the_store(rt: HostRuntime) -> Result<(), Fail> {
+    let alloc = rt.alloc();
+    let words = ["upgrade", "app", "events", "--db", "store"];
+    let left = run_words(alloc, &words, PEOPLE, PEOPLE_WITH_NOTES, 3, no_fails(alloc))?;
+    assert_eq!(rt; left.status, Status::Done);
+    assert_eq!(rt; left.out.taken(), b"upgraded 0 records\n".as_slice());
+    assert_eq!(rt; left.keeper.state().tables.as_slice().len(), 2);
+    assert_eq!(rt; left.number, 3);
+    let mut fails = no_fails(alloc);
+    fails.applies = Calls::from_vec(vec![in alloc; 1]?);
+    let left = run_words(alloc, &words, PEOPLE, PEOPLE_WITH_NOTES, 3, fails)?;
+    assert_eq!(rt; left.status, Status::StoreFault);
+    assert_eq!(rt; left.out.taken(), b"store fault\n".as_slice());
+    assert_eq!(rt; left.keeper.state().tables.as_slice().len(), 1);
+    assert_eq!(rt; left.number, 3);
+    Ok(())
+}
+
+#[test]
+fn an_upgrade_to_less_is_refused(rt: HostRuntime) -> Result<(), Fail> {
+    let alloc = rt.alloc();
+    let left = run_words(
+        alloc,
+        &["upgrade", "app", "events", "--db", "store"],
+        "(app (model User (fields (name text))) (model Note (fields (body text))))",
+        PEOPLE.as_bytes(),
+        1,
+        no_fails(alloc),
+    )?;
+    assert_eq!(rt; left.status, Status::UpgradeRefused);
+    assert_eq!(rt; left.out.taken(), b"upgrade: model Note\n".as_slice());
     Ok(())
 }
 
