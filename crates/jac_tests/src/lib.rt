@@ -7,7 +7,13 @@ mod caching;
 #[cfg(test)]
 mod facet;
 #[cfg(test)]
+mod finder;
+#[cfg(test)]
+mod found;
+#[cfg(test)]
 mod http;
+#[cfg(test)]
+mod index;
 #[cfg(test)]
 mod io;
 #[cfg(test)]
@@ -15,8 +21,12 @@ mod lists;
 #[cfg(test)]
 mod rows;
 #[cfg(test)]
+mod searching;
+#[cfg(test)]
 mod stored;
 #[cfg(test)]
 mod texts;
+#[cfg(test)]
+mod why;
 #[cfg(test)]
 mod world;

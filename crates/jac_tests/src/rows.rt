@@ -17,7 +17,7 @@ fn cells(alloc: Global, number: i64) -> Result<Cells, Memory> {
     Ok(Cells::from_vec(cells))
 }
 
-fn guard_of(alloc: Global, label: u128, sign: bool) -> Result<Guard, Memory>
+pub(crate) fn guard_of(alloc: Global, label: u128, sign: bool) -> Result<Guard, Memory>
     ensures { IfOk result (λ g. g ≡ (label, sign) ∷ []) }
 {
     match Guard::one(alloc, Label(label), sign) {

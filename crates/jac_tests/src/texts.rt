@@ -9,7 +9,7 @@ use jac_value::{Bytes, Txt};
 use std::alloc::Global;
 use std::test::Fail;
 
-const CALENDAR: &str = "(app (viewer User) (model User (fields (name text))) \
+pub(crate) const CALENDAR: &str = "(app (viewer User) (model User (fields (name text))) \
     (model Event (fields (title text) (host (ref User)) (open bool)) \
     (group (guards (title \"private\")) \
     (policy (or (get Event open this) (eq (get Event host this) viewer))))) \
@@ -20,7 +20,7 @@ const CALENDAR: &str = "(app (viewer User) (model User (fields (name text))) \
 const SCHEMA: &str = "(schema (model User (fields (name text)) (groups)) \
     (model Event (fields (title text) (host (ref User)) (open bool)) (groups (title))))";
 
-fn app(alloc: Global, text: &str) -> Option<App> {
+pub(crate) fn app(alloc: Global, text: &str) -> Option<App> {
     let tree = read_tree(alloc, text.as_bytes()).ok()?;
     app_of(alloc, &tree).ok()
 }
