@@ -1,7 +1,10 @@
 #!/usr/bin/env python3
-"""Measures the built program. Words: the program, and the numbers of records, or none for 256, 1024 and 4096.
+"""Measures the built program. Words: the program, and the numbers of records, or none for 256, 1024 and 4096, and for
+1024, 4096 and 16384 guarded ones.
 
-For each number N a store of N events is made by N requests, and then each kind of request is asked of it. A request
+For each number N a store of N events is made by N requests, and then each kind of request is asked of it. Then the same
+for N events that are for their host alone, made 64 by a request: there each page is made under labels, those of all
+events where the host of all asks, and none where nobody does. A request
 costs the processor time of a run with some of them less that of the run without, divided by their number, the best of
 three.
 Where Flask is installed it serves the same lists from SQLite in the same run, in one process and by its test client,
@@ -17,6 +20,7 @@ import time
 import proved
 
 SIZES = [256, 1024, 4096]
+GUARDED_SIZES = [1024, 4096, 16384]
 HOSTS = 16
 LEAST = 0.4     # seconds that the requests of one measurement take at least
 MOST = 60       # and that a single one may take before larger stores are left out
@@ -54,6 +58,39 @@ APPLICATION = r"""(app (viewer User)
   (for (from ((u User) (e Event)) (eq (get Event host e) u) key)
    (put (get User name u)) (put " ") (put (get Event title e)) (put "\n"))))
 """
+
+ROUND = 64      # guarded records that a request makes
+
+GUARDED = r"""(app (viewer User)
+
+ (model User (fields (name text)))
+
+ (model Event (fields (title text) (host (ref User)) (open bool))
+  (group (guards (title "private"))
+   (policy (or (get Event open this) (eq (get Event host this) viewer)))))
+
+ (view post "/join" (params (name text))
+  (create u User (set (name name)) (put u)))
+
+ (view post "/add" (params (title text) (open bool))
+  (create e Event (set (title title) (host viewer) (open open)) (put e)))
+
+ (view post "/many" (params (title text))
+%s)
+
+ (view get "/list" (params)
+  (for (from ((e Event)) true key) (put (get Event title e)) (put ";"))))
+""" % '\n'.join('  (create e%d Event (set (title title) (host viewer)))' % i for i in range(ROUND))
+
+HOST = 4096     # the record of who hosts all guarded events
+
+# what is asked of the guarded ones, and the line that asks it
+GUARDED_ASKED = [
+    ('guarded, the host: a POST', 'ask %d POST "/add" "title=New&open=0"' % HOST),
+    ('guarded, the host: the list', 'ask %d GET "/list" ""' % HOST),
+    ('guarded, nobody: a POST', 'ask - POST "/join" "name=New"'),
+    ('guarded, nobody: the list', 'ask - GET "/list" ""'),
+]
 
 # what is asked, and its path
 LISTS = [
@@ -95,6 +132,11 @@ def stored(count):
     return joins(HOSTS) + adds(0, count, HOSTS)
 
 
+def guarded(count):
+    """The requests that make the store of guarded events."""
+    return ['ask - POST "/join" "name=Ann"'] + ['ask %d POST "/many" "title=Event+%d"' % (HOST, i) for i in range(count // ROUND)]
+
+
 def peak_of(process):
     with open('/proc/%d/status' % process) as status:
         return next(int(line.split()[1]) * 1024 for line in status if line.startswith('VmHWM'))
@@ -112,14 +154,15 @@ def run_once(words):
 class Bench:
     """Runs of the program, from a process of its own that stays small."""
 
-    def __init__(self, pool, program, folder):
+    def __init__(self, pool, program, folder, application, stored):
         self.pool = pool
         self.program = program
         self.folder = folder
+        self.stored = stored
         self.kept = {}
         pool.submit(os.getpid).result()
         with open(os.path.join(folder, 'bench.app'), 'w') as file:
-            file.write(APPLICATION)
+            file.write(application)
 
     def once(self, events):
         """Processor seconds and peak bytes of one run."""
@@ -139,13 +182,13 @@ class Bench:
     def before(self, count):
         """The run that only makes the store."""
         if count not in self.kept:
-            self.kept[count] = self.best(stored(count))
+            self.kept[count] = self.best(self.stored(count))
         return self.kept[count]
 
     def request(self, count, asked):
         """Seconds of a request and peak bytes, where asked(n) are n of them."""
         base, _ = self.before(count)
-        store = stored(count)
+        store = self.stored(count)
         number = 1
         while True:
             took, _ = self.once(store + asked(number))
@@ -243,7 +286,7 @@ def main():
     program = proved.program(sys.argv[1])
     sizes = [int(word) for word in sys.argv[2:]] or SIZES
     with tempfile.TemporaryDirectory() as folder, concurrent.futures.ProcessPoolExecutor(1) as pool:
-        bench = Bench(pool, program, folder)
+        bench = Bench(pool, program, folder, APPLICATION, stored)
         table = Table(flask_times(sizes))
         slow = set()
         for count in sizes:
@@ -263,7 +306,17 @@ def main():
         took, peak = bench.once(paired + ['ask - GET "/pairs" ""'])
         base, _ = bench.once(paired)
         print('%-28s %6d %12.3f %8s %9.1f' % ('two binders, N by N', PAIRED, (took - base) * 1000, '', peak / 2 ** 20))
+        labelled = [int(word) for word in sys.argv[2:]] or GUARDED_SIZES
+        measure_guarded(Bench(pool, program, folder, GUARDED, guarded), table, labelled)
         bars(table, sizes, peak)
+        guarded_bars(table, labelled)
+
+
+def measure_guarded(bench, table, sizes):
+    for count in sizes:
+        for name, asked in GUARDED_ASKED:
+            took, peak = bench.request(count, lambda number, asked=asked: [asked] * number)
+            table.line(name, None, count, took, peak)
 
 
 def rename(count, number):
@@ -285,6 +338,13 @@ def bars(table, sizes, peak):
     if 1024 in sizes:
         bar('one get a record, N = 1024, over Flask', table.ratio('one get a record', '/titles', 1024), 1)
     bar('two binders over %d records each, peak MB' % PAIRED, peak / 2 ** 20, 40)
+
+
+def guarded_bars(table, sizes):
+    for name, _ in GUARDED_ASKED:
+        for count in sizes[1:]:
+            fourth = table.took.get((name, count // 4))
+            bar('%s, growth from N = %d to %d' % (name, count // 4, count), table.took[name, count] / fourth if fourth else None, 4.6)
 
 
 if __name__ == '__main__':

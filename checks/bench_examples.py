@@ -5,7 +5,9 @@ spread over its users, one for 20 records, and mostly guarded. Making them isn't
 policies that are always true, in the file of a store, and the application with its own policies is then served over
 that file. The list is asked by somebody who may see much of it, by somebody who may see little, and by nobody. A time
 is that which the client waits for the page; the memory is the most that the program held meanwhile, and the labels are
-those that the page shows. A page that takes longer than a minute is left, and its application with it.
+those that the page shows. A page that takes longer than a minute is left, and its application with it. Behind the
+pages stands, for the same people, what a run that replays the page alone takes of a processor, from its beginning to
+its end, and what one of `jac why` takes, without their memory.
 docs/COSTS.md has what it said last, with its date. It is no part of the gate: what a machine takes is no property of the
 program."""
 import contextlib
@@ -13,6 +15,7 @@ import http.client
 import itertools
 import os
 import re
+import subprocess
 import sys
 import tempfile
 import time
@@ -98,7 +101,7 @@ class Site:
         """How many labels the last line of the audit names."""
         with open(self.audit) as audit:
             last = audit.read().splitlines()[-1].split()[3]
-        return 0 if last in ('-', 'nopage') else last.count(',') + 1
+        return counted(last)
 
 
 def calendar(site):
@@ -215,19 +218,53 @@ def measure(program, make, sizes):
                 with site_of(program, 'app', folder) as site:
                     for who, viewer, path in pages:
                         line(make.__name__, count, who, *site.page(viewer, path))
+                for who, viewer, path in pages:
+                    for name, ran in (('replay', replay), ('why', why)):
+                        line(make.__name__, count, '%s, %s' % (name, who), *ran(program, viewer, path, folder))
             except Left as left:
                 print('%-11s is left at %d records: %s' % (make.__name__, count, left), flush=True)
                 return
 
 
+def whole(words, folder):
+    """The status, the seconds of a processor and the output of a run."""
+    run = subprocess.Popen(words, cwd=folder, stdin=subprocess.DEVNULL, stdout=subprocess.PIPE, stderr=subprocess.DEVNULL)
+    out = run.stdout.read()
+    run.stdout.close()
+    _, ended, usage = os.wait4(run.pid, 0)
+    run.returncode = os.waitstatus_to_exitcode(ended)
+    return run.returncode, usage.ru_utime + usage.ru_stime, out
+
+
+def replay(program, viewer, path, folder):
+    """The status, the seconds of a processor, the bytes and the labels of a run that makes the page alone."""
+    with open(os.path.join(folder, 'events'), 'w') as file:
+        file.write('ask %s GET "%s" ""\n' % ('-' if viewer is None else viewer, path))
+    words = [program, 'replay', 'app', 'events', '--audit', 'page', '--db', 'store']
+    status, took, out = whole(words, folder)
+    with open(os.path.join(folder, 'page')) as file:
+        return status, took, len(out), 0, counted(file.read().splitlines()[-1].split()[3])
+
+
+def why(program, viewer, path, folder):
+    """The same of a `why` over the file."""
+    words = [program, 'why', 'app', '-' if viewer is None else str(viewer), '--db', 'store']
+    status, took, out = whole(words, folder)
+    return status, took, len(out), 0, counted(out.decode().split('\n')[0].removeprefix('shown '))
+
+
+def counted(labels):
+    return 0 if labels in ('-', 'nopage') else labels.count(',') + 1
+
+
 def line(name, count, who, status, took, size, peak, shown):
-    print('%-11s %7d  %-16s %6d %9.4f %9d %8.1f %7d' % (name, count, who, status, took, size, peak / 2 ** 20, shown), flush=True)
+    print('%-11s %7d  %-20s %6d %9.4f %9d %8.1f %7d' % (name, count, who, status, took, size, peak / 2 ** 20, shown), flush=True)
 
 
 def main():
     program = proved.program(sys.argv[1])
     sizes = [int(word) for word in sys.argv[2:]] or SIZES
-    print('%-11s %7s  %-16s %6s %9s %9s %8s %7s' % (
+    print('%-11s %7s  %-20s %6s %9s %9s %8s %7s' % (
         'application', 'records', 'who asks', 'status', 'seconds', 'bytes', 'peak MB', 'labels'))
     for make in (calendar, conference, health, courses):
         measure(program, make, sizes)

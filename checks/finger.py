@@ -185,10 +185,10 @@ DAMAGES = [lost_brackets_of_items, lost_brackets, brackets_too_many, operands_to
            policies_of_numbers, conditions_of_texts, comments, twice_named]
 
 
-def said(folder, data, name='damaged.app'):
+def said(folder, data, name='damaged.app', words=('check', 'damaged.app')):
     with open(os.path.join(folder, name), 'wb') as file:
         file.write(data)
-    told = subprocess.run([sys.executable, FINGER, PROGRAM, 'check', name], cwd=folder, stdin=subprocess.DEVNULL,
+    told = subprocess.run([sys.executable, FINGER, PROGRAM, *words], cwd=folder, stdin=subprocess.DEVNULL,
                           stdout=subprocess.PIPE, stderr=subprocess.PIPE, check=False)
     return told.stdout.decode(), told.stderr.decode()
 
@@ -216,6 +216,18 @@ def main():
                 else:
                     print('FAILED %s, %s: wanted %s, and this is said: %s' % (damage.__name__, name, want, err[:300]))
                     failed += 1
+        said(folder, texts['examples/calendar.app'], 'well.app')
+        said(folder, b'(app (model User (fields (name', 'open.app')
+        for words, want in ((['upgrade', 'well.app', 'damaged.app', '--db', 'd'], 'damaged.app:1:20: '),
+                            (['upgrade', '--db', 'd', 'damaged.app', 'open.app'], 'damaged.app:1:20: '),
+                            (['why', 'damaged.app', '4096'], 'damaged.app:1:20: '), (['upgrade', 'well.app', 'well.app'], ''),
+                            (['why', 'well.app', 'damaged.app'], '')):
+            out, err = said(folder, b'(app (view get "/" (putt "a")))', words=words)
+            if out or err[:len(want) or None] != want:
+                print('FAILED %s: wanted %s, and this is said: %s' % (' '.join(words), want, err[:300]))
+                failed += 1
+            else:
+                passed += 1
     print('%d passed, %d failed' % (passed, failed))
     return 1 if failed else 0
 

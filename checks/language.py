@@ -7,7 +7,7 @@ answers 404 with `TEXT`, `STATEMENTS` redirects to `LOCATION`. It runs in the pa
 filled. Lines that are set apart are an application, its parts, a query or statements, and the program has to accept
 them; a model counts for what stands behind it. On every page an application that is set apart has to be accepted. On
 the page of an example's folder a view that is set apart stands in its application, lines that begin with a digit are
-lines of its audit, and what a table tells of who asks stands in its output, escaped as HTML is. The pages
+lines of its audit or of what `why` told, and what a table tells of who asks stands in its output, escaped as HTML is. The pages
 of these examples have one style.
 
 In the section on writing each case that is named is one of checks/cases, and each form stands in one of them, `..` for
@@ -184,16 +184,22 @@ def of_pages():
 
 def uncited(folder, block):
     """What the page of a folder cites and the folder hasn't."""
-    if block.startswith('(') and textwrap.indent(block, ' ') not in read(folder + '/app'):
+    if block.startswith('(') and textwrap.indent(block, ' ') not in beside(folder, 'app', 'next/app'):
         return '%s: not in its application: %s' % (folder, block)
-    audit = read(folder + '/audit').splitlines()
-    lines = [line for line in block.splitlines() if line[:1].isdigit() and line not in audit]
-    return '%s: not in its audit: %s' % (folder, lines[0]) if lines else None
+    told = beside(folder, 'audit', 'next/audit', 'why').splitlines()
+    lines = [line for line in block.splitlines() if line[:1].isdigit() and line not in told]
+    return '%s: not in its audit, nor told by why: %s' % (folder, lines[0]) if lines else None
+
+
+def beside(folder, *names):
+    """What these files of the folder hold, as far as it has them."""
+    return ''.join(read('%s/%s' % (folder, name)) for name in names if os.path.exists(os.path.join(TOP, folder, name)))
 
 
 def of_styles():
     """A result for the styles of the larger examples, which are one."""
-    styles = {style for name in glob.glob('examples/*/app', root_dir=TOP) for style in STYLE.findall(read(name))}
+    names = glob.glob('examples/*/app', root_dir=TOP) + glob.glob('examples/*/next/app', root_dir=TOP)
+    styles = {style for name in names for style in STYLE.findall(read(name))}
     yield None if len(styles) == 1 else 'examples: %d styles' % len(styles)
 
 
@@ -237,7 +243,7 @@ def of_templates():
 
 def untold(folder, table):
     """What a table says that somebody read, and the folder's output hasn't."""
-    out = read(folder + '/out')
+    out = beside(folder, 'out', 'next/out')
     lacking = [text for text in re.findall(r'`([^`\n]+)`', table) if html.escape(text) not in out]
     return '%s: not in its output: %s' % (folder, lacking[0]) if lacking else None
 

@@ -1,8 +1,9 @@
 #!/usr/bin/env python3
 """Runs the built program while one of its allocations fails, or one and all behind it. A run ends with status 0 or 7;
 each reply is 500, or that of an undisturbed run of the requests that weren't answered with 500; the audit tells the
-same; and a store in a file holds what the answered requests left, no more and no less. A check of an application and a
-dump end as an undisturbed one does, or with status 7. Words: the program, and for how many seconds allocations are
+same; and a store in a file holds what the answered requests left, no more and no less. A check of an application, a
+dump and a `why` end as an undisturbed one does, or with status 7, and so does an upgrade, which then left the old store.
+Words: the program, and for how many seconds allocations are
 taken, 90 if not said. They are taken spread over the run, each once, as long as there is time. Prints each case that
 fails, and ends with a count. Where there is no C compiler nothing is done, and that is said.
 
@@ -85,6 +86,8 @@ APPLICATION = '''(app (viewer User)
   (template "<ul>{% (for (from ((e Event)) true (up e title))) %}<li>{{ (get Event title e) }} by {{ (get User name (get Event host e)) }}{% end %}</ul>"))
  (view get "/count" (params) (put (count (from ((e Event)) (eq (get Event title e) "raid") key)))))
 '''
+NEXT = APPLICATION.replace('(open bool))', '(open bool) (place text))', 1).replace(
+    '(fields (name text)))', '(fields (name text)) (group (guards (name "someone")) (policy (eq this viewer))))')
 SESSIONS = 'ann 4096\nbob 8192\n'
 
 
@@ -145,6 +148,7 @@ class Runs:
     def __init__(self, folder, library, stored):
         self.folder, self.library, self.stored, self.known = folder, library, stored, {}
         self.write('app', APPLICATION)
+        self.write('next', NEXT)
         self.write('sessions', SESSIONS)
 
     def write(self, name, text):
@@ -169,9 +173,12 @@ class Runs:
         """The next number and the rows of the store, and what a next run of the program reads of it."""
         self.write('events', ''.join(line + '\n' for lines in AFTERWARDS for line in lines))
         read = self.program(['replay', 'app', 'events', '--db', 'store'])[:2]
+        return self.stored_rows(), read
+
+    def stored_rows(self):
         with contextlib.closing(sqlite3.connect(os.path.join(self.folder, 'store'))) as database:
             rows = database.execute('SELECT * FROM rec ORDER BY 1, 2, 3').fetchall()
-            return database.execute('SELECT number FROM meta').fetchall(), rows, read
+            return database.execute('SELECT number, schema FROM meta').fetchall(), rows
 
     def replay(self, requests, first=0, last=0):
         for file in glob.glob(os.path.join(self.folder, 'store*')) + glob.glob(os.path.join(self.folder, 'audit')):
@@ -285,6 +292,39 @@ def commands(tally, name, runs, words, seconds):
     tally.try_all(name, count, seconds, one)
 
 
+def upgrades(tally, name, runs, seconds):
+    """An upgrade ends as it does where nothing fails, or for want of memory; then the store is the old one."""
+    words, store, saved = ['upgrade', 'app', 'next', '--db', 'store'], os.path.join(runs.folder, 'store'), {}
+    for file in glob.glob(store + '*'):
+        with open(file, 'rb') as handle:
+            saved[file] = handle.read()
+
+    def begin():
+        for file in glob.glob(store + '*'):
+            os.remove(file)
+        for file, data in saved.items():
+            with open(file, 'wb') as handle:
+                handle.write(data)
+
+    old = runs.stored_rows()
+    begin()
+    status, out, count = runs.program(words)
+    new = runs.stored_rows()
+    well = status == 0 and count and new[0] != old[0]
+    tally.count(name, None if well else 'where nothing fails: %d %r' % (status, out))
+
+    def one(first, last):
+        begin()
+        ended, told, _ = runs.program(words, first, last)
+        have = ended, told, runs.stored_rows()
+        fault = have not in ((0, out, new), (7, b'memory\n', old))
+        return 'status %d, %r, %s' % (ended, told, 'the old store' if have[2] == old else 'another store') if fault else None, \
+            'runs with status %d' % ended
+
+    tally.try_all(name, count, seconds, one)
+    begin()
+
+
 def main():
     compiler = next(filter(None, map(shutil.which, COMPILERS)), None)
     if not compiler:
@@ -298,11 +338,13 @@ def main():
             file.write(LIBRARY)
         subprocess.run([compiler, '-O1', '-fPIC', '-shared', '-o', library, source], check=True)
         runs = Runs(folder, library, True)
-        replays(tally, 'a replay with --db', runs, SECONDS * 0.6)
+        replays(tally, 'a replay with --db', runs, SECONDS * 0.5)
         runs.replay(REQUESTS)
         commands(tally, 'a dump', runs, ['dump', 'app', '98312', '--db', 'store'], SECONDS * 0.05)
+        commands(tally, 'a why', runs, ['why', 'app', '8192', '--db', 'store'], SECONDS * 0.05)
+        upgrades(tally, 'an upgrade', runs, SECONDS * 0.1)
         commands(tally, 'a check', runs, ['check', 'app'], SECONDS * 0.05)
-        replays(tally, 'a replay in memory', Runs(folder, library, False), SECONDS * 0.3)
+        replays(tally, 'a replay in memory', Runs(folder, library, False), SECONDS * 0.25)
     print('%d passed, %d failed' % (tally.passed, tally.failed))
     sys.exit(1 if tally.failed or not tally.passed else 0)
 

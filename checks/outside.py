@@ -3,6 +3,7 @@
 standard output that takes nothing. Words: the program. Prints each case that fails, and ends with a count."""
 import itertools
 import os
+import re
 import subprocess
 import sys
 import tempfile
@@ -87,6 +88,46 @@ def example(folder, prefix):
         return '%s: status %r, %s' % (name, done.returncode, difference(done.stdout, beside('out') or b''))
     if beside('audit') not in (None, audit):
         return '%s, audit: %s' % (name, difference(audit, beside('audit')))
+    return None
+
+
+def whys(folder):
+    """What viewers aren't shown of an example once its walk was kept in a file: `why` beside it has a line `why VIEWER`, and
+    behind it what is put."""
+    with open(os.path.join(folder, 'why'), 'rb') as handle:
+        parts = re.split(rb'(?m)^why (\S+)\n', handle.read())[1:]
+    with tempfile.TemporaryDirectory() as room:
+        store = ['--db', os.path.join(room, 'd')]
+        run(['replay', 'app', 'events', '--sessions', 'sessions', *store], folder, stdout=subprocess.DEVNULL)
+        for viewer, want in zip(parts[::2], parts[1::2]):
+            done = run(['why', 'app', viewer.decode(), *store], folder, stdout=subprocess.PIPE)
+            if (done.returncode, done.stdout) != (0, want):
+                return '%s, why of %s: status %r, %s' % (os.path.relpath(folder, TOP), viewer.decode(), done.returncode,
+                                                         difference(done.stdout, want))
+    return None
+
+
+def next_version(folder):
+    """The second version of an example, which stands in its folder `next`: once the first one's walk was kept in a file,
+    the file is upgraded, and the second one's walk goes on with it. Beside its output stands the line of the upgrade."""
+    def content(*name):
+        with open(os.path.join(folder, *name), 'rb') as handle:
+            return handle.read()
+
+    app, following = (os.path.join(folder, *name, 'app') for name in ([], ['next']))
+    name = os.path.relpath(os.path.join(folder, 'next'), TOP)
+    with tempfile.TemporaryDirectory() as room:
+        store = ['--db', os.path.join(room, 'd')]
+        kept = run(['replay', 'app', 'events', '--sessions', 'sessions', *store], folder, stdout=subprocess.PIPE)
+        made = run(['upgrade', app, following, *store], folder, stdout=subprocess.PIPE)
+        done, audit = audited(folder, ['replay', 'next/app', 'next/events', '--sessions', 'sessions', *store])
+    if kept.stdout != content('out'):
+        return '%s, the first walk over a file: %s' % (name, difference(kept.stdout, content('out')))
+    parts = ('out', made.stdout + done.stdout), ('audit', audit)
+    for part, have in parts:
+        want = content('next', part)
+        if have != want:
+            return '%s, %s: status %r and %r, %s' % (name, part, made.returncode, done.returncode, difference(have, want))
     return None
 
 
@@ -180,6 +221,8 @@ def main():
     line = b'events: line 1: no form\n'
     tags = b'(app (view get "/" (params) (template "%s")))' % (b'a{{ (str 1) }}' * 10000)
     results = [example(folder, prefix) for folder, prefix in examples()]
+    results += [whys(folder) for folder, prefix in examples() if os.path.exists(os.path.join(folder, 'why'))]
+    results += [next_version(folder) for folder, prefix in examples() if os.path.isdir(os.path.join(folder, 'next'))]
     results += [
         case('a missing application', {}, ['replay', 'a', 'e'], 4, b'read fault: a\n'),
         case('missing events', {'a': HELLO}, ['replay', 'a', 'e'], 4, b'read fault: e\n'),

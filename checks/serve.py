@@ -235,6 +235,31 @@ def gone():
         yield expect('clients that go away', (status, out[:21]), (0, b'served 3 connections,'))
 
 
+def not_taken():
+    """A client that doesn't take its replies holds up the next one for three seconds, and is let go then; one that takes
+    a large page slowly gets it whole."""
+    asks = b'GET /large HTTP/1.1\r\nHost: a\r\n\r\n' * 200
+    with hello(4) as run:
+        with run.connect(room=4096) as idle, run.connect() as line:
+            idle.sendall(asks)
+            time.sleep(0.2)
+            page, seconds = asked(line)
+            yield expect('behind replies that are not taken', page, reply(b'200 OK', True, b'hello'))
+            yield in_time('behind replies that are not taken', seconds, 3)
+            yield None if seconds > 1 else 'replies that are not taken were taken: nothing is seen'
+            with run.connect() as line:
+                yield in_time('behind replies that are not taken, once more', asked(line)[1], 0)
+        with run.connect(room=4096) as slow:
+            slow.sendall(asks[:len(asks) // 200].replace(b'Host: a', b'Host: a\r\nConnection: close'))
+            took = b''
+            while len(took) < LARGE // 2:
+                took += slow.recv(4096)
+                time.sleep(0.02)
+            yield expect('a page that is taken slowly', len((took + read_all(slow)).partition(b'\r\n\r\n')[2]), LARGE)
+        status, out = run.end()
+        yield expect('replies that are not taken, at the end', (status, out[:21]), (0, b'served 4 connections,'))
+
+
 def taken_port():
     with contextlib.closing(socket.socket()) as door, tempfile.TemporaryDirectory() as folder:
         door.bind(('127.0.0.1', 0))
@@ -323,7 +348,7 @@ def forms():
 
 def main():
     results = []
-    parts = [in_pieces, kept, refused, large, waited_for, dripped, let_go, taken_in_turn, gone, taken_port,
+    parts = [in_pieces, kept, refused, large, waited_for, dripped, let_go, taken_in_turn, gone, not_taken, taken_port,
              told, audits]
     if shutil.which('curl'):
         parts.append(forms)

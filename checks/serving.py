@@ -27,8 +27,13 @@ class Served:
     def __init__(self, run, port):
         self.run, self.port, self.told = run, port, None
 
-    def connect(self):
-        line = socket.create_connection((HOST, self.port), timeout=20)
+    def connect(self, room=None):
+        """A connection, on which only so many bytes are taken before they are read, where that is said."""
+        line = socket.socket()
+        line.settimeout(20)
+        if room is not None:
+            line.setsockopt(socket.SOL_SOCKET, socket.SO_RCVBUF, room)
+        line.connect((HOST, self.port))
         line.setsockopt(socket.IPPROTO_TCP, socket.TCP_NODELAY, 1)
         return line
 

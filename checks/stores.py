@@ -1,13 +1,15 @@
 #!/usr/bin/env python3
 """Runs the built program over stores in files, which are read and spoilt with Python's module sqlite3: what a run
 leaves is there in the next, in the bytes that docs/USING.md tells; what is damaged, or another application's, is told and
-left; and what was answered before a run was killed is kept. Words: the program, and how many runs to kill, 50 if not
-said. Prints each case that fails, and ends with a count."""
+left; what was answered before a run was killed is kept; and a store whose upgrade was killed is the old one or the new
+one. Words: the program, and how many runs to kill of each kind, 50 of those that serve and 100 of upgrades if not said.
+Prints each case that fails, and what an upgrade of 10,000 records took, and ends with a count."""
 import contextlib
 import glob
 import http.client
 import os
 import random
+import resource
 import shutil
 import signal
 import sqlite3
@@ -20,7 +22,7 @@ import proved
 from serving import served
 
 PROGRAM = proved.program(sys.argv[1])
-KILLS = int(sys.argv[2]) if len(sys.argv) > 2 else 50
+KILLS, UPGRADES = (int(sys.argv[2]),) * 2 if len(sys.argv) > 2 else (50, 100)
 CALENDAR = b'''(app (viewer User)
  (model User (fields (name text)))
  (model Event (fields (title text) (host (ref User)) (open bool))
@@ -58,7 +60,12 @@ TOLD = b'reply 200 "" "4096"\nreply 200 "" "8192"\nreply 200 "" "12289"\n'
 NAMES = b'ask - GET "/names" ""\n'
 LIST = b'ask 4096 GET "/list" ""\nask 8192 GET "/list" ""\n'
 LISTED = b'reply 200 "" "raid;"\nreply 200 "" "private;"\n'
-UNAVAILABLE = b'reply 503 "" "503 Service Unavailable\\n"\n'
+# the next version: a place of each event, names for their bearers alone, and a further model
+NEXT = WITH_NOTES.replace(b'(open bool))', b'(open bool) (place text))').replace(
+    b'(fields (name text)))', b'(fields (name text)) (group (guards (name "someone")) (policy (eq this viewer))))')
+RENEWED = '(schema (model User (fields (name text)) (groups (name)))' \
+          ' (model Event (fields (title text) (host (ref User)) (open bool) (place text)) (groups (title)))' \
+          ' (model Note (fields (body text)) (groups)))'
 LAST = 2 ** 40
 
 
@@ -80,6 +87,20 @@ class Folder:
         done = subprocess.run([PROGRAM, 'replay', 'a', 'e', '--db', store], cwd=self.folder, timeout=120,
                               stdin=subprocess.DEVNULL, stdout=subprocess.PIPE)
         return done.returncode, done.stdout
+
+    def run(self, *words):
+        """The status and the output of a run of any other command."""
+        done = subprocess.run([PROGRAM, *words], cwd=self.folder, timeout=120, stdin=subprocess.DEVNULL,
+                              stdout=subprocess.PIPE)
+        return done.returncode, done.stdout
+
+    def told(self):
+        """What a replay over the store says on standard error."""
+        self.write('a', PLAIN)
+        self.write('e', NAMES)
+        done = subprocess.run([PROGRAM, 'replay', 'a', 'e', '--db', 'd'], cwd=self.folder, timeout=120,
+                              stdin=subprocess.DEVNULL, stdout=subprocess.PIPE, stderr=subprocess.PIPE)
+        return done.stderr
 
     def read(self, query):
         """What a query gives of a copy of the store, so that the program itself takes up what a run left."""
@@ -164,7 +185,8 @@ def made_by_hand(at):
 
 
 def damaged(at):
-    """Rows that are none of their model: what reads them is refused, and the rest is served."""
+    """Stores with a row that can't stand there: they are refused, whatever is asked, and left as they were."""
+    event = "x'%s'" % number(12289).hex()
     spoils = {
         'a body that lacks its last byte': "UPDATE rec SET body = x'%s' WHERE model = 0" % text(b'Ann')[:-1].hex(),
         'a body of a byte more': "UPDATE rec SET body = x'%s00' WHERE model = 0" % text(b'Ann').hex(),
@@ -175,14 +197,34 @@ def damaged(at):
             number(4097).hex(), number(4096).hex()),
         'an id of 15 bytes': "UPDATE rec SET jid = x'%s' WHERE model = 0 AND jid = x'%s'" % (
             number(4096)[1:].hex(), number(4096).hex()),
+        'a wide id of a model outside of loops': "UPDATE rec SET jid = x'%s' WHERE jid = x'%s'" % (
+            number(4096 * 2 ** 52 + 4096).hex(), number(4096).hex()),
+        'an id that no request made yet': "UPDATE rec SET jid = x'%s' WHERE jid = x'%s'" % (
+            number(4 * 4096).hex(), number(4096).hex()),
+        'a model beyond the schema': 'UPDATE rec SET model = 2 WHERE model = 0',
+        'a model below the first': 'UPDATE rec SET model = -1 WHERE model = 0',
+        'an alternative left out': 'DELETE FROM rec WHERE jid = %s AND alt = 0' % event,
+        'an alternative from 1 on': "UPDATE rec SET alt = 1 WHERE model = 0",
+        'alternatives that hold together': "UPDATE rec SET jvars = x'' WHERE jid = %s AND alt = 1" % event,
     }
     for name, spoil in spoils.items():
         with fresh() as other:
             other.replay(STORY)
             other.alter(spoil)
-            before = other.content()
-            yield expect(name, other.replay(NAMES + LIST + NAMES), (0, UNAVAILABLE + LISTED + UNAVAILABLE))
-            yield expect(name + ', afterwards', other.content(), before)
+            yield from left_alone(other, name, NAMES + LIST)
+    with fresh() as other:
+        other.replay(STORY)
+        other.alter(spoils['a guard of half a label'])
+        yield expect('the row that is wrong', other.told(), b'jac: d: row 1 of rec, by model, jid and alt,'
+                     b' can\'t stand there\n')
+
+
+def left_alone(other, name, events):
+    """The store is refused, its content stays, and nothing is left beside it."""
+    before, beside = other.content(), sorted(os.listdir(other.folder))
+    yield expect(name, other.replay(events), (6, b'store fault\n'))
+    yield expect(name + ', afterwards', other.content(), before)
+    yield expect(name + ', beside it', sorted(os.listdir(other.folder)), sorted({*beside, 'a', 'e'}))
 
 
 def refused(at):
@@ -192,18 +234,38 @@ def refused(at):
         'a number past the last': 'UPDATE meta SET number = %d' % (LAST + 1),
         'no number': 'DELETE FROM meta',
         'another key': 'UPDATE meta SET k = 1',
+        'a second row': "INSERT INTO meta VALUES(1, 4, 'x')",
         'another form': 'ALTER TABLE meta RENAME COLUMN number TO counted',
+        'an index more': 'CREATE INDEX alts ON rec(alt)',
+        'a view': 'CREATE VIEW names AS SELECT body FROM rec',
     }
     for name, spoil in spoils.items():
         with fresh() as other:
             other.replay(STORY)
             other.alter(spoil)
-            before = other.content()
-            yield expect(name, other.replay(NAMES), (6, b'store fault\n'))
-            yield expect(name + ', afterwards', other.content(), before)
+            yield from left_alone(other, name, NAMES)
     yield expect('a folder that is missing', at.replay(NAMES, store='no/d'), (6, b'store fault\n'))
     at.write('d', b'no database\n' * 1000)
     yield expect('a file that is no database', at.replay(NAMES), (6, b'store fault\n'))
+
+
+def missing(at):
+    """A dump of a store that isn't there says so, and makes none."""
+    at.write('a', PLAIN)
+    done = subprocess.run([PROGRAM, 'dump', 'a', '-', '--db', 'd'], cwd=at.folder, timeout=120, stdin=subprocess.DEVNULL,
+                          stdout=subprocess.PIPE, stderr=subprocess.PIPE)
+    yield expect('a dump of no store', (done.returncode, done.stdout), (6, b'store fault\n'))
+    yield expect('what a dump of no store says', done.stderr, b'jac: d: there is no such file\n')
+    yield expect('what a dump of no store leaves', sorted(os.listdir(at.folder)), ['a'])
+
+
+def held(at):
+    """A store that another program holds is told apart from one that is damaged."""
+    at.replay(STORY)
+    with contextlib.closing(sqlite3.connect(at.store)) as database:
+        database.execute('BEGIN IMMEDIATE')
+        yield expect('a store that is held', at.told(), b'jac: d: another program has the file open\n')
+    yield expect('the store afterwards', at.replay(NAMES), (0, b'reply 200 "" "Ann;Bob;"\n'))
 
 
 def full(at):
@@ -288,6 +350,123 @@ def killed(at):
     yield expect('after all', at.replay(b'ask - GET "/count" ""\n'), (0, b'reply 200 "" "%d"\n' % known))
 
 
+def upgraded(at):
+    """The rows of a store that was upgraded, byte for byte; one that isn't upgraded is left."""
+    at.write('n', NEXT)
+    at.replay(STORY)
+    yield expect('an upgrade', at.run('upgrade', 'a', 'n', '--db', 'd'), (0, b'upgraded 3 records\n'))
+    yield expect('the table meta, upgraded', at.read('SELECT k, number, schema FROM meta'), [(0, 4, RENEWED)])
+    rows = at.read('SELECT model, jid, jvars, body FROM rec')
+    want = []
+    for user, name in (4096, b'Ann'), (8192, b'Bob'):
+        want += [(0, number(user), guard((user * 8, True)), text(name)),
+                 (0, number(user), guard((user * 8, False)), text(b'someone'))]
+    rest = b'\x04\x01' + number(4096) + b'\x03\x00' + text(b'')
+    want += [(1, number(12289), guard((98312, True)), text(b'raid') + rest),
+             (1, number(12289), guard((98312, False)), text(b'private') + rest)]
+    yield expect('the rows, upgraded', sorted(rows), sorted(want))
+    before = at.content()
+    line = ('other schema: %s | %s\n' % (RENEWED, STORED)).encode()
+    yield expect('an upgrade from another schema', at.run('upgrade', 'a', 'n', '--db', 'd'), (9, line))
+    yield expect('an upgrade back', at.run('upgrade', 'n', 'a', '--db', 'd'), (11, b'upgrade: group User 0\n'))
+    yield expect('upgrades that are refused, afterwards', at.content(), before)
+    yield expect('an upgrade in no folder', at.run('upgrade', 'a', 'n', '--db', 'no/d'), (6, b'store fault\n'))
+    at.write('text', b'no database\n' * 1000)
+    yield expect('an upgrade of no database', at.run('upgrade', 'a', 'n', '--db', 'text'), (6, b'store fault\n'))
+    with fresh() as other, open('/dev/full', 'wb') as full:
+        other.write('n', NEXT)
+        other.replay(STORY)
+        done = subprocess.run([PROGRAM, 'upgrade', 'a', 'n', '--db', 'd'], cwd=other.folder, timeout=120,
+                              stdin=subprocess.DEVNULL, stdout=full, stderr=subprocess.DEVNULL)
+        yield expect('an upgrade that can not be told', done.returncode, 5)
+        yield expect('an upgrade that was not told', other.run('dump', 'n', '-', '--db', 'd')[1][-9:], b'number 4\n')
+    yield expect('an upgrade once more', at.run('upgrade', 'n', 'n', '--db', 'd'), (0, b'upgraded 3 records\n'))
+    at.alter("UPDATE rec SET body = x'%s' WHERE model = 1" % text(b'raid').hex())
+    before = at.content()
+    yield expect('an upgrade of damaged rows', at.run('upgrade', 'n', 'n', '--db', 'd'), (6, b'store fault\n'))
+    yield expect('an upgrade of damaged rows, afterwards', at.content(), before)
+
+
+def many(at, count):
+    """Makes a store of so many records, half of them closed events, and gives what dumps put before an upgrade and behind
+    it, while no label is shown."""
+    users = [4096 * join for join in range(1, count // 2 + 1)]
+    events = [4096 * add + 1 for add in range(count // 2 + 1, count + 1)]
+    rows = [(0, number(user), 0, b'', text(b'Ann %d' % user)) for user in users]
+    for user, event in zip(users, events):
+        rest = b'\x04\x01' + number(user) + b'\x03\x00'
+        rows += [(1, number(event), 0, guard((event * 8, False)), text(b'private') + rest),
+                 (1, number(event), 1, guard((event * 8, True)), text(b'raid %d' % event) + rest)]
+    at.replay(b'')
+    with contextlib.closing(sqlite3.connect(at.store)) as database:
+        database.executemany('INSERT INTO rec VALUES(?, ?, ?, ?, ?)', rows)
+        database.execute('UPDATE meta SET number = %d' % (count + 1))
+        database.commit()
+    at.write('n', NEXT)
+    last, event = ['number %d\n' % (count + 1)], 'Event %d title="private" host=%d open=false'
+    old = ['User %d name="Ann %d"\n' % (user, user) for user in users]
+    old += [event % pair + '\n' for pair in zip(events, users)]
+    new = ['User %d name="someone"\n' % user for user in users]
+    new += [event % pair + ' place=""\n' for pair in zip(events, users)]
+    return ''.join(old + last).encode(), ''.join(new + last).encode()
+
+
+def upgrade_killed(at, pause):
+    """Begins an upgrade and kills it after a while."""
+    run = subprocess.Popen([PROGRAM, 'upgrade', 'a', 'n', '--db', 'd'], cwd=at.folder, stdin=subprocess.DEVNULL,
+                           stdout=subprocess.DEVNULL, stderr=subprocess.DEVNULL)
+    time.sleep(pause)
+    run.send_signal(signal.SIGKILL)
+    run.wait()
+
+
+def upgrades_killed(at):
+    """Upgrades of 2,000 records that are killed at a random moment: behind each the store is what it was, or what it is
+    to be, as both applications tell it."""
+    old, new = many(at, 2000)
+    saved = os.path.join(at.folder, 'saved')
+    os.rename(at.store, saved)
+
+    def begin():
+        for file in glob.glob(at.store + '*'):
+            os.remove(file)
+        shutil.copy(saved, at.store)
+
+    begin()
+    began = time.monotonic()
+    yield expect('an upgrade of 2,000 records', at.run('upgrade', 'a', 'n', '--db', 'd'), (0, b'upgraded 2000 records\n'))
+    whole = time.monotonic() - began
+    other = tuple((9, b'other schema: %s | %s\n' % pair) for pair in
+                  ((RENEWED.encode(), STORED.encode()), (STORED.encode(), RENEWED.encode())))
+    states = {((0, old), other[1]): 'old', (other[0], (0, new)): 'new'}
+    found, randomness, deadline = {'old': 0, 'new': 0}, random.Random(11), time.monotonic() + 400 + 3 * UPGRADES * whole
+    for turn in range(UPGRADES):
+        if time.monotonic() > deadline:
+            yield 'killed upgrades: only %d of %d within the time' % (turn, UPGRADES)
+            return
+        begin()
+        upgrade_killed(at, randomness.uniform(0, whole * 1.1))
+        dumps = tuple(at.run('dump', app, '-', '--db', 'd') for app in 'an')
+        if dumps not in states:
+            yield 'a killed upgrade: neither the old store nor the new one: %r' % [(dump[0], dump[1][-80:]) for dump in dumps]
+            continue
+        found[states[dumps]] += 1
+    print('of %d upgrades that were killed %d left the old store and %d the new one' % (UPGRADES, found['old'], found['new']))
+    begin()
+    yield expect('an upgrade behind all', at.run('upgrade', 'a', 'n', '--db', 'd'), (0, b'upgraded 2000 records\n'))
+    yield expect('what it left', at.run('dump', 'n', '-', '--db', 'd'), (0, new))
+
+
+def upgrade_of_many(at):
+    """An upgrade of 10,000 records, with its time."""
+    _, new = many(at, 10000)
+    began, used = time.monotonic(), resource.getrusage(resource.RUSAGE_CHILDREN).ru_utime
+    yield expect('an upgrade of 10,000 records', at.run('upgrade', 'a', 'n', '--db', 'd'), (0, b'upgraded 10000 records\n'))
+    took, used = time.monotonic() - began, resource.getrusage(resource.RUSAGE_CHILDREN).ru_utime - used
+    print('10,000 records were upgraded in %.2f seconds, %.2f of a processor' % (took, used))
+    yield expect('10,000 records, upgraded', at.run('dump', 'n', '-', '--db', 'd'), (0, new))
+
+
 @contextlib.contextmanager
 def fresh():
     with tempfile.TemporaryDirectory() as folder:
@@ -296,7 +475,9 @@ def fresh():
 
 def main():
     results = []
-    for part in (kept, spelled, shaped, made_by_hand, damaged, refused, full, of_another, of_another_program, killed):
+    for part in (kept, spelled, shaped, made_by_hand, damaged, refused, missing, held, full, of_another, of_another_program,
+                 killed, upgraded,
+                 upgrades_killed, upgrade_of_many):
         with fresh() as at:
             results += list(part(at)) or [None]
     for wrong in filter(None, results):
