@@ -53,7 +53,7 @@ put_finger() {
 
 choose
 case ${1-} in
-    check | replay | dump | demo) run_to_end "$@" ;;
+    check | replay | dump | demo | upgrade | why) run_to_end "$@" ;;
     serve)
         [ -n "${JAC_PROVED-}" ] || put_finger "$@"
         exec "$program" "$@"

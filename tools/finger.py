@@ -1055,11 +1055,13 @@ def finger(data, line):
     return fault if fault and fault.line == line else None
 
 
-def application_in(words):
-    """The application's file among the words of a command that takes one, or None."""
-    if not words or words[0] not in ('check', 'replay', 'serve', 'dump'):
-        return None
-    left, plain = list(words[1:]), False
+# How many applications the commands take that take one.
+TAKEN = {'check': 1, 'replay': 1, 'serve': 1, 'dump': 1, 'upgrade': 2, 'why': 1}
+
+
+def applications_in(words):
+    """The files of the applications among the words of a command."""
+    found, left, plain = [], list(words[1:]), False
     while left:
         word = left.pop(0)
         if not plain and word == '--':
@@ -1067,24 +1069,28 @@ def application_in(words):
         elif not plain and word in ('--db', '--sessions', '--audit'):
             left = left[1:]
         elif plain or word == '-' or not word.startswith('-'):
-            return word
-    return None
+            found.append(word)
+    return found[:TAKEN.get(words[0], 0)] if words else []
+
+
+def refusal(program, name):
+    """The line by which the program refuses this application, or None."""
+    told = subprocess.run([program, 'check', '--', name], stdin=subprocess.DEVNULL, stdout=subprocess.PIPE,
+                          stderr=subprocess.DEVNULL, check=False)
+    line = told.stdout.decode('utf-8', 'replace').rstrip('\n')
+    return line if told.returncode == 2 and line.startswith('app: ') else None
 
 
 def main(words):
-    name = application_in(words[1:])
-    if name is None:
-        return
-    told = subprocess.run([words[0], 'check', '--', name], stdin=subprocess.DEVNULL, stdout=subprocess.PIPE,
-                          stderr=subprocess.DEVNULL, check=False)
-    line = told.stdout.decode('utf-8', 'replace').rstrip('\n')
-    if told.returncode != 2 or not line.startswith('app: '):
-        return
-    with open(name, 'rb') as file:
-        data = file.read()
-    fault = finger(data, line)
-    if fault:
-        print(shown_fault(data, name, fault), file=sys.stderr)
+    for name in applications_in(words[1:]):
+        line = refusal(words[0], name)
+        if line:
+            with open(name, 'rb') as file:
+                data = file.read()
+            fault = finger(data, line)
+            if fault:
+                print(shown_fault(data, name, fault), file=sys.stderr)
+            return
 
 
 if __name__ == '__main__':
