@@ -1,5 +1,5 @@
 -- The labels of the records that have rows are the live ones.
-use Rattle.std.proofs.Common.{◌≡◌, ◌<◌, ◌≤◌, ◌+◌, ◌^◌, ◌==◌, ◌&&◌, ◌||◌, ℕ, zero, suc, Bool, true, false, if◌then◌else◌, Option, Some, List, [], ◌∷◌, ◌++◌, length, get_or, slice_get, refl, ap, sym, subst, ◌∙◌, arith, add-one, All, inl, inr, ◌↔◌, append-nil}
+use Rattle.std.proofs.Common.{◌≡◌, ◌<◌, ◌≤◌, ◌+◌, ◌^◌, ◌==◌, ◌&&◌, ◌||◌, ℕ, zero, suc, Bool, true, false, true≢false, if◌then◌else◌, Option, Some, None, List, [], ◌∷◌, ◌++◌, length, get_or, slice_get, refl, ap, sym, subst, ◌∙◌, arith, add-one, All, inl, inr, ◌↔◌, append-nil}
 use Rattle.std.specs.Option.{option_map}
 use Rattle.std.specs.List.{list_any, AllByRecursion}
 use Rattle.std.proofs.lemmas.Bool.{cases_lt}
@@ -21,8 +21,9 @@ use Rattle.jac_rows.specs.Good.{AreSound, IsMade}
 use Rattle.jac_plain.specs.World.{record_with}
 use Rattle.jac_plain.specs.Expressions.{stands}
 use Rattle.jac_plain.specs.Policies.{has_group, has_record, is_some_group, IsLiveLabel}
+use Rattle.jac_plain.specs.Requests.{Worlds}
 use Rattle.jac_resolve.specs.Rounds.{worlds_of, HasSoundTables, AreLive}
-use Rattle.jac_resolve.specs.Collected.{labels_below, labels_of_rows, labels_before, CanHold, Collects, has_row, AllCanHold}
+use Rattle.jac_resolve.specs.Collected.{labels_below, labels_of_rows, labels_before, AreSeen, CanBeSeen, CanHold, Collects, has_row, AllCanHold}
 use Rattle.jac_lang.proofs.Places.{length-entities}
 use Rattle.jac_pruned.proofs.Rows.{rows_of-project}
 use Rattle.jac_resolve.proofs.Rising.{bool_eq}
@@ -329,3 +330,34 @@ by_rows app s collected labels sound collects same k =
     same k ∙ ap (λ ls. shown ls k) collects.are
     ∙ before_has app.models s.tables (length app.models) k m (model_within app.models m (group_of_label k) of_group)
     (record { row = right_true (has_group app k) (has_row s k) h; of_group = of_group }))
+
+-- one label, told by its own record
+
+-- the first row is seen, where its guard can hold
+pub first_is_seen : (rows : List Row) (r : Row) → Some r ≡ slice_get rows 0 → holds (wanted r.guard) r.guard ≡ true → AreSeen rows
+first_is_seen [] r there can = absurd (let e : Some r ≡ None = there in cc)
+first_is_seen (x ∷ rows) r there can =
+    let same : r ≡ x = cc in
+    record { seen_by = wanted r.guard; seen = or_left (holds (wanted r.guard) x.guard) _ (ap (λ (y : Row). holds (wanted r.guard) y.guard) (sym same) ∙ can) }
+
+pub not_live : (app : Application) (worlds : Worlds) (k : ℕ) → has_group app k ≡ false → ((false ≡ true) ↔ IsLiveLabel app worlds k)
+not_live app worlds k none = (λ e. absurd (true≢false (sym e)), λ live. absurd (true≢false (sym live.group ∙ none)))
+
+abbrev any_seen : (ℕ → Bool) → List Row → Bool
+any_seen w rows = list_any (λ (r : Row). holds w r.guard) rows
+
+-- its record's rows tell whether it is live
+pub live_by_record : (app : Application) (s : State) (k : ℕ) (rows : List Row) (b : Bool) → rows ≡ alternatives (record_of_label k) (rows_of s.tables (model_of_id (record_of_label k))) →
+    has_group app k ≡ true → CanBeSeen rows b → ((b ≡ true) ↔ IsLiveLabel app (worlds_of s) k)
+live_by_record app s k rows true are group can = (
+  λ e. record {
+    group = group;
+    seen_by = can.seen_by;
+    stands = sym (record_stands s can.seen_by k) ∙ ap (any_seen can.seen_by) (sym are) ∙ can.seen;
+  },
+  λ live. refl,
+)
+live_by_record app s k rows false are group none = (
+  λ e. absurd (true≢false (sym e)),
+  λ live. absurd (true≢false (sym live.stands ∙ sym (record_stands s live.seen_by k) ∙ ap (any_seen live.seen_by) (sym are ∙ none))),
+)

@@ -1,15 +1,16 @@
 -- The greedy pass over plain lists.
-use Rattle.std.proofs.Common.{◌≡◌, ◌<◌, ◌≤◌, ◌+◌, ◌==◌, ◌&&◌, ◌||◌, ℕ, zero, suc, Bool, true, false, if◌then◌else◌, List, [], ◌∷◌, Option, drop, length, get_or, refl, ap, sym, subst, ◌∙◌, arith}
+use Rattle.std.proofs.Common.{◌≡◌, ◌<◌, ◌≤◌, ◌+◌, ◌==◌, ◌||◌, ℕ, zero, suc, Bool, true, false, if◌then◌else◌, List, [], ◌∷◌, Option, drop, length, get_or, refl, ap, sym, subst, ◌∙◌, arith}
 use Rattle.std.specs.Bool.{⊤}
 use Rattle.std.proofs.lemmas.Bool.Decides.{nat_tests, Decides-eqb}
-use Rattle.jac_world.specs.World.{shown}
+use Rattle.jac_world.specs.World.{shown, IsAscending}
 use Rattle.jac_lang.specs.Syntax.{Application}
 use Rattle.jac_plain.specs.Requests.{Worlds}
-use Rattle.jac_plain.specs.Policies.{with_label, ShowsForbidden}
+use Rattle.jac_plain.specs.Policies.{with_label, IsSettled}
 use Rattle.jac_pruned.proofs.Working.{next}
 use Rattle.jac_resolve.specs.declared.recall.Answers.{Answers}
-use Rattle.jac_resolve.specs.Recalled.{IsUnderway}
-use Rattle.jac_resolve.specs.Rounds.{hidden_count, MayAdd, Tries, Advances, Within, Fills}
+use Rattle.jac_resolve.specs.Recalled.{Fills, Grown, IsPassed, IsUnderway, RemembersForbidden, Tries}
+use Rattle.jac_resolve.specs.Rounds.{hidden_count, AreLive, MayAdd, Advances, Within}
+use Rattle.jac_resolve.proofs.Underway.{refused_still}
 
 or_right : (a b : Bool) → b ≡ true → (a || b) ≡ true
 or_right true b p = refl
@@ -81,45 +82,47 @@ first_is_shown xs i x item below = left_is_shown xs i x (rw (next xs x i item be
 
 module _ (app : Application) (worlds : Worlds) (viewer : Option ℕ) where
   -- of the labels that were tried none can be added, unless one was
-  abbrev pub FillsBut : List ℕ → List ℕ → List ℕ → Bool → Type 0
-  FillsBut labels left new true = ⊤
-  FillsBut labels left new false = (k : ℕ) → shown labels k ≡ true → shown left k ≡ false → shown new k ≡ false → ShowsForbidden app worlds viewer (with_label k (shown new))
+  abbrev pub FillsBut : Answers → List ℕ → List ℕ → List ℕ → Bool → Type 0
+  FillsBut answers labels left new true = ⊤
+  FillsBut answers labels left new false = (k : ℕ) → shown labels k ≡ true → shown left k ≡ false → shown new k ≡ false → RemembersForbidden app worlds viewer answers (with_label k (shown new))
 
-  pub filled : (labels left new : List ℕ) (added : Bool) → left ≡ [] → FillsBut labels left new added → Fills app worlds viewer labels new added
-  filled labels left new true none fills = tt
-  filled labels left new false none fills = λ k among hidden. fills k among (ap (λ l. shown l k) none) hidden
+  pub filled : (answers : Answers) (labels left new : List ℕ) (added : Bool) → left ≡ [] → FillsBut answers labels left new added → Fills app worlds viewer answers labels new added
+  filled answers labels left new true none fills = tt
+  filled answers labels left new false none fills = record { each = λ k among hidden. fills k among (ap (λ l. shown l k) none) hidden }
 
   -- what is known of the labels that are shown, and of what is remembered, before those that are left are tried
   pub record Round (labels left new : List ℕ) (answers : Answers) (added : Bool) : Type 0 where
     pub underway : IsUnderway app worlds viewer new answers
-    pub fills : FillsBut labels left new added
+    pub fills : FillsBut answers labels left new added
 
-  fills_if : (x k : ℕ) (same rest : Bool) (new : List ℕ) → (x == k) ≡ same → (same || rest) ≡ (same || rest) → rest ≡ false → shown new k ≡ false →
-      (shown new x ≡ false → ShowsForbidden app worlds viewer (with_label x (shown new))) →
-      ((same || rest) ≡ false → ShowsForbidden app worlds viewer (with_label k (shown new))) →
-      ShowsForbidden app worlds viewer (with_label k (shown new))
-  fills_if x k true rest new e _ left hidden tried before =
+  fills_if : (answers : Answers) (x k : ℕ) (same rest : Bool) (new : List ℕ) → (x == k) ≡ same → rest ≡ false → shown new k ≡ false →
+      (shown new x ≡ false → RemembersForbidden app worlds viewer answers (with_label x (shown new))) →
+      ((same || rest) ≡ false → RemembersForbidden app worlds viewer answers (with_label k (shown new))) →
+      RemembersForbidden app worlds viewer answers (with_label k (shown new))
+  fills_if answers x k true rest new e left hidden tried before =
       let is : x ≡ k = (Decides-eqb x k).0 e in
-      subst (λ (j : ℕ). ShowsForbidden app worlds viewer (with_label j (shown new))) is (tried (ap (shown new) is ∙ hidden))
-  fills_if x k false rest new e _ left hidden tried before = before left
+      subst (λ (j : ℕ). RemembersForbidden app worlds viewer answers (with_label j (shown new))) is (tried (ap (shown new) is ∙ hidden))
+  fills_if answers x k false rest new e left hidden tried before = before left
 
-  fills_on : (labels more old new : List ℕ) (x : ℕ) (added one : Bool) → FillsBut labels (x ∷ more) old added → MayAdd x old new one → Tries app worlds viewer x old new one →
-      FillsBut labels more new (added || one)
-  fills_on labels more old new x true one before g t = tt
-  fills_on labels more old new x false true before g t = tt
-  fills_on labels more old new x false false before g t = λ k among left hidden.
+  fills_on : (answers known : Answers) (labels more old new : List ℕ) (x : ℕ) (added one : Bool) → Grown answers known → FillsBut answers labels (x ∷ more) old added → MayAdd x old new one →
+      Tries app worlds viewer known x old new one → FillsBut known labels more new (added || one)
+  fills_on answers known labels more old new x true one grown before g t = tt
+  fills_on answers known labels more old new x false true grown before g t = tt
+  fills_on answers known labels more old new x false false grown before g t = λ k among left hidden.
       let same : shown old ≡ shown new = λ i j. sym (g j) i in
-      subst (λ (w : ℕ → Bool). ShowsForbidden app worlds viewer (with_label k w)) same (still k among left (sym (g k) ∙ hidden))
+      subst (λ (w : ℕ → Bool). RemembersForbidden app worlds viewer known (with_label k w)) same (still k among left (sym (g k) ∙ hidden))
     where
-      still : FillsBut labels more old false
-      still k among left hidden = fills_if x k (x == k) (shown more k) old refl refl left hidden t (λ s. before k among s hidden)
+      still : FillsBut known labels more old false
+      still k among left hidden =
+          fills_if known x k (x == k) (shown more k) old refl left hidden t
+          (λ s. refused_still app worlds viewer (with_label k (shown old)) answers known grown (before k among s hidden))
 
   -- one label more was tried
-  pub round_on : (labels left old new : List ℕ) (answers known : Answers) (x : ℕ) (more : List ℕ) (added one : Bool) → left ≡ x ∷ more → Round labels left old answers added →
-      MayAdd x old new one → Tries app worlds viewer x old new one → IsUnderway app worlds viewer new known → Round labels more new known (added || one)
-  round_on labels left old new answers known x more added one is before g t underway = record {
+  pub round_on : (labels left old new : List ℕ) (answers known : Answers) (x : ℕ) (more : List ℕ) (added one : Bool) → left ≡ x ∷ more → Grown answers known → Round labels left old answers added →
+      MayAdd x old new one → Tries app worlds viewer known x old new one → IsUnderway app worlds viewer new known → Round labels more new known (added || one)
+  round_on labels left old new answers known x more added one is grown before g t underway = record {
     underway = underway;
-    fills = fills_on labels more old new x added one (subst (λ (l : List ℕ). FillsBut labels l old added) is before.fills) g t;
+    fills = fills_on answers known labels more old new x added one grown (subst (λ (l : List ℕ). FillsBut answers labels l old added) is before.fills) g t;
   }
 
   -- before any was tried
@@ -127,6 +130,15 @@ module _ (app : Application) (worlds : Worlds) (viewer : Option ℕ) where
   round_start labels new answers underway = record {
     underway = underway;
     fills = λ k among left hidden. absurd (let both : true ≡ false = sym among ∙ left in cc);
+  }
+
+  -- where none of the live labels can be added, the labels are settled
+  pub passed_settled : (answers : Answers) (live labels : List ℕ) → IsAscending labels → AreLive app worlds live → IsPassed app worlds viewer answers live labels → IsSettled app worlds viewer labels
+  passed_settled answers live labels ascending are passed = record {
+    ascending = ascending;
+    live = λ k s. are.only k (passed.within k s);
+    allowed = passed.underway.allowed;
+    full = λ k lives hidden. (let one = passed.refused.each k (are.every k lives) hidden in record { label = one.label; is_shown = one.is_shown; forbidden = one.forbidden });
   }
 
 pub none_left : (xs : List ℕ) (i : ℕ) → length xs ≤ i → drop i xs ≡ []

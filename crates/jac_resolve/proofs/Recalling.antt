@@ -1,11 +1,13 @@
 -- Answers that are remembered, over plain lists.
-use Rattle.std.proofs.Common.{◌≡◌, ◌==◌, ◌&&◌, ◌||◌, ℕ, Bool, true, false, cond, if◌then◌else◌, List, [], ◌∷◌, ◌++◌, Option, Some, None, refl, ap, sym, subst, ◌∙◌, arith, unwrap_or}
+use Rattle.std.proofs.Common.{◌≡◌, ◌==◌, ◌&&◌, ◌||◌, ℕ, Bool, true, false, if◌then◌else◌, List, [], ◌∷◌, ◌++◌, Option, Some, None, refl, ap, sym, subst, ◌∙◌, arith, unwrap_or}
+use Rattle.std.specs.List.{list_any}
+use Rattle.std.specs.Option.{is_some}
 use Rattle.std.specs.Ordering.{nat_cmp, is_eq}
 use Rattle.std.proofs.lemmas.Bool.Decides.{nat_tests, Decides-eqb}
 use Rattle.jac_world.specs.World.{shown, holds, IsAscending, IsRising}
 use Rattle.jac_resolve.specs.declared.recall.Given.{Given}
 use Rattle.jac_resolve.specs.declared.recall.Known.{Known}
-use Rattle.jac_resolve.specs.Recalled.{first_fitting, known_at, or_known, recall_in, signed, watched_in}
+use Rattle.jac_resolve.specs.Recalled.{first_fitting, or_known, recall_in, signed, watched_in}
 
 -- one answer more of a label
 
@@ -43,6 +45,27 @@ or_none (Some given) none empty = refl
 
 pub is_at_number : (k j : ℕ) → is_eq (nat_cmp k j) ≡ (k == j)
 is_at_number k j = grind (arith, nat_tests)
+
+-- the labels that are watched are the keys
+
+same_test : (a b : ℕ) → (a == b) ≡ (b == a)
+same_test a b = grind (arith, nat_tests)
+
+key_is_shown : (ks : List ℕ) (k : ℕ) → list_any (λ x. is_eq (nat_cmp k x)) ks ≡ shown ks k
+key_is_shown [] k = refl
+key_is_shown (x ∷ ks) k =
+    ap (λ b. b || list_any (λ y. is_eq (nat_cmp k y)) ks) (is_at_number k x ∙ same_test k x) ∙ ap (λ b. x == k || b) (key_is_shown ks k)
+
+is_key : (of_label : Option (List ℕ)) (j : ℕ) → watched_in of_label j ≡ true → is_some of_label ≡ true
+is_key None j h = absurd cc
+is_key (Some watchers) j h = refl
+
+pub watched_is_key : (of_label : Option (List ℕ)) (ks : List ℕ) (k j : ℕ) → is_some of_label ≡ list_any (λ x. is_eq (nat_cmp k x)) ks → watched_in of_label j ≡ true → shown ks k ≡ true
+watched_is_key of_label ks k j has h = sym (key_is_shown ks k) ∙ sym has ∙ is_key of_label j h
+
+pub left_alone : (a b : Bool) → b ≡ false → (a || b) ≡ true → a ≡ true
+left_alone true b none h = refl
+left_alone false b none h = absurd (let e : true ≡ false = sym h ∙ none in cc)
 
 -- one watcher more of a label
 

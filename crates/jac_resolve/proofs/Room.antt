@@ -1,7 +1,7 @@
 -- How much there is left to ask, over plain lists.
-use Rattle.std.proofs.Common.{◌≡◌, ◌≢◌, ◌==◌, ◌≤◌, ◌<◌, ◌+◌, ◌*◌, ◌&&◌, ◌||◌, ℕ, zero, suc, Bool, true, false, if◌then◌else◌, List, [], ◌∷◌, Option, Some, None, length, refl, ap, sym, subst, ◌∙◌, arith}
+use Rattle.std.proofs.Common.{◌≡◌, ◌≢◌, ◌==◌, ◌≤◌, ◌+◌, ◌*◌, ◌&&◌, ◌||◌, ℕ, zero, suc, Bool, true, false, if◌then◌else◌, List, [], ◌∷◌, Option, Some, None, length, refl, ap, sym, subst, ◌∙◌, arith}
 use Rattle.std.specs.Option.{is_some}
-use Rattle.std.proofs.lemmas.Bool.Decides.{nat_tests, Decides-eqb}
+use Rattle.std.proofs.lemmas.Bool.Decides.{Decides-eqb}
 use Rattle.jac_value.specs.Ids.{label_of, record_of_label, group_of_label}
 use Rattle.jac_world.specs.World.{shown, holds, names, IsAscending}
 use Rattle.jac_world.proofs.Bisected.{ascending_same}
@@ -14,7 +14,7 @@ use Rattle.jac_resolve.specs.declared.recall.Answers.{Answers}
 use Rattle.jac_resolve.specs.declared.recall.Known.{Known}
 use Rattle.jac_resolve.specs.Recalled.{Grown, or_known, recall, signed, watches}
 use Rattle.jac_resolve.specs.Room.{AreOwn, Spends, room, unknown, with_sign}
-use Rattle.jac_resolve.proofs.Underway.{either, known_if, or_right, or_same}
+use Rattle.jac_resolve.proofs.Underway.{either, known_if, or_same}
 
 less_if : (a b : Bool) → (a ≡ true → b ≡ true) → (if b then 0 else 1) ≤ (if a then 0 else 1)
 less_if true true h = omega arith
@@ -211,22 +211,9 @@ spends_asked labels before now old new label w among grown own_old own_new none 
 pub spends_most : (labels : List ℕ) (before now : ℕ) (old new : Answers) → Spends labels before now old new → now ≤ before + room labels old
 spends_most labels before now old new spends = let s = spends.spent in omega (arith, s)
 
--- what is known of a pass, in which each label has room for each sign of its record's labels
-pub record IsLeft (labels : List ℕ) (before now : ℕ) (answers : Answers) : Type 0 where
-  pub own : AreOwn labels answers
-  pub left : now + room labels answers ≤ before + 256 * length labels
-
-pub left_start : (labels : List ℕ) (n : ℕ) (answers : Answers) → ((k : ℕ) (w : ℕ → Bool) → recall answers k w ≡ None) → ((k j : ℕ) → watches answers k j ≡ false) → IsLeft labels n n answers
-left_start labels n answers none nobody = record { own = own_start labels answers none nobody; left = let most = room_most labels answers in omega (arith, most) }
-
-pub left_then : (labels : List ℕ) (a b c : ℕ) (s t : Answers) → IsLeft labels a b s → Spends labels b c s t → IsLeft labels a c t
-left_then labels a b c s t before spends = record { own = spends.own; left = let l = before.left in let m = spends.spent in omega (arith, l, m) }
-
-pub left_most : (labels : List ℕ) (a b c : ℕ) (s : Answers) → IsLeft labels a b s → c ≤ b + room labels s → c ≤ a + 256 * length labels
-left_most labels a b c s before most = let l = before.left in omega (arith, l, most)
-
-pub left_end : (labels : List ℕ) (a b : ℕ) (s : Answers) → IsLeft labels a b s → b ≤ a + 256 * length labels
-left_end labels a b s before = let l = before.left in omega (arith, l)
+-- where nothing is remembered there is room for all signs of each label's record
+pub all_asked : (labels : List ℕ) (before now : ℕ) (answers : Answers) → now ≤ before + room labels answers → now ≤ before + 256 * length labels
+all_asked labels before now answers most = let all = room_most labels answers in omega (arith, most, all)
 
 -- what was computed, and how often a policy was asked for it
 pub record AsBounded (computed spent : Type 0) : Type 0 where

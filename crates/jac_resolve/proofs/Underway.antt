@@ -1,6 +1,5 @@
 -- What is remembered from one try to the next, over plain lists.
 use Rattle.std.proofs.Common.{◌≡◌, ◌≤◌, ◌==◌, ◌&&◌, ◌||◌, ℕ, Bool, true, false, not, if◌then◌else◌, List, [], ◌∷◌, Option, Some, None, refl, ap, sym, subst, ◌∙◌, arith}
-use Rattle.std.specs.Bool.{⊤}
 use Rattle.std.specs.Option.{is_some}
 use Rattle.std.proofs.lemmas.Bool.Decides.{nat_tests, Decides-eqb}
 use mathlib.Core.Bool.{beq}
@@ -8,11 +7,11 @@ use Rattle.jac_world.specs.World.{shown, holds, names}
 use Rattle.jac_world.proofs.Contradict.{and_true, by_names, left_true, same_sign, sign_is}
 use Rattle.jac_lang.specs.Syntax.{Application}
 use Rattle.jac_plain.specs.Requests.{Worlds}
-use Rattle.jac_plain.specs.Policies.{is_allowed, with_label, ShowsForbidden}
+use Rattle.jac_plain.specs.Policies.{is_allowed, with_label}
 use Rattle.jac_pruned.specs.Consulted.{Agrees}
 use Rattle.jac_resolve.specs.declared.recall.Answers.{Answers}
 use Rattle.jac_resolve.specs.declared.recall.Known.{Known}
-use Rattle.jac_resolve.specs.Recalled.{AreFitted, AreRight, AreWatched, Fitting, Grown, IsRight, IsUnderway, Stays, known_at, or_known, recall, signed, touched, watches}
+use Rattle.jac_resolve.specs.Recalled.{AreRight, AreWatched, Fitting, Grown, IsRight, IsUnderway, RemembersForbidden, Stays, known_at, or_known, recall, signed, touched, watches}
 
 right_true : (a b : Bool) → (a && b) ≡ true → b ≡ true
 right_true true b p = p
@@ -40,11 +39,6 @@ or_false : (a b : Bool) → (a || b) ≡ false → (a ≡ false) × (b ≡ false
 or_false true b h = absurd cc
 or_false false b h = (refl, h)
 
-and_false : (a b : Bool) → (a && b) ≡ false → b ≡ true → a ≡ false
-and_false true true h e = h
-and_false false b h e = refl
-and_false true false h e = absurd cc
-
 pub either : (a b : Bool) (P : Type 0) → (a || b) ≡ true → (a ≡ true → P) → (b ≡ true → P) → P
 either true b P h p q = p refl
 either false b P h p q = q h
@@ -55,14 +49,6 @@ or_right false b p = p
 
 pub itself : (x : ℕ) → (x == x) ≡ true
 itself x = grind (arith, nat_tests)
-
--- an answer whose signs don't name the label
-unnamed : (k : ℕ) (w : ℕ → Bool) (c : Known) → names c.when k ≡ false → holds (with_label k w) c.when ≡ holds w c.when
-unnamed k w c absent = by_names c.when (with_label k w) w (λ j named. differs j named (k == j) refl)
-  where
-    differs : (j : ℕ) → names c.when j ≡ true → (b : Bool) → (k == j) ≡ b → (b || w j) ≡ w j
-    differs j named true e = absurd (let same : true ≡ false = sym named ∙ ap (names c.when) (sym ((Decides-eqb k j).0 e)) ∙ absent in cc)
-    differs j named false e = refl
 
 pub known_if : (h h' : Bool) (c : Known) → h ≡ h' → (if h then Some c.holds else None) ≡ (if h' then Some c.holds else None)
 known_if h h' c e = ap (λ b. if b then Some c.holds else None) e
@@ -97,17 +83,21 @@ module _ (old new : Answers) (label : ℕ) (known : Known)
 
   watched_on : AreWatched old → AreWatched new
   watched_on before = record {
-    each = λ k j absent w.
-        let apart = or_false (names known.when k && label == j) (watches old k j) (sym (watching k j) ∙ absent) in
-        recalling j (with_label k w) ∙ same_if k j w apart.0 (before.each k j apart.1 w) (label == j) refl ∙ sym (recalling j w);
+    each = λ j v w alike. recalling j v ∙ same_if j v w alike (before.each j v w (λ k h. alike k (still k j h))) (label == j) refl ∙ sym (recalling j w);
   }
     where
-      same_if : (k j : ℕ) (w : ℕ → Bool) → (names known.when k && label == j) ≡ false → recall old j (with_label k w) ≡ recall old j w → (b : Bool) → (label == j) ≡ b →
-          (if b then or_known (recall old j (with_label k w)) known (with_label k w) else recall old j (with_label k w)) ≡ (if b then or_known (recall old j w) known w else recall old j w)
-      same_if k j w absent same true e =
-          or_same (recall old j (with_label k w)) (recall old j w) known (with_label k w) w same
-          (known_if (holds (with_label k w) known.when) (holds w known.when) known (unnamed k w known (and_false (names known.when k) (label == j) absent e)))
-      same_if k j w absent same false e = same
+      still : (k j : ℕ) → watches old k j ≡ true → watches new k j ≡ true
+      still k j h = watching k j ∙ or_right (names known.when k && label == j) (watches old k j) h
+
+      named : (k j : ℕ) → (label == j) ≡ true → names known.when k ≡ true → watches new k j ≡ true
+      named k j e h = watching k j ∙ ap (λ b. b || watches old k j) (and_true (names known.when k) (label == j) h e)
+
+      same_if : (j : ℕ) (v w : ℕ → Bool) → ((k : ℕ) → watches new k j ≡ true → v k ≡ w k) → recall old j v ≡ recall old j w → (b : Bool) → (label == j) ≡ b →
+          (if b then or_known (recall old j v) known v else recall old j v) ≡ (if b then or_known (recall old j w) known w else recall old j w)
+      same_if j v w alike same true e =
+          or_same (recall old j v) (recall old j w) known v w same
+          (known_if (holds v known.when) (holds w known.when) known (by_names known.when v w (λ k h. alike k (named k j e h))))
+      same_if j v w alike same false e = same
 
   pub grown_by : Grown old new
   grown_by = record {
@@ -138,6 +128,14 @@ grown_then r s t before after = record {
   watched = λ h. after.watched (before.watched h);
 }
 
+-- whether a label is shown is nothing to what is remembered of one that doesn't watch it
+pub unwatched : (answers : Answers) → AreWatched answers → (k j : ℕ) → watches answers k j ≡ false → (w : ℕ → Bool) → recall answers j (with_label k w) ≡ recall answers j w
+unwatched answers watched k j absent w = watched.each j (with_label k w) w (λ i watching. differs i watching (k == i) refl)
+  where
+    differs : (i : ℕ) → watches answers i j ≡ true → (b : Bool) → (k == i) ≡ b → (b || w i) ≡ w i
+    differs i watching true e = absurd (let same : true ≡ false = sym watching ∙ ap (λ n. watches answers n j) (sym ((Decides-eqb k i).0 e)) ∙ absent in cc)
+    differs i watching false e = refl
+
 -- a label that is shown, added, changes nothing
 pub shows_own : (v : ℕ → Bool) (label : ℕ) → v label ≡ true → with_label label v ≡ v
 shows_own v label own = λ i k. shows_if k (label == k) refl i
@@ -160,7 +158,7 @@ module _ (app : Application) (worlds : Worlds) (viewer : Option ℕ) where
   underway_start answers none = record {
     right = record { each = λ k w b is. absurd (let e : None ≡ Some b = sym (none k w) ∙ is in cc) };
     allowed = λ k s. absurd cc;
-    watched = record { each = λ k j absent w. none j (with_label k w) ∙ sym (none j w) };
+    watched = record { each = λ j v w alike. none j v ∙ sym (none j w) };
     fitted = record { each = λ k s. absurd cc };
   }
 
@@ -171,7 +169,7 @@ module _ (app : Application) (worlds : Worlds) (viewer : Option ℕ) where
     where
       by_answer : (o : Option Bool) → recall answers j (shown a) ≡ o → is_some o ≡ true → is_allowed app (worlds (with_label k (shown a))) viewer j ≡ true
       by_answer (Some b) e h =
-          sym (before.right.each j (with_label k (shown a)) b (before.watched.each k j absent (shown a) ∙ e))
+          sym (before.right.each j (with_label k (shown a)) b (unwatched answers before.watched k j absent (shown a) ∙ e))
           ∙ before.right.each j (shown a) b e ∙ before.allowed j s
       by_answer None e h = absurd cc
 
@@ -198,7 +196,7 @@ module _ (app : Application) (worlds : Worlds) (viewer : Option ℕ) where
 
   -- one was
   pub underway_added : (a more : List ℕ) (k : ℕ) (old new : Answers) → ((j : ℕ) → shown more j ≡ with_label k (shown a) j) → IsUnderway app worlds viewer a old →
-      AreRight app worlds viewer new → Grown old new → Stays app worlds viewer (shown more) (touched old k) true → Fitting new (shown more) (touched old k) true → IsUnderway app worlds viewer more new
+      AreRight app worlds viewer new → Grown old new → Stays app worlds viewer new (shown more) (touched old k) true → Fitting new (shown more) (touched old k) true → IsUnderway app worlds viewer more new
   underway_added a more k old new also before right grown stays fits = record {
     right = right;
     allowed = λ j s. allowed_if j s (touched old k j) refl;
@@ -222,38 +220,58 @@ module _ (app : Application) (worlds : Worlds) (viewer : Option ℕ) where
           let apart = or_false (k == j) (watches old k j) e in
           let was : shown a j ≡ true = sym (ap (λ b. b || shown a j) apart.0) ∙ sym (also j) ∙ s in
           grown.kept j (shown more)
-          (ap (λ (w : ℕ → Bool). is_some (recall old j w)) same ∙ ap is_some (before.watched.each k j apart.1 (shown a)) ∙ before.fitted.each j was)
+          (ap (λ (w : ℕ → Bool). is_some (recall old j w)) same ∙ ap is_some (unwatched old before.watched k j apart.1 (shown a)) ∙ before.fitted.each j was)
+
+  -- what is known at the end of a pass may be where the next one begins
+  pub underway_none : (a : List ℕ) (answers : Answers) → IsUnderway app worlds viewer a answers → IsUnderway app worlds viewer [] answers
+  underway_none a answers before = record {
+    right = before.right;
+    allowed = λ k s. absurd cc;
+    watched = before.watched;
+    fitted = record { each = λ k s. absurd cc };
+  }
 
   -- it is remembered that the label isn't allowed once it is shown
   pub refused_known : (a : List ℕ) (answers : Answers) (k : ℕ) → AreRight app worlds viewer answers → recall answers k (with_label k (shown a)) ≡ Some false →
-      ShowsForbidden app worlds viewer (with_label k (shown a))
+      RemembersForbidden app worlds viewer answers (with_label k (shown a))
   refused_known a answers k right is = record {
     label = k;
     is_shown = ap (λ b. b || shown a k) (itself k);
     forbidden = sym (right.each k (with_label k (shown a)) false is);
+    known = ap is_some is;
   }
 
-  pub refused_also : (a more : List ℕ) (k : ℕ) → ((j : ℕ) → shown more j ≡ with_label k (shown a) j) → ShowsForbidden app worlds viewer (shown more) →
-      ShowsForbidden app worlds viewer (with_label k (shown a))
-  refused_also a more k also refused =
+  pub refused_also : (a more : List ℕ) (answers : Answers) (k : ℕ) → ((j : ℕ) → shown more j ≡ with_label k (shown a) j) → RemembersForbidden app worlds viewer answers (shown more) →
+      RemembersForbidden app worlds viewer answers (with_label k (shown a))
+  refused_also a more answers k also refused =
       let same : shown more ≡ with_label k (shown a) = λ i j. also j i in
-      subst (λ (w : ℕ → Bool). ShowsForbidden app worlds viewer w) same refused
+      subst (λ (w : ℕ → Bool). RemembersForbidden app worlds viewer answers w) same refused
+
+  -- what was remembered still is
+  pub refused_still : (w : ℕ → Bool) (old new : Answers) → Grown old new → RemembersForbidden app worlds viewer old w → RemembersForbidden app worlds viewer new w
+  refused_still w old new grown before = record {
+    label = before.label;
+    is_shown = before.is_shown;
+    forbidden = before.forbidden;
+    known = grown.kept before.label w before.known;
+  }
 
   -- the answer of a label that is shown
-  pub stays_one : (w : ℕ → Bool) (label : ℕ) (b : Bool) → w label ≡ true → b ≡ is_allowed app (worlds w) viewer label → Stays app worlds viewer w (λ j. label == j) b
-  stays_one w label true own is = λ j e s. ap (is_allowed app (worlds w) viewer) (sym ((Decides-eqb label j).0 e)) ∙ sym is
-  stays_one w label false own is = record { label = label; is_shown = own; forbidden = sym is }
+  pub stays_one : (answers : Answers) (w : ℕ → Bool) (label : ℕ) (b : Bool) → w label ≡ true → b ≡ is_allowed app (worlds w) viewer label → is_some (recall answers label w) ≡ true →
+      Stays app worlds viewer answers w (λ j. label == j) b
+  stays_one answers w label true own is known = λ j e s. ap (is_allowed app (worlds w) viewer) (sym ((Decides-eqb label j).0 e)) ∙ sym is
+  stays_one answers w label false own is known = record { label = label; is_shown = own; forbidden = sym is; known = known }
 
   -- one that is hidden isn't asked
-  pub stays_hidden : (w : ℕ → Bool) (label : ℕ) → w label ≡ false → Stays app worlds viewer w (λ j. label == j) true
-  stays_hidden w label hidden = λ j e s. absurd (let both : true ≡ false = sym s ∙ ap w (sym ((Decides-eqb label j).0 e)) ∙ hidden in cc)
+  pub stays_hidden : (answers : Answers) (w : ℕ → Bool) (label : ℕ) → w label ≡ false → Stays app worlds viewer answers w (λ j. label == j) true
+  stays_hidden answers w label hidden = λ j e s. absurd (let both : true ≡ false = sym s ∙ ap w (sym ((Decides-eqb label j).0 e)) ∙ hidden in cc)
 
   -- the label, and then those that watch it
-  pub stays_both : (w : ℕ → Bool) (old mid : Answers) (label : ℕ) (watchers : List ℕ) (b : Bool) → ((j : ℕ) → shown watchers j ≡ watches mid label j) → Grown old mid →
-      Stays app worlds viewer w (λ j. label == j) true → Stays app worlds viewer w (shown watchers) b → Stays app worlds viewer w (touched old label) b
-  stays_both w old mid label watchers true are grown own stays = λ j e s.
+  pub stays_both : (w : ℕ → Bool) (old mid new : Answers) (label : ℕ) (watchers : List ℕ) (b : Bool) → ((j : ℕ) → shown watchers j ≡ watches mid label j) → Grown old mid →
+      Stays app worlds viewer mid w (λ j. label == j) true → Stays app worlds viewer new w (shown watchers) b → Stays app worlds viewer new w (touched old label) b
+  stays_both w old mid new label watchers true are grown own stays = λ j e s.
       either (label == j) (watches old label j) (is_allowed app (worlds w) viewer j ≡ true) e (λ same. own j same s) (λ watching. stays j (are j ∙ grown.watching label j watching) s)
-  stays_both w old mid label watchers false are grown own stays = stays
+  stays_both w old mid new label watchers false are grown own stays = stays
 
 pub fits_one : (answers : Answers) (w : ℕ → Bool) (label : ℕ) (b : Bool) → is_some (recall answers label w) ≡ true → Fitting answers w (λ j. label == j) b
 fits_one answers w label true h = λ j e s. ap (λ (k : ℕ). is_some (recall answers k w)) (sym ((Decides-eqb label j).0 e)) ∙ h

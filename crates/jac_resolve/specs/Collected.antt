@@ -1,5 +1,5 @@
 -- The labels of all groups of the records that have rows.
-use Rattle.std.specs.Prelude.{◌≡◌, ◌==◌, ℕ, zero, suc, ◌<◌, ◌≤◌, Bool, true, List, [], ◌∷◌, ◌++◌, length, All}
+use Rattle.std.specs.Prelude.{◌≡◌, ◌==◌, ℕ, zero, suc, ◌<◌, ◌≤◌, Bool, true, false, List, [], ◌∷◌, ◌++◌, length, All}
 use Rattle.std.specs.List.{list_any}
 use Rattle.jac_value.specs.Ids.{label_of, record_of_label, model_of_id}
 use Rattle.jac_world.specs.World.{holds, wanted}
@@ -40,3 +40,13 @@ has_row s k = list_any (λ (r : Row). r.id == record_of_label k) (rows_of s.tabl
 -- no guard contradicts itself
 abbrev pub AllCanHold : State → Type 0
 AllCanHold s = (m : ℕ) → CanHold (rows_of s.tables m)
+
+-- some assignment shows one of the rows
+pub record AreSeen (rows : List Row) : Type 0 where
+  pub seen_by : ℕ → Bool
+  pub seen : list_any (λ (r : Row). holds seen_by r.guard) rows ≡ true
+
+-- some assignment shows one of the rows, or there are none
+abbrev pub CanBeSeen : List Row → Bool → Type 0
+CanBeSeen rows true = AreSeen rows
+CanBeSeen rows false = rows ≡ []

@@ -5,7 +5,7 @@ use Rattle.std.specs.BTreeMap.{get}
 use Rattle.jac_world.specs.World.{shown, holds}
 use Rattle.jac_lang.specs.Syntax.{Application}
 use Rattle.jac_plain.specs.Requests.{Worlds}
-use Rattle.jac_plain.specs.Policies.{is_allowed, with_label, AreAllowed, ShowsForbidden}
+use Rattle.jac_plain.specs.Policies.{is_allowed, with_label, AreAllowed}
 use Rattle.jac_resolve.specs.declared.recall.Answers.{Answers}
 use Rattle.jac_resolve.specs.declared.recall.Given.{Given}
 use Rattle.jac_resolve.specs.declared.recall.Known.{Known}
@@ -53,9 +53,10 @@ pub record IsRight (app : Application) (worlds : Worlds) (viewer : Option ℕ) (
 pub record AreRight (app : Application) (worlds : Worlds) (viewer : Option ℕ) (answers : Answers) : Type 0 where
   pub each : (k : ℕ) (w : ℕ → Bool) (b : Bool) → recall answers k w ≡ Some b → b ≡ is_allowed app (worlds w) viewer k
 
--- whether a label is shown is nothing to what is remembered of a label that doesn't watch it
+-- what is remembered of a label hangs on those alone that it watches
 pub record AreWatched (answers : Answers) : Type 0 where
-  pub each : (k j : ℕ) → watches answers k j ≡ false → (w : ℕ → Bool) → recall answers j (with_label k w) ≡ recall answers j w
+  pub each : (j : ℕ) (v w : ℕ → Bool) → ((k : ℕ) → watches answers k j ≡ true → v k ≡ w k) →
+      recall answers j v ≡ recall answers j w
 
 -- the answer of each label that is shown is remembered
 pub record AreFitted (answers : Answers) (w : ℕ → Bool) : Type 0 where
@@ -74,10 +75,20 @@ pub record IsUnderway (app : Application) (worlds : Worlds) (viewer : Option ℕ
   pub watched : AreWatched answers
   pub fitted : AreFitted answers (shown a)
 
+-- some label that the assignment shows isn't allowed under it, and that is remembered
+pub record RemembersForbidden (app : Application) (worlds : Worlds) (viewer : Option ℕ)
+    (answers : Answers) (w : ℕ → Bool) : Type 0 where
+  pub label : ℕ
+  pub is_shown : w label ≡ true
+  pub forbidden : is_allowed app (worlds w) viewer label ≡ false
+  pub known : is_some (recall answers label w) ≡ true
+
 -- of the labels that were asked, each that is shown is allowed; or some label that is shown isn't
-abbrev pub Stays : Application → Worlds → Option ℕ → (ℕ → Bool) → (ℕ → Bool) → Bool → Type 0
-Stays app worlds viewer w asked true = (j : ℕ) → asked j ≡ true → w j ≡ true → is_allowed app (worlds w) viewer j ≡ true
-Stays app worlds viewer w asked false = ShowsForbidden app worlds viewer w
+abbrev pub Stays : Application → Worlds → Option ℕ → Answers → (ℕ → Bool) → (ℕ → Bool) → Bool →
+    Type 0
+Stays app worlds viewer answers w asked true =
+    (j : ℕ) → asked j ≡ true → w j ≡ true → is_allowed app (worlds w) viewer j ≡ true
+Stays app worlds viewer answers w asked false = RemembersForbidden app worlds viewer answers w
 
 -- of the labels that were asked, the answer of each that is shown is remembered, where all were asked
 abbrev pub Fitting : Answers → (ℕ → Bool) → (ℕ → Bool) → Bool → Type 0
@@ -87,3 +98,28 @@ Fitting answers w asked false = ⊤
 -- the label, and those that watch it
 abbrev pub touched : Answers → ℕ → ℕ → Bool
 touched answers k j = k == j || watches answers k j
+
+-- the label was added, and all are allowed; or it can't be added
+abbrev pub Tries : Application → Worlds → Option ℕ → Answers → ℕ → List ℕ → List ℕ → Bool → Type 0
+Tries app worlds viewer answers k old new true = AreAllowed app worlds viewer new
+Tries app worlds viewer answers k old new false =
+    shown old k ≡ false → RemembersForbidden app worlds viewer answers (with_label k (shown old))
+
+-- none of the labels can be added
+pub record AreRefused (app : Application) (worlds : Worlds) (viewer : Option ℕ) (answers : Answers)
+    (labels new : List ℕ) : Type 0 where
+  pub each : (k : ℕ) → shown labels k ≡ true → shown new k ≡ false →
+      RemembersForbidden app worlds viewer answers (with_label k (shown new))
+
+-- after a round that added none, none of the labels can be added
+abbrev pub Fills : Application → Worlds → Option ℕ → Answers → List ℕ → List ℕ → Bool → Type 0
+Fills app worlds viewer answers labels new true = ⊤
+Fills app worlds viewer answers labels new false = AreRefused app worlds viewer answers labels new
+
+-- the labels are some of those that were tried, each is allowed, and none of the others can be
+-- added. What was answered for it is remembered
+pub record IsPassed (app : Application) (worlds : Worlds) (viewer : Option ℕ) (answers : Answers)
+    (tried labels : List ℕ) : Type 0 where
+  pub within : (k : ℕ) → shown labels k ≡ true → shown tried k ≡ true
+  pub underway : IsUnderway app worlds viewer labels answers
+  pub refused : AreRefused app worlds viewer answers tried labels

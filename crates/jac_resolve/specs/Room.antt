@@ -1,5 +1,5 @@
 -- How much there is left to ask of policies that consult labels of their own record alone.
-use Rattle.std.specs.Prelude.{◌≡◌, ◌==◌, ◌≤◌, ◌+◌, ◌*◌, ℕ, zero, suc, Bool, true, false, List, [], ◌∷◌, Option, is_some, if◌then◌else◌}
+use Rattle.std.specs.Prelude.{◌≡◌, ◌==◌, ◌≤◌, ◌+◌, ℕ, zero, suc, Bool, true, false, List, [], ◌∷◌, Option, is_some, if◌then◌else◌}
 use Rattle.jac_value.specs.Ids.{label_of, record_of_label}
 use Rattle.jac_world.specs.World.{shown}
 use Rattle.jac_resolve.specs.declared.recall.Answers.{Answers}

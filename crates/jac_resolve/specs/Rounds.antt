@@ -1,12 +1,12 @@
 -- What the steps of the greedy pass leave. The definition of a settled set knows none of it.
-use Rattle.std.specs.Prelude.{◌≡◌, ℕ, ◌+◌, ◌<◌, Bool, true, false, if◌then◌else◌, ◌||◌, List, [], ◌∷◌, Option, ⊤}
+use Rattle.std.specs.Prelude.{◌≡◌, ℕ, ◌+◌, ◌<◌, Bool, true, false, if◌then◌else◌, ◌||◌, List, [], ◌∷◌}
 use Rattle.jac_world.specs.World.{shown}
 use Rattle.jac_lang.specs.Syntax.{Application}
 use Rattle.jac_rows.specs.Project.{project_at}
 use Rattle.jac_plain.specs.Requests.{Worlds}
 use Rattle.jac_rows.specs.declared.state.State.{State}
 use Rattle.jac_rows.specs.Good.{IsSound}
-use Rattle.jac_plain.specs.Policies.{with_label, IsLiveLabel, ShowsForbidden, AreAllowed}
+use Rattle.jac_plain.specs.Policies.{with_label, IsLiveLabel}
 
 -- the worlds of a faceted state
 abbrev pub worlds_of : State → Worlds
@@ -32,11 +32,6 @@ abbrev pub MayAdd : ℕ → List ℕ → List ℕ → Bool → Type 0
 MayAdd k old new true = (shown old k ≡ false) × ((j : ℕ) → shown new j ≡ with_label k (shown old) j)
 MayAdd k old new false = (j : ℕ) → shown new j ≡ shown old j
 
--- the label was added, and all are allowed; or it can't be added
-abbrev pub Tries : Application → Worlds → Option ℕ → ℕ → List ℕ → List ℕ → Bool → Type 0
-Tries app worlds viewer k old new true = AreAllowed app worlds viewer new
-Tries app worlds viewer k old new false = shown old k ≡ false → ShowsForbidden app worlds viewer (with_label k (shown old))
-
 -- fewer of the labels are hidden, or the same are shown
 abbrev pub Advances : List ℕ → List ℕ → List ℕ → Bool → Type 0
 Advances labels old new true = hidden_count (shown new) labels < hidden_count (shown old) labels
@@ -45,8 +40,3 @@ Advances labels old new false = (j : ℕ) → shown new j ≡ shown old j
 -- what a round adds is among the labels
 abbrev pub Within : List ℕ → List ℕ → List ℕ → Type 0
 Within labels old new = (j : ℕ) → shown new j ≡ true → (shown old j || shown labels j) ≡ true
-
--- after a round that added none, none of the labels can be added
-abbrev pub Fills : Application → Worlds → Option ℕ → List ℕ → List ℕ → Bool → Type 0
-Fills app worlds viewer labels new true = ⊤
-Fills app worlds viewer labels new false = (k : ℕ) → shown labels k ≡ true → shown new k ≡ false → ShowsForbidden app worlds viewer (with_label k (shown new))

@@ -11,6 +11,7 @@ mod recall;
 
 pub use labels::Labels;
 pub use laws::{live_by_rows, settled_by_tables};
-pub use live::live_labels;
-pub use pass::resolve;
+pub use live::{is_live, live_labels};
+pub use pass::{resolve, settle_among};
 pub use permission::allowed;
+pub use recall::Answers;

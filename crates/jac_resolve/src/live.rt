@@ -1,15 +1,16 @@
 //! The labels that may be shown at all.
-ghost use Rattle.std.specs.Prelude.{◌≡◌, ◌<◌, ◌≤◌, ◌^◌, ◌++◌, ◌&&◌, ℕ, true, All, length, IfOk, OnOk, IsTrue};
+ghost use Rattle.std.specs.Prelude.{◌≡◌, ◌<◌, ◌≤◌, ◌^◌, ◌++◌, ◌&&◌, ◌↔◌, ℕ, true, All, length, IfOk, OnOk, IsTrue};
 ghost use Rattle.jac_world.specs.World.{shown, holds, wanted, IsAscending};
 ghost use Rattle.jac_lang.specs.Mirror.{application_of, entities_of};
 ghost use Rattle.jac_rows.specs.Tables.{rows_of};
 ghost use Rattle.jac_rows.specs.declared.row.Row.{Row as Alternative};
 ghost use Rattle.jac_keep.specs.Worked.{state_of, IsTold, ReadsWork};
-ghost use Rattle.jac_plain.specs.Policies.{has_group};
+ghost use Rattle.jac_plain.specs.Policies.{has_group, IsLiveLabel};
 ghost use Rattle.jac_resolve.specs.Rounds.{worlds_of, HasSoundTables, AreLive};
-ghost use Rattle.jac_resolve.specs.Collected.{labels_below, labels_of_rows, Collects, CanHold, has_row};
+ghost use Rattle.jac_resolve.specs.Collected.{labels_below, labels_of_rows, CanBeSeen, Collects, CanHold, has_row};
 
 use crate::Labels;
+use crate::permission::{has_group, record_of};
 use jac_keep::{Keeper, Stop, Work};
 use jac_lang::{App, ModelDef};
 use jac_rows::Row;
@@ -32,6 +33,40 @@ pub fn live_labels<K: Keeper>(
 {
     let labels = collect(alloc, work, app.models.as_slice())?;
     Ok(Labels::rising(labels))
+}
+
+/// Whether the label is live: its group is one of its model's, and its record has a row. No other
+/// record is asked.
+pub fn is_live<K: Keeper>(
+    alloc: Global,
+    work: &mut Work<'_, K>,
+    app: &App,
+    label: Label,
+) -> Result<bool, Stop>
+    requires attached { IsTrue (K.seen work.old.keeper.now).store.attached }
+    ensures live { IsTold K.seen work.new →
+        IfOk result (λ b. b ≡ true ↔ IsLiveLabel (application_of app.now)
+        (worlds_of (state_of K.seen work.old)) label) }
+    ensures reads { ReadsWork K.seen work.old work.new result }
+{
+    if !has_group(app, label) {
+        return Ok(false);
+    }
+    let rows = work.one(alloc, record_of(label))?;
+    Ok(can_be_seen(rows.as_slice()))
+}
+
+// Whether there is a row. Then some assignment shows it, since no guard contradicts itself.
+fn can_be_seen(rows: &[Row]) -> bool
+    ensures { CanBeSeen rows.now result }
+{
+    match rows.first() {
+        Some(row) => {
+            let _ = row.guard.pairs();
+            true
+        }
+        None => false,
+    }
 }
 
 // The labels of the records of all models, one model after another.

@@ -1,14 +1,14 @@
 //! The greedy pass that settles which labels a viewer is shown.
-ghost use Rattle.std.specs.Prelude.{◌≡◌, ◌==◌, ◌≤◌, ◌+◌, ◌*◌, ℕ, Bool, true, List, length, is_some, IfOk, OnOk, IsTrue};
+ghost use Rattle.std.specs.Prelude.{◌≡◌, ◌==◌, ◌≤◌, ◌+◌, ◌*◌, ℕ, Bool, true, List, [], length, is_some, IfOk, OnOk, IsTrue};
 ghost use Rattle.jac_world.specs.World.{shown, holds, names, IsAscending};
 ghost use Rattle.jac_value.specs.Ids.{record_of_label};
 ghost use Rattle.jac_lang.specs.Mirror.{application_of};
 ghost use Rattle.jac_keep.specs.Worked.{state_of, IsTold, ReadsWork};
 ghost use Rattle.jac_pruned.specs.Local.{IsLocalCase};
 ghost use Rattle.jac_plain.specs.Policies.{IsSettled, is_allowed};
-ghost use Rattle.jac_resolve.specs.Recalled.{AreRight, Fitting, Grown, IsRight, IsUnderway, Stays, recall, touched};
+ghost use Rattle.jac_resolve.specs.Recalled.{AreRight, Fills, Fitting, Grown, IsPassed, IsRight, IsUnderway, Stays, Tries, recall, touched};
 ghost use Rattle.jac_resolve.specs.Room.{AreOwn, Spends, room};
-ghost use Rattle.jac_resolve.specs.Rounds.{worlds_of, HasSoundTables, AreLive, MayAdd, Tries, Advances, Within, Fills};
+ghost use Rattle.jac_resolve.specs.Rounds.{worlds_of, HasSoundTables, AreLive, MayAdd, Advances, Within};
 
 use crate::live::live_labels;
 use crate::memory::from_world;
@@ -42,7 +42,7 @@ pub fn resolve<K: Keeper, M: Ledger>(
     Ok(assignment)
 }
 
-// Tries the live labels again and again, until a round adds none.
+// The same of the live labels, with nothing remembered before.
 fn settle<K: Keeper, M: Ledger>(
     alloc: Global,
     work: &mut Work<'_, K>,
@@ -58,17 +58,47 @@ fn settle<K: Keeper, M: Ledger>(
     ensures later { evaluations.old ≤ evaluations.new }
     ensures reads { ReadsWork K.seen work.old work.new result }
 {
-    let mut assignment = Assignment::empty(alloc);
     let mut answers = Answers::empty(alloc);
+    let assignment = settle_among(alloc, work, app, viewer, labels, &mut answers, evaluations)?;
+    Ok(assignment)
+}
+
+/// Of these labels those that the viewer is shown where no others are: each is allowed, and none of
+/// the others can be added. They are tried in their order, again and again until a round adds none.
+/// What the policies answer is remembered, and an answer that is remembered isn't asked again.
+pub fn settle_among<K: Keeper, M: Ledger>(
+    alloc: Global,
+    work: &mut Work<'_, K>,
+    app: &App,
+    viewer: &Option<Id>,
+    tried: &[Label],
+    answers: &mut Answers,
+    evaluations: &mut Steps<M>,
+) -> Result<Assignment, Stop>
+    requires attached { IsTrue (K.seen work.old.keeper.now).store.attached }
+    requires underway { IsTold K.seen work.old →
+        IsUnderway (application_of app.now) (worlds_of (state_of K.seen work.old)) viewer.now []
+        answers.old }
+    ensures passed { IsTold K.seen work.new →
+        IfOk result (IsPassed (application_of app.now) (worlds_of (state_of K.seen work.old))
+        viewer.now answers.new tried.now) }
+    ensures most { IsTold K.seen work.new →
+        IsLocalCase (application_of app.now) (state_of K.seen work.old) viewer.now →
+        AreOwn tried.now answers.old →
+        evaluations.new ≤ evaluations.old + room tried.now answers.old }
+    ensures later { evaluations.old ≤ evaluations.new }
+    ensures reads { ReadsWork K.seen work.old work.new result }
+{
+    let mut assignment = Assignment::empty(alloc);
     'rounds: loop {
         let added = try_labels(
             alloc,
             work,
             app,
             viewer,
-            labels,
+            tried,
             &mut assignment,
-            &mut answers,
+            answers,
             evaluations,
         )?;
         if !added {
@@ -92,7 +122,7 @@ fn try_labels<K: Keeper, M: Ledger>(
     ensures advances { IfOk result (Advances labels.now a.old a.new) }
     ensures within { IfOk result (λ b. Within labels.now a.old a.new) }
     ensures underway { IsTold K.seen work.new → IsUnderway (application_of app.now) (worlds_of (state_of K.seen work.old)) viewer.now a.old answers.old → OnOk result (IsUnderway (application_of app.now) (worlds_of (state_of K.seen work.old)) viewer.now a.new answers.new) }
-    ensures fills { IsTold K.seen work.new → IsUnderway (application_of app.now) (worlds_of (state_of K.seen work.old)) viewer.now a.old answers.old → IfOk result (Fills (application_of app.now) (worlds_of (state_of K.seen work.old)) viewer.now labels.now a.new) }
+    ensures fills { IsTold K.seen work.new → IsUnderway (application_of app.now) (worlds_of (state_of K.seen work.old)) viewer.now a.old answers.old → IfOk result (Fills (application_of app.now) (worlds_of (state_of K.seen work.old)) viewer.now answers.new labels.now a.new) }
     ensures spends { IsTold K.seen work.new → IsLocalCase (application_of app.now) (state_of K.seen work.old) viewer.now → AreOwn labels.now answers.old → OnOk result (Spends labels.now evaluations.old evaluations.new answers.old answers.new) }
     ensures most { IsTold K.seen work.new → IsLocalCase (application_of app.now) (state_of K.seen work.old) viewer.now → AreOwn labels.now answers.old → evaluations.new ≤ evaluations.old + room labels.now answers.old }
     ensures later { evaluations.old ≤ evaluations.new }
@@ -119,7 +149,8 @@ fn try_label<K: Keeper, M: Ledger>(
 ) -> Result<bool, Stop>
     requires attached { IsTrue (K.seen work.old.keeper.now).store.attached }
     ensures grows { IfOk result (MayAdd label a.old a.new) }
-    ensures tries { IsTold K.seen work.new → IsUnderway (application_of app.now) (worlds_of (state_of K.seen work.old)) viewer.now a.old answers.old → IfOk result (Tries (application_of app.now) (worlds_of (state_of K.seen work.old)) viewer.now label a.old a.new) }
+    ensures grown { OnOk result (Grown answers.old answers.new) }
+    ensures tries { IsTold K.seen work.new → IsUnderway (application_of app.now) (worlds_of (state_of K.seen work.old)) viewer.now a.old answers.old → IfOk result (Tries (application_of app.now) (worlds_of (state_of K.seen work.old)) viewer.now answers.new label a.old a.new) }
     ensures underway { IsTold K.seen work.new → IsUnderway (application_of app.now) (worlds_of (state_of K.seen work.old)) viewer.now a.old answers.old → OnOk result (IsUnderway (application_of app.now) (worlds_of (state_of K.seen work.old)) viewer.now a.new answers.new) }
     ensures spends { IsTold K.seen work.new → IsLocalCase (application_of app.now) (state_of K.seen work.old) viewer.now → (labels : List ℕ) → shown labels label ≡ true → AreOwn labels answers.old → OnOk result (Spends labels evaluations.old evaluations.new answers.old answers.new) }
     ensures most { IsTold K.seen work.new → IsLocalCase (application_of app.now) (state_of K.seen work.old) viewer.now → (labels : List ℕ) → shown labels label ≡ true → AreOwn labels answers.old → evaluations.new ≤ evaluations.old + room labels answers.old }
@@ -155,7 +186,7 @@ fn may_stay<K: Keeper, M: Ledger>(
 ) -> Result<bool, Stop>
     requires attached { IsTrue (K.seen work.old.keeper.now).store.attached }
     requires own { shown a.now label ≡ true }
-    ensures value { IsTold K.seen work.new → AreRight (application_of app.now) (worlds_of (state_of K.seen work.old)) viewer.now answers.old → IfOk result (Stays (application_of app.now) (worlds_of (state_of K.seen work.old)) viewer.now (shown a.now) (touched answers.old label)) }
+    ensures value { IsTold K.seen work.new → AreRight (application_of app.now) (worlds_of (state_of K.seen work.old)) viewer.now answers.old → IfOk result (Stays (application_of app.now) (worlds_of (state_of K.seen work.old)) viewer.now answers.new (shown a.now) (touched answers.old label)) }
     ensures fits { IfOk result (Fitting answers.new (shown a.now) (touched answers.old label)) }
     ensures right { IsTold K.seen work.new → AreRight (application_of app.now) (worlds_of (state_of K.seen work.old)) viewer.now answers.old → OnOk result (AreRight (application_of app.now) (worlds_of (state_of K.seen work.old)) viewer.now answers.new) }
     ensures grown { OnOk result (Grown answers.old answers.new) }
@@ -195,7 +226,7 @@ fn watchers_stay<K: Keeper, M: Ledger>(
     evaluations: &mut Steps<M>,
 ) -> Result<bool, Stop>
     requires attached { IsTrue (K.seen work.old.keeper.now).store.attached }
-    ensures value { IsTold K.seen work.new → AreRight (application_of app.now) (worlds_of (state_of K.seen work.old)) viewer.now answers.old → IfOk result (Stays (application_of app.now) (worlds_of (state_of K.seen work.old)) viewer.now (shown a.now) (shown watchers.now)) }
+    ensures value { IsTold K.seen work.new → AreRight (application_of app.now) (worlds_of (state_of K.seen work.old)) viewer.now answers.old → IfOk result (Stays (application_of app.now) (worlds_of (state_of K.seen work.old)) viewer.now answers.new (shown a.now) (shown watchers.now)) }
     ensures fits { IfOk result (Fitting answers.new (shown a.now) (shown watchers.now)) }
     ensures right { IsTold K.seen work.new → AreRight (application_of app.now) (worlds_of (state_of K.seen work.old)) viewer.now answers.old → OnOk result (AreRight (application_of app.now) (worlds_of (state_of K.seen work.old)) viewer.now answers.new) }
     ensures grown { OnOk result (Grown answers.old answers.new) }
@@ -225,7 +256,7 @@ fn watcher_stays<K: Keeper, M: Ledger>(
     evaluations: &mut Steps<M>,
 ) -> Result<bool, Stop>
     requires attached { IsTrue (K.seen work.old.keeper.now).store.attached }
-    ensures value { IsTold K.seen work.new → AreRight (application_of app.now) (worlds_of (state_of K.seen work.old)) viewer.now answers.old → IfOk result (Stays (application_of app.now) (worlds_of (state_of K.seen work.old)) viewer.now (shown a.now) (λ j. label == j)) }
+    ensures value { IsTold K.seen work.new → AreRight (application_of app.now) (worlds_of (state_of K.seen work.old)) viewer.now answers.old → IfOk result (Stays (application_of app.now) (worlds_of (state_of K.seen work.old)) viewer.now answers.new (shown a.now) (λ j. label == j)) }
     ensures fits { IfOk result (Fitting answers.new (shown a.now) (λ j. label == j)) }
     ensures right { IsTold K.seen work.new → AreRight (application_of app.now) (worlds_of (state_of K.seen work.old)) viewer.now answers.old → OnOk result (AreRight (application_of app.now) (worlds_of (state_of K.seen work.old)) viewer.now answers.new) }
     ensures grown { OnOk result (Grown answers.old answers.new) }
@@ -254,7 +285,7 @@ fn asked_stays<K: Keeper, M: Ledger>(
 ) -> Result<bool, Stop>
     requires attached { IsTrue (K.seen work.old.keeper.now).store.attached }
     requires own { shown a.now label ≡ true }
-    ensures value { IsTold K.seen work.new → AreRight (application_of app.now) (worlds_of (state_of K.seen work.old)) viewer.now answers.old → IfOk result (Stays (application_of app.now) (worlds_of (state_of K.seen work.old)) viewer.now (shown a.now) (λ j. label == j)) }
+    ensures value { IsTold K.seen work.new → AreRight (application_of app.now) (worlds_of (state_of K.seen work.old)) viewer.now answers.old → IfOk result (Stays (application_of app.now) (worlds_of (state_of K.seen work.old)) viewer.now answers.new (shown a.now) (λ j. label == j)) }
     ensures fits { IfOk result (Fitting answers.new (shown a.now) (λ j. label == j)) }
     ensures right { IsTold K.seen work.new → AreRight (application_of app.now) (worlds_of (state_of K.seen work.old)) viewer.now answers.old → OnOk result (AreRight (application_of app.now) (worlds_of (state_of K.seen work.old)) viewer.now answers.new) }
     ensures grown { OnOk result (Grown answers.old answers.new) }

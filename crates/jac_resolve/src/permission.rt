@@ -84,11 +84,21 @@ fn policy_holds<K: Keeper>(
     Ok(is_true(&value))
 }
 
-// The record of the label.
-fn record_of(label: Label) -> Id
+/// The record of the label.
+pub(crate) fn record_of(label: Label) -> Id
     ensures { result ≡ record_of_label label }
 {
     Id(label.0 / 8)
+}
+
+/// Whether the group of the label is one of its model's.
+pub(crate) fn has_group(app: &App, label: Label) -> bool
+    ensures { result ≡ has_group (application_of app.now) label }
+{
+    match group_of_label(app, label) {
+        Some(_) => true,
+        None => false,
+    }
 }
 
 // The group of the label, if its model has it.

@@ -7,10 +7,12 @@ ghost use Rattle.jac_lang.specs.Syntax.{Application};
 ghost use Rattle.jac_plain.specs.Requests.{Worlds};
 ghost use Rattle.jac_plain.specs.Policies.{with_label};
 ghost use Rattle.jac_value.specs.Ids.{record_of_label};
+ghost use Rattle.jac_pruned.specs.Consulted.{Grows};
 ghost use Rattle.jac_resolve.specs.Room.{AreOwn};
 ghost use Rattle.jac_resolve.specs.Recalled.{AreRight, Grown, IsRight, first_fitting, recall, recall_in, watches, watched_in, signed, or_known};
 
 use crate::Labels;
+use jac_pruned::Support;
 use jac_value::Memory;
 use jac_world::{Assignment, Guard, Label};
 use std::alloc::Global;
@@ -96,6 +98,27 @@ impl Answers {
             None => Ok(Labels::empty(alloc)),
         }
     }
+
+    /// Adds all labels that were consulted for what is remembered.
+    pub fn add_consulted(&self, consulted: &mut Support) -> Result<(), Memory>
+        ensures added { OnOk result ((k j : ℕ) → watches self.now k j ≡ true →
+            shown consulted.new k ≡ true) }
+        ensures grows { Grows consulted.old consulted.new }
+    {
+        add_watched(&self.watchers, consulted)
+    }
+}
+
+// Adds each label that is watched.
+fn add_watched(watchers: &BTreeMap<Label, Labels>, consulted: &mut Support) -> Result<(), Memory>
+    ensures added { OnOk result ((k j : ℕ) → watched_in (get nat_cmp watchers.now k) j ≡ true →
+        shown consulted.new k ≡ true) }
+    ensures grows { Grows consulted.old consulted.new }
+{
+    'watched: for label in watchers.keys() {
+        consulted.add(*label)?;
+    }
+    Ok(())
 }
 
 // The first answer whose signs are those of the assignment, once the label is shown.

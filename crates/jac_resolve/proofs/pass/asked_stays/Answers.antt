@@ -7,5 +7,5 @@ use Rattle.jac_resolve.proofs.pass.asked_stays.Goals as goal
 
 pub returns-clause-value : goal.returns-clause-value
 returns-clause-value g c told right =
-    stays_one (application_of c.args.app.now) (worlds_of (state_of g.K.Keeper.seen c.args.work.now)) c.args.viewer.now (shown c.args.a.now) c.args.label c.in_ok-holds.holds c.requires.own
-    (c.in_ok-holds.ensures.answer told right)
+    stays_one (application_of c.args.app.now) (worlds_of (state_of g.K.Keeper.seen c.args.work.now)) c.args.viewer.now c.ask.new.answers (shown c.args.a.now) c.args.label c.in_ok-holds.holds c.requires.own
+    (c.in_ok-holds.ensures.answer told right) c.in_ok-holds.ensures.fits

@@ -1,9 +1,9 @@
-use Rattle.std.proofs.Common.{◌≡◌, ◌∙◌, ◌==◌, ℕ, Bool, ap, sym, subst}
+use Rattle.std.proofs.Common.{◌∙◌, ◌==◌, Bool, ap, sym, subst}
 use Rattle.jac_world.specs.World.{shown}
 use Rattle.jac_lang.specs.Mirror.{application_of}
 use Rattle.jac_rows.specs.declared.state.State.{State}
 use Rattle.jac_keep.specs.Worked.{state_of}
-use Rattle.jac_resolve.specs.Recalled.{AreRight, Fitting, Stays, watches}
+use Rattle.jac_resolve.specs.Recalled.{AreRight, Fitting, Stays}
 use Rattle.jac_pruned.specs.Local.{IsLocalCase}
 use Rattle.jac_resolve.specs.Rounds.{worlds_of}
 use Rattle.jac_resolve.proofs.Room.{most_then, spends_then}
@@ -21,11 +21,11 @@ returns-clause-value g c told right =
     let before = c.in_ok-stay.ensures.reads.same.told told in
     let moved = c.in_ok-own.ensures.reads.same.same_state before in
     let known = subst (λ (s : State). AreRight app (worlds_of s) viewer mid) (sym moved) (c.in_ok-own.ensures.right before right) in
-    stays_both app worlds viewer w c.args.answers.now mid c.args.label watchers c.in_ok-stay.stay
+    stays_both app worlds viewer w c.args.answers.now mid c.watchers_stay.new.answers c.args.label watchers c.in_ok-stay.stay
     (λ j. ap (λ l. shown l j) c.as_slice.ensures.labels ∙ c.in_ok-watchers.ensures j)
     c.in_ok-own.ensures.grown
-    (subst (λ (b : Bool). Stays app worlds viewer w (λ j. c.args.label == j) b) c.if-not-own.false (c.in_ok-own.ensures.value before right))
-    (subst (λ (s : State). Stays app (worlds_of s) viewer w (shown watchers) c.in_ok-stay.stay) moved (c.in_ok-stay.ensures.value told known))
+    (subst (λ (b : Bool). Stays app worlds viewer mid w (λ j. c.args.label == j) b) c.if-not-own.false (c.in_ok-own.ensures.value before right))
+    (subst (λ (s : State). Stays app (worlds_of s) viewer c.watchers_stay.new.answers w (shown watchers) c.in_ok-stay.stay) moved (c.in_ok-stay.ensures.value told known))
 
 pub returns-clause-fits : goal.returns-clause-fits
 returns-clause-fits g c =

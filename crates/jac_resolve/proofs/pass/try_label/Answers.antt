@@ -16,8 +16,8 @@ returns-then-not-stay-clause-tries g c told before hidden =
     let a = c.args.a.now in
     let more = c.add.new.self in
     let also : (k : ℕ) → shown more k ≡ with_label c.args.label (shown a) k = rw c.in_ok-from_world.ensures at c.add.ensures.added in
-    refused_also app worlds viewer a more c.args.label also
-    (subst (λ (b : Bool). Stays app worlds viewer (shown more) (touched c.args.answers.now c.args.label) b) c.if-not-stay.true (c.in_ok-stay.ensures.value told before.right))
+    refused_also app worlds viewer a more c.may_stay.new.answers c.args.label also
+    (subst (λ (b : Bool). Stays app worlds viewer c.may_stay.new.answers (shown more) (touched c.args.answers.now c.args.label) b) c.if-not-stay.true (c.in_ok-stay.ensures.value told before.right))
 
 pub returns-clause-tries : goal.returns-clause-tries
 returns-clause-tries g c told before =
@@ -29,7 +29,7 @@ returns-clause-tries g c told before =
     let also : (k : ℕ) → shown more k ≡ with_label c.args.label (shown a) k = rw c.in_ok-from_world.ensures at c.add.ensures.added in
     let underway = underway_added app worlds viewer a more c.args.label c.args.answers.now c.may_stay.new.answers also before
     (c.in_ok-stay.ensures.right told before.right) c.in_ok-stay.ensures.grown
-    (subst (λ (b : Bool). Stays app worlds viewer (shown more) (touched c.args.answers.now c.args.label) b) c.if-not-stay.false (c.in_ok-stay.ensures.value told before.right))
+    (subst (λ (b : Bool). Stays app worlds viewer c.may_stay.new.answers (shown more) (touched c.args.answers.now c.args.label) b) c.if-not-stay.false (c.in_ok-stay.ensures.value told before.right))
     (subst (λ (b : Bool). Fitting c.may_stay.new.answers (shown more) (touched c.args.answers.now c.args.label) b) c.if-not-stay.false c.in_ok-stay.ensures.fits) in
     underway.allowed
 
@@ -43,7 +43,7 @@ returns-clause-underway g c told before =
     let also : (k : ℕ) → shown more k ≡ with_label c.args.label (shown a) k = rw c.in_ok-from_world.ensures at c.add.ensures.added in
     underway_added app worlds viewer a more c.args.label c.args.answers.now c.may_stay.new.answers also before
     (c.in_ok-stay.ensures.right told before.right) c.in_ok-stay.ensures.grown
-    (subst (λ (b : Bool). Stays app worlds viewer (shown more) (touched c.args.answers.now c.args.label) b) c.if-not-stay.false (c.in_ok-stay.ensures.value told before.right))
+    (subst (λ (b : Bool). Stays app worlds viewer c.may_stay.new.answers (shown more) (touched c.args.answers.now c.args.label) b) c.if-not-stay.false (c.in_ok-stay.ensures.value told before.right))
     (subst (λ (b : Bool). Fitting c.may_stay.new.answers (shown more) (touched c.args.answers.now c.args.label) b) c.if-not-stay.false c.in_ok-stay.ensures.fits)
 
 pub returns-then-not-stay-clause-grows : goal.returns-then-not-stay-clause-grows

@@ -3,9 +3,9 @@ use Rattle.jac_world.specs.World.{shown}
 use Rattle.jac_lang.specs.Mirror.{application_of}
 use Rattle.jac_rows.specs.declared.state.State.{State}
 use Rattle.jac_keep.specs.Worked.{state_of}
-use Rattle.jac_resolve.specs.Recalled.{IsUnderway}
+use Rattle.jac_resolve.specs.Recalled.{IsUnderway, Tries}
 use Rattle.jac_pruned.specs.Local.{IsLocalCase}
-use Rattle.jac_resolve.specs.Rounds.{worlds_of, Tries}
+use Rattle.jac_resolve.specs.Rounds.{worlds_of}
 use Rattle.jac_pruned.proofs.Working.{next}
 use Rattle.jac_resolve.proofs.Room.{most_then, spends_most, spends_then}
 use Rattle.jac_resolve.proofs.Greedy.{first_is_shown, advances, filled, none_left, stays_within, round_on}
@@ -38,8 +38,8 @@ labels-preserved g c =
                   let round = (c.labels.invariant.working.told before).is_computed underway in
                   let known = subst (λ (s : State). IsUnderway app (worlds_of s) viewer old c.labels.answers) (sym moved) round.underway in
                   round_on app (worlds_of (state_of k.seen c.args.work.now)) viewer labels (drop i labels) old new c.labels.answers c.try_label.new.answers x (drop (i + 1) labels)
-                  c.labels.added c.in_ok-one.one (next labels x i c.label-item.is c.labels-test.true) round grows
-                  (subst (λ (s : State). Tries app (worlds_of s) viewer x old new c.in_ok-one.one) moved (c.in_ok-one.ensures.tries told known))
+                  c.labels.added c.in_ok-one.one (next labels x i c.label-item.is c.labels-test.true) c.in_ok-one.ensures.grown round grows
+                  (subst (λ (s : State). Tries app (worlds_of s) viewer c.try_label.new.answers x old new c.in_ok-one.one) moved (c.in_ok-one.ensures.tries told known))
                   (subst (λ (s : State). IsUnderway app (worlds_of s) viewer new c.try_label.new.answers) moved (c.in_ok-one.ensures.underway told known));
               is_spent = λ local own.
                   let spent = (c.labels.invariant.working.told before).is_spent local own in
@@ -73,7 +73,7 @@ pub returns-clause-fills : goal.returns-clause-fills
 returns-clause-fills g c told underway =
     let labels = c.args.labels.now in
     let past : length labels ≤ c.labels.label-index = search rules in
-    filled (application_of c.args.app.now) (worlds_of (state_of g.K.Keeper.seen c.args.work.now)) c.args.viewer.now labels (drop c.labels.label-index labels) c.labels.a c.labels.added
+    filled (application_of c.args.app.now) (worlds_of (state_of g.K.Keeper.seen c.args.work.now)) c.args.viewer.now c.labels.answers labels (drop c.labels.label-index labels) c.labels.a c.labels.added
     (none_left labels c.labels.label-index past) ((c.labels.invariant.working.told told).is_computed underway).fills
 
 pub returns-clause-underway : goal.returns-clause-underway

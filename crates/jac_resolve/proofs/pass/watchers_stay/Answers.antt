@@ -1,4 +1,4 @@
-use Rattle.std.proofs.Common.{◌≡◌, ◌+◌, ◌≤◌, ◌==◌, ℕ, Bool, true, is_some, drop, sym, subst, rules, arith}
+use Rattle.std.proofs.Common.{◌≡◌, ◌+◌, ◌==◌, Bool, true, is_some, drop, sym, subst, rules, arith}
 use Rattle.jac_world.specs.World.{shown}
 use Rattle.jac_lang.specs.Mirror.{application_of}
 use Rattle.jac_rows.specs.declared.state.State.{State}
@@ -69,8 +69,8 @@ watchers-preserved g c =
               is_computed = λ right.
                   let round = (c.watchers.invariant.working.told before).is_computed right in
                   let known = subst (λ (s : State). AreRight app (worlds_of s) viewer c.watchers.answers) (sym moved) round.remembered in
-                  let stays = subst (λ (b : Bool). Stays app worlds viewer w (λ j. x == j) b) c.if-not-stays.false
-                  (subst (λ (s : State). Stays app (worlds_of s) viewer w (λ j. x == j) c.in_ok-stays.stays) moved (c.in_ok-stays.ensures.value told known)) in
+                  let stays = subst (λ (b : Bool). Stays app worlds viewer new w (λ j. x == j) b) c.if-not-stays.false
+                  (subst (λ (s : State). Stays app (worlds_of s) viewer new w (λ j. x == j) c.in_ok-stays.stays) moved (c.in_ok-stays.ensures.value told known)) in
                   record {
                     remembered = subst (λ (s : State). AreRight app (worlds_of s) viewer new) moved (c.in_ok-stays.ensures.right told known);
                     so_far = but_next (λ j. w j ≡ true → is_allowed app (worlds w) viewer j ≡ true) all (drop i all) (drop (i + 1) all) x is (stays x (itself x)) round.so_far;

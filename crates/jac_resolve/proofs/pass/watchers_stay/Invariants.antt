@@ -1,9 +1,9 @@
-use Rattle.std.proofs.Common.{◌≡◌, ◌≤◌, ℕ, List, true, is_some, drop}
+use Rattle.std.proofs.Common.{◌≡◌, ℕ, List, true, drop}
 use Rattle.jac_world.specs.World.{shown}
 use Rattle.jac_lang.specs.Mirror.{application_of}
 use Rattle.jac_keep.specs.Worked.{state_of}
 use Rattle.jac_plain.specs.Policies.{is_allowed}
-use Rattle.jac_resolve.specs.Recalled.{AreRight, Grown, recall}
+use Rattle.jac_resolve.specs.Recalled.{AreRight}
 use Rattle.jac_pruned.specs.Local.{IsLocalCase}
 use Rattle.jac_resolve.specs.Room.{AreOwn, Spends}
 use Rattle.jac_resolve.specs.Rounds.{worlds_of}

@@ -1,5 +1,5 @@
-use Rattle.std.proofs.Common.{rules, ◌≡◌, ◌∙◌, ap, sym, subst, Some, Option, ℕ}
-use Rattle.jac_value.specs.Ids.{model_of_id, record_of_label}
+use Rattle.std.proofs.Common.{rules, sym, subst, Some, ℕ}
+use Rattle.jac_value.specs.Ids.{model_of_id}
 use Rattle.jac_world.specs.World.{shown}
 use Rattle.jac_lang.specs.Mirror.{application_of, field_group_of}
 use Rattle.jac_keep.specs.Worked.{state_of}

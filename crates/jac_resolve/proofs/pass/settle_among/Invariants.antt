@@ -6,15 +6,16 @@ use Rattle.jac_resolve.specs.Recalled.{IsUnderway}
 use Rattle.jac_pruned.specs.Local.{IsLocalCase}
 use Rattle.jac_resolve.specs.Rounds.{worlds_of, Within, hidden_count}
 use Rattle.jac_pruned.proofs.Working.{LoopOver}
-use Rattle.jac_resolve.proofs.Room.{AsBounded, IsLeft}
-use Rattle.jac_resolve.proofs.pass.settle.Given as goal
+use Rattle.jac_resolve.specs.Room.{AreOwn, Spends}
+use Rattle.jac_resolve.proofs.Room.{AsBounded}
+use Rattle.jac_resolve.proofs.pass.settle_among.Given as goal
 
 abbrev pub invariant-rounds : goal.invariant-rounds
 invariant-rounds g l =
     let k = g.K.Keeper in
-    Within l.labels [] l.assignment × (l.fn.evaluations ≤ l.evaluations) ×
+    Within l.tried [] l.assignment × (l.fn.evaluations ≤ l.evaluations) ×
     LoopOver k.seen l.fn.work l.work (AsBounded (IsUnderway (application_of l.app) (worlds_of (state_of k.seen l.fn.work)) l.viewer l.assignment l.answers)
-    (IsLocalCase (application_of l.app) (state_of k.seen l.fn.work) l.viewer → IsLeft l.labels l.fn.evaluations l.evaluations l.answers))
+    (IsLocalCase (application_of l.app) (state_of k.seen l.fn.work) l.viewer → AreOwn l.tried l.fn.answers → Spends l.tried l.fn.evaluations l.evaluations l.fn.answers l.answers))
 
 abbrev pub decreases-rounds : goal.decreases-rounds
-decreases-rounds g l = hidden_count (shown l.assignment) l.labels
+decreases-rounds g l = hidden_count (shown l.assignment) l.tried
