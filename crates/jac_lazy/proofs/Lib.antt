@@ -1,0 +1,7 @@
+pub mod Filling
+pub mod Living
+pub mod Passing
+pub mod Rising
+pub mod Shown
+pub mod Trying
+pub mod Viewed

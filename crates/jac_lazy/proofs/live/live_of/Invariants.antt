@@ -1,0 +1,14 @@
+use Rattle.std.proofs.Common.{drop}
+use Rattle.jac_lang.specs.Mirror.{application_of}
+use Rattle.jac_keep.specs.Worked.{state_of}
+use Rattle.jac_pruned.proofs.Working.{LoopOver}
+use Rattle.jac_resolve.specs.Rounds.{worlds_of}
+use Rattle.jac_lazy.proofs.Living.{AreLiveBut}
+use Rattle.jac_lazy.proofs.live.live_of.Given as goal
+
+abbrev pub invariant-labels : goal.invariant-labels
+invariant-labels g l =
+    let k = g.K.Keeper in
+    let worlds = worlds_of (state_of k.seen l.fn.work) in
+    LoopOver k.seen l.fn.work l.work
+    (AreLiveBut (application_of l.app) worlds l.labels (drop l.label-index l.labels) l.some.items)

@@ -1,0 +1,18 @@
+use Rattle.std.proofs.Common.{[], ◌≤◌, ◌-◌, ◌^◌, length}
+use Rattle.jac_lang.specs.Mirror.{application_of}
+use Rattle.jac_keep.specs.Worked.{state_of}
+use Rattle.jac_pruned.proofs.Working.{LoopOver}
+use Rattle.jac_resolve.specs.Recalled.{IsUnderway}
+use Rattle.jac_resolve.specs.Rounds.{worlds_of}
+use Rattle.jac_lazy.proofs.page.page_lazily.Given as goal
+
+abbrev pub invariant-runs : goal.invariant-runs
+invariant-runs g l =
+    let k = g.K.Keeper in
+    let worlds = worlds_of (state_of k.seen l.fn.work) in
+    (l.fn.evaluations ≤ l.evaluations) ×
+    LoopOver k.seen l.fn.work l.work (IsUnderway (application_of l.app) worlds l.ctx.viewer [] l.answers)
+
+-- a slice has less than 2 ^ 64 labels
+abbrev pub decreases-runs : goal.decreases-runs
+decreases-runs g l = 2 ^ 64 - length l.consulted

@@ -1,0 +1,62 @@
+-- How steady labels are filled up to settled ones.
+use Rattle.std.specs.Prelude.{◌≡◌, ℕ, zero, suc, ◌&&◌, ◌||◌, not, Bool, false, if◌then◌else◌, List, [], ◌∷◌, length, Option}
+use Rattle.std.specs.List.{list_all}
+use Rattle.jac_world.specs.World.{shown}
+use Rattle.jac_open.specs.Allowed.{inserted}
+use Rattle.jac_lang.specs.Syntax.{Application}
+use Rattle.jac_plain.specs.Policies.{is_allowed, with_label, IsLiveLabel, ShowsForbidden, AreAllowed, IsSettled}
+use Rattle.jac_plain.specs.Requests.{Visit, Worlds, page}
+use Rattle.jac_rows.specs.declared.plain.PlainState.{PlainState}
+use Rattle.jac_plain.specs.declared.page.Page.{Page}
+use Rattle.jac_pruned.specs.Consulted.{Agrees}
+
+-- labels are added one after another, each live and none of those that were consulted; all that are
+-- then shown are allowed each time
+abbrev pub Adds : Application → Worlds → Option ℕ → List ℕ → List ℕ → List ℕ → List ℕ → Type 0
+Adds app worlds viewer consulted [] old new = new ≡ old
+Adds app worlds viewer consulted (k ∷ ks) old new =
+    IsLiveLabel app worlds k × (shown consulted k ≡ false) ×
+    AreAllowed app worlds viewer (inserted k old) ×
+    Adds app worlds viewer consulted ks (inserted k old) new
+
+-- labels are added to the old ones so, until no further one can be added
+pub record IsFilled (app : Application) (worlds : Worlds) (viewer : Option ℕ)
+    (consulted old new : List ℕ) : Type 0 where
+  pub added : List ℕ
+  pub adds : Adds app worlds viewer consulted added old new
+  pub full : (k : ℕ) → IsLiveLabel app worlds k → shown consulted k ≡ false → shown new k ≡ false →
+      ShowsForbidden app worlds viewer (with_label k (shown new))
+
+-- each of the labels is allowed in the state
+abbrev pub all_allowed : Application → PlainState → Option ℕ → List ℕ → Bool
+all_allowed app t viewer labels = list_all (λ k. is_allowed app t viewer k) labels
+
+module _ (app : Application) (worlds : Worlds) (viewer : Option ℕ) (consulted : List ℕ) where
+  -- a label that wasn't consulted and isn't shown may be added where all are allowed once it is
+  -- shown
+  abbrev pub may_add : ℕ → List ℕ → Bool
+  may_add k labels = not (shown consulted k || shown labels k) && all_allowed app
+      (worlds (shown (inserted k labels))) viewer (inserted k labels)
+
+  -- each of these is tried, in their order
+  abbrev pub round : List ℕ → List ℕ → List ℕ
+  round [] labels = labels
+  round (k ∷ ks) labels = round ks (if may_add k labels then inserted k labels else labels)
+
+  abbrev pub rounds : ℕ → List ℕ → List ℕ → List ℕ
+  rounds zero ks labels = labels
+  rounds (suc n) ks labels = rounds n ks (round ks labels)
+
+  -- from these labels on, the live ones that weren't consulted are tried in their order, again and
+  -- again. Each round adds one of them, up to one that adds none, and no round behind that adds
+  -- any: so as many rounds as there are live labels do it
+  abbrev pub fill : List ℕ → List ℕ → List ℕ
+  fill live labels = rounds (length live) live labels
+
+-- the page of the request under some settled labels, which show the same of what was consulted
+pub record IsPageOfSettled (app : Application) (worlds before : Worlds) (viewer : Option ℕ)
+    (consulted labels : List ℕ) (visit : Visit) (it : Page) : Type 0 where
+  pub all : List ℕ
+  pub settled : IsSettled app worlds viewer all
+  pub agrees : Agrees consulted (shown labels) (shown all)
+  pub page : it ≡ page (shown all) app (before (shown all)) visit

@@ -1,0 +1,41 @@
+-- Assignments that are settled as far as was consulted.
+use Rattle.std.specs.Prelude.{◌≡◌, ℕ, Bool, true, false, List, Option}
+use Rattle.jac_world.specs.World.{shown, IsAscending}
+use Rattle.jac_lang.specs.Syntax.{Application}
+use Rattle.jac_plain.specs.Policies.{is_allowed, with_label, IsLiveLabel}
+use Rattle.jac_plain.specs.Requests.{Visit, Worlds, page}
+use Rattle.jac_plain.specs.declared.page.Page.{Page}
+use Rattle.jac_pruned.specs.Consulted.{Agrees}
+
+-- the label is allowed, whatever else is shown beside what was consulted
+pub record AlwaysAllows (app : Application) (worlds : Worlds) (viewer : Option ℕ)
+    (consulted : List ℕ) (w : ℕ → Bool) (label : ℕ) : Type 0 where
+  pub each : (v : ℕ → Bool) → Agrees consulted w v → is_allowed app (worlds v) viewer label ≡ true
+
+-- some label that the assignment shows isn't allowed, whatever else is shown beside what was
+-- consulted
+pub record AlwaysForbids (app : Application) (worlds : Worlds) (viewer : Option ℕ)
+    (consulted : List ℕ) (w : ℕ → Bool) : Type 0 where
+  pub label : ℕ
+  pub is_shown : w label ≡ true
+  pub forbidden : (v : ℕ → Bool) → Agrees consulted w v
+      → is_allowed app (worlds v) viewer label ≡ false
+
+-- labels are steady for a viewer where they ascend, each was consulted, is live, and is allowed
+-- whatever else is shown; and with any live label that was consulted and isn't shown, added to
+-- them, one never is
+pub record IsSteady (app : Application) (worlds : Worlds) (viewer : Option ℕ)
+    (consulted labels : List ℕ) : Type 0 where
+  pub ascending : IsAscending labels
+  pub within : (k : ℕ) → shown labels k ≡ true → shown consulted k ≡ true
+  pub live : (k : ℕ) → shown labels k ≡ true → IsLiveLabel app worlds k
+  pub allowed : (k : ℕ) → shown labels k ≡ true
+      → AlwaysAllows app worlds viewer consulted (shown labels) k
+  pub full : (k : ℕ) → IsLiveLabel app worlds k → shown consulted k ≡ true
+      → shown labels k ≡ false
+      → AlwaysForbids app worlds viewer consulted (with_label k (shown labels))
+
+-- the page of the request, whatever is shown beside what was consulted
+pub record IsPageOf (app : Application) (before : Worlds) (consulted labels : List ℕ)
+    (visit : Visit) (it : Page) : Type 0 where
+  pub each : (w : ℕ → Bool) → Agrees consulted (shown labels) w → it ≡ page w app (before w) visit

@@ -1,0 +1,21 @@
+//! Labels that were consulted, handed out.
+ghost use Rattle.std.specs.Prelude.{◌≡◌, IfOk};
+
+use crate::memory::from_world;
+use jac_pruned::Support;
+use jac_value::Memory;
+use jac_world::Assignment;
+use std::alloc::Global;
+
+/// The same labels as an assignment.
+pub(crate) fn assignment_of(alloc: Global, consulted: &Support) -> Result<Assignment, Memory>
+    ensures { IfOk result (λ a. a ≡ consulted.now) }
+{
+    let mut a = Assignment::empty(alloc);
+    'labels: for label in consulted.as_slice() {
+        from_world(a.add(*label))?;
+    }
+    // The labels of an assignment rise.
+    let _ = a.as_slice();
+    Ok(a)
+}

@@ -1,0 +1,45 @@
+ghost use Rattle.std.specs.Prelude.{◌≡◌, ℕ, List, Option};
+ghost use Rattle.jac_world.specs.World.{shown, IsAscending};
+ghost use Rattle.jac_lang.specs.Syntax.{Application};
+ghost use Rattle.jac_plain.specs.Policies.{IsSettled};
+ghost use Rattle.jac_plain.specs.Requests.{Visit, Worlds};
+ghost use Rattle.jac_plain.specs.declared.page.Page.{Page};
+ghost use Rattle.jac_pruned.specs.Consulted.{Agrees};
+ghost use Rattle.jac_resolve.specs.declared.recall.Answers.{Answers};
+ghost use Rattle.jac_resolve.specs.Recalled.{IsPassed};
+ghost use Rattle.jac_resolve.specs.Rounds.{AreLive};
+ghost use Rattle.jac_lazy.specs.Steady.{IsPageOf, IsSteady};
+ghost use Rattle.jac_lazy.specs.Filled.{IsFilled, IsPageOfSettled, fill};
+
+/// A law: where labels are steady, what they are filled up to is settled, and shows the same of
+/// what was consulted.
+pub fn filled_is_settled()
+    ensures { (app : Application) (worlds : Worlds) (viewer : Option ℕ)
+        (consulted labels filled : List ℕ) → IsSteady app worlds viewer consulted labels →
+        IsFilled app worlds viewer consulted labels filled → IsSettled app worlds viewer filled ×
+        Agrees consulted (shown labels) (shown filled) }
+{}
+
+/// A law: rounds that try the live labels, in rising order or another, fill up any labels so.
+pub fn rounds_fill()
+    ensures { (app : Application) (worlds : Worlds) (viewer : Option ℕ)
+        (consulted live labels : List ℕ) → AreLive app worlds live →
+        IsFilled app worlds viewer consulted labels (fill app worlds viewer consulted live labels) }
+{}
+
+/// A law: where labels are steady, a page that is the same whatever is shown beside what was
+/// consulted is the page under a settled assignment, one that shows the same of what was consulted.
+pub fn steady_pages()
+    ensures { (app : Application) (worlds before : Worlds) (viewer : Option ℕ)
+        (consulted live labels : List ℕ) (visit : Visit) (it : Page) →
+        IsSteady app worlds viewer consulted labels → AreLive app worlds live →
+        IsPageOf app before consulted labels visit it →
+        IsPageOfSettled app worlds before viewer consulted labels visit it }
+{}
+
+/// A law: what a pass over all live labels leaves is settled.
+pub fn passed_is_settled()
+    ensures { (app : Application) (worlds : Worlds) (viewer : Option ℕ) (answers : Answers)
+        (live labels : List ℕ) → IsAscending labels → AreLive app worlds live →
+        IsPassed app worlds viewer answers live labels → IsSettled app worlds viewer labels }
+{}

@@ -1,0 +1,12 @@
+//! Pages that are made after only those labels are resolved that the page and their policies
+//! consult.
+#![tactic(auto, using(jac_pruned::proofs::Growing::grows_same, jac_pruned::proofs::Growing::grows_then, jac_pruned::proofs::Growing::agrees_less))]
+
+mod consulted;
+mod laws;
+mod live;
+mod memory;
+mod page;
+
+pub use laws::{filled_is_settled, passed_is_settled, rounds_fill, steady_pages};
+pub use page::{LazyPage, page_lazily};

@@ -1,0 +1,146 @@
+//! The page of a view that writes nothing, and the labels that it consults.
+ghost use Rattle.std.specs.Prelude.{◌≡◌, ◌<◌, ◌≤◌, ◌^◌, ℕ, Bool, true, None, length, slice_get, IfOk, IsTrue};
+ghost use Rattle.jac_world.specs.World.{shown, IsAscending};
+ghost use Rattle.jac_lang.specs.Mirror.{application_of, statements_of};
+ghost use Rattle.jac_keep.specs.Worked.{state_of, IsTold, ReadsWork};
+ghost use Rattle.jac_plain.specs.Reading.{are_reading};
+ghost use Rattle.jac_plain.specs.Requests.{body_in};
+ghost use Rattle.jac_resolve.specs.Rounds.{worlds_of};
+ghost use Rattle.jac_pruned.specs.Consulted.{Agrees, Grows};
+ghost use Rattle.jac_pruned.specs.Runs.{page_ran, IsMade};
+ghost use Rattle.jac_lazy.specs.Steady.{IsPageOf, IsSteady};
+
+use crate::consulted::assignment_of;
+use crate::live::live_of;
+use jac_keep::{Keeper, Stop, Work};
+use jac_lang::{App, Binding, PlainEnv, Stmts};
+use jac_plain::{Ctx, Page};
+use jac_pruned::{Support, run_body_at};
+use jac_resolve::{Answers, settle_among};
+use jac_value::Memory;
+use jac_world::{Assignment, Steps};
+use std::alloc::Global;
+use std::sync::ledger::Ledger;
+
+/// A page, the labels that were consulted for it, and those of them that it was made under.
+#[derive(Drop)]
+pub struct LazyPage {
+    pub page: Page,
+    pub shown: Assignment,
+    pub consulted: Assignment,
+}
+
+/// The page of a view that writes nothing, made after only those labels are resolved that the page
+/// and their policies consult. Nothing is consulted at first. The live labels that were consulted
+/// are settled, and the page is run under them; what the policies and the page consult is added,
+/// until nothing is. What a policy answered is remembered from run to run.
+pub fn page_lazily<K: Keeper, M: Ledger>(
+    alloc: Global,
+    work: &mut Work<'_, K>,
+    app: &App,
+    ctx: &Ctx,
+    view: u32,
+    env: &PlainEnv,
+    evaluations: &mut Steps<M>,
+) -> Result<LazyPage, Stop>
+    requires attached { IsTrue (K.seen work.old.keeper.now).store.attached }
+    requires there { view < length app.now.views }
+    requires reading { are_reading
+        (body_in (slice_get (application_of app.now).views view)) ≡ true }
+    requires number { IsTold K.seen work.old → ctx.now.number ≡ (state_of K.seen work.old).number }
+    ensures steady { IsTold K.seen work.new →
+        IfOk result (λ it. IsSteady (application_of app.now) (worlds_of (state_of K.seen work.old))
+        ctx.now.viewer it.consulted it.shown) }
+    ensures page { IsTold K.seen work.new →
+        IfOk result (λ it. IsPageOf (application_of app.now) (worlds_of (state_of K.seen work.old))
+        it.consulted it.shown (record { view = view; env = env.now; viewer = ctx.now.viewer })
+        it.page) }
+    ensures made { IfOk result (λ it. IsMade it.page) }
+    ensures later { evaluations.old ≤ evaluations.new }
+    ensures reads { ReadsWork K.seen work.old work.new result }
+{
+    let body = body_at(app, view);
+    let outside = in_no_loop(ctx);
+    let mut consulted = Support::empty(alloc);
+    let mut answers = Answers::empty(alloc);
+    'runs: loop {
+        let before = count_of(&consulted);
+        let tried = live_of(alloc, work, app, consulted.as_slice())?;
+        let shown = settle_among(
+            alloc,
+            work,
+            app,
+            &ctx.viewer,
+            tried.as_slice(),
+            &mut answers,
+            evaluations,
+        )?;
+        answers.add_consulted(&mut consulted)?;
+        let bindings = copied(alloc, env)?;
+        let page = run_body_at(
+            alloc,
+            work,
+            app,
+            &outside,
+            &shown,
+            body,
+            bindings,
+            &mut consulted,
+        )?;
+        let after = count_of(&consulted);
+        if after == before {
+            let consulted = assignment_of(alloc, &consulted)?;
+            return Ok(LazyPage {
+                page,
+                shown,
+                consulted,
+            });
+        }
+    }
+}
+
+// How many labels were consulted.
+fn count_of(consulted: &Support) -> usize
+    ensures count { result ≡ length consulted.now }
+    ensures few { result < 2 ^ 64 }
+    ensures ascending { IsAscending consulted.now }
+{
+    consulted.as_slice().len()
+}
+
+// The statements of the view.
+fn body_at(app: &App, view: u32) -> &Stmts
+    requires { view < length app.now.views }
+    ensures { statements_of result.now ≡ body_in (slice_get (application_of app.now).views view) }
+{
+    &app.views.as_slice()[view as usize].body
+}
+
+// The view's statements stand in no loop.
+fn in_no_loop(ctx: &Ctx) -> Ctx
+    ensures { result ≡ record ctx.now { around = None } }
+{
+    Ctx {
+        around: None,
+        ..*ctx
+    }
+}
+
+fn copied(alloc: Global, env: &PlainEnv) -> Result<PlainEnv, Memory>
+    ensures { IfOk result (λ e. e ≡ env.now) }
+{
+    let mut bindings = Vec::new(alloc);
+    'bindings: for one in env.as_slice() {
+        let copy = copy_binding(alloc, one)?;
+        bindings.push(copy)?;
+    }
+    Ok(PlainEnv::from_vec(bindings))
+}
+
+fn copy_binding(alloc: Global, binding: &Binding) -> Result<Binding, Memory>
+    ensures { IfOk result (λ b. b ≡ binding.now) }
+{
+    let name = binding.name.copy(alloc)?;
+    let bound_to = binding.bound_to.copy(alloc)?;
+    Ok(Binding { name, bound_to })
+}
