@@ -1,6 +1,7 @@
 -- Each status of a run comes for its cause.
-use Rattle.std.proofs.Common.{Bool, false, is_some, IsTrue, arith, ◌≡◌, sym, subst, refl, ℕ, inl, inr, Result, Ok, Err, Option, Some, List}
+use Rattle.std.proofs.Common.{Bool, false, is_some, IsTrue, arith, ◌≡◌, ◌≤◌, sym, subst, refl, ℕ, ◌∙◌, ◌⊎◌, inl, inr, Result, Ok, Err, Option, Some, None, List}
 use Rattle.jac_io.specs.Linked.{LinkSeen, DoorSeen}
+use Rattle.jac_io.specs.Seen.{SinkSeen}
 use Rattle.jac_lang.specs.Syntax.{Application}
 use Rattle.jac_route.specs.declared.sessions.Session.{Session}
 use Rattle.jac_words.specs.declared.words.Command.{Command}
@@ -12,7 +13,6 @@ use Rattle.jac_words.specs.declared.role.Role.TheVariants as roles
 use Rattle.jac_ending.specs.declared.status.Status.{Status}
 use Rattle.jac_ending.specs.declared.status.Status.TheVariants as statuses
 use Rattle.jac_serving.specs.Script.{script_of}
-use Rattle.jac_opening.specs.Application.{IsApplication}
 use Rattle.jac_serving.specs.Outside.{Span, span, AWriteFailed}
 use Rattle.jac_words.specs.Words.{command_of}
 use Rattle.jac_words.specs.Commands.{file_of, db_of}
@@ -22,18 +22,22 @@ use Rattle.jac_keep.specs.KeeperSeen.{KeeperSeen}
 use Rattle.jac_admin.specs.Upgrade.{lack_line, upgraded_line, IsLacking, IsKept, EndsReshaping, EndsMoving, EndsUpgrading}
 use Rattle.jac_admin.specs.Explain.{asker_in, EndsExplained, EndsExplaining}
 use Rattle.jac_serving.proofs.OutsideLemmas.{Rose-widen}
-use Rattle.jac_ending.specs.Files.{Sight, sinks_of, IsRead, HasApplication, HasNext, IsOpened, IsUnopened}
+use Rattle.jac_ending.specs.Files.{Sight, sinks_of, standing_at, IsRead, HasApplication, HasNext, IsOpened, IsUnopened}
 use Rattle.jac_ending.specs.Ending.{Closes, Finishes, fault_line, status_of, PutsText}
 use Rattle.jac_ending.specs.Attached.{IsOther, AttachesAs}
+use Rattle.jac_app.specs.Held.{held_of}
 use Rattle.jac_app.specs.Replay.{EndsServing}
 use Rattle.jac_ending.specs.Early.{EndsOpening}
 use Rattle.jac_app.specs.Server.{EndsAimed}
 use Rattle.jac_app.specs.Check.{checked_text}
-use Rattle.jac_app.specs.Run.{Ends, Runs, IsSource, Sources, ComesFor, usage_line}
+use Rattle.jac_opening.specs.Application.{IsApplication, schema_text}
+use Rattle.jac_opening.proofs.OpeningLemmas.{some_same}
+use Rattle.jac_app.specs.Run.{Ends, Runs, IsSource, Sources, ComesFor, CanAttach, usage_line}
 use Rattle.jac_demo.specs.Calendar.{calendar_text}
 use Rattle.jac_app.specs.declared.summary.Summary.{Summary}
 use Rattle.jac_world.specs.World.{shown}
 use Rattle.jac_admin.specs.Dump.{EndsDumping}
+use Rattle.jac_app.proofs.LaterLemmas.{comes_later}
 use Rattle.jac_app.specs.Demo.{EndsCounting, EndsTallying, PutsSummary, summary_line}
 
 pub same_ending : (x y : Ending) → ◌≡◌ {A = Result (Unit {0}) Ending} (Err x) (Err y) → x ≡ y
@@ -42,11 +46,13 @@ same_ending x y e = cc
 pub none_there : IsTrue false → ⊥
 none_there is = cc
 
-module _ {L : Type 0} (line : L → LinkSeen) (seen : Sight) (door : Span (DoorSeen L)) (words : List (List ℕ)) where
-  cause_of_closing : (line : List ℕ) (status : Status) (put : List ℕ) (answer : Status)
-      → ComesFor seen door words status → Closes seen.out line status put answer → ComesFor seen door words answer
-  cause_of_closing line status put answer cause (inl h) = subst (λ (s : Status). ComesFor seen door words s) (sym h.1) cause
-  cause_of_closing line status put answer cause (inr h) = subst (λ (s : Status). ComesFor seen door words s) (sym h.1) (inl h.2)
+module _ {L : Type 0} (line : L → LinkSeen) (seen : Sight) (door : Span (DoorSeen L)) (splits : Span ℕ) (words : List (List ℕ)) where
+  -- the line of a status was put, or that put failed
+  cause_of_closing : (sink : Span SinkSeen) → (Rose sink.before.faults sink.after.faults → Rose seen.out.before.faults seen.out.after.faults)
+      → (line : List ℕ) (status : Status) (put : List ℕ) (answer : Status)
+      → ComesFor seen door words status → Closes sink line status put answer → ComesFor seen door words answer
+  cause_of_closing sink rose line status put answer cause (inl h) = subst (λ (s : Status). ComesFor seen door words s) (sym h.1) cause
+  cause_of_closing sink rose line status put answer cause (inr h) = subst (λ (s : Status). ComesFor seen door words s) (sym h.1) (inl (rose h.2))
 
   cause_of_opening : (command : Command) (ending : Ending)
       → ((bytes : List ℕ) → IsRead seen command roles.App bytes → IsSource seen command bytes)
@@ -68,8 +74,9 @@ module _ {L : Type 0} (line : L → LinkSeen) (seen : Sight) (door : Span (DoorS
   -- the cause of an ending behind the files
   cause_of_serving : (command : Command) (app : Application) (sessions : List Session) (events out audit : List ℕ) (ending : Ending)
       → (HasApplication seen command app → Sources seen command app) → command_of words ≡ Some command → IsOpened seen command app sessions events
-      → EndsServing (sinks_of seen) command app sessions seen.keeper (script_of events) (Err ending) out audit → ComesFor seen door words (status_of ending)
-  cause_of_serving command app sessions events out audit endings.WriteFault source is opened h = h.0
+      → EndsServing (sinks_of seen) command app sessions (held_of seen splits) (script_of events) (Err ending) out audit → ComesFor seen door words (status_of ending)
+  cause_of_serving command app sessions events out audit endings.WriteFault source is opened (inl h) = inr h.0
+  cause_of_serving command app sessions events out audit endings.WriteFault source is opened (inr h) = h.0
   cause_of_serving command app sessions events out audit endings.Memory source is opened h = tt
   cause_of_serving command app sessions events out audit endings.StoreFault source is opened h = h.1.0
   cause_of_serving command app sessions events out audit endings.DoorFault source is opened h = absurd h.1.ends
@@ -107,7 +114,7 @@ module _ {L : Type 0} (line : L → LinkSeen) (seen : Sight) (door : Span (DoorS
 
   cause_of_tallying : (n : ℕ) (app : Application) (audit : List ℕ) (ending : Ending)
       → command_of words ≡ Some (commands.Demo n) → IsApplication calendar_text app
-      → (◌≡◌ {A = Result Summary Ending} (Err ending) (Err endings.WriteFault) → AWriteFailed (sinks_of seen)) → EndsTallying app seen.keeper n (Err ending) audit
+      → (◌≡◌ {A = Result Summary Ending} (Err ending) (Err endings.WriteFault) → AWriteFailed (sinks_of seen)) → EndsTallying app (held_of seen splits) n (Err ending) audit
       → ComesFor seen door words (status_of ending)
   cause_of_tallying n app audit endings.WriteFault is calendar rose h = rose refl
   cause_of_tallying n app audit endings.Memory is calendar rose h = tt
@@ -125,14 +132,14 @@ module _ {L : Type 0} (line : L → LinkSeen) (seen : Sight) (door : Span (DoorS
 
   cause_of_told : (n : ℕ) (app : Application) (ended : Result Summary Ending) (out audit : List ℕ) (ending : Ending)
       → command_of words ≡ Some (commands.Demo n) → IsApplication calendar_text app
-      → EndsTallying app seen.keeper n ended audit → (ended ≡ Err endings.WriteFault → AWriteFailed (sinks_of seen)) → PutsSummary seen.out ended (Err ending) out
+      → EndsTallying app (held_of seen splits) n ended audit → (ended ≡ Err endings.WriteFault → AWriteFailed (sinks_of seen)) → PutsSummary seen.out ended (Err ending) out
       → ComesFor seen door words (status_of ending)
   cause_of_told n app (Ok summary) out audit ending is calendar ends rose told = cause_of_text (summary_line summary) out ending told
   cause_of_told n app (Err fault) out audit ending is calendar ends rose told =
       subst (λ (e : Ending). ComesFor seen door words (status_of e)) (sym (same_ending ending fault told.0)) (cause_of_tallying n app audit fault is calendar rose ends)
 
   cause_of_counting : (n : ℕ) (app : Application) (out audit : List ℕ) (ending : Ending)
-      → command_of words ≡ Some (commands.Demo n) → IsApplication calendar_text app → EndsCounting (sinks_of seen) app seen.keeper n (Err ending) out audit → ComesFor seen door words (status_of ending)
+      → command_of words ≡ Some (commands.Demo n) → IsApplication calendar_text app → EndsCounting (sinks_of seen) app (held_of seen splits) n (Err ending) out audit → ComesFor seen door words (status_of ending)
   cause_of_counting n app out audit ending is calendar (inl h) =
       subst (λ (e : Ending). ComesFor seen door words (status_of e)) (sym (same_ending ending endings.WriteFault h.fault)) (inr h.rose)
   cause_of_counting n app out audit ending is calendar (inr h) =
@@ -158,8 +165,9 @@ module _ {L : Type 0} (line : L → LinkSeen) (seen : Sight) (door : Span (DoorS
   -- the cause of an ending behind the audit's aim, where a door is served
   cause_of_aimed : (serving : Serving) (app : Application) (sessions : List Session) (out audit : List ℕ) (ending : Ending)
       → command_of words ≡ Some (commands.Serve serving) → HasApplication seen (commands.Serve serving) app
-      → EndsAimed line (sinks_of seen) app sessions serving door seen.keeper (Err ending) out audit → ComesFor seen door words (status_of ending)
-  cause_of_aimed serving app sessions out audit endings.WriteFault is had h = h.0
+      → EndsAimed line (sinks_of seen) app sessions serving door (held_of seen splits) (Err ending) out audit → ComesFor seen door words (status_of ending)
+  cause_of_aimed serving app sessions out audit endings.WriteFault is had (inl h) = inr h.0
+  cause_of_aimed serving app sessions out audit endings.WriteFault is had (inr h) = h.0
   cause_of_aimed serving app sessions out audit endings.Memory is had h = tt
   cause_of_aimed serving app sessions out audit endings.StoreFault is had h = h.1.0
   cause_of_aimed serving app sessions out audit endings.DoorFault is had h = h.1.ends.0
@@ -235,35 +243,60 @@ module _ {L : Type 0} (line : L → LinkSeen) (seen : Sight) (door : Span (DoorS
   cause_of_upgrading upgrading old new put ending is had next (inr h) = cause_of_moving (commands.Upgrade upgrading) old new put ending is had h.1
 
   cause_of_ending : (command : Command) (out audit : List ℕ) (ending : Ending)
-      → command_of words ≡ Some command → Ends line seen door command (Err ending) out audit → ComesFor seen door words (status_of ending)
-  cause_of_ending (commands.Check app) out audit ending is (inl h, uncalled) = cause_of_opening (commands.Check app) ending (λ bytes read. read) (λ there bytes read. absurd (none_there there)) is h.0
-  cause_of_ending (commands.Check app) out audit ending is (inr h, uncalled) = cause_of_text (checked_text h.app) out ending h.text
-  cause_of_ending (commands.Replay replay) out audit ending is (inl h, uncalled) = cause_of_opening (commands.Replay replay) ending (λ bytes read. read) (λ there bytes read. absurd (none_there there)) is h.0
+      → command_of words ≡ Some command → Ends line seen door splits command (Err ending) out audit → ComesFor seen door words (status_of ending)
+  cause_of_ending (commands.Check app) out audit ending is (inl h, uncalled, unsplit) = cause_of_opening (commands.Check app) ending (λ bytes read. read) (λ there bytes read. absurd (none_there there)) is h.0
+  cause_of_ending (commands.Check app) out audit ending is (inr h, uncalled, unsplit) = cause_of_text (checked_text h.app) out ending h.text
+  cause_of_ending (commands.Replay replay) out audit ending is (inl h, uncalled) = cause_of_opening (commands.Replay replay) ending (λ bytes read. read) (λ there bytes read. absurd (none_there there)) is h.0.0
   cause_of_ending (commands.Replay replay) out audit ending is (inr h, uncalled) =
       cause_of_serving (commands.Replay replay) h.app h.sessions h.events out audit ending (λ had. had) is h.opened h.ends
   cause_of_ending (commands.Serve serving) out audit ending is (inl h) = cause_of_opening (commands.Serve serving) ending (λ bytes read. read) (λ there bytes read. absurd (none_there there)) is h.0.0
   cause_of_ending (commands.Serve serving) out audit ending is (inr h) = cause_of_aimed serving h.app h.sessions out audit ending is h.application h.ends
   cause_of_ending (commands.Demo n) out audit ending is (inl h, uncalled) = cause_of_uncounted n out audit ending is h.0
   cause_of_ending (commands.Demo n) out audit ending is (inr h, uncalled) = cause_of_counting n h.app out audit ending is h.calendar h.ends
-  cause_of_ending (commands.Dump dumping) out audit ending is (inl h, uncalled) = cause_of_opening (commands.Dump dumping) ending (λ bytes read. read) (λ there bytes read. absurd (none_there there)) is h.0
-  cause_of_ending (commands.Dump dumping) out audit ending is (inr h, uncalled) =
+  cause_of_ending (commands.Dump dumping) out audit ending is (inl h, uncalled, unsplit) = cause_of_opening (commands.Dump dumping) ending (λ bytes read. read) (λ there bytes read. absurd (none_there there)) is h.0
+  cause_of_ending (commands.Dump dumping) out audit ending is (inr h, uncalled, unsplit) =
       cause_of_dumping (commands.Dump dumping) h.app (shown dumping.labels) out ending is h.application h.ends
   cause_of_ending (commands.Upgrade upgrading) out audit ending is (inl h, uncalled) =
       cause_of_opening (commands.Upgrade upgrading) ending (λ bytes read. inl read) (λ there bytes read. inr read) is h.0
-  cause_of_ending (commands.Why explaining) out audit ending is (inl h, uncalled) =
+  cause_of_ending (commands.Why explaining) out audit ending is (inl h, uncalled, unsplit) =
       cause_of_opening (commands.Why explaining) ending (λ bytes read. read) (λ there bytes read. absurd (none_there there)) is h.0
-  cause_of_ending (commands.Why explaining) out audit ending is (inr h, uncalled) =
+  cause_of_ending (commands.Why explaining) out audit ending is (inr h, uncalled, unsplit) =
       cause_of_explaining (commands.Why explaining) h.app (asker_in (commands.Why explaining) h.app) out ending is h.application h.ends
   cause_of_ending (commands.Upgrade upgrading) out audit ending is (inr h, uncalled) = cause_of_upgrading upgrading h.old h.new out ending is h.application h.next h.ends
 
-  cause_of_finish : (command : Command) (out audit : List ℕ) (ended : Result (Unit {0}) Ending) (last : List ℕ) (answer : Status)
-      → command_of words ≡ Some command → Ends line seen door command ended out audit → Finishes seen.out command ended last answer → ComesFor seen door words answer
-  cause_of_finish command out audit (Ok done) last answer is ends h = subst (λ (s : Status). ComesFor seen door words s) (sym h.1) (command, is)
-  cause_of_finish command out audit (Err ending) last answer is ends h =
-      cause_of_closing (fault_line command ending) (status_of ending) last answer (cause_of_ending command out audit ending is ends) h
+-- and where the line of the status was put behind the steps
+module _ {L : Type 0} (line : L → LinkSeen) (seen : Sight) (door : Span (DoorSeen L)) (splits : Span ℕ) (words : List (List ℕ)) where
+  cause_of_finish : (standing : SinkSeen) → seen.out.before.faults ≤ standing.faults → standing.faults ≤ seen.out.after.faults
+      → (command : Command) (out audit : List ℕ) (ended : Result (Unit {0}) Ending) (last : List ℕ) (answer : Status)
+      → command_of words ≡ Some command → Ends line (standing_at seen standing) door splits command ended out audit
+      → Finishes (span standing seen.out.after) command ended last answer → ComesFor seen door words answer
+  cause_of_finish standing earlier later command out audit (Ok done) last answer is ends h = subst (λ (s : Status). ComesFor seen door words s) (sym h.1) (command, is)
+  cause_of_finish standing earlier later command out audit (Err ending) last answer is ends h =
+      cause_of_closing line seen door splits words (span standing seen.out.after) (λ rose. Rose-widen _ _ _ _ earlier (omega arith) rose)
+      (fault_line command ending) (status_of ending) last answer
+      (comes_later (standing_at seen standing) seen.out.after later door words (status_of ending)
+      (cause_of_ending line (standing_at seen standing) door splits words command out audit ending is ends)) h
 
   -- each status comes for its cause
-  pub comes_for : (answer : Status) (out audit : List ℕ) → Runs line seen door words answer out audit → ComesFor seen door words answer
-  comes_for answer out audit (inl r) = cause_of_finish r.command r.served audit r.ended r.last answer r.is_command r.ends r.finishes
-  comes_for answer out audit (inr (inl r)) = cause_of_closing usage_line statuses.Usage out answer r.no_command r.closes
-  comes_for answer out audit (inr (inr r)) = cause_of_closing _ statuses.Memory out answer tt r.closes
+  pub comes_for : (answer : Status) (out audit : List ℕ) → Runs line seen door splits words answer out audit → ComesFor seen door words answer
+  comes_for answer out audit (inl r) =
+      cause_of_finish r.standing r.earlier r.later r.command r.served audit r.ended r.last answer r.is_command r.ends r.finishes
+  comes_for answer out audit (inr (inl r)) =
+      cause_of_closing line seen door splits words seen.out (λ rose. rose) usage_line statuses.Usage out answer r.no_command r.closes
+  comes_for answer out audit (inr (inr r)) =
+      cause_of_closing line seen door splits words seen.out (λ rose. rose) _ statuses.Memory out answer tt r.closes
+
+-- what is stored is known to have another schema
+not_other : (stored wanted : List ℕ) (schema : Option (List ℕ)) → schema ≡ Some stored → (schema ≡ None) ⊎ (schema ≡ Some wanted) → ¬ (stored ≡ wanted) → ⊥
+not_other stored wanted schema is (inl none) differs = let bad = sym is ∙ none in cc
+not_other stored wanted schema is (inr some) differs = differs (some_same _ _ (sym is ∙ some))
+
+-- where the store can be attached, no status comes for it
+pub is_attached_so : {L : Type 0} (seen : Sight) (door : Span (DoorSeen L)) (words : List (List ℕ)) (status : Status) → ComesFor seen door words status
+    → CanAttach seen words → ¬ (status ≡ statuses.StoreFault) × ¬ (status ≡ statuses.OtherStore)
+is_attached_so seen door words status cause can = (
+  λ is. can.no_fault (subst (λ (s : Status). ComesFor seen door words s) is cause),
+  λ is.
+      let h = subst (λ (s : Status). ComesFor seen door words s) is cause in
+      not_other h.2.2.0 (schema_text h.2.0) seen.keeper.before.store.schema (h.2.2.1.told can.told) (can.schema h.0 h.1 h.2.0 h.2.1) h.2.2.1.differs,
+)

@@ -27,9 +27,10 @@ use Rattle.jac_serving.specs.Outside.{Span, span, AWriteFailed}
 use Rattle.jac_words.specs.Words.{command_of}
 use Rattle.jac_words.specs.Commands.{file_of, name_of, name_or_empty, limit_of}
 use Rattle.jac_demo.specs.Calendar.{calendar_text}
-use Rattle.jac_ending.specs.Files.{Sight, sinks_of, IsUnopened, IsRead, IsLong, HasApplication, HasNext, HasBadLine, IsReached}
+use Rattle.jac_ending.specs.Files.{Sight, sinks_of, standing_at, IsUnopened, IsRead, IsLong, HasApplication, HasNext, HasBadLine, IsReached}
 use Rattle.jac_ending.specs.Ending.{Finishes, status_of, PutsText}
 use Rattle.jac_ending.specs.Early.{EndsOpening}
+use Rattle.jac_app.specs.Held.{held_of}
 use Rattle.jac_app.specs.Replay.{EndsReplay}
 use Rattle.jac_app.specs.Server.{EndsServer}
 use Rattle.jac_app.specs.Check.{EndsCheck, checked_text}
@@ -40,6 +41,7 @@ use Rattle.jac_app.specs.Run.{Ends, Runs, IsCompleted, CanHaveSessions, CanOpen,
 use Rattle.jac_calendar.proofs.CalendarOpens.{calendar, calendar_is}
 use Rattle.jac_app.proofs.CauseLemmas.{same_ending, none_there}
 use Rattle.jac_opening.proofs.OpeningLemmas.{some_same}
+use Rattle.jac_serving.proofs.OutsideLemmas.{Rose-widen, failed_later}
 
 -- a file that was read is the one that is there
 same_bytes : (seen : Sight) (command : Command) (role : Role) (there bytes : List ℕ)
@@ -92,23 +94,41 @@ module _ (seen : Sight) (command : Command) (app : Application) (can : CanOpen s
   app_not_long : IsLong seen command roles.App → ⊥
   app_not_long long = not_long seen command roles.App can.bytes can.told can.file can.application.1.short long
 
--- a command of which no put fails has a status that is done, want of memory or that of an ending of its steps
-module _ {L : Type 0} (line : L → LinkSeen) (seen : Sight) (door : Span (DoorSeen L)) (words : List (List ℕ)) (command : Command) (is_command : command_of words ≡ Some command)
-    (no_write_fault : AWriteFailed (sinks_of seen) → ⊥) (Is : Status → Type 0)
-    (done : (out audit : List ℕ) (finished : Unit {0}) → Ends line seen door command (Ok finished) out audit → Is statuses.Done) (memory : Is statuses.Memory)
-    (ends : (out audit : List ℕ) (ending : Ending) → Ends line seen door command (Err ending) out audit → Is (status_of ending)) where
-  finished_so : (out audit : List ℕ) (ended : Result (Unit {0}) Ending) (last : List ℕ) (answer : Status)
-      → Ends line seen door command ended out audit → Finishes seen.out command ended last answer → Is answer
-  finished_so out audit (Ok finished) last answer ended h = subst Is (sym h.1) (done out audit finished ended)
-  finished_so out audit (Err ending) last answer ended (inl h) = subst Is (sym h.1) (ends out audit ending ended)
-  finished_so out audit (Err ending) last answer ended (inr h) = absurd (no_write_fault (inl h.2))
+-- what fails until out stands so fails until the end
+standing_fault : (seen : Sight) (standing : SinkSeen) → standing.faults ≤ seen.out.after.faults → AWriteFailed (sinks_of (standing_at seen standing)) → AWriteFailed (sinks_of seen)
+standing_fault seen standing later failed = failed_later (sinks_of seen) (sinks_of (standing_at seen standing)) (omega arith) (omega arith) later (omega arith) failed
 
-  ran_so : (answer : Status) (out audit : List ℕ) → Runs line seen door words answer out audit → Is answer
+abbrev can_open_standing : (seen : Sight) (standing : SinkSeen) → standing.faults ≤ seen.out.after.faults → (command : Command) (app : Application)
+    → CanOpen seen command app → CanOpen (standing_at seen standing) command app
+can_open_standing seen standing later command app can = record {
+  bytes = can.bytes;
+  told = can.told;
+  file = can.file;
+  application = can.application;
+  no_read_fault = can.no_read_fault;
+  no_write_fault = λ failed. can.no_write_fault (standing_fault seen standing later failed);
+}
+
+-- a command of which no put fails has a status that is done, want of memory or that of an ending of its steps
+module _ {L : Type 0} (line : L → LinkSeen) (seen : Sight) (door : Span (DoorSeen L)) (splits : Span ℕ) (words : List (List ℕ)) (command : Command) (is_command : command_of words ≡ Some command)
+    (no_write_fault : AWriteFailed (sinks_of seen) → ⊥) (Is : Status → Type 0)
+    (done : (standing : SinkSeen) → standing.faults ≤ seen.out.after.faults
+    → (out audit : List ℕ) (finished : Unit {0}) → Ends line (standing_at seen standing) door splits command (Ok finished) out audit → Is statuses.Done) (memory : Is statuses.Memory)
+    (ends : (standing : SinkSeen) → standing.faults ≤ seen.out.after.faults
+    → (out audit : List ℕ) (ending : Ending) → Ends line (standing_at seen standing) door splits command (Err ending) out audit → Is (status_of ending)) where
+  finished_so : (standing : SinkSeen) → seen.out.before.faults ≤ standing.faults → standing.faults ≤ seen.out.after.faults
+      → (out audit : List ℕ) (ended : Result (Unit {0}) Ending) (last : List ℕ) (answer : Status)
+      → Ends line (standing_at seen standing) door splits command ended out audit → Finishes (span standing seen.out.after) command ended last answer → Is answer
+  finished_so standing earlier later out audit (Ok finished) last answer ended h = subst Is (sym h.1) (done standing later out audit finished ended)
+  finished_so standing earlier later out audit (Err ending) last answer ended (inl h) = subst Is (sym h.1) (ends standing later out audit ending ended)
+  finished_so standing earlier later out audit (Err ending) last answer ended (inr h) = absurd (no_write_fault (inl (Rose-widen _ _ _ _ earlier (omega arith) h.2)))
+
+  ran_so : (answer : Status) (out audit : List ℕ) → Runs line seen door splits words answer out audit → Is answer
   ran_so answer out audit (inl r) =
       let same : r.command ≡ command = some_same _ _ (sym r.is_command ∙ is_command) in
-      finished_so r.served audit r.ended r.last answer
-      (subst (λ (c : Command). Ends line seen door c r.ended r.served audit) same r.ends)
-      (subst (λ (c : Command). Finishes seen.out c r.ended r.last answer) same r.finishes)
+      finished_so r.standing r.earlier r.later r.served audit r.ended r.last answer
+      (subst (λ (c : Command). Ends line (standing_at seen r.standing) door splits c r.ended r.served audit) same r.ends)
+      (subst (λ (c : Command). Finishes (span r.standing seen.out.after) c r.ended r.last answer) same r.finishes)
   ran_so answer out audit (inr (inl r)) = let none = sym r.no_command ∙ is_command in cc
   ran_so answer out audit (inr (inr r)) = elim r.closes [ inl h ↦ subst Is (sym h.1) memory | inr h ↦ absurd (no_write_fault (inl h.2)) ]
 
@@ -128,7 +148,7 @@ no_text_fault sink none text put (endings.LineRefused lapse) h = h
 no_text_fault sink none text put (endings.SessionsRefused line) h = h
 
 -- a replay that can be served ends by want of memory or the store's refusal alone
-module _ {L : Type 0} (line : L → LinkSeen) (seen : Sight) (door : Span (DoorSeen L)) (words : List (List ℕ)) (can : CanReplay seen words) where
+module _ {L : Type 0} (line : L → LinkSeen) (seen : Sight) (door : Span (DoorSeen L)) (splits : Span ℕ) (words : List (List ℕ)) (can : CanReplay seen words) where
   abbrev its : Command
   its = commands.Replay can.replay
 
@@ -138,10 +158,15 @@ module _ {L : Type 0} (line : L → LinkSeen) (seen : Sight) (door : Span (DoorS
   no_long roles.Sessions reached long = not_long_named seen.files can.replay.sessions reached.1 can.sessions_file (long can.opens.told)
   no_long roles.Events reached long = not_long seen its roles.Events can.events can.opens.told can.events_file can.short long
 
-  no_ending : (out audit : List ℕ) (ending : Ending) → EndsReplay seen its (Err ending) out audit → IsCompleted (status_of ending)
+  -- a write failed
+  not_served : {A B C : Type 0} → (Rose seen.audit.before.faults seen.audit.after.faults × A) ⊎ (AWriteFailed (sinks_of seen) × B × C) → AWriteFailed (sinks_of seen)
+  not_served (inl h) = inr h.0
+  not_served (inr h) = h.0
+
+  no_ending : (out audit : List ℕ) (ending : Ending) → EndsReplay seen splits its (Err ending) out audit → IsCompleted (status_of ending)
   no_ending out audit ending (inl h) =
-      inr (inl (no_opening_fault seen its can.app can.opens ending h.0 no_long (λ line bad. no_bad_line seen.files can.replay.sessions line can.opens.told can.sessions_file bad) (λ there bytes line. absurd (none_there there))))
-  no_ending out audit endings.WriteFault (inr h) = absurd (can.opens.no_write_fault h.ends.0)
+      inr (inl (no_opening_fault seen its can.app can.opens ending h.0.0 no_long (λ line bad. no_bad_line seen.files can.replay.sessions line can.opens.told can.sessions_file bad) (λ there bytes line. absurd (none_there there))))
+  no_ending out audit endings.WriteFault (inr h) = absurd (can.opens.no_write_fault (not_served h.ends))
   no_ending out audit endings.Memory (inr h) = inr (inl refl)
   no_ending out audit endings.StoreFault (inr h) = inr (inr (inl refl))
   no_ending out audit endings.DoorFault (inr h) = absurd h.ends.1.ends
@@ -157,12 +182,28 @@ module _ {L : Type 0} (line : L → LinkSeen) (seen : Sight) (door : Span (DoorS
   no_ending out audit (endings.UpgradeRefused line) (inr h) = absurd h.ends.1.ends
   no_ending out audit (endings.SessionsRefused line) (inr h) = absurd h.ends.1.ends
 
-  -- where nothing is missing and no read or put fails, all is served, unless memory runs out or the store refuses
-  pub is_served : (answer : Status) (out audit : List ℕ) → Runs line seen door words answer out audit → IsCompleted answer
-  is_served = ran_so line seen door words its can.is_command can.opens.no_write_fault IsCompleted (λ out audit finished ended. inl refl) (inr (inl refl)) (λ out audit ending ends. no_ending out audit ending ends.0)
+abbrev replay_standing : (seen : Sight) (standing : SinkSeen) → standing.faults ≤ seen.out.after.faults → (words : List (List ℕ)) → CanReplay seen words → CanReplay (standing_at seen standing) words
+replay_standing seen standing later words can = record {
+  replay = can.replay;
+  app = can.app;
+  events = can.events;
+  is_command = can.is_command;
+  sessions_file = can.sessions_file;
+  events_file = can.events_file;
+  short = can.short;
+  forms = can.forms;
+  opens = can_open_standing seen standing later _ _ can.opens;
+}
+
+-- where nothing is missing and no read or put fails, all is served, unless memory runs out or the store refuses
+pub is_served : {L : Type 0} (line : L → LinkSeen) (seen : Sight) (door : Span (DoorSeen L)) (splits : Span ℕ) (words : List (List ℕ)) (can : CanReplay seen words)
+    → (answer : Status) (out audit : List ℕ) → Runs line seen door splits words answer out audit → IsCompleted answer
+is_served line seen door splits words can =
+    ran_so line seen door splits words (commands.Replay can.replay) can.is_command can.opens.no_write_fault IsCompleted (λ standing later out audit finished ended. inl refl) (inr (inl refl))
+    (λ standing later out audit ending ends. no_ending line (standing_at seen standing) door splits words (replay_standing seen standing later words can) out audit ending ends.0)
 
 -- the same of a check
-module _ {L : Type 0} (line : L → LinkSeen) (seen : Sight) (door : Span (DoorSeen L)) (words : List (List ℕ)) (can : CanCheck seen words) where
+module _ {L : Type 0} (line : L → LinkSeen) (seen : Sight) (door : Span (DoorSeen L)) (splits : Span ℕ) (words : List (List ℕ)) (can : CanCheck seen words) where
   abbrev checked : Command
   checked = commands.Check can.name
 
@@ -176,14 +217,23 @@ module _ {L : Type 0} (line : L → LinkSeen) (seen : Sight) (door : Span (DoorS
   no_check_ending out audit ending (inl h) = no_opening_fault seen checked can.app can.opens ending h.0 check_long (λ line bad. absurd bad) (λ there bytes line. absurd (none_there there))
   no_check_ending out audit ending (inr h) = absurd (no_text_fault seen.out (λ rose. can.opens.no_write_fault (inl rose)) (checked_text h.app) out ending h.text)
 
-  -- where the application is there and no read or put fails, it is checked, unless memory runs out
-  pub is_checked : (answer : Status) (out audit : List ℕ) → Runs line seen door words answer out audit → (answer ≡ statuses.Done) ⊎ (answer ≡ statuses.Memory)
-  is_checked =
-      ran_so line seen door words checked can.is_command can.opens.no_write_fault (λ status. (status ≡ statuses.Done) ⊎ (status ≡ statuses.Memory)) (λ out audit finished ended. inl refl) (inr refl)
-      (λ out audit ending ends. inr (no_check_ending out audit ending ends.0))
+abbrev check_standing : (seen : Sight) (standing : SinkSeen) → standing.faults ≤ seen.out.after.faults → (words : List (List ℕ)) → CanCheck seen words → CanCheck (standing_at seen standing) words
+check_standing seen standing later words can = record {
+  name = can.name;
+  app = can.app;
+  is_command = can.is_command;
+  opens = can_open_standing seen standing later _ _ can.opens;
+}
+
+-- where the application is there and no read or put fails, it is checked, unless memory runs out
+pub is_checked : {L : Type 0} (line : L → LinkSeen) (seen : Sight) (door : Span (DoorSeen L)) (splits : Span ℕ) (words : List (List ℕ)) (can : CanCheck seen words)
+    → (answer : Status) (out audit : List ℕ) → Runs line seen door splits words answer out audit → (answer ≡ statuses.Done) ⊎ (answer ≡ statuses.Memory)
+is_checked line seen door splits words can =
+    ran_so line seen door splits words (commands.Check can.name) can.is_command can.opens.no_write_fault (λ status. (status ≡ statuses.Done) ⊎ (status ≡ statuses.Memory)) (λ standing later out audit finished ended. inl refl) (inr refl)
+    (λ standing later out audit ending ends. inr (no_check_ending line (standing_at seen standing) door splits words (check_standing seen standing later words can) out audit ending ends.0))
 
 -- the same of a demo
-module _ {L : Type 0} (line : L → LinkSeen) (seen : Sight) (door : Span (DoorSeen L)) (words : List (List ℕ)) (can : CanDemo seen words) where
+module _ {L : Type 0} (line : L → LinkSeen) (seen : Sight) (door : Span (DoorSeen L)) (splits : Span ℕ) (words : List (List ℕ)) (can : CanDemo seen words) where
   abbrev shown : Command
   shown = commands.Demo can.count
 
@@ -193,7 +243,7 @@ module _ {L : Type 0} (line : L → LinkSeen) (seen : Sight) (door : Span (DoorS
 
   not_tallied : (app : Application) (audit : List ℕ) (ending : Ending)
       → (◌≡◌ {A = Result Summary Ending} (Err ending) (Err endings.WriteFault) → Rose seen.audit.before.faults seen.audit.after.faults)
-      → EndsTallying app seen.keeper can.count (Err ending) audit → IsCompleted (status_of ending)
+      → EndsTallying app (held_of seen splits) can.count (Err ending) audit → IsCompleted (status_of ending)
   not_tallied app audit endings.WriteFault rose h = absurd (can.no_write_fault (inr (rose refl)))
   not_tallied app audit endings.Memory rose h = inr (inl refl)
   not_tallied app audit endings.StoreFault rose h = inr (inr (inl refl))
@@ -209,26 +259,36 @@ module _ {L : Type 0} (line : L → LinkSeen) (seen : Sight) (door : Span (DoorS
 
   not_told : (app : Application) (ended : Result Summary Ending) (out audit : List ℕ) (ending : Ending)
       → (ended ≡ Err endings.WriteFault → Rose seen.audit.before.faults seen.audit.after.faults)
-      → EndsTallying app seen.keeper can.count ended audit → PutsSummary seen.out ended (Err ending) out → IsCompleted (status_of ending)
+      → EndsTallying app (held_of seen splits) can.count ended audit → PutsSummary seen.out ended (Err ending) out → IsCompleted (status_of ending)
   not_told app (Ok summary) out audit ending rose ends told =
       absurd (no_text_fault seen.out (λ torn. can.no_write_fault (inl torn)) (summary_line summary) out ending told)
   not_told app (Err fault) out audit ending rose ends told =
       subst (λ (e : Ending). IsCompleted (status_of e)) (sym (same_ending ending fault told.0)) (not_tallied app audit fault rose ends)
 
-  not_counted : (app : Application) (out audit : List ℕ) (ending : Ending) → EndsCounting (sinks_of seen) app seen.keeper can.count (Err ending) out audit → IsCompleted (status_of ending)
+  not_counted : (app : Application) (out audit : List ℕ) (ending : Ending) → EndsCounting (sinks_of seen) app (held_of seen splits) can.count (Err ending) out audit → IsCompleted (status_of ending)
   not_counted app out audit ending (inl h) = absurd (can.no_write_fault (inr h.rose))
   not_counted app out audit ending (inr h) = not_told app h.1.ended out audit ending h.1.rose h.1.ends h.1.told
 
-  no_demo_ending : (out audit : List ℕ) (ending : Ending) → EndsDemo (sinks_of seen) seen.keeper can.count (Err ending) out audit → IsCompleted (status_of ending)
+  no_demo_ending : (out audit : List ℕ) (ending : Ending) → EndsDemo (sinks_of seen) (held_of seen splits) can.count (Err ending) out audit → IsCompleted (status_of ending)
   no_demo_ending out audit ending (inl h) = not_opened ending h.0
   no_demo_ending out audit ending (inr h) = not_counted h.app out audit ending h.ends
 
-  -- where no put fails, all requests are answered, unless memory runs out or the store refuses
-  pub is_shown : (answer : Status) (out audit : List ℕ) → Runs line seen door words answer out audit → IsCompleted answer
-  is_shown = ran_so line seen door words shown can.is_command can.no_write_fault IsCompleted (λ out audit finished ended. inl refl) (inr (inl refl)) (λ out audit ending ends. no_demo_ending out audit ending ends.0)
+abbrev demo_standing : (seen : Sight) (standing : SinkSeen) → standing.faults ≤ seen.out.after.faults → (words : List (List ℕ)) → CanDemo seen words → CanDemo (standing_at seen standing) words
+demo_standing seen standing later words can = record {
+  count = can.count;
+  is_command = can.is_command;
+  no_write_fault = λ failed. can.no_write_fault (standing_fault seen standing later failed);
+}
+
+-- where no put fails, all requests are answered, unless memory runs out or the store refuses
+pub is_shown : {L : Type 0} (line : L → LinkSeen) (seen : Sight) (door : Span (DoorSeen L)) (splits : Span ℕ) (words : List (List ℕ)) (can : CanDemo seen words)
+    → (answer : Status) (out audit : List ℕ) → Runs line seen door splits words answer out audit → IsCompleted answer
+is_shown line seen door splits words can =
+    ran_so line seen door splits words (commands.Demo can.count) can.is_command can.no_write_fault IsCompleted (λ standing later out audit finished ended. inl refl) (inr (inl refl))
+    (λ standing later out audit ending ends. no_demo_ending line (standing_at seen standing) door splits words (demo_standing seen standing later words can) out audit ending ends.0)
 
 -- the same of a dump
-module _ {L : Type 0} (line : L → LinkSeen) (seen : Sight) (door : Span (DoorSeen L)) (words : List (List ℕ)) (can : CanDump seen words) where
+module _ {L : Type 0} (line : L → LinkSeen) (seen : Sight) (door : Span (DoorSeen L)) (splits : Span ℕ) (words : List (List ℕ)) (can : CanDump seen words) where
   abbrev dumped : Command
   dumped = commands.Dump can.dumping
 
@@ -257,9 +317,20 @@ module _ {L : Type 0} (line : L → LinkSeen) (seen : Sight) (door : Span (DoorS
   no_dump_ending out audit ending (inl h) = inr (inl (no_opening_fault seen dumped can.app can.opens ending h.0 dump_long (λ line bad. absurd bad) (λ there bytes line. absurd (none_there there))))
   no_dump_ending out audit ending (inr h) = not_dumped h.app (shown_labels can.dumping.labels) out ending h.ends
 
-  -- where the application is there and no read or put fails, the store is dumped, unless memory runs out or the store refuses
-  pub is_dumped : (answer : Status) (out audit : List ℕ) → Runs line seen door words answer out audit → IsCompleted answer
-  is_dumped = ran_so line seen door words dumped can.is_command can.opens.no_write_fault IsCompleted (λ out audit finished ended. inl refl) (inr (inl refl)) (λ out audit ending ends. no_dump_ending out audit ending ends.0)
+abbrev dump_standing : (seen : Sight) (standing : SinkSeen) → standing.faults ≤ seen.out.after.faults → (words : List (List ℕ)) → CanDump seen words → CanDump (standing_at seen standing) words
+dump_standing seen standing later words can = record {
+  dumping = can.dumping;
+  app = can.app;
+  is_command = can.is_command;
+  opens = can_open_standing seen standing later _ _ can.opens;
+}
+
+-- where the application is there and no read or put fails, the store is dumped, unless memory runs out or the store refuses
+pub is_dumped : {L : Type 0} (line : L → LinkSeen) (seen : Sight) (door : Span (DoorSeen L)) (splits : Span ℕ) (words : List (List ℕ)) (can : CanDump seen words)
+    → (answer : Status) (out audit : List ℕ) → Runs line seen door splits words answer out audit → IsCompleted answer
+is_dumped line seen door splits words can =
+    ran_so line seen door splits words (commands.Dump can.dumping) can.is_command can.opens.no_write_fault IsCompleted (λ standing later out audit finished ended. inl refl) (inr (inl refl))
+    (λ standing later out audit ending ends. no_dump_ending line (standing_at seen standing) door splits words (dump_standing seen standing later words can) out audit ending ends.0)
 
 -- a store that isn't attached completes so
 not_attached : (db : Option (List ℕ)) (app : Application) (k : Span KeeperSeen) (ending : Ending) → AttachesAs db app k (Err ending) → IsCompleted (status_of ending)
@@ -290,7 +361,7 @@ kept_so k put ending h = elim h.ended [
 ]
 
 -- the same of a `why`
-module _ {L : Type 0} (line : L → LinkSeen) (seen : Sight) (door : Span (DoorSeen L)) (words : List (List ℕ)) (can : CanExplain seen words) where
+module _ {L : Type 0} (line : L → LinkSeen) (seen : Sight) (door : Span (DoorSeen L)) (splits : Span ℕ) (words : List (List ℕ)) (can : CanExplain seen words) where
   abbrev explained : Command
   explained = commands.Why can.explaining
 
@@ -314,14 +385,23 @@ module _ {L : Type 0} (line : L → LinkSeen) (seen : Sight) (door : Span (DoorS
       inr (inl (no_opening_fault seen explained can.app can.opens ending h.0 explain_long (λ line bad. absurd bad) (λ there bytes line. absurd (none_there there))))
   no_explain_ending out audit ending (inr h) = not_explaining h.app (asker_in explained h.app) out ending h.ends
 
-  -- where the application is there and no read or put fails, it is told, unless memory runs out or the store refuses
-  pub is_explained : (answer : Status) (out audit : List ℕ) → Runs line seen door words answer out audit → IsCompleted answer
-  is_explained =
-      ran_so line seen door words explained can.is_command can.opens.no_write_fault IsCompleted (λ out audit finished ended. inl refl) (inr (inl refl))
-      (λ out audit ending ends. no_explain_ending out audit ending ends.0)
+abbrev explain_standing : (seen : Sight) (standing : SinkSeen) → standing.faults ≤ seen.out.after.faults → (words : List (List ℕ)) → CanExplain seen words → CanExplain (standing_at seen standing) words
+explain_standing seen standing later words can = record {
+  explaining = can.explaining;
+  app = can.app;
+  is_command = can.is_command;
+  opens = can_open_standing seen standing later _ _ can.opens;
+}
+
+-- where the application is there and no read or put fails, it is told, unless memory runs out or the store refuses
+pub is_explained : {L : Type 0} (line : L → LinkSeen) (seen : Sight) (door : Span (DoorSeen L)) (splits : Span ℕ) (words : List (List ℕ)) (can : CanExplain seen words)
+    → (answer : Status) (out audit : List ℕ) → Runs line seen door splits words answer out audit → IsCompleted answer
+is_explained line seen door splits words can =
+    ran_so line seen door splits words (commands.Why can.explaining) can.is_command can.opens.no_write_fault IsCompleted (λ standing later out audit finished ended. inl refl) (inr (inl refl))
+    (λ standing later out audit ending ends. no_explain_ending line (standing_at seen standing) door splits words (explain_standing seen standing later words can) out audit ending ends.0)
 
 -- the same of an upgrade
-module _ {L : Type 0} (line : L → LinkSeen) (seen : Sight) (door : Span (DoorSeen L)) (words : List (List ℕ)) (can : CanUpgrade seen words) where
+module _ {L : Type 0} (line : L → LinkSeen) (seen : Sight) (door : Span (DoorSeen L)) (splits : Span ℕ) (words : List (List ℕ)) (can : CanUpgrade seen words) where
   abbrev moving : Command
   moving = commands.Upgrade can.upgrading
 
@@ -370,12 +450,6 @@ module _ {L : Type 0} (line : L → LinkSeen) (seen : Sight) (door : Span (DoorS
     | inr moved ↦ not_moved h.old h.new out ending moved.1
   ]
 
-  -- where both applications are there, the second extends the first, and no read or put fails, the store is brought to
-  -- the second, unless memory runs out or the store refuses
-  pub is_upgraded : Extends seen words can true → (answer : Status) (out audit : List ℕ) → Runs line seen door words answer out audit → IsCompleted answer
-  is_upgraded finds =
-      ran_so line seen door words moving can.is_command can.opens.no_write_fault IsCompleted (λ out audit finished ended. inl refl) (inr (inl refl)) (λ out audit ending ends. no_upgrade_ending finds out audit ending ends.0)
-
   refused_so : (ending : Ending) (line : List ℕ) → (◌≡◌ {A = Result (Unit {0}) Ending} (Err ending) (Err (endings.UpgradeRefused line))) ⊎ (◌≡◌ {A = Result (Unit {0}) Ending} (Err ending) (Err endings.Memory))
       → (status_of ending ≡ statuses.UpgradeRefused) ⊎ (status_of ending ≡ statuses.Memory)
   refused_so ending line (inl told) = inl (ap status_of (same_ending ending (endings.UpgradeRefused line) told))
@@ -400,16 +474,40 @@ module _ {L : Type 0} (line : L → LinkSeen) (seen : Sight) (door : Span (DoorS
     | inr moved ↦ no_extension (models_lack 0 h.old.models h.new.models) moved.0 (found false finds h.old h.new h.application h.next)
   ]
 
-  -- and where the second doesn't extend the first, it is refused, unless memory runs out
-  pub is_refused : Extends seen words can false → (answer : Status) (out audit : List ℕ) → Runs line seen door words answer out audit
-      → (answer ≡ statuses.UpgradeRefused) ⊎ (answer ≡ statuses.Memory)
-  is_refused finds =
-      ran_so line seen door words moving can.is_command can.opens.no_write_fault (λ status. (status ≡ statuses.UpgradeRefused) ⊎ (status ≡ statuses.Memory))
-      (λ out audit finished ended. absurd (not_done finds out audit finished ended.0)) (inr refl)
-      (λ out audit ending ends. no_refusal_ending finds out audit ending ends.0)
+abbrev upgrade_standing : (seen : Sight) (standing : SinkSeen) → standing.faults ≤ seen.out.after.faults → (words : List (List ℕ)) → CanUpgrade seen words → CanUpgrade (standing_at seen standing) words
+upgrade_standing seen standing later words can = record {
+  upgrading = can.upgrading;
+  old = can.old;
+  new = can.new;
+  next_bytes = can.next_bytes;
+  is_command = can.is_command;
+  next_file = can.next_file;
+  next_application = can.next_application;
+  opens = can_open_standing seen standing later _ _ can.opens;
+}
+
+-- where both applications are there, the second extends the first, and no read or put fails, the store is brought to
+-- the second, unless memory runs out or the store refuses
+pub is_upgraded : {L : Type 0} (line : L → LinkSeen) (seen : Sight) (door : Span (DoorSeen L)) (splits : Span ℕ) (words : List (List ℕ)) (can : CanUpgrade seen words)
+    → Extends seen words can true → (answer : Status) (out audit : List ℕ) → Runs line seen door splits words answer out audit → IsCompleted answer
+is_upgraded line seen door splits words can finds =
+    ran_so line seen door splits words (commands.Upgrade can.upgrading) can.is_command can.opens.no_write_fault IsCompleted (λ standing later out audit finished ended. inl refl) (inr (inl refl))
+    (λ standing later out audit ending ends.
+    no_upgrade_ending line (standing_at seen standing) door splits words (upgrade_standing seen standing later words can) finds out audit ending ends.0)
+
+-- and where the second doesn't extend the first, it is refused, unless memory runs out
+pub is_refused : {L : Type 0} (line : L → LinkSeen) (seen : Sight) (door : Span (DoorSeen L)) (splits : Span ℕ) (words : List (List ℕ)) (can : CanUpgrade seen words)
+    → Extends seen words can false → (answer : Status) (out audit : List ℕ) → Runs line seen door splits words answer out audit
+    → (answer ≡ statuses.UpgradeRefused) ⊎ (answer ≡ statuses.Memory)
+is_refused line seen door splits words can finds =
+    ran_so line seen door splits words (commands.Upgrade can.upgrading) can.is_command can.opens.no_write_fault (λ status. (status ≡ statuses.UpgradeRefused) ⊎ (status ≡ statuses.Memory))
+    (λ standing later out audit finished ended.
+    absurd (not_done line (standing_at seen standing) door splits words (upgrade_standing seen standing later words can) finds out audit finished ended.0)) (inr refl)
+    (λ standing later out audit ending ends.
+    no_refusal_ending line (standing_at seen standing) door splits words (upgrade_standing seen standing later words can) finds out audit ending ends.0)
 
 -- the same of serving a door
-module _ {L : Type 0} (line : L → LinkSeen) (seen : Sight) (door : Span (DoorSeen L)) (words : List (List ℕ)) (can : CanServe seen door words) where
+module _ {L : Type 0} (line : L → LinkSeen) (seen : Sight) (door : Span (DoorSeen L)) (splits : Span ℕ) (words : List (List ℕ)) (can : CanServe seen door words) where
   abbrev listening : Command
   listening = commands.Serve can.serving
 
@@ -419,10 +517,15 @@ module _ {L : Type 0} (line : L → LinkSeen) (seen : Sight) (door : Span (DoorS
   serve_long roles.Sessions reached long = not_long_named seen.files can.serving.sessions reached.1 can.sessions_file (long can.opens.told)
   serve_long roles.Events reached long = none_there reached.2
 
-  no_serve_ending : (out audit : List ℕ) (ending : Ending) → EndsServer line seen door can.serving (Err ending) out audit → IsCompleted (status_of ending)
+  -- a write failed
+  not_listened : {A B C D : Type 0} → (Rose seen.audit.before.faults seen.audit.after.faults × A × B) ⊎ (AWriteFailed (sinks_of seen) × C × D) → AWriteFailed (sinks_of seen)
+  not_listened (inl h) = inr h.0
+  not_listened (inr h) = h.0
+
+  no_serve_ending : (out audit : List ℕ) (ending : Ending) → EndsServer line seen door splits can.serving (Err ending) out audit → IsCompleted (status_of ending)
   no_serve_ending out audit ending (inl h) =
       inr (inl (no_opening_fault seen listening can.app can.opens ending h.0.0 serve_long (λ n bad. no_bad_line seen.files can.serving.sessions n can.opens.told can.sessions_file bad) (λ there bytes line. absurd (none_there there))))
-  no_serve_ending out audit endings.WriteFault (inr h) = absurd (can.opens.no_write_fault h.ends.0)
+  no_serve_ending out audit endings.WriteFault (inr h) = absurd (can.opens.no_write_fault (not_listened h.ends))
   no_serve_ending out audit endings.DoorFault (inr h) = absurd (can.no_door_fault h.ends.1.ends.0)
   no_serve_ending out audit endings.Memory (inr h) = inr (inl refl)
   no_serve_ending out audit endings.StoreFault (inr h) = inr (inr (inl refl))
@@ -435,6 +538,20 @@ module _ {L : Type 0} (line : L → LinkSeen) (seen : Sight) (door : Span (DoorS
   no_serve_ending out audit (endings.LineRefused lapse) (inr h) = absurd h.ends.1.ends.ends
   no_serve_ending out audit (endings.SessionsRefused n) (inr h) = absurd h.ends.1.ends.ends
 
-  -- where nothing is missing and no read, put or call of the door fails, it is served, unless memory runs out or the store refuses
-  pub is_listened : (answer : Status) (out audit : List ℕ) → Runs line seen door words answer out audit → IsCompleted answer
-  is_listened = ran_so line seen door words listening can.is_command can.opens.no_write_fault IsCompleted (λ out audit finished ended. inl refl) (inr (inl refl)) no_serve_ending
+abbrev serve_standing : {L : Type 0} (seen : Sight) (standing : SinkSeen) → standing.faults ≤ seen.out.after.faults → (door : Span (DoorSeen L)) (words : List (List ℕ))
+    → CanServe seen door words → CanServe (standing_at seen standing) door words
+serve_standing seen standing later door words can = record {
+  serving = can.serving;
+  app = can.app;
+  is_command = can.is_command;
+  sessions_file = can.sessions_file;
+  no_door_fault = can.no_door_fault;
+  opens = can_open_standing seen standing later _ _ can.opens;
+}
+
+-- where nothing is missing and no read, put or call of the door fails, it is served, unless memory runs out or the store refuses
+pub is_listened : {L : Type 0} (line : L → LinkSeen) (seen : Sight) (door : Span (DoorSeen L)) (splits : Span ℕ) (words : List (List ℕ)) (can : CanServe seen door words)
+    → (answer : Status) (out audit : List ℕ) → Runs line seen door splits words answer out audit → IsCompleted answer
+is_listened line seen door splits words can =
+    ran_so line seen door splits words (commands.Serve can.serving) can.is_command can.opens.no_write_fault IsCompleted (λ standing later out audit finished ended. inl refl) (inr (inl refl))
+    (λ standing later out audit ending ends. no_serve_ending line (standing_at seen standing) door splits words (serve_standing seen standing later door words can) out audit ending ends)

@@ -1,5 +1,5 @@
 -- How the steps of `serve` end.
-use Rattle.std.proofs.Common.{◌≡◌, ◌∙◌, ap, sym, refl, ℕ, inl, inr, IsTrue, Result, Ok, Err, Option, List, [], ◌++◌, append-nil, map, arith}
+use Rattle.std.proofs.Common.{◌≡◌, ◌∙◌, ap, sym, subst, refl, Bool, ℕ, inl, inr, IsTrue, Result, Ok, Err, Option, List, [], ◌++◌, append-nil, map, arith}
 use Rattle.jac_io.specs.Faults.{Rose}
 use Rattle.jac_io.specs.Linked.{LinkSeen, DoorSeen, DoorLasts, Listens}
 use Rattle.jac_io.specs.Seen.{SinkSeen, Aims}
@@ -19,7 +19,9 @@ use Rattle.jac_serving.specs.Outside.{Span, span, Sinks, sinks, IsPut, Went, Wen
 use Rattle.jac_ending.specs.Files.{Sight, sinks_of, HasApplication, HasSessions, IsAimed}
 use Rattle.jac_ending.specs.Attached.{AttachesAs}
 use Rattle.jac_links.specs.Door.{Visit, IsEnding, AreLinksServed}
-use Rattle.jac_serving.specs.Answering.{Entry}
+use Rattle.jac_serving.specs.Answering.{Answering, Entry}
+use Rattle.jac_serving.specs.Keeping.{Holding, holding_of, keepers}
+use Rattle.jac_app.specs.Held.{held_of}
 use Rattle.jac_app.specs.Server.{served_line, halted, EndsConnections, IsListenedAt, EndsDoor, IsServedAt, EndsAttached, EndsAimed, EndsServer}
 use Rattle.jac_serving.proofs.OutsideLemmas.{Lasts-none, Took-none, Rose-widen}
 use Rattle.jac_ending.proofs.EndingLemmas.{is_attached}
@@ -31,11 +33,11 @@ write_failed s halts.Door ending is rose same = cc
 write_failed s halts.Write ending is rose same = inr (rose refl)
 write_failed s halts.Memory ending is rose same = cc
 
-module _ {L : Type 0} (line : L → LinkSeen) (app : Application) (sessions : List Session) where
+module _ {L : Type 0} (line : L → LinkSeen) (x : Answering) where
   -- the connections were served, and it was told how many
-  pub served_told : (most : ℕ) (door : Span (DoorSeen L)) (k : Span KeeperSeen) (out_before out_after audit_before audit_after : SinkSeen) (tally : Tally) (put done : Unit {0})
-      → WentTo (span audit_before audit_after) (AreLinksServed line (answering_of app sessions) most door k (Ok tally)) → IsPut {E = Failed} (span out_before out_after) (served_line tally) (Ok put)
-      → Went (sinks out_before out_after audit_before audit_after) (EndsConnections line app sessions most door k (Ok done))
+  pub served_told : (most : ℕ) (door : Span (DoorSeen L)) (k : Span Holding) (out_before out_after audit_before audit_after : SinkSeen) (tally : Tally) (put done : Unit {0})
+      → WentTo (span audit_before audit_after) (AreLinksServed line x most door k (Ok tally)) → IsPut {E = Failed} (span out_before out_after) (served_line tally) (Ok put)
+      → Went (sinks out_before out_after audit_before audit_after) (EndsConnections line x most door k (Ok done))
   served_told most door k out_before out_after audit_before audit_after tally put done went told = record {
     out = told.put;
     audit = went.put;
@@ -47,9 +49,9 @@ module _ {L : Type 0} (line : L → LinkSeen) (app : Application) (sessions : Li
   }
 
   -- that put failed
-  pub served_torn : (most : ℕ) (door : Span (DoorSeen L)) (k : Span KeeperSeen) (out_before out_after audit_before audit_after : SinkSeen) (tally : Tally) (failed : Failed)
-      → WentTo (span audit_before audit_after) (AreLinksServed line (answering_of app sessions) most door k (Ok tally)) → IsPut {E = Failed} (span out_before out_after) (served_line tally) (Err failed)
-      → Went (sinks out_before out_after audit_before audit_after) (EndsConnections line app sessions most door k (Err endings.WriteFault))
+  pub served_torn : (most : ℕ) (door : Span (DoorSeen L)) (k : Span Holding) (out_before out_after audit_before audit_after : SinkSeen) (tally : Tally) (failed : Failed)
+      → WentTo (span audit_before audit_after) (AreLinksServed line x most door k (Ok tally)) → IsPut {E = Failed} (span out_before out_after) (served_line tally) (Err failed)
+      → Went (sinks out_before out_after audit_before audit_after) (EndsConnections line x most door k (Err endings.WriteFault))
   served_torn most door k out_before out_after audit_before audit_after tally failed went told = record {
     out = told.put;
     audit = went.put;
@@ -60,16 +62,16 @@ module _ {L : Type 0} (line : L → LinkSeen) (app : Application) (sessions : Li
     holds = inr (tally, went.holds, told.is_put);
   }
 
-  halted_as : (most : ℕ) (door : Span (DoorSeen L)) (k : Span KeeperSeen) (halt : DoorHalt) (audit : List ℕ) → AreLinksServed line (answering_of app sessions) most door k (Err halt) audit
-      → EndsConnections line app sessions most door k (Err (halted halt)) [] audit
+  halted_as : (most : ℕ) (door : Span (DoorSeen L)) (k : Span Holding) (halt : DoorHalt) (audit : List ℕ) → AreLinksServed line x most door k (Err halt) audit
+      → EndsConnections line x most door k (Err (halted halt)) [] audit
   halted_as most door k halts.Door audit h = (h, refl)
   halted_as most door k halts.Write audit h = inl (h, refl)
   halted_as most door k halts.Memory audit h = (h, refl)
 
   -- serving them ended early
-  pub served_part : (most : ℕ) (door : Span (DoorSeen L)) (k : Span KeeperSeen) (out audit_before audit_after : SinkSeen) (halt : DoorHalt)
-      → WentTo (span audit_before audit_after) (AreLinksServed line (answering_of app sessions) most door k (Err halt))
-      → Went (sinks out out audit_before audit_after) (EndsConnections line app sessions most door k (Err (halted halt)))
+  pub served_part : (most : ℕ) (door : Span (DoorSeen L)) (k : Span Holding) (out audit_before audit_after : SinkSeen) (halt : DoorHalt)
+      → WentTo (span audit_before audit_after) (AreLinksServed line x most door k (Err halt))
+      → Went (sinks out out audit_before audit_after) (EndsConnections line x most door k (Err (halted halt)))
   served_part most door k out audit_before audit_after halt went = record {
     out = [];
     audit = went.put;
@@ -80,6 +82,8 @@ module _ {L : Type 0} (line : L → LinkSeen) (app : Application) (sessions : Li
     holds = halted_as most door k halt went.put went.holds;
   }
 
+-- and what stands around it
+module _ {L : Type 0} (line : L → LinkSeen) (app : Application) (sessions : List Session) where
   -- ---- behind a listening
 
   module _ (da db dc : DoorSeen L) (serving : Serving) (done : Unit {0}) (heard : Listens da db serving.port (Ok done)) (lasts : DoorLasts db dc) (same_port : IsTrue dc.tells → dc.port ≡ db.port) where
@@ -90,9 +94,9 @@ module _ {L : Type 0} (line : L → LinkSeen) (app : Application) (sessions : Li
     ending_from most visits last log (Err halts.Write) h = h
     ending_from most visits last log (Err halts.Memory) h = h
 
-    links_from : (most : ℕ) (k : Span KeeperSeen) (result : Result Tally DoorHalt) (audit : List ℕ)
-        → AreLinksServed line (answering_of app sessions) most (span db dc) k result audit → AreLinksServed line (answering_of app sessions) most (span da dc) k result audit
-    links_from most k result audit s = record {
+    links_from : (x : Answering) (most : ℕ) (k : Span Holding) (result : Result Tally DoorHalt) (audit : List ℕ)
+        → AreLinksServed line x most (span db dc) k result audit → AreLinksServed line x most (span da dc) k result audit
+    links_from x most k result audit s = record {
       visits = s.visits;
       last = s.last;
       log = s.log;
@@ -105,51 +109,54 @@ module _ {L : Type 0} (line : L → LinkSeen) (app : Application) (sessions : Li
       ended = ending_from most s.visits s.last s.log result s.ended;
     }
 
-    connections_from : (most : ℕ) (k : Span KeeperSeen) (result : Result (Unit {0}) Ending) (out audit : List ℕ)
-        → EndsConnections line app sessions most (span db dc) k result out audit → EndsConnections line app sessions most (span da dc) k result out audit
-    connections_from most k (Ok done) out audit h = (h.0, links_from most k (Ok h.0) audit h.1, h.2)
-    connections_from most k (Err endings.WriteFault) out audit (inl h) = inl (links_from most k (Err halts.Write) audit h.0, h.1)
-    connections_from most k (Err endings.WriteFault) out audit (inr h) = inr (h.0, links_from most k (Ok h.0) audit h.1, h.2)
-    connections_from most k (Err endings.DoorFault) out audit h = (links_from most k (Err halts.Door) audit h.0, h.1)
-    connections_from most k (Err endings.Memory) out audit h = (links_from most k (Err halts.Memory) audit h.0, h.1)
-    connections_from most k (Err endings.StoreFault) out audit h = absurd h
-    connections_from most k (Err (endings.OtherStore stored wanted)) out audit h = absurd h
-    connections_from most k (Err (endings.ReadFault role)) out audit h = absurd h
-    connections_from most k (Err (endings.TooLong role)) out audit h = absurd h
-    connections_from most k (Err (endings.AppRefused text)) out audit h = absurd h
-    connections_from most k (Err (endings.NewRefused text)) out audit h = absurd h
-    connections_from most k (Err (endings.UpgradeRefused text)) out audit h = absurd h
-    connections_from most k (Err (endings.LineRefused lapse)) out audit h = absurd h
-    connections_from most k (Err (endings.SessionsRefused n)) out audit h = absurd h
+    connections_from : (x : Answering) (most : ℕ) (k : Span Holding) (result : Result (Unit {0}) Ending) (out audit : List ℕ)
+        → EndsConnections line x most (span db dc) k result out audit → EndsConnections line x most (span da dc) k result out audit
+    connections_from x most k (Ok done) out audit h = (h.0, links_from x most k (Ok h.0) audit h.1, h.2)
+    connections_from x most k (Err endings.WriteFault) out audit (inl h) = inl (links_from x most k (Err halts.Write) audit h.0, h.1)
+    connections_from x most k (Err endings.WriteFault) out audit (inr h) = inr (h.0, links_from x most k (Ok h.0) audit h.1, h.2)
+    connections_from x most k (Err endings.DoorFault) out audit h = (links_from x most k (Err halts.Door) audit h.0, h.1)
+    connections_from x most k (Err endings.Memory) out audit h = (links_from x most k (Err halts.Memory) audit h.0, h.1)
+    connections_from x most k (Err endings.StoreFault) out audit h = absurd h
+    connections_from x most k (Err (endings.OtherStore stored wanted)) out audit h = absurd h
+    connections_from x most k (Err (endings.ReadFault role)) out audit h = absurd h
+    connections_from x most k (Err (endings.TooLong role)) out audit h = absurd h
+    connections_from x most k (Err (endings.AppRefused text)) out audit h = absurd h
+    connections_from x most k (Err (endings.NewRefused text)) out audit h = absurd h
+    connections_from x most k (Err (endings.UpgradeRefused text)) out audit h = absurd h
+    connections_from x most k (Err (endings.LineRefused lapse)) out audit h = absurd h
+    connections_from x most k (Err (endings.SessionsRefused n)) out audit h = absurd h
 
-    listened : (k : Span KeeperSeen) (result : Result (Unit {0}) Ending) (out audit : List ℕ)
-        → EndsConnections line app sessions serving.count (span db dc) k result out audit → IsListenedAt line app sessions serving (span da dc) k result out audit
-    listened k result out audit h = record {
-      listens = λ told. same_port told ∙ heard.ok (lasts.told told);
-      ends = connections_from serving.count k result out audit h;
-    }
+    -- by a desk that is as lazy as the command says
+    module _ (lazy : Bool) (same : lazy ≡ serving.lazy) where
+      listened : (k : Span Holding) (result : Result (Unit {0}) Ending) (out audit : List ℕ)
+          → EndsConnections line (answering_of lazy app sessions) serving.count (span db dc) k result out audit → IsListenedAt line app sessions serving (span da dc) k result out audit
+      listened k result out audit h = record {
+        listens = λ told. same_port told ∙ heard.ok (lasts.told told);
+        ends = subst (λ (is : Bool). EndsConnections line (answering_of is app sessions) serving.count (span da dc) k result out audit) same
+            (connections_from (answering_of lazy app sessions) serving.count k result out audit h);
+      }
 
-    -- the port was listened at, and the connections were served
-    pub door_ends : (k : Span KeeperSeen) (result : Result (Unit {0}) Ending) (out audit : List ℕ)
-        → EndsConnections line app sessions serving.count (span db dc) k result out audit → EndsDoor line app sessions serving (span da dc) k result out audit
-    door_ends k (Ok done) out audit h = listened k (Ok done) out audit h
-    door_ends k (Err endings.DoorFault) out audit h =
-        let is = listened k (Err endings.DoorFault) out audit h in
-        (is.ends.0.ended.1, inr is)
-    door_ends k (Err endings.WriteFault) out audit h = listened k (Err endings.WriteFault) out audit h
-    door_ends k (Err endings.Memory) out audit h = listened k (Err endings.Memory) out audit h
-    door_ends k (Err endings.StoreFault) out audit h = absurd h
-    door_ends k (Err (endings.OtherStore stored wanted)) out audit h = absurd h
-    door_ends k (Err (endings.ReadFault role)) out audit h = absurd h
-    door_ends k (Err (endings.TooLong role)) out audit h = absurd h
-    door_ends k (Err (endings.AppRefused text)) out audit h = absurd h
-    door_ends k (Err (endings.NewRefused text)) out audit h = absurd h
-    door_ends k (Err (endings.UpgradeRefused text)) out audit h = absurd h
-    door_ends k (Err (endings.LineRefused lapse)) out audit h = absurd h
-    door_ends k (Err (endings.SessionsRefused n)) out audit h = absurd h
+      -- the port was listened at, and the connections were served
+      pub door_ends : (k : Span Holding) (result : Result (Unit {0}) Ending) (out audit : List ℕ)
+          → EndsConnections line (answering_of lazy app sessions) serving.count (span db dc) k result out audit → EndsDoor line app sessions serving (span da dc) k result out audit
+      door_ends k (Ok done) out audit h = listened k (Ok done) out audit h
+      door_ends k (Err endings.DoorFault) out audit h =
+          let is = listened k (Err endings.DoorFault) out audit h in
+          (is.ends.0.ended.1, inr is)
+      door_ends k (Err endings.WriteFault) out audit h = listened k (Err endings.WriteFault) out audit h
+      door_ends k (Err endings.Memory) out audit h = listened k (Err endings.Memory) out audit h
+      door_ends k (Err endings.StoreFault) out audit h = absurd h
+      door_ends k (Err (endings.OtherStore stored wanted)) out audit h = absurd h
+      door_ends k (Err (endings.ReadFault role)) out audit h = absurd h
+      door_ends k (Err (endings.TooLong role)) out audit h = absurd h
+      door_ends k (Err (endings.AppRefused text)) out audit h = absurd h
+      door_ends k (Err (endings.NewRefused text)) out audit h = absurd h
+      door_ends k (Err (endings.UpgradeRefused text)) out audit h = absurd h
+      door_ends k (Err (endings.LineRefused lapse)) out audit h = absurd h
+      door_ends k (Err (endings.SessionsRefused n)) out audit h = absurd h
 
   -- it wasn't
-  pub unheard_ends : (da db : DoorSeen L) (serving : Serving) (k : KeeperSeen) (failed : Failed) → Listens da db serving.port (Err failed)
+  pub unheard_ends : (da db : DoorSeen L) (serving : Serving) (k : Holding) (failed : Failed) → Listens da db serving.port (Err failed)
       → EndsDoor line app sessions serving (span da db) (span k k) (Err endings.DoorFault) [] []
   unheard_ends da db serving k failed listens = (
     listens.rose,
@@ -158,14 +165,15 @@ module _ {L : Type 0} (line : L → LinkSeen) (app : Application) (sessions : Li
 
   -- ---- behind the attaching
 
-  module _ (serving : Serving) (door : Span (DoorSeen L)) (before opened after : KeeperSeen) (attaches : AttachesAs serving.db app (span before opened) (Ok tt)) (stays : after.store ≡ opened.store) where
-    served_on : (result : Result (Unit {0}) Ending) (out audit : List ℕ) → EndsDoor line app sessions serving door (span opened after) result out audit
-        → IsServedAt line app sessions serving door (span before after) result out audit
-    served_on result out audit ends = record { opened = opened; attached = is_attached serving.db app before opened after attaches stays; ends = ends }
+  module _ (serving : Serving) (door : Span (DoorSeen L)) (before opened : KeeperSeen) (splits : ℕ) (after : Holding)
+      (attaches : AttachesAs serving.db app (span before opened) (Ok tt)) (stays : after.keeper.store ≡ opened.store) where
+    served_on : (result : Result (Unit {0}) Ending) (out audit : List ℕ) → EndsDoor line app sessions serving door (span (holding_of opened splits) after) result out audit
+        → IsServedAt line app sessions serving door (span (holding_of before splits) after) result out audit
+    served_on result out audit ends = record { opened = opened; attached = is_attached serving.db app before opened after.keeper attaches stays; ends = ends }
 
     -- the store was attached, and the door was served
-    pub attached_ends : (result : Result (Unit {0}) Ending) (out audit : List ℕ) → EndsDoor line app sessions serving door (span opened after) result out audit
-        → EndsAttached line app sessions serving door (span before after) result out audit
+    pub attached_ends : (result : Result (Unit {0}) Ending) (out audit : List ℕ) → EndsDoor line app sessions serving door (span (holding_of opened splits) after) result out audit
+        → EndsAttached line app sessions serving door (span (holding_of before splits) after) result out audit
     attached_ends (Ok done) out audit h = served_on (Ok done) out audit h
     attached_ends (Err endings.DoorFault) out audit h = served_on (Err endings.DoorFault) out audit h
     attached_ends (Err endings.WriteFault) out audit h = served_on (Err endings.WriteFault) out audit h
@@ -181,29 +189,29 @@ module _ {L : Type 0} (line : L → LinkSeen) (app : Application) (sessions : Li
     attached_ends (Err (endings.SessionsRefused n)) out audit h = absurd h.ends
 
   -- it wasn't
-  pub unattached_ends : (serving : Serving) (door : DoorSeen L) (k : Span KeeperSeen) (ending : Ending) → AttachesAs serving.db app k (Err ending)
+  pub unattached_ends : (serving : Serving) (door : DoorSeen L) (k : Span Holding) (ending : Ending) → AttachesAs serving.db app (keepers k) (Err ending) → k.after.splits ≡ k.before.splits
       → EndsAttached line app sessions serving (span door door) k (Err ending) [] []
-  unattached_ends serving door k endings.StoreFault h = (h.0, record { unattached = h.1; uncalled = refl })
-  unattached_ends serving door k (endings.OtherStore stored wanted) h = (h.0, h.1, record { unattached = h.2; uncalled = refl })
-  unattached_ends serving door k endings.Memory h = inl (record { unattached = h; uncalled = refl })
-  unattached_ends serving door k endings.DoorFault h = absurd h
-  unattached_ends serving door k endings.WriteFault h = absurd h
-  unattached_ends serving door k (endings.ReadFault role) h = absurd h
-  unattached_ends serving door k (endings.TooLong role) h = absurd h
-  unattached_ends serving door k (endings.AppRefused text) h = absurd h
-  unattached_ends serving door k (endings.NewRefused text) h = absurd h
-  unattached_ends serving door k (endings.UpgradeRefused text) h = absurd h
-  unattached_ends serving door k (endings.LineRefused lapse) h = absurd h
-  unattached_ends serving door k (endings.SessionsRefused n) h = absurd h
+  unattached_ends serving door k endings.StoreFault h unsplit = (h.0, record { unstarted = record { unattached = h.1; unsplit = unsplit }; uncalled = refl })
+  unattached_ends serving door k (endings.OtherStore stored wanted) h unsplit = (h.0, h.1, record { unstarted = record { unattached = h.2; unsplit = unsplit }; uncalled = refl })
+  unattached_ends serving door k endings.Memory h unsplit = inl (record { unstarted = record { unattached = h; unsplit = unsplit }; uncalled = refl })
+  unattached_ends serving door k endings.DoorFault h unsplit = absurd h
+  unattached_ends serving door k endings.WriteFault h unsplit = absurd h
+  unattached_ends serving door k (endings.ReadFault role) h unsplit = absurd h
+  unattached_ends serving door k (endings.TooLong role) h unsplit = absurd h
+  unattached_ends serving door k (endings.AppRefused text) h unsplit = absurd h
+  unattached_ends serving door k (endings.NewRefused text) h unsplit = absurd h
+  unattached_ends serving door k (endings.UpgradeRefused text) h unsplit = absurd h
+  unattached_ends serving door k (endings.LineRefused lapse) h unsplit = absurd h
+  unattached_ends serving door k (endings.SessionsRefused n) h unsplit = absurd h
 
   -- ---- behind the aim
 
   -- the audit was aimed, and what follows it
-  pub aimed_ends : (s : Sinks) (serving : Serving) (door : Span (DoorSeen L)) (k : Span KeeperSeen) (result : Result (Unit {0}) Ending) (out audit : List ℕ)
+  pub aimed_ends : (s : Sinks) (serving : Serving) (door : Span (DoorSeen L)) (k : Span Holding) (result : Result (Unit {0}) Ending) (out audit : List ℕ)
       → (result ≡ Err endings.WriteFault → AWriteFailed s) → IsAimed serving.audit s.audit → EndsAttached line app sessions serving door k result out audit
       → EndsAimed line s app sessions serving door k result out audit
   aimed_ends s serving door k (Ok done) out audit failed aimed h = (aimed, h)
-  aimed_ends s serving door k (Err endings.WriteFault) out audit failed aimed h = (failed refl, inr (aimed, h))
+  aimed_ends s serving door k (Err endings.WriteFault) out audit failed aimed h = inr (failed refl, aimed, h)
   aimed_ends s serving door k (Err endings.DoorFault) out audit failed aimed h = (aimed, h)
   aimed_ends s serving door k (Err endings.Memory) out audit failed aimed h = (aimed, h)
   aimed_ends s serving door k (Err endings.StoreFault) out audit failed aimed h = (aimed, h)
@@ -217,7 +225,7 @@ module _ {L : Type 0} (line : L → LinkSeen) (app : Application) (sessions : Li
   aimed_ends s serving door k (Err (endings.SessionsRefused n)) out audit failed aimed h = (aimed, h)
 
   -- it wasn't
-  pub unaimed_ends : (out audit_before audit_after : SinkSeen) (serving : Serving) (door : DoorSeen L) (k : KeeperSeen) (failed : Failed) → Aims audit_before audit_after serving.audit (Err failed)
+  pub unaimed_ends : (out audit_before audit_after : SinkSeen) (serving : Serving) (door : DoorSeen L) (k : Holding) (failed : Failed) → Aims audit_before audit_after serving.audit (Err failed)
       → WentAimed (sinks out out audit_before audit_after) (EndsAimed line (sinks out out audit_before audit_after) app sessions serving (span door door) (span k k) (Err endings.WriteFault))
   unaimed_ends out audit_before audit_after serving door k failed aims = record {
     out = [];
@@ -226,13 +234,13 @@ module _ {L : Type 0} (line : L → LinkSeen) (app : Application) (sessions : Li
     audit_later = aims.later;
     out_took = Took-none out;
     audit_took = λ told. aims.same_held told ∙ sym (append-nil audit_before.held);
-    holds = (inr aims.rose, inl (record { no_out = refl; no_audit = refl; unaimed = aims.err; still = refl }, refl));
+    holds = inl (aims.rose, record { idle = record { no_out = refl; no_audit = refl; unaimed = aims.err; still = refl }; unsplit = refl }, refl);
   }
 
 -- the last steps end the command
-pub server_ends : {L : Type 0} (line : L → LinkSeen) (seen : Sight) (door : Span (DoorSeen L)) (serving : Serving) (app : Application) (sessions : List Session) (out audit : List ℕ)
+pub server_ends : {L : Type 0} (line : L → LinkSeen) (seen : Sight) (door : Span (DoorSeen L)) (splits : Span ℕ) (serving : Serving) (app : Application) (sessions : List Session) (out audit : List ℕ)
     (result : Result (Unit {0}) Ending)
     → HasApplication seen (commands.Serve serving) app → HasSessions seen.files serving.sessions sessions
-    → EndsAimed line (sinks_of seen) app sessions serving door seen.keeper result out audit → EndsServer line seen door serving result out audit
-server_ends line seen door serving app sessions out audit result application had h =
+    → EndsAimed line (sinks_of seen) app sessions serving door (held_of seen splits) result out audit → EndsServer line seen door splits serving result out audit
+server_ends line seen door splits serving app sessions out audit result application had h =
     inr (record { app = app; sessions = sessions; application = application; sessions_had = had; ends = h })

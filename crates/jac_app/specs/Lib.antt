@@ -1,3 +1,4 @@
+pub mod Held
 pub mod Replay
 pub mod Check
 pub mod Server

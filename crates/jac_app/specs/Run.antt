@@ -1,7 +1,7 @@
 -- A run: its command, what it puts, and its status.
 use Rattle.std.specs.Prelude.{◌≡◌, ◌≤◌, ◌⊎◌, ⊤, ℕ, Bool, true, false, is_none, IsTrue, Result, Ok, Option, Some, None, List, [], ◌++◌, length, codes}
 use Rattle.jac_io.specs.Faults.{Rose}
-use Rattle.jac_io.specs.Seen.{FilesSeen}
+use Rattle.jac_io.specs.Seen.{FilesSeen, SinkSeen}
 use Rattle.jac_io.specs.Linked.{LinkSeen, DoorSeen, DoorLasts}
 use Rattle.jac_lang.specs.Syntax.{Application}
 use Rattle.jac_route.specs.declared.sessions.Session.{Session}
@@ -15,10 +15,11 @@ use Rattle.jac_serving.specs.declared.serve.Lapse.{Lapse}
 use Rattle.jac_ending.specs.declared.status.Status.{Status}
 use Rattle.jac_ending.specs.declared.status.Status.TheVariants as statuses
 use Rattle.jac_opening.specs.Application.{IsApplication, schema_text}
-use Rattle.jac_serving.specs.Outside.{Span, AWriteFailed, WentAimed}
+use Rattle.jac_serving.specs.Keeping.{IsStill}
+use Rattle.jac_serving.specs.Outside.{Span, span, AWriteFailed, WentAimed}
 use Rattle.jac_words.specs.Words.{command_of}
 use Rattle.jac_words.specs.Commands.{file_of, name_of}
-use Rattle.jac_ending.specs.Files.{Sight, sinks_of, IsRead, IsLong, HasApplication, HasNext, HasBadLine, IsOpened, IsReached, IsIdle}
+use Rattle.jac_ending.specs.Files.{Sight, sinks_of, standing_at, IsRead, IsLong, HasApplication, HasNext, HasBadLine, IsOpened, IsReached, IsIdle}
 use Rattle.jac_serving.specs.Script.{script_of}
 use Rattle.jac_words.specs.declared.words.Dumping.{Dumping}
 use Rattle.jac_words.specs.declared.words.Replay.{Replay}
@@ -35,53 +36,75 @@ use Rattle.jac_app.specs.Demo.{EndsDemo}
 use Rattle.jac_admin.specs.Dump.{EndsDump}
 use Rattle.jac_demo.specs.Calendar.{calendar_text}
 use Rattle.jac_ending.specs.Attached.{IsOther}
+use Rattle.jac_app.specs.Held.{held_of}
 use Rattle.jac_app.specs.Replay.{EndsReplay}
 use Rattle.jac_app.specs.Server.{EndsServer}
 
 abbrev pub usage_line : List ℕ
-usage_line = codes "usage: jac check APP, replay APP EVENTS, serve APP PORT COUNT, demo N, dump APP LABELS, upgrade OLD NEW, why APP VIEWER; options --db FILE --sessions FILE --audit FILE\n"
+usage_line = codes "usage: jac check APP, replay APP EVENTS, serve APP PORT COUNT, demo N, dump APP LABELS, upgrade OLD NEW, why APP VIEWER; options --db FILE --sessions FILE --audit FILE --lazy\n"
 
 -- the door wasn't called
 abbrev pub IsUncalled : {L : Type 0} → Span (DoorSeen L) → Type 0
 IsUncalled door = door.after ≡ door.before
 
--- what the steps of a command put, and why they ended; those of `serve` alone call the door
-abbrev pub Ends : {L : Type 0} → (L → LinkSeen) → Sight → Span (DoorSeen L) → Command → Result (Unit {0}) Ending → List ℕ → List ℕ → Type 0
-Ends line seen door (commands.Check app) result out audit = EndsCheck seen (commands.Check app) result out audit × IsUncalled door
-Ends line seen door (commands.Replay replay) result out audit = EndsReplay seen (commands.Replay replay) result out audit × IsUncalled door
-Ends line seen door (commands.Serve serving) result out audit = EndsServer line seen door serving result out audit
-Ends line seen door (commands.Demo n) result out audit = EndsDemo (sinks_of seen) seen.keeper n result out audit × IsUncalled door
-Ends line seen door (commands.Dump dumping) result out audit = EndsDump seen (commands.Dump dumping) result out audit × IsUncalled door
-Ends line seen door (commands.Upgrade upgrading) result out audit = EndsUpgrade seen (commands.Upgrade upgrading) result out audit × IsUncalled door
-Ends line seen door (commands.Why explaining) result out audit = EndsExplain seen (commands.Why explaining) result out audit × IsUncalled door
+-- what the steps of a command put, and why they ended; those of `serve` alone call the door, and a check, a dump and a
+-- `why` split no facet
+abbrev pub Ends : {L : Type 0} → (L → LinkSeen) → Sight → Span (DoorSeen L) → Span ℕ → Command
+    → Result (Unit {0}) Ending → List ℕ → List ℕ → Type 0
+Ends line seen door splits (commands.Check app) result out audit =
+    EndsCheck seen (commands.Check app) result out audit × IsUncalled door × IsStill splits
+Ends line seen door splits (commands.Replay replay) result out audit =
+    EndsReplay seen splits (commands.Replay replay) result out audit × IsUncalled door
+Ends line seen door splits (commands.Serve serving) result out audit =
+    EndsServer line seen door splits serving result out audit
+Ends line seen door splits (commands.Demo n) result out audit =
+    EndsDemo (sinks_of seen) (held_of seen splits) n result out audit × IsUncalled door
+Ends line seen door splits (commands.Dump dumping) result out audit =
+    EndsDump seen (commands.Dump dumping) result out audit × IsUncalled door × IsStill splits
+Ends line seen door splits (commands.Upgrade upgrading) result out audit =
+    EndsUpgrade seen (commands.Upgrade upgrading) result out audit × IsUncalled door
+Ends line seen door splits (commands.Why explaining) result out audit =
+    EndsExplain seen (commands.Why explaining) result out audit × IsUncalled door × IsStill splits
 
--- the words are a command whose steps were run
-pub record RunsCommand {L : Type 0} (line : L → LinkSeen) (seen : Sight) (door : Span (DoorSeen L)) (words : List (List ℕ)) (status : Status) (out audit : List ℕ) : Type 0 where
+-- the words are a command whose steps were run until out stood so, and then the line of its status was put: what fails
+-- of that line is no cause of how the steps ended
+pub record RunsCommand {L : Type 0} (line : L → LinkSeen) (seen : Sight) (door : Span (DoorSeen L))
+    (splits : Span ℕ) (words : List (List ℕ)) (status : Status) (out audit : List ℕ) : Type 0 where
   pub command : Command
   pub ended : Result (Unit {0}) Ending
+  pub standing : SinkSeen
   pub served : List ℕ
   pub last : List ℕ
   pub is_command : command_of words ≡ Some command
-  pub ends : Ends line seen door command ended served audit
-  pub finishes : Finishes seen.out command ended last status
+  pub ends : Ends line (standing_at seen standing) door splits command ended served audit
+  pub finishes : Finishes (span standing seen.out.after) command ended last status
+  pub earlier : seen.out.before.faults ≤ standing.faults
+  pub later : standing.faults ≤ seen.out.after.faults
   pub out_text : out ≡ served ++ last
 
 -- the words are no command
-pub record RunsNothing {L : Type 0} (seen : Sight) (door : Span (DoorSeen L)) (words : List (List ℕ)) (status : Status) (out audit : List ℕ) : Type 0 where
+pub record RunsNothing {L : Type 0} (seen : Sight) (door : Span (DoorSeen L)) (splits : Span ℕ)
+    (words : List (List ℕ)) (status : Status) (out audit : List ℕ) : Type 0 where
   pub no_command : command_of words ≡ None
   pub closes : Closes seen.out usage_line statuses.Usage out status
   pub idle : IsIdle seen.audit seen.keeper [] audit
   pub uncalled : IsUncalled door
+  pub unsplit : IsStill splits
 
 -- memory ran out as the words were read
-pub record RunsOut {L : Type 0} (seen : Sight) (door : Span (DoorSeen L)) (status : Status) (out audit : List ℕ) : Type 0 where
+pub record RunsOut {L : Type 0} (seen : Sight) (door : Span (DoorSeen L)) (splits : Span ℕ)
+    (status : Status) (out audit : List ℕ) : Type 0 where
   pub closes : Closes seen.out (codes "memory\n") statuses.Memory out status
   pub idle : IsIdle seen.audit seen.keeper [] audit
   pub uncalled : IsUncalled door
+  pub unsplit : IsStill splits
 
-abbrev pub Runs : {L : Type 0} → (L → LinkSeen) → Sight → Span (DoorSeen L) → List (List ℕ) → Status → List ℕ → List ℕ → Type 0
-Runs line seen door words status out audit =
-    RunsCommand line seen door words status out audit ⊎ (RunsNothing seen door words status out audit ⊎ RunsOut seen door status out audit)
+abbrev pub Runs : {L : Type 0} → (L → LinkSeen) → Sight → Span (DoorSeen L) → Span ℕ
+    → List (List ℕ) → Status → List ℕ → List ℕ → Type 0
+Runs line seen door splits words status out audit =
+    RunsCommand line seen door splits words status out audit
+    ⊎ (RunsNothing seen door splits words status out audit
+    ⊎ RunsOut seen door splits status out audit)
 
 -- where a sessions file is named it is there, isn't too long, and each of its lines has a form
 abbrev pub CanHaveSessions : FilesSeen → Option (List ℕ) → Type 0
@@ -200,15 +223,27 @@ ComesFor seen door words statuses.Memory = ⊤
 ComesFor seen door words statuses.TooLong =
     (command : Command) × (command_of words ≡ Some command) × ((role : Role) × IsReached seen command role × IsLong seen command role)
 
+-- no call of a keeper that tells fails, and what it stored has the schema of the application that the command reads, or
+-- the store is new
+pub record CanAttach (seen : Sight) (words : List (List ℕ)) : Type 0 where
+  pub told : IsTrue seen.keeper.after.tells
+  pub no_fault : Rose seen.keeper.before.faults seen.keeper.after.faults → ⊥
+  pub schema : (command : Command) → command_of words ≡ Some command
+      → (app : Application) → Sources seen command app
+      → (seen.keeper.before.store.schema ≡ None)
+      ⊎ (seen.keeper.before.store.schema ≡ Some (schema_text app))
+
 -- all was served, or memory ran out, or the store failed or has another schema
 abbrev pub IsCompleted : Status → Type 0
 IsCompleted status = (status ≡ statuses.Done) ⊎ (status ≡ statuses.Memory) ⊎ (status ≡ statuses.StoreFault) ⊎ (status ≡ statuses.OtherStore)
 
 -- a run: what was put on both sinks is what the command's steps put, by the status, and what the keeper keeps
 -- at the end shows under every assignment the world that the ordinary interpreter leaves; a door that tells told
--- before, and its count didn't fall; the status has its cause; and where nothing is missing and nothing fails, all is done, unless memory runs out
-pub record IsRun {L : Type 0} (line : L → LinkSeen) (seen : Sight) (door : Span (DoorSeen L)) (words : List (List ℕ)) (status : Status) : Type 0 where
-  pub ran : WentAimed (sinks_of seen) (Runs line seen door words status)
+-- before, and its count didn't fall; the status has its cause; and where nothing is missing and nothing fails, all is
+-- done, unless memory runs out. So many facets were split before and after
+pub record IsRun {L : Type 0} (line : L → LinkSeen) (seen : Sight) (door : Span (DoorSeen L))
+    (splits : Span ℕ) (words : List (List ℕ)) (status : Status) : Type 0 where
+  pub ran : WentAimed (sinks_of seen) (Runs line seen door splits words status)
   pub lasts : DoorLasts door.before door.after
   pub cause : ComesFor seen door words status
   pub replays : CanReplay seen words → IsCompleted status
@@ -219,3 +254,6 @@ pub record IsRun {L : Type 0} (line : L → LinkSeen) (seen : Sight) (door : Spa
   pub refuses : (can : CanUpgrade seen words) → Extends seen words can false → (status ≡ statuses.UpgradeRefused) ⊎ (status ≡ statuses.Memory)
   pub demos : CanDemo seen words → IsCompleted status
   pub checks : CanCheck seen words → (status ≡ statuses.Done) ⊎ (status ≡ statuses.Memory)
+  -- and then it isn't the store that ends it, where that can be attached
+  pub attaches : CanAttach seen words
+      → ¬ (status ≡ statuses.StoreFault) × ¬ (status ≡ statuses.OtherStore)

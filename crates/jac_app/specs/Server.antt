@@ -12,13 +12,15 @@ use Rattle.jac_links.specs.declared.door.DoorHalt.TheVariants as halts
 use Rattle.jac_links.specs.declared.door.Tally.{Tally}
 use Rattle.jac_ending.specs.declared.ending.Ending.{Ending}
 use Rattle.jac_ending.specs.declared.ending.Ending.TheVariants as endings
-use Rattle.jac_serving.specs.Keeping.{IsStill}
+use Rattle.jac_serving.specs.Answering.{Answering}
+use Rattle.jac_serving.specs.Keeping.{Holding, holding_of, keepers, IsStill}
 use Rattle.jac_desk.specs.Answered.{answering_of}
 use Rattle.jac_serving.specs.Outside.{Span, span, Sinks, IsFront, AWriteFailed}
-use Rattle.jac_ending.specs.Files.{Sight, sinks_of, HasApplication, HasSessions, IsAimed, IsIdle}
+use Rattle.jac_ending.specs.Files.{Sight, sinks_of, HasApplication, HasSessions, IsAimed}
 use Rattle.jac_opening.specs.Application.{schema_text}
-use Rattle.jac_ending.specs.Attached.{IsAttached, IsUnattached, IsOther}
+use Rattle.jac_ending.specs.Attached.{IsAttached, IsOther}
 use Rattle.jac_ending.specs.Early.{IsEndedEarly}
+use Rattle.jac_app.specs.Held.{held_of, IsUnstarted, IsLeftAlone}
 use Rattle.jac_links.specs.Door.{AreLinksServed}
 
 -- `served C connections, K replies`
@@ -32,24 +34,30 @@ halted halts.Write = endings.WriteFault
 halted halts.Memory = endings.Memory
 
 -- how serving so many connections at most ends, with the line that tells how many there were
-abbrev pub EndsConnections : {L : Type 0} → (L → LinkSeen) → Application → List Session → ℕ → Span (DoorSeen L) → Span KeeperSeen → Result (Unit {0}) Ending → List ℕ → List ℕ → Type 0
-EndsConnections line app sessions most door k (Ok done) out audit =
-    (tally : Tally) × AreLinksServed line (answering_of app sessions) most door k (Ok tally) audit × (out ≡ served_line tally)
-EndsConnections line app sessions most door k (Err endings.WriteFault) out audit =
-    (AreLinksServed line (answering_of app sessions) most door k (Err halts.Write) audit × (out ≡ []))
-    ⊎ ((tally : Tally) × AreLinksServed line (answering_of app sessions) most door k (Ok tally) audit × IsFront out (served_line tally))
-EndsConnections line app sessions most door k (Err endings.DoorFault) out audit = AreLinksServed line (answering_of app sessions) most door k (Err halts.Door) audit × (out ≡ [])
-EndsConnections line app sessions most door k (Err endings.Memory) out audit = AreLinksServed line (answering_of app sessions) most door k (Err halts.Memory) audit × (out ≡ [])
-EndsConnections line app sessions most door k (Err ending) out audit = ⊥
+abbrev pub EndsConnections : {L : Type 0} → (L → LinkSeen) → Answering → ℕ → Span (DoorSeen L)
+    → Span Holding → Result (Unit {0}) Ending → List ℕ → List ℕ → Type 0
+EndsConnections line x most door k (Ok done) out audit =
+    (tally : Tally) × AreLinksServed line x most door k (Ok tally) audit × (out ≡ served_line tally)
+EndsConnections line x most door k (Err endings.WriteFault) out audit =
+    (AreLinksServed line x most door k (Err halts.Write) audit × (out ≡ []))
+    ⊎ ((tally : Tally) × AreLinksServed line x most door k (Ok tally) audit
+    × IsFront out (served_line tally))
+EndsConnections line x most door k (Err endings.DoorFault) out audit =
+    AreLinksServed line x most door k (Err halts.Door) audit × (out ≡ [])
+EndsConnections line x most door k (Err endings.Memory) out audit =
+    AreLinksServed line x most door k (Err halts.Memory) audit × (out ≡ [])
+EndsConnections line x most door k (Err ending) out audit = ⊥
 
 -- a door that tells listened on the port, and its connections were served
-pub record IsListenedAt {L : Type 0} (line : L → LinkSeen) (app : Application) (sessions : List Session) (serving : Serving) (door : Span (DoorSeen L)) (k : Span KeeperSeen)
+pub record IsListenedAt {L : Type 0} (line : L → LinkSeen) (app : Application)
+    (sessions : List Session) (serving : Serving) (door : Span (DoorSeen L)) (k : Span Holding)
     (result : Result (Unit {0}) Ending) (out audit : List ℕ) : Type 0 where
   pub listens : IsTrue door.after.tells → door.after.port ≡ Some serving.port
-  pub ends : EndsConnections line app sessions serving.count door k result out audit
+  pub ends : EndsConnections line (answering_of serving.lazy app sessions) serving.count door k
+      result out audit
 
 -- a door listens where it did, no link of it was served, and nothing was put
-pub record IsUnheard {L : Type 0} (door : Span (DoorSeen L)) (k : Span KeeperSeen) (out audit : List ℕ) : Type 0 where
+pub record IsUnheard {L : Type 0} (door : Span (DoorSeen L)) (k : Span Holding) (out audit : List ℕ) : Type 0 where
   pub same_port : IsTrue door.after.tells → door.after.port ≡ door.before.port
   pub same_coming : IsTrue door.after.tells → door.after.coming ≡ door.before.coming
   pub same_returned : IsTrue door.after.tells → door.after.returned ≡ door.before.returned
@@ -58,50 +66,71 @@ pub record IsUnheard {L : Type 0} (door : Span (DoorSeen L)) (k : Span KeeperSee
   pub no_audit : audit ≡ []
 
 -- how the steps from the listening on end
-abbrev pub EndsDoor : {L : Type 0} → (L → LinkSeen) → Application → List Session → Serving → Span (DoorSeen L) → Span KeeperSeen → Result (Unit {0}) Ending → List ℕ → List ℕ → Type 0
+abbrev pub EndsDoor : {L : Type 0} → (L → LinkSeen) → Application → List Session → Serving
+    → Span (DoorSeen L) → Span Holding → Result (Unit {0}) Ending → List ℕ → List ℕ → Type 0
 EndsDoor line app sessions serving door k (Err endings.DoorFault) out audit =
-    Rose door.before.faults door.after.faults × (IsUnheard door k out audit ⊎ IsListenedAt line app sessions serving door k (Err endings.DoorFault) out audit)
-EndsDoor line app sessions serving door k result out audit = IsListenedAt line app sessions serving door k result out audit
+    Rose door.before.faults door.after.faults
+    × (IsUnheard door k out audit
+    ⊎ IsListenedAt line app sessions serving door k (Err endings.DoorFault) out audit)
+EndsDoor line app sessions serving door k result out audit =
+    IsListenedAt line app sessions serving door k result out audit
 
--- a store was attached, and the connections were served from what it keeps
-pub record IsServedAt {L : Type 0} (line : L → LinkSeen) (app : Application) (sessions : List Session) (serving : Serving) (door : Span (DoorSeen L)) (k : Span KeeperSeen)
+-- a store was attached, and the connections were served from what it keeps; attaching it split no
+-- facet
+pub record IsServedAt {L : Type 0} (line : L → LinkSeen) (app : Application)
+    (sessions : List Session) (serving : Serving) (door : Span (DoorSeen L)) (k : Span Holding)
     (result : Result (Unit {0}) Ending) (out audit : List ℕ) : Type 0 where
   pub opened : KeeperSeen
-  pub attached : IsAttached serving.db app k opened
-  pub ends : EndsDoor line app sessions serving door (span opened k.after) result out audit
+  pub attached : IsAttached serving.db app (keepers k) opened
+  pub ends : EndsDoor line app sessions serving door
+      (span (holding_of opened k.before.splits) k.after) result out audit
 
 -- no store was attached, and the door wasn't called
-pub record IsUnserved {L : Type 0} (door : Span (DoorSeen L)) (k : Span KeeperSeen) (out audit : List ℕ) : Type 0 where
-  pub unattached : IsUnattached k out audit
+pub record IsUnserved {L : Type 0} (door : Span (DoorSeen L)) (k : Span Holding)
+    (out audit : List ℕ) : Type 0 where
+  pub unstarted : IsUnstarted k out audit
   pub uncalled : door.after ≡ door.before
 
 -- how the steps from the attaching on end
-abbrev pub EndsAttached : {L : Type 0} → (L → LinkSeen) → Application → List Session → Serving → Span (DoorSeen L) → Span KeeperSeen → Result (Unit {0}) Ending → List ℕ → List ℕ → Type 0
-EndsAttached line app sessions serving door k (Err endings.StoreFault) out audit = Rose k.before.faults k.after.faults × IsUnserved door k out audit
+abbrev pub EndsAttached : {L : Type 0} → (L → LinkSeen) → Application → List Session → Serving
+    → Span (DoorSeen L) → Span Holding → Result (Unit {0}) Ending → List ℕ → List ℕ → Type 0
+EndsAttached line app sessions serving door k (Err endings.StoreFault) out audit =
+    Rose k.before.keeper.faults k.after.keeper.faults × IsUnserved door k out audit
 EndsAttached line app sessions serving door k (Err (endings.OtherStore stored wanted)) out audit =
-    (wanted ≡ schema_text app) × IsOther k stored wanted × IsUnserved door k out audit
+    (wanted ≡ schema_text app) × IsOther (keepers k) stored wanted × IsUnserved door k out audit
 EndsAttached line app sessions serving door k (Err endings.Memory) out audit =
-    IsUnserved door k out audit ⊎ IsServedAt line app sessions serving door k (Err endings.Memory) out audit
-EndsAttached line app sessions serving door k result out audit = IsServedAt line app sessions serving door k result out audit
+    IsUnserved door k out audit
+    ⊎ IsServedAt line app sessions serving door k (Err endings.Memory) out audit
+EndsAttached line app sessions serving door k result out audit =
+    IsServedAt line app sessions serving door k result out audit
 
--- how the steps from the audit's aim on end
-abbrev pub EndsAimed : {L : Type 0} → (L → LinkSeen) → Sinks → Application → List Session → Serving → Span (DoorSeen L) → Span KeeperSeen → Result (Unit {0}) Ending → List ℕ → List ℕ → Type 0
+-- how the steps from the audit's aim on end: that failed, or a put behind it
+abbrev pub EndsAimed : {L : Type 0} → (L → LinkSeen) → Sinks → Application → List Session → Serving
+    → Span (DoorSeen L) → Span Holding → Result (Unit {0}) Ending → List ℕ → List ℕ → Type 0
 EndsAimed line s app sessions serving door k (Err endings.WriteFault) out audit =
-    AWriteFailed s
-    × ((IsIdle s.audit k out audit × (door.after ≡ door.before))
-    ⊎ (IsAimed serving.audit s.audit × EndsAttached line app sessions serving door k (Err endings.WriteFault) out audit))
+    (Rose s.audit.before.faults s.audit.after.faults
+    × IsLeftAlone s.audit k out audit × (door.after ≡ door.before))
+    ⊎ (AWriteFailed s × IsAimed serving.audit s.audit
+    × EndsAttached line app sessions serving door k (Err endings.WriteFault) out audit)
 EndsAimed line s app sessions serving door k result out audit =
-    IsAimed serving.audit s.audit × EndsAttached line app sessions serving door k result out audit
+    IsAimed serving.audit s.audit
+    × EndsAttached line app sessions serving door k result out audit
 
 -- the files were read, and then the connections were served
-pub record IsServer {L : Type 0} (line : L → LinkSeen) (seen : Sight) (door : Span (DoorSeen L)) (serving : Serving) (result : Result (Unit {0}) Ending) (out audit : List ℕ) : Type 0 where
+pub record IsServer {L : Type 0} (line : L → LinkSeen) (seen : Sight) (door : Span (DoorSeen L))
+    (splits : Span ℕ) (serving : Serving) (result : Result (Unit {0}) Ending) (out audit : List ℕ)
+    : Type 0 where
   pub app : Application
   pub sessions : List Session
   pub application : HasApplication seen (commands.Serve serving) app
   pub sessions_had : HasSessions seen.files serving.sessions sessions
-  pub ends : EndsAimed line (sinks_of seen) app sessions serving door seen.keeper result out audit
+  pub ends : EndsAimed line (sinks_of seen) app sessions serving door (held_of seen splits)
+      result out audit
 
 -- what the steps of `serve` put, and why they ended
-abbrev pub EndsServer : {L : Type 0} → (L → LinkSeen) → Sight → Span (DoorSeen L) → Serving → Result (Unit {0}) Ending → List ℕ → List ℕ → Type 0
-EndsServer line seen door serving result out audit =
-    (IsEndedEarly seen (commands.Serve serving) result out audit × (door.after ≡ door.before)) ⊎ IsServer line seen door serving result out audit
+abbrev pub EndsServer : {L : Type 0} → (L → LinkSeen) → Sight → Span (DoorSeen L) → Span ℕ → Serving
+    → Result (Unit {0}) Ending → List ℕ → List ℕ → Type 0
+EndsServer line seen door splits serving result out audit =
+    (IsEndedEarly seen (commands.Serve serving) result out audit
+    × IsStill splits × (door.after ≡ door.before))
+    ⊎ IsServer line seen door splits serving result out audit

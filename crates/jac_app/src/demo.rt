@@ -8,6 +8,7 @@ ghost use Rattle.jac_lang.specs.Mirror.{application_of};
 ghost use Rattle.jac_plain.specs.Models.{shapes_of};
 ghost use Rattle.jac_keep.specs.Cause.{HasCause};
 ghost use Rattle.jac_keep.specs.Schema.{IsSchema};
+ghost use Rattle.jac_engine.specs.Answers.{stores};
 ghost use Rattle.jac_engine.specs.Start.{IsStart};
 ghost use Rattle.jac_replies.specs.Refused.{refusal};
 ghost use Rattle.jac_ending.specs.declared.ending.Ending.TheVariants as endings;
@@ -19,6 +20,7 @@ ghost use Rattle.jac_replies.specs.Failed.{status_of_stop};
 ghost use Rattle.jac_ending.specs.Files.{IsUnopened};
 ghost use Rattle.jac_serving.specs.Line.{lines_of};
 ghost use Rattle.jac_replies.specs.Spelled.{audit_rest, audit_text};
+ghost use Rattle.jac_serving.specs.Keeping.{holding_of};
 ghost use Rattle.jac_serving.specs.Outside.{Went, WentAimed, WentTo, sinks, span};
 ghost use Rattle.jac_serving.specs.Script.{script_of};
 
@@ -55,10 +57,16 @@ struct Counted {
 }
 
 fn count_answer(alloc: Global, ask: &Ask, answer: &Answer) -> Result<Counted, Memory>
-    ensures audit { IfOk result (λ c. c.audit ≡ audit_rest answer.now.status ask.now.viewer answer.now.shown) }
+    ensures audit { IfOk result (λ c. c.audit ≡ audit_rest answer.now.status ask.now.viewer answer.now.shown answer.now.consulted) }
     ensures tally { IfOk result (λ c. c.tally ≡ tally_of answer.now) }
 {
-    let audit = audit_rest(alloc, answer.status, ask.viewer, &answer.shown)?;
+    let audit = audit_rest(
+        alloc,
+        answer.status,
+        ask.viewer,
+        &answer.shown,
+        &answer.consulted,
+    )?;
     let tally = tally_of(answer);
     Ok(Counted { audit, tally })
 }
@@ -75,13 +83,16 @@ fn answer_counted<K: Keeper, L: Ledger, M: Ledger>(
 ) -> Result<Counted, Stop>
     requires attached { IsTrue (K.seen keeper.old).store.attached }
     requires start { IsTrue (K.seen keeper.old).tells → IsStart (application_of service.now) (K.seen keeper.old).state }
-    ensures counted { IfOk result (λ c. IsCounted (application_of service.now) (span (K.seen keeper.old) (K.seen keeper.new)) ask.now c.audit c.tally) }
+    ensures counted { IfOk result (λ c. IsCounted (application_of service.now) (span (holding_of
+        (K.seen keeper.old) splits.old) (holding_of
+        (K.seen keeper.new) splits.new)) ask.now c.audit c.tally) }
+    ensures reading { stores (application_of service.now) ask.now ≡ false → splits.new ≡ splits.old }
     ensures refused { IsTrue (K.seen keeper.new).tells → OnErr result ((K.seen keeper.new).state ≡ (K.seen keeper.old).state) }
     ensures told { IsTrue (K.seen keeper.new).tells → IsTrue (K.seen keeper.old).tells }
     ensures cause { HasCause (K.seen keeper.old).faults (K.seen keeper.new).faults result }
     ensures attached { (K.seen keeper.new).store ≡ (K.seen keeper.old).store }
 {
-    let prepared = prepare(alloc, service, keeper, ask, splits, evaluations)?;
+    let prepared = prepare(alloc, service, keeper, ask, false, splits, evaluations)?;
     let counted = count_answer(alloc, ask, &prepared.answer)?;
     commit(alloc, keeper, prepared)?;
     Ok(counted)
@@ -102,8 +113,10 @@ fn count_ask<K: Keeper, L: Ledger, M: Ledger>(
 ) -> Result<Counted, Stop>
     requires attached { IsTrue (K.seen keeper.old).store.attached }
     requires start { IsTrue (K.seen keeper.old).tells → IsStart (application_of service.now) (K.seen keeper.old).state }
-    ensures counted { IfOk result (λ c. IsCounted (application_of service.now) (span (K.seen keeper.old) (K.seen keeper.new))
+    ensures counted { IfOk result (λ c. IsCounted (application_of service.now) (span (holding_of
+        (K.seen keeper.old) splits.old) (holding_of (K.seen keeper.new) splits.new))
         (ask_in (application_of service.now) viewer method.now path.now query.now body.now) c.audit c.tally) }
+    ensures reading { stores (application_of service.now) (ask_in (application_of service.now) viewer method.now path.now query.now body.now) ≡ false → splits.new ≡ splits.old }
     ensures refused { IsTrue (K.seen keeper.new).tells → OnErr result ((K.seen keeper.new).state ≡ (K.seen keeper.old).state) }
     ensures told { IsTrue (K.seen keeper.new).tells → IsTrue (K.seen keeper.old).tells }
     ensures cause { HasCause (K.seen keeper.old).faults (K.seen keeper.new).faults result }
@@ -138,7 +151,7 @@ fn put_stopped<U: AuditSink>(
     viewer: Option<Id>,
 ) -> Result<Tally, Failed>
     ensures put { WentTo (span (U.seen audit.old) (U.seen audit.new))
-        (PutsTally (audit_text k (status_of_stop stop) viewer None) (tally_of (refusal (status_of_stop stop) None)) result) }
+        (PutsTally (audit_text k (status_of_stop stop) viewer None None) (tally_of (refusal (status_of_stop stop) None)) result) }
     ensures cause { OnErr result (Rose (U.seen audit.old).faults (U.seen audit.new).faults) }
 {
     match put_failed_audit(audit, k, fixed_of(stop), viewer) {
@@ -166,7 +179,9 @@ fn tally_ask<U: AuditSink, K: Keeper, L: Ledger, M: Ledger>(
     requires attached { IsTrue (K.seen keeper.old).store.attached }
     requires start { IsTrue (K.seen keeper.old).tells → IsStart (application_of service.now) (K.seen keeper.old).state }
     ensures answered { WentTo (span (U.seen audit.old) (U.seen audit.new))
-        (TalliesAsk (application_of service.now) (span (K.seen keeper.old) (K.seen keeper.new)) served (ask_in (application_of service.now) viewer method.now path.now query.now body.now) result) }
+        (TalliesAsk (application_of service.now) (span (holding_of (K.seen keeper.old) splits.old)
+        (holding_of (K.seen keeper.new) splits.new)) served (ask_in
+        (application_of service.now) viewer method.now path.now query.now body.now) result) }
     ensures cause { OnErr result (Rose (U.seen audit.old).faults (U.seen audit.new).faults) }
     ensures start { IsTrue (K.seen keeper.new).tells → IsStart (application_of service.now) (K.seen keeper.new).state }
     ensures attached { (K.seen keeper.new).store ≡ (K.seen keeper.old).store }
@@ -205,7 +220,8 @@ fn tally_event<U: AuditSink, K: Keeper, L: Ledger, M: Ledger>(
     requires attached { IsTrue (K.seen keeper.old).store.attached }
     requires start { IsTrue (K.seen keeper.old).tells → IsStart (application_of service.now) (K.seen keeper.old).state }
     ensures tallied { WentTo (span (U.seen audit.old) (U.seen audit.new))
-        (TalliesEvent (application_of service.now) (span (K.seen keeper.old) (K.seen keeper.new)) summary event.now result) }
+        (TalliesEvent (application_of service.now) (span (holding_of (K.seen keeper.old) splits.old)
+        (holding_of (K.seen keeper.new) splits.new)) summary event.now result) }
     ensures cause { result ≡ Err DemoFault.Write → Rose (U.seen audit.old).faults (U.seen audit.new).faults }
     ensures bounded { IfOk result (λ more. IsBounded more) }
     ensures count { IfOk result (λ more. more.asks ≤ summary.asks + 1) }
@@ -257,7 +273,8 @@ fn tally_line<U: AuditSink, K: Keeper, L: Ledger, M: Ledger>(
     requires attached { IsTrue (K.seen keeper.old).store.attached }
     requires start { IsTrue (K.seen keeper.old).tells → IsStart (application_of service.now) (K.seen keeper.old).state }
     ensures tallied { WentTo (span (U.seen audit.old) (U.seen audit.new))
-        (TalliesLine (application_of service.now) (span (K.seen keeper.old) (K.seen keeper.new)) summary (line_of line.now) result) }
+        (TalliesLine (application_of service.now) (span (holding_of (K.seen keeper.old) splits.old)
+        (holding_of (K.seen keeper.new) splits.new)) summary (line_of line.now) result) }
     ensures cause { result ≡ Err DemoFault.Write → Rose (U.seen audit.old).faults (U.seen audit.new).faults }
     ensures bounded { IfOk result (λ more. IsBounded more) }
     ensures count { IfOk result (λ more. more.asks ≤ summary.asks + 1) }
@@ -296,7 +313,8 @@ fn tally_events<U: AuditSink, K: Keeper, L: Ledger, M: Ledger>(
     requires attached { IsTrue (K.seen keeper.old).store.attached }
     requires start { IsTrue (K.seen keeper.old).tells → IsStart (application_of service.now) (K.seen keeper.old).state }
     ensures tallied { WentTo (span (U.seen audit.old) (U.seen audit.new))
-        (Tallies (application_of service.now) (span (K.seen keeper.old) (K.seen keeper.new)) (script_of bytes.now) result) }
+        (Tallies (application_of service.now) (span (holding_of (K.seen keeper.old) splits.old)
+        (holding_of (K.seen keeper.new) splits.new)) (script_of bytes.now) result) }
     ensures cause { result ≡ Err DemoFault.Write → Rose (U.seen audit.old).faults (U.seen audit.new).faults }
     ensures store { (K.seen keeper.new).store ≡ (K.seen keeper.old).store }
 {
@@ -337,7 +355,8 @@ fn serve_calendar<U: AuditSink, K: Keeper, L: Ledger, M: Ledger>(
     requires attached { IsTrue (K.seen keeper.old).store.attached }
     requires start { IsTrue (K.seen keeper.old).tells → IsStart (application_of service.now) (K.seen keeper.old).state }
     ensures served { WentTo (span (U.seen audit.old) (U.seen audit.new))
-        (Tallies (application_of service.now) (span (K.seen keeper.old) (K.seen keeper.new)) (demo_script count) result) }
+        (Tallies (application_of service.now) (span (holding_of (K.seen keeper.old) splits.old)
+        (holding_of (K.seen keeper.new) splits.new)) (demo_script count) result) }
     ensures cause { result ≡ Err DemoFault.Write → Rose (U.seen audit.old).faults (U.seen audit.new).faults }
     ensures store { (K.seen keeper.new).store ≡ (K.seen keeper.old).store }
 {
@@ -372,7 +391,8 @@ fn tally_attached<U: AuditSink, K: Vault, L: Ledger, M: Ledger>(
     requires own { schema ≡ schema_text (application_of service.now) }
     requires schema { IsSchema schema (shapes_of (application_of service.now)) }
     ensures served { WentTo (span (U.seen audit.old) (U.seen audit.new))
-        (EndsTallying (application_of service.now) (span (K.seen vault.old) (K.seen vault.new)) count result) }
+        (EndsTallying (application_of service.now) (span (holding_of (K.seen vault.old) splits.old)
+        (holding_of (K.seen vault.new) splits.new)) count result) }
     ensures cause { result ≡ Err endings.WriteFault → Rose (U.seen audit.old).faults (U.seen audit.new).faults }
 {
     match attach(alloc, service, None, schema, vault) {
@@ -403,7 +423,9 @@ fn tell_attached<O: Sink, U: AuditSink, K: Vault, L: Ledger, M: Ledger>(
     requires own { schema ≡ schema_text (application_of service.now) }
     requires schema { IsSchema schema (shapes_of (application_of service.now)) }
     ensures { Went (sinks (O.seen out.old) (O.seen out.new) (U.seen audit.old) (U.seen audit.new))
-        (IsTold (sinks (O.seen out.old) (O.seen out.new) (U.seen audit.old) (U.seen audit.new)) (application_of service.now) (span (K.seen vault.old) (K.seen vault.new)) count result) }
+        (IsTold (sinks (O.seen out.old) (O.seen out.new) (U.seen audit.old) (U.seen audit.new))
+        (application_of service.now) (span (holding_of (K.seen vault.old) splits.old) (holding_of
+        (K.seen vault.new) splits.new)) count result) }
 {
     match tally_attached(
         alloc,
@@ -441,7 +463,10 @@ fn count_calendar<O: Sink, U: AuditSink, K: Vault, L: Ledger, M: Ledger>(
     requires own { schema ≡ schema_text (application_of service.now) }
     requires schema { IsSchema schema (shapes_of (application_of service.now)) }
     ensures { WentAimed (sinks (O.seen out.old) (O.seen out.new) (U.seen audit.old) (U.seen audit.new))
-        (EndsCounting (sinks (O.seen out.old) (O.seen out.new) (U.seen audit.old) (U.seen audit.new)) (application_of service.now) (span (K.seen vault.old) (K.seen vault.new)) count result) }
+        (EndsCounting
+        (sinks (O.seen out.old) (O.seen out.new) (U.seen audit.old) (U.seen audit.new))
+        (application_of service.now) (span (holding_of (K.seen vault.old) splits.old) (holding_of
+        (K.seen vault.new) splits.new)) count result) }
 {
     match audit.aim(None) {
         Ok(()) => tell_attached(
@@ -496,7 +521,9 @@ pub fn demo<O: Sink, U: AuditSink, K: Vault, L: Ledger, M: Ledger>(
     requires few { count ≤ 2000 }
     requires first { (K.seen vault.old).store.called ≡ false }
     ensures { WentAimed (sinks (O.seen out.old) (O.seen out.new) (U.seen audit.old) (U.seen audit.new))
-        (EndsDemo (sinks (O.seen out.old) (O.seen out.new) (U.seen audit.old) (U.seen audit.new)) (span (K.seen vault.old) (K.seen vault.new)) count result) }
+        (EndsDemo (sinks (O.seen out.old) (O.seen out.new) (U.seen audit.old) (U.seen audit.new))
+        (span (holding_of (K.seen vault.old) splits.old) (holding_of
+        (K.seen vault.new) splits.new)) count result) }
 {
     let service = match open_calendar(alloc) {
         Ok(service) => service,

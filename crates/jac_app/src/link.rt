@@ -4,6 +4,7 @@ ghost use Rattle.jac_io.specs.Faults.{Rose};
 ghost use Rattle.jac_lang.specs.Mirror.{application_of};
 ghost use Rattle.jac_engine.specs.Start.{IsStart};
 ghost use Rattle.jac_links.specs.Link.{as_sink, IsLinkServed};
+ghost use Rattle.jac_serving.specs.Keeping.{holding_of};
 ghost use Rattle.jac_serving.specs.Outside.{Went, sinks, span};
 ghost use Rattle.jac_desk.specs.Answered.{answering_of};
 
@@ -27,6 +28,7 @@ pub fn serve_link<N: Link, U: AuditSink, K: Keeper, L: Ledger, M: Ledger>(
     sessions: &Sessions,
     conn: u32,
     first: u64,
+    lazy: bool,
     link: &mut N,
     audit: &mut U,
     keeper: &mut K,
@@ -37,7 +39,9 @@ pub fn serve_link<N: Link, U: AuditSink, K: Keeper, L: Ledger, M: Ledger>(
     requires attached { IsTrue (K.seen keeper.old).store.attached }
     requires start { IsTrue (K.seen keeper.old).tells → IsStart (application_of service.now) (K.seen keeper.old).state }
     ensures served { Went (sinks (as_sink (N.seen link.old)) (as_sink (N.seen link.new)) (U.seen audit.old) (U.seen audit.new))
-        (IsLinkServed (answering_of (application_of service.now) sessions.now) conn first (span (N.seen link.old) (N.seen link.new)) (span (K.seen keeper.old) (K.seen keeper.new)) result) }
+        (IsLinkServed (answering_of lazy (application_of service.now) sessions.now) conn first (span (N.seen link.old) (N.seen link.new))
+        (span (holding_of (K.seen keeper.old) splits.old) (holding_of
+        (K.seen keeper.new) splits.new)) result) }
     ensures cause { result ≡ Err Halt.Write → Rose (U.seen audit.old).faults (U.seen audit.new).faults }
     ensures start { IsTrue (K.seen keeper.new).tells → IsStart (application_of service.now) (K.seen keeper.new).state }
     ensures attached { (K.seen keeper.new).store ≡ (K.seen keeper.old).store }
@@ -52,6 +56,7 @@ pub fn serve_link<N: Link, U: AuditSink, K: Keeper, L: Ledger, M: Ledger>(
         service,
         sessions,
         sittings: &mut sittings,
+        lazy,
     };
     jac_links::serve_link(&mut desk, conn, first, link, audit)
 }

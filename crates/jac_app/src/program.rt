@@ -35,7 +35,7 @@ fn finish<O: Sink>(out: &mut O, command: &Command, ended: Result<(), Ending>) ->
 }
 
 const USAGE: &[u8] =
-    b"usage: jac check APP, replay APP EVENTS, serve APP PORT COUNT, demo N, dump APP LABELS, upgrade OLD NEW, why APP VIEWER; options --db FILE --sessions FILE --audit FILE\n";
+    b"usage: jac check APP, replay APP EVENTS, serve APP PORT COUNT, demo N, dump APP LABELS, upgrade OLD NEW, why APP VIEWER; options --db FILE --sessions FILE --audit FILE --lazy\n";
 
 fn refuse_words<O: Sink>(out: &mut O) -> Status
     ensures { Closed (span (O.seen out.old) (O.seen out.new)) (λ put. Closes (span (O.seen out.old) (O.seen out.new)) usage_line Status.Usage put result) }
@@ -71,7 +71,8 @@ fn take_steps<F: Files, O: Sink, U: AuditSink, K: Vault, D: Door, L: Ledger, M: 
     requires first { (K.seen vault.old).store.called ≡ false }
     ensures ends { WentAimed (sinks (O.seen out.old) (O.seen out.new) (U.seen audit.old) (U.seen audit.new))
         (Ends D.Line.seen (sight (F.seen files.old) (F.seen files.new) (O.seen out.old) (O.seen out.new) (U.seen audit.old) (U.seen audit.new) (K.seen vault.old) (K.seen vault.new))
-        (span (D.seen door.old) (D.seen door.new)) command.now result) }
+        (span (D.seen door.old) (D.seen door.new)) (span splits.old splits.new) command.now
+        result) }
     ensures lasts { DoorLasts (D.seen door.old) (D.seen door.new) }
 {
     match command {
@@ -121,7 +122,7 @@ fn run_words<F: Files, O: Sink, U: AuditSink, K: Vault, D: Door, L: Ledger, M: L
     requires first { (K.seen vault.old).store.called ≡ false }
     ensures ran { WentAimed (sinks (O.seen out.old) (O.seen out.new) (U.seen audit.old) (U.seen audit.new))
         (Runs D.Line.seen (sight (F.seen files.old) (F.seen files.new) (O.seen out.old) (O.seen out.new) (U.seen audit.old) (U.seen audit.new) (K.seen vault.old) (K.seen vault.new))
-        (span (D.seen door.old) (D.seen door.new)) words.now result) }
+        (span (D.seen door.old) (D.seen door.new)) (span splits.old splits.new) words.now result) }
     ensures lasts { DoorLasts (D.seen door.old) (D.seen door.new) }
 {
     match command_of(alloc, words) {
@@ -144,25 +145,28 @@ fn run_words<F: Files, O: Sink, U: AuditSink, K: Vault, D: Door, L: Ledger, M: L
     }
 }
 
-/// Runs the command that the words give, and puts replies on `out` and the audit's lines on `audit`. The
-/// words are those after the program's name.
+/// Runs the command that the words give, and puts replies on `out` and the audit's lines on
+/// `audit`. The words are those after the program's name.
 ///
 /// - `check APP` reads the application of a file, and puts how many models and views it has.
-/// - `replay APP EVENTS` serves the events of a file, one after another, with the application of another, on what
-///   the store of `--db FILE` keeps, or on a new one that lasts as long as the program. With `--audit FILE` the audit
-///   is aimed at that file, else at none. With `--sessions FILE` a token has the viewer that its line in that file
-///   gives it, else nobody looks by any token.
-/// - `serve APP PORT COUNT` serves the application of a file on a port, to so many connections one after another, or
-///   to fewer where no more come, on the store and with the files of the same options as `replay`, and puts one line
-///   that counts them: `served C connections, K replies`. A connection that fails ends alone.
-/// - `demo N` serves N generated requests to a calendar on a new store, without their replies, and puts one line that
-///   counts them: `asks N posts P gets G bytes B labels L`.
-/// - `dump APP LABELS` puts a line for each record that the labels show of the store of `--db FILE`, or of a new one,
-///   and the number of the next request.
-/// - `upgrade OLD NEW` brings the records of the store of `--db FILE` from one application to the next, which extends
-///   it, all or nothing, and puts how many they are: `upgraded R records`.
-/// - `why APP VIEWER` puts the labels that the viewer is shown of the store of `--db FILE`, or of a new one, and of each
-///   other live label which policy stands against it.
+/// - `replay APP EVENTS` serves the events of a file, one after another, with the application of
+///   another, on what the store of `--db FILE` keeps, or on a new one that lasts as long as the
+///   program. With `--audit FILE` the audit is aimed at that file, else at none. With `--sessions
+///   FILE` a token has the viewer that its line in that file gives it, else nobody looks by any
+///   token. With `--lazy` a page of a `GET` is made after only the labels are settled that it
+///   consults.
+/// - `serve APP PORT COUNT` serves the application of a file on a port, to so many connections one
+///   after another, or to fewer where no more come, on the store and with the files of the same
+///   options as `replay`, and puts one line that counts them: `served C connections, K replies`. A
+///   connection that fails ends alone.
+/// - `demo N` serves N generated requests to a calendar on a new store, without their replies, and
+///   puts one line that counts them: `asks N posts P gets G bytes B labels L`.
+/// - `dump APP LABELS` puts a line for each record that the labels show of the store of `--db
+///   FILE`, or of a new one, and the number of the next request.
+/// - `upgrade OLD NEW` brings the records of the store of `--db FILE` from one application to the
+///   next, which extends it, all or nothing, and puts how many they are: `upgraded R records`.
+/// - `why APP VIEWER` puts the labels that the viewer is shown of the store of `--db FILE`, or of a
+///   new one, and of each other live label which policy stands against it.
 ///
 /// A status other than `Done` has its line as the last one on `out`.
 pub fn run<F: Files, O: Sink, U: AuditSink, K: Vault, D: Door, L: Ledger, M: Ledger>(
@@ -181,7 +185,7 @@ pub fn run<F: Files, O: Sink, U: AuditSink, K: Vault, D: Door, L: Ledger, M: Led
 
     // Every byte that is put, every page and the state at the end, by the status; each status by its cause.
     ensures { IsRun D.Line.seen (sight (F.seen files.old) (F.seen files.new) (O.seen out.old) (O.seen out.new) (U.seen audit.old) (U.seen audit.new) (K.seen vault.old) (K.seen vault.new))
-        (span (D.seen door.old) (D.seen door.new)) words.now result }
+        (span (D.seen door.old) (D.seen door.new)) (span splits.old splits.new) words.now result }
 {
     run_words(
         alloc,

@@ -1,9 +1,11 @@
 ghost use Rattle.std.specs.Prelude.{◌≡◌, ◌<◌, ◌^◌, length, IsTrue, IfOk, Err, false};
-ghost use Rattle.std.specs.Option.{option_copied};
 ghost use Rattle.jac_lang.specs.Mirror.{application_of};
 ghost use Rattle.jac_plain.specs.Models.{shapes_of};
 ghost use Rattle.jac_keep.specs.Schema.{IsSchema};
 ghost use Rattle.jac_ending.specs.declared.ending.Ending.TheVariants as endings;
+ghost use Rattle.jac_serving.specs.Desk.{kept};
+ghost use Rattle.jac_serving.specs.Keeping.{holding_of};
+ghost use Rattle.jac_desk.specs.Seen.{desk_seen};
 ghost use Rattle.jac_serving.specs.Outside.{AWriteFailed, Went, WentAimed, span, sinks};
 ghost use Rattle.jac_words.specs.declared.words.Command.TheVariants as commands;
 ghost use Rattle.jac_serving.specs.Script.{script_of};
@@ -41,7 +43,7 @@ fn ending_of(stopped: Stopped) -> Ending
 // Attaches the store, and serves the events.
 fn serve_attached<O: Sink, U: AuditSink, K: Vault, L: Ledger, M: Ledger>(
     desk: &mut Answerer<'_, '_, '_, '_, '_, '_, K, L, M>,
-    db: Option<&Txt>,
+    command: &Replay,
     schema: Txt,
     events: &[u8],
     out: &mut O,
@@ -51,12 +53,22 @@ fn serve_attached<O: Sink, U: AuditSink, K: Vault, L: Ledger, M: Ledger>(
     requires first { (K.seen desk.old.keeper.now).store.called ≡ false }
     requires own { schema ≡ schema_text (application_of desk.old.service.now) }
     requires schema { IsSchema schema (shapes_of (application_of desk.old.service.now)) }
+    requires lazy { desk.old.lazy ≡ command.now.lazy }
     ensures served { Went (sinks (O.seen out.old) (O.seen out.new) (U.seen audit.old) (U.seen audit.new))
-        (EndsAttaching (option_copied db.entry) (application_of desk.old.service.now) desk.old.sessions.now (span (K.seen desk.old.keeper.now) (K.seen desk.new.keeper.now)) (script_of events.now) result) }
+        (EndsAttaching (commands.Replay command.now) (application_of desk.old.service.now)
+        desk.old.sessions.now (kept (desk_seen K.seen desk.old) (desk_seen K.seen desk.new))
+        (script_of events.now) result) }
     ensures cause { result ≡ Err endings.WriteFault → AWriteFailed (sinks (O.seen out.old) (O.seen out.new) (U.seen audit.old) (U.seen audit.new)) }
-    ensures same_reference { desk.new.keeper.ghost_name ≡ desk.old.keeper.ghost_name }
+    ensures same_keeper { desk.new.keeper.ghost_name ≡ desk.old.keeper.ghost_name }
+    ensures same_splits { desk.new.splits.ghost_name ≡ desk.old.splits.ghost_name }
 {
-    match attach(desk.alloc, desk.service, db, schema, desk.keeper) {
+    match attach(
+        desk.alloc,
+        desk.service,
+        named(&command.db),
+        schema,
+        desk.keeper,
+    ) {
         Ok(()) => {
             desk.sittings.forget();
             match serve_events(desk, events, out, audit) {
@@ -83,12 +95,17 @@ fn serve<O: Sink, U: AuditSink, K: Vault, L: Ledger, M: Ledger>(
     requires aim { aim ≡ command.now.audit }
     requires own { schema ≡ schema_text (application_of desk.old.service.now) }
     requires schema { IsSchema schema (shapes_of (application_of desk.old.service.now)) }
+    requires lazy { desk.old.lazy ≡ command.now.lazy }
     ensures served { WentAimed (sinks (O.seen out.old) (O.seen out.new) (U.seen audit.old) (U.seen audit.new))
-        (EndsServing (sinks (O.seen out.old) (O.seen out.new) (U.seen audit.old) (U.seen audit.new)) (commands.Replay command.now) (application_of desk.old.service.now) desk.old.sessions.now (span (K.seen desk.old.keeper.now) (K.seen desk.new.keeper.now)) (script_of events.now) result) }
-    ensures same_reference { desk.new.keeper.ghost_name ≡ desk.old.keeper.ghost_name }
+        (EndsServing (sinks (O.seen out.old) (O.seen out.new) (U.seen audit.old) (U.seen audit.new))
+        (commands.Replay command.now) (application_of desk.old.service.now) desk.old.sessions.now
+        (kept (desk_seen K.seen desk.old) (desk_seen K.seen desk.new)) (script_of events.now)
+        result) }
+    ensures same_keeper { desk.new.keeper.ghost_name ≡ desk.old.keeper.ghost_name }
+    ensures same_splits { desk.new.splits.ghost_name ≡ desk.old.splits.ghost_name }
 {
     match audit.aim(aim) {
-        Ok(()) => serve_attached(desk, named(&command.db), schema, events, out, audit),
+        Ok(()) => serve_attached(desk, command, schema, events, out, audit),
         Err(Failed) => Err(Ending::WriteFault),
     }
 }
@@ -114,7 +131,10 @@ fn serve_over<O: Sink, U: AuditSink, K: Vault, L: Ledger, M: Ledger>(
     requires own { schema ≡ schema_text (application_of service.now) }
     requires schema { IsSchema schema (shapes_of (application_of service.now)) }
     ensures served { WentAimed (sinks (O.seen out.old) (O.seen out.new) (U.seen audit.old) (U.seen audit.new))
-        (EndsServing (sinks (O.seen out.old) (O.seen out.new) (U.seen audit.old) (U.seen audit.new)) (commands.Replay command.now) (application_of service.now) sessions.now (span (K.seen vault.old) (K.seen vault.new)) (script_of events.now) result) }
+        (EndsServing (sinks (O.seen out.old) (O.seen out.new) (U.seen audit.old) (U.seen audit.new))
+        (commands.Replay command.now) (application_of service.now) sessions.now (span (holding_of
+        (K.seen vault.old) splits.old) (holding_of (K.seen vault.new) splits.new))
+        (script_of events.now) result) }
 {
     let mut sittings = Sittings::none(alloc);
     let mut desk = Answerer {
@@ -126,6 +146,7 @@ fn serve_over<O: Sink, U: AuditSink, K: Vault, L: Ledger, M: Ledger>(
         service,
         sessions,
         sittings: &mut sittings,
+        lazy: command.lazy,
     };
     serve(&mut desk, command, aim, schema, events, out, audit)
 }
@@ -144,7 +165,7 @@ pub fn replay<F: Files, O: Sink, U: AuditSink, K: Vault, L: Ledger, M: Ledger>(
     requires first { (K.seen vault.old).store.called ≡ false }
     ensures { WentAimed (sinks (O.seen out.old) (O.seen out.new) (U.seen audit.old) (U.seen audit.new))
         (EndsReplay (sight (F.seen files.old) (F.seen files.new) (O.seen out.old) (O.seen out.new) (U.seen audit.old) (U.seen audit.new) (K.seen vault.old) (K.seen vault.new))
-        (commands.Replay command.now) result) }
+        (span splits.old splits.new) (commands.Replay command.now) result) }
 {
     let bytes = match read_file(alloc, files, &command.app, Role::App) {
         Ok(bytes) => bytes,

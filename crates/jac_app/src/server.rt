@@ -4,9 +4,11 @@ ghost use Rattle.jac_io.specs.Linked.{DoorLasts};
 ghost use Rattle.jac_lang.specs.Mirror.{application_of};
 ghost use Rattle.jac_plain.specs.Models.{shapes_of};
 ghost use Rattle.jac_keep.specs.Schema.{IsSchema};
-ghost use Rattle.jac_serving.specs.Desk.{MayServe, Keeps};
-ghost use Rattle.jac_desk.specs.Answered.{answering, desk_of};
+ghost use Rattle.jac_serving.specs.Desk.{MayServe, Keeps, kept};
+ghost use Rattle.jac_desk.specs.Answered.{answering, answering_of};
+ghost use Rattle.jac_desk.specs.Seen.{desk_seen};
 ghost use Rattle.jac_ending.specs.declared.ending.Ending.TheVariants as endings;
+ghost use Rattle.jac_serving.specs.Keeping.{holding_of};
 ghost use Rattle.jac_serving.specs.Outside.{AWriteFailed, IsPut, Went, WentAimed, span, sinks};
 ghost use Rattle.jac_ending.specs.Files.{sight};
 ghost use Rattle.jac_opening.specs.Application.{schema_text};
@@ -66,13 +68,16 @@ fn serve_connections<O: Sink, U: AuditSink, K: Keeper, D: Door, L: Ledger, M: Le
     audit: &mut U,
     door: &mut D,
 ) -> Result<(), Ending>
-    requires desk { MayServe answering (desk_of (application_of desk.old.service.now) desk.old.sessions.now desk.old.keeper.ghost_name (K.seen desk.old.keeper.now) desk.old.sittings.now) }
+    requires desk { MayServe answering (desk_seen K.seen desk.old) }
     ensures served { Went (sinks (O.seen out.old) (O.seen out.new) (U.seen audit.old) (U.seen audit.new))
-        (EndsConnections D.Line.seen (application_of desk.old.service.now) desk.old.sessions.now serving.now.count (span (D.seen door.old) (D.seen door.new)) (span (K.seen desk.old.keeper.now) (K.seen desk.new.keeper.now)) result) }
+        (EndsConnections D.Line.seen (answering_of desk.old.lazy
+        (application_of desk.old.service.now) desk.old.sessions.now) serving.now.count
+        (span (D.seen door.old) (D.seen door.new))
+        (kept (desk_seen K.seen desk.old) (desk_seen K.seen desk.new)) result) }
     ensures cause { result ≡ Err endings.WriteFault → AWriteFailed (sinks (O.seen out.old) (O.seen out.new) (U.seen audit.old) (U.seen audit.new)) }
     ensures lasts { DoorLasts (D.seen door.old) (D.seen door.new) }
     ensures same_port { IsTrue (D.seen door.new).tells → (D.seen door.new).port ≡ (D.seen door.old).port }
-    ensures keeps { Keeps answering (desk_of (application_of desk.old.service.now) desk.old.sessions.now desk.old.keeper.ghost_name (K.seen desk.old.keeper.now) desk.old.sittings.now) (desk_of (application_of desk.new.service.now) desk.new.sessions.now desk.new.keeper.ghost_name (K.seen desk.new.keeper.now) desk.new.sittings.now) }
+    ensures keeps { Keeps answering (desk_seen K.seen desk.old) (desk_seen K.seen desk.new) }
 {
     match serve_links(desk, serving.count, door, audit) {
         Ok(tally) => match put_served(out, tally) {
@@ -91,12 +96,15 @@ fn serve_door<O: Sink, U: AuditSink, K: Keeper, D: Door, L: Ledger, M: Ledger>(
     audit: &mut U,
     door: &mut D,
 ) -> Result<(), Ending>
-    requires desk { MayServe answering (desk_of (application_of desk.old.service.now) desk.old.sessions.now desk.old.keeper.ghost_name (K.seen desk.old.keeper.now) desk.old.sittings.now) }
+    requires desk { MayServe answering (desk_seen K.seen desk.old) }
+    requires lazy { desk.old.lazy ≡ serving.now.lazy }
     ensures served { Went (sinks (O.seen out.old) (O.seen out.new) (U.seen audit.old) (U.seen audit.new))
-        (EndsDoor D.Line.seen (application_of desk.old.service.now) desk.old.sessions.now serving.now (span (D.seen door.old) (D.seen door.new)) (span (K.seen desk.old.keeper.now) (K.seen desk.new.keeper.now)) result) }
+        (EndsDoor D.Line.seen (application_of desk.old.service.now) desk.old.sessions.now
+        serving.now (span (D.seen door.old) (D.seen door.new))
+        (kept (desk_seen K.seen desk.old) (desk_seen K.seen desk.new)) result) }
     ensures cause { result ≡ Err endings.WriteFault → AWriteFailed (sinks (O.seen out.old) (O.seen out.new) (U.seen audit.old) (U.seen audit.new)) }
     ensures lasts { DoorLasts (D.seen door.old) (D.seen door.new) }
-    ensures keeps { Keeps answering (desk_of (application_of desk.old.service.now) desk.old.sessions.now desk.old.keeper.ghost_name (K.seen desk.old.keeper.now) desk.old.sittings.now) (desk_of (application_of desk.new.service.now) desk.new.sessions.now desk.new.keeper.ghost_name (K.seen desk.new.keeper.now) desk.new.sittings.now) }
+    ensures keeps { Keeps answering (desk_seen K.seen desk.old) (desk_seen K.seen desk.new) }
 {
     match door.listen(serving.port) {
         Ok(()) => serve_connections(desk, serving, out, audit, door),
@@ -116,11 +124,15 @@ fn serve_attached<O: Sink, U: AuditSink, K: Vault, D: Door, L: Ledger, M: Ledger
     requires first { (K.seen desk.old.keeper.now).store.called ≡ false }
     requires own { schema ≡ schema_text (application_of desk.old.service.now) }
     requires schema { IsSchema schema (shapes_of (application_of desk.old.service.now)) }
+    requires lazy { desk.old.lazy ≡ serving.now.lazy }
     ensures served { Went (sinks (O.seen out.old) (O.seen out.new) (U.seen audit.old) (U.seen audit.new))
-        (EndsAttached D.Line.seen (application_of desk.old.service.now) desk.old.sessions.now serving.now (span (D.seen door.old) (D.seen door.new)) (span (K.seen desk.old.keeper.now) (K.seen desk.new.keeper.now)) result) }
+        (EndsAttached D.Line.seen (application_of desk.old.service.now) desk.old.sessions.now
+        serving.now (span (D.seen door.old) (D.seen door.new))
+        (kept (desk_seen K.seen desk.old) (desk_seen K.seen desk.new)) result) }
     ensures cause { result ≡ Err endings.WriteFault → AWriteFailed (sinks (O.seen out.old) (O.seen out.new) (U.seen audit.old) (U.seen audit.new)) }
     ensures lasts { DoorLasts (D.seen door.old) (D.seen door.new) }
-    ensures same_reference { desk.new.keeper.ghost_name ≡ desk.old.keeper.ghost_name }
+    ensures same_keeper { desk.new.keeper.ghost_name ≡ desk.old.keeper.ghost_name }
+    ensures same_splits { desk.new.splits.ghost_name ≡ desk.old.splits.ghost_name }
 {
     match attach(
         desk.alloc,
@@ -151,11 +163,14 @@ fn serve_aimed<O: Sink, U: AuditSink, K: Vault, D: Door, L: Ledger, M: Ledger>(
     requires aim { aim ≡ serving.now.audit }
     requires own { schema ≡ schema_text (application_of desk.old.service.now) }
     requires schema { IsSchema schema (shapes_of (application_of desk.old.service.now)) }
+    requires lazy { desk.old.lazy ≡ serving.now.lazy }
     ensures served { WentAimed (sinks (O.seen out.old) (O.seen out.new) (U.seen audit.old) (U.seen audit.new))
         (EndsAimed D.Line.seen (sinks (O.seen out.old) (O.seen out.new) (U.seen audit.old) (U.seen audit.new)) (application_of desk.old.service.now) desk.old.sessions.now serving.now
-        (span (D.seen door.old) (D.seen door.new)) (span (K.seen desk.old.keeper.now) (K.seen desk.new.keeper.now)) result) }
+        (span (D.seen door.old) (D.seen door.new))
+        (kept (desk_seen K.seen desk.old) (desk_seen K.seen desk.new)) result) }
     ensures lasts { DoorLasts (D.seen door.old) (D.seen door.new) }
-    ensures same_reference { desk.new.keeper.ghost_name ≡ desk.old.keeper.ghost_name }
+    ensures same_keeper { desk.new.keeper.ghost_name ≡ desk.old.keeper.ghost_name }
+    ensures same_splits { desk.new.splits.ghost_name ≡ desk.old.splits.ghost_name }
 {
     match audit.aim(aim) {
         Ok(()) => serve_attached(desk, serving, schema, out, audit, door),
@@ -184,7 +199,8 @@ fn serve_over<O: Sink, U: AuditSink, K: Vault, D: Door, L: Ledger, M: Ledger>(
     requires schema { IsSchema schema (shapes_of (application_of service.now)) }
     ensures served { WentAimed (sinks (O.seen out.old) (O.seen out.new) (U.seen audit.old) (U.seen audit.new))
         (EndsAimed D.Line.seen (sinks (O.seen out.old) (O.seen out.new) (U.seen audit.old) (U.seen audit.new)) (application_of service.now) sessions.now serving.now
-        (span (D.seen door.old) (D.seen door.new)) (span (K.seen vault.old) (K.seen vault.new)) result) }
+        (span (D.seen door.old) (D.seen door.new)) (span (holding_of (K.seen vault.old) splits.old)
+        (holding_of (K.seen vault.new) splits.new)) result) }
     ensures lasts { DoorLasts (D.seen door.old) (D.seen door.new) }
 {
     let mut sittings = Sittings::none(alloc);
@@ -197,6 +213,7 @@ fn serve_over<O: Sink, U: AuditSink, K: Vault, D: Door, L: Ledger, M: Ledger>(
         service,
         sessions,
         sittings: &mut sittings,
+        lazy: serving.lazy,
     };
     serve_aimed(&mut desk, serving, aim, schema, out, audit, door)
 }
@@ -217,7 +234,7 @@ pub fn serve<F: Files, O: Sink, U: AuditSink, K: Vault, D: Door, L: Ledger, M: L
     requires first { (K.seen vault.old).store.called ≡ false }
     ensures ends { WentAimed (sinks (O.seen out.old) (O.seen out.new) (U.seen audit.old) (U.seen audit.new))
         (EndsServer D.Line.seen (sight (F.seen files.old) (F.seen files.new) (O.seen out.old) (O.seen out.new) (U.seen audit.old) (U.seen audit.new) (K.seen vault.old) (K.seen vault.new))
-        (span (D.seen door.old) (D.seen door.new)) serving.now result) }
+        (span (D.seen door.old) (D.seen door.new)) (span splits.old splits.new) serving.now result) }
     ensures lasts { DoorLasts (D.seen door.old) (D.seen door.new) }
 {
     let bytes = match read_file(alloc, files, &serving.app, Role::App) {

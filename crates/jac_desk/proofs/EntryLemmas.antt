@@ -1,5 +1,6 @@
 -- The answer to one subject, and what that leaves.
-use Rattle.std.proofs.Common.{◌≡◌, ◌∙◌, ap, sym, subst, refl, inl, inr, ℕ, ◌≤◌, ◌==◌, ◌||◌, Bool, true, false, IsTrue, IfSome, IsSome, is_none, ◌&&◌, Option, Some, None, List, slice_get, if◌then◌else◌, arith}
+use Rattle.std.proofs.Common.{◌≡◌, ◌∙◌, ap, sym, subst, refl, inl, inr, ℕ, ◌≤◌, ◌==◌, ◌||◌, Bool, true, false, IsTrue, IfSome, IsSome, is_none, is_some, ◌&&◌, Option, Some, None, List, slice_get, if◌then◌else◌, arith}
+use Rattle.std.proofs.lemmas.Bool.{or_parts}
 use Rattle.jac_io.specs.Faults.{Rose}
 use Rattle.jac_lang.specs.declared.pages.Verb.{Verb}
 use Rattle.jac_lang.specs.declared.pages.Verb.TheVariants as verbs
@@ -13,10 +14,9 @@ use Rattle.jac_plain.specs.Requests.{Worlds, method_in, page_of, found_page, is_
 use Rattle.jac_keep.specs.declared.alteration.Change.{Change}
 use Rattle.jac_keep.specs.declared.stop.Stop.{Stop}
 use Rattle.jac_keep.specs.declared.stop.Stop.TheVariants as stops
-use Rattle.jac_keep.specs.KeeperSeen.{KeeperSeen}
 use Rattle.jac_plain.specs.Models.{shapes_of}
 use Rattle.jac_keep.specs.Kept.{applied}
-use Rattle.jac_engine.specs.Answers.{IsSomePage, HasFormOf, HasFormBy, HasForm, left_by}
+use Rattle.jac_engine.specs.Answers.{IsSomePage, IsSomeLazyPage, HasFormOf, HasFormBy, HasForm, left_by, stores}
 use Rattle.jac_replies.specs.Refused.{refusal}
 use Rattle.jac_route.specs.Found.{found}
 use Rattle.jac_route.specs.declared.lookup.Found.{Found}
@@ -31,9 +31,9 @@ use Rattle.jac_hub.specs.Hearing.{whole, refused}
 use Rattle.jac_hub.specs.Refusals.{is_refusal}
 use Rattle.jac_desk.specs.declared.answer.Via.{Via}
 use Rattle.jac_replies.specs.Failed.{status_of_stop}
-use Rattle.jac_serving.specs.Keeping.{Grew}
+use Rattle.jac_serving.specs.Keeping.{Grew, Holding}
 use Rattle.jac_serving.specs.Answering.{Subject, is_failure}
-use Rattle.jac_desk.specs.Log.{HasFailed, IsAnswer, IsFormed, left_of, refused_with, is_fault}
+use Rattle.jac_desk.specs.Log.{HasFailed, IsAnswer, IsFormed, may_split, left_of, refused_with, is_fault}
 use Rattle.jac_serving.specs.Outside.{Span}
 use Rattle.jac_desk.specs.Answered.{IsAnswerMade, IsEntryOf}
 
@@ -41,6 +41,11 @@ use Rattle.jac_desk.specs.Answered.{IsAnswerMade, IsEntryOf}
 pub sound_if : (app : Application) (s : State) (change : Option Change) → IsStart app (applied_if change s) → IfSome change (λ c. IsSound (applied c s))
 sound_if app s None start = tt
 sound_if app s (Some change) start = start.sound
+
+-- without a change the state is what it was
+pub unapplied : (change : Option Change) (s : State) → is_some change ≡ false → applied_if change s ≡ s
+unapplied None s none = refl
+unapplied (Some change) s none = absurd cc
 
 -- a status that has a phrase, and stands for no failure
 pub record IsServable (answer : Answer) : Type 0 where
@@ -89,19 +94,23 @@ page_status false (Some location) body other = status_303
 servable_page : (a : Answer) → IsSomePage a → IsServable a
 servable_page a page = servable_by a (page_of page.pieces).status (page_status (is_missing page.pieces) _ _ _) (ap (λ (x : Answer). x.status) page.made)
 
-servable_of : (v : Verb) (a : Answer) → HasFormOf v a → IsServable a
-servable_of verbs.Get a h = servable_page a h
-servable_of verbs.Post a (inl full) = servable_by a 507 status_507 (ap (λ (x : Answer). x.status) full)
-servable_of verbs.Post a (inr page) = servable_page a page
+servable_lazy_page : (a : Answer) → IsSomeLazyPage a → IsServable a
+servable_lazy_page a page = servable_by a (page_of page.pieces).status (page_status (is_missing page.pieces) _ _ _) (ap (λ (x : Answer). x.status) page.made)
 
-servable_found : (f : Found) (app : Application) (a : Answer) → HasFormBy f app a → IsServable a
-servable_found founds.NoRoute app a h = servable_by a 404 status_404 (ap (λ (x : Answer). x.status) h)
-servable_found (founds.WrongMethod allow) app a h = servable_by a 405 status_405 (ap (λ (x : Answer). x.status) h)
-servable_found (founds.View n pairs) app a h = servable_of (method_in (slice_get app.views n)) a h
+servable_of : (lazy : Bool) (v : Verb) (a : Answer) → HasFormOf lazy v a → IsServable a
+servable_of false verbs.Get a h = servable_page a h
+servable_of true verbs.Get a h = servable_lazy_page a h
+servable_of lazy verbs.Post a (inl full) = servable_by a 507 status_507 (ap (λ (x : Answer). x.status) full)
+servable_of lazy verbs.Post a (inr page) = servable_page a page
+
+servable_found : (lazy : Bool) (f : Found) (app : Application) (a : Answer) → HasFormBy lazy f app a → IsServable a
+servable_found lazy founds.NoRoute app a h = servable_by a 404 status_404 (ap (λ (x : Answer). x.status) h)
+servable_found lazy (founds.WrongMethod allow) app a h = servable_by a 405 status_405 (ap (λ (x : Answer). x.status) h)
+servable_found lazy (founds.View n pairs) app a h = servable_of lazy (method_in (slice_get app.views n)) a h
 
 -- an answer of its form has a status with a phrase, and stands for no failure
-pub servable : (app : Application) (ask : Ask) (a : Answer) → HasForm app ask a → IsServable a
-servable app ask a h = servable_found (found app ask.method ask.path) app a h
+pub servable : (lazy : Bool) (app : Application) (ask : Ask) (a : Answer) → HasForm lazy app ask a → IsServable a
+servable lazy app ask a h = servable_found lazy (found app ask.method ask.path) app a h
 
 no_fault_status : (a b : Bool) (shown : Bool) → (a || b) ≡ false → (shown && b) ≡ false
 no_fault_status true b shown h = absurd cc
@@ -117,17 +126,19 @@ grew_by_none : (before now : ℕ) (fault : Bool) → fault ≡ false → before 
 grew_by_none before now fault none later = rw none (omega arith)
 
 -- the answer to a request was made
-pub is_made : (app : Application) (k : Span KeeperSeen) (via : Via) (ask : Ask) (close : Bool) (reply audit : List ℕ)
-    → (made : IsAnswerMade app k via ask reply audit) → (IsTrue k.after.tells → IsTrue k.before.tells) → k.before.faults ≤ k.after.faults
-    → IsEntryOf app k (whole ask close) made.answer
-is_made app k via ask close reply audit made told later = record {
+pub is_made : (lazy : Bool) (app : Application) (k : Span Holding) (via : Via) (ask : Ask) (close : Bool) (reply audit : List ℕ)
+    → (made : IsAnswerMade lazy app k via ask reply audit) → (IsTrue k.after.keeper.tells → IsTrue k.before.keeper.tells)
+    → k.before.keeper.faults ≤ k.after.keeper.faults → IsEntryOf lazy app k (whole ask close) made.answer
+is_made lazy app k via ask close reply audit made told later = record {
   formed = inr made.form;
   told = told;
   answered = λ tells. inr (made.answered tells);
   worlds = made.worlds;
   goes_on = made.goes_on;
   good = made.good;
-  faults = grew_by_none _ _ _ (no_fault made.answer (servable app ask made.answer made.form).answered) later;
+  unstored = made.unstored;
+  unsplit = λ none. made.unsplit (or_parts _ _ none).0;
+  faults = grew_by_none _ _ _ (no_fault made.answer (servable lazy app ask made.answer made.form).answered) later;
 }
 
 has_failed : (stop : Stop) → HasFailed (refusal (status_of_stop stop) None)
@@ -144,34 +155,46 @@ grew_if : (before now : ℕ) (stop : Stop) → before ≤ now → (stop ≡ stop
 grew_if before now stops.Keeper later rose = let r = rose refl in omega (arith, r)
 grew_if before now stops.Memory later rose = omega (arith, later)
 
+-- a failure splits facets only where the request finds a view that stores
+failed_stores : (app : Application) (ask : Ask) (close : Bool) (stop : Stop)
+    → may_split app (whole ask close) (refusal (status_of_stop stop) None) ≡ false → stores app ask ≡ false
+failed_stores app ask close stops.Keeper none = (or_parts _ _ none).1
+failed_stores app ask close stops.Memory none = (or_parts _ _ none).1
+
 -- a request wasn't answered
-pub is_failed : (app : Application) (k : Span KeeperSeen) (ask : Ask) (close : Bool) (stop : Stop)
-    → (IsTrue k.after.tells → k.after.state ≡ k.before.state) → (IsTrue k.after.tells → IsTrue k.before.tells) → (IsTrue k.before.tells → IsStart app k.before.state)
-    → k.before.faults ≤ k.after.faults → (stop ≡ stops.Keeper → Rose k.before.faults k.after.faults)
-    → IsEntryOf app k (whole ask close) (refusal (status_of_stop stop) None)
-is_failed app k ask close stop same told start later rose = record {
+pub is_failed : (lazy : Bool) (app : Application) (k : Span Holding) (ask : Ask) (close : Bool) (stop : Stop)
+    → (IsTrue k.after.keeper.tells → k.after.keeper.state ≡ k.before.keeper.state) → (stores app ask ≡ false → k.after.splits ≡ k.before.splits)
+    → (IsTrue k.after.keeper.tells → IsTrue k.before.keeper.tells) → (IsTrue k.before.keeper.tells → IsStart app k.before.keeper.state)
+    → k.before.keeper.faults ≤ k.after.keeper.faults → (stop ≡ stops.Keeper → Rose k.before.keeper.faults k.after.keeper.faults)
+    → IsEntryOf lazy app k (whole ask close) (refusal (status_of_stop stop) None)
+is_failed lazy app k ask close stop same reading told start later rose = record {
   formed = inl (has_failed stop);
   told = told;
   answered = λ tells. inl (has_failed stop);
   worlds = λ tells w.
       ap (λ (s : State). project_at w s) (same tells)
-      ∙ sym (left_without (found app ask.method ask.path) w app ask (project_at w k.before.state));
+      ∙ sym (left_without (found app ask.method ask.path) w app ask (project_at w k.before.keeper.state));
   goes_on = λ tells. subst (λ (s : State). IsStart app s) (sym (same tells)) (start (told tells));
   good = λ tells good. subst (λ (s : State). IsGood (shapes_of app) s) (sym (same tells)) good;
+  unstored = λ tells none. same tells;
+  unsplit = λ none. reading (failed_stores app ask close stop none);
   faults = grew_if _ _ stop later rose;
 }
 
 -- memory ran out, and the keeper wasn't called
-pub is_wanting : (app : Application) (k : KeeperSeen) (subject : Subject) → IsFormed app subject (refusal 500 None) → ((worlds : Worlds) → IsAnswer app worlds subject (refusal 500 None))
-    → ((w : ℕ → Bool) (t : PlainState) → left_of w app subject (refusal 500 None) t ≡ t) → (IsTrue k.tells → IsStart app k.state)
-    → IsEntryOf app (record { before = k; after = k }) subject (refusal 500 None)
-is_wanting app k subject formed answered same start = record {
+pub is_wanting : (lazy : Bool) (app : Application) (k : Holding) (subject : Subject) → IsFormed lazy app subject (refusal 500 None)
+    → ((worlds : Worlds) → IsAnswer lazy app worlds subject (refusal 500 None))
+    → ((w : ℕ → Bool) (t : PlainState) → left_of w app subject (refusal 500 None) t ≡ t) → (IsTrue k.keeper.tells → IsStart app k.keeper.state)
+    → IsEntryOf lazy app (record { before = k; after = k }) subject (refusal 500 None)
+is_wanting lazy app k subject formed answered same start = record {
   formed = formed;
   told = λ tells. tells;
-  answered = λ tells. answered (worlds_of k.state);
-  worlds = λ tells w. sym (same w (project_at w k.state));
+  answered = λ tells. answered (worlds_of k.keeper.state);
+  worlds = λ tells w. sym (same w (project_at w k.keeper.state));
   goes_on = start;
   good = λ tells good. good;
+  unstored = λ tells none. refl;
+  unsplit = λ none. refl;
   faults = omega arith;
 }
 
@@ -179,14 +202,16 @@ status_named : (status : ℕ) → is_refusal status ≡ true → (status == 503)
 status_named status h = grind (arith, nat_tests)
 
 -- what is refused has the answer of its status, and the keeper wasn't called
-pub is_refused : (app : Application) (k : KeeperSeen) (status : ℕ) → is_refusal status ≡ true → (IsTrue k.tells → IsStart app k.state)
-    → IsEntryOf app (record { before = k; after = k }) (refused status) (refused_with status)
-is_refused app k status named start = record {
+pub is_refused : (lazy : Bool) (app : Application) (k : Holding) (status : ℕ) → is_refusal status ≡ true → (IsTrue k.keeper.tells → IsStart app k.keeper.state)
+    → IsEntryOf lazy app (record { before = k; after = k }) (refused status) (refused_with status)
+is_refused lazy app k status named start = record {
   formed = inr refl;
   told = λ tells. tells;
   answered = λ tells. inr refl;
   worlds = λ tells w. refl;
   goes_on = start;
   good = λ tells good. good;
+  unstored = λ tells none. refl;
+  unsplit = λ none. refl;
   faults = grew_by_none _ _ _ (status_named status named) (omega arith);
 }

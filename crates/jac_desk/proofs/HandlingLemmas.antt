@@ -6,7 +6,6 @@ use Rattle.jac_io.specs.Faults.{Rose}
 use Rattle.jac_lang.specs.Syntax.{Application}
 use Rattle.jac_keep.specs.declared.stop.Stop.{Stop}
 use Rattle.jac_keep.specs.declared.stop.Stop.TheVariants as stops
-use Rattle.jac_keep.specs.KeeperSeen.{KeeperSeen}
 use Rattle.jac_replies.specs.Refused.{refusal}
 use Rattle.jac_engine.specs.Start.{IsStart}
 use Rattle.jac_http.specs.declared.taken.Request.{Request}
@@ -26,6 +25,8 @@ use Rattle.jac_replies.specs.Failed.{status_of_stop}
 use Rattle.jac_serving.specs.Answering.{is_failure}
 use Rattle.jac_desk.specs.Log.{refused_with}
 use Rattle.jac_replies.specs.Spelled.{spelled, audit_text}
+use Rattle.jac_engine.specs.Answers.{stores}
+use Rattle.jac_serving.specs.Keeping.{Holding}
 use Rattle.jac_serving.specs.Outside.{span}
 use Rattle.jac_desk.specs.Answered.{IsAnswerMade, IsRefusalSent, answering_of}
 use Rattle.jac_serving.specs.Serve.{handled, sent_on, sent_audit}
@@ -75,28 +76,29 @@ refusal_goes_on : (status : ℕ) → is_refusal status ≡ true → (status == 5
 refusal_goes_on status named = grind (arith, nat_tests)
 
 -- what is refused is told so, or memory ran out
-pub refused-handled : (spelling : Spelling) (app : Application) (sessions : List Session) (k : KeeperSeen) (c status : ℕ) (sent : Sent) → is_refusal status ≡ true
-    → (IsTrue k.tells → IsStart app k.state) → IsRefusalSent spelling c status sent → handled spelling (answering_of app sessions) k c (Refused status) sent k
-refused-handled spelling app sessions k c status sent named start (inl is) = subst (λ (s : Sent). handled spelling (answering_of app sessions) k c (Refused status) s k) (sym is) (
+pub refused-handled : (spelling : Spelling) (lazy : Bool) (app : Application) (sessions : List Session) (k : Holding) (c status : ℕ) (sent : Sent) → is_refusal status ≡ true
+    → (IsTrue k.keeper.tells → IsStart app k.keeper.state) → IsRefusalSent spelling c status sent → handled spelling (answering_of lazy app sessions) k c (Refused status) sent k
+refused-handled spelling lazy app sessions k c status sent named start (inl is) = subst (λ (s : Sent). handled spelling (answering_of lazy app sessions) k c (Refused status) s k) (sym is) (
   refused_with status,
-  record { line = refl; audit = λ n. refl; closing = sym (refusal_goes_on status named); entry = is_refused app k status named start },
+  record { line = refl; audit = λ n. refl; closing = sym (refusal_goes_on status named); entry = is_refused lazy app k status named start },
 )
-refused-handled spelling app sessions k c status sent named start (inr is) = subst (λ (s : Sent). handled spelling (answering_of app sessions) k c (Refused status) s k) (sym is) (
+refused-handled spelling lazy app sessions k c status sent named start (inr is) = subst (λ (s : Sent). handled spelling (answering_of lazy app sessions) k c (Refused status) s k) (sym is) (
   refusal 500 None,
-  record { line = refl; audit = λ n. refl; closing = refl; entry = is_wanting app k (refused status) (inl refl) (λ worlds. inl refl) (λ w t. refl) start },
+  record { line = refl; audit = λ n. refl; closing = refl; entry = is_wanting lazy app k (refused status) (inl refl) (λ worlds. inl refl) (λ w t. refl) start },
 )
 
 -- a request was answered
-pub request-handled : (spelling : Spelling) (app : Application) (sessions : List Session) (a b : KeeperSeen) (c : ℕ) (request : Request) (reply audit : List ℕ) (sent : Sent)
-    → IsAnswerMade app (span a b) (ways.Connection c request.close spelling) (request_in app sessions request) reply audit → (IsTrue b.tells → IsTrue a.tells) → a.faults ≤ b.faults
-    → sent ≡ Made reply audit false → handled spelling (answering_of app sessions) a c (Whole request) sent b
-request-handled spelling app sessions a b c request reply audit sent made told later is = (
+pub request-handled : (spelling : Spelling) (lazy : Bool) (app : Application) (sessions : List Session) (a b : Holding) (c : ℕ) (request : Request) (reply audit : List ℕ) (sent : Sent)
+    → IsAnswerMade lazy app (span a b) (ways.Connection c request.close spelling) (request_in app sessions request) reply audit
+    → (IsTrue b.keeper.tells → IsTrue a.keeper.tells) → a.keeper.faults ≤ b.keeper.faults
+    → sent ≡ Made reply audit false → handled spelling (answering_of lazy app sessions) a c (Whole request) sent b
+request-handled spelling lazy app sessions a b c request reply audit sent made told later is = (
   made.answer,
   record {
     line = ap (sent_on spelling c) is ∙ made.reply_made;
     audit = λ n. ap (sent_audit n) is ∙ ap (λ (t : List ℕ). decimal n ++ t) made.audit_made;
-    closing = ap sent_closes is ∙ sym (servable app (request_in app sessions request) made.answer made.form).answered;
-    entry = is_made app (span a b) (ways.Connection c request.close spelling) (request_in app sessions request) request.close reply audit made told later;
+    closing = ap sent_closes is ∙ sym (servable lazy app (request_in app sessions request) made.answer made.form).answered;
+    entry = is_made lazy app (span a b) (ways.Connection c request.close spelling) (request_in app sessions request) request.close reply audit made told later;
   },
 )
 
@@ -113,20 +115,21 @@ failed_closes stops.Keeper = refl
 failed_closes stops.Memory = refl
 
 -- a request wasn't answered
-pub failed-handled : (spelling : Spelling) (app : Application) (sessions : List Session) (a b : KeeperSeen) (c : ℕ) (request : Request) (stop : Stop) (status : Fixed) (head : Bool) (viewer : Option ℕ)
+pub failed-handled : (spelling : Spelling) (lazy : Bool) (app : Application) (sessions : List Session) (a b : Holding) (c : ℕ) (request : Request) (stop : Stop) (status : Fixed) (head : Bool) (viewer : Option ℕ)
     → status_of_fixed status ≡ status_of_stop stop → head ≡ bytes_eq request.method (codes "HEAD") → viewer ≡ (request_in app sessions request).viewer
-    → (IsTrue b.tells → b.state ≡ a.state) → (IsTrue b.tells → IsTrue a.tells) → (IsTrue a.tells → IsStart app a.state)
-    → a.faults ≤ b.faults → (stop ≡ stops.Keeper → Rose a.faults b.faults)
-    → handled spelling (answering_of app sessions) a c (Whole request) (Still status head viewer) b
-failed-handled spelling app sessions a b c request stop status head viewer is is_head looks same told start later rose = (
+    → (IsTrue b.keeper.tells → b.keeper.state ≡ a.keeper.state) → (stores app (request_in app sessions request) ≡ false → b.splits ≡ a.splits)
+    → (IsTrue b.keeper.tells → IsTrue a.keeper.tells) → (IsTrue a.keeper.tells → IsStart app a.keeper.state)
+    → a.keeper.faults ≤ b.keeper.faults → (stop ≡ stops.Keeper → Rose a.keeper.faults b.keeper.faults)
+    → handled spelling (answering_of lazy app sessions) a c (Whole request) (Still status head viewer) b
+failed-handled spelling lazy app sessions a b c request stop status head viewer is is_head looks same reading told start later rose = (
   refusal (status_of_stop stop) None,
   record {
     line =
         ap (λ (s : ℕ). spelled spelling c (reply_bytes s None None [] false head true)) is
         ∙ failed_bytes spelling stop request.close c head
         ∙ ap (λ (h : Bool). spelled spelling c (reply_bytes (status_of_stop stop) None None (refusal (status_of_stop stop) None).body false h (request.close || is_failure (refusal (status_of_stop stop) None)))) is_head;
-    audit = λ n. ap (λ (s : ℕ). audit_text n s viewer None) is ∙ ap (λ (v : Option ℕ). audit_text n (status_of_stop stop) v None) looks;
+    audit = λ n. ap (λ (s : ℕ). audit_text n s viewer None None) is ∙ ap (λ (v : Option ℕ). audit_text n (status_of_stop stop) v None None) looks;
     closing = failed_closes stop;
-    entry = is_failed app (span a b) (request_in app sessions request) request.close stop same told start later rose;
+    entry = is_failed lazy app (span a b) (request_in app sessions request) request.close stop same reading told start later rose;
   },
 )

@@ -6,7 +6,7 @@ use Rattle.jac_rows.specs.Project.{project_at}
 use Rattle.jac_keep.specs.KeeperSeen.{KeeperSeen}
 use Rattle.jac_plain.specs.Models.{shapes_of}
 use Rattle.jac_plain.specs.Policies.{IsSettled}
-use Rattle.jac_engine.specs.Answers.{IsAnswerTo, HasForm, left}
+use Rattle.jac_engine.specs.Answers.{IsAnswerTo, HasForm, left, is_stored}
 use Rattle.jac_engine.specs.Prepared.{worlds_of}
 use Rattle.jac_engine.specs.Start.{IsStart}
 use Rattle.jac_http.specs.Replies.{reply_bytes}
@@ -24,13 +24,13 @@ use Rattle.jac_sittings.specs.Settled.{settled_for}
 use Rattle.jac_sittings.specs.declared.sittings.Sitting.{Sitting}
 use Rattle.jac_serving.specs.Answering.{Subject, Entry, Answering}
 use Rattle.jac_serving.specs.Desk.{DeskSeen}
-use Rattle.jac_serving.specs.Keeping.{Grew}
+use Rattle.jac_serving.specs.Keeping.{Grew, Holding, holding_of}
 use Rattle.jac_serving.specs.Log.{reply_on}
 use Rattle.jac_serving.specs.Outside.{Span}
 use Rattle.jac_desk.specs.declared.answer.Via.{Via}
 use Rattle.jac_desk.specs.declared.answer.Via.TheVariants as ways
 use Rattle.jac_desk.specs.Asked.{ask_in, request_in}
-use Rattle.jac_desk.specs.Log.{IsAnswer, IsFormed, AreFormed, AreAnswered, left_of, after_log, faults_in, is_fault}
+use Rattle.jac_desk.specs.Log.{IsAnswer, IsFormed, AreFormed, AreAnswered, left_of, after_log, is_stored_for, may_split, is_unstored, is_unsplit, faults_in, is_fault}
 
 abbrev pub source_of : Via → Source
 source_of ways.Line = asked
@@ -44,72 +44,104 @@ abbrev pub spelling_of : Via → Spelling
 spelling_of ways.Line = spellings.Quoted
 spelling_of (ways.Connection conn close spelling) = spelling
 
--- a request was answered, and its answer stored; these are the line of its reply and what follows the number of its
--- audit line
-pub record IsAnswerMade (app : Application) (k : Span KeeperSeen) (via : Via) (ask : Ask) (reply audit : List ℕ) : Type 0 where
+-- a request was answered, and its answer stored; these are the line of its reply and what follows the number
+-- of its audit line
+pub record IsAnswerMade (lazy : Bool) (app : Application) (k : Span Holding) (via : Via) (ask : Ask)
+    (reply audit : List ℕ) : Type 0 where
   pub answer : Answer
-  pub form : HasForm app ask answer
-  pub answered : IsTrue k.after.tells → IsAnswerTo app (worlds_of k.before.state) ask answer
-  pub worlds : IsTrue k.after.tells → (w : ℕ → Bool) → project_at w k.after.state ≡ left w app ask answer (project_at w k.before.state)
-  pub goes_on : IsTrue k.after.tells → IsStart app k.after.state
-  pub good : IsTrue k.after.tells → IsGood (shapes_of app) k.before.state → IsGood (shapes_of app) k.after.state
-  pub reply_made : reply ≡ reply_on (spelling_of via) (source_of via) (whole ask (close_of via)) answer
-  pub audit_made : audit ≡ audit_rest answer.status ask.viewer answer.shown
+  pub form : HasForm lazy app ask answer
+  pub answered : IsTrue k.after.keeper.tells
+      → IsAnswerTo lazy app (worlds_of k.before.keeper.state) ask answer
+  pub worlds : IsTrue k.after.keeper.tells → (w : ℕ → Bool)
+      → project_at w k.after.keeper.state
+      ≡ left w app ask answer (project_at w k.before.keeper.state)
+  pub goes_on : IsTrue k.after.keeper.tells → IsStart app k.after.keeper.state
+  pub good : IsTrue k.after.keeper.tells → IsGood (shapes_of app) k.before.keeper.state
+      → IsGood (shapes_of app) k.after.keeper.state
+  pub unstored : IsTrue k.after.keeper.tells → is_stored app ask answer ≡ false
+      → k.after.keeper.state ≡ k.before.keeper.state
+  pub unsplit : is_stored app ask answer ≡ false → k.after.splits ≡ k.before.splits
+  pub reply_made : reply
+      ≡ reply_on (spelling_of via) (source_of via) (whole ask (close_of via)) answer
+  pub audit_made : audit ≡ audit_rest answer.status ask.viewer answer.shown answer.consulted
 
 -- the subject has this answer, and what that leaves
-pub record IsEntryOf (app : Application) (k : Span KeeperSeen) (subject : Subject) (answer : Answer) : Type 0 where
-  pub formed : IsFormed app subject answer
-  pub told : IsTrue k.after.tells → IsTrue k.before.tells
-  pub answered : IsTrue k.after.tells → IsAnswer app (worlds_of k.before.state) subject answer
-  pub worlds : IsTrue k.after.tells → (w : ℕ → Bool) → project_at w k.after.state ≡ left_of w app subject answer (project_at w k.before.state)
-  pub goes_on : IsTrue k.after.tells → IsStart app k.after.state
-  pub good : IsTrue k.after.tells → IsGood (shapes_of app) k.before.state → IsGood (shapes_of app) k.after.state
-  pub faults : Grew k.before.faults (if is_fault answer then 1 else 0) k.after.faults
+pub record IsEntryOf (lazy : Bool) (app : Application) (k : Span Holding) (subject : Subject)
+    (answer : Answer) : Type 0 where
+  pub formed : IsFormed lazy app subject answer
+  pub told : IsTrue k.after.keeper.tells → IsTrue k.before.keeper.tells
+  pub answered : IsTrue k.after.keeper.tells
+      → IsAnswer lazy app (worlds_of k.before.keeper.state) subject answer
+  pub worlds : IsTrue k.after.keeper.tells → (w : ℕ → Bool)
+      → project_at w k.after.keeper.state
+      ≡ left_of w app subject answer (project_at w k.before.keeper.state)
+  pub goes_on : IsTrue k.after.keeper.tells → IsStart app k.after.keeper.state
+  pub good : IsTrue k.after.keeper.tells → IsGood (shapes_of app) k.before.keeper.state
+      → IsGood (shapes_of app) k.after.keeper.state
+  -- what isn't stored leaves the state as it was, and what doesn't store leaves the count of facets that
+  -- were split
+  pub unstored : IsTrue k.after.keeper.tells → is_stored_for app subject answer ≡ false
+      → k.after.keeper.state ≡ k.before.keeper.state
+  pub unsplit : may_split app subject answer ≡ false → k.after.splits ≡ k.before.splits
+  pub faults : Grew k.before.keeper.faults (if is_fault answer then 1 else 0) k.after.keeper.faults
 
 -- some subjects were answered one after another
-pub record AreEntries (app : Application) (k : Span KeeperSeen) (log : List Entry) : Type 0 where
-  pub formed : AreFormed app log
-  pub told : IsTrue k.after.tells → IsTrue k.before.tells
-  pub answered : IsTrue k.after.tells → AreAnswered app (worlds_of k.before.state) log
-  pub worlds : IsTrue k.after.tells → (w : ℕ → Bool) → project_at w k.after.state ≡ after_log w app log (project_at w k.before.state)
-  pub goes_on : IsTrue k.after.tells → IsStart app k.after.state
-  pub good : IsTrue k.after.tells → IsGood (shapes_of app) k.before.state → IsGood (shapes_of app) k.after.state
-  pub faults : Grew k.before.faults (faults_in log) k.after.faults
+pub record AreEntries (lazy : Bool) (app : Application) (k : Span Holding) (log : List Entry)
+    : Type 0 where
+  pub formed : AreFormed lazy app log
+  pub told : IsTrue k.after.keeper.tells → IsTrue k.before.keeper.tells
+  pub answered : IsTrue k.after.keeper.tells
+      → AreAnswered lazy app (worlds_of k.before.keeper.state) log
+  pub worlds : IsTrue k.after.keeper.tells → (w : ℕ → Bool)
+      → project_at w k.after.keeper.state ≡ after_log w app log (project_at w k.before.keeper.state)
+  pub goes_on : IsTrue k.after.keeper.tells → IsStart app k.after.keeper.state
+  pub good : IsTrue k.after.keeper.tells → IsGood (shapes_of app) k.before.keeper.state
+      → IsGood (shapes_of app) k.after.keeper.state
+  pub unstored : IsTrue k.after.keeper.tells → is_unstored app log ≡ true
+      → k.after.keeper.state ≡ k.before.keeper.state
+  pub unsplit : is_unsplit app log ≡ true → k.after.splits ≡ k.before.splits
+  pub faults : Grew k.before.keeper.faults (faults_in log) k.after.keeper.faults
 
 -- what is sent for what is refused with this status, unless memory runs out
 abbrev pub IsRefusalSent : Spelling → ℕ → ℕ → Sent → Type 0
 IsRefusalSent spelling c status sent =
-    (sent ≡ Made (spelled spelling c (reply_bytes status None None [] false false true)) (audit_rest status None None) false) ⊎ (sent ≡ fixed_500)
+    (sent ≡ Made (spelled spelling c (reply_bytes status None None [] false false true))
+    (audit_rest status None None None) false)
+    ⊎ (sent ≡ fixed_500)
 
 -- the labels that are kept for somebody are settled for them, on what the keeper tells
 pub record AreSettled (app : Application) (k : KeeperSeen) (sittings : List Sitting) : Type 0 where
-  pub each : IsTrue k.tells → (viewer : Option ℕ) (labels : List ℕ) → settled_for viewer sittings ≡ Some labels
-      → IsSettled app (worlds_of k.state) viewer labels
+  pub each : IsTrue k.tells → (viewer : Option ℕ) (labels : List ℕ)
+      → settled_for viewer sittings ≡ Some labels → IsSettled app (worlds_of k.state) viewer labels
 
--- how an application answers, whose sessions these are
-abbrev pub answering_of : Application → List Session → Answering
-answering_of app sessions = record {
+-- how an application answers, whose sessions these are; the flag says that a GET's page resolves only what
+-- it consults
+abbrev pub answering_of : Bool → Application → List Session → Answering
+answering_of lazy app sessions = record {
   wants = request_in app sessions;
   asks = ask_in app;
-  ready = λ k. IsTrue k.tells → IsStart app k.state;
+  ready = λ k. IsTrue k.keeper.tells → IsStart app k.keeper.state;
   settled = AreSettled app;
-  entry = IsEntryOf app;
-  entries = AreEntries app;
+  entry = IsEntryOf lazy app;
+  entries = AreEntries lazy app;
 }
 
--- whose a desk is: an application's, with its sessions and the reference to its keeper
+-- whose a desk is: an application's, with its sessions, whether a GET's page resolves only what it consults,
+-- and the references to its keeper and to the count of facets that were split
 pub record DeskOf : Type 0 where
   pub app : Application
   pub sessions : List Session
+  pub lazy : Bool
   pub keeper : ℕ
+  pub splits : ℕ
 
 abbrev pub answering : DeskOf → Answering
-answering of = answering_of of.app of.sessions
+answering of = answering_of of.lazy of.app of.sessions
 
 -- what contracts see of such a desk
-abbrev pub desk_of : Application → List Session → ℕ → KeeperSeen → List Sitting → DeskSeen DeskOf
-desk_of app sessions name keeper sittings = record {
-  of = record { app = app; sessions = sessions; keeper = name };
-  keeper = keeper;
+abbrev pub desk_of : DeskOf → KeeperSeen → ℕ → List Sitting → DeskSeen DeskOf
+desk_of of keeper splits sittings = record {
+  of = of;
+  holding = holding_of keeper splits;
   sittings = sittings;
 }

@@ -1,3 +1,4 @@
 pub mod Asked
 pub mod Log
 pub mod Answered
+pub mod Seen

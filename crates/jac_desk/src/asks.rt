@@ -30,7 +30,8 @@ pub fn ask_in(
     query: &Bytes,
     body: &Bytes,
 ) -> Result<Ask, Memory>
-    ensures { IfOk result (λ ask. ask ≡ ask_in (application_of app.now) viewer method.now path.now query.now body.now) }
+    ensures { IfOk result (λ ask.
+        ask ≡ ask_in (application_of app.now) viewer method.now path.now query.now body.now) }
 {
     make_ask(alloc, viewer_in(app, viewer), method, path, query, body)
 }
@@ -42,7 +43,8 @@ pub fn request_in(
     sessions: &Sessions,
     request: &Request,
 ) -> Result<Ask, Memory>
-    ensures { IfOk result (λ ask. ask ≡ request_in (application_of app.now) sessions.now request.now) }
+    ensures { IfOk result (λ ask.
+        ask ≡ request_in (application_of app.now) sessions.now request.now) }
 {
     let viewer = request_viewer(app, sessions, request);
     make_ask(

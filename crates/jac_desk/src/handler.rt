@@ -1,6 +1,5 @@
 //! A desk: an application over a keeper, with what is counted and allocated as it answers.
 ghost use Rattle.std.specs.Prelude.{◌≡◌, ◌<◌, [], false, true, IfOk, IfSome, IsTrue, OnErr, None};
-ghost use Rattle.jac_lang.specs.Mirror.{application_of};
 ghost use Rattle.jac_keep.specs.Cause.{HasCause};
 ghost use Rattle.jac_http.specs.Requests.{IsTaken};
 ghost use Rattle.jac_http.specs.Replies.{reply_bytes};
@@ -10,11 +9,12 @@ ghost use Rattle.jac_hub.specs.declared.sent.Sent.TheVariants.{Made as made_sent
 ghost use Rattle.jac_hub.specs.Hub.{seen, Nexts, left};
 ghost use Rattle.jac_hub.specs.Refusals.{is_refusal};
 ghost use Rattle.jac_replies.specs.Spelled.{spelled, audit_rest};
+ghost use Rattle.jac_engine.specs.Answers.{stores};
 ghost use Rattle.jac_serving.specs.Desk.{MayServe, Keeps, kept};
-ghost use Rattle.jac_serving.specs.Outside.{span};
 ghost use Rattle.jac_serving.specs.Serve.{handled};
-ghost use Rattle.jac_desk.specs.Answered.{IsAnswerMade, IsRefusalSent, AreSettled, answering, answering_of, desk_of};
+ghost use Rattle.jac_desk.specs.Answered.{IsAnswerMade, IsRefusalSent, AreSettled, answering};
 ghost use Rattle.jac_desk.specs.Asked.{ask_in, request_in};
+ghost use Rattle.jac_desk.specs.Seen.{whose, desk_seen};
 ghost use Rattle.jac_desk.specs.declared.answer.Via.TheVariants as ways;
 
 use crate::answer::{Lines, Via, answer_ask};
@@ -44,13 +44,16 @@ pub struct Answerer<'k, 's, 'e, 'a, 'b, 't, K: Keeper, L: Ledger, M: Ledger> {
     pub spelling: Spelling,
     pub service: &'a Service,
     pub sessions: &'b Sessions,
+    /// A GET's page resolves only what it consults.
+    pub lazy: bool,
     /// What was settled for those who looked, since something was stored.
     pub sittings: &'t mut Sittings,
 }
 
 impl<K: Keeper, L: Ledger, M: Ledger> Drop for Answerer<'_, '_, '_, '_, '_, '_, K, L, M> {
     fn drop(self)
-        ensures { self.exit.0.now ≡ self.entry.keeper.now }
+        ensures keeper { self.exit.0.now ≡ self.entry.keeper.now }
+        ensures splits { self.exit.1.0.now ≡ self.entry.splits.now }
     {
         let Answerer {
             keeper: _,
@@ -60,22 +63,24 @@ impl<K: Keeper, L: Ledger, M: Ledger> Drop for Answerer<'_, '_, '_, '_, '_, '_, 
             spelling: _,
             service: _,
             sessions: _,
+            lazy: _,
             sittings: _,
         } = self;
     }
 }
 
 impl<K: Keeper, L: Ledger, M: Ledger> Handler for Answerer<'_, '_, '_, '_, '_, '_, K, L, M> {
-    ghost use Rattle.std.specs.Prelude.{◌≡◌, IsTrue};
-    ghost use Rattle.jac_lang.specs.Mirror.{application_of};
     ghost use Rattle.jac_serving.specs.Desk.{MayServe, Keeps};
     ghost use Rattle.jac_serving.specs.Serve.{handled};
-    ghost use Rattle.jac_desk.specs.Answered.{answering, answering_of, desk_of};
+    ghost use Rattle.jac_desk.specs.Answered.{answering};
+    ghost use Rattle.jac_desk.specs.Seen.{whose, desk_seen};
 
-    ghost ready = { λ a. MayServe answering (desk_of (application_of a.service.now) a.sessions.now a.keeper.ghost_name (K.seen a.keeper.now) a.sittings.now) };
+    ghost ready = { λ a. MayServe answering (desk_seen K.seen a) };
 
-    ghost handles = { λ before conn heard sent after. Keeps answering (desk_of (application_of before.service.now) before.sessions.now before.keeper.ghost_name (K.seen before.keeper.now) before.sittings.now) (desk_of (application_of after.service.now) after.sessions.now after.keeper.ghost_name (K.seen after.keeper.now) after.sittings.now)
-        × handled before.spelling (answering_of (application_of before.service.now) before.sessions.now) (K.seen before.keeper.now) conn heard sent (K.seen after.keeper.now) };
+    ghost handles = { λ before conn heard sent after.
+        Keeps answering (desk_seen K.seen before) (desk_seen K.seen after)
+        × handled before.spelling (answering (whose before)) (desk_seen K.seen before).holding
+        conn heard sent (desk_seen K.seen after).holding };
 
     fn handle(&mut self, conn: u32, heard: &Heard) -> Sent {
         match heard {
@@ -86,14 +91,14 @@ impl<K: Keeper, L: Ledger, M: Ledger> Handler for Answerer<'_, '_, '_, '_, '_, '
 }
 
 impl<K: Keeper, L: Ledger, M: Ledger> Desk for Answerer<'_, '_, '_, '_, '_, '_, K, L, M> {
-    ghost use Rattle.jac_lang.specs.Mirror.{application_of};
-    ghost use Rattle.jac_desk.specs.Answered.{DeskOf, answering, desk_of};
+    ghost use Rattle.jac_desk.specs.Answered.{DeskOf, answering};
+    ghost use Rattle.jac_desk.specs.Seen.{desk_seen};
 
     ghost Of = { DeskOf };
 
     ghost answering = { answering };
 
-    ghost seen = { λ a. desk_of (application_of a.service.now) a.sessions.now a.keeper.ghost_name (K.seen a.keeper.now) a.sittings.now };
+    ghost seen = { desk_seen K.seen };
 
     fn alloc(&self) -> Global {
         self.alloc
@@ -132,11 +137,13 @@ fn ask_hub<K: Keeper, L: Ledger, M: Ledger>(
     desk: &mut Answerer<'_, '_, '_, '_, '_, '_, K, L, M>,
     hub: &mut Hub,
 ) -> Option<HubOut>
-    requires { MayServe answering (desk_of (application_of desk.old.service.now) desk.old.sessions.now desk.old.keeper.ghost_name (K.seen desk.old.keeper.now) desk.old.sittings.now) }
-    ensures next { Nexts IsTaken (handled desk.old.spelling (answering_of (application_of desk.old.service.now) desk.old.sessions.now)) (seen hub.old) (seen hub.old).turn result (seen hub.new) (K.seen desk.old.keeper.now) (K.seen desk.new.keeper.now) }
+    requires { MayServe answering (desk_seen K.seen desk.old) }
+    ensures next { Nexts IsTaken (handled desk.old.spelling (answering (whose desk.old)))
+        (seen hub.old) (seen hub.old).turn result (seen hub.new)
+        (desk_seen K.seen desk.old).holding (desk_seen K.seen desk.new).holding }
     ensures idle { result ≡ None → (seen hub.new).turn ≡ Idle }
     ensures nearer { IfSome result (λ out. left (seen hub.new) < left (seen hub.old)) }
-    ensures keeps { Keeps answering (desk_of (application_of desk.old.service.now) desk.old.sessions.now desk.old.keeper.ghost_name (K.seen desk.old.keeper.now) desk.old.sittings.now) (desk_of (application_of desk.new.service.now) desk.new.sessions.now desk.new.keeper.ghost_name (K.seen desk.new.keeper.now) desk.new.sittings.now) }
+    ensures keeps { Keeps answering (desk_seen K.seen desk.old) (desk_seen K.seen desk.new) }
 {
     let alloc = desk.alloc;
     hub.next(alloc, desk)
@@ -151,17 +158,24 @@ fn ask_lines<K: Keeper, L: Ledger, M: Ledger>(
     query: &Bytes,
     body: &Bytes,
 ) -> Result<Lines, Stop>
-    requires { MayServe answering (desk_of (application_of desk.old.service.now) desk.old.sessions.now desk.old.keeper.ghost_name (K.seen desk.old.keeper.now) desk.old.sittings.now) }
-    ensures made { IfOk result (λ lines. IsAnswerMade (application_of desk.old.service.now) (span (K.seen desk.old.keeper.now) (K.seen desk.new.keeper.now)) ways.Line
-        (ask_in (application_of desk.old.service.now) viewer method.now path.now query.now body.now) lines.reply lines.audit) }
-    ensures refused { IsTrue (K.seen desk.new.keeper.now).tells → OnErr result ((K.seen desk.new.keeper.now).state ≡ (K.seen desk.old.keeper.now).state) }
-    ensures told { IsTrue (K.seen desk.new.keeper.now).tells → IsTrue (K.seen desk.old.keeper.now).tells }
-    ensures cause { HasCause (K.seen desk.old.keeper.now).faults (K.seen desk.new.keeper.now).faults result }
-    ensures same_reference { desk.new.keeper.ghost_name ≡ desk.old.keeper.ghost_name }
-    ensures same_service { desk.new.service ≡ desk.old.service }
-    ensures same_sessions { desk.new.sessions ≡ desk.old.sessions }
+    requires { MayServe answering (desk_seen K.seen desk.old) }
+    ensures made { IfOk result (λ lines. IsAnswerMade desk.old.lazy (whose desk.old).app
+        (kept (desk_seen K.seen desk.old) (desk_seen K.seen desk.new)) ways.Line
+        (ask_in (whose desk.old).app viewer method.now path.now query.now body.now)
+        lines.reply lines.audit) }
+    ensures refused { IsTrue (K.seen desk.new.keeper.now).tells
+        → OnErr result ((K.seen desk.new.keeper.now).state ≡ (K.seen desk.old.keeper.now).state) }
+    ensures reading { stores (whose desk.old).app
+        (ask_in (whose desk.old).app viewer method.now path.now query.now body.now) ≡ false
+        → desk.new.splits.now ≡ desk.old.splits.now }
+    ensures told { IsTrue (K.seen desk.new.keeper.now).tells
+        → IsTrue (K.seen desk.old.keeper.now).tells }
+    ensures cause { HasCause (K.seen desk.old.keeper.now).faults
+        (K.seen desk.new.keeper.now).faults result }
+    ensures same { whose desk.new ≡ whose desk.old }
     ensures attached { (K.seen desk.new.keeper.now).store ≡ (K.seen desk.old.keeper.now).store }
-    ensures settled { AreSettled (application_of desk.old.service.now) (K.seen desk.new.keeper.now) desk.new.sittings.now }
+    ensures settled { AreSettled (whose desk.old).app (K.seen desk.new.keeper.now)
+        desk.new.sittings.now }
 {
     let ask = ask_in(
         desk.alloc,
@@ -180,17 +194,25 @@ fn request_lines<K: Keeper, L: Ledger, M: Ledger>(
     conn: u32,
     request: &Request,
 ) -> Result<Lines, Stop>
-    requires { MayServe answering (desk_of (application_of desk.old.service.now) desk.old.sessions.now desk.old.keeper.ghost_name (K.seen desk.old.keeper.now) desk.old.sittings.now) }
-    ensures made { IfOk result (λ lines. IsAnswerMade (application_of desk.old.service.now) (span (K.seen desk.old.keeper.now) (K.seen desk.new.keeper.now)) (ways.Connection conn request.now.close desk.old.spelling)
-        (request_in (application_of desk.old.service.now) desk.old.sessions.now request.now) lines.reply lines.audit) }
-    ensures refused { IsTrue (K.seen desk.new.keeper.now).tells → OnErr result ((K.seen desk.new.keeper.now).state ≡ (K.seen desk.old.keeper.now).state) }
-    ensures told { IsTrue (K.seen desk.new.keeper.now).tells → IsTrue (K.seen desk.old.keeper.now).tells }
-    ensures cause { HasCause (K.seen desk.old.keeper.now).faults (K.seen desk.new.keeper.now).faults result }
-    ensures same_reference { desk.new.keeper.ghost_name ≡ desk.old.keeper.ghost_name }
-    ensures same_service { desk.new.service ≡ desk.old.service }
-    ensures same_sessions { desk.new.sessions ≡ desk.old.sessions }
+    requires { MayServe answering (desk_seen K.seen desk.old) }
+    ensures made { IfOk result (λ lines. IsAnswerMade desk.old.lazy (whose desk.old).app
+        (kept (desk_seen K.seen desk.old) (desk_seen K.seen desk.new))
+        (ways.Connection conn request.now.close desk.old.spelling)
+        (request_in (whose desk.old).app desk.old.sessions.now request.now)
+        lines.reply lines.audit) }
+    ensures refused { IsTrue (K.seen desk.new.keeper.now).tells
+        → OnErr result ((K.seen desk.new.keeper.now).state ≡ (K.seen desk.old.keeper.now).state) }
+    ensures reading { stores (whose desk.old).app
+        (request_in (whose desk.old).app desk.old.sessions.now request.now) ≡ false
+        → desk.new.splits.now ≡ desk.old.splits.now }
+    ensures told { IsTrue (K.seen desk.new.keeper.now).tells
+        → IsTrue (K.seen desk.old.keeper.now).tells }
+    ensures cause { HasCause (K.seen desk.old.keeper.now).faults
+        (K.seen desk.new.keeper.now).faults result }
+    ensures same { whose desk.new ≡ whose desk.old }
     ensures attached { (K.seen desk.new.keeper.now).store ≡ (K.seen desk.old.keeper.now).store }
-    ensures settled { AreSettled (application_of desk.old.service.now) (K.seen desk.new.keeper.now) desk.new.sittings.now }
+    ensures settled { AreSettled (whose desk.old).app (K.seen desk.new.keeper.now)
+        desk.new.sittings.now }
 {
     let ask = request_in(desk.alloc, desk.service.app(), desk.sessions, request)?;
     let via = Via::Connection {
@@ -206,9 +228,11 @@ fn answer_request<K: Keeper, L: Ledger, M: Ledger>(
     conn: u32,
     request: &Request,
 ) -> Sent
-    requires { MayServe answering (desk_of (application_of desk.old.service.now) desk.old.sessions.now desk.old.keeper.ghost_name (K.seen desk.old.keeper.now) desk.old.sittings.now) }
-    ensures handled { handled desk.old.spelling (answering_of (application_of desk.old.service.now) desk.old.sessions.now) (K.seen desk.old.keeper.now) conn (whole_heard request.now) result (K.seen desk.new.keeper.now) }
-    ensures keeps { Keeps answering (desk_of (application_of desk.old.service.now) desk.old.sessions.now desk.old.keeper.ghost_name (K.seen desk.old.keeper.now) desk.old.sittings.now) (desk_of (application_of desk.new.service.now) desk.new.sessions.now desk.new.keeper.ghost_name (K.seen desk.new.keeper.now) desk.new.sittings.now) }
+    requires { MayServe answering (desk_seen K.seen desk.old) }
+    ensures handled { handled desk.old.spelling (answering (whose desk.old))
+        (desk_seen K.seen desk.old).holding conn (whole_heard request.now) result
+        (desk_seen K.seen desk.new).holding }
+    ensures keeps { Keeps answering (desk_seen K.seen desk.old) (desk_seen K.seen desk.new) }
 {
     match request_lines(desk, conn, request) {
         Ok(lines) => made(lines),
@@ -247,10 +271,11 @@ fn answer_refused(alloc: Global, spelling: Spelling, conn: u32, status: u16) -> 
 
 fn refused_lines(alloc: Global, spelling: Spelling, conn: u32, status: u16) -> Result<Lines, Memory>
     requires refusal { is_refusal status ≡ true }
-    ensures reply { IfOk result (λ lines. lines.reply ≡ spelled spelling conn (reply_bytes status None None [] false false true)) }
-    ensures audit { IfOk result (λ lines. lines.audit ≡ audit_rest status None None) }
+    ensures reply { IfOk result (λ lines.
+        lines.reply ≡ spelled spelling conn (reply_bytes status None None [] false false true)) }
+    ensures audit { IfOk result (λ lines. lines.audit ≡ audit_rest status None None None) }
 {
     let reply = refusal_reply(alloc, spelling, conn, status)?;
-    let audit = audit_rest(alloc, status, None, &None)?;
+    let audit = audit_rest(alloc, status, None, &None, &None)?;
     Ok(Lines { reply, audit })
 }

@@ -1,6 +1,5 @@
 -- How the steps of a command end.
-use Rattle.std.proofs.Common.{◌≡◌, ◌∙◌, ap, sym, subst, refl, ℕ, ◌≤◌, ◌<◌, ◌⊎◌, inl, inr, is_some, IsTrue, IsSomeAnd, Result, Ok, Err, Option, Some, None, List, [], ◌++◌, length, arith}
-use Rattle.jac_io.specs.Faults.{Rose}
+use Rattle.std.proofs.Common.{◌≡◌, ◌∙◌, ap, sym, subst, refl, ℕ, ◌≤◌, ◌<◌, ◌⊎◌, inl, inr, is_some, IsTrue, IsSomeAnd, Ok, Err, Option, Some, None, List, [], ◌++◌, length, arith}
 use Rattle.jac_io.specs.Seen.{FilesSeen, SinkSeen, Lasts, Aims}
 use Rattle.jac_lang.specs.Syntax.{Application}
 use Rattle.jac_keep.specs.KeeperSeen.{KeeperSeen}
@@ -17,7 +16,7 @@ use Rattle.jac_opening.specs.declared.refusal.Refusal.TheVariants as refusals
 use Rattle.jac_serving.specs.Outside.{Span, span, Sinks, sinks, Took, Went, WentAimed, AWriteFailed}
 use Rattle.jac_words.specs.Commands.{file_of, name_of, name_or_empty, limit_of}
 use Rattle.jac_ending.specs.Files.{Sight, IsReadAs, IsRead, HasSessions, HasBadLine, IsSessionless, HasApplication, IsReached, IsAimed, IsIdle, IsUnread, IsUnopened, IsNextUnopened, of_next}
-use Rattle.jac_ending.specs.Ending.{PutsText, Closed}
+use Rattle.jac_ending.specs.Ending.{Closed}
 use Rattle.jac_ending.specs.Attached.{IsAttached, AttachesAs}
 use Rattle.jac_ending.specs.Early.{EndsOpening}
 use Rattle.jac_serving.proofs.OutsideLemmas.{Lasts-none, Took-none, Rose-widen, failed_later}
@@ -175,23 +174,6 @@ WentAimed-on s P Q f went = record {
   audit_took = went.audit_took;
   holds = f went.out went.audit went.holds;
 }
-
--- a text's put, where a failed write is also one of another span
-pub text_on : (s t : Span SinkSeen) → (Rose s.before.faults s.after.faults → Rose t.before.faults t.after.faults) → (text : List ℕ) (ended : Result (Unit {0}) Ending) (put : List ℕ)
-    → PutsText s text ended put → PutsText t text ended put
-text_on s t f text (Ok done) put h = h
-text_on s t f text (Err endings.WriteFault) put h = (h.0, f h.1)
-text_on s t f text (Err endings.Memory) put h = absurd h
-text_on s t f text (Err endings.StoreFault) put h = absurd h
-text_on s t f text (Err (endings.OtherStore stored wanted)) put h = absurd h
-text_on s t f text (Err (endings.ReadFault role)) put h = absurd h
-text_on s t f text (Err (endings.TooLong role)) put h = absurd h
-text_on s t f text (Err (endings.AppRefused line)) put h = absurd h
-text_on s t f text (Err (endings.NewRefused line)) put h = absurd h
-text_on s t f text (Err (endings.UpgradeRefused line)) put h = absurd h
-text_on s t f text (Err endings.DoorFault) put h = absurd h
-text_on s t f text (Err (endings.LineRefused lapse)) put h = absurd h
-text_on s t f text (Err (endings.SessionsRefused line)) put h = absurd h
 
 -- what follows of what was put
 pub Closed-on : (out : Span SinkSeen) (P Q : List ℕ → Type 0) → ((put : List ℕ) → P put → Q put) → Closed out P → Closed out Q

@@ -32,6 +32,10 @@ sight files_before files_after out_before out_after audit_before audit_after kee
   keeper = span keeper_before keeper_after;
 }
 
+-- the same, until out stood so
+abbrev pub standing_at : Sight → SinkSeen → Sight
+standing_at seen standing = record seen { out = span seen.out.before standing }
+
 abbrev pub sinks_of : Sight → Sinks
 sinks_of seen = record { out = seen.out; audit = seen.audit }
 

@@ -11,15 +11,19 @@ use Rattle.jac_rows.specs.declared.row.Row.{Row}
 use Rattle.jac_rows.specs.declared.state.State.{State}
 use Rattle.jac_plain.specs.Models.{AreFlat}
 use Rattle.jac_plain.specs.Policies.{IsSettled}
-use Rattle.jac_plain.specs.Requests.{Worlds, page, page_of, after}
+use Rattle.jac_plain.specs.Requests.{Visit, Worlds, page, page_of, after}
 use Rattle.jac_plain.specs.declared.page.Page.{Page}
 use Rattle.jac_plain.proofs.GoodLaws.{flat_after}
 use Rattle.jac_keep.specs.declared.alteration.Alteration.{Alteration}
 use Rattle.jac_keep.specs.declared.alteration.Change.{Change}
 use Rattle.jac_keep.specs.Alterations.{overlaid_from}
 use Rattle.jac_keep.specs.Kept.{applied}
+use Rattle.jac_lang.specs.declared.bindings.Binding.{Binding}
+use Rattle.jac_lazy.specs.Steady.{IsPageOf, IsSteady}
+use Rattle.jac_replies.specs.declared.answer.Answer.{Answer}
 use Rattle.jac_replies.specs.declared.answer.Ask.{Ask}
-use Rattle.jac_engine.specs.Answers.{visit_of, page_answer, worlds_after}
+use Rattle.jac_route.specs.Parameters.{parameters}
+use Rattle.jac_engine.specs.Answers.{visit_of, page_answer, lazy_answer, IsLazyPage, worlds_after}
 use Rattle.jac_engine.specs.Prepared.{worlds_of}
 use Rattle.jac_opening.specs.Served.{is_served_body}
 use Rattle.jac_engine.specs.Start.{IsStart}
@@ -47,6 +51,21 @@ pub page_shown : (app : Application) (v : View) (ask : Ask) (place n : ℕ) (s :
     → page_answer labels p ≡ page_answer labels (page (shown labels) app (project_at (shown labels) s) (visit_of app ask place))
 page_shown app v ask place n s labels p is_view served is_number start shows =
     ap (page_answer labels) (shows.page n (sound_now s n start.sound is_number) (may_show n app v ask n s served) ∙ ran_page app v ask place n s labels is_view is_number)
+
+-- the request as it is bound to the parameters of its view
+pub visit_bound : (app : Application) (v : View) (ask : Ask) (place : ℕ) (env : List Binding) → slice_get app.views place ≡ Some v
+    → env ≡ parameters app.models v.params ask.pairs → record { view = place; env = env; viewer = ask.viewer } ≡ visit_of app ask place
+visit_bound app v ask place env is_view bound = rw (is_view, bound) refl
+
+-- a page that is the interpreter's whatever is shown beside what was consulted, under steady labels
+pub lazily_shown : (app : Application) (worlds : Worlds) (visit : Visit) (labels consulted : List ℕ) (p : Page) (answer : Answer) → answer ≡ lazy_answer labels consulted p
+    → IsSteady app worlds visit.viewer consulted labels → IsPageOf app worlds consulted labels visit p → IsLazyPage app worlds visit answer
+lazily_shown app worlds visit labels consulted p answer is steady shows = record {
+  labels = labels;
+  consulted = consulted;
+  steady = steady;
+  made = λ w agree. is ∙ ap (lazy_answer labels consulted) (shows.each w agree);
+}
 
 -- the page of a view of POST
 pub page_stored : (app : Application) (v : View) (ask : Ask) (place n : ℕ) (s : State) (labels : List ℕ) (p : Page) → slice_get app.views place ≡ Some v → is_served_body app.models verbs.Post v.body ≡ true

@@ -1,5 +1,5 @@
 -- What answers a request: the ordinary interpreter's page in a world, or a refusal.
-use Rattle.std.specs.Prelude.{◌≡◌, ℕ, ◌<◌, ◌^◌, ◌⊎◌, ◌==◌, ◌++◌, Bool, true, false, if◌then◌else◌, Option, Some, None, List, [], ◌∷◌, codes, decimal, slice_get}
+use Rattle.std.specs.Prelude.{◌≡◌, ℕ, ◌<◌, ◌^◌, ◌⊎◌, ◌++◌, Bool, true, false, Option, Some, None, List, [], codes, slice_get}
 use Rattle.jac_world.specs.World.{shown, IsAscending}
 use Rattle.jac_lang.specs.declared.field_kinds.Field.{Field}
 use Rattle.jac_lang.specs.declared.pages.Verb.{Verb}
@@ -10,6 +10,8 @@ use Rattle.jac_plain.specs.declared.page.Page.{Page}
 use Rattle.jac_plain.specs.declared.page.Piece.{Piece}
 use Rattle.jac_plain.specs.Policies.{IsSettled}
 use Rattle.jac_plain.specs.Requests.{Visit, Worlds, method_in, page_of, page, after}
+use Rattle.jac_pruned.specs.Consulted.{Agrees}
+use Rattle.jac_lazy.specs.Steady.{IsSteady}
 use Rattle.jac_route.specs.Found.{found}
 use Rattle.jac_route.specs.Parameters.{parameters}
 use Rattle.jac_route.specs.declared.lookup.Found.{Found}
@@ -21,7 +23,18 @@ use Rattle.jac_replies.specs.Refused.{refusal}
 
 -- a page, made under these labels
 abbrev pub page_answer : List ℕ → Page → Answer
-page_answer labels p = record { status = p.status; location = p.location; allow = None; body = p.body; shown = Some labels }
+page_answer labels p = record {
+  status = p.status;
+  location = p.location;
+  allow = None;
+  body = p.body;
+  shown = Some labels;
+  consulted = None;
+}
+
+-- the same of a page for which no others than these labels were resolved
+abbrev pub lazy_answer : List ℕ → List ℕ → Page → Answer
+lazy_answer labels consulted p = record (page_answer labels p) { consulted = Some consulted }
 
 abbrev pub params_in : Option View → List Field
 params_in None = []
@@ -48,6 +61,21 @@ pub record IsPage (app : Application) (before after : Worlds) (visit : Visit) (a
   pub made : answer ≡ page_answer labels (page (shown labels) app (before (shown labels)) visit)
   pub settled : IsSettled app after visit.viewer labels
 
+-- a page for which the labels alone were resolved that it and their policies consulted: these labels
+-- are steady for who asks, and it is the interpreter's page whatever is shown beside what was consulted
+pub record IsLazyPage
+    (app : Application) (worlds : Worlds) (visit : Visit) (answer : Answer) : Type 0 where
+  pub labels : List ℕ
+  pub consulted : List ℕ
+  pub steady : IsSteady app worlds visit.viewer consulted labels
+  pub made : (w : ℕ → Bool) → Agrees consulted (shown labels) w
+      → answer ≡ lazy_answer labels consulted (page w app (worlds w) visit)
+
+-- a GET's page; the flag says that only what is consulted is resolved
+abbrev pub IsShownPage : Bool → Application → Worlds → Visit → Answer → Type 0
+IsShownPage false app worlds visit answer = IsPage app worlds worlds visit answer
+IsShownPage true app worlds visit answer = IsLazyPage app worlds visit answer
+
 abbrev pub worlds_after : Application → Worlds → Visit → Worlds
 worlds_after app worlds visit w = after w app (worlds w) visit
 
@@ -59,20 +87,24 @@ abbrev pub HasNumber : Worlds → Type 0
 HasNumber worlds = (w : ℕ → Bool) → (worlds w).number < 2 ^ 40
 
 -- a POST's page, while there are numbers; where there are none it is refused
-abbrev pub IsAnswerOf : Verb → Application → Worlds → Visit → Answer → Type 0
-IsAnswerOf verbs.Get app worlds visit answer = IsPage app worlds worlds visit answer
-IsAnswerOf verbs.Post app worlds visit answer =
+abbrev pub IsAnswerOf : Bool → Verb → Application → Worlds → Visit → Answer → Type 0
+IsAnswerOf lazy verbs.Get app worlds visit answer = IsShownPage lazy app worlds visit answer
+IsAnswerOf lazy verbs.Post app worlds visit answer =
     ((answer ≡ refusal 507 None) × HasNoNumber worlds) ⊎ (HasNumber worlds × IsPage app worlds (worlds_after app worlds visit) visit answer)
 
 -- by what the request finds
-abbrev pub IsAnswerBy : Found → Application → Worlds → Ask → Answer → Type 0
-IsAnswerBy founds.NoRoute app worlds ask answer = answer ≡ refusal 404 None
-IsAnswerBy (founds.WrongMethod allow) app worlds ask answer = answer ≡ refusal 405 (Some (allow_text allow.get allow.post))
-IsAnswerBy (founds.View n pairs) app worlds ask answer = IsAnswerOf (method_in (slice_get app.views n)) app worlds (visit_of app (asked_with pairs ask) n) answer
+abbrev pub IsAnswerBy : Bool → Found → Application → Worlds → Ask → Answer → Type 0
+IsAnswerBy lazy founds.NoRoute app worlds ask answer = answer ≡ refusal 404 None
+IsAnswerBy lazy (founds.WrongMethod allow) app worlds ask answer =
+    answer ≡ refusal 405 (Some (allow_text allow.get allow.post))
+IsAnswerBy lazy (founds.View n pairs) app worlds ask answer =
+    IsAnswerOf lazy (method_in (slice_get app.views n)) app worlds
+    (visit_of app (asked_with pairs ask) n) answer
 
 -- the answer to a request in these worlds
-abbrev pub IsAnswerTo : Application → Worlds → Ask → Answer → Type 0
-IsAnswerTo app worlds ask answer = IsAnswerBy (found app ask.method ask.path) app worlds ask answer
+abbrev pub IsAnswerTo : Bool → Application → Worlds → Ask → Answer → Type 0
+IsAnswerTo lazy app worlds ask answer =
+    IsAnswerBy lazy (found app ask.method ask.path) app worlds ask answer
 
 -- a page that some run made
 pub record IsSomePage (answer : Answer) : Type 0 where
@@ -81,18 +113,33 @@ pub record IsSomePage (answer : Answer) : Type 0 where
   pub made : answer ≡ page_answer labels (page_of pieces)
   pub ascending : IsAscending labels
 
-abbrev pub HasFormOf : Verb → Answer → Type 0
-HasFormOf verbs.Get answer = IsSomePage answer
-HasFormOf verbs.Post answer = (answer ≡ refusal 507 None) ⊎ IsSomePage answer
+-- a page that some run made, for which no others than these labels were resolved
+pub record IsSomeLazyPage (answer : Answer) : Type 0 where
+  pub labels : List ℕ
+  pub consulted : List ℕ
+  pub pieces : List Piece
+  pub made : answer ≡ lazy_answer labels consulted (page_of pieces)
+  pub ascending : IsAscending labels
+  pub rising : IsAscending consulted
 
-abbrev pub HasFormBy : Found → Application → Answer → Type 0
-HasFormBy founds.NoRoute app answer = answer ≡ refusal 404 None
-HasFormBy (founds.WrongMethod allow) app answer = answer ≡ refusal 405 (Some (allow_text allow.get allow.post))
-HasFormBy (founds.View n pairs) app answer = HasFormOf (method_in (slice_get app.views n)) answer
+abbrev pub IsSomeShownPage : Bool → Answer → Type 0
+IsSomeShownPage false answer = IsSomePage answer
+IsSomeShownPage true answer = IsSomeLazyPage answer
+
+abbrev pub HasFormOf : Bool → Verb → Answer → Type 0
+HasFormOf lazy verbs.Get answer = IsSomeShownPage lazy answer
+HasFormOf lazy verbs.Post answer = (answer ≡ refusal 507 None) ⊎ IsSomePage answer
+
+abbrev pub HasFormBy : Bool → Found → Application → Answer → Type 0
+HasFormBy lazy founds.NoRoute app answer = answer ≡ refusal 404 None
+HasFormBy lazy (founds.WrongMethod allow) app answer =
+    answer ≡ refusal 405 (Some (allow_text allow.get allow.post))
+HasFormBy lazy (founds.View n pairs) app answer =
+    HasFormOf lazy (method_in (slice_get app.views n)) answer
 
 -- what is known of the answer where no world is: a refusal has its cause, and a page is one that a run made
-abbrev pub HasForm : Application → Ask → Answer → Type 0
-HasForm app ask answer = HasFormBy (found app ask.method ask.path) app answer
+abbrev pub HasForm : Bool → Application → Ask → Answer → Type 0
+HasForm lazy app ask answer = HasFormBy lazy (found app ask.method ask.path) app answer
 
 abbrev pub left_by : Found → (ℕ → Bool) → Application → Ask → Option (List ℕ) → PlainState → PlainState
 left_by founds.NoRoute w app ask shown t = t
@@ -117,3 +164,12 @@ is_stored_by (founds.View n pairs) app (Some labels) = is_post (method_in (slice
 -- whether a change comes with the answer: it does with the page of a POST
 abbrev pub is_stored : Application → Ask → Answer → Bool
 is_stored app ask answer = is_stored_by (found app ask.method ask.path) app answer.shown
+
+abbrev pub stores_by : Found → Application → Bool
+stores_by founds.NoRoute app = false
+stores_by (founds.WrongMethod allow) app = false
+stores_by (founds.View n pairs) app = is_post (method_in (slice_get app.views n))
+
+-- whether the request finds a view that stores
+abbrev pub stores : Application → Ask → Bool
+stores app ask = stores_by (found app ask.method ask.path) app

@@ -3,3 +3,4 @@ pub mod Views
 pub mod Answers
 pub mod Prepared
 pub mod Viewed
+pub mod Visits

@@ -24,10 +24,11 @@ worlds_of s w = project_at w s
 
 -- what answers a request on a state; where the state is told, the answer is the interpreter's in its worlds,
 -- and what is to be stored shows under every assignment what the interpreter leaves, and stays good
-pub record IsPrepared (tells : Bool) (app : Application) (s : State) (ask : Ask) (p : Prepared) : Type 0 where
-  pub form : HasForm app ask p.answer
+pub record IsPrepared
+    (lazy tells : Bool) (app : Application) (s : State) (ask : Ask) (p : Prepared) : Type 0 where
+  pub form : HasForm lazy app ask p.answer
   pub stored : is_some p.change ≡ is_stored app ask p.answer
-  pub answered : IsTrue tells → IsAnswerTo app (worlds_of s) ask p.answer
+  pub answered : IsTrue tells → IsAnswerTo lazy app (worlds_of s) ask p.answer
   pub worlds : IsTrue tells → (w : ℕ → Bool) → project_at w (applied_if p.change s) ≡ left w app ask p.answer (project_at w s)
   pub start : IsTrue tells → IsStart app (applied_if p.change s)
   pub good : IsTrue tells → IsGood (shapes_of app) s → IsGood (shapes_of app) (applied_if p.change s)

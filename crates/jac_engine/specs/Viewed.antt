@@ -10,7 +10,7 @@ use Rattle.jac_keep.specs.declared.alteration.Change.{Change}
 use Rattle.jac_keep.specs.Kept.{applied}
 use Rattle.jac_route.specs.declared.lookup.Found.{Found}
 use Rattle.jac_route.specs.declared.lookup.Found.TheVariants as founds
-use Rattle.jac_engine.specs.Answers.{IsPage, IsSomePage, allow_text, asked_with, visit_of, worlds_after}
+use Rattle.jac_engine.specs.Answers.{IsPage, IsShownPage, IsSomePage, IsSomeShownPage, allow_text, asked_with, visit_of, worlds_after}
 use Rattle.jac_replies.specs.Refused.{refusal}
 use Rattle.jac_engine.specs.Prepared.{worlds_of}
 use Rattle.jac_engine.specs.Start.{IsStart}
@@ -21,10 +21,11 @@ abbrev pub refused : ℕ → Option (List ℕ) → Prepared
 refused status allow = record { answer = refusal status allow; change = None }
 
 -- a GET changes nothing
-pub record IsShown (tells : Bool) (app : Application) (s : State) (visit : Visit) (p : Prepared) : Type 0 where
+pub record IsShown
+    (lazy tells : Bool) (app : Application) (s : State) (visit : Visit) (p : Prepared) : Type 0 where
   pub change : p.change ≡ None
-  pub form : IsSomePage p.answer
-  pub shows : IsTrue tells → IsPage app (worlds_of s) (worlds_of s) visit p.answer
+  pub form : IsSomeShownPage lazy p.answer
+  pub shows : IsTrue tells → IsShownPage lazy app (worlds_of s) visit p.answer
 
 -- a POST without a page: the numbers are used up
 pub record IsFull (tells : Bool) (s : State) (p : Prepared) : Type 0 where
@@ -45,11 +46,14 @@ pub record IsStored (tells : Bool) (app : Application) (s : State) (visit : Visi
   pub shows : IsTrue tells → IsPage app (worlds_of s) (worlds_after app (worlds_of s) visit) visit p.answer
   pub stores : IsTrue tells → Stores app s visit change
 
-abbrev pub IsPreparedBy : Verb → Bool → Application → State → Visit → Prepared → Type 0
-IsPreparedBy verbs.Get tells app s visit p = IsShown tells app s visit p
-IsPreparedBy verbs.Post tells app s visit p = IsFull tells s p ⊎ IsStored tells app s visit p
+abbrev pub IsPreparedBy : Bool → Verb → Bool → Application → State → Visit → Prepared → Type 0
+IsPreparedBy lazy verbs.Get tells app s visit p = IsShown lazy tells app s visit p
+IsPreparedBy lazy verbs.Post tells app s visit p = IsFull tells s p ⊎ IsStored tells app s visit p
 
-abbrev pub IsPreparedFor : Found → Bool → Application → State → Ask → Prepared → Type 0
-IsPreparedFor founds.NoRoute tells app s ask p = p ≡ refused 404 None
-IsPreparedFor (founds.WrongMethod allow) tells app s ask p = p ≡ refused 405 (Some (allow_text allow.get allow.post))
-IsPreparedFor (founds.View n pairs) tells app s ask p = IsPreparedBy (method_in (slice_get app.views n)) tells app s (visit_of app (asked_with pairs ask) n) p
+abbrev pub IsPreparedFor : Bool → Found → Bool → Application → State → Ask → Prepared → Type 0
+IsPreparedFor lazy founds.NoRoute tells app s ask p = p ≡ refused 404 None
+IsPreparedFor lazy (founds.WrongMethod allow) tells app s ask p =
+    p ≡ refused 405 (Some (allow_text allow.get allow.post))
+IsPreparedFor lazy (founds.View n pairs) tells app s ask p =
+    IsPreparedBy lazy (method_in (slice_get app.views n)) tells app s
+    (visit_of app (asked_with pairs ask) n) p

@@ -1,4 +1,4 @@
-ghost use Rattle.std.specs.Prelude.{◌≡◌, ◌<◌, ◌≤◌, true, length, slice_get, IfOk, IsNone, OnOk, OnErr, IfSome, IsTrue, Some, None};
+ghost use Rattle.std.specs.Prelude.{◌≡◌, ◌<◌, ◌≤◌, false, true, length, slice_get, IfOk, IsNone, OnOk, OnErr, IfSome, IsTrue, Some, None};
 ghost use Rattle.jac_lang.specs.Mirror.{application_of, page_of, statements_of};
 ghost use Rattle.jac_lang.specs.declared.pages.Verb.TheVariants as verbs;
 ghost use Rattle.jac_plain.specs.Requests.{method_in};
@@ -9,18 +9,20 @@ ghost use Rattle.jac_keep.specs.Kept.{applied};
 ghost use Rattle.jac_rows.specs.Good.{IsSound};
 ghost use Rattle.jac_route.specs.Found.{found, IsWithin};
 ghost use Rattle.jac_route.specs.Routes.{AreRoutes};
-ghost use Rattle.jac_engine.specs.Answers.{asked_with, visit_of, page_answer};
+ghost use Rattle.jac_engine.specs.Answers.{asked_with, visit_of, page_answer, lazy_answer, is_post, stores};
 ghost use Rattle.jac_plain.specs.Policies.{IsSettled};
 ghost use Rattle.jac_engine.specs.Prepared.{IsPrepared, applied_if, worlds_of};
 ghost use Rattle.jac_opening.specs.Served.{are_served, is_served_body};
 ghost use Rattle.jac_engine.specs.Start.{IsStart};
+ghost use Rattle.jac_engine.specs.Visits.{app_of, visit_at};
 ghost use Rattle.jac_engine.specs.Viewed.{IsPreparedBy, IsPreparedFor, IsShown};
 
-use crate::lookup::view_at;
+use crate::lookup::{Visited, view_at};
 use crate::refusal::{refuse, refuse_method};
-use crate::visit::{Labelled, known_page, shown_page, stored_page};
+use crate::visit::{Labelled, known_page, shown_lazily, shown_page, stored_page};
 use jac_keep::{Change, Keeper, Stop};
 use jac_lang::{App, Verb, View};
+use jac_lazy::LazyPage;
 use jac_opening::Service;
 use jac_plain::Page;
 use jac_replies::{Answer, Ask};
@@ -39,26 +41,32 @@ pub struct Prepared {
     pub change: Option<Change>,
 }
 
-/// Answers the request on what the keeper keeps, and changes nothing. The labels of a page are settled for who looks: on
-/// what is kept for a GET, on what the request leaves for a POST. Each policy that is asked counts in `evaluations`. Where nothing is to be stored no
-/// facet was split.
+/// Answers the request on what the keeper keeps, and changes nothing. The labels of a page are
+/// settled for who looks: on what is kept for a GET, on what the request leaves for a POST. Where
+/// `lazy` is set, those of a GET's page are steady for who looks instead, and only labels were
+/// resolved that the page and their policies consulted. Each policy that is asked counts in
+/// `evaluations`.
 pub fn prepare<K: Keeper, L: Ledger, M: Ledger>(
     alloc: Global,
     service: &Service,
     keeper: &mut K,
     ask: &Ask,
+    lazy: bool,
     splits: &mut Steps<L>,
     evaluations: &mut Steps<M>,
 ) -> Result<Prepared, Stop>
     requires attached { IsTrue (K.seen keeper.old).store.attached }
-    requires start { IsTrue (K.seen keeper.old).tells → IsStart (application_of service.now) (K.seen keeper.old).state }
-    ensures prepared { IfOk result (IsPrepared (K.seen keeper.new).tells (application_of service.now) (K.seen keeper.old).state ask.now) }
+    requires start { IsTrue (K.seen keeper.old).tells
+        → IsStart (application_of service.now) (K.seen keeper.old).state }
+    ensures prepared { IfOk result (IsPrepared lazy (K.seen keeper.new).tells
+        (application_of service.now) (K.seen keeper.old).state ask.now) }
     ensures unsplit { IfOk result (λ p. IsNone p.change → splits.new ≡ splits.old) }
+    ensures reading { stores (application_of service.now) ask.now ≡ false
+        → splits.new ≡ splits.old }
     ensures reads { Reads (K.seen keeper.old) (K.seen keeper.new) result }
 {
-    let app = service.app();
-    let routes = service.routes();
-    let prepared = prepare_found(alloc, app, routes, keeper, ask, splits, evaluations)?;
+    let _app = service.app();
+    let prepared = prepare_found(alloc, service, keeper, ask, lazy, splits, evaluations)?;
     Ok(prepared)
 }
 
@@ -72,11 +80,13 @@ pub fn show_again<K: Keeper>(
     labels: Assignment,
 ) -> Result<Option<Prepared>, Stop>
     requires attached { IsTrue (K.seen keeper.old).store.attached }
-    requires start { IsTrue (K.seen keeper.old).tells → IsStart (application_of service.now) (K.seen keeper.old).state }
+    requires start { IsTrue (K.seen keeper.old).tells
+        → IsStart (application_of service.now) (K.seen keeper.old).state }
     requires settled { IsTrue (K.seen keeper.old).tells
         → IsSettled (application_of service.now) (worlds_of (K.seen keeper.old).state) ask.now.viewer labels }
     ensures prepared { IfOk result (λ p. IfSome p
-        (IsPrepared (K.seen keeper.new).tells (application_of service.now) (K.seen keeper.old).state ask.now)) }
+        (IsPrepared false (K.seen keeper.new).tells
+        (application_of service.now) (K.seen keeper.old).state ask.now)) }
     ensures reads { Reads (K.seen keeper.old) (K.seen keeper.new) result }
 {
     let app = service.app();
@@ -99,11 +109,13 @@ fn show_found_again<K: Keeper>(
     requires attached { IsTrue (K.seen keeper.old).store.attached }
     requires served { are_served (application_of app.now) ≡ true }
     requires routes { AreRoutes (application_of app.now) routes.now }
-    requires start { IsTrue (K.seen keeper.old).tells → IsStart (application_of app.now) (K.seen keeper.old).state }
+    requires start { IsTrue (K.seen keeper.old).tells
+        → IsStart (application_of app.now) (K.seen keeper.old).state }
     requires settled { IsTrue (K.seen keeper.old).tells
         → IsSettled (application_of app.now) (worlds_of (K.seen keeper.old).state) ask.now.viewer labels }
     ensures prepared { IfOk result (λ p. IfSome p
-        (IsPreparedFor (found (application_of app.now) ask.now.method ask.now.path) (K.seen keeper.new).tells (application_of app.now)
+        (IsPreparedFor false (found (application_of app.now) ask.now.method ask.now.path)
+        (K.seen keeper.new).tells (application_of app.now)
         (K.seen keeper.old).state ask.now)) }
     ensures reads { Reads (K.seen keeper.old) (K.seen keeper.new) result }
 {
@@ -130,12 +142,14 @@ fn show_view_again<K: Keeper>(
 ) -> Result<Option<Prepared>, Stop>
     requires attached { IsTrue (K.seen keeper.old).store.attached }
     requires served { are_served (application_of app.now) ≡ true }
-    requires start { IsTrue (K.seen keeper.old).tells → IsStart (application_of app.now) (K.seen keeper.old).state }
+    requires start { IsTrue (K.seen keeper.old).tells
+        → IsStart (application_of app.now) (K.seen keeper.old).state }
     requires settled { IsTrue (K.seen keeper.old).tells
         → IsSettled (application_of app.now) (worlds_of (K.seen keeper.old).state) ask.now.viewer labels }
     requires within { place < length app.now.views }
     ensures prepared { IfOk result (λ p. IfSome p
-        (IsPreparedBy (method_in (slice_get (application_of app.now).views place)) (K.seen keeper.new).tells (application_of app.now)
+        (IsPreparedBy false (method_in (slice_get (application_of app.now).views place))
+        (K.seen keeper.new).tells (application_of app.now)
         (K.seen keeper.old).state (visit_of (application_of app.now) (asked_with path.now ask.now) place))) }
     ensures reads { Reads (K.seen keeper.old) (K.seen keeper.new) result }
 {
@@ -161,12 +175,14 @@ fn show_known<K: Keeper>(
     labels: Assignment,
 ) -> Result<Prepared, Stop>
     requires attached { IsTrue (K.seen keeper.old).store.attached }
-    requires start { IsTrue (K.seen keeper.old).tells → IsStart (application_of app.now) (K.seen keeper.old).state }
+    requires start { IsTrue (K.seen keeper.old).tells
+        → IsStart (application_of app.now) (K.seen keeper.old).state }
     requires settled { IsTrue (K.seen keeper.old).tells
         → IsSettled (application_of app.now) (worlds_of (K.seen keeper.old).state) ask.now.viewer labels }
     requires view { slice_get (application_of app.now).views place ≡ Some (page_of view.now) }
     requires served { is_served_body (application_of app.now).models verbs.Get (statements_of view.now.body) ≡ true }
-    ensures shown { IfOk result (IsShown (K.seen keeper.new).tells (application_of app.now) (K.seen keeper.old).state
+    ensures shown { IfOk result (IsShown false (K.seen keeper.new).tells
+        (application_of app.now) (K.seen keeper.old).state
         (visit_of (application_of app.now) (asked_with path.now ask.now) place)) }
     ensures reads { Reads (K.seen keeper.old) (K.seen keeper.new) result }
 {
@@ -181,26 +197,36 @@ fn show_known<K: Keeper>(
 // The same, by what the request finds.
 fn prepare_found<K: Keeper, L: Ledger, M: Ledger>(
     alloc: Global,
-    app: &App,
-    routes: &Routes,
+    service: &Service,
     keeper: &mut K,
     ask: &Ask,
+    lazy: bool,
     splits: &mut Steps<L>,
     evaluations: &mut Steps<M>,
 ) -> Result<Prepared, Stop>
     requires attached { IsTrue (K.seen keeper.old).store.attached }
-    requires served { are_served (application_of app.now) ≡ true }
-    requires few { length (application_of app.now).models ≤ 64 }
-    requires routes { AreRoutes (application_of app.now) routes.now }
-    requires start { IsTrue (K.seen keeper.old).tells → IsStart (application_of app.now) (K.seen keeper.old).state }
-    ensures prepared { IfOk result (IsPreparedFor (found (application_of app.now) ask.now.method ask.now.path) (K.seen keeper.new).tells (application_of app.now) (K.seen keeper.old).state ask.now) }
+    requires start { IsTrue (K.seen keeper.old).tells
+        → IsStart (application_of service.now) (K.seen keeper.old).state }
+    ensures prepared { IfOk result (IsPreparedFor lazy
+        (found (application_of service.now) ask.now.method ask.now.path) (K.seen keeper.new).tells
+        (application_of service.now) (K.seen keeper.old).state ask.now) }
     ensures unsplit { IfOk result (λ p. IsNone p.change → splits.new ≡ splits.old) }
+    ensures reading { stores (application_of service.now) ask.now ≡ false
+        → splits.new ≡ splits.old }
     ensures reads { Reads (K.seen keeper.old) (K.seen keeper.new) result }
 {
-    let found = find_view(alloc, app, routes, ask)?;
+    let app = service.app();
+    let found = find_view(alloc, app, service.routes(), ask)?;
     match found {
         Found::View { view, pairs } => {
-            let prepared = answer_view(alloc, app, keeper, ask, &pairs, view, splits, evaluations)?;
+            let visited = Visited {
+                app,
+                ask,
+                path: &pairs,
+                place: view,
+                view: view_at(app, view),
+            };
+            let prepared = answer_view(alloc, keeper, &visited, lazy, splits, evaluations)?;
             Ok(prepared)
         }
         Found::NoRoute => {
@@ -225,68 +251,123 @@ fn find_view(alloc: Global, app: &App, routes: &Routes, ask: &Ask) -> Result<Fou
 
 fn answer_view<K: Keeper, L: Ledger, M: Ledger>(
     alloc: Global,
-    app: &App,
     keeper: &mut K,
-    ask: &Ask,
-    path: &Pairs,
-    place: u32,
+    visited: &Visited<'_>,
+    lazy: bool,
     splits: &mut Steps<L>,
     evaluations: &mut Steps<M>,
 ) -> Result<Prepared, Stop>
     requires attached { IsTrue (K.seen keeper.old).store.attached }
-    requires served { are_served (application_of app.now) ≡ true }
-    requires few { length (application_of app.now).models ≤ 64 }
-    requires start { IsTrue (K.seen keeper.old).tells → IsStart (application_of app.now) (K.seen keeper.old).state }
-    requires within { place < length app.now.views }
-    ensures prepared { IfOk result (IsPreparedBy (method_in (slice_get (application_of app.now).views place)) (K.seen keeper.new).tells (application_of app.now) (K.seen keeper.old).state (visit_of (application_of app.now) (asked_with path.now ask.now) place)) }
+    requires served { are_served (app_of visited.now) ≡ true }
+    requires few { length (app_of visited.now).models ≤ 64 }
+    requires start { IsTrue (K.seen keeper.old).tells
+        → IsStart (app_of visited.now) (K.seen keeper.old).state }
+    requires within { visited.now.place < length visited.now.app.now.views }
+    requires view { slice_get (app_of visited.now).views visited.now.place
+        ≡ Some (page_of visited.now.view.now) }
+    ensures prepared { IfOk result (IsPreparedBy lazy
+        (method_in (slice_get (app_of visited.now).views visited.now.place))
+        (K.seen keeper.new).tells
+        (app_of visited.now) (K.seen keeper.old).state (visit_at visited.now)) }
     ensures unsplit { IfOk result (λ p. IsNone p.change → splits.new ≡ splits.old) }
+    ensures reading { is_post (method_in (slice_get (app_of visited.now).views visited.now.place))
+        ≡ false → splits.new ≡ splits.old }
     ensures reads { Reads (K.seen keeper.old) (K.seen keeper.new) result }
 {
-    let view = view_at(app, place);
-    match view.method {
+    match visited.view.method {
         Verb::Get => {
-            let prepared = show(alloc, app, keeper, ask, path, place, view, evaluations)?;
+            let prepared = show_by(alloc, keeper, visited, lazy, evaluations)?;
             Ok(prepared)
         }
         Verb::Post => {
-            let prepared = store(
-                alloc,
-                app,
-                keeper,
-                ask,
-                path,
-                place,
-                view,
-                splits,
-                evaluations,
-            )?;
+            let prepared = store(alloc, keeper, visited, splits, evaluations)?;
             Ok(prepared)
         }
     }
 }
 
-// The page of a view that shows.
-fn show<K: Keeper, M: Ledger>(
+// The page of a view that shows, in the way that is asked for.
+fn show_by<K: Keeper, M: Ledger>(
     alloc: Global,
-    app: &App,
     keeper: &mut K,
-    ask: &Ask,
-    path: &Pairs,
-    place: u32,
-    view: &View,
+    visited: &Visited<'_>,
+    lazy: bool,
     evaluations: &mut Steps<M>,
 ) -> Result<Prepared, Stop>
     requires attached { IsTrue (K.seen keeper.old).store.attached }
-    requires start { IsTrue (K.seen keeper.old).tells → IsStart (application_of app.now) (K.seen keeper.old).state }
-    requires view { slice_get (application_of app.now).views place ≡ Some (page_of view.now) }
-    requires served { is_served_body (application_of app.now).models verbs.Get (statements_of view.now.body) ≡ true }
-    ensures shown { IfOk result (IsShown (K.seen keeper.new).tells (application_of app.now) (K.seen keeper.old).state (visit_of (application_of app.now) (asked_with path.now ask.now) place)) }
+    requires start { IsTrue (K.seen keeper.old).tells
+        → IsStart (app_of visited.now) (K.seen keeper.old).state }
+    requires within { visited.now.place < length visited.now.app.now.views }
+    requires view { slice_get (app_of visited.now).views visited.now.place
+        ≡ Some (page_of visited.now.view.now) }
+    requires served { is_served_body (app_of visited.now).models verbs.Get
+        (statements_of visited.now.view.now.body) ≡ true }
+    ensures shown { IfOk result (IsShown lazy (K.seen keeper.new).tells
+        (app_of visited.now) (K.seen keeper.old).state (visit_at visited.now)) }
+    ensures reads { Reads (K.seen keeper.old) (K.seen keeper.new) result }
+{
+    if lazy {
+        return show_lazily(alloc, keeper, visited, evaluations);
+    }
+    show(alloc, keeper, visited, evaluations)
+}
+
+// The page of a view that shows, after all live labels were resolved.
+fn show<K: Keeper, M: Ledger>(
+    alloc: Global,
+    keeper: &mut K,
+    visited: &Visited<'_>,
+    evaluations: &mut Steps<M>,
+) -> Result<Prepared, Stop>
+    requires attached { IsTrue (K.seen keeper.old).store.attached }
+    requires start { IsTrue (K.seen keeper.old).tells
+        → IsStart (app_of visited.now) (K.seen keeper.old).state }
+    requires view { slice_get (app_of visited.now).views visited.now.place
+        ≡ Some (page_of visited.now.view.now) }
+    requires served { is_served_body (app_of visited.now).models verbs.Get
+        (statements_of visited.now.view.now.body) ≡ true }
+    ensures shown { IfOk result (IsShown false (K.seen keeper.new).tells
+        (app_of visited.now) (K.seen keeper.old).state (visit_at visited.now)) }
     ensures reads { Reads (K.seen keeper.old) (K.seen keeper.new) result }
 {
     let number = keeper.number()?;
-    let shown = shown_page(alloc, app, keeper, ask, path, view, number, evaluations)?;
+    let shown = shown_page(
+        alloc,
+        visited.app,
+        keeper,
+        visited.ask,
+        visited.path,
+        visited.view,
+        number,
+        evaluations,
+    )?;
     Ok(Prepared {
         answer: answer_of(shown),
+        change: None,
+    })
+}
+
+// The page of a view that shows, after the labels alone were resolved that were consulted for it.
+fn show_lazily<K: Keeper, M: Ledger>(
+    alloc: Global,
+    keeper: &mut K,
+    visited: &Visited<'_>,
+    evaluations: &mut Steps<M>,
+) -> Result<Prepared, Stop>
+    requires attached { IsTrue (K.seen keeper.old).store.attached }
+    requires within { visited.now.place < length visited.now.app.now.views }
+    requires view { slice_get (app_of visited.now).views visited.now.place
+        ≡ Some (page_of visited.now.view.now) }
+    requires served { is_served_body (app_of visited.now).models verbs.Get
+        (statements_of visited.now.view.now.body) ≡ true }
+    ensures shown { IfOk result (IsShown true (K.seen keeper.new).tells
+        (app_of visited.now) (K.seen keeper.old).state (visit_at visited.now)) }
+    ensures reads { Reads (K.seen keeper.old) (K.seen keeper.new) result }
+{
+    let number = keeper.number()?;
+    let shown = shown_lazily(alloc, keeper, visited, number, evaluations)?;
+    Ok(Prepared {
+        answer: lazy_answer_of(shown),
         change: None,
     })
 }
@@ -294,22 +375,22 @@ fn show<K: Keeper, M: Ledger>(
 // The page of a view that stores, and what it stores, while there are numbers.
 fn store<K: Keeper, L: Ledger, M: Ledger>(
     alloc: Global,
-    app: &App,
     keeper: &mut K,
-    ask: &Ask,
-    path: &Pairs,
-    place: u32,
-    view: &View,
+    visited: &Visited<'_>,
     splits: &mut Steps<L>,
     evaluations: &mut Steps<M>,
 ) -> Result<Prepared, Stop>
     requires attached { IsTrue (K.seen keeper.old).store.attached }
-    requires start { IsTrue (K.seen keeper.old).tells → IsStart (application_of app.now) (K.seen keeper.old).state }
-    requires view { slice_get (application_of app.now).views place ≡ Some (page_of view.now) }
-    requires method { view.now.method ≡ verbs.Post }
-    requires served { is_served_body (application_of app.now).models verbs.Post (statements_of view.now.body) ≡ true }
-    requires few { length (application_of app.now).models ≤ 64 }
-    ensures stored { IfOk result (λ p. IsPreparedBy verbs.Post (K.seen keeper.new).tells (application_of app.now) (K.seen keeper.old).state (visit_of (application_of app.now) (asked_with path.now ask.now) place) p) }
+    requires start { IsTrue (K.seen keeper.old).tells
+        → IsStart (app_of visited.now) (K.seen keeper.old).state }
+    requires view { slice_get (app_of visited.now).views visited.now.place
+        ≡ Some (page_of visited.now.view.now) }
+    requires method { visited.now.view.now.method ≡ verbs.Post }
+    requires served { is_served_body (app_of visited.now).models verbs.Post
+        (statements_of visited.now.view.now.body) ≡ true }
+    requires few { length (app_of visited.now).models ≤ 64 }
+    ensures stored { IfOk result (λ p. IsPreparedBy false verbs.Post (K.seen keeper.new).tells
+        (app_of visited.now) (K.seen keeper.old).state (visit_at visited.now) p) }
     ensures unsplit { IfOk result (λ p. IsNone p.change → splits.new ≡ splits.old) }
     ensures reads { Reads (K.seen keeper.old) (K.seen keeper.new) result }
 {
@@ -320,11 +401,11 @@ fn store<K: Keeper, L: Ledger, M: Ledger>(
     }
     let stored = stored_page(
         alloc,
-        app,
+        visited.app,
         keeper,
-        ask,
-        path,
-        view,
+        visited.ask,
+        visited.path,
+        visited.view,
         number,
         splits,
         evaluations,
@@ -353,6 +434,35 @@ fn answer_of(shown: Labelled) -> Answer
         allow: None,
         body,
         shown: Some(labels),
+        consulted: None,
+    }
+}
+
+// The answer with this page, under its labels, and with those that were consulted for it.
+fn lazy_answer_of(made: LazyPage) -> Answer
+    ensures answer { result ≡ lazy_answer made.shown made.consulted made.page }
+    ensures ascending { IsAscending made.shown }
+    ensures rising { IsAscending made.consulted }
+{
+    let LazyPage {
+        page,
+        shown,
+        consulted,
+    } = made;
+    let _ascending = shown.as_slice();
+    let _rising = consulted.as_slice();
+    let Page {
+        status,
+        location,
+        body,
+    } = page;
+    Answer {
+        status,
+        location,
+        allow: None,
+        body,
+        shown: Some(shown),
+        consulted: Some(consulted),
     }
 }
 

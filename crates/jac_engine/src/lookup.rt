@@ -3,6 +3,20 @@ ghost use Rattle.std.specs.Prelude.{◌≡◌, ◌<◌, length, slice_get, Some}
 ghost use Rattle.jac_lang.specs.Mirror.{application_of, page_of};
 
 use jac_lang::{App, View};
+use jac_replies::Ask;
+use jac_route::Pairs;
+
+/// A request that found a view.
+#[derive(Clone, Copy)]
+pub(crate) struct Visited<'v> {
+    pub(crate) app: &'v App,
+    pub(crate) ask: &'v Ask,
+    /// What the path gives to the names in the pattern.
+    pub(crate) path: &'v Pairs,
+    /// The place of the view in the application.
+    pub(crate) place: u32,
+    pub(crate) view: &'v View,
+}
 
 /// The view of this number.
 #[tactic(auto, using(jac_opening::proofs::PlaceLaws::page_at))]

@@ -31,6 +31,7 @@ pub(crate) fn refuse(alloc: Global, status: u16, allow: Option<Txt>) -> Result<P
             allow,
             body,
             shown: None,
+            consulted: None,
         },
         change: None,
     })

@@ -1,9 +1,9 @@
 //! One run of a view over a keeper, and the labels that its page is made under.
-ghost use Rattle.std.specs.Prelude.{◌≡◌, ◌<◌, ◌≤◌, ◌+◌, ◌^◌, true, length, IfOk, OnOk, IsErrOf, IsTrue};
+ghost use Rattle.std.specs.Prelude.{◌≡◌, ◌<◌, ◌≤◌, ◌+◌, ◌^◌, true, length, slice_get, IfOk, OnOk, IsErrOf, IsTrue, Some};
 ghost use Rattle.jac_io.specs.Faults.{Rose};
 ghost use Rattle.jac_keep.specs.KeeperSeen.{IsLeft};
 ghost use Rattle.jac_keep.specs.Kept.{applied};
-ghost use Rattle.jac_keep.specs.Worked.{state_of, IsTold, WritesWork};
+ghost use Rattle.jac_keep.specs.Worked.{state_of, IsTold, ReadsWork, WritesWork};
 ghost use Rattle.jac_lang.specs.Mirror.{application_of, page_of as view_of, statements_of};
 ghost use Rattle.jac_stmt.specs.Runs.{AreRunnable};
 ghost use Rattle.jac_write.specs.Writes.{StaysTold};
@@ -11,11 +11,15 @@ ghost use Rattle.jac_plain.specs.Policies.{IsSettled};
 ghost use Rattle.jac_plain.specs.Reading.{are_reading};
 ghost use Rattle.jac_engine.specs.Answers.{asked_with};
 ghost use Rattle.jac_engine.specs.Prepared.{worlds_of};
+ghost use Rattle.jac_engine.specs.Visits.{app_of, visit_at};
+ghost use Rattle.jac_lazy.specs.Steady.{IsPageOf, IsSteady};
 ghost use Rattle.jac_engine.specs.Views.{IsMade, IsReady, ShowsView, LeavesTables, RunsView};
 
+use crate::lookup::Visited;
 use crate::parameters::bind_alike;
 use jac_keep::{Change, Keeper, Stop, Work};
 use jac_lang::{App, View};
+use jac_lazy::{LazyPage, page_lazily};
 use jac_plain::{Ctx, Page};
 use jac_pruned::{Support, run_body_at};
 use jac_replies::Ask;
@@ -59,10 +63,84 @@ pub(crate) fn shown_page<K: Keeper, M: Ledger>(
     ensures page { IsTrue (K.seen keeper.new).tells → IfOk result (λ x. ShowsView (application_of app.now) (view_of view.now) (asked_with path.now ask.now) number (K.seen keeper.old).state x.labels x.page) }
     ensures settled { IsTrue (K.seen keeper.new).tells → IfOk result (λ x. IsSettled (application_of app.now) (worlds_of (K.seen keeper.old).state) ask.now.viewer x.labels) }
     ensures left { IsLeft (K.seen keeper.old) (K.seen keeper.new) }
-    ensures rose { IsErrOf result Stop.Keeper → Rose (K.seen keeper.old).faults (K.seen keeper.new).faults }
+    ensures rose { IsErrOf result Stop.Keeper
+        → Rose (K.seen keeper.old).faults (K.seen keeper.new).faults }
 {
     let mut work = Work::new(alloc, keeper);
     let shown = show_view(alloc, &mut work, app, ask, path, view, number, evaluations)?;
+    Ok(shown)
+}
+
+/// The page of the view, which writes nothing. Of the labels on what the keeper keeps only those
+/// are resolved that the page and their policies consult.
+pub(crate) fn shown_lazily<K: Keeper, M: Ledger>(
+    alloc: Global,
+    keeper: &mut K,
+    visited: &Visited<'_>,
+    number: u64,
+    evaluations: &mut Steps<M>,
+) -> Result<LazyPage, Stop>
+    requires attached { IsTrue (K.seen keeper.old).store.attached }
+    requires within { visited.now.place < length visited.now.app.now.views }
+    requires view { slice_get (app_of visited.now).views visited.now.place
+        ≡ Some (view_of visited.now.view.now) }
+    requires reading { are_reading (statements_of visited.now.view.now.body) ≡ true }
+    requires number { IsTrue (K.seen keeper.old).tells → number ≡ (K.seen keeper.old).state.number }
+    ensures steady { IsTrue (K.seen keeper.new).tells
+        → IfOk result (λ it. IsSteady (app_of visited.now)
+        (worlds_of (K.seen keeper.old).state) visited.now.ask.now.viewer it.consulted it.shown) }
+    ensures page { IsTrue (K.seen keeper.new).tells
+        → IfOk result (λ it. IsPageOf (app_of visited.now)
+        (worlds_of (K.seen keeper.old).state) it.consulted it.shown
+        (visit_at visited.now) it.page) }
+    ensures made { IfOk result (λ it. IsMade it.page) }
+    ensures left { IsLeft (K.seen keeper.old) (K.seen keeper.new) }
+    ensures rose { IsErrOf result Stop.Keeper
+        → Rose (K.seen keeper.old).faults (K.seen keeper.new).faults }
+{
+    let mut work = Work::new(alloc, keeper);
+    let shown = view_lazily(alloc, &mut work, visited, number, evaluations)?;
+    Ok(shown)
+}
+
+// The same, over a work.
+fn view_lazily<K: Keeper, M: Ledger>(
+    alloc: Global,
+    work: &mut Work<'_, K>,
+    visited: &Visited<'_>,
+    number: u64,
+    evaluations: &mut Steps<M>,
+) -> Result<LazyPage, Stop>
+    requires attached { IsTrue (K.seen work.old.keeper.now).store.attached }
+    requires within { visited.now.place < length visited.now.app.now.views }
+    requires view { slice_get (app_of visited.now).views visited.now.place
+        ≡ Some (view_of visited.now.view.now) }
+    requires reading { are_reading (statements_of visited.now.view.now.body) ≡ true }
+    requires number { IsTold K.seen work.old → number ≡ (state_of K.seen work.old).number }
+    ensures steady { IsTold K.seen work.new → IfOk result (λ it. IsSteady (app_of visited.now)
+        (worlds_of (state_of K.seen work.old)) visited.now.ask.now.viewer it.consulted it.shown) }
+    ensures page { IsTold K.seen work.new → IfOk result (λ it. IsPageOf (app_of visited.now)
+        (worlds_of (state_of K.seen work.old)) it.consulted it.shown
+        (visit_at visited.now) it.page) }
+    ensures made { IfOk result (λ it. IsMade it.page) }
+    ensures reads { ReadsWork K.seen work.old work.new result }
+{
+    let asked = &visited.ask.pairs;
+    let env = bind(
+        alloc,
+        &visited.view.params,
+        visited.app,
+        visited.path,
+        asked,
+    )?;
+    let ctx = Ctx {
+        viewer: visited.ask.viewer,
+        this: None,
+        number,
+        around: None,
+    };
+    let place = visited.place;
+    let shown = page_lazily(alloc, work, visited.app, &ctx, place, &env, evaluations)?;
     Ok(shown)
 }
 
@@ -107,7 +185,8 @@ pub(crate) fn known_page<K: Keeper>(
     ensures made { IfOk result IsMade }
     ensures page { IsTrue (K.seen keeper.new).tells → IfOk result (ShowsView (application_of app.now) (view_of view.now) (asked_with path.now ask.now) number (K.seen keeper.old).state labels.now) }
     ensures left { IsLeft (K.seen keeper.old) (K.seen keeper.new) }
-    ensures rose { IsErrOf result Stop.Keeper → Rose (K.seen keeper.old).faults (K.seen keeper.new).faults }
+    ensures rose { IsErrOf result Stop.Keeper
+        → Rose (K.seen keeper.old).faults (K.seen keeper.new).faults }
 {
     let mut work = Work::new(alloc, keeper);
     let page = page_under(alloc, &mut work, app, ask, path, view, number, labels)?;
@@ -176,7 +255,8 @@ pub(crate) fn stored_page<K: Keeper, L: Ledger, M: Ledger>(
     ensures stored { IsTrue (K.seen keeper.new).tells → IfOk result (λ x. LeavesTables (application_of app.now) (view_of view.now) (asked_with path.now ask.now) number (K.seen keeper.old).state (applied x.change (K.seen keeper.old).state).tables) }
     ensures number { IfOk result (λ x. x.change.number ≡ number + 1) }
     ensures left { IsLeft (K.seen keeper.old) (K.seen keeper.new) }
-    ensures rose { IsErrOf result Stop.Keeper → Rose (K.seen keeper.old).faults (K.seen keeper.new).faults }
+    ensures rose { IsErrOf result Stop.Keeper
+        → Rose (K.seen keeper.old).faults (K.seen keeper.new).faults }
 {
     settled_by_tables();
     let mut work = Work::new(alloc, keeper);

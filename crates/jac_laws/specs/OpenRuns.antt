@@ -5,23 +5,15 @@ use Rattle.jac_lang.specs.Syntax.{Application}
 use Rattle.jac_rows.specs.Project.{project_at}
 use Rattle.jac_rows.specs.declared.state.State.{State}
 use Rattle.jac_open.specs.Open.{AreAlike, IsEven, nothing}
-use Rattle.jac_engine.specs.Answers.{is_stored}
-use Rattle.jac_replies.specs.declared.answer.Answer.{Answer}
-use Rattle.jac_hub.specs.Hearing.{whole, refused, broken}
-use Rattle.jac_serving.specs.Answering.{Subject, Entry}
+use Rattle.jac_serving.specs.Answering.{Entry}
+use Rattle.jac_desk.specs.Log.{is_stored_for}
 use Rattle.jac_laws.specs.TwoRuns.{OneRun, LookSame, IsSameAsked, IsSameReply}
-
--- the answer is the page of a POST
-abbrev pub is_stored_page : Application → Subject → Answer → Bool
-is_stored_page app (whole ask closes) answer = is_stored app ask answer
-is_stored_page app (refused status) answer = false
-is_stored_page app broken answer = false
 
 -- no answer of the log is the page of a POST
 abbrev pub OnlyReads : Application → List Entry → Type 0
 OnlyReads app [] = ⊤
 OnlyReads app (entry ∷ log) =
-    (is_stored_page app entry.subject entry.answer ≡ false) × OnlyReads app log
+    (is_stored_for app entry.subject entry.answer ≡ false) × OnlyReads app log
 
 -- both runs start from even states, and these are alike where nothing is shown
 pub record StartAlike (app : Application) (one two : OneRun) : Type 0 where
@@ -29,8 +21,9 @@ pub record StartAlike (app : Application) (one two : OneRun) : Type 0 where
   pub even_too : IsEven app two.start
   pub alike : AreAlike app (project_at nothing one.start) (project_at nothing two.start)
 
--- the same was asked; both pages were made under the same labels, or neither entry has a page; and where these labels
--- show the same of both starts, or there are none, the replies are equal, byte by byte
+-- the same was asked; both pages were made under the same labels, or neither entry has a page; and
+-- where these labels show the same of both starts, or there are none, the replies are equal, byte
+-- by byte
 pub record IsShownSame (start other : State) (one two : Entry) : Type 0 where
   pub asked : IsSameAsked one two
   pub labels : one.answer.shown ≡ two.answer.shown

@@ -1,4 +1,5 @@
--- Two runs side by side: what they were asked, the worlds of one assignment in both, and their replies.
+-- Two runs side by side: what they were asked, the worlds of one assignment in both, and their
+-- replies.
 use Rattle.std.specs.Prelude.{◌≡◌, ℕ, Bool, true, false, if◌then◌else◌, Option, Some, None, is_some, List, [], ◌∷◌, length, map, ⊤}
 use Rattle.jac_world.specs.World.{shown}
 use Rattle.jac_lang.specs.Syntax.{Application}
@@ -11,10 +12,13 @@ use Rattle.jac_route.specs.declared.sessions.Session.{Session}
 use Rattle.jac_serving.specs.Answering.{Subject, Entry, is_failure}
 use Rattle.jac_serving.specs.Log.{entry_on}
 use Rattle.jac_desk.specs.Log.{Serves, after_entry}
+use Rattle.jac_replies.specs.declared.answer.Answer.{Answer}
 use Rattle.jac_replies.specs.declared.reply.Spelling.{Spelling}
 
--- a run: whether it may stop early, the state that it starts from, its log, and the state that it leaves
+-- a run: whether a GET's page resolves only what it consults, whether it may stop early, the state
+-- that it starts from, its log, and the state that it leaves
 pub record OneRun : Type 0 where
+  pub lazy : Bool
   pub early : Bool
   pub start : State
   pub log : List Entry
@@ -22,7 +26,8 @@ pub record OneRun : Type 0 where
 
 -- the run answers these events
 abbrev pub IsServed : Application → List Session → List Event → OneRun → Type 0
-IsServed app sessions events run = Serves run.early app sessions run.start events run.log run.finish
+IsServed app sessions events run =
+    Serves run.lazy run.early app sessions run.start events run.log run.finish
 
 -- the assignment shows the same of both states
 abbrev pub LookSame : (ℕ → Bool) → State → State → Type 0
@@ -48,23 +53,30 @@ abbrev pub HaveSameSubjects : Bool → Bool → List Entry → List Entry → Ty
 HaveSameSubjects early other [] [] = ⊤
 HaveSameSubjects early other [] (two ∷ others) = early ≡ true
 HaveSameSubjects early other (one ∷ log) [] = other ≡ true
-HaveSameSubjects early other (one ∷ log) (two ∷ others) = IsSameAsked one two × HaveSameSubjects early other log others
+HaveSameSubjects early other (one ∷ log) (two ∷ others) =
+    IsSameAsked one two × HaveSameSubjects early other log others
 
--- in these two worlds the same was asked, both answers have a page or neither has, and they leave the same world
-pub record IsSameStep (w : ℕ → Bool) (app : Application) (one two : Entry) (t u : PlainState) : Type 0 where
+-- in these two worlds the same was asked, both answers have a page or neither has, and they leave
+-- the same world
+pub record IsSameStep (w : ℕ → Bool) (app : Application) (one two : Entry) (t u : PlainState)
+    : Type 0 where
   pub asked : IsSameAsked one two
   pub page : is_some one.answer.shown ≡ is_some two.answer.shown
   pub left : after_entry w app one t ≡ after_entry w app two u
 
--- from these two worlds on, entry by entry, until one of two entries has failed; a log ends before the other only
--- where its run may stop early, or where the other has failed
-abbrev pub AgreeAfterEach : (ℕ → Bool) → Application → Bool → Bool → List Entry → List Entry → PlainState → PlainState → Type 0
+-- from these two worlds on, entry by entry, until one of two entries has failed; a log ends before
+-- the other only where its run may stop early, or where the other has failed
+abbrev pub AgreeAfterEach : (ℕ → Bool) → Application → Bool → Bool → List Entry → List Entry
+    → PlainState → PlainState → Type 0
 AgreeAfterEach w app early other [] [] t u = ⊤
-AgreeAfterEach w app early other [] (two ∷ others) t u = is_failure two.answer ≡ false → early ≡ true
+AgreeAfterEach w app early other [] (two ∷ others) t u =
+    is_failure two.answer ≡ false → early ≡ true
 AgreeAfterEach w app early other (one ∷ log) [] t u = is_failure one.answer ≡ false → other ≡ true
 AgreeAfterEach w app early other (one ∷ log) (two ∷ others) t u =
     NeitherFailed one two
-    → IsSameStep w app one two t u × AgreeAfterEach w app early other log others (after_entry w app one t) (after_entry w app two u)
+    → IsSameStep w app one two t u
+    × AgreeAfterEach w app early other log others
+    (after_entry w app one t) (after_entry w app two u)
 
 -- two runs to their ends
 pub record EndAlike (w : ℕ → Bool) (one two : OneRun) : Type 0 where
@@ -75,29 +87,43 @@ pub record EndAlike (w : ℕ → Bool) (one two : OneRun) : Type 0 where
   -- where they have as many entries, the assignment shows the same of what they leave
   pub ends : length one.log ≡ length two.log → LookSame w one.finish two.finish
 
--- the answers are equal, and so are the bytes that are put, on an output or on a connection
+-- what is seen of an answer by whom it is sent to: all but the labels that were consulted for it,
+-- of which the audit alone tells
+abbrev pub seen_answer : Answer → Answer
+seen_answer answer = record answer { consulted = None }
+
+-- what is seen of the answers is equal, and so are the bytes that are put, on an output or on a
+-- connection
 pub record IsSameReply (one two : Entry) : Type 0 where
-  pub answer : one.answer ≡ two.answer
+  pub answer : seen_answer one.answer ≡ seen_answer two.answer
   pub put : (spelling : Spelling) → entry_on spelling one ≡ entry_on spelling two
 
--- replies without a page are the same, and so are those whose pages were made under the same labels, where these
--- labels show the same of both starts
+-- replies without a page are the same, and so are those whose pages were made under the same
+-- labels, where these labels show the same of both starts
 pub record IsSameWhereShown (start other : State) (one two : Entry) : Type 0 where
   pub refusal : one.answer.shown ≡ None → two.answer.shown ≡ None → IsSameReply one two
-  pub page : (labels : List ℕ) → LookSame (shown labels) start other → one.answer.shown ≡ Some labels → two.answer.shown ≡ Some labels → IsSameReply one two
+  pub page :
+      (labels : List ℕ) → LookSame (shown labels) start other
+      → one.answer.shown ≡ Some labels → two.answer.shown ≡ Some labels → IsSameReply one two
 
 -- entry by entry, until one of two entries has failed
 abbrev pub AreSameWhereShown : State → State → List Entry → List Entry → Type 0
 AreSameWhereShown start other [] others = ⊤
 AreSameWhereShown start other (one ∷ log) [] = ⊤
 AreSameWhereShown start other (one ∷ log) (two ∷ others) =
-    NeitherFailed one two → IsSameWhereShown start other one two × AreSameWhereShown start other log others
+    NeitherFailed one two
+    → IsSameWhereShown start other one two × AreSameWhereShown start other log others
 
--- what somebody sees of a log, to whom a test of its source and its subject gives an entry or not: the entries of one
--- connection, say, or of one viewer
+abbrev pub seen_entry : Entry → Entry
+seen_entry entry = record entry { answer = seen_answer entry.answer }
+
+-- what somebody sees of a log, to whom a test of its source and its subject gives an entry or not:
+-- the entries of one connection, say, or of one viewer
 abbrev pub seen_by : (Source → Subject → Bool) → List Entry → List Entry
 seen_by sees [] = []
-seen_by sees (entry ∷ log) = if sees entry.source entry.subject then entry ∷ seen_by sees log else seen_by sees log
+seen_by sees (entry ∷ log) =
+    if sees entry.source entry.subject then seen_entry entry ∷ seen_by sees log
+    else seen_by sees log
 
 -- the labels of each page, as the audit has them
 abbrev pub labels_of : List Entry → List (Option (List ℕ))
@@ -106,10 +132,12 @@ labels_of log = map (λ entry. entry.answer.shown) log
 -- under the labels of each page the states look the same
 abbrev pub LookSameFor : State → State → List Entry → Type 0
 LookSameFor start other [] = ⊤
-LookSameFor start other (entry ∷ log) = ((labels : List ℕ) → entry.answer.shown ≡ Some labels → LookSame (shown labels) start other) × LookSameFor start other log
+LookSameFor start other (entry ∷ log) =
+    ((labels : List ℕ) → entry.answer.shown ≡ Some labels → LookSame (shown labels) start other)
+    × LookSameFor start other log
 
--- two whole runs in which nothing failed; somebody was shown pages under the same labels in both, and under each of
--- them the starts look the same
+-- two whole runs in which nothing failed; somebody was shown pages under the same labels in both,
+-- and under each of them the starts look the same
 pub record AreSeenAlike (sees : Source → Subject → Bool) (one two : OneRun) : Type 0 where
   pub whole : one.early ≡ false
   pub whole_too : two.early ≡ false

@@ -1,37 +1,41 @@
-ghost use Rattle.std.specs.Prelude.{◌≡◌, ℕ, Bool, IsTrue, true, List};
+ghost use Rattle.std.specs.Prelude.{◌≡◌, ℕ, Bool, IsTrue, true, false, List, map};
 ghost use Rattle.jac_lang.specs.Syntax.{Application};
 ghost use Rattle.jac_rows.specs.Project.{project_at};
 ghost use Rattle.jac_open.specs.Open.{is_open_app};
 ghost use Rattle.jac_route.specs.declared.sessions.Session.{Session};
 ghost use Rattle.jac_events.specs.declared.event.Event.{Event};
 ghost use Rattle.jac_hub.specs.Hearing.{Source};
-ghost use Rattle.jac_keep.specs.KeeperSeen.{KeeperSeen};
 ghost use Rattle.jac_serving.specs.Answering.{Subject, Entry};
+ghost use Rattle.jac_serving.specs.Keeping.{Holding};
 ghost use Rattle.jac_serving.specs.Outside.{Span};
 ghost use Rattle.jac_serving.specs.Serve.{IsServed as IsServedBy};
 ghost use Rattle.jac_desk.specs.Answered.{answering_of};
 ghost use Rattle.jac_desk.specs.Log.{Serves};
 ghost use Rattle.jac_laws.specs.OpenRuns.{AreShownSame, OnlyReads, StartAlike};
-ghost use Rattle.jac_laws.specs.TwoRuns.{OneRun, IsServed, LookSame, NoneFailed, AgreeAfterEach, EndAlike, AreSameWhereShown, AreSeenAlike, seen_by};
+ghost use Rattle.jac_laws.specs.TwoRuns.{OneRun, IsServed, LookSame, NoneFailed, AgreeAfterEach, EndAlike, AreSameWhereShown, AreSeenAlike, seen_by, seen_entry};
 
-/// A law: what the top call promises of the events that an application was served, where its store is told to the end,
-/// is what the laws below ask of a run.
+/// A law: what the top call promises of the events that an application was served, where its store
+/// is told to the end, is what the laws below ask of a run.
 pub fn told_runs_serve()
-    ensures { (early : Bool) (app : Application) (sessions : List Session) (k : Span KeeperSeen) →
-        (events : List Event) (log : List Entry) → IsServedBy early (answering_of app sessions) k events log →
-        IsTrue k.after.tells → Serves early app sessions k.before.state events log k.after.state }
+    ensures { (lazy early : Bool) (app : Application) (sessions : List Session) (k : Span Holding) →
+        (events : List Event) (log : List Entry) →
+        IsServedBy early (answering_of lazy app sessions) k events log →
+        IsTrue k.after.keeper.tells →
+        Serves lazy early app sessions k.before.keeper.state events log k.after.keeper.state }
 {}
 
-/// A law: where an assignment shows the same of two starts, two runs of the same events over them are asked the same,
-/// entry by entry; both answer with a page or neither does; and behind each entry the assignment shows the same of
-/// both. So what it hides at the start never changes what it shows later.
+/// A law: where an assignment shows the same of two starts, two runs of the same events over them
+/// are asked the same, entry by entry; both answer with a page or neither does; and behind each
+/// entry the assignment shows the same of both. So what it hides at the start never changes what it
+/// shows later.
 ///
-/// This holds until an entry of either run has failed, for want of memory or by a fault of the keeper: hidden data
-/// may be what memory ran out for. Where a run may stop early, it may do so at an entry of its own. Nothing is said of
-/// time, nor of how much memory is used.
+/// This holds until an entry of either run has failed, for want of memory or by a fault of the
+/// keeper: hidden data may be what memory ran out for. Where a run may stop early, it may do so at
+/// an entry of its own. Nothing is said of time, nor of how much memory is used. In each run a
+/// GET's page may resolve all labels, or only those that it consults.
 ///
-/// It is the projection of evaluation of faceted values, for whole runs: Austin and Flanagan, POPL 2012; Yang and
-/// others, PLDI 2016.
+/// It is the projection of evaluation of faceted values, for whole runs: Austin and Flanagan, POPL
+/// 2012; Yang and others, PLDI 2016.
 pub fn worlds_agree()
     ensures { (w : ℕ → Bool) (app : Application) (sessions : List Session) (events : List Event) →
         (one two : OneRun) → IsServed app sessions events one → IsServed app sessions events two →
@@ -40,11 +44,12 @@ pub fn worlds_agree()
         (project_at w one.start) (project_at w two.start) }
 {}
 
-/// A law: where no entry of such runs failed, they are asked the same as far as both go, which is to the end where
-/// neither may stop early; and where they have as many entries, the assignment shows the same of what they leave.
+/// A law: where no entry of such runs failed, they are asked the same as far as both go, which is
+/// to the end where neither may stop early; and where they have as many entries, the assignment
+/// shows the same of what they leave.
 ///
-/// A run that may stop early leaves what its own entries leave, so of two that stopped at different entries nothing is
-/// said here.
+/// A run that may stop early leaves what its own entries leave, so of two that stopped at different
+/// entries nothing is said here.
 pub fn ends_agree()
     ensures { (w : ℕ → Bool) (app : Application) (sessions : List Session) (events : List Event) →
         (one two : OneRun) → IsServed app sessions events one → IsServed app sessions events two →
@@ -52,26 +57,30 @@ pub fn ends_agree()
         NoneFailed one.log → NoneFailed two.log → EndAlike w one two }
 {}
 
-/// A law: of two runs of the same events, replies to the same that have no page are the same; and so are those whose
-/// pages were made under the same labels, where these labels show the same of both starts. So what labels hide
-/// changes no byte of a page that is made under them.
+/// A law: of two runs of the same events, replies to the same that have no page are the same; and
+/// so are those whose pages were made under the same labels, where these labels show the same of
+/// both starts. So what labels hide changes no byte of a page that is made under them. That holds
+/// too where one of the runs, or both, resolved only what a GET's page consults; what was consulted
+/// may differ, and the audit alone tells it.
 ///
-/// As above this holds until an entry of either run has failed. It is not promised that both runs make a page under
-/// the same labels, which the audit tells: a policy may read what is hidden, so that which labels are shown, and
-/// with them the page, may tell of it.
+/// As above this holds until an entry of either run has failed. It is not promised that both runs
+/// make a page under the same labels, which the audit tells: a policy may read what is hidden, so
+/// that which labels are shown, and with them the page, may tell of it.
 ///
-/// It is noninterference, as it is called of faceted values: Austin and Flanagan, POPL 2012; Yang and others, PLDI
-/// 2016.
+/// It is noninterference, as it is called of faceted values: Austin and Flanagan, POPL 2012; Yang
+/// and others, PLDI 2016.
 pub fn pages_agree()
     ensures { (app : Application) (sessions : List Session) (events : List Event) →
         (one two : OneRun) → IsServed app sessions events one → IsServed app sessions events two →
         AreSameWhereShown one.start two.start one.log two.log }
 {}
 
-/// A law: somebody sees some of the entries of two whole runs in which nothing failed, those of one connection or of
-/// one viewer. Where the labels of their pages are the same in both, and show the same of both starts, what is seen
-/// is the same in both, whatever else is hidden and whatever is shown to others. That the labels are the same is a
-/// premise, for the reason above; and the events are the same, so that nobody asks otherwise for what she was shown.
+/// A law: somebody sees some of the entries of two whole runs in which nothing failed, those of one
+/// connection or of one viewer. Where the labels of their pages are the same in both, and show the
+/// same of both starts, what is seen is the same in both, whatever else is hidden and whatever is
+/// shown to others. That the labels are the same is a premise, for the reason above; and the events
+/// are the same, so that nobody asks otherwise for what she was shown. What was consulted for a
+/// page isn't seen by whom it is sent to.
 pub fn views_agree()
     ensures { (sees : Source → Subject → Bool) (app : Application) (sessions : List Session) →
         (events : List Event) (one two : OneRun) → IsServed app sessions events one →
@@ -79,18 +88,29 @@ pub fn views_agree()
         seen_by sees one.log ≡ seen_by sees two.log }
 {}
 
-/// A law: let no policy of an application read a guarded field; let two runs of the same events start from stores in
-/// which, whatever is shown, the same records stand and hold the same in their other fields; and let no reply be a
-/// page that a `POST` made, nor stand for want of memory or a fault of the keeper. Then both runs make each page under
-/// the same labels, and a reply whose labels show the same of both starts is the same in both, byte by byte. So no
-/// page but one that shows hidden data tells of it, and which pages show it tells nothing of it either.
+/// A law: of a run in which each page resolved all labels, all of each answer is seen, since none
+/// tells what was consulted. So of two such runs the laws above say that the answers themselves are
+/// equal.
+pub fn all_is_seen()
+    ensures { (app : Application) (sessions : List Session) (events : List Event) (run : OneRun) →
+        IsServed app sessions events run → run.lazy ≡ false → map seen_entry run.log ≡ run.log }
+{}
+
+/// A law: let no policy of an application read a guarded field; let two runs of the same events, in
+/// which each page resolved all labels, start from stores in which, whatever is shown, the same
+/// records stand and hold the same in their other fields; and let no reply be a page that a `POST`
+/// made, nor stand for want of memory or a fault of the keeper. Then both runs make each page under
+/// the same labels, and a reply whose labels show the same of both starts is the same in both, byte
+/// by byte. So no page but one that shows hidden data tells of it, and which pages show it tells
+/// nothing of it either.
 ///
-/// A `POST` may store a record because of what is hidden, and a policy may let its label be shown: then the runs may
-/// show different labels.
+/// A `POST` may store a record because of what is hidden, and a policy may let its label be shown:
+/// then the runs may show different labels. And what a page consults may hang on what is hidden, so
+/// where it resolves nothing else, the labels that it is made under may too.
 pub fn labels_agree()
     ensures { (app : Application) (sessions : List Session) (events : List Event) →
         (one two : OneRun) → IsServed app sessions events one → IsServed app sessions events two →
-        is_open_app app ≡ true → StartAlike app one two →
+        one.lazy ≡ false → two.lazy ≡ false → is_open_app app ≡ true → StartAlike app one two →
         NoneFailed one.log → NoneFailed two.log → OnlyReads app one.log → OnlyReads app two.log →
         AreShownSame one.early two.early one.start two.start one.log two.log }
 {}

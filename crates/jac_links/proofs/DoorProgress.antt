@@ -1,17 +1,17 @@
 -- Serving link after link of a door.
-use Rattle.std.proofs.Common.{◌≡◌, ◌∙◌, ap, sym, subst, refl, inl, inr, ℕ, ◌+◌, ◌≤◌, ◌⊎◌, Bool, true, false, IsTrue, IsOk, is_err, Some, None, Result, Ok, Err, List, [], ◌∷◌, ◌++◌, length, map, if◌then◌else◌, append_assoc, append-nil, length-append, arith}
+use Rattle.std.proofs.Common.{◌≡◌, ◌∙◌, ap, sym, subst, refl, inl, inr, ℕ, ◌+◌, ◌≤◌, ◌⊎◌, Bool, true, false, IsTrue, IsOk, Some, None, Result, Ok, Err, List, [], ◌∷◌, ◌++◌, length, map, if◌then◌else◌, append_assoc, append-nil, length-append, arith}
 use Rattle.jac_io.specs.Faults.{Rose}
 use Rattle.jac_io.specs.declared.sink.Failed.{Failed}
 use Rattle.jac_io.specs.Linked.{LinkSeen, DoorSeen, Nexts, Returns}
-use Rattle.jac_keep.specs.KeeperSeen.{KeeperSeen}
+use Rattle.jac_serving.specs.Keeping.{Holding}
 use Rattle.jac_events.specs.declared.event.Event.{Event}
 use Rattle.jac_links.specs.declared.door.DoorHalt.{DoorHalt}
 use Rattle.jac_links.specs.declared.door.DoorHalt.TheVariants as halts
 use Rattle.jac_links.specs.declared.door.Tally.{Tally}
 use Rattle.jac_links.specs.declared.link.Halt.{Halt}
 use Rattle.jac_links.specs.declared.link.Halt.TheVariants as ways
-use Rattle.jac_links.specs.Link.{as_sink, IsPart, IsLinkServed}
-use Rattle.jac_links.specs.Door.{Visit, IsVisited, AreVisited, AreWhole, AreLinksServed}
+use Rattle.jac_links.specs.Link.{as_sink, PutsLog, IsLinkServed}
+use Rattle.jac_links.specs.Door.{IsPart, Visit, IsVisited, AreVisited, AreWhole, AreLinksServed}
 use Rattle.jac_links.specs.DoorSteps.{visit_of, Visits, VisitsLine, GaveLine, IsUnvisited, ServesNext}
 use Rattle.jac_serving.specs.Answering.{Entry, Answering, IsAnswering}
 use Rattle.jac_serving.specs.Log.{audited, audited_from}
@@ -19,24 +19,39 @@ use Rattle.jac_serving.specs.Outside.{Span, span, Took, IsFront}
 use Rattle.jac_serving.specs.Serve.{IsServed}
 use Rattle.jac_serving.proofs.EntriesLemmas.{entries-still, audited-append}
 use Rattle.jac_serving.proofs.OutsideLemmas.{append-IsFront, Rose-widen}
+use Rattle.jac_links.proofs.LostReplies.{lost_lines, torn_lines}
+
+-- a put on the audit failed within a link
+abbrev is_torn : Result ℕ Halt → Bool
+is_torn (Ok count) = false
+is_torn (Err ways.Write) = true
+is_torn (Err ways.Memory) = false
+
+lines_put : (first : ℕ) (link : Span LinkSeen) (log : List Entry) (result : Result ℕ Halt) (out lines : List ℕ)
+    → PutsLog first link log result out lines → IsPart (is_torn result) lines (audited_from (first + 1) log)
+lines_put first link log (Ok count) out lines (inl all) = all.audit_text
+lines_put first link log (Ok count) out lines (inr lost) = lost_lines first log out lines lost.0
+lines_put first link log (Err ways.Write) out lines lost = torn_lines first log out lines lost
+lines_put first link log (Err ways.Memory) out lines all = all.audit_text
 
 module _ {L : Type 0} (seen : L → LinkSeen) (app : Answering) where
-  visit_entries : (c first : ℕ) (a b : KeeperSeen) (visit : Visit L) (mine : List Entry) (lines : List ℕ)
+  visit_entries : (c first : ℕ) (a b : Holding) (visit : Visit L) (mine : List Entry) (lines : List ℕ)
       → IsVisited seen app c first (span a b) visit mine lines → app.entries (span a b) mine
   visit_entries c first a b visit mine lines v =
       subst (λ (log : List Entry). app.entries (span a b) log) v.entries v.served.served.entries
 
-  visit_few : (c first : ℕ) (k : Span KeeperSeen) (visit : Visit L) (mine : List Entry) (lines : List ℕ)
+  visit_few : (c first : ℕ) (k : Span Holding) (visit : Visit L) (mine : List Entry) (lines : List ℕ)
       → IsVisited seen app c first k visit mine lines → length mine ≤ 16777217
   visit_few c first k visit mine lines v = let few = v.served.few in let same = ap (λ (l : List Entry). length l) v.entries in omega (arith, few, same)
 
-  visit_lines : (c first : ℕ) (k : Span KeeperSeen) (visit : Visit L) (mine : List Entry) (lines : List ℕ)
-      → IsVisited seen app c first k visit mine lines → IsPart (is_err visit.result) lines (audited_from (first + 1) mine)
+  visit_lines : (c first : ℕ) (k : Span Holding) (visit : Visit L) (mine : List Entry) (lines : List ℕ)
+      → IsVisited seen app c first k visit mine lines → IsPart (is_torn visit.result) lines (audited_from (first + 1) mine)
   visit_lines c first k visit mine lines v =
-      subst (λ (log : List Entry). IsPart (is_err visit.result) lines (audited_from (first + 1) log)) v.entries v.served.audit_text
+      subst (λ (log : List Entry). IsPart (is_torn visit.result) lines (audited_from (first + 1) log)) v.entries
+      (lines_put first (span (seen visit.came) (seen visit.gone)) v.served.log visit.result v.out lines v.served.puts)
 
   -- a link that was served, and handed back or not
-  visits_by : (tally : Tally) (line gone : L) (handed : Bool) (da db : DoorSeen L) (a b : KeeperSeen) (result : Result ℕ Halt) (out lines : List ℕ)
+  visits_by : (tally : Tally) (line gone : L) (handed : Bool) (da db : DoorSeen L) (a b : Holding) (result : Result ℕ Halt) (out lines : List ℕ)
       → Took (span (as_sink (seen line)) (as_sink (seen gone))) out
       → IsLinkServed app (tally.connections + 1) tally.replies (span (seen line) (seen gone)) (span a b) result out lines
       → (IsTrue db.tells → db.returned ≡ da.returned ++ (if handed then gone ∷ [] else []))
@@ -48,7 +63,7 @@ module _ {L : Type 0} (seen : L → LinkSeen) (app : Answering) where
     returned = returned;
   }
 
-  pub line_back : (tally more : Tally) (line gone : L) (da db : DoorSeen L) (a b : KeeperSeen) (count : ℕ) (out lines : List ℕ) (done : Unit {0})
+  pub line_back : (tally more : Tally) (line gone : L) (da db : DoorSeen L) (a b : Holding) (count : ℕ) (out lines : List ℕ) (done : Unit {0})
       → Took (span (as_sink (seen line)) (as_sink (seen gone))) out
       → IsLinkServed app (tally.connections + 1) tally.replies (span (seen line) (seen gone)) (span a b) (Ok count) out lines
       → Returns da db gone (Ok done) → more.connections ≡ tally.connections + 1 → more.replies ≡ tally.replies + count
@@ -61,7 +76,7 @@ module _ {L : Type 0} (seen : L → LinkSeen) (app : Answering) where
     replies ∙ ap (λ (n : ℕ). tally.replies + n) served.count,
   )
 
-  pub line_kept : (tally : Tally) (line gone : L) (da db : DoorSeen L) (a b : KeeperSeen) (count : ℕ) (out lines : List ℕ) (failed : Failed)
+  pub line_kept : (tally : Tally) (line gone : L) (da db : DoorSeen L) (a b : Holding) (count : ℕ) (out lines : List ℕ) (failed : Failed)
       → Took (span (as_sink (seen line)) (as_sink (seen gone))) out
       → IsLinkServed app (tally.connections + 1) tally.replies (span (seen line) (seen gone)) (span a b) (Ok count) out lines
       → Returns da db gone (Err failed) → VisitsLine seen app tally line (span da db) (span a b) (Err halts.Door) lines
@@ -70,14 +85,14 @@ module _ {L : Type 0} (seen : L → LinkSeen) (app : Answering) where
     returns.rose,
   )
 
-  pub line_cut : (tally : Tally) (line gone : L) (door : DoorSeen L) (a b : KeeperSeen) (out lines : List ℕ)
+  pub line_cut : (tally : Tally) (line gone : L) (door : DoorSeen L) (a b : Holding) (out lines : List ℕ)
       → Took (span (as_sink (seen line)) (as_sink (seen gone))) out
       → IsLinkServed app (tally.connections + 1) tally.replies (span (seen line) (seen gone)) (span a b) (Err ways.Write) out lines
       → VisitsLine seen app tally line (span door door) (span a b) (Err halts.Write) lines
   line_cut tally line gone door a b out lines took served =
       visits_by tally line gone false door door a b (Err ways.Write) out lines took served (λ told. sym (append-nil door.returned))
 
-  pub line_wanting : (tally : Tally) (line gone : L) (door : DoorSeen L) (a b : KeeperSeen) (out lines : List ℕ)
+  pub line_wanting : (tally : Tally) (line gone : L) (door : DoorSeen L) (a b : Holding) (out lines : List ℕ)
       → Took (span (as_sink (seen line)) (as_sink (seen gone))) out
       → IsLinkServed app (tally.connections + 1) tally.replies (span (seen line) (seen gone)) (span a b) (Err ways.Memory) out lines
       → VisitsLine seen app tally line (span door door) (span a b) (Err halts.Memory) lines
@@ -85,7 +100,7 @@ module _ {L : Type 0} (seen : L → LinkSeen) (app : Answering) where
       visits_by tally line gone false door door a b (Err ways.Memory) out lines took served (λ told. sym (append-nil door.returned))
 
   -- a count is at most so much
-  pub line_few : (c first : ℕ) (link : Span LinkSeen) (k : Span KeeperSeen) (count : ℕ) (out lines : List ℕ) → IsLinkServed app c first link k (Ok count) out lines → count ≤ 16777217
+  pub line_few : (c first : ℕ) (link : Span LinkSeen) (k : Span Holding) (count : ℕ) (out lines : List ℕ) → IsLinkServed app c first link k (Ok count) out lines → count ≤ 16777217
   line_few c first link k count out lines served = let few = served.few in let is = served.count in omega (arith, few, is)
 
   -- ---- with the call of `next` before it
@@ -94,7 +109,7 @@ module _ {L : Type 0} (seen : L → LinkSeen) (app : Answering) where
       → GaveLine (span da dc) line
   gave_line da db dc line back gave same = λ told. gave (back told) ∙ ap (λ (l : List L). line ∷ l) (sym (same told))
 
-  visits_after : (tally : Tally) (line : L) (handed : Bool) (da db dc : DoorSeen L) (k : Span KeeperSeen) (result : Result ℕ Halt) (lines : List ℕ)
+  visits_after : (tally : Tally) (line : L) (handed : Bool) (da db dc : DoorSeen L) (k : Span Holding) (result : Result ℕ Halt) (lines : List ℕ)
       → (IsTrue dc.tells → IsTrue db.tells) → (IsTrue db.tells → db.returned ≡ da.returned)
       → Visits seen app tally line handed (span db dc) k result lines → Visits seen app tally line handed (span da dc) k result lines
   visits_after tally line handed da db dc k result lines back same v = record {
@@ -104,7 +119,7 @@ module _ {L : Type 0} (seen : L → LinkSeen) (app : Answering) where
     returned = λ told. v.returned told ∙ ap (λ (l : List L). l ++ (if handed then v.gone ∷ [] else [])) (same (back told));
   }
 
-  pub next_some : (tally more : Tally) (line : L) (da db dc : DoorSeen L) (k : Span KeeperSeen) (lines : List ℕ) → (IsTrue dc.tells → IsTrue db.tells)
+  pub next_some : (tally more : Tally) (line : L) (da db dc : DoorSeen L) (k : Span Holding) (lines : List ℕ) → (IsTrue dc.tells → IsTrue db.tells)
       → Nexts da db (Ok (Some line)) → (IsTrue dc.tells → dc.coming ≡ db.coming) → VisitsLine seen app tally line (span db dc) k (Ok more) lines
       → ServesNext seen app tally (span da dc) k (Ok (Some more)) lines
   unfolding visits_after
@@ -114,7 +129,7 @@ module _ {L : Type 0} (seen : L → LinkSeen) (app : Answering) where
     (count, visits_after tally line true da db dc k (Ok count) lines back next.same_returned v, connections, replies),
   )
 
-  pub next_cut : (tally : Tally) (line : L) (da db dc : DoorSeen L) (k : Span KeeperSeen) (lines : List ℕ) (halt : DoorHalt) → da.faults ≤ db.faults → (IsTrue dc.tells → IsTrue db.tells)
+  pub next_cut : (tally : Tally) (line : L) (da db dc : DoorSeen L) (k : Span Holding) (lines : List ℕ) (halt : DoorHalt) → da.faults ≤ db.faults → (IsTrue dc.tells → IsTrue db.tells)
       → Nexts da db (Ok (Some line)) → (IsTrue dc.tells → dc.coming ≡ db.coming) → VisitsLine seen app tally line (span db dc) k (Err halt) lines
       → ServesNext seen app tally (span da dc) k (Err halt) lines
   next_cut tally line da db dc k lines halts.Door later back next coming ((count, v), rose) = (
@@ -126,20 +141,20 @@ module _ {L : Type 0} (seen : L → LinkSeen) (app : Answering) where
   next_cut tally line da db dc k lines halts.Memory later back next coming v =
       (line, gave_line da db dc line back next.ok coming, visits_after tally line false da db dc k (Err ways.Memory) lines back next.same_returned v)
 
-  pub next_no_more : (tally : Tally) (da db : DoorSeen L) (k : KeeperSeen) → Nexts da db (Ok None) → ServesNext seen app tally (span da db) (span k k) (Ok None) []
+  pub next_no_more : (tally : Tally) (da db : DoorSeen L) (k : Holding) → Nexts da db (Ok None) → ServesNext seen app tally (span da db) (span k k) (Ok None) []
   next_no_more tally da db k next = (
     record { coming = λ told. (next.ok told).1 ∙ sym (next.ok told).0; returned = next.same_returned; still = refl; no_audit = refl },
     λ told. (next.ok told).1,
   )
 
-  pub next_failed : (tally : Tally) (da db : DoorSeen L) (k : KeeperSeen) (failed : Failed) → Nexts da db (Err failed) → ServesNext seen app tally (span da db) (span k k) (Err halts.Door) []
+  pub next_failed : (tally : Tally) (da db : DoorSeen L) (k : Holding) (failed : Failed) → Nexts da db (Err failed) → ServesNext seen app tally (span da db) (span k k) (Err halts.Door) []
   next_failed tally da db k failed next = (
     inl (record { coming = next.err; returned = next.same_returned; still = refl; no_audit = refl }),
     next.rose,
   )
 
   -- one more
-  visited_push : (visits : List (Visit L)) (c first : ℕ) (before mid after : KeeperSeen) (log mine : List Entry) (audit lines : List ℕ) (visit : Visit L)
+  visited_push : (visits : List (Visit L)) (c first : ℕ) (before mid after : Holding) (log mine : List Entry) (audit lines : List ℕ) (visit : Visit L)
       → AreVisited seen app c first before visits log audit mid → IsVisited seen app (c + length visits) (first + length log) (span mid after) visit mine lines
       → AreVisited seen app c first before (visits ++ visit ∷ []) (log ++ mine) (audit ++ lines) after
   visited_push [] c first before mid after log mine audit lines visit (no_log, no_audit, same) v = (
@@ -150,7 +165,7 @@ module _ {L : Type 0} (seen : L → LinkSeen) (app : Answering) where
     [],
     subst (λ (n : ℕ). IsVisited seen app n first (span before after) visit mine lines) (omega arith)
         (subst (λ (n : ℕ). IsVisited seen app (c + 0) n (span before after) visit mine lines) (let l = ap (λ (x : List Entry). length x) no_log in omega (arith, l))
-        (subst (λ (k : KeeperSeen). IsVisited seen app (c + 0) (first + length log) (span k after) visit mine lines) same v)),
+        (subst (λ (k : Holding). IsVisited seen app (c + 0) (first + length log) (span k after) visit mine lines) same v)),
     ap (λ (l : List Entry). l ++ mine) no_log ∙ sym (append-nil mine),
     ap (λ (t : List ℕ). t ++ lines) no_audit ∙ sym (append-nil lines),
     (refl, refl, refl),
@@ -179,7 +194,7 @@ module _ {L : Type 0} (seen : L → LinkSeen) (app : Answering) where
   map_push f (v ∷ visits) visit = ap (λ (l : List L). f v ∷ l) (map_push f visits visit)
 
   -- these links were served and handed back
-  pub record DoorProgress (door : Span (DoorSeen L)) (k : Span KeeperSeen) (tally : Tally) (audit : List ℕ) : Type 0 where
+  pub record DoorProgress (door : Span (DoorSeen L)) (k : Span Holding) (tally : Tally) (audit : List ℕ) : Type 0 where
     pub visits : List (Visit L)
     pub log : List Entry
     pub came : IsTrue door.after.tells → door.before.coming ≡ map (λ visit. visit.came) visits ++ door.after.coming
@@ -191,7 +206,7 @@ module _ {L : Type 0} (seen : L → LinkSeen) (app : Answering) where
     pub replies : tally.replies ≡ length log
     pub audit_text : audit ≡ audited log
 
-  pub door_start : IsAnswering app → (door : DoorSeen L) (k : KeeperSeen) → app.ready k
+  pub door_start : IsAnswering app → (door : DoorSeen L) (k : Holding) → app.ready k
       → DoorProgress (span door door) (span k k) (record { connections = 0; replies = 0 }) []
   door_start lawful door k start = record {
     visits = [];
@@ -217,7 +232,7 @@ module _ {L : Type 0} (seen : L → LinkSeen) (app : Answering) where
   audited_push : (log mine : List Entry) → audited log ++ audited_from (length log + 1) mine ≡ audited (log ++ mine)
   audited_push log mine = ap (λ (n : ℕ). audited log ++ audited_from n mine) (omega arith) ∙ sym (audited-append 1 log mine)
 
-  module _ (lawful : IsAnswering app) (da db dc : DoorSeen L) (a b d : KeeperSeen) (tally : Tally) (o au : List ℕ) (back : IsTrue dc.tells → IsTrue db.tells) (s : DoorProgress (span da db) (span a b) tally o) where
+  module _ (lawful : IsAnswering app) (da db dc : DoorSeen L) (a b d : Holding) (tally : Tally) (o au : List ℕ) (back : IsTrue dc.tells → IsTrue db.tells) (s : DoorProgress (span da db) (span a b) tally o) where
     seen_as : (visit : Visit L) (mine : List Entry) → IsVisited seen app (tally.connections + 1) tally.replies (span b d) visit mine au
         → IsVisited seen app (1 + length s.visits) (0 + length s.log) (span b d) visit mine au
     seen_as visit mine v =
@@ -227,9 +242,9 @@ module _ {L : Type 0} (seen : L → LinkSeen) (app : Answering) where
         (subst (λ (n : ℕ). IsVisited seen app (tally.connections + 1) n (span b d) visit mine au) (omega (arith, rs)) v)
 
     lines_as : (visit : Visit L) (mine : List Entry) → IsVisited seen app (tally.connections + 1) tally.replies (span b d) visit mine au
-        → IsPart (is_err visit.result) au (audited_from (length s.log + 1) mine)
+        → IsPart (is_torn visit.result) au (audited_from (length s.log + 1) mine)
     lines_as visit mine v =
-        subst (λ (n : ℕ). IsPart (is_err visit.result) au (audited_from (n + 1) mine)) s.replies (visit_lines (tally.connections + 1) tally.replies (span b d) visit mine au v)
+        subst (λ (n : ℕ). IsPart (is_torn visit.result) au (audited_from (n + 1) mine)) s.replies (visit_lines (tally.connections + 1) tally.replies (span b d) visit mine au v)
 
     -- the next link was served and handed back
     pub door_on : (line : L) (more : Tally) → GaveLine (span db dc) line → VisitsLine seen app tally line (span db dc) (span b d) (Ok more) au
@@ -312,7 +327,8 @@ module _ {L : Type 0} (seen : L → LinkSeen) (app : Answering) where
           visited = visited_push s.visits 1 0 a b d s.log v.mine o au visit s.visited (seen_as visit v.mine v.visited);
           whole = s.whole;
           entries = lawful.joined a b d s.log v.mine s.entries (visit_entries (tally.connections + 1) tally.replies b d visit v.mine au v.visited);
-          audit_text = cut_text v.mine (lines_as visit v.mine v.visited);
+          audit_text =
+              ap (λ (t : List ℕ). t ++ au) s.audit_text ∙ ap (λ (t : List ℕ). audited s.log ++ t) (lines_as visit v.mine v.visited) ∙ audited_push s.log v.mine;
           ended = (visit, refl, refl);
         }
 
@@ -327,7 +343,7 @@ module _ {L : Type 0} (seen : L → LinkSeen) (app : Answering) where
           returned = λ told. q.returned told ∙ s.returned (back told);
           visited =
               subst (λ (t : List ℕ). AreVisited seen app 1 0 a s.visits s.log t d) (sym text)
-              (subst (λ (k : KeeperSeen). AreVisited seen app 1 0 a s.visits s.log o k) (sym q.still) s.visited);
+              (subst (λ (k : Holding). AreVisited seen app 1 0 a s.visits s.log o k) (sym q.still) s.visited);
           whole = s.whole;
           entries = entries-still app a b d s.log s.entries q.still;
           connections = s.connections;
@@ -336,7 +352,7 @@ module _ {L : Type 0} (seen : L → LinkSeen) (app : Answering) where
         }
 
   -- no more were served
-  pub door_end : (most : ℕ) (da db : DoorSeen L) (a b : KeeperSeen) (tally : Tally) (o : List ℕ) → DoorProgress (span da db) (span a b) tally o → tally.connections ≤ most
+  pub door_end : (most : ℕ) (da db : DoorSeen L) (a b : Holding) (tally : Tally) (o : List ℕ) → DoorProgress (span da db) (span a b) tally o → tally.connections ≤ most
       → (tally.connections ≡ most) ⊎ (IsTrue db.tells → db.coming ≡ [])
       → AreLinksServed seen app most (span da db) (span a b) (Ok tally) o
   door_end most da db a b tally o s few ended = record {
@@ -357,7 +373,7 @@ module _ {L : Type 0} (seen : L → LinkSeen) (app : Answering) where
       by (inr none) = inr none
 
   -- the door gave no link
-  pub door_failed : (most : ℕ) (da db : DoorSeen L) (a b : KeeperSeen) (tally : Tally) (o : List ℕ) → DoorProgress (span da db) (span a b) tally o → Rose da.faults db.faults
+  pub door_failed : (most : ℕ) (da db : DoorSeen L) (a b : Holding) (tally : Tally) (o : List ℕ) → DoorProgress (span da db) (span a b) tally o → Rose da.faults db.faults
       → AreLinksServed seen app most (span da db) (span a b) (Err halts.Door) o
   door_failed most da db a b tally o s rose = record {
     visits = s.visits;
@@ -373,7 +389,7 @@ module _ {L : Type 0} (seen : L → LinkSeen) (app : Answering) where
   }
 
   -- how serving goes on and ends, by what the next link brought
-  module _ (lawful : IsAnswering app) (da db dc : DoorSeen L) (a b d : KeeperSeen) (tally : Tally) (o au : List ℕ) (back : IsTrue dc.tells → IsTrue db.tells) (s : DoorProgress (span da db) (span a b) tally o) where
+  module _ (lawful : IsAnswering app) (da db dc : DoorSeen L) (a b d : Holding) (tally : Tally) (o au : List ℕ) (back : IsTrue dc.tells → IsTrue db.tells) (s : DoorProgress (span da db) (span a b) tally o) where
     pub next_on : (more : Tally) → ServesNext seen app tally (span db dc) (span b d) (Ok (Some more)) au → DoorProgress (span da dc) (span a d) more (o ++ au)
     next_on more h = door_on lawful da db dc a b d tally o au back s h.0 more h.1 h.2
 

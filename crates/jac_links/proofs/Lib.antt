@@ -1,5 +1,6 @@
 pub mod DeskSteps
 pub mod LinkPuts
+pub mod LostReplies
 pub mod LinkEvents
 pub mod LinkProgress
 pub mod LinkEnds

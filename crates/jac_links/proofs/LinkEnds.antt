@@ -2,7 +2,7 @@
 use Rattle.std.proofs.Common.{◌≡◌, refl, inl, inr, ℕ, ◌+◌, ◌-◌, ◌≤◌, ◌<◌, ◌⊎◌, Bool, true, false, IsTrue, Ok, Err, List, [], ◌++◌, arith}
 use Rattle.jac_io.specs.Faults.{Rose}
 use Rattle.jac_io.specs.Linked.{LinkSeen}
-use Rattle.jac_keep.specs.KeeperSeen.{KeeperSeen}
+use Rattle.jac_serving.specs.Keeping.{Holding}
 use Rattle.jac_http.specs.Reading.{IsReading}
 use Rattle.jac_http.specs.Requests.{IsTaken}
 use Rattle.jac_hub.specs.Channel.{LIMIT}
@@ -11,14 +11,14 @@ use Rattle.jac_links.specs.declared.link.Halt.{Halt}
 use Rattle.jac_links.specs.declared.link.Halt.TheVariants as halts
 use Rattle.jac_links.specs.declared.link.Standing.TheVariants as standings
 use Rattle.jac_links.specs.Link.{IsLinkServed}
-use Rattle.jac_links.specs.LinkSteps.{IsLast, IsPieceOn, IsPieceTorn, ServesPiece}
-use Rattle.jac_serving.specs.Answering.{Answering, IsAnswering}
+use Rattle.jac_links.specs.LinkSteps.{IsLast, IsPieceOn, IsPieceBegun, IsTornOn, ServesPiece}
+use Rattle.jac_serving.specs.Answering.{Entry, Answering, IsAnswering}
 use Rattle.jac_serving.specs.Outside.{Span, span}
 use Rattle.jac_links.proofs.LinkProgress.{LinkProgress, taken_by, place, link_on, link_nearer, link_quiet, link_whole, link_missed, link_wanting, link_cut, link_torn, limit_is}
 use Rattle.jac_serving.proofs.OutsideLemmas.{Rose-widen}
 
 -- the replies by then are at most so many
-pub link_few : (app : Answering) (c first : ℕ) (hub : HubSeen) (link : Span LinkSeen) (k : Span KeeperSeen) (count : ℕ) (closed : Bool) (o au : List ℕ)
+pub link_few : (app : Answering) (c first : ℕ) (hub : HubSeen) (link : Span LinkSeen) (k : Span Holding) (count : ℕ) (closed : Bool) (o au : List ℕ)
     → LinkProgress app c first hub link k count closed o au → (first ≤ count) × (count ≤ first + 16777217)
 link_few app c first hub link k count closed o au s =
     let is = s.count_is in
@@ -30,7 +30,7 @@ link_few app c first hub link k count closed o au s =
 sub_back : (first count : ℕ) → first ≤ count → count - first + first ≡ count
 sub_back first count less = omega (arith, less)
 
-module _ (app : Answering) (lawful : IsAnswering app) (law : IsReading IsTaken) (c first : ℕ) (hub new : HubSeen) (la lb lc : LinkSeen) (a b d : KeeperSeen) where
+module _ (app : Answering) (lawful : IsAnswering app) (law : IsReading IsTaken) (c first : ℕ) (hub new : HubSeen) (la lb lc : LinkSeen) (a b d : Holding) where
   -- the connection is open still
   pub pieces_open : (count more : ℕ) (o au p bu : List ℕ) → (IsTrue lc.tells → IsTrue lb.tells)
       → LinkProgress app c first hub (span la lb) (span a b) count false o au
@@ -56,11 +56,12 @@ module _ (app : Answering) (lawful : IsAnswering app) (law : IsReading IsTaken) 
     where
       by : IsLast (span lb lc) (span b d) count last p bu
           ⊎ (IsPieceOn app c new (span lb lc) (span b d) count (record { count = last; closed = true }) (place app lawful law c first hub la lb lc a b d count o au p bu back s) s.known p bu
-          ⊎ IsPieceTorn app c (span lb lc) (span b d) count last (place app lawful law c first hub la lb lc a b d count o au p bu back s) s.known p bu)
+          ⊎ ((mine : List Entry) × IsPieceBegun app c (span lb lc) (span b d) (place app lawful law c first hub la lb lc a b d count o au p bu back s) s.known mine
+          × IsTornOn (span lb lc) count last mine p bu))
           → first ≤ last
       by (inl h) = let few = link_few app c first hub (span la lb) (span a b) count false o au s in let is = h.same_count in omega (arith, few.0, is)
       by (inr (inl piece)) = let few = link_few app c first hub (span la lb) (span a b) count false o au s in let is = piece.heard.count_is in omega (arith, few.0, is)
-      by (inr (inr torn)) = let few = link_few app c first hub (span la lb) (span a b) count false o au s in let is = torn.count_is in omega (arith, few.0, is)
+      by (inr (inr (mine, piece, torn))) = let few = link_few app c first hub (span la lb) (span a b) count false o au s in let is = torn.count_is in omega (arith, few.0, is)
 
   by_last : (count last : ℕ) (o au p bu : List ℕ) → (IsTrue lc.tells → IsTrue lb.tells) → la.faults ≤ lb.faults
       → LinkProgress app c first hub (span la lb) (span a b) count false o au
@@ -86,18 +87,18 @@ module _ (app : Answering) (lawful : IsAnswering app) (law : IsReading IsTaken) 
     where
       by : IsLast (span lb lc) (span b d) count last p bu
           ⊎ (IsPieceOn app c new (span lb lc) (span b d) count (record { count = last; closed = true }) (place app lawful law c first hub la lb lc a b d count o au p bu back s) s.known p bu
-          ⊎ IsPieceTorn app c (span lb lc) (span b d) count last (place app lawful law c first hub la lb lc a b d count o au p bu back s) s.known p bu)
+          ⊎ ((mine : List Entry) × IsPieceBegun app c (span lb lc) (span b d) (place app lawful law c first hub la lb lc a b d count o au p bu back s) s.known mine
+          × IsTornOn (span lb lc) count last mine p bu))
           → IsLinkServed app c first (span la lc) (span a d) (Ok (last - first)) (o ++ p) (au ++ bu)
       by (inl h) = by_last count last o au p bu back later s h h.cause
       by (inr (inl piece)) =
           let next = link_on app lawful law c first hub la lb lc a b d count o au p bu back s new (record { count = last; closed = true }) piece in
           let few = link_few app c first new (span la lc) (span a d) last true (o ++ p) (au ++ bu) next in
           link_whole app c first new la lc a d last true (o ++ p) (au ++ bu) next (last - first) (sub_back first last few.0) (inr refl)
-      by (inr (inr torn)) =
+      by (inr (inr (mine, piece, torn))) =
           let few = link_few app c first hub (span la lb) (span a b) count false o au s in
           let more = torn.count_is in
-          link_torn app lawful law c first hub la lb lc a b d count o au p bu back s torn.piece last (last - first) (omega (arith, few.0, more)) torn.count_is torn.audit_text
-          (Rose-widen la.faults lb.faults lc.faults lc.faults later (omega arith) torn.rose)
+          link_torn app lawful law c first hub la lb lc a b d count o au p bu back s mine piece last (last - first) (omega (arith, few.0, more)) torn later
 
   -- a put on the audit failed, or memory ran out
   pub pieces_halt : (count : ℕ) (o au p bu : List ℕ) → (IsTrue lc.tells → IsTrue lb.tells)
@@ -105,6 +106,7 @@ module _ (app : Answering) (lawful : IsAnswering app) (law : IsReading IsTaken) 
       → ServesPiece app c hub new (span lb lc) (span b d) count (Err halt) p bu
       → IsLinkServed app c first (span la lc) (span a d) (Err halt) (o ++ p) (au ++ bu)
   pieces_halt count o au p bu back s halts.Write serves =
-      link_cut app lawful law c first hub la lb lc a b d count o au p bu back s (serves (place app lawful law c first hub la lb lc a b d count o au p bu back s) s.known s.like)
+      let h = serves (place app lawful law c first hub la lb lc a b d count o au p bu back s) s.known s.like in
+      link_cut app lawful law c first hub la lb lc a b d count o au p bu back s h.0 h.1 h.2
   pieces_halt count o au p bu back s halts.Memory serves =
       link_wanting app c first hub la lc a d count false (o ++ p) (au ++ bu) (link_quiet app c first hub la lb lc a b d count false o au p bu back s serves)

@@ -2,7 +2,7 @@
 use Rattle.std.proofs.Common.{◌≡◌, ◌∙◌, ap, sym, subst, refl, inl, inr, ℕ, ◌+◌, ◌||◌, ◌⊎◌, ◌&&◌, not, Bool, true, false, IsTrue, IsSome, Option, Some, None, Result, Ok, Err, List, [], ◌∷◌, ◌++◌, length, append-nil, if◌then◌else◌}
 use Rattle.jac_io.specs.Faults.{Rose}
 use Rattle.jac_io.specs.Linked.{LinkSeen}
-use Rattle.jac_keep.specs.KeeperSeen.{KeeperSeen}
+use Rattle.jac_serving.specs.Keeping.{Holding}
 use Rattle.jac_replies.specs.Refused.{refusal}
 use Rattle.jac_replies.specs.declared.answer.Ask.{Ask}
 use Rattle.jac_events.specs.declared.event.Event.{Event}
@@ -27,16 +27,20 @@ use Rattle.jac_links.specs.declared.link.Cut.{Cut}
 use Rattle.jac_links.specs.declared.link.Cut.TheVariants as cuts
 use Rattle.jac_links.specs.declared.link.Halt.TheVariants as halts
 use Rattle.jac_links.specs.declared.link.Standing.TheVariants as standings
+use Rattle.jac_links.specs.declared.onto.Lost.{Lost}
+use Rattle.jac_links.specs.declared.onto.Lost.TheVariants as losses
 use Rattle.jac_links.specs.declared.onto.Missed.TheVariants as misses
+use Rattle.jac_links.specs.Link.{IsLastLost}
 use Rattle.jac_replies.specs.declared.reply.Spelling.TheVariants as spellings
-use Rattle.jac_links.specs.LinkSteps.{begun_hub, TakesPiece, has_closed, MayTake, TakesIn, PutsAllOn, PutsSomeOn, PutsOutsOn, IsHeardOn, IsCutOn, AnswersOn, standing_of, Gave, IsPieceOn, ServesPiece}
+use Rattle.jac_links.specs.LinkSteps.{begun_hub, TakesPiece, has_closed, MayTake, TakesIn, PutsAllOn, PutsSomeOn, PutsOutsOn, IsHeardOn, AreBegunOn, AnswersOn, standing_of, Gave, IsPieceOn, ServesPiece}
 use Rattle.jac_serving.specs.Answering.{Entry, hearing, Answering, IsAnswering}
 use Rattle.jac_serving.specs.Log.{replies_on, audited_from}
-use Rattle.jac_serving.specs.Outside.{span, IsFront}
+use Rattle.jac_serving.specs.Outside.{span}
 use Rattle.jac_serving.specs.Serve.{IsHandled, handled, outs_on, outs_audited, replies_in}
 use Rattle.jac_serving.proofs.EventLemmas.{err_same, by_ok}
 use Rattle.jac_serving.proofs.HubLemmas.{AreLines, handled-tells, lines_all, outs_on-append, outs_audited-append, replies_in-append, closings_silent, right_none}
 use Rattle.jac_links.proofs.LinkPuts.{has_closed-append}
+use Rattle.jac_links.proofs.LostReplies.{last_open, lost_open, last_lost, last_count}
 
 piece_fault : (old new : HubSeen) (c : ℕ) (bytes : List ℕ) (fault : HubFault) (o : Option ChannelSeen) → IsSome o → StepsPiece old c bytes o (Err fault) new → fault ≡ faults.Memory
 piece_fault old new c bytes fault None some e = absurd cc
@@ -72,7 +76,7 @@ closings_raw (Piece c bytes) before after = closed_raw c (not (is_shut (before c
 closings_raw (Finish c) before after = refl
 
 -- the replies to entries tell no closing
-answered_open : (app : Answering) (mine : List Entry) (outs : List HubOut) (before after : KeeperSeen)
+answered_open : (app : Answering) (mine : List Entry) (outs : List HubOut) (before after : Holding)
     → AreAnswered (hearing app) (IsHandled spellings.Raw app) (refusal 500 None) before mine outs after → has_closed outs ≡ false
 answered_open app [] outs before after (none, same) = ap has_closed none
 answered_open app (entry ∷ mine) outs before after (c, sent, rest, between, is, parts, answered, more) =
@@ -84,7 +88,7 @@ record AreLinesOf (outs : List HubOut) (mine : List Entry) : Type 0 where
   audited : (n : ℕ) → outs_audited n outs ≡ audited_from n mine
   replies : replies_in outs ≡ length mine
 
-lines_with : (app : Answering) (a b : KeeperSeen) (mine : List Entry) (replies outs : List HubOut) (event : Event) (before after : Connections Ask)
+lines_with : (app : Answering) (a b : Holding) (mine : List Entry) (replies outs : List HubOut) (event : Event) (before after : Connections Ask)
     → AreLines spellings.Raw app (span a b) mine replies → outs ≡ replies ++ closings event before after → AreLinesOf outs mine
 lines_with app a b mine replies outs event before after lines put =
     let last = closings event before after in
@@ -101,15 +105,7 @@ lines_with app a b mine replies outs event before after lines put =
           ∙ right_none (replies_in replies) ∙ lines.replies;
     }
 
-lines_alone : (app : Answering) (a b : KeeperSeen) (mine : List Entry) (replies outs : List HubOut)
-    → AreLines spellings.Raw app (span a b) mine replies → outs ≡ replies → AreLinesOf outs mine
-lines_alone app a b mine replies outs lines put = record {
-  text = ap (outs_on spellings.Raw) put ∙ lines.text;
-  audited = λ n. ap (outs_audited n) put ∙ lines.audited n;
-  replies = ap replies_in put ∙ lines.replies;
-}
-
-module _ (app : Answering) (lawful : IsAnswering app) (law : IsReading IsTaken) (n served : ℕ) (event : Event) (known : Connections Ask) (old stepped : HubSeen) (a b : KeeperSeen)
+module _ (app : Answering) (lawful : IsAnswering app) (law : IsReading IsTaken) (n served : ℕ) (event : Event) (known : Connections Ask) (old stepped : HubSeen) (a b : Holding)
     (out audit : List ℕ) (idle : old.turn ≡ Idle) (like : AreLike (hearing app) old.channels known) (may : MayTake old event) (took : TakesIn old event stepped)
     (start : app.ready a) where
   -- all that a hub gave for an event was put: the event was served
@@ -136,51 +132,45 @@ module _ (app : Answering) (lawful : IsAnswering app) (law : IsReading IsTaken) 
         audit_text = p.audit_text ∙ all.audited (served + 1);
       }
 
-  by_put : (mine : List Entry) (replies outs : List HubOut) → AreLines spellings.Raw app (span a b) mine replies
-      → (outs ≡ replies) ⊎ (IsBroughtBy (hearing app) n event known mine × (outs ≡ replies ++ closings event known (after_both (hearing app) event mine known)))
-      → AreLinesOf outs mine
-  by_put mine replies outs lines (inl put) = lines_alone app a b mine replies outs lines put
-  by_put mine replies outs lines (inr put) = lines_with app a b mine replies outs event known (after_both (hearing app) event mine known) lines put.1
+  replies_last : (lost : Lost) (p : PutsSomeOn lost app stepped (span a b) served out audit) (mine : List Entry) (replies : List HubOut)
+      → (p.outs ++ p.last ∷ [] ≡ replies) ⊎ (IsBroughtBy (hearing app) n event known mine × (p.outs ++ p.last ∷ [] ≡ replies ++ closings event known (after_both (hearing app) event mine known)))
+      → p.outs ++ p.last ∷ [] ≡ replies
+  replies_last lost p mine replies (inl put) = put
+  replies_last lost p mine replies (inr put) =
+      last_open event known (after_both (hearing app) event mine known) replies p.outs p.last
+      (lost_open (served + replies_in p.outs + 1) lost p.last p.out_torn p.audit_torn p.torn) put.1
 
-  cut_with : (p : PutsSomeOn app stepped (span a b) served out audit) → (cut : IsCutOn app (span a b) served n event known out audit) × AreLinesOf p.outs cut.mine
-  cut_with p =
+  -- a reply was lost while it was served, and the entries are as many as the replies
+  pub lost_on : (lost : Lost) (p : PutsSomeOn lost app stepped (span a b) served out audit)
+      → (mine : List Entry) × AreBegunOn app (span a b) n event known mine × IsLastLost lost served mine out audit
+      × (served + replies_in p.outs + 1 ≡ served + length mine)
+  lost_on lost p =
       let h = hearing app in
       let s = event-served_in_part h law (handled spellings.Raw app) (IsHandled spellings.Raw app) (refusal 500 None) n (handled-tells spellings.Raw app)
-      event known took.0 old stepped p.later p.outs a b idle like took.1 p.given in
+      event known took.0 old stepped p.later (p.outs ++ p.last ∷ []) a b idle like took.1 p.given in
       let lines = lines_all spellings.Raw app lawful s.mine s.replies a b start s.answered in
-      let all = by_put s.mine s.replies p.outs lines s.put in (
-        record {
-          mine = s.mine;
-          begun = s.begun;
-          entries = lines.entries;
-          out_front = subst (λ (t : List ℕ). IsFront out t) all.text p.out_front;
-          audit_front = subst (λ (t : List ℕ). IsFront audit t) (all.audited (served + 1)) p.audit_front;
-        },
-        all,
+      let answered =
+      subst (λ (os : List HubOut). AreAnswered h (IsHandled spellings.Raw app) (refusal 500 None) a s.mine os b)
+      (sym (replies_last lost p s.mine s.replies s.put)) s.answered in (
+        s.mine,
+        record { begun = s.begun; entries = lines.entries },
+        last_lost app lawful lost stepped a b served out audit start p s.mine answered,
+        last_count app lawful lost stepped a b served out audit start p s.mine answered,
       )
 
-  -- a put failed while it was served
-  pub cut_on : PutsSomeOn app stepped (span a b) served out audit → IsCutOn app (span a b) served n event known out audit
-  cut_on p = (cut_with p).0
-
-  -- and the entries are as many as the replies
-  pub cut_whole : (p : PutsSomeOn app stepped (span a b) served out audit) (count : ℕ) → count ≡ served + replies_in p.outs → audit ≡ outs_audited (served + 1) p.outs
-      → (cut : IsCutOn app (span a b) served n event known out audit) × (count ≡ served + length cut.mine) × (audit ≡ audited_from (served + 1) cut.mine)
-  cut_whole p count count_is audit_is =
-      let c = cut_with p in
-      (c.0, count_is ∙ ap (λ (m : ℕ). served + m) c.1.replies, audit_is ∙ c.1.audited (served + 1))
-
 -- what a hub gave for a piece was put, or why it wasn't
-pub answers_on : (app : Answering) (lawful : IsAnswering app) → IsReading IsTaken → (served : ℕ) (event : Event) (old stepped new : HubSeen) (a b : KeeperSeen) (out audit : List ℕ)
+pub answers_on : (app : Answering) (lawful : IsAnswering app) → IsReading IsTaken → (served : ℕ) (event : Event) (old stepped new : HubSeen) (a b : Holding) (out audit : List ℕ)
     → old.turn ≡ Idle → MayTake old event → TakesIn old event stepped → app.ready a
     → (result : Result Brought Cut) → PutsOutsOn app stepped new (span a b) served result out audit
     → AnswersOn app old new (span a b) served event result out audit
 answers_on app lawful law served event old stepped new a b out audit idle may took start (Ok brought) p = λ n known like.
     heard_on app lawful law n served event known old stepped a b out audit idle like may took start new brought p
 answers_on app lawful law served event old stepped new a b out audit idle may took start (Err (cuts.Link count)) p = λ n known like.
-    cut_whole app lawful law n served event known old stepped a b out audit idle like may took start p.0 count p.1 p.2
+    let s = lost_on app lawful law n served event known old stepped a b out audit idle like may took start losses.Link p.0 in
+    (s.0, s.1, s.2, p.1 ∙ s.3)
 answers_on app lawful law served event old stepped new a b out audit idle may took start (Err cuts.Audit) p = λ n known like.
-    cut_on app lawful law n served event known old stepped a b out audit idle like may took start p
+    let s = lost_on app lawful law n served event known old stepped a b out audit idle like may took start losses.Audit p in
+    (s.0, s.1, s.2)
 
 -- ---- with the take before it
 
@@ -189,7 +179,7 @@ gave_then : (la lb lc : LinkSeen) (bytes : List ℕ) → (IsTrue lc.tells → Is
 gave_then la lb lc bytes back same gave = λ told. gave (back told) ∙ ap (λ (l : List ℕ). bytes ++ l) (sym (same told))
 
 -- a link gave a piece, and that was served
-pub piece_stands : (app : Answering) (c served : ℕ) (old new : HubSeen) (la lb lc : LinkSeen) (a b : KeeperSeen) (bytes out audit : List ℕ) (brought : Brought)
+pub piece_stands : (app : Answering) (c served : ℕ) (old new : HubSeen) (la lb lc : LinkSeen) (a b : Holding) (bytes out audit : List ℕ) (brought : Brought)
     → (IsTrue lc.tells → IsTrue lb.tells) → (IsTrue lc.tells → lc.left ≡ lb.left) → TakesPiece (span la lb) (Ok (Some bytes))
     → AnswersOn app old new (span a b) served (Piece c bytes) (Ok brought) out audit
     → ServesPiece app c old new (span la lc) (span a b) served (Ok (standing_of brought)) out audit
@@ -210,28 +200,28 @@ piece_stands app c served old new la lb lc a b bytes out audit brought back same
     by_closed true is = λ n known like. inr (inl (one true is n known like))
     by_closed false is = one false is
 
-pub piece_cut : (app : Answering) (c served : ℕ) (old new : HubSeen) (la lb lc : LinkSeen) (a b : KeeperSeen) (bytes out audit : List ℕ)
+pub piece_cut : (app : Answering) (c served : ℕ) (old new : HubSeen) (la lb lc : LinkSeen) (a b : Holding) (bytes out audit : List ℕ)
     → (IsTrue lc.tells → IsTrue lb.tells) → (IsTrue lc.tells → lc.left ≡ lb.left) → TakesPiece (span la lb) (Ok (Some bytes))
     → AnswersOn app old new (span a b) served (Piece c bytes) (Err cuts.Audit) out audit
     → ServesPiece app c old new (span la lc) (span a b) served (Err halts.Write) out audit
 piece_cut app c served old new la lb lc a b bytes out audit back same took answers = λ n known like.
-    record { bytes = bytes; gave = gave_then la lb lc bytes back same took.1; cut = answers n known like }
+    let h = answers n known like in
+    (h.0, record { bytes = bytes; gave = gave_then la lb lc bytes back same took.1; begun = h.1 }, h.2)
 
-pub piece_torn : (app : Answering) (c served count : ℕ) (old new : HubSeen) (la lb lc : LinkSeen) (a b : KeeperSeen) (bytes out audit : List ℕ)
+pub piece_torn : (app : Answering) (c served count : ℕ) (old new : HubSeen) (la lb lc : LinkSeen) (a b : Holding) (bytes out audit : List ℕ)
     → (IsTrue lc.tells → IsTrue lb.tells) → (IsTrue lc.tells → lc.left ≡ lb.left) → Rose la.faults lc.faults → TakesPiece (span la lb) (Ok (Some bytes))
     → AnswersOn app old new (span a b) served (Piece c bytes) (Err (cuts.Link count)) out audit
     → ServesPiece app c old new (span la lc) (span a b) served (Ok (standings.Over count)) out audit
 piece_torn app c served count old new la lb lc a b bytes out audit back same rose took answers = λ n known like.
     let h = answers n known like in
-    inr (inr (record {
-      piece = record { bytes = bytes; gave = gave_then la lb lc bytes back same took.1; cut = h.0 };
-      count_is = h.1;
-      audit_text = h.2;
-      rose = rose;
-    }))
+    inr (inr (
+      h.0,
+      record { bytes = bytes; gave = gave_then la lb lc bytes back same took.1; begun = h.1 },
+      record { lost = h.2; count_is = h.3; rose = rose },
+    ))
 
 -- the input has ended
-pub piece_last : (app : Answering) (c served : ℕ) (hub : HubSeen) (la lb : LinkSeen) (a : KeeperSeen)
+pub piece_last : (app : Answering) (c served : ℕ) (hub : HubSeen) (la lb : LinkSeen) (a : Holding)
     → TakesPiece (span la lb) (Ok None) → ServesPiece app c hub hub (span la lb) (span a a) served (Ok (standings.Over served)) [] []
 piece_last app c served hub la lb a took = λ n known like.
     inl (record {
@@ -241,7 +231,7 @@ piece_last app c served hub la lb a took = λ n known like.
     })
 
 -- the link failed
-pub piece_missed : (app : Answering) (c served : ℕ) (hub : HubSeen) (la lb : LinkSeen) (a : KeeperSeen)
+pub piece_missed : (app : Answering) (c served : ℕ) (hub : HubSeen) (la lb : LinkSeen) (a : Holding)
     → TakesPiece (span la lb) (Err misses.Link) → ServesPiece app c hub hub (span la lb) (span a a) served (Ok (standings.Over served)) [] []
 piece_missed app c served hub la lb a took = λ n known like.
     inl (record {
@@ -250,7 +240,7 @@ piece_missed app c served hub la lb a took = λ n known like.
       cause = inr took.1;
     })
 
-pub piece_wanting : (app : Answering) (c served : ℕ) (hub : HubSeen) (la lb : LinkSeen) (a : KeeperSeen)
+pub piece_wanting : (app : Answering) (c served : ℕ) (hub : HubSeen) (la lb : LinkSeen) (a : Holding)
     → TakesPiece (span la lb) (Err misses.Memory) → ServesPiece app c hub hub (span la lb) (span a a) served (Err halts.Memory) [] []
 piece_wanting app c served hub la lb a took = record { gave = λ told. sym (took told); still = refl; no_out = refl; no_audit = refl }
 

@@ -4,7 +4,7 @@ use Rattle.std.proofs.lemmas.Bool.Decides.{nat_tests}
 use Rattle.std.specs.List.{concat}
 use Rattle.jac_io.specs.Faults.{Rose}
 use Rattle.jac_io.specs.Linked.{LinkSeen}
-use Rattle.jac_keep.specs.KeeperSeen.{KeeperSeen}
+use Rattle.jac_serving.specs.Keeping.{Holding}
 use Rattle.jac_replies.specs.declared.answer.Ask.{Ask}
 use Rattle.jac_events.specs.declared.event.Event.{Event}
 use Rattle.jac_events.specs.declared.event.Event.TheVariants.{Begin, Piece, Finish}
@@ -23,17 +23,19 @@ use Rattle.jac_hub.proofs.Standing.{with_entries, set-same, brought-of}
 use Rattle.jac_hub.proofs.Statuses.{all_sound}
 use Rattle.jac_links.specs.declared.link.Brought.{Brought}
 use Rattle.jac_links.specs.declared.link.Halt.TheVariants as halts
+use Rattle.jac_links.specs.declared.onto.Lost.{Lost}
+use Rattle.jac_links.specs.declared.onto.Lost.TheVariants as losses
 use Rattle.jac_replies.specs.declared.reply.Spelling.TheVariants as spellings
-use Rattle.jac_links.specs.Link.{pieces_of, events_of, closes_in, is_over, IsLinkServed}
-use Rattle.jac_links.specs.LinkSteps.{Gave, has_closed, begun_hub, IsPieceOn, IsPieceCut, IsQuiet}
+use Rattle.jac_links.specs.Link.{pieces_of, events_of, closes_in, is_over, IsLastLost, IsLinkServed}
+use Rattle.jac_links.specs.LinkSteps.{Gave, has_closed, begun_hub, IsPieceOn, IsPieceBegun, IsTornOn, IsQuiet}
 use Rattle.jac_serving.specs.Answering.{Entry, hearing, IsHeardBy, Answering, IsAnswering}
-use Rattle.jac_serving.specs.Log.{entry_on, replies_on, audited_from, Brings, event_text}
-use Rattle.jac_serving.specs.Outside.{Span, span, IsFront}
+use Rattle.jac_serving.specs.Log.{replies_on, audited_from, Brings, event_text}
+use Rattle.jac_serving.specs.Outside.{Span, span}
 use Rattle.jac_serving.specs.Serve.{IsServed}
 use Rattle.jac_serving.proofs.BringsLemmas.{brings-push, brings-part, brings-begun}
-use Rattle.jac_serving.proofs.EntriesLemmas.{entries-still, audited-append}
-use Rattle.jac_links.proofs.LinkPuts.{front_all}
-use Rattle.jac_serving.proofs.OutsideLemmas.{append-IsFront}
+use Rattle.jac_serving.proofs.EntriesLemmas.{entries-still}
+use Rattle.jac_links.proofs.LostReplies.{raw-append, audited_on, last_behind}
+use Rattle.jac_serving.proofs.OutsideLemmas.{Rose-widen}
 use Rattle.jac_serving.proofs.ProgressLemmas.{is_served_by}
 
 -- ---- how many entries a connection may have
@@ -184,15 +186,6 @@ concat_push : (xs : List (List ℕ)) (bytes : List ℕ) → concat (xs ++ bytes 
 concat_push [] bytes = append-nil bytes
 concat_push (x ∷ xs) bytes = ap (λ (t : List ℕ). x ++ t) (concat_push xs bytes) ∙ sym (append_assoc x (concat xs) bytes)
 
-raw-append : (xs ys : List Entry) → replies_on spellings.Raw (xs ++ ys) ≡ replies_on spellings.Raw xs ++ replies_on spellings.Raw ys
-raw-append [] ys = refl
-raw-append (x ∷ xs) ys =
-    ap (λ (rest : List ℕ). entry_on spellings.Raw x ++ rest) (raw-append xs ys) ∙ sym (append_assoc (entry_on spellings.Raw x) (replies_on spellings.Raw xs) (replies_on spellings.Raw ys))
-
-audited_on : (first count : ℕ) (log mine : List Entry) → count ≡ first + length log → audited_from (first + 1) log ++ audited_from (count + 1) mine ≡ audited_from (first + 1) (log ++ mine)
-audited_on first count log mine is =
-    ap (λ (n : ℕ). audited_from (first + 1) log ++ audited_from n mine) (omega (arith, is)) ∙ sym (audited-append (first + 1) log mine)
-
 gave_on : (a b c : LinkSeen) (xs : List (List ℕ)) (bytes : List ℕ) → (IsTrue c.tells → IsTrue b.tells) → Gave (span a b) (concat xs) → Gave (span b c) bytes → Gave (span a c) (concat (xs ++ bytes ∷ []))
 gave_on a b c xs bytes back one two = λ told.
     one (back told) ∙ ap (λ (l : List ℕ). concat xs ++ l) (two told) ∙ sym (append_assoc (concat xs) bytes c.left)
@@ -204,7 +197,7 @@ gave_same a b c bytes back one two = λ told. one (back told) ∙ ap (λ (l : Li
 -- ---- the pieces so far
 
 -- these pieces were served, behind which the connection is closed or not
-pub record LinkProgress (app : Answering) (c first : ℕ) (hub : HubSeen) (link : Span LinkSeen) (k : Span KeeperSeen) (count : ℕ) (closed : Bool) (out audit : List ℕ) : Type 0 where
+pub record LinkProgress (app : Answering) (c first : ℕ) (hub : HubSeen) (link : Span LinkSeen) (k : Span Holding) (count : ℕ) (closed : Bool) (out audit : List ℕ) : Type 0 where
   pub pieces : List (List ℕ)
   pub log : List Entry
   pub known : Connections Ask
@@ -267,7 +260,7 @@ unfolding LIMIT
 limit_some = omega arith
 
 -- no piece was served yet
-pub link_start : (app : Answering) (lawful : IsAnswering app) (c first : ℕ) (link : LinkSeen) (k : KeeperSeen) → app.ready k
+pub link_start : (app : Answering) (lawful : IsAnswering app) (c first : ℕ) (link : LinkSeen) (k : Holding) → app.ready k
     → LinkProgress app c first (begun_hub c) (span link link) (span k k) first false [] []
 link_start app lawful c first link k start = record {
   pieces = [];
@@ -291,7 +284,7 @@ link_start app lawful c first link k start = record {
   audit_text = refl;
 }
 
-module _ (app : Answering) (lawful : IsAnswering app) (law : IsReading IsTaken) (c first : ℕ) (hub : HubSeen) (la lb lc : LinkSeen) (a b d : KeeperSeen) (count : ℕ) (o au p bu : List ℕ)
+module _ (app : Answering) (lawful : IsAnswering app) (law : IsReading IsTaken) (c first : ℕ) (hub : HubSeen) (la lb lc : LinkSeen) (a b d : Holding) (count : ℕ) (o au p bu : List ℕ)
     (back : IsTrue lc.tells → IsTrue lb.tells)
     (so_far : LinkProgress app c first hub (span la lb) (span a b) count false o au) where
   -- the number of the next event
@@ -361,20 +354,20 @@ module _ (app : Answering) (lawful : IsAnswering app) (law : IsReading IsTaken) 
       }
 
 -- the connection has begun
-pub link_begun : (app : Answering) (c first : ℕ) (hub : HubSeen) (link : Span LinkSeen) (k : Span KeeperSeen) (count : ℕ) (closed : Bool) (o au : List ℕ)
+pub link_begun : (app : Answering) (c first : ℕ) (hub : HubSeen) (link : Span LinkSeen) (k : Span Holding) (count : ℕ) (closed : Bool) (o au : List ℕ)
     → LinkProgress app c first hub link k count closed o au → IsSome (hub.channels c)
 link_begun app c first hub link k count closed o au s =
     open_some app (hub.channels c) s.one (subst (λ (x : Option (Connection Ask)). AreLikeAt (hearing app) (hub.channels c) x) s.here (s.like c))
 
 -- how many bytes were taken of a connection that is open
-link_taken : (app : Answering) (c first : ℕ) (hub : HubSeen) (link : Span LinkSeen) (k : Span KeeperSeen) (count : ℕ) (o au : List ℕ)
+link_taken : (app : Answering) (c first : ℕ) (hub : HubSeen) (link : Span LinkSeen) (k : Span Holding) (count : ℕ) (o au : List ℕ)
     → (s : LinkProgress app c first hub link k count false o au) → (taken_by hub c ≡ length (concat s.pieces)) × (length (concat s.pieces) < LIMIT)
 link_taken app c first hub link k count o au s =
     let t = taken_open app (hub.channels c) s.one (subst (λ (x : Option (Connection Ask)). AreLikeAt (hearing app) (hub.channels c) x) s.here (s.like c)) s.is_closed_now in
     (t.0 ∙ ap (λ (l : List ℕ). length l) s.bytes, subst (λ (l : List ℕ). length l < LIMIT) s.bytes t.1)
 
 -- a piece that gave bytes leaves fewer to be taken
-pub link_less : (app : Answering) (c first : ℕ) (hub new : HubSeen) (link later : Span LinkSeen) (k now : Span KeeperSeen) (count more : ℕ) (o au p bu : List ℕ) (bytes : List ℕ)
+pub link_less : (app : Answering) (c first : ℕ) (hub new : HubSeen) (link later : Span LinkSeen) (k now : Span Holding) (count more : ℕ) (o au p bu : List ℕ) (bytes : List ℕ)
     → (s : LinkProgress app c first hub link k count false o au) (t : LinkProgress app c first new later now more false p bu)
     → t.pieces ≡ s.pieces ++ bytes ∷ [] → 0 < length bytes → LIMIT - taken_by new c < LIMIT - taken_by hub c
 link_less app c first hub new link later k now count more o au p bu bytes s t is some =
@@ -389,7 +382,7 @@ link_less app c first hub new link later k now count more o au p bu bytes s t is
     omega (arith, one, few, two, fewer, joined, long, some)
 
 -- so does each step of an open connection
-pub link_nearer : (app : Answering) (lawful : IsAnswering app) (law : IsReading IsTaken) (c first : ℕ) (hub new : HubSeen) (la lb lc : LinkSeen) (a b d : KeeperSeen) (count more : ℕ) (o au p bu : List ℕ)
+pub link_nearer : (app : Answering) (lawful : IsAnswering app) (law : IsReading IsTaken) (c first : ℕ) (hub new : HubSeen) (la lb lc : LinkSeen) (a b d : Holding) (count more : ℕ) (o au p bu : List ℕ)
     (back : IsTrue lc.tells → IsTrue lb.tells) (s : LinkProgress app c first hub (span la lb) (span a b) count false o au)
     → IsPieceOn app c new (span lb lc) (span b d) count (record { count = more; closed = false }) (place app lawful law c first hub la lb lc a b d count o au p bu back s) s.known p bu
     → LIMIT - taken_by new c < LIMIT - taken_by hub c
@@ -416,7 +409,7 @@ unfolding LIMIT
 limit_is = refl
 
 -- nothing was taken, put or asked
-pub link_quiet : (app : Answering) (c first : ℕ) (hub : HubSeen) (la lb lc : LinkSeen) (a b d : KeeperSeen) (count : ℕ) (closed : Bool) (o au p bu : List ℕ)
+pub link_quiet : (app : Answering) (c first : ℕ) (hub : HubSeen) (la lb lc : LinkSeen) (a b d : Holding) (count : ℕ) (closed : Bool) (o au p bu : List ℕ)
     → (IsTrue lc.tells → IsTrue lb.tells) → LinkProgress app c first hub (span la lb) (span a b) count closed o au → IsQuiet (span lb lc) (span b d) p bu
     → LinkProgress app c first hub (span la lc) (span a d) count closed (o ++ p) (au ++ bu)
 link_quiet app c first hub la lb lc a b d count closed o au p bu back s quiet = record {
@@ -447,7 +440,7 @@ few_log heard log same few = let l = limit_is in omega (arith, same, few, l)
 rest_count : (count first log n : ℕ) → count ≡ first + log → n + first ≡ count → n ≡ log
 rest_count count first log n is less = omega (arith, is, less)
 
-module _ (app : Answering) (c first : ℕ) (hub : HubSeen) (la lb : LinkSeen) (a b : KeeperSeen) (count : ℕ) (closed : Bool) (o au : List ℕ)
+module _ (app : Answering) (c first : ℕ) (hub : HubSeen) (la lb : LinkSeen) (a b : Holding) (count : ℕ) (closed : Bool) (o au : List ℕ)
     (s : LinkProgress app c first hub (span la lb) (span a b) count closed o au) where
   over : closed ≡ true → is_over app s.pieces s.log ≡ true
   over is =
@@ -466,8 +459,7 @@ module _ (app : Answering) (c first : ℕ) (hub : HubSeen) (la lb : LinkSeen) (a
     served = is_served_by false app a b (events_of c s.pieces) s.log (brings_end app c (Begin c ∷ pieces_of c s.pieces) no_connections s.known 0 s.log s.text s.brings) s.entries;
     few = few_log (length s.one.heard) (length s.log) s.heard s.few.few;
     count = rest_count count first (length s.log) n s.count_is less;
-    out_text = s.out_text;
-    audit_text = s.audit_text;
+    puts = inl (record { out_text = s.out_text; audit_text = s.audit_text });
   }
     where
       by_end : (IsTrue lb.tells → lb.left ≡ []) ⊎ (closed ≡ true) → (IsTrue lb.tells → lb.left ≡ []) ⊎ (is_over app s.pieces s.log ≡ true)
@@ -487,8 +479,7 @@ module _ (app : Answering) (c first : ℕ) (hub : HubSeen) (la lb : LinkSeen) (a
         (brings-part app (Begin c ∷ pieces_of c s.pieces) (Finish c ∷ []) no_connections s.known 0 s.log s.text s.brings) s.entries;
     few = few_log (length s.one.heard) (length s.log) s.heard s.few.few;
     count = rest_count count first (length s.log) n s.count_is less;
-    out_text = front_all o (replies_on spellings.Raw s.log) s.out_text;
-    audit_text = s.audit_text;
+    puts = inl (record { out_text = s.out_text; audit_text = s.audit_text });
   }
 
   -- memory ran out for a take
@@ -504,89 +495,81 @@ module _ (app : Answering) (c first : ℕ) (hub : HubSeen) (la lb : LinkSeen) (a
         (brings-part app (Begin c ∷ pieces_of c s.pieces) (Finish c ∷ []) no_connections s.known 0 s.log s.text s.brings) s.entries;
     few = few_log (length s.one.heard) (length s.log) s.heard s.few.few;
     count = tt;
-    out_text = front_all o (replies_on spellings.Raw s.log) s.out_text;
-    audit_text = front_all au (audited_from (first + 1) s.log) s.audit_text;
+    puts = record { out_text = s.out_text; audit_text = s.audit_text };
   }
 
 -- nothing came, as memory ran out
-pub link_unbegun : (app : Answering) (lawful : IsAnswering app) (c first : ℕ) (link : LinkSeen) (k : KeeperSeen) → app.ready k
+pub link_unbegun : (app : Answering) (lawful : IsAnswering app) (c first : ℕ) (link : LinkSeen) (k : Holding) → app.ready k
     → IsLinkServed app c first (span link link) (span k k) (Err halts.Memory) [] []
 link_unbegun app lawful c first link k start =
     link_wanting app c first (begun_hub c) link link k k first false [] [] (link_start app lawful c first link k start)
 
-module _ (app : Answering) (lawful : IsAnswering app) (law : IsReading IsTaken) (c first : ℕ) (hub : HubSeen) (la lb lc : LinkSeen) (a b d : KeeperSeen) (count : ℕ) (o au p bu : List ℕ)
+module _ (app : Answering) (lawful : IsAnswering app) (law : IsReading IsTaken) (c first : ℕ) (hub : HubSeen) (la lb lc : LinkSeen) (a b d : Holding) (count : ℕ) (o au p bu : List ℕ)
     (back : IsTrue lc.tells → IsTrue lb.tells)
-    (s : LinkProgress app c first hub (span la lb) (span a b) count false o au)
-    (piece : IsPieceCut app c (span lb lc) (span b d) count (place app lawful law c first hub la lb lc a b d count o au p bu back s) s.known p bu) where
-  cut_heard : IsHeardBy true (hearing app) (events_of c (s.pieces ++ piece.bytes ∷ [])) (s.log ++ piece.cut.mine)
-  cut_heard =
-      subst (λ (es : List Event). IsHeardBy true (hearing app) es (s.log ++ piece.cut.mine))
+    (s : LinkProgress app c first hub (span la lb) (span a b) count false o au) (mine : List Entry)
+    (piece : IsPieceBegun app c (span lb lc) (span b d) (place app lawful law c first hub la lb lc a b d count o au p bu back s) s.known mine) where
+  lost_heard : IsHeardBy true (hearing app) (events_of c (s.pieces ++ piece.bytes ∷ [])) (s.log ++ mine)
+  lost_heard =
+      subst (λ (es : List Event). IsHeardBy true (hearing app) es (s.log ++ mine))
       (ap (λ (es : List Event). Begin c ∷ es) (sym (pieces_split c s.pieces piece.bytes (Finish c ∷ []))))
-      (brings-begun app (Begin c ∷ pieces_of c s.pieces) (Finish c ∷ []) (Piece c piece.bytes) no_connections s.known 0 s.log piece.cut.mine s.text s.brings piece.cut.begun)
+      (brings-begun app (Begin c ∷ pieces_of c s.pieces) (Finish c ∷ []) (Piece c piece.bytes) no_connections s.known 0 s.log mine s.text s.brings piece.begun.begun)
 
-  cut_few : length (s.log ++ piece.cut.mine) ≤ 16777217
-  cut_few =
+  lost_few : length (s.log ++ mine) ≤ 16777217
+  lost_few =
       let n = place app lawful law c first hub la lb lc a b d count o au p bu back s in
       let begun =
-      begun_by_some app law n c piece.bytes s.one piece.cut.mine s.is_closed_now
-      (subst (λ (x : Option (Connection Ask)). PieceBegins (hearing app) n c piece.bytes x piece.cut.mine) s.here piece.cut.begun) in
+      begun_by_some app law n c piece.bytes s.one mine s.is_closed_now
+      (subst (λ (x : Option (Connection Ask)). PieceBegins (hearing app) n c piece.bytes x mine) s.here piece.begun.begun) in
       let few =
-      few_begun app law n c (with_bytes piece.bytes s.one) piece.cut.mine (record { whole_ones = s.few.whole_ones; few = s.few.few }) begun in
+      few_begun app law n c (with_bytes piece.bytes s.one) mine (record { whole_ones = s.few.whole_ones; few = s.few.few }) begun in
       let most = few.few in
-      let heard = entries_heard app law piece.cut.mine (with_bytes piece.bytes s.one) in
+      let heard = entries_heard app law mine (with_bytes piece.bytes s.one) in
       let before = s.heard in
-      let long = length-append s.log piece.cut.mine in
+      let long = length-append s.log mine in
       let limit = limit_is in
       omega (arith, most, heard, before, long, limit)
 
-  cut_served : IsServed true app (span a d) (events_of c (s.pieces ++ piece.bytes ∷ [])) (s.log ++ piece.cut.mine)
-  cut_served =
-      is_served_by true app a d (events_of c (s.pieces ++ piece.bytes ∷ [])) (s.log ++ piece.cut.mine) cut_heard
-      (lawful.joined a b d s.log piece.cut.mine s.entries piece.cut.entries)
+  lost_served : IsServed true app (span a d) (events_of c (s.pieces ++ piece.bytes ∷ [])) (s.log ++ mine)
+  lost_served =
+      is_served_by true app a d (events_of c (s.pieces ++ piece.bytes ∷ [])) (s.log ++ mine) lost_heard
+      (lawful.joined a b d s.log mine s.entries piece.begun.entries)
 
-  cut_out : IsFront (o ++ p) (replies_on spellings.Raw (s.log ++ piece.cut.mine))
-  cut_out =
-      subst (λ (t : List ℕ). IsFront (t ++ p) (replies_on spellings.Raw (s.log ++ piece.cut.mine))) (sym s.out_text)
-      (subst (λ (t : List ℕ). IsFront (replies_on spellings.Raw s.log ++ p) t) (sym (raw-append s.log piece.cut.mine))
-      (append-IsFront (replies_on spellings.Raw s.log) p (replies_on spellings.Raw piece.cut.mine) piece.cut.out_front))
+  lost_behind : (lost : Lost) → IsLastLost lost count mine p bu → IsLastLost lost first (s.log ++ mine) (o ++ p) (au ++ bu)
+  lost_behind lost last = last_behind lost first count s.log mine o au p bu s.count_is s.out_text s.audit_text last
 
   -- a put on the audit failed
-  pub link_cut : IsLinkServed app c first (span la lc) (span a d) (Err halts.Write) (o ++ p) (au ++ bu)
-  link_cut = record {
+  pub link_cut : IsLastLost losses.Audit count mine p bu → IsLinkServed app c first (span la lc) (span a d) (Err halts.Write) (o ++ p) (au ++ bu)
+  link_cut last = record {
     pieces = s.pieces ++ piece.bytes ∷ [];
-    log = s.log ++ piece.cut.mine;
+    log = s.log ++ mine;
     part = true;
     taken = gave_on la lb lc s.pieces piece.bytes back s.gave piece.gave;
     ended = λ whole. absurd cc;
     cause = λ part. inr refl;
-    served = cut_served;
-    few = cut_few;
+    served = lost_served;
+    few = lost_few;
     count = tt;
-    out_text = cut_out;
-    audit_text =
-        subst (λ (t : List ℕ). IsFront (t ++ bu) (audited_from (first + 1) (s.log ++ piece.cut.mine))) (sym s.audit_text)
-        (subst (λ (t : List ℕ). IsFront (audited_from (first + 1) s.log ++ bu) t) (audited_on first count s.log piece.cut.mine s.count_is)
-        (append-IsFront (audited_from (first + 1) s.log) bu (audited_from (count + 1) piece.cut.mine) piece.cut.audit_front));
+    puts = lost_behind losses.Audit last;
   }
 
   -- a put on the link failed
-  pub link_torn : (last n : ℕ) → n + first ≡ last → last ≡ count + length piece.cut.mine → bu ≡ audited_from (count + 1) piece.cut.mine → Rose la.faults lc.faults
+  pub link_torn : (last n : ℕ) → n + first ≡ last → IsTornOn (span lb lc) count last mine p bu → la.faults ≤ lb.faults
       → IsLinkServed app c first (span la lc) (span a d) (Ok n) (o ++ p) (au ++ bu)
-  link_torn last n less last_is audit_is rose = record {
-    pieces = s.pieces ++ piece.bytes ∷ [];
-    log = s.log ++ piece.cut.mine;
-    part = true;
-    taken = gave_on la lb lc s.pieces piece.bytes back s.gave piece.gave;
-    ended = λ whole. absurd cc;
-    cause = λ part. inl rose;
-    served = cut_served;
-    few = cut_few;
-    count =
-        let long = length-append s.log piece.cut.mine in
-        let before = s.count_is in
-        omega (arith, long, before, less, last_is);
-    out_text = cut_out;
-    audit_text =
-        ap (λ (t : List ℕ). t ++ bu) s.audit_text ∙ ap (λ (t : List ℕ). audited_from (first + 1) s.log ++ t) audit_is
-        ∙ audited_on first count s.log piece.cut.mine s.count_is;
-  }
+  link_torn last n less torn later =
+      let rose = Rose-widen la.faults lb.faults lc.faults lc.faults later (omega arith) torn.rose in
+      record {
+        pieces = s.pieces ++ piece.bytes ∷ [];
+        log = s.log ++ mine;
+        part = true;
+        taken = gave_on la lb lc s.pieces piece.bytes back s.gave piece.gave;
+        ended = λ whole. absurd cc;
+        cause = λ part. inl rose;
+        served = lost_served;
+        few = lost_few;
+        count =
+            let long = length-append s.log mine in
+            let before = s.count_is in
+            let last_is = torn.count_is in
+            omega (arith, long, before, less, last_is);
+        puts = inr (lost_behind losses.Link torn.lost, rose);
+      }

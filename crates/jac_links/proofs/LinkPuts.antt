@@ -3,7 +3,7 @@ use Rattle.std.proofs.Common.{◌≡◌, ◌∙◌, ◌≤◌, ◌<◌, ◌||◌
 use Rattle.jac_io.specs.Seen.{SinkSeen, Lasts}
 use Rattle.jac_io.specs.declared.sink.Failed.{Failed}
 use Rattle.jac_io.specs.Linked.{LinkSeen, LinkLasts}
-use Rattle.jac_keep.specs.KeeperSeen.{KeeperSeen}
+use Rattle.jac_serving.specs.Keeping.{Holding}
 use Rattle.jac_http.specs.Requests.{IsTaken}
 use Rattle.jac_hub.specs.declared.hub.HubOut.{HubOut}
 use Rattle.jac_hub.specs.declared.hub.HubOut.TheVariants.{Reply, Closed}
@@ -13,16 +13,17 @@ use Rattle.jac_hub.proofs.Giving.{given-push, given-all}
 use Rattle.jac_links.specs.declared.link.Brought.{Brought}
 use Rattle.jac_links.specs.declared.link.Cut.{Cut}
 use Rattle.jac_links.specs.declared.link.Cut.TheVariants as cuts
+use Rattle.jac_links.specs.declared.onto.Lost.{Lost}
 use Rattle.jac_links.specs.declared.onto.Lost.TheVariants as losses
 use Rattle.jac_replies.specs.declared.reply.Spelling.TheVariants as spellings
 use Rattle.jac_links.specs.Link.{as_sink}
-use Rattle.jac_links.specs.LinkSteps.{PutsReply, PutsOutOn, PutsSoFarOn, PutsAllOn, PutsSomeOn, PutsOutsOn, is_closed_out, has_closed}
+use Rattle.jac_links.specs.LinkSteps.{PutsReply, IsOutLost, PutsOutOn, PutsSoFarOn, PutsAllOn, PutsSomeOn, PutsOutsOn, is_closed_out, has_closed}
 use Rattle.jac_serving.specs.Answering.{Answering}
-use Rattle.jac_serving.specs.Outside.{span, Took, IsFront, IsPut, sinks, Went}
+use Rattle.jac_serving.specs.Outside.{span, Took, IsPut, sinks, Went}
 use Rattle.jac_serving.specs.Serve.{handled, sent_on, sent_audit, out_on, outs_on, outs_audited, replies_in}
 use Rattle.jac_serving.proofs.HubLemmas.{outs_on-append, replies_in-append}
 use Rattle.jac_serving.proofs.NextLemmas.{audited_next}
-use Rattle.jac_serving.proofs.OutsideLemmas.{Lasts-none, Took-none, append-IsFront}
+use Rattle.jac_serving.proofs.OutsideLemmas.{Lasts-none, Took-none}
 
 -- a link lasts as a sink does
 pub sink_lasts : (a b : LinkSeen) → LinkLasts a b → Lasts (as_sink a) (as_sink b)
@@ -93,12 +94,11 @@ out_put so_far c sent out audit h = (omega arith, or_false so_far.closed, h.0, h
 
 pub out_cut : (so_far : Brought) (c : ℕ) (sent : Sent) (out audit : List ℕ) → PutsReply (sent_on spellings.Raw c sent) (sent_audit (so_far.count + 1) sent) (Err losses.Link) out audit
     → PutsOutOn so_far (Reply c sent) (Err (cuts.Link (so_far.count + 1))) out audit
-out_cut so_far c sent out audit h = (omega arith, h.0, h.1 ∙ sym (append-nil (sent_audit (so_far.count + 1) sent)))
+out_cut so_far c sent out audit h = (refl, h)
 
 pub out_lost : (so_far : Brought) (c : ℕ) (sent : Sent) (out audit : List ℕ) → PutsReply (sent_on spellings.Raw c sent) (sent_audit (so_far.count + 1) sent) (Err losses.Audit) out audit
     → PutsOutOn so_far (Reply c sent) (Err cuts.Audit) out audit
-out_lost so_far c sent out audit h =
-    (h.0, subst (λ (t : List ℕ). IsFront audit t) (sym (append-nil (sent_audit (so_far.count + 1) sent))) h.1)
+out_lost so_far c sent out audit h = h
 
 pub out_closed : (so_far : Brought) (c : ℕ) → PutsOutOn so_far (Closed c) (Ok (record { count = so_far.count; closed = true })) [] []
 out_closed so_far c = (omega arith, or_true so_far.closed, refl, refl)
@@ -113,7 +113,7 @@ closed_next outs given old new before is =
     ∙ sym (has_closed-append outs (given ∷ []))
 
 -- nothing was put yet
-pub so_far_on_none : (app : Answering) (hub : HubSeen) (k : KeeperSeen) (served : ℕ)
+pub so_far_on_none : (app : Answering) (hub : HubSeen) (k : Holding) (served : ℕ)
     → PutsSoFarOn app hub hub (span k k) served (record { count = served; closed = false }) [] []
 so_far_on_none app hub k served = record { outs = []; given = (refl, refl); count_is = omega arith; closed_is = refl; out_text = refl; audit_text = refl }
 
@@ -125,7 +125,7 @@ count_next : (served count more : ℕ) (outs : List HubOut) (given : HubOut) →
 count_next served count more outs given before is = let r = replies_in-append outs (given ∷ []) in omega (arith, r, before, is)
 
 -- one more was put
-pub so_far_on_more : (app : Answering) (hub between new : HubSeen) (a b c : KeeperSeen) (served : ℕ) (so_far more : Brought) (given : HubOut) (o au p bu : List ℕ)
+pub so_far_on_more : (app : Answering) (hub between new : HubSeen) (a b c : Holding) (served : ℕ) (so_far more : Brought) (given : HubOut) (o au p bu : List ℕ)
     → Nexts IsTaken (handled spellings.Raw app) between between.turn (Some given) new b c
     → PutsSoFarOn app hub between (span a b) served so_far o au → PutsOutOn so_far given (Ok more) p bu
     → PutsSoFarOn app hub new (span a c) served more (o ++ p) (au ++ bu)
@@ -140,46 +140,38 @@ so_far_on_more app hub between new a b c served so_far more given o au p bu next
       ∙ audited_next served so_far.count s.outs given s.count_is;
 }
 
--- the next one was torn, whose line was whole or not
-pub so_far_on_torn : (app : Answering) (hub between new : HubSeen) (a b c : KeeperSeen) (served : ℕ) (so_far : Brought) (given : HubOut) (o au p bu : List ℕ)
+-- the next one was lost
+pub so_far_on_lost : (app : Answering) (hub between new : HubSeen) (a b c : Holding) (served : ℕ) (so_far : Brought) (given : HubOut) (lost : Lost) (o au p bu : List ℕ)
     → Nexts IsTaken (handled spellings.Raw app) between between.turn (Some given) new b c
-    → PutsSoFarOn app hub between (span a b) served so_far o au
-    → IsFront p (out_on spellings.Raw given) → IsFront bu (outs_audited (so_far.count + 1) (given ∷ []))
-    → PutsSomeOn app hub (span a c) served (o ++ p) (au ++ bu)
-so_far_on_torn app hub between new a b c served so_far given o au p bu next s out_front audit_front = record {
-  outs = s.outs ++ given ∷ [];
+    → PutsSoFarOn app hub between (span a b) served so_far o au → IsOutLost (so_far.count + 1) lost given p bu
+    → PutsSomeOn lost app hub (span a c) served (o ++ p) (au ++ bu)
+so_far_on_lost app hub between new a b c served so_far given lost o au p bu next s torn = record {
+  outs = s.outs;
+  last = given;
   later = new;
+  out_torn = p;
+  audit_torn = bu;
   given = given-push IsTaken (handled spellings.Raw app) s.outs hub between new given a b c s.given next;
-  out_front =
-      subst (λ (t : List ℕ). IsFront (t ++ p) (outs_on spellings.Raw (s.outs ++ given ∷ []))) (sym s.out_text)
-      (subst (λ (t : List ℕ). IsFront (outs_on spellings.Raw s.outs ++ p) t) (out_last s.outs given) (append-IsFront (outs_on spellings.Raw s.outs) p (out_on spellings.Raw given) out_front));
-  audit_front =
-      subst (λ (t : List ℕ). IsFront (t ++ bu) (outs_audited (served + 1) (s.outs ++ given ∷ []))) (sym s.audit_text)
-      (subst (λ (t : List ℕ). IsFront (outs_audited (served + 1) s.outs ++ bu) t) (audited_next served so_far.count s.outs given s.count_is)
-      (append-IsFront (outs_audited (served + 1) s.outs) bu (outs_audited (so_far.count + 1) (given ∷ [])) audit_front));
+  torn = subst (λ (n : ℕ). IsOutLost (n + 1) lost given p bu) s.count_is torn;
+  out_text = ap (λ (t : List ℕ). t ++ p) s.out_text;
+  audit_text = ap (λ (t : List ℕ). t ++ bu) s.audit_text;
 }
 
-pub front_all : (bytes all : List ℕ) → bytes ≡ all → IsFront bytes all
-front_all bytes all is = ([], sym is ∙ sym (append-nil bytes))
-
 -- a put failed
-pub so_far_on_cut : (app : Answering) (hub between new : HubSeen) (a b c : KeeperSeen) (served : ℕ) (so_far : Brought) (given : HubOut) (o au p bu : List ℕ) (cut : Cut)
+pub so_far_on_cut : (app : Answering) (hub between new : HubSeen) (a b c : Holding) (served : ℕ) (so_far : Brought) (given : HubOut) (o au p bu : List ℕ) (cut : Cut)
     → Nexts IsTaken (handled spellings.Raw app) between between.turn (Some given) new b c
     → PutsSoFarOn app hub between (span a b) served so_far o au → PutsOutOn so_far given (Err cut) p bu
     → PutsOutsOn app hub new (span a c) served (Err cut) (o ++ p) (au ++ bu)
-unfolding so_far_on_torn
-so_far_on_cut app hub between new a b c served so_far given o au p bu (cuts.Link count) next s put = (
-  so_far_on_torn app hub between new a b c served so_far given o au p bu next s put.1 (front_all bu (outs_audited (so_far.count + 1) (given ∷ [])) put.2),
-  count_next served so_far.count count s.outs given s.count_is put.0,
-  ap (λ (t : List ℕ). t ++ bu) s.audit_text ∙ ap (λ (t : List ℕ). outs_audited (served + 1) s.outs ++ t) put.2
-      ∙ audited_next served so_far.count s.outs given s.count_is,
-)
+unfolding so_far_on_lost
+so_far_on_cut app hub between new a b c served so_far given o au p bu (cuts.Link count) next s put =
+    let is = s.count_is in
+    let count_is = put.0 in
+    (so_far_on_lost app hub between new a b c served so_far given losses.Link o au p bu next s put.1, omega (arith, is, count_is))
 so_far_on_cut app hub between new a b c served so_far given o au p bu cuts.Audit next s put =
-    so_far_on_torn app hub between new a b c served so_far given o au p bu next s
-    (out_on spellings.Raw given, ap (λ (t : List ℕ). t ++ out_on spellings.Raw given) (sym put.0)) put.1
+    so_far_on_lost app hub between new a b c served so_far given losses.Audit o au p bu next s put
 
 -- nothing more is given
-pub so_far_on_all : (app : Answering) (hub between new : HubSeen) (a b c : KeeperSeen) (served : ℕ) (so_far : Brought) (o au : List ℕ)
+pub so_far_on_all : (app : Answering) (hub between new : HubSeen) (a b c : Holding) (served : ℕ) (so_far : Brought) (o au : List ℕ)
     → Nexts IsTaken (handled spellings.Raw app) between between.turn None new b c
     → PutsSoFarOn app hub between (span a b) served so_far o au → PutsAllOn app hub new (span a c) served so_far o au
 so_far_on_all app hub between new a b c served so_far o au next s = record {

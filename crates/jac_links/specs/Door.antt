@@ -2,16 +2,16 @@
 use Rattle.std.specs.Prelude.{◌≡◌, ◌≤◌, ◌⊎◌, ℕ, ◌+◌, Bool, true, false, IsTrue, IsOk, Result, Ok, Err, Option, Some, None, List, [], ◌∷◌, ◌++◌, length, map}
 use Rattle.jac_io.specs.Faults.{Rose}
 use Rattle.jac_io.specs.Linked.{LinkSeen, DoorSeen}
-use Rattle.jac_keep.specs.KeeperSeen.{KeeperSeen}
+use Rattle.jac_serving.specs.Keeping.{Holding}
 use Rattle.jac_links.specs.declared.door.DoorHalt.{DoorHalt}
 use Rattle.jac_links.specs.declared.door.DoorHalt.TheVariants as halts
 use Rattle.jac_links.specs.declared.door.Tally.{Tally}
 use Rattle.jac_links.specs.declared.link.Halt.{Halt}
 use Rattle.jac_links.specs.declared.link.Halt.TheVariants as ways
-use Rattle.jac_links.specs.Link.{as_sink, IsPart, IsLinkServed}
+use Rattle.jac_links.specs.Link.{as_sink, IsLinkServed}
 use Rattle.jac_serving.specs.Answering.{Entry, Answering, IsAnswering}
 use Rattle.jac_serving.specs.Log.{audited}
-use Rattle.jac_serving.specs.Outside.{Span, span, Took}
+use Rattle.jac_serving.specs.Outside.{Span, span, Took, IsFront}
 
 -- a link as it came, as serving it left it, and what the call answered
 pub record Visit (L : Type 0) : Type 0 where
@@ -20,17 +20,17 @@ pub record Visit (L : Type 0) : Type 0 where
   pub result : Result ℕ Halt
 
 -- connection c was served: its link holds these bytes more, these are its entries, and these its lines on the audit
-pub record IsVisited {L : Type 0} (seen : L → LinkSeen) (app : Answering) (c first : ℕ) (k : Span KeeperSeen) (visit : Visit L) (mine : List Entry) (lines : List ℕ) : Type 0 where
+pub record IsVisited {L : Type 0} (seen : L → LinkSeen) (app : Answering) (c first : ℕ) (k : Span Holding) (visit : Visit L) (mine : List Entry) (lines : List ℕ) : Type 0 where
   pub out : List ℕ
   pub took : Took (span (as_sink (seen visit.came)) (as_sink (seen visit.gone))) out
   pub served : IsLinkServed app c first (span (seen visit.came) (seen visit.gone)) k visit.result out lines
   pub entries : served.log ≡ mine
 
 -- connections were served one after another, of which the first is the c-th, before which there were `first` replies
-abbrev pub AreVisited : {L : Type 0} → (L → LinkSeen) → Answering → ℕ → ℕ → KeeperSeen → List (Visit L) → List Entry → List ℕ → KeeperSeen → Type 0
+abbrev pub AreVisited : {L : Type 0} → (L → LinkSeen) → Answering → ℕ → ℕ → Holding → List (Visit L) → List Entry → List ℕ → Holding → Type 0
 AreVisited seen app c first before [] log audit after = (log ≡ []) × (audit ≡ []) × (after ≡ before)
 AreVisited seen app c first before (visit ∷ visits) log audit after =
-    (between : KeeperSeen) × (mine : List Entry) × (lines : List ℕ) × (others : List Entry) × (more : List ℕ)
+    (between : Holding) × (mine : List Entry) × (lines : List ℕ) × (others : List Entry) × (more : List ℕ)
     × IsVisited seen app c first (span before between) visit mine lines × (log ≡ mine ++ others) × (audit ≡ lines ++ more)
     × AreVisited seen app (c + 1) (first + length mine) between visits others more after
 
@@ -44,12 +44,17 @@ abbrev pub AreWhole : {L : Type 0} → List (Visit L) → Type 0
 AreWhole [] = Unit {0}
 AreWhole (visit ∷ visits) = IsOk visit.result × AreWhole visits
 
--- serving was cut short within a connection
+-- a put on the audit failed
 abbrev pub is_cut : Result Tally DoorHalt → Bool
 is_cut (Ok tally) = false
 is_cut (Err halts.Door) = false
 is_cut (Err halts.Write) = true
-is_cut (Err halts.Memory) = true
+is_cut (Err halts.Memory) = false
+
+-- all of them, or some of them from the first on
+abbrev pub IsPart : Bool → List ℕ → List ℕ → Type 0
+IsPart false bytes all = bytes ≡ all
+IsPart true bytes all = IsFront bytes all
 
 -- why serving ended, of at most so many connections: that many came, or a door that tells had no more; or the call
 -- that was served last says why
@@ -63,7 +68,7 @@ IsEnding {L = L} most door visits last log (Err halts.Memory) = (visit : Visit L
 
 -- at most so many connections of a door were served, numbered from 1, and their replies counted from 1: each that was
 -- served whole was handed back, in order, and the one log of all shows what they leave
-pub record AreLinksServed {L : Type 0} (seen : L → LinkSeen) (app : Answering) (most : ℕ) (door : Span (DoorSeen L)) (k : Span KeeperSeen)
+pub record AreLinksServed {L : Type 0} (seen : L → LinkSeen) (app : Answering) (most : ℕ) (door : Span (DoorSeen L)) (k : Span Holding)
     (result : Result Tally DoorHalt) (audit : List ℕ) : Type 0 where
   pub visits : List (Visit L)
   pub last : Option (Visit L)

@@ -2,7 +2,7 @@
 use Rattle.std.specs.Prelude.{◌≡◌, ◌+◌, ◌⊎◌, ℕ, Bool, true, false, IsTrue, if◌then◌else◌, Result, Ok, Err, Option, Some, None, List, [], ◌∷◌, ◌++◌, length}
 use Rattle.jac_io.specs.Faults.{Rose}
 use Rattle.jac_io.specs.Linked.{LinkSeen, DoorSeen}
-use Rattle.jac_keep.specs.KeeperSeen.{KeeperSeen}
+use Rattle.jac_serving.specs.Keeping.{Holding}
 use Rattle.jac_links.specs.declared.door.DoorHalt.{DoorHalt}
 use Rattle.jac_links.specs.declared.door.DoorHalt.TheVariants as halts
 use Rattle.jac_links.specs.declared.door.Tally.{Tally}
@@ -16,7 +16,7 @@ abbrev pub visit_of : {L : Type 0} → L → L → Result ℕ Halt → Visit L
 visit_of came gone result = record { came = came; gone = gone; result = result }
 
 -- a link of the door was served behind so many, and handed back or not
-pub record Visits {L : Type 0} (seen : L → LinkSeen) (app : Answering) (tally : Tally) (line : L) (handed : Bool) (door : Span (DoorSeen L)) (k : Span KeeperSeen)
+pub record Visits {L : Type 0} (seen : L → LinkSeen) (app : Answering) (tally : Tally) (line : L) (handed : Bool) (door : Span (DoorSeen L)) (k : Span Holding)
     (result : Result ℕ Halt) (audit : List ℕ) : Type 0 where
   pub gone : L
   pub mine : List Entry
@@ -24,7 +24,7 @@ pub record Visits {L : Type 0} (seen : L → LinkSeen) (app : Answering) (tally 
   pub returned : IsTrue door.after.tells → door.after.returned ≡ door.before.returned ++ (if handed then gone ∷ [] else [])
 
 -- this link, which the door gave, was served
-abbrev pub VisitsLine : {L : Type 0} → (L → LinkSeen) → Answering → Tally → L → Span (DoorSeen L) → Span KeeperSeen → Result Tally DoorHalt → List ℕ → Type 0
+abbrev pub VisitsLine : {L : Type 0} → (L → LinkSeen) → Answering → Tally → L → Span (DoorSeen L) → Span Holding → Result Tally DoorHalt → List ℕ → Type 0
 VisitsLine seen app tally line door k (Ok more) audit =
     (count : ℕ) × (v : Visits seen app tally line true door k (Ok count) audit) × (more.connections ≡ tally.connections + 1) × (more.replies ≡ tally.replies + length v.mine)
 VisitsLine seen app tally line door k (Err halts.Door) audit =
@@ -37,14 +37,14 @@ abbrev pub GaveLine : {L : Type 0} → Span (DoorSeen L) → L → Type 0
 GaveLine door line = IsTrue door.after.tells → door.before.coming ≡ line ∷ door.after.coming
 
 -- no link was served
-pub record IsUnvisited {L : Type 0} (door : Span (DoorSeen L)) (k : Span KeeperSeen) (audit : List ℕ) : Type 0 where
+pub record IsUnvisited {L : Type 0} (door : Span (DoorSeen L)) (k : Span Holding) (audit : List ℕ) : Type 0 where
   pub coming : IsTrue door.after.tells → door.after.coming ≡ door.before.coming
   pub returned : IsTrue door.after.tells → door.after.returned ≡ door.before.returned
   pub still : k.after ≡ k.before
   pub no_audit : audit ≡ []
 
 -- the next link of a door is served, where there is one
-abbrev pub ServesNext : {L : Type 0} → (L → LinkSeen) → Answering → Tally → Span (DoorSeen L) → Span KeeperSeen → Result (Option Tally) DoorHalt → List ℕ → Type 0
+abbrev pub ServesNext : {L : Type 0} → (L → LinkSeen) → Answering → Tally → Span (DoorSeen L) → Span Holding → Result (Option Tally) DoorHalt → List ℕ → Type 0
 ServesNext {L = L} seen app tally door k (Ok (Some more)) audit =
     (line : L) × GaveLine door line × VisitsLine seen app tally line door k (Ok more) audit
 ServesNext seen app tally door k (Ok None) audit = IsUnvisited door k audit × (IsTrue door.after.tells → door.after.coming ≡ [])

@@ -1,18 +1,21 @@
 -- Serving a link: its input is the pieces of one connection, and the replies go back on it as they are.
-use Rattle.std.specs.Prelude.{◌≡◌, ◌≤◌, ◌||◌, ◌⊎◌, ℕ, ◌+◌, Bool, true, false, IsTrue, IfOk, IsErr, is_err, nat_le, Result, List, [], ◌∷◌, ◌++◌, length}
+use Rattle.std.specs.Prelude.{◌≡◌, ◌≤◌, ◌||◌, ◌⊎◌, ℕ, ◌+◌, Bool, true, false, IsTrue, IfOk, IsErr, nat_le, Result, Ok, Err, List, [], ◌∷◌, ◌++◌, length}
 use Rattle.std.specs.List.{concat}
 use Rattle.jac_io.specs.Faults.{Rose}
 use Rattle.jac_io.specs.Seen.{SinkSeen}
 use Rattle.jac_io.specs.Linked.{LinkSeen}
-use Rattle.jac_keep.specs.KeeperSeen.{KeeperSeen}
+use Rattle.jac_serving.specs.Keeping.{Holding}
 use Rattle.jac_events.specs.declared.event.Event.{Event}
 use Rattle.jac_events.specs.declared.event.Event.TheVariants.{Begin, Piece, Finish}
 use Rattle.jac_hub.specs.Channel.{LIMIT}
 use Rattle.jac_hub.specs.Heard.{is_closing}
 use Rattle.jac_links.specs.declared.link.Halt.{Halt}
+use Rattle.jac_links.specs.declared.link.Halt.TheVariants as halts
+use Rattle.jac_links.specs.declared.onto.Lost.{Lost}
+use Rattle.jac_links.specs.declared.onto.Lost.TheVariants as losses
 use Rattle.jac_replies.specs.declared.reply.Spelling.TheVariants as spellings
 use Rattle.jac_serving.specs.Answering.{Entry, hearing, Answering, IsAnswering}
-use Rattle.jac_serving.specs.Log.{replies_on, audited_from}
+use Rattle.jac_serving.specs.Log.{entry_on, replies_on, audit_line, audited_from}
 use Rattle.jac_serving.specs.Outside.{Span, IsFront}
 use Rattle.jac_serving.specs.Serve.{IsServed}
 
@@ -38,14 +41,44 @@ closes_in app (entry ∷ log) = is_closing (hearing app) entry || closes_in app 
 abbrev pub is_over : Answering → List (List ℕ) → List Entry → Bool
 is_over app pieces log = closes_in app log || nat_le LIMIT (length (concat pieces))
 
--- all of them, or some of them from the first on
-abbrev pub IsPart : Bool → List ℕ → List ℕ → Type 0
-IsPart false bytes all = bytes ≡ all
-IsPart true bytes all = IsFront bytes all
+-- of these entries, behind so many replies, all was put: the reply of each, and its line
+pub record ArePut (first : ℕ) (log : List Entry) (out audit : List ℕ) : Type 0 where
+  pub out_text : out ≡ replies_on spellings.Raw log
+  pub audit_text : audit ≡ audited_from (first + 1) log
 
--- connection c was served, before which there were `first` replies: these bytes went to its link, and these to the
--- audit. It was heard in part only where the link failed or the call is refused
-pub record IsLinkServed (app : Answering) (c first : ℕ) (link : Span LinkSeen) (k : Span KeeperSeen) (result : Result ℕ Halt) (out audit : List ℕ) : Type 0 where
+-- a reply, whose line goes to the audit before it, was lost: on the link, behind its whole line; or
+-- in its line, before any of it
+abbrev pub IsLostOn : Lost → List ℕ → List ℕ → List ℕ → List ℕ → Type 0
+IsLostOn losses.Link reply line out audit = IsFront out reply × (audit ≡ line)
+IsLostOn losses.Audit reply line out audit = (out ≡ []) × IsFront audit line
+
+-- all was put before the last of these entries, whose reply was lost
+pub record IsLastLost (lost : Lost) (first : ℕ) (log : List Entry) (out audit : List ℕ)
+    : Type 0 where
+  pub whole_ones : List Entry
+  pub entry : Entry
+  pub out_torn : List ℕ
+  pub audit_torn : List ℕ
+  pub parts : log ≡ whole_ones ++ entry ∷ []
+  pub torn : IsLostOn lost (entry_on spellings.Raw entry)
+      (audit_line (first + length whole_ones + 1) entry) out_torn audit_torn
+  pub out_text : out ≡ replies_on spellings.Raw whole_ones ++ out_torn
+  pub audit_text : audit ≡ audited_from (first + 1) whole_ones ++ audit_torn
+
+-- what was put of these entries, by how serving their link ended: where a put on the link failed the
+-- connection ended, one on the audit is a write's refusal, and where memory ran out all was put
+abbrev pub PutsLog : ℕ → Span LinkSeen → List Entry → Result ℕ Halt → List ℕ → List ℕ → Type 0
+PutsLog first link log (Ok count) out audit =
+    ArePut first log out audit
+    ⊎ (IsLastLost losses.Link first log out audit × Rose link.before.faults link.after.faults)
+PutsLog first link log (Err halts.Write) out audit = IsLastLost losses.Audit first log out audit
+PutsLog first link log (Err halts.Memory) out audit = ArePut first log out audit
+
+-- connection c was served, before which there were `first` replies: these bytes went to its link,
+-- and these to the audit. It was heard in part only where the link failed or the call is refused;
+-- where a put failed, the log ends with the entry whose reply was lost: none behind it was answered
+pub record IsLinkServed (app : Answering) (c first : ℕ) (link : Span LinkSeen) (k : Span Holding)
+    (result : Result ℕ Halt) (out audit : List ℕ) : Type 0 where
   pub pieces : List (List ℕ)
   pub log : List Entry
   pub part : Bool
@@ -56,5 +89,4 @@ pub record IsLinkServed (app : Answering) (c first : ℕ) (link : Span LinkSeen)
   pub served : IsServed part app k (events_of c pieces) log
   pub few : length log ≤ 16777217
   pub count : IfOk result (λ count. count ≡ length log)
-  pub out_text : IsPart part out (replies_on spellings.Raw log)
-  pub audit_text : IsPart (is_err result) audit (audited_from (first + 1) log)
+  pub puts : PutsLog first link log result out audit

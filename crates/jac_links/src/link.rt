@@ -205,7 +205,7 @@ fn begin<D: Desk>(desk: &mut D, conn: u32, hub: &mut Hub) -> Result<(), Memory>
     requires new { seen hub.old ≡ new_hub }
     requires desk { MayServe D.answering (D.seen desk.old) }
     ensures begun { OnOk result (seen hub.new ≡ begun_hub conn) }
-    ensures still { (D.seen desk.new).keeper ≡ (D.seen desk.old).keeper }
+    ensures still { (D.seen desk.new).holding ≡ (D.seen desk.old).holding }
     ensures keeps { Keeps D.answering (D.seen desk.old) (D.seen desk.new) }
 {
     match hub.step(desk.alloc(), &Event::Begin { conn }) {

@@ -125,7 +125,7 @@ fn put_still<N: Link, U: AuditSink>(
     viewer: Option<Id>,
 ) -> Result<(), Lost>
     ensures put { Went (sinks (as_sink (N.seen link.old)) (as_sink (N.seen link.new)) (U.seen audit.old) (U.seen audit.new))
-        (PutsReply (reply_bytes (status_of_fixed status) None None [] false head true) (audit_text k (status_of_fixed status) viewer None) result) }
+        (PutsReply (reply_bytes (status_of_fixed status) None None [] false head true) (audit_text k (status_of_fixed status) viewer None None) result) }
     ensures left { IsTrue (N.seen link.new).tells → (N.seen link.new).left ≡ (N.seen link.old).left }
     ensures link { result ≡ Err Lost.Link → Rose (N.seen link.old).faults (N.seen link.new).faults }
     ensures audit { result ≡ Err Lost.Audit → Rose (U.seen audit.old).faults (U.seen audit.new).faults }

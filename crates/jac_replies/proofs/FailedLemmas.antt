@@ -22,7 +22,7 @@ memory_status = rw decimal-500 refl
 -- the pieces of the audit's line
 pub failed_audit : (k status : ℕ) (viewer : Option ℕ) (number words looks : List ℕ)
     → number ≡ decimal k → words ≡ codes " " ++ decimal status ++ codes " " → looks ≡ viewer_text viewer
-    → number ++ words ++ looks ++ codes " nopage\n" ≡ audit_text k status viewer None
+    → number ++ words ++ looks ++ codes " nopage\n" ≡ audit_text k status viewer None None
 failed_audit k status viewer number words looks is_number is_words is_viewer = rw (is_number, is_words, is_viewer) (simp append_assoc)
 
 pub keeper_head : (method : List ℕ) → bytes_eq method (codes "HEAD") ≡ true → codes "reply 503 \"\" \"\"\n" ≡ reply_text method 503 None (refusal 503 None).body

@@ -49,10 +49,17 @@ abbrev pub shown_text : Option (List ℕ) → List ℕ
 shown_text None = codes "nopage"
 shown_text (Some labels) = labels_text labels
 
--- ` STATUS VIEWER SHOWN`, which follows the number of a reply
-abbrev pub audit_rest : ℕ → Option ℕ → Option (List ℕ) → List ℕ
-audit_rest status viewer shown = codes " " ++ decimal status ++ codes " " ++ viewer_text viewer ++ codes " " ++ shown_text shown ++ 10 ∷ []
+-- ` of CONSULTED`, where the page was made after the labels alone that it consulted were resolved
+abbrev pub consulted_text : Option (List ℕ) → List ℕ
+consulted_text None = []
+consulted_text (Some labels) = codes " of " ++ labels_text labels
 
--- `K STATUS VIEWER SHOWN`, of the k-th reply
-abbrev pub audit_text : ℕ → ℕ → Option ℕ → Option (List ℕ) → List ℕ
-audit_text k status viewer shown = decimal k ++ audit_rest status viewer shown
+-- ` STATUS VIEWER SHOWN` and what was consulted, which follow the number of a reply
+abbrev pub audit_rest : ℕ → Option ℕ → Option (List ℕ) → Option (List ℕ) → List ℕ
+audit_rest status viewer shown consulted =
+    codes " " ++ decimal status ++ codes " " ++ viewer_text viewer ++ codes " " ++ shown_text shown
+    ++ consulted_text consulted ++ 10 ∷ []
+
+-- `K STATUS VIEWER SHOWN`, or `K STATUS VIEWER SHOWN of CONSULTED`, of the k-th reply
+abbrev pub audit_text : ℕ → ℕ → Option ℕ → Option (List ℕ) → Option (List ℕ) → List ℕ
+audit_text k status viewer shown consulted = decimal k ++ audit_rest status viewer shown consulted

@@ -14,7 +14,8 @@ pub struct Ask {
     pub pairs: Pairs,
 }
 
-/// What answers a request: a page and the labels that it was made under, or a refusal without labels.
+/// What answers a request: a page and the labels that it was made under, or a refusal without labels. Where the labels
+/// alone were resolved that the page consulted, it has these too.
 #[derive(Debug, Drop)]
 pub struct Answer {
     pub status: u16,
@@ -23,4 +24,6 @@ pub struct Answer {
     pub allow: Option<Txt>,
     pub body: Bytes,
     pub shown: Option<Assignment>,
+    /// The labels that were consulted, by rising number, where no others were resolved.
+    pub consulted: Option<Assignment>,
 }

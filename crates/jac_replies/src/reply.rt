@@ -3,7 +3,7 @@ ghost use Rattle.std.specs.Str.{bytes_eq};
 ghost use Rattle.std.specs.String.{string_bytes};
 ghost use Rattle.jac_http.specs.Replies.{phrase_of, reply_bytes};
 ghost use Rattle.jac_value.specs.Quoted.{quoted};
-ghost use Rattle.jac_replies.specs.Spelled.{reply_text, sent_text, spelled, audit_rest, location_text, printed_body, viewer_text, labels_text, more_labels, shown_text};
+ghost use Rattle.jac_replies.specs.Spelled.{reply_text, sent_text, spelled, audit_rest, consulted_text, location_text, printed_body, viewer_text, labels_text, more_labels, shown_text};
 
 use crate::answer::Answer;
 use jac_http::write_reply;
@@ -137,26 +137,63 @@ fn sent_parts(alloc: Global, conn: u32, quoted: &str) -> Result<Txt, Memory>
     Ok(Txt::from_string(line))
 }
 
-/// What follows the number in the audit's line of a reply: ` STATUS VIEWER SHOWN`.
+/// What follows the number in the audit's line of a reply: ` STATUS VIEWER SHOWN`, or ` STATUS VIEWER SHOWN of
+/// CONSULTED`.
 pub fn audit_rest(
     alloc: Global,
     status: u16,
     viewer: Option<Id>,
     shown: &Option<Assignment>,
+    consulted: &Option<Assignment>,
 ) -> Result<Txt, Memory>
-    ensures { IfOk result (λ line. line ≡ audit_rest status viewer shown.now) }
+    ensures { IfOk result (λ line. line ≡ audit_rest status viewer shown.now consulted.now) }
 {
     let viewer = viewer_text(alloc, viewer)?;
     let shown = shown_text(alloc, shown)?;
-    let line = audit_parts(alloc, status, viewer.as_str(), shown.as_str())?;
+    let consulted = consulted_text(alloc, consulted)?;
+    let line = audit_parts(
+        alloc,
+        status,
+        viewer.as_str(),
+        shown.as_str(),
+        consulted.as_str(),
+    )?;
     Ok(line)
 }
 
-fn audit_parts(alloc: Global, status: u16, viewer: &str, shown: &str) -> Result<Txt, Memory>
-    ensures { IfOk result (λ line. line ≡ codes " " ++ decimal status ++ codes " " ++ viewer.now ++ codes " " ++ shown.now ++ 10 ∷ []) }
+fn audit_parts(
+    alloc: Global,
+    status: u16,
+    viewer: &str,
+    shown: &str,
+    consulted: &str,
+) -> Result<Txt, Memory>
+    ensures { IfOk result (λ line. line ≡ codes " " ++ decimal status ++ codes " " ++ viewer.now
+        ++ codes " " ++ shown.now ++ consulted.now ++ 10 ∷ []) }
 {
-    let line = format!(in alloc; " {status} {viewer} {shown}\n")?;
+    let line = format!(in alloc; " {status} {viewer} {shown}{consulted}\n")?;
     Ok(Txt::from_string(line))
+}
+
+// Nothing, or ` of CONSULTED`.
+fn consulted_text(alloc: Global, consulted: &Option<Assignment>) -> Result<Txt, Memory>
+    ensures { IfOk result (λ t. t ≡ consulted_text consulted.now) }
+{
+    match consulted {
+        None => Ok(Txt::empty(alloc)),
+        Some(labels) => {
+            let text = labels_text(alloc, labels)?;
+            let behind = of_text(alloc, text.as_str())?;
+            Ok(behind)
+        }
+    }
+}
+
+fn of_text(alloc: Global, labels: &str) -> Result<Txt, Memory>
+    ensures { IfOk result (λ t. t ≡ codes " of " ++ labels.now) }
+{
+    let text = format!(in alloc; " of {labels}")?;
+    Ok(Txt::from_string(text))
 }
 
 fn number_text(alloc: Global, number: u128) -> Result<Txt, Memory>

@@ -9,7 +9,7 @@ use Rattle.std.specs.Str.Parse.{digits_value}
 use Rattle.std.specs.List.{AllByRecursion, list_all}
 use Rattle.jac_world.specs.World.{shown}
 use Rattle.jac_rows.specs.declared.state.State.{State}
-use Rattle.jac_replies.specs.Spelled.{viewer_text, more_labels, shown_text, audit_text}
+use Rattle.jac_replies.specs.Spelled.{viewer_text, labels_text, more_labels, shown_text, consulted_text, audit_text}
 use Rattle.jac_serving.specs.Answering.{Entry, is_failure}
 use Rattle.jac_serving.specs.Log.{viewer_of, audit_line, audited_from, audited}
 use Rattle.jac_laws.specs.TwoRuns.{LookSame, NoneFailed, HaveSameSubjects, labels_of, LookSameFor}
@@ -93,18 +93,24 @@ head_same c d xs ys same = cc
 tail_same : (c d : ℕ) (xs ys : List ℕ) → c ∷ xs ≡ d ∷ ys → xs ≡ ys
 tail_same c d xs ys same = cc
 
+-- the bytes before the first one that fails the test, and those from it on
+cut_at : (test : ℕ → Bool) (stop other : ℕ) (a b x y : List ℕ) → test stop ≡ false → test other ≡ false
+    → list_all test a ≡ true → list_all test b ≡ true → a ++ stop ∷ x ≡ b ++ other ∷ y → (a ≡ b) × (stop ∷ x ≡ other ∷ y)
+cut_at test stop other [] [] x y off off' on on' same = (refl, same)
+cut_at test stop other [] (d ∷ b) x y off off' on on' same =
+    absurd (no_stop test stop d off (and_left (test d) (list_all test b) on') (head_same stop d x (b ++ other ∷ y) same))
+cut_at test stop other (c ∷ a) [] x y off off' on on' same =
+    absurd (no_stop test other c off' (and_left (test c) (list_all test a) on) (sym (head_same c other (a ++ stop ∷ x) y same)))
+cut_at test stop other (c ∷ a) (d ∷ b) x y off off' on on' same =
+    let rest = cut_at test stop other a b x y off off' (and_right (test c) (list_all test a) on) (and_right (test d) (list_all test b) on')
+    (tail_same c d (a ++ stop ∷ x) (b ++ other ∷ y) same) in
+    (λ i. head_same c d (a ++ stop ∷ x) (b ++ other ∷ y) same i ∷ rest.0 i, rest.1)
+
 -- the bytes before the first one that fails the test, and those behind it
 cut : (test : ℕ → Bool) (stop : ℕ) (a b x y : List ℕ) → test stop ≡ false → list_all test a ≡ true → list_all test b ≡ true
     → a ++ stop ∷ x ≡ b ++ stop ∷ y → (a ≡ b) × (x ≡ y)
-cut test stop [] [] x y off on on' same = (refl, tail_same stop stop x y same)
-cut test stop [] (d ∷ b) x y off on on' same =
-    absurd (no_stop test stop d off (and_left (test d) (list_all test b) on') (head_same stop d x (b ++ stop ∷ y) same))
-cut test stop (c ∷ a) [] x y off on on' same =
-    absurd (no_stop test stop c off (and_left (test c) (list_all test a) on) (sym (head_same c stop (a ++ stop ∷ x) y same)))
-cut test stop (c ∷ a) (d ∷ b) x y off on on' same =
-    let rest = cut test stop a b x y off (and_right (test c) (list_all test a) on) (and_right (test d) (list_all test b) on')
-    (tail_same c d (a ++ stop ∷ x) (b ++ stop ∷ y) same) in
-    (λ i. head_same c d (a ++ stop ∷ x) (b ++ stop ∷ y) same i ∷ rest.0 i, rest.1)
+cut test stop a b x y off on on' same =
+    let parts = cut_at test stop stop a b x y off off on on' same in (parts.0, tail_same stop stop x y parts.1)
 
 -- ---- labels by their text
 
@@ -199,30 +205,76 @@ words_joined a b c d =
     ∙ append_assoc a (32 ∷ []) (b ++ 32 ∷ (c ++ d))
 
 line_shape : (k : ℕ) (entry : Entry) → audit_line k entry
-    ≡ decimal k ++ 32 ∷ (decimal entry.answer.status ++ 32 ∷ (viewer_text (viewer_of entry.subject) ++ 32 ∷ (shown_text entry.answer.shown ++ 10 ∷ [])))
+    ≡ decimal k ++ 32 ∷ (decimal entry.answer.status ++ 32 ∷ (viewer_text (viewer_of entry.subject)
+    ++ 32 ∷ (shown_text entry.answer.shown ++ (consulted_text entry.answer.consulted ++ 10 ∷ []))))
 line_shape k entry =
+    let status = decimal entry.answer.status in
+    let viewer = viewer_text (viewer_of entry.subject) in
+    let labels = shown_text entry.answer.shown in
+    let consulted = consulted_text entry.answer.consulted in
     ap (λ (t : List ℕ). decimal k ++ 32 ∷ t)
-    (words_joined (decimal entry.answer.status) (viewer_text (viewer_of entry.subject)) (shown_text entry.answer.shown) (10 ∷ []))
+    (append_assoc ((((status ++ 32 ∷ []) ++ viewer) ++ 32 ∷ []) ++ labels) consulted (10 ∷ [])
+    ∙ words_joined status viewer labels (consulted ++ 10 ∷ []))
 
 -- the same line without its end
 abbrev pub words_of : ℕ → Entry → List ℕ
 words_of k entry =
-    decimal k ++ 32 ∷ (decimal entry.answer.status ++ 32 ∷ (viewer_text (viewer_of entry.subject) ++ 32 ∷ (shown_text entry.answer.shown ++ [])))
+    decimal k ++ 32 ∷ (decimal entry.answer.status ++ 32 ∷ (viewer_text (viewer_of entry.subject)
+    ++ 32 ∷ (shown_text entry.answer.shown ++ consulted_text entry.answer.consulted)))
 
 line_end : (k : ℕ) (entry : Entry) → audit_line k entry ≡ words_of k entry ++ 10 ∷ []
 line_end k entry =
     line_shape k entry
-    ∙ sym (line_before (decimal k) (decimal entry.answer.status) (viewer_text (viewer_of entry.subject)) (shown_text entry.answer.shown) [] (10 ∷ []))
+    ∙ sym (line_before (decimal k) (decimal entry.answer.status) (viewer_text (viewer_of entry.subject))
+    (shown_text entry.answer.shown) (consulted_text entry.answer.consulted) (10 ∷ []))
+
+-- what stands behind the labels of a line
+abbrev pub behind_labels : Option (List ℕ) → List ℕ → List ℕ
+behind_labels consulted more = consulted_text consulted ++ 10 ∷ more
 
 line_split : (k : ℕ) (entry : Entry) (more : List ℕ) → audit_line k entry ++ more
-    ≡ decimal k ++ 32 ∷ (decimal entry.answer.status ++ 32 ∷ (viewer_text (viewer_of entry.subject) ++ 32 ∷ (shown_text entry.answer.shown ++ 10 ∷ more)))
+    ≡ decimal k ++ 32 ∷ (decimal entry.answer.status ++ 32 ∷ (viewer_text (viewer_of entry.subject)
+    ++ 32 ∷ (shown_text entry.answer.shown ++ behind_labels entry.answer.consulted more)))
 line_split k entry more =
+    let status = decimal entry.answer.status in
+    let viewer = viewer_text (viewer_of entry.subject) in
+    let labels = shown_text entry.answer.shown in
+    let consulted = consulted_text entry.answer.consulted in
     ap (λ (t : List ℕ). t ++ more) (line_shape k entry)
-    ∙ line_before (decimal k) (decimal entry.answer.status) (viewer_text (viewer_of entry.subject)) (shown_text entry.answer.shown) (10 ∷ []) more
+    ∙ line_before (decimal k) status viewer labels (consulted ++ 10 ∷ []) more
+    ∙ ap (λ (t : List ℕ). decimal k ++ 32 ∷ (status ++ 32 ∷ (viewer ++ 32 ∷ (labels ++ t)))) (append_assoc consulted (10 ∷ []) more)
 
 next_line : (front : List ℕ) (k : ℕ) (entry : Entry) → BeginsLine (front ++ audit_line k entry)
 next_line front k entry =
     inr (front ++ words_of k entry, ap (λ (t : List ℕ). front ++ t) (line_end k entry) ∙ sym (append_assoc front (words_of k entry) (10 ∷ [])))
+
+no_mark : (x y : List ℕ) → 10 ∷ x ≡ 32 ∷ y → ⊥
+no_mark x y same = let wrong : ◌≡◌ {A = ℕ} 10 32 = head_same 10 32 x y same in absurd cc
+
+-- behind ` of `
+behind_mark : (x y : List ℕ) → 111 ∷ 102 ∷ 32 ∷ x ≡ 111 ∷ 102 ∷ 32 ∷ y → x ≡ y
+behind_mark x y same =
+    tail_same 32 32 x y
+    (tail_same 102 102 (32 ∷ x) (32 ∷ y) (tail_same 111 111 (102 ∷ 32 ∷ x) (102 ∷ 32 ∷ y) same))
+
+-- the same word, whatever was consulted, and the same lines behind
+same_labels : (one two : Option (List ℕ)) (a b more others : List ℕ) → list_all is_inside a ≡ true → list_all is_inside b ≡ true
+    → a ++ behind_labels one more ≡ b ++ behind_labels two others → (a ≡ b) × (more ≡ others)
+same_labels None None a b more others on on' same = cut is_inside 10 a b more others refl on on' same
+same_labels None (Some ls) a b more others on on' same =
+    let rest = 111 ∷ 102 ∷ 32 ∷ (labels_text ls ++ 10 ∷ others) in
+    absurd (no_mark more rest (cut_at is_inside 10 32 a b more rest refl refl on on' same).1)
+same_labels (Some ks) None a b more others on on' same =
+    let rest = 111 ∷ 102 ∷ 32 ∷ (labels_text ks ++ 10 ∷ more) in
+    absurd (no_mark others rest (sym (cut_at is_inside 32 10 a b rest others refl refl on on' same).1))
+same_labels (Some ks) (Some ls) a b more others on on' same =
+    let one = labels_text ks ++ 10 ∷ more in
+    let two = labels_text ls ++ 10 ∷ others in
+    let parts = cut is_inside 32 a b (111 ∷ 102 ∷ 32 ∷ one) (111 ∷ 102 ∷ 32 ∷ two) refl on on' same in (
+      parts.0,
+      (cut is_inside 10 (labels_text ks) (labels_text ls) more others refl (shown_inside (Some ks)) (shown_inside (Some ls))
+          (behind_mark one two parts.1)).1,
+    )
 
 -- the same text and the same labels
 same_line : (k : ℕ) (one two : Entry) (more others : List ℕ) → audit_line k one ++ more ≡ audit_line k two ++ others
@@ -230,14 +282,15 @@ same_line : (k : ℕ) (one two : Entry) (more others : List ℕ) → audit_line 
 same_line k one two more others same =
     let viewer = viewer_text (viewer_of one.subject) in
     let viewer' = viewer_text (viewer_of two.subject) in
-    let last = shown_text one.answer.shown ++ 10 ∷ more in
-    let last' = shown_text two.answer.shown ++ 10 ∷ others in
+    let last = shown_text one.answer.shown ++ behind_labels one.answer.consulted more in
+    let last' = shown_text two.answer.shown ++ behind_labels two.answer.consulted others in
     let numbered = cut is_inside 32 (decimal k) (decimal k) (decimal one.answer.status ++ 32 ∷ (viewer ++ 32 ∷ last)) (decimal two.answer.status ++ 32 ∷ (viewer' ++ 32 ∷ last'))
     refl (decimal_inside k) (decimal_inside k) (sym (line_split k one more) ∙ same ∙ line_split k two others) in
     let status = cut is_inside 32 (decimal one.answer.status) (decimal two.answer.status) (viewer ++ 32 ∷ last) (viewer' ++ 32 ∷ last')
     refl (decimal_inside one.answer.status) (decimal_inside two.answer.status) numbered.1 in
     let looking = cut is_inside 32 viewer viewer' last last' refl (viewer_inside (viewer_of one.subject)) (viewer_inside (viewer_of two.subject)) status.1 in
-    cut is_inside 10 (shown_text one.answer.shown) (shown_text two.answer.shown) more others refl (shown_inside one.answer.shown) (shown_inside two.answer.shown) looking.1
+    same_labels one.answer.consulted two.answer.consulted (shown_text one.answer.shown) (shown_text two.answer.shown) more others
+    (shown_inside one.answer.shown) (shown_inside two.answer.shown) looking.1
 
 -- audits that are the same bytes tell the same labels of logs that were asked the same
 pub labels_by_text : (early late : Bool) (k : ℕ) (log others : List Entry) → early ≡ false → late ≡ false → HaveSameSubjects early late log others
@@ -265,7 +318,7 @@ decimal_503 = refl
 status_word : (audit front : List ℕ) (k status : ℕ) (entry : Entry) (more digits_of : List ℕ) → BeginsLine front → audit ≡ front ++ (audit_line k entry ++ more)
     → entry.answer.status ≡ status → decimal status ≡ digits_of → HasStatusWord audit (32 ∷ (digits_of ++ 32 ∷ []))
 status_word audit front k status entry more digits_of begins is on text =
-    let rest = viewer_text (viewer_of entry.subject) ++ 32 ∷ (shown_text entry.answer.shown ++ 10 ∷ more) in
+    let rest = viewer_text (viewer_of entry.subject) ++ 32 ∷ (shown_text entry.answer.shown ++ behind_labels entry.answer.consulted more) in
     let word : decimal entry.answer.status ++ 32 ∷ rest ≡ (digits_of ++ 32 ∷ []) ++ rest =
     ap (λ (s : ℕ). decimal s ++ 32 ∷ rest) on ∙ ap (λ (t : List ℕ). t ++ 32 ∷ rest) text ∙ sym (append_assoc digits_of (32 ∷ []) rest) in
     record {
@@ -314,9 +367,14 @@ looks_from start other audit front k (entry ∷ log) begins is look =
         number = k;
         status = entry.answer.status;
         viewer = viewer_of entry.subject;
+        consulted = entry.answer.consulted;
         rest = more;
         begins = begins;
-        is = is ∙ ap (λ (o : Option (List ℕ)). front ++ (audit_text k entry.answer.status (viewer_of entry.subject) o ++ more)) on;
+        is =
+            is
+            ∙ ap
+            (λ (o : Option (List ℕ)). front ++ (audit_text k entry.answer.status (viewer_of entry.subject) o entry.answer.consulted ++ more))
+            on;
       }),
       looks_from start other audit (front ++ audit_line k entry) (k + 1) log (next_line front k entry) (line_moved audit front (audit_line k entry) more is) look,
     )

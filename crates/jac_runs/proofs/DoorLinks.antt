@@ -6,15 +6,15 @@ use Rattle.jac_io.specs.Linked.{LinkSeen}
 use Rattle.jac_world.specs.World.{shown}
 use Rattle.jac_lang.specs.Syntax.{Application}
 use Rattle.jac_rows.specs.declared.state.State.{State}
-use Rattle.jac_keep.specs.KeeperSeen.{KeeperSeen}
 use Rattle.jac_route.specs.declared.sessions.Session.{Session}
 use Rattle.jac_serving.specs.Answering.{Entry}
+use Rattle.jac_serving.specs.Keeping.{Holding}
 use Rattle.jac_serving.specs.Outside.{span}
 use Rattle.jac_serving.specs.Serve.{IsServed as IsServedBy}
 use Rattle.jac_links.specs.Door.{Visit, IsVisited, AreVisited}
 use Rattle.jac_links.specs.Link.{events_of}
 use Rattle.jac_desk.specs.Answered.{answering_of}
-use Rattle.jac_laws.specs.TwoRuns.{OneRun, IsServed, LookSame, NoneFailed, HaveSameSubjects, IsSameWhereShown, AreSameWhereShown}
+use Rattle.jac_laws.specs.TwoRuns.{OneRun, IsServed, LookSame, NoneFailed, HaveSameSubjects, IsSameWhereShown, AreSameWhereShown, seen_answer}
 use Rattle.jac_laws.proofs.SideBySide.{subjects_agree, pages_agree, ends_agree}
 use Rattle.jac_runs.specs.Doors.{IsTakenWhole, AreTakenAlike, IsLikeWhereShown, AreLikeWhereShown}
 use Rattle.jac_runs.proofs.OneLink.{IsMoved, AreMoved, none_moved, IsLinkRun, link_run}
@@ -38,11 +38,13 @@ like_entry start other s u one two x y m n source subject same still = record {
   source = sym m.source ∙ source ∙ n.source;
   subject = sym m.subject ∙ subject ∙ n.subject;
   refusal = λ none none'.
-      sym m.answer ∙ (same.refusal (ap (λ a. a.shown) m.answer ∙ none) (ap (λ a. a.shown) n.answer ∙ none')).answer ∙ n.answer;
+      ap seen_answer (sym m.answer)
+      ∙ (same.refusal (ap (λ a. a.shown) m.answer ∙ none) (ap (λ a. a.shown) n.answer ∙ none')).answer
+      ∙ ap seen_answer n.answer;
   page = λ labels look on on'.
-      sym m.answer
+      ap seen_answer (sym m.answer)
       ∙ (same.page labels (still (shown labels) look) (ap (λ a. a.shown) m.answer ∙ on) (ap (λ a. a.shown) n.answer ∙ on')).answer
-      ∙ n.answer;
+      ∙ ap seen_answer n.answer;
 }
 
 like_logs : (start other s u : State) (log others xs ys : List Entry) → AreMoved xs log → AreMoved ys others → HaveSameSubjects false false xs ys
@@ -62,7 +64,7 @@ like_logs start other s u (one ∷ log) (two ∷ others) (x ∷ xs) (y ∷ ys) m
 
 -- ---- one link
 
-module _ {L : Type 0} (line : L → LinkSeen) (app : Application) (sessions : List Session) where
+module _ {L : Type 0} (line : L → LinkSeen) (lazy : Bool) (app : Application) (sessions : List Session) where
   not_part : (part : Bool) (visit : Visit L) → IsTakenWhole line visit
       → (part ≡ true → Rose (line visit.came).faults (line visit.gone).faults ⊎ IsErr visit.result) → part ≡ false
   not_part false visit whole cause = refl
@@ -71,63 +73,63 @@ module _ {L : Type 0} (line : L → LinkSeen) (app : Application) (sessions : Li
     | inr failed ↦ absurd (whole.answered failed)
   ]
 
-  visit_run : (c first : ℕ) (before between : KeeperSeen) (visit : Visit L) (mine : List Entry) (lines : List ℕ)
-      → IsVisited line (answering_of app sessions) c first (span before between) visit mine lines → IsTakenWhole line visit → IsTrue between.tells
-      → IsLinkRun app sessions c (line visit.came).left before between mine
+  visit_run : (c first : ℕ) (before between : Holding) (visit : Visit L) (mine : List Entry) (lines : List ℕ)
+      → IsVisited line (answering_of lazy app sessions) c first (span before between) visit mine lines → IsTakenWhole line visit → IsTrue between.keeper.tells
+      → IsLinkRun lazy app sessions c (line visit.came).left before between mine
   visit_run c first before between visit mine lines v whole told =
       let s = v.served in
       let taken : concat s.pieces ≡ (line visit.came).left =
       sym (s.taken whole.told ∙ ap (λ (l : List ℕ). concat s.pieces ++ l) whole.all ∙ append-nil (concat s.pieces)) in
       let part = not_part s.part visit whole s.cause in
-      let all = subst (λ (b : Bool). IsServedBy b (answering_of app sessions) (span before between) (events_of c s.pieces) s.log) part s.served in
-      let here = subst (λ (l : List Entry). IsServedBy false (answering_of app sessions) (span before between) (events_of c s.pieces) l) v.entries all in
-      link_run app sessions c s.pieces (line visit.came).left before between mine taken whole.some here told
+      let all = subst (λ (b : Bool). IsServedBy b (answering_of lazy app sessions) (span before between) (events_of c s.pieces) s.log) part s.served in
+      let here = subst (λ (l : List Entry). IsServedBy false (answering_of lazy app sessions) (span before between) (events_of c s.pieces) l) v.entries all in
+      link_run lazy app sessions c s.pieces (line visit.came).left before between mine taken whole.some here told
 
   -- where the last one told, so did the first
-  told_before : (c first : ℕ) (before after : KeeperSeen) (visits : List (Visit L)) (log : List Entry) (audit : List ℕ)
-      → AreVisited line (answering_of app sessions) c first before visits log audit after → IsTrue after.tells → IsTrue before.tells
-  told_before c first before after [] log audit (none, nothing, same) told = subst (λ (k : KeeperSeen). IsTrue k.tells) same told
+  told_before : (c first : ℕ) (before after : Holding) (visits : List (Visit L)) (log : List Entry) (audit : List ℕ)
+      → AreVisited line (answering_of lazy app sessions) c first before visits log audit after → IsTrue after.keeper.tells → IsTrue before.keeper.tells
+  told_before c first before after [] log audit (none, nothing, same) told = subst (λ (k : Holding). IsTrue k.keeper.tells) same told
   told_before c first before after (visit ∷ visits) log audit (between, mine, lines, others, more, v, parts, text, later) told =
       v.served.served.entries.told (told_before (c + 1) (first + length mine) between after visits others more later told)
 
 -- ---- link by link
 
-module _ {L M : Type 0} (line : L → LinkSeen) (other : M → LinkSeen) (app : Application) (sessions : List Session) (start start' : State) where
+module _ {L M : Type 0} (line : L → LinkSeen) (other : M → LinkSeen) (lazy : Bool) (app : Application) (sessions : List Session) (start start' : State) where
   empty_logs : (log others : List Entry) → log ≡ [] → others ≡ [] → AreLikeWhereShown start start' log others
   empty_logs log others none none' =
       let half : AreLikeWhereShown start start' log [] = subst (λ (l : List Entry). AreLikeWhereShown start start' l []) (sym none) tt in
       subst (λ (l : List Entry). AreLikeWhereShown start start' log l) (sym none') half
 
-  pub links_agree : (c first first' : ℕ) (before before' after after' : KeeperSeen) (visits : List (Visit L)) (more : List (Visit M)) (log others : List Entry) (audit audit' : List ℕ)
-      → AreVisited line (answering_of app sessions) c first before visits log audit after → AreVisited other (answering_of app sessions) c first' before' more others audit' after'
-      → IsTrue after.tells → IsTrue after'.tells → AreTakenAlike line other visits more → NoneFailed log → NoneFailed others
-      → ((w : ℕ → Bool) → LookSame w start start' → LookSame w before.state before'.state) → AreLikeWhereShown start start' log others
+  pub links_agree : (c first first' : ℕ) (before before' after after' : Holding) (visits : List (Visit L)) (more : List (Visit M)) (log others : List Entry) (audit audit' : List ℕ)
+      → AreVisited line (answering_of lazy app sessions) c first before visits log audit after → AreVisited other (answering_of lazy app sessions) c first' before' more others audit' after'
+      → IsTrue after.keeper.tells → IsTrue after'.keeper.tells → AreTakenAlike line other visits more → NoneFailed log → NoneFailed others
+      → ((w : ℕ → Bool) → LookSame w start start' → LookSame w before.keeper.state before'.keeper.state) → AreLikeWhereShown start start' log others
   links_agree c first first' before before' after after' [] [] log others audit audit' (none, nothing, same) (none', nothing', same') told told' taken quiet quiet' still =
       empty_logs log others none none'
   links_agree c first first' before before' after after' [] (two ∷ more) log others audit audit' v v' told told' taken quiet quiet' still = absurd taken
   links_agree c first first' before before' after after' (one ∷ visits) [] log others audit audit' v v' told told' taken quiet quiet' still = absurd taken
   links_agree c first first' before before' after after' (one ∷ visits) (two ∷ more) log others audit audit'
       (between, mine, lines, rest, text, v, parts, is, later) (between', mine', lines', rest', text', v', parts', is', later') told told' taken quiet quiet' still =
-      let here = told_before line app sessions (c + 1) (first + length mine) between after visits rest text later told in
-      let here' = told_before other app sessions (c + 1) (first' + length mine') between' after' more rest' text' later' told' in
+      let here = told_before line lazy app sessions (c + 1) (first + length mine) between after visits rest text later told in
+      let here' = told_before other lazy app sessions (c + 1) (first' + length mine') between' after' more rest' text' later' told' in
       let none = none_parts mine rest (subst (λ (l : List Entry). NoneFailed l) parts quiet) in
       let none' = none_parts mine' rest' (subst (λ (l : List Entry). NoneFailed l) parts' quiet') in
-      let x = visit_run line app sessions c first before between one mine lines v taken.0 here in
-      let y = visit_run other app sessions c first' before' between' two mine' lines' v' taken.1 here' in
+      let x = visit_run line lazy app sessions c first before between one mine lines v taken.0 here in
+      let y = visit_run other lazy app sessions c first' before' between' two mine' lines' v' taken.1 here' in
       let bytes = (line one.came).left in
-      let first_run : OneRun = record { early = false; start = before.state; log = x.other; finish = between.state } in
-      let second_run : OneRun = record { early = false; start = before'.state; log = y.other; finish = between'.state } in
+      let first_run : OneRun = record { lazy = lazy; early = false; start = before.keeper.state; log = x.other; finish = between.keeper.state } in
+      let second_run : OneRun = record { lazy = lazy; early = false; start = before'.keeper.state; log = y.other; finish = between'.keeper.state } in
       let served' : IsServed app sessions (events_of c (bytes ∷ [])) second_run =
       subst (λ (b : List ℕ). IsServed app sessions (events_of c (b ∷ [])) second_run) (sym taken.2) y.served in
       let all = none_moved x.other mine x.moved none.0 in
       let all' = none_moved y.other mine' y.moved none'.0 in
       let asked = subjects_agree app sessions (events_of c (bytes ∷ [])) first_run second_run x.served served' all all' in
       let pages = pages_agree app sessions (events_of c (bytes ∷ [])) first_run second_run x.served served' in
-      let ends : (w : ℕ → Bool) → LookSame w start start' → LookSame w between.state between'.state =
+      let ends : (w : ℕ → Bool) → LookSame w start start' → LookSame w between.keeper.state between'.keeper.state =
       λ w look.
       let e = ends_agree app sessions (events_of c (bytes ∷ [])) first_run second_run x.served served' w (still w look) all all' in
       e.ends (e.long refl refl) in
-      let mine_alike = like_logs start start' before.state before'.state mine mine' x.other y.other x.moved y.moved asked pages all all' still in
+      let mine_alike = like_logs start start' before.keeper.state before'.keeper.state mine mine' x.other y.other x.moved y.moved asked pages all all' still in
       let rest_alike = links_agree (c + 1) (first + length mine) (first' + length mine') between between' after after' visits more rest rest' text text' later later' told told' taken.3 none.1 none'.1 ends in
       let both = like_append start start' mine mine' rest rest' mine_alike rest_alike in
       let half = subst (λ (l : List Entry). AreLikeWhereShown start start' l (mine' ++ rest')) (sym parts) both in

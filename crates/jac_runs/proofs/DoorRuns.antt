@@ -1,5 +1,6 @@
 -- What a serve answered, from the statement of the top call, and two of them.
 use Rattle.std.proofs.Common.{◌≡◌, ◌∙◌, ap, sym, subst, refl, inl, inr, ℕ, Bool, Result, Ok, Err, Option, Some, None, List, ◌++◌, append-nil, map}
+use Rattle.jac_io.specs.Seen.{SinkSeen}
 use Rattle.jac_lang.specs.Syntax.{Application}
 use Rattle.jac_rows.specs.Project.{project_at}
 use Rattle.jac_rows.specs.declared.state.State.{State}
@@ -7,7 +8,8 @@ use Rattle.jac_opening.specs.Application.{IsApplication}
 use Rattle.jac_spelled.proofs.OneSpelled.{one_spelled}
 use Rattle.jac_route.specs.declared.sessions.Session.{Session}
 use Rattle.jac_links.specs.Door.{Visit, AreVisited, unreturned}
-use Rattle.jac_serving.specs.Outside.{Took}
+use Rattle.jac_serving.specs.Keeping.{Holding, holding_of}
+use Rattle.jac_serving.specs.Outside.{span, Took}
 use Rattle.jac_words.specs.declared.words.Command.{Command}
 use Rattle.jac_words.specs.declared.words.Command.TheVariants as commands
 use Rattle.jac_words.specs.declared.words.Serving.{Serving}
@@ -15,7 +17,9 @@ use Rattle.jac_words.specs.Words.{command_of}
 use Rattle.jac_ending.specs.declared.ending.Ending.{Ending}
 use Rattle.jac_ending.specs.declared.status.Status.TheVariants as statuses
 use Rattle.jac_ending.specs.Ending.{status_of, Finishes}
+use Rattle.jac_ending.specs.Files.{standing_at}
 use Rattle.jac_desk.specs.Answered.{answering_of}
+use Rattle.jac_app.specs.Held.{held_of}
 use Rattle.jac_app.specs.Server.{IsServedAt, IsServer, EndsServer}
 use Rattle.jac_app.specs.Run.{Ends, Runs}
 use Rattle.jac_laws.specs.TwoRuns.{LookSame, NoneFailed}
@@ -28,10 +32,11 @@ use Rattle.jac_runs.proofs.DoorLinks.{links_agree}
 all_returned : {L : Type 0} (visits : List (Visit L)) (last : Option (Visit L)) → last ≡ None → visits ++ unreturned last ≡ visits
 all_returned visits last none = ap (λ o. visits ++ unreturned o) none ∙ append-nil visits
 
-module _ {L : Type 0} (serving : Serving) (top : TopRun L) (told : IsToldToEnd top) (out audit : List ℕ) (audit_took : Took top.seen.audit audit) where
-  door_served : (app : Application) (sessions : List Session) (held : HoldServing top.seen.files.before.file serving app sessions)
-      → IsServedAt top.line app sessions serving top.door top.seen.keeper (Ok tt) out audit → HasServed serving top
-  door_served app sessions held on =
+-- out stood so where the steps ended
+module _ {L : Type 0} (serving : Serving) (top : TopRun L) (standing : SinkSeen) (told : IsToldToEnd top) (out audit : List ℕ) (audit_took : Took top.seen.audit audit) where
+  door_served : (app : Application) (sessions : List Session) (files : HoldServing top.seen.files.before.file serving app sessions)
+      → IsServedAt top.line app sessions serving top.door (held_of top.seen top.splits) (Ok tt) out audit → HasServed serving top
+  door_served app sessions files on =
       let links = on.ends.ends.1 in
       let all : links.visits ++ unreturned links.last ≡ links.visits = all_returned links.visits links.last links.ended.0 in
       record {
@@ -41,7 +46,7 @@ module _ {L : Type 0} (serving : Serving) (top : TopRun L) (told : IsToldToEnd t
         visits = links.visits;
         log = links.log;
         audit = audit;
-        held = held;
+        held = files;
         door_served = record {
           opened = on.opened;
           attached = on.attached;
@@ -49,13 +54,16 @@ module _ {L : Type 0} (serving : Serving) (top : TopRun L) (told : IsToldToEnd t
           came = λ tells. subst (λ (vs : List (Visit L)). top.door.before.coming ≡ map (λ (v : Visit L). v.came) vs ++ top.door.after.coming) all (links.came tells);
           returned = links.returned;
           visited =
-              subst (λ (vs : List (Visit L)). AreVisited top.line (answering_of app sessions) 1 0 on.opened vs links.log audit top.seen.keeper.after) all links.visited;
+              subst
+              (λ (vs : List (Visit L)). AreVisited top.line (answering_of serving.lazy app sessions) 1 0
+              (holding_of on.opened top.splits.before) vs links.log audit (holding_of top.seen.keeper.after top.splits.after))
+              all links.visited;
           audit_is = links.audit_text;
           audit_took = audit_took;
         };
       }
 
-  server_served : IsServer top.line top.seen top.door serving (Ok tt) out audit → HasServed serving top
+  server_served : IsServer top.line (standing_at top.seen standing) top.door top.splits serving (Ok tt) out audit → HasServed serving top
   server_served s =
       door_served s.app s.sessions
       (record {
@@ -66,20 +74,23 @@ module _ {L : Type 0} (serving : Serving) (top : TopRun L) (told : IsToldToEnd t
       })
       s.ends.1
 
-  ends_served : EndsServer top.line top.seen top.door serving (Ok tt) out audit → HasServed serving top
+  ends_served : EndsServer top.line (standing_at top.seen standing) top.door top.splits serving (Ok tt) out audit → HasServed serving top
   ends_served (inl early) = absurd early.0
   ends_served (inr s) = server_served s
 
 module _ {L : Type 0} (words : List (List ℕ)) (serving : Serving) (top : TopRun L) (is_serve : command_of words ≡ Some (commands.Serve serving)) (told : IsToldToEnd top) (out audit : List ℕ) (audit_took : Took top.seen.audit audit) where
-  served_so : (command : Command) (ended : Result (Unit {0}) Ending) (served last : List ℕ) → command ≡ commands.Serve serving
-      → Ends top.line top.seen top.door command ended served audit → Finishes top.seen.out command ended last top.status → HasServed serving top
-  served_so command (Ok tt) served last same ends finishes =
-      ends_served serving top told served audit audit_took (subst (λ (c : Command). Ends top.line top.seen top.door c (Ok tt) served audit) same ends)
-  served_so command (Err ending) served last same ends finishes =
-      absurd (closes_not_done top.seen.out _ last (status_of ending) top.status (not_done ending) finishes told.done)
+  served_so : (command : Command) (ended : Result (Unit {0}) Ending) (standing : SinkSeen) (served last : List ℕ)
+      → command ≡ commands.Serve serving
+      → Ends top.line (standing_at top.seen standing) top.door top.splits command ended served audit
+      → Finishes (span standing top.seen.out.after) command ended last top.status → HasServed serving top
+  served_so command (Ok tt) standing served last same ends finishes =
+      ends_served serving top standing told served audit audit_took
+      (subst (λ (c : Command). Ends top.line (standing_at top.seen standing) top.door top.splits c (Ok tt) served audit) same ends)
+  served_so command (Err ending) standing served last same ends finishes =
+      absurd (closes_not_done (span standing top.seen.out.after) _ last (status_of ending) top.status (not_done ending) finishes told.done)
 
-  served_ran : Runs top.line top.seen top.door words top.status out audit → HasServed serving top
-  served_ran (inl r) = served_so r.command r.ended r.served r.last (same_command r.command (commands.Serve serving) (sym r.is_command ∙ is_serve)) r.ends r.finishes
+  served_ran : Runs top.line top.seen top.door top.splits words top.status out audit → HasServed serving top
+  served_ran (inl r) = served_so r.command r.ended r.standing r.served r.last (same_command r.command (commands.Serve serving) (sym r.is_command ∙ is_serve)) r.ends r.finishes
   served_ran (inr (inl r)) = absurd (closes_not_done top.seen.out _ out statuses.Usage top.status no_usage r.closes told.done)
   served_ran (inr (inr r)) = absurd (closes_not_done top.seen.out _ out statuses.Memory top.status no_memory r.closes told.done)
 
@@ -114,9 +125,19 @@ serves_agree serving one two first second told told' files taken none none' =
     let sessions = same_sessions file other serving first.app second.app first.sessions second.sessions files first.held second.held in
     let s = first.door_served in
     let u = second.door_served in
-    let visited = subst (λ (a : Application). AreVisited two.line (answering_of a second.sessions) 1 0 u.opened second.visits second.log second.audit two.seen.keeper.after) (sym app) u.visited in
-    let there = subst (λ (z : List Session). AreVisited two.line (answering_of first.app z) 1 0 u.opened second.visits second.log second.audit two.seen.keeper.after) (sym sessions) visited in
+    let opened : Holding = holding_of s.opened one.splits.before in
+    let opened' : Holding = holding_of u.opened two.splits.before in
+    let left : Holding = holding_of one.seen.keeper.after one.splits.after in
+    let left' : Holding = holding_of two.seen.keeper.after two.splits.after in
+    let visited =
+    subst
+    (λ (a : Application). AreVisited two.line (answering_of serving.lazy a second.sessions) 1 0 opened' second.visits second.log second.audit left')
+    (sym app) u.visited in
+    let there =
+    subst
+    (λ (z : List Session). AreVisited two.line (answering_of serving.lazy first.app z) 1 0 opened' second.visits second.log second.audit left')
+    (sym sessions) visited in
     let still : (w : ℕ → Bool) → LookSame w first.start second.start → LookSame w s.opened.state u.opened.state =
     λ w look. sym (ap (λ (x : State). project_at w x) s.starts) ∙ look ∙ ap (λ (x : State). project_at w x) u.starts in
-    links_agree one.line two.line first.app first.sessions first.start second.start 1 0 0 s.opened u.opened one.seen.keeper.after two.seen.keeper.after
+    links_agree one.line two.line serving.lazy first.app first.sessions first.start second.start 1 0 0 opened opened' left left'
     first.visits second.visits first.log second.log first.audit second.audit s.visited there told.keeper told'.keeper taken none none' still

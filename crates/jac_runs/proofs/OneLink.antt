@@ -4,7 +4,6 @@ use Rattle.std.specs.List.{concat}
 use Rattle.jac_lang.specs.Syntax.{Application}
 use Rattle.jac_rows.specs.declared.plain.PlainState.{PlainState}
 use Rattle.jac_rows.specs.Project.{project_at}
-use Rattle.jac_keep.specs.KeeperSeen.{KeeperSeen}
 use Rattle.jac_plain.specs.Requests.{Worlds}
 use Rattle.jac_engine.specs.Prepared.{worlds_of}
 use Rattle.jac_events.specs.declared.event.Event.TheVariants.{Begin, Finish}
@@ -16,6 +15,7 @@ use Rattle.jac_hub.proofs.Cutting.{pieces-joined}
 use Rattle.jac_route.specs.declared.sessions.Session.{Session}
 use Rattle.jac_replies.specs.declared.answer.Answer.{Answer}
 use Rattle.jac_serving.specs.Answering.{Subject, Entry, is_failure}
+use Rattle.jac_serving.specs.Keeping.{Holding}
 use Rattle.jac_serving.specs.Outside.{span}
 use Rattle.jac_serving.specs.Serve.{IsServed as IsServedBy}
 use Rattle.jac_links.specs.Link.{pieces_of, events_of}
@@ -66,15 +66,16 @@ behind_moved : (app : Application) (one two : Entry) (ws : Worlds) → IsMoved o
     → ◌≡◌ {A = Worlds} (λ w. after_entry w app one (ws w)) (λ w. after_entry w app two (ws w))
 behind_moved app one two ws m i w = left_of w app (m.subject i) (m.answer i) (ws w)
 
-answered_moved : (app : Application) (ws : Worlds) (log others : List Entry) → AreMoved log others → AreAnswered app ws others → AreAnswered app ws log
-answered_moved app ws [] [] m h = tt
-answered_moved app ws [] (two ∷ others) m h = absurd m
-answered_moved app ws (one ∷ log) [] m h = absurd m
-answered_moved app ws (one ∷ log) (two ∷ others) m h =
-    let answer = subst (λ (a : Answer). IsAnswer app ws two.subject a) (sym m.0.answer) h.0 in
-    let rest = subst (λ (u : Worlds). AreAnswered app u others) (sym (behind_moved app one two ws m.0)) h.1 in (
-      subst (λ (s : Subject). IsAnswer app ws s one.answer) (sym m.0.subject) answer,
-      answered_moved app (λ w. after_entry w app one (ws w)) log others m.1 rest,
+answered_moved : (lazy : Bool) (app : Application) (ws : Worlds) (log others : List Entry) → AreMoved log others
+    → AreAnswered lazy app ws others → AreAnswered lazy app ws log
+answered_moved lazy app ws [] [] m h = tt
+answered_moved lazy app ws [] (two ∷ others) m h = absurd m
+answered_moved lazy app ws (one ∷ log) [] m h = absurd m
+answered_moved lazy app ws (one ∷ log) (two ∷ others) m h =
+    let answer = subst (λ (a : Answer). IsAnswer lazy app ws two.subject a) (sym m.0.answer) h.0 in
+    let rest = subst (λ (u : Worlds). AreAnswered lazy app u others) (sym (behind_moved app one two ws m.0)) h.1 in (
+      subst (λ (s : Subject). IsAnswer lazy app ws s one.answer) (sym m.0.subject) answer,
+      answered_moved lazy app (λ w. after_entry w app one (ws w)) log others m.1 rest,
     )
 
 left_moved : (w : ℕ → Bool) (app : Application) (log others : List Entry) (t : PlainState) → AreMoved log others → after_log w app log t ≡ after_log w app others t
@@ -93,7 +94,7 @@ none_moved (one ∷ log) (two ∷ others) m none = (ap is_failure m.0.answer ∙
 
 -- ---- any cutting
 
-module _ (app : Application) (sessions : List Session) (c : ℕ) where
+module _ (lazy : Bool) (app : Application) (sessions : List Session) (c : ℕ) where
   joined : (piece : List ℕ) (pieces : List (List ℕ)) (log : List Entry) → IsHeard (hearing app sessions) (events_of c (piece ∷ pieces)) log
       → IsHeardAlike (hearing app sessions) no_connections 0 (events_of c ((piece ++ concat pieces) ∷ [])) log
   joined piece [] log heard =
@@ -116,13 +117,16 @@ module _ (app : Application) (sessions : List Session) (c : ℕ) where
       subst (λ (b : List ℕ). IsHeardAlike (hearing app sessions) no_connections 0 (events_of c (b ∷ [])) log) is (joined piece pieces log heard)
 
   -- a link was served: its log, as if its input had come in one piece
-  pub record IsLinkRun (bytes : List ℕ) (before after : KeeperSeen) (log : List Entry) : Type 0 where
+  pub record IsLinkRun (bytes : List ℕ) (before after : Holding) (log : List Entry) : Type 0 where
     pub other : List Entry
     pub moved : AreMoved other log
-    pub served : IsServed app sessions (events_of c (bytes ∷ [])) (record { early = false; start = before.state; log = other; finish = after.state })
+    pub served :
+        IsServed app sessions (events_of c (bytes ∷ []))
+        (record { lazy = lazy; early = false; start = before.keeper.state; log = other; finish = after.keeper.state })
 
-  pub link_run : (pieces : List (List ℕ)) (bytes : List ℕ) (before after : KeeperSeen) (log : List Entry) → concat pieces ≡ bytes → (bytes ≡ [] → ⊥)
-      → IsServedBy false (answering_of app sessions) (span before after) (events_of c pieces) log → IsTrue after.tells → IsLinkRun bytes before after log
+  pub link_run : (pieces : List (List ℕ)) (bytes : List ℕ) (before after : Holding) (log : List Entry) → concat pieces ≡ bytes → (bytes ≡ [] → ⊥)
+      → IsServedBy false (answering_of lazy app sessions) (span before after) (events_of c pieces) log
+      → IsTrue after.keeper.tells → IsLinkRun bytes before after log
   link_run pieces bytes before after log is some served told =
       let alike = joined_some pieces bytes log is some served.subjects in
       let moved = moved_by alike.other log alike.alike in
@@ -131,8 +135,8 @@ module _ (app : Application) (sessions : List Session) (c : ℕ) where
         moved = moved;
         served = record {
           subjects = alike.heard;
-          answered = answered_moved app (worlds_of before.state) alike.other log moved (served.entries.answered told);
-          worlds = λ w. served.entries.worlds told w ∙ sym (left_moved w app alike.other log (project_at w before.state) moved);
+          answered = answered_moved lazy app (worlds_of before.keeper.state) alike.other log moved (served.entries.answered told);
+          worlds = λ w. served.entries.worlds told w ∙ sym (left_moved w app alike.other log (project_at w before.keeper.state) moved);
           goes_on = served.entries.goes_on told;
           good = served.entries.good told;
         };

@@ -1,14 +1,18 @@
 -- The events and the log leave one text.
-use Rattle.std.proofs.Common.{◌≡◌, ◌∙◌, sym, subst, refl, inl, inr, arith, ℕ, ◌+◌, ◌≤◌, Option, Some, None, List, [], ◌∷◌, ◌++◌}
+use Rattle.std.proofs.Common.{◌≡◌, ◌∙◌, ap, sym, subst, refl, inl, inr, arith, ℕ, ◌+◌, ◌≤◌, Option, Some, None, List, [], ◌∷◌, ◌++◌, map}
+use Rattle.std.proofs.lemmas.List.{map-append}
 use Rattle.std.specs.Bool.{⊤}
 use Rattle.jac_events.specs.declared.event.Event.{Event}
 use Rattle.jac_events.specs.declared.event.Event.TheVariants.{Ask as Asking, Begin, Piece, Finish}
-use Rattle.jac_hub.specs.Hearing.{Hearing}
-use Rattle.jac_hub.specs.Heard.{Connection, Connections, with_bytes, with_entry, AreBrought, PieceBrings, IsBroughtBy, after_both}
+use Rattle.jac_hub.specs.Hearing.{Source, asked, connection, Hearing}
+use Rattle.jac_hub.specs.Heard.{Connection, Connections, with_bytes, with_entry, after_entry, after_entries, after_event, AreBrought, PieceBrings, IsBroughtBy, after_both}
 use Rattle.jac_replies.specs.declared.answer.Answer.{Answer}
 use Rattle.jac_replies.specs.declared.answer.Ask.{Ask}
+use Rattle.jac_replies.specs.declared.reply.Spelling.TheVariants as spellings
 use Rattle.jac_serving.specs.Answering.{Entry, Answering, hearing}
-use Rattle.jac_serving.specs.Log.{Brings, event_text}
+use Rattle.jac_serving.specs.Log.{Brings, event_text, replies_text, closing_text}
+use Rattle.jac_laws.specs.TwoRuns.{seen_answer, seen_entry}
+use Rattle.jac_laws.proofs.SameAnswers.{seen_put}
 
 -- each entry is of the n-th event
 abbrev pub AllAt : ℕ → List Entry → Type 0
@@ -84,3 +88,69 @@ one_text x known n (event ∷ events) log text text' later later' (mine, others,
     let there = subst (λ (o : List Entry). Brings x (after_both (hearing x) event mine known) (n + 1) events o rest' later') (sym same.1) here in
     let behind = one_text x (after_both (hearing x) event mine known) (n + 1) events others rest rest' later later' more there in
     is ∙ (λ i. event_text x event known (same.0 i) ++ behind i) ∙ sym is'
+
+-- ---- the text doesn't tell what was consulted
+
+after_seen : (x : Answering) (source : Source) (entry : Entry) (known : Connections Ask)
+    → after_entry (hearing x) source (seen_entry entry) known ≡ after_entry (hearing x) source entry known
+after_seen x asked entry known = refl
+after_seen x (connection c) entry known = refl
+
+entries_seen : (x : Answering) (log : List Entry) (known : Connections Ask)
+    → after_entries (hearing x) (map seen_entry log) known ≡ after_entries (hearing x) log known
+entries_seen x [] known = refl
+entries_seen x (entry ∷ log) known =
+    entries_seen x log (after_entry (hearing x) entry.source (seen_entry entry) known)
+    ∙ ap (λ (all : Connections Ask). after_entries (hearing x) log all) (after_seen x entry.source entry known)
+
+replies_seen : (log : List Entry) → replies_text (map seen_entry log) ≡ replies_text log
+replies_seen [] = refl
+replies_seen (entry ∷ log) = λ i. seen_put spellings.Quoted entry.source entry.subject entry.answer i ++ replies_seen log i
+
+brought_seen : (x : Answering) (n c : ℕ) (known : Connection Ask) (mine : List Entry) → AreBrought (hearing x) n c known mine
+    → AreBrought (hearing x) n c known (map seen_entry mine)
+brought_seen x n c known [] brought = brought
+brought_seen x n c known (entry ∷ mine) brought =
+    let next = brought.0 in (
+      record { place = next.place; source = next.source; open_still = next.open_still; subject = next.subject },
+      brought_seen x n c (with_entry (hearing x) entry known) mine brought.1,
+    )
+
+none_seen : (mine : List Entry) → mine ≡ [] → map seen_entry mine ≡ []
+none_seen mine none = ap (λ (l : List Entry). map seen_entry l) none
+
+piece_seen : (x : Answering) (n c : ℕ) (bytes : List ℕ) (known : Option (Connection Ask)) (mine : List Entry)
+    → PieceBrings (hearing x) n c bytes known mine → PieceBrings (hearing x) n c bytes known (map seen_entry mine)
+piece_seen x n c bytes None mine none = none_seen mine none
+piece_seen x n c bytes (Some known) mine (inl (shut, none)) = inl (shut, none_seen mine none)
+piece_seen x n c bytes (Some known) mine (inr (still, brought)) = inr (still, brought_seen x n c (with_bytes bytes known) mine brought)
+
+event_seen : (x : Answering) (n : ℕ) (event : Event) (known : Connections Ask) (mine : List Entry)
+    → IsBroughtBy (hearing x) n event known mine → IsBroughtBy (hearing x) n event known (map seen_entry mine)
+event_seen x n (Asking viewer method path query body) known mine (answer, is) =
+    (seen_answer answer, ap (λ (l : List Entry). map seen_entry l) is)
+event_seen x n (Begin c) known mine none = none_seen mine none
+event_seen x n (Piece c bytes) known mine brought = piece_seen x n c bytes (known c) mine brought
+event_seen x n (Finish c) known mine none = none_seen mine none
+
+text_seen : (x : Answering) (event : Event) (known : Connections Ask) (mine : List Entry)
+    → event_text x event known mine ≡ event_text x event known (map seen_entry mine)
+text_seen x event known mine =
+    λ i. sym (replies_seen mine) i ++ closing_text event known (sym (entries_seen x mine (after_event event known)) i)
+
+-- the same text is that of what is seen of the log
+pub brings_seen : (x : Answering) (known : Connections Ask) (n : ℕ) (events : List Event) (log : List Entry) (text : List ℕ) (later : Connections Ask)
+    → Brings x known n events log text later → Brings x known n events (map seen_entry log) text later
+brings_seen x known n [] log text later (none, is, stays) = (none_seen log none, is, stays)
+brings_seen x known n (event ∷ events) log text later (mine, others, rest, parts, is, brought, more) =
+    let behind = brings_seen x (after_both (hearing x) event mine known) (n + 1) events others rest later more in
+    let stands = subst (λ (all : Connections Ask). Brings x all (n + 1) events (map seen_entry others) rest later)
+    (sym (entries_seen x mine (after_event event known))) behind in (
+      map seen_entry mine,
+      map seen_entry others,
+      rest,
+      ap (λ (l : List Entry). map seen_entry l) parts ∙ map-append seen_entry mine others,
+      is ∙ ap (λ (t : List ℕ). t ++ rest) (text_seen x event known mine),
+      event_seen x n event known mine brought,
+      stands,
+    )

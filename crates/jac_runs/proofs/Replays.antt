@@ -2,11 +2,11 @@
 use Rattle.std.proofs.Common.{◌≡◌, ◌∙◌, ap, sym, subst, refl, inl, inr, ℕ, Bool, false, IsTrue, Result, Ok, Err, Option, Some, None, List, ◌++◌, append-nil}
 use Rattle.jac_io.specs.Seen.{FilesSeen, SinkSeen}
 use Rattle.jac_lang.specs.Syntax.{Application}
-use Rattle.jac_keep.specs.KeeperSeen.{KeeperSeen}
 use Rattle.jac_events.specs.declared.event.Event.{Event}
 use Rattle.jac_hub.specs.Heard.{no_connections}
 use Rattle.jac_route.specs.declared.sessions.Session.{Session}
 use Rattle.jac_serving.specs.Answering.{Entry}
+use Rattle.jac_serving.specs.Keeping.{Holding, holding_of}
 use Rattle.jac_serving.specs.Log.{Brings}
 use Rattle.jac_serving.specs.Outside.{Span, span, Took}
 use Rattle.jac_serving.specs.Script.{script_of}
@@ -21,16 +21,18 @@ use Rattle.jac_ending.specs.declared.status.Status.{Status}
 use Rattle.jac_ending.specs.declared.status.Status.TheVariants as statuses
 use Rattle.jac_desk.specs.Answered.{answering_of}
 use Rattle.jac_ending.specs.Ending.{status_of, Closes, Finishes}
-use Rattle.jac_ending.specs.Files.{HasSessions, IsOpened}
+use Rattle.jac_ending.specs.Files.{standing_at, HasSessions, IsOpened}
 use Rattle.jac_desk.specs.Log.{Serves}
+use Rattle.jac_app.specs.Held.{held_of}
 use Rattle.jac_app.specs.Replay.{IsServedOn, IsServing, EndsReplay}
 use Rattle.jac_app.specs.Run.{Ends, Runs}
 use Rattle.jac_runs.specs.Replayed.{TopRun, IsTopRun, IsToldToEnd, HoldSessions, HasReplayed}
 
 -- what the top call promises of the events that an application was served
-pub serves : (early : Bool) (app : Application) (sessions : List Session) (k : Span KeeperSeen) (events : List Event) (log : List Entry)
-    → IsServedBy early (answering_of app sessions) k events log → IsTrue k.after.tells → Serves early app sessions k.before.state events log k.after.state
-serves early app sessions k events log served told = record {
+pub serves : (lazy early : Bool) (app : Application) (sessions : List Session) (k : Span Holding) (events : List Event) (log : List Entry)
+    → IsServedBy early (answering_of lazy app sessions) k events log → IsTrue k.after.keeper.tells
+    → Serves lazy early app sessions k.before.keeper.state events log k.after.keeper.state
+serves lazy early app sessions k events log served told = record {
   subjects = served.subjects;
   answered = served.entries.answered told;
   worlds = served.entries.worlds told;
@@ -80,20 +82,23 @@ sessions_held files (Some name) sessions told (bytes, read, listed) = (bytes, re
 
 -- ---- the events were served
 
-module _ {L : Type 0} (replay : Replay) (top : TopRun L) (told : IsToldToEnd top) (out audit : List ℕ) (out_took : Took top.seen.out out) (audit_took : Took top.seen.audit audit) where
-  replayed_on : (app : Application) (sessions : List Session) (bytes : List ℕ) → IsOpened top.seen (commands.Replay replay) app sessions bytes
-      → IsServedOn replay.db app sessions top.seen.keeper (script_of bytes) (Ok tt) out audit → HasReplayed replay top
+-- out stood so where the steps ended
+module _ {L : Type 0} (replay : Replay) (top : TopRun L) (standing : SinkSeen) (told : IsToldToEnd top) (out audit : List ℕ) (out_took : Took top.seen.out out) (audit_took : Took top.seen.audit audit) where
+  replayed_on : (app : Application) (sessions : List Session) (bytes : List ℕ) → IsOpened (standing_at top.seen standing) (commands.Replay replay) app sessions bytes
+      → IsServedOn (commands.Replay replay) app sessions (held_of top.seen top.splits) (script_of bytes) (Ok tt) out audit
+      → HasReplayed replay top
   replayed_on app sessions bytes opened on =
       let lines = on.ends.1 in
       let all : (script_of bytes).events ≡ lines.events =
       lines.parts ∙ ap (λ (l : List Event). lines.events ++ l) (lines.ended refl) ∙ append-nil lines.events in
-      let brings : Brings (answering_of app sessions) no_connections 0 (script_of bytes).events lines.log out lines.later =
-      subst (λ (l : List Event). Brings (answering_of app sessions) no_connections 0 l lines.log out lines.later) (sym all) lines.out_text in
+      let brings : Brings (answering_of replay.lazy app sessions) no_connections 0 (script_of bytes).events lines.log out lines.later =
+      subst (λ (l : List Event). Brings (answering_of replay.lazy app sessions) no_connections 0 l lines.log out lines.later)
+      (sym all) lines.out_text in
       record {
         app = app;
         sessions = sessions;
         events = (script_of bytes).events;
-        run = record { early = false; start = on.opened.state; log = lines.log; finish = top.seen.keeper.after.state };
+        run = record { lazy = replay.lazy; early = false; start = on.opened.state; log = lines.log; finish = top.seen.keeper.after.state };
         out = out;
         audit = audit;
         held = record {
@@ -112,8 +117,12 @@ module _ {L : Type 0} (replay : Replay) (top : TopRun L) (told : IsToldToEnd top
           told = lines.served.entries.told told.keeper;
           start = refl;
           finish = refl;
+          lazy = refl;
           whole = refl;
-          served = serves false app sessions (span on.opened top.seen.keeper.after) (script_of bytes).events lines.log lines.served told.keeper;
+          served =
+              serves replay.lazy false app sessions
+              (span (holding_of on.opened top.splits.before) (holding_of top.seen.keeper.after top.splits.after))
+              (script_of bytes).events lines.log lines.served told.keeper;
           brought = (lines.later, brings);
           audit_is = lines.audit_text;
           out_took = out_took;
@@ -121,27 +130,29 @@ module _ {L : Type 0} (replay : Replay) (top : TopRun L) (told : IsToldToEnd top
         };
       }
 
-  replayed_by : IsServing top.seen (commands.Replay replay) (Ok tt) out audit → HasReplayed replay top
+  replayed_by : IsServing (standing_at top.seen standing) top.splits (commands.Replay replay) (Ok tt) out audit → HasReplayed replay top
   replayed_by serving = replayed_on serving.app serving.sessions serving.events serving.opened serving.ends.1
 
-  replayed_ends : EndsReplay top.seen (commands.Replay replay) (Ok tt) out audit → HasReplayed replay top
-  replayed_ends (inl early) = absurd early
+  replayed_ends : EndsReplay (standing_at top.seen standing) top.splits (commands.Replay replay) (Ok tt) out audit → HasReplayed replay top
+  replayed_ends (inl early) = absurd early.0
   replayed_ends (inr serving) = replayed_by serving
 
 module _ {L : Type 0} (words : List (List ℕ)) (replay : Replay) (top : TopRun L) (is_replay : command_of words ≡ Some (commands.Replay replay)) (told : IsToldToEnd top) (out audit : List ℕ) (out_took : Took top.seen.out out) (audit_took : Took top.seen.audit audit) where
-  replayed_so : (command : Command) (ended : Result (Unit {0}) Ending) (served last : List ℕ) → command ≡ commands.Replay replay
-      → Ends top.line top.seen top.door command ended served audit → Finishes top.seen.out command ended last top.status
+  replayed_so : (command : Command) (ended : Result (Unit {0}) Ending) (standing : SinkSeen) (served last : List ℕ)
+      → command ≡ commands.Replay replay
+      → Ends top.line (standing_at top.seen standing) top.door top.splits command ended served audit
+      → Finishes (span standing top.seen.out.after) command ended last top.status
       → out ≡ served ++ last → HasReplayed replay top
-  replayed_so command (Ok tt) served last same ends finishes text =
+  replayed_so command (Ok tt) standing served last same ends finishes text =
       let all : out ≡ served = text ∙ ap (λ (l : List ℕ). served ++ l) finishes.0 ∙ append-nil served in
-      let here = subst (λ (c : Command). Ends top.line top.seen top.door c (Ok tt) served audit) same ends in
-      replayed_ends replay top told served audit (subst (λ (l : List ℕ). Took top.seen.out l) all out_took) audit_took here.0
-  replayed_so command (Err ending) served last same ends finishes text =
-      absurd (closes_not_done top.seen.out _ last (status_of ending) top.status (not_done ending) finishes told.done)
+      let here = subst (λ (c : Command). Ends top.line (standing_at top.seen standing) top.door top.splits c (Ok tt) served audit) same ends in
+      replayed_ends replay top standing told served audit (subst (λ (l : List ℕ). Took top.seen.out l) all out_took) audit_took here.0
+  replayed_so command (Err ending) standing served last same ends finishes text =
+      absurd (closes_not_done (span standing top.seen.out.after) _ last (status_of ending) top.status (not_done ending) finishes told.done)
 
-  replayed_ran : Runs top.line top.seen top.door words top.status out audit → HasReplayed replay top
+  replayed_ran : Runs top.line top.seen top.door top.splits words top.status out audit → HasReplayed replay top
   replayed_ran (inl r) =
-      replayed_so r.command r.ended r.served r.last (same_command r.command (commands.Replay replay) (sym r.is_command ∙ is_replay)) r.ends r.finishes r.out_text
+      replayed_so r.command r.ended r.standing r.served r.last (same_command r.command (commands.Replay replay) (sym r.is_command ∙ is_replay)) r.ends r.finishes r.out_text
   replayed_ran (inr (inl r)) = absurd (closes_not_done top.seen.out _ out statuses.Usage top.status no_usage r.closes told.done)
   replayed_ran (inr (inr r)) = absurd (closes_not_done top.seen.out _ out statuses.Memory top.status no_memory r.closes told.done)
 

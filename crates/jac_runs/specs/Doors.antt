@@ -11,12 +11,13 @@ use Rattle.jac_opening.specs.Application.{IsApplication}
 use Rattle.jac_route.specs.declared.sessions.Session.{Session}
 use Rattle.jac_links.specs.Door.{Visit, AreVisited}
 use Rattle.jac_serving.specs.Answering.{Entry}
+use Rattle.jac_serving.specs.Keeping.{holding_of}
 use Rattle.jac_serving.specs.Log.{audited}
 use Rattle.jac_serving.specs.Outside.{Took}
 use Rattle.jac_words.specs.declared.words.Serving.{Serving}
 use Rattle.jac_ending.specs.Attached.{IsAttached}
 use Rattle.jac_desk.specs.Answered.{answering_of}
-use Rattle.jac_laws.specs.TwoRuns.{LookSame}
+use Rattle.jac_laws.specs.TwoRuns.{LookSame, seen_answer}
 use Rattle.jac_runs.specs.Replayed.{TopRun, HoldSessions}
 
 -- the files of a serve hold this application and these sessions
@@ -28,7 +29,8 @@ pub record HoldServing (file : List ℕ → Option (List ℕ)) (serving : Servin
   pub sessions_held : HoldSessions file serving.sessions sessions
 
 -- the links that a door gave were served one after another, from what the store had once it was
--- attached; the log is that of all of them, whose audit lines were put
+-- attached, where a GET's page resolves only what it consults if the words say so; the log is that
+-- of all of them, whose audit lines were put
 pub record IsDoorServed {L : Type 0} (serving : Serving) (top : TopRun L) (app : Application)
     (sessions : List Session) (start : State) (visits : List (Visit L)) (log : List Entry)
     (audit : List ℕ) : Type 0 where
@@ -42,8 +44,9 @@ pub record IsDoorServed {L : Type 0} (serving : Serving) (top : TopRun L) (app :
       IsTrue top.door.after.tells
       → top.door.after.returned ≡ top.door.before.returned ++ map (λ visit. visit.gone) visits
   pub visited :
-      AreVisited top.line (answering_of app sessions) 1 0 opened visits log audit
-      top.seen.keeper.after
+      AreVisited top.line (answering_of serving.lazy app sessions) 1 0
+      (holding_of opened top.splits.before) visits log audit
+      (holding_of top.seen.keeper.after top.splits.after)
   pub audit_is : audit ≡ audited log
   pub audit_took : Took top.seen.audit audit
 
@@ -78,15 +81,18 @@ AreTakenAlike line other (one ∷ visits) (two ∷ more) =
     × ((line one.came).left ≡ (other two.came).left)
     × AreTakenAlike line other visits more
 
--- the same was asked; replies without a page are the same, and so are those whose pages were made
--- under the same labels, where these show the same of both starts
+-- the same was asked; what is seen of replies without a page is the same, and so it is of those
+-- whose pages were made under the same labels, where these show the same of both starts
 pub record IsLikeWhereShown (start other : State) (one two : Entry) : Type 0 where
   pub source : one.source ≡ two.source
   pub subject : one.subject ≡ two.subject
-  pub refusal : one.answer.shown ≡ None → two.answer.shown ≡ None → one.answer ≡ two.answer
+  pub refusal :
+      one.answer.shown ≡ None → two.answer.shown ≡ None
+      → seen_answer one.answer ≡ seen_answer two.answer
   pub page :
       (labels : List ℕ) → LookSame (shown labels) start other
-      → one.answer.shown ≡ Some labels → two.answer.shown ≡ Some labels → one.answer ≡ two.answer
+      → one.answer.shown ≡ Some labels → two.answer.shown ≡ Some labels
+      → seen_answer one.answer ≡ seen_answer two.answer
 
 -- entry by entry, of as many
 abbrev pub AreLikeWhereShown : State → State → List Entry → List Entry → Type 0

@@ -26,16 +26,17 @@ use Rattle.jac_app.specs.Run.{IsRun}
 use Rattle.jac_laws.specs.TwoRuns.{OneRun, IsServed}
 
 -- a call of the program's top function: how it sees a link, what it sees of the outside, its door,
--- and its status
+-- how many facets were split, and its status
 pub record TopRun (L : Type 0) : Type 0 where
   pub line : L → LinkSeen
   pub seen : Sight
   pub door : Span (DoorSeen L)
+  pub splits : Span ℕ
   pub status : Status
 
 -- it ran with these words
 abbrev pub IsTopRun : {L : Type 0} → List (List ℕ) → TopRun L → Type 0
-IsTopRun words top = IsRun top.line top.seen top.door words top.status
+IsTopRun words top = IsRun top.line top.seen top.door top.splits words top.status
 
 -- it ended with status 0, and its files and its store tell to the end
 pub record IsToldToEnd {L : Type 0} (top : TopRun L) : Type 0 where
@@ -61,8 +62,9 @@ pub record HoldReplay (file : List ℕ → Option (List ℕ)) (replay : Replay) 
   pub events_are : (script_of event_bytes).events ≡ events
   pub no_lapse : (script_of event_bytes).refused ≡ None
 
--- the events were answered from what the store had once it was attached; what was put is the text
--- of the log, and its audit lines
+-- the events were answered from what the store had once it was attached, where a GET's page
+-- resolves only what it consults if the words say so; what was put is the text of the log, and its
+-- audit lines
 pub record IsReplayed {L : Type 0} (replay : Replay) (top : TopRun L) (app : Application)
     (sessions : List Session) (events : List Event) (run : OneRun) (out audit : List ℕ)
     : Type 0 where
@@ -71,11 +73,12 @@ pub record IsReplayed {L : Type 0} (replay : Replay) (top : TopRun L) (app : App
   pub told : IsTrue opened.tells
   pub start : run.start ≡ opened.state
   pub finish : run.finish ≡ top.seen.keeper.after.state
+  pub lazy : run.lazy ≡ replay.lazy
   pub whole : run.early ≡ false
   pub served : IsServed app sessions events run
   pub brought :
       (later : Connections Ask)
-      × Brings (answering_of app sessions) no_connections 0 events run.log out later
+      × Brings (answering_of replay.lazy app sessions) no_connections 0 events run.log out later
   pub audit_is : audit ≡ audited run.log
   pub out_took : Took top.seen.out out
   pub audit_took : Took top.seen.audit audit
@@ -130,9 +133,10 @@ pub record TellsPage (audit labels : List ℕ) : Type 0 where
   pub number : ℕ
   pub status : ℕ
   pub viewer : Option ℕ
+  pub consulted : Option (List ℕ)
   pub rest : List ℕ
   pub begins : BeginsLine front
-  pub is : audit ≡ front ++ (audit_text number status viewer (Some labels) ++ rest)
+  pub is : audit ≡ front ++ (audit_text number status viewer (Some labels) consulted ++ rest)
 
 abbrev pub AreSmall : Option (List ℕ) → Type 0
 AreSmall None = ⊤

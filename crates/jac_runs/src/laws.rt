@@ -15,7 +15,8 @@ ghost use Rattle.jac_runs.specs.Replayed.{TopRun, IsTopRun, IsToldToEnd, IsRepla
 
 /// A law: a replay that ended with status 0, and whose files and store tell to the end, read an
 /// application, sessions and events in its files, and answered these events from what its store had
-/// once it was attached. What it put are the text and the audit lines of that log.
+/// once it was attached; with `--lazy` a GET's page resolved only what it consults. What it put are
+/// the text and the audit lines of that log.
 pub fn replay_answers<L>()
     ensures { (words : List (List ℕ)) (replay : Replay) (top : TopRun L) →
         IsTopRun words top → command_of words ≡ Some (commands.Replay replay) → IsToldToEnd top →
@@ -42,8 +43,8 @@ pub fn audits_tell_failures()
 /// the same bytes, reply by reply, whatever else their stores hide.
 ///
 /// So who may read all that was put on the output of a program learns nothing of what her labels
-/// don't show, but for what the audit has. That labels have 128 bits at most is so of each that the
-/// program writes.
+/// don't show, but for what the audit has; with `--lazy` it has the labels that were consulted too.
+/// That labels have 128 bits at most is so of each that the program writes.
 pub fn bytes_agree<L, M>()
     ensures { (replay : Replay) (one : TopRun L) (two : TopRun M) (app : Application) →
         (sessions : List Session) (events : List Event) (first second : OneRun) →
@@ -56,7 +57,7 @@ pub fn bytes_agree<L, M>()
 
 /// A law: a serve that ended with status 0, and whose files and store tell to the end, read an
 /// application and sessions in its files, and answered link by link what came, from what its store
-/// had once it was attached.
+/// had once it was attached; with `--lazy` a GET's page resolved only what it consults.
 pub fn serve_answers<L>()
     ensures { (words : List (List ℕ)) (serving : Serving) (top : TopRun L) →
         IsTopRun words top → command_of words ≡ Some (commands.Serve serving) → IsToldToEnd top →

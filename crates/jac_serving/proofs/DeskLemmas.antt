@@ -1,7 +1,7 @@
 -- A desk behind one call and another.
 use Rattle.std.proofs.Common.{◌≡◌, ◌∙◌, sym, subst, refl, ℕ, IsTrue, Option, Result, List}
 use Rattle.jac_events.specs.declared.event.Event.{Event}
-use Rattle.jac_keep.specs.KeeperSeen.{KeeperSeen, Store}
+use Rattle.jac_keep.specs.KeeperSeen.{Store}
 use Rattle.jac_http.specs.Requests.{IsTaken}
 use Rattle.jac_hub.specs.declared.hub.HubOut.{HubOut}
 use Rattle.jac_hub.specs.Hub.{HubSeen, Nexts}
@@ -9,6 +9,7 @@ use Rattle.jac_replies.specs.declared.reply.Spelling.{Spelling}
 use Rattle.jac_serving.specs.Answering.{Answering}
 use Rattle.jac_serving.specs.Desk.{DeskSeen, MayServe, Keeps}
 use Rattle.jac_serving.specs.declared.serve.Stopped.{Stopped}
+use Rattle.jac_serving.specs.Keeping.{Holding}
 use Rattle.jac_serving.specs.Outside.{Span}
 use Rattle.jac_serving.specs.Serve.{handled, AnswersLine}
 
@@ -19,16 +20,16 @@ module _ {O : Type 0} (answering : O → Answering) where
   pub keeps-may : (a b : DeskSeen O) → MayServe answering a → Keeps answering a b → MayServe answering b
   keeps-may a b may keeps = record {
     attached = subst (λ (s : Store). IsTrue s.attached) (sym keeps.store) may.attached;
-    ready = subst (λ (o : O). (answering o).ready b.keeper) (sym keeps.same) keeps.ready;
-    settled = subst (λ (o : O). (answering o).settled b.keeper b.sittings) (sym keeps.same) keeps.settled;
+    ready = subst (λ (o : O). (answering o).ready b.holding) (sym keeps.same) keeps.ready;
+    settled = subst (λ (o : O). (answering o).settled b.holding.keeper b.sittings) (sym keeps.same) keeps.settled;
   }
 
   pub keeps-then : (a b c : DeskSeen O) → Keeps answering a b → Keeps answering b c → Keeps answering a c
   keeps-then a b c one two = record {
     same = two.same ∙ one.same;
     store = two.store ∙ one.store;
-    ready = subst (λ (o : O). (answering o).ready c.keeper) one.same two.ready;
-    settled = subst (λ (o : O). (answering o).settled c.keeper c.sittings) one.same two.settled;
+    ready = subst (λ (o : O). (answering o).ready c.holding) one.same two.ready;
+    settled = subst (λ (o : O). (answering o).settled c.holding.keeper c.sittings) one.same two.settled;
   }
 
   -- what holds of whom a desk is, of whom it was
@@ -39,12 +40,12 @@ module _ {O : Type 0} (answering : O → Answering) where
   pub of-keeps : (a b : DeskSeen O) (P : Answering → Type 0) → Keeps answering a b → P (answering a.of) → P (answering b.of)
   of-keeps a b P keeps h = subst (λ (o : O). P (answering o)) (sym keeps.same) h
 
-  pub next-of : (a b : DeskSeen O) (spelling : Spelling) (hub new : HubSeen) (result : Option HubOut) (before after : KeeperSeen) → Keeps answering a b
+  pub next-of : (a b : DeskSeen O) (spelling : Spelling) (hub new : HubSeen) (result : Option HubOut) (before after : Holding) → Keeps answering a b
       → Nexts IsTaken (handled spelling (answering b.of)) hub hub.turn result new before after → Nexts IsTaken (handled spelling (answering a.of)) hub hub.turn result new before after
   next-of a b spelling hub new result before after keeps h =
       keeps-of a b (λ (x : Answering). Nexts IsTaken (handled spelling x) hub hub.turn result new before after) keeps h
 
-  pub line-of : (a b : DeskSeen O) (hub new : HubSeen) (k : Span KeeperSeen) (served line : ℕ) (written : Option (Option Event)) (result : Result ℕ Stopped) (out audit : List ℕ) → Keeps answering a b
+  pub line-of : (a b : DeskSeen O) (hub new : HubSeen) (k : Span Holding) (served line : ℕ) (written : Option (Option Event)) (result : Result ℕ Stopped) (out audit : List ℕ) → Keeps answering a b
       → AnswersLine (answering b.of) hub new k served line written result out audit → AnswersLine (answering a.of) hub new k served line written result out audit
   line-of a b hub new k served line written result out audit keeps h =
       keeps-of a b (λ (x : Answering). AnswersLine x hub new k served line written result out audit) keeps h

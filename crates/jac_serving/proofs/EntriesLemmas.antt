@@ -1,6 +1,6 @@
 -- The lines of entries, one after another.
 use Rattle.std.proofs.Common.{◌≡◌, ◌∙◌, ap, sym, subst, refl, ℕ, ◌+◌, List, [], ◌∷◌, ◌++◌, length, append_assoc, arith}
-use Rattle.jac_keep.specs.KeeperSeen.{KeeperSeen}
+use Rattle.jac_serving.specs.Keeping.{Holding}
 use Rattle.jac_serving.specs.Answering.{Entry, Answering}
 use Rattle.jac_serving.specs.Log.{reply_line, audit_line, replies_text, audited_from}
 use Rattle.jac_serving.specs.Outside.{span}
@@ -17,5 +17,5 @@ audited-append k (x ∷ xs) ys =
     ∙ sym (append_assoc (audit_line k x) (audited_from (k + 1) xs) (audited_from (k + length (x ∷ xs)) ys))
 
 -- the keeper wasn't called
-pub entries-still : (x : Answering) (a b c : KeeperSeen) (log : List Entry) → x.entries (span a b) log → c ≡ b → x.entries (span a c) log
-entries-still x a b c log entries still = subst (λ (k : KeeperSeen). x.entries (span a k) log) (sym still) entries
+pub entries-still : (x : Answering) (a b c : Holding) (log : List Entry) → x.entries (span a b) log → c ≡ b → x.entries (span a c) log
+entries-still x a b c log entries still = subst (λ (k : Holding). x.entries (span a k) log) (sym still) entries

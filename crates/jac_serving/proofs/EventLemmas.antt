@@ -1,6 +1,6 @@
 -- An event, as a hub takes it and as its entries are put.
 use Rattle.std.proofs.Common.{◌≡◌, ◌∙◌, ap, sym, subst, refl, inl, inr, ℕ, zero, suc, ◌+◌, ◌-◌, ◌≤◌, ◌^◌, ◌&&◌, ◌⊎◌, not, Bool, true, false, IsTrue, is_some, Option, Some, None, Result, Ok, Err, List, [], ◌∷◌, ◌++◌, length, take, drop, append-nil, length-append, if◌then◌else◌, decimal, arith}
-use Rattle.jac_keep.specs.KeeperSeen.{KeeperSeen}
+use Rattle.jac_serving.specs.Keeping.{Holding}
 use Rattle.jac_replies.specs.Failed.{status_of_stop}
 use Rattle.jac_replies.specs.Refused.{refusal}
 use Rattle.jac_replies.specs.declared.answer.Answer.{Answer}
@@ -128,7 +128,7 @@ step_kept h line (Piece c bytes) known taken old new like steps kept = piece_kep
 step_kept h line (Finish c) known taken old new like steps kept = finish_kept h line c (old.channels c) (known c) taken old new (like c) steps kept
 
 -- why an event isn't taken
-pub stopped_answers : (x : Answering) (old new : HubSeen) (k : KeeperSeen) (served line : ℕ) (event : Event) (stopped : Stopped)
+pub stopped_answers : (x : Answering) (old new : HubSeen) (k : Holding) (served line : ℕ) (event : Event) (stopped : Stopped)
     → TakesEvent line old event (Err stopped) new → AnswersEvent x old new (span k k) served line event (Err stopped) [] []
 stopped_answers x old new k served line event (stops.Refused lapse) h =
     (λ known like. step_refused (hearing x) line event known h.0 lapse old new like h.1 h.2, refl, refl, refl)
@@ -248,7 +248,7 @@ last_same (a ∷ xs) (b ∷ ys) x y e =
     (λ i. heads i ∷ rest.0 i, rest.1)
 
 -- what was torn, by what the hub gave
-module _ (x : Answering) (lawful : IsAnswering x) (n served : ℕ) (event : Event) (known : Connections Ask) (a b : KeeperSeen) (mine : List Entry) (replies outs : List HubOut) (last : HubOut)
+module _ (x : Answering) (lawful : IsAnswering x) (n served : ℕ) (event : Event) (known : Connections Ask) (a b : Holding) (mine : List Entry) (replies outs : List HubOut) (last : HubOut)
     (out audit out_torn audit_torn : List ℕ) (start : x.ready a)
     (answered : AreAnswered (hearing x) (IsHandled spellings.Quoted x) (refusal 500 None) a mine replies b)
     (torn : IsOutTorn (served + replies_in outs + 1) last out_torn audit_torn)
@@ -283,7 +283,7 @@ module _ (x : Answering) (lawful : IsAnswering x) (n served : ℕ) (event : Even
 
 -- a put failed while an event was served
 pub event_torn : (x : Answering) (lawful : IsAnswering x) → IsReading IsTaken → (n served : ℕ) (event : Event) (known : Connections Ask) (taken : Result (Unit {0}) HubFault)
-    (old stepped : HubSeen) (a b : KeeperSeen) (out audit : List ℕ)
+    (old stepped : HubSeen) (a b : Holding) (out audit : List ℕ)
     → old.turn ≡ turns.Idle → AreLike (hearing x) old.channels known → Steps old event taken stepped → x.ready a
     → PutsSome x stepped (span a b) served out audit → IsEventTorn x (span a b) served n event known out audit
 event_torn x lawful law n served event known taken old stepped a b out audit idle like steps start p =
@@ -298,18 +298,18 @@ event_torn x lawful law n served event known taken old stepped a b out audit idl
     }
 
 -- the lines of what a desk made of a request
-pub asked_told : (x : Answering) (k : Span KeeperSeen) (ask : Ask) (made : Asked) → IsAsked x k ask made
+pub asked_told : (x : Answering) (k : Span Holding) (ask : Ask) (made : Asked) → IsAsked x k ask made
     → (answer : Answer) × x.entry k (whole ask false) answer × (asked_line ask.method made ≡ reply_to asked (whole ask false) answer)
-    × ((n : ℕ) → asked_audit n made ≡ audit_text n answer.status ask.viewer answer.shown)
+    × ((n : ℕ) → asked_audit n made ≡ audit_text n answer.status ask.viewer answer.shown answer.consulted)
 asked_told x k ask (Answered reply audit) (answer, entry, reply_is, audit_is) = (answer, entry, reply_is, λ n. ap (λ (t : List ℕ). decimal n ++ t) audit_is)
 asked_told x k ask (Unanswered stop viewer) (entry, viewer_is) =
-    (refusal (status_of_stop stop) None, entry, refl, λ n. ap (λ (v : Option ℕ). audit_text n (status_of_stop stop) v None) viewer_is)
+    (refusal (status_of_stop stop) None, entry, refl, λ n. ap (λ (v : Option ℕ). audit_text n (status_of_stop stop) v None None) viewer_is)
 
 abbrev pub ask_entry : ℕ → Ask → Answer → Entry
 ask_entry n ask answer = record { place = n; source = asked; subject = whole ask false; answer = answer }
 
 -- the request of an `ask` line was served
-pub ask_served : (x : Answering) (lawful : IsAnswering x) (hub : HubSeen) (a b : KeeperSeen) (served n : ℕ) (viewer : Option ℕ) (method path query body out audit : List ℕ) (known : Connections Ask) (made : Asked)
+pub ask_served : (x : Answering) (lawful : IsAnswering x) (hub : HubSeen) (a b : Holding) (served n : ℕ) (viewer : Option ℕ) (method path query body out audit : List ℕ) (known : Connections Ask) (made : Asked)
     → hub.turn ≡ turns.Idle → AreLike (hearing x) hub.channels known
     → IsAsked x (span a b) (x.asks viewer method path query body) made
     → PutBoth {E = Unit {0}} (asked_line method made) (asked_audit (served + 1) made) (Ok tt) out audit
@@ -331,7 +331,7 @@ ask_served x lawful hub a b served n viewer method path query body out audit kno
       audit_text = put.1 ∙ told.3 (served + 1) ∙ sym (append-nil (audit_line (served + 1) entry));
     }
 
-pub ask_torn : (x : Answering) (lawful : IsAnswering x) (a b : KeeperSeen) (served n : ℕ) (viewer : Option ℕ) (method path query body out audit : List ℕ) (known : Connections Ask) (made : Asked)
+pub ask_torn : (x : Answering) (lawful : IsAnswering x) (a b : Holding) (served n : ℕ) (viewer : Option ℕ) (method path query body out audit : List ℕ) (known : Connections Ask) (made : Asked)
     → IsAsked x (span a b) (x.asks viewer method path query body) made
     → IsTorn (asked_line method made) (asked_audit (served + 1) made) out audit
     → IsEventTorn x (span a b) served n (Asking viewer method path query body) known out audit

@@ -1,6 +1,6 @@
 -- What a hub gives, as entries of a log and their lines.
 use Rattle.std.proofs.Common.{◌≡◌, ◌∙◌, ap, sym, subst, refl, ℕ, ◌+◌, ◌&&◌, not, Bool, true, false, IsTrue, None, Result, List, [], ◌∷◌, ◌++◌, length, append_assoc, append-nil, if◌then◌else◌, arith}
-use Rattle.jac_keep.specs.KeeperSeen.{KeeperSeen}
+use Rattle.jac_serving.specs.Keeping.{Holding}
 use Rattle.jac_replies.specs.Refused.{refusal}
 use Rattle.jac_replies.specs.declared.answer.Answer.{Answer}
 use Rattle.jac_replies.specs.declared.answer.Ask.{Ask}
@@ -29,7 +29,7 @@ use Rattle.jac_replies.specs.Spelled.{closed_text, audit_text}
 use Rattle.jac_serving.specs.Outside.{Span, span, IsTorn}
 use Rattle.jac_serving.specs.Serve.{IsHandled, handled, sent_on, sent_line, sent_audit, out_on, outs_on, outs_text, out_text, outs_audited, replies_in, IsOutTorn, PutsAll, IsEventServed, IsEntryTorn}
 
-agrees : (spelling : Spelling) (x : Answering) (before after : KeeperSeen) (c : ℕ) (heard : Heard) (sent : Sent) (answer : Answer)
+agrees : (spelling : Spelling) (x : Answering) (before after : Holding) (c : ℕ) (heard : Heard) (sent : Sent) (answer : Answer)
     → IsHandled spelling x before c heard sent after answer → Agrees (hearing x) heard sent answer
 agrees spelling x before after c (HeardWhole request) sent answer h = h.closing
 agrees spelling x before after c (HeardRefused status) sent answer h = tt
@@ -39,19 +39,19 @@ pub handled-tells : (spelling : Spelling) (x : Answering) → Tells (hearing x) 
 handled-tells spelling x = λ before after c heard sent h. (h.0, h.1, agrees spelling x before after c heard sent h.0 h.1)
 
 -- what is put for entries, and what they leave
-pub record AreLines (spelling : Spelling) (x : Answering) (k : Span KeeperSeen) (mine : List Entry) (outs : List HubOut) : Type 0 where
+pub record AreLines (spelling : Spelling) (x : Answering) (k : Span Holding) (mine : List Entry) (outs : List HubOut) : Type 0 where
   pub entries : x.entries k mine
   pub text : outs_on spelling outs ≡ replies_on spelling mine
   pub audited : (n : ℕ) → outs_audited n outs ≡ audited_from n mine
   pub replies : replies_in outs ≡ length mine
 
 -- the reply to one subject of a connection
-pub record IsLine (spelling : Spelling) (x : Answering) (c : ℕ) (k : Span KeeperSeen) (subject : Subject) (answer : Answer) (sent : Sent) : Type 0 where
+pub record IsLine (spelling : Spelling) (x : Answering) (c : ℕ) (k : Span Holding) (subject : Subject) (answer : Answer) (sent : Sent) : Type 0 where
   pub one : x.entry k subject answer
   pub line : sent_on spelling c sent ≡ reply_on spelling (connection c) subject answer
-  pub audit : (n : ℕ) → sent_audit n sent ≡ audit_text n answer.status (viewer_of subject) answer.shown
+  pub audit : (n : ℕ) → sent_audit n sent ≡ audit_text n answer.status (viewer_of subject) answer.shown answer.consulted
 
-line_of : (spelling : Spelling) (x : Answering) (lawful : IsAnswering x) (c : ℕ) (subject : Subject) (answer : Answer) (sent : Sent) (before between : KeeperSeen)
+line_of : (spelling : Spelling) (x : Answering) (lawful : IsAnswering x) (c : ℕ) (subject : Subject) (answer : Answer) (sent : Sent) (before between : Holding)
     → x.ready before
     → IsAnswered (hearing x) (IsHandled spelling x) (refusal 500 None) c subject answer sent before between
     → IsLine spelling x c (span before between) subject answer sent
@@ -60,15 +60,15 @@ line_of spelling x lawful c (whole ask close) answer sent before between start (
     (record { one = h.entry; line = h.line; audit = h.audit })
 line_of spelling x lawful c (refused status) answer sent before between start h = record { one = h.entry; line = h.line; audit = h.audit }
 line_of spelling x lawful c broken answer sent before between start (same, is, put) =
-    subst (λ (k : KeeperSeen). IsLine spelling x c (span before k) broken answer sent) (sym same)
+    subst (λ (k : Holding). IsLine spelling x c (span before k) broken answer sent) (sym same)
     (subst (λ (a : Answer). IsLine spelling x c (span before before) broken a sent) (sym is)
     (subst (λ (s : Sent). IsLine spelling x c (span before before) broken (refusal 500 None) s) (sym put)
     (record { one = lawful.wanting before start; line = refl; audit = λ n. refl })))
 
-lines_none : (spelling : Spelling) (x : Answering) (lawful : IsAnswering x) (k : KeeperSeen) → x.ready k → AreLines spelling x (span k k) [] []
+lines_none : (spelling : Spelling) (x : Answering) (lawful : IsAnswering x) (k : Holding) → x.ready k → AreLines spelling x (span k k) [] []
 lines_none spelling x lawful k start = record { entries = lawful.none k start; text = refl; audited = λ n. refl; replies = refl }
 
-lines_more : (spelling : Spelling) (x : Answering) (lawful : IsAnswering x) (c : ℕ) (entry : Entry) (sent : Sent) (mine : List Entry) (rest : List HubOut) (before between after : KeeperSeen)
+lines_more : (spelling : Spelling) (x : Answering) (lawful : IsAnswering x) (c : ℕ) (entry : Entry) (sent : Sent) (mine : List Entry) (rest : List HubOut) (before between after : Holding)
     → entry.source ≡ connection c → IsLine spelling x c (span before between) entry.subject entry.answer sent → AreLines spelling x (span between after) mine rest
     → AreLines spelling x (span before after) (entry ∷ mine) (Reply c sent ∷ rest)
 lines_more spelling x lawful c entry sent mine rest before between after is line more =
@@ -82,11 +82,11 @@ lines_more spelling x lawful c entry sent mine rest before between after is line
     }
 
 -- the entries of an event beside the replies that were put out for them
-pub lines_all : (spelling : Spelling) (x : Answering) (lawful : IsAnswering x) (mine : List Entry) (outs : List HubOut) (before after : KeeperSeen)
+pub lines_all : (spelling : Spelling) (x : Answering) (lawful : IsAnswering x) (mine : List Entry) (outs : List HubOut) (before after : Holding)
     → x.ready before
     → AreAnswered (hearing x) (IsHandled spelling x) (refusal 500 None) before mine outs after → AreLines spelling x (span before after) mine outs
 lines_all spelling x lawful [] outs before after start (none, same) =
-    subst (λ (k : KeeperSeen). AreLines spelling x (span before k) [] outs) (sym same)
+    subst (λ (k : Holding). AreLines spelling x (span before k) [] outs) (sym same)
     (subst (λ (os : List HubOut). AreLines spelling x (span before before) [] os) (sym none) (lines_none spelling x lawful before start))
 lines_all spelling x lawful (entry ∷ mine) outs before after start (c, sent, rest, between, is, parts, answered, more) =
     let line = line_of spelling x lawful c entry.subject entry.answer sent before between start answered in
@@ -138,7 +138,7 @@ right_none m = omega arith
 
 -- all that a hub gave for an event was put: the event was served
 pub event_whole : (x : Answering) (lawful : IsAnswering x) → IsReading IsTaken → (n served count : ℕ) (event : Event) (known : Connections Ask) (taken : Result (Unit {0}) HubFault)
-    (old stepped new : HubSeen) (a b : KeeperSeen) (out audit : List ℕ)
+    (old stepped new : HubSeen) (a b : Holding) (out audit : List ℕ)
     → old.turn ≡ Idle → AreLike (hearing x) old.channels known → Steps old event taken stepped → (IsLost event taken → ⊥) → x.ready a
     → PutsAll x stepped new (span a b) served count out audit
     → IsEventServed x new (span a b) served count n event known out audit
@@ -175,7 +175,7 @@ no_entries [] e = refl
 no_entries (entry ∷ mine) e = absurd cc
 
 -- the entries beside the first of the replies
-pub record IsCut (x : Answering) (k : Span KeeperSeen) (mine : List Entry) (outs : List HubOut) (last : HubOut) : Type 0 where
+pub record IsCut (x : Answering) (k : Span Holding) (mine : List Entry) (outs : List HubOut) (last : HubOut) : Type 0 where
   pub whole_ones : List Entry
   pub entry : Entry
   pub parts : mine ≡ whole_ones ++ entry ∷ []
@@ -196,7 +196,7 @@ tail_same : (x y : HubOut) (xs ys : List HubOut) → x ∷ xs ≡ y ∷ ys → x
 tail_same x y xs ys e = cc
 
 -- replies that end with the torn one
-cut_last : (x : Answering) (lawful : IsAnswering x) (mine : List Entry) (replies outs : List HubOut) (last : HubOut) (before after : KeeperSeen)
+cut_last : (x : Answering) (lawful : IsAnswering x) (mine : List Entry) (replies outs : List HubOut) (last : HubOut) (before after : Holding)
     → x.ready before
     → AreAnswered (hearing x) (IsHandled spellings.Quoted x) (refusal 500 None) before mine replies after → replies ≡ outs ++ last ∷ []
     → IsCut x (span before after) mine outs last
@@ -239,7 +239,7 @@ cut_last x lawful (entry ∷ mine) replies (first ∷ outs) last before after st
     })
 
 -- where the replies are torn, or the line behind them all
-pub torn_reply : (x : Answering) (lawful : IsAnswering x) (n served : ℕ) (event : Event) (known : Connections Ask) (a b : KeeperSeen) (mine : List Entry) (replies outs : List HubOut) (last : HubOut)
+pub torn_reply : (x : Answering) (lawful : IsAnswering x) (n served : ℕ) (event : Event) (known : Connections Ask) (a b : Holding) (mine : List Entry) (replies outs : List HubOut) (last : HubOut)
     (out audit out_torn audit_torn : List ℕ) → x.ready a
     → AreAnswered (hearing x) (IsHandled spellings.Quoted x) (refusal 500 None) a mine replies b → replies ≡ outs ++ last ∷ []
     → IsOutTorn (served + replies_in outs + 1) last out_torn audit_torn → out ≡ outs_text outs ++ out_torn → audit ≡ outs_audited (served + 1) outs ++ audit_torn

@@ -1,6 +1,6 @@
 -- The calls of a hub, one after another.
 use Rattle.std.proofs.Common.{◌≡◌, ◌∙◌, ap, sym, subst, refl, inl, inr, ℕ, ◌+◌, ◌≤◌, Option, Some, None, Ok, List, [], ◌∷◌, ◌++◌, append-nil, arith}
-use Rattle.jac_keep.specs.KeeperSeen.{KeeperSeen}
+use Rattle.jac_serving.specs.Keeping.{Holding}
 use Rattle.jac_http.specs.declared.taken.Taken.{Taken}
 use Rattle.jac_http.specs.declared.taken.Taken.TheVariants.{More, Whole, Refused}
 use Rattle.jac_http.specs.Requests.{IsTaken}
@@ -74,7 +74,7 @@ module _ {H G : Type 0} (reads : List ℕ → Taken → Type 0) (before after : 
   next-seen hub (turns.Closing c) result new h = (ap f h.0, h.1, h.2)
   next-seen hub turns.Done result new h = (ap f h.0, h.1, h.2)
 
-pub so_far_none : (x : Answering) (hub : HubSeen) (k : KeeperSeen) (served : ℕ) → PutsSoFar x hub hub (span k k) served served [] []
+pub so_far_none : (x : Answering) (hub : HubSeen) (k : Holding) (served : ℕ) → PutsSoFar x hub hub (span k k) served served [] []
 so_far_none x hub k served = record { outs = []; given = (refl, refl); count_is = omega arith; out_text = refl; audit_text = refl }
 
 pub few_replies : (given : HubOut) → replies_in (given ∷ []) ≤ 1
@@ -91,7 +91,7 @@ out_alone : (given : HubOut) → out_text given ≡ outs_text (given ∷ [])
 out_alone given = sym (append-nil (out_text given))
 
 -- one more was put
-pub so_far_more : (x : Answering) (hub between new : HubSeen) (a b c : KeeperSeen) (served count more : ℕ) (given : HubOut) (o au p bu : List ℕ)
+pub so_far_more : (x : Answering) (hub between new : HubSeen) (a b c : Holding) (served count more : ℕ) (given : HubOut) (o au p bu : List ℕ)
     → Nexts IsTaken (handled spellings.Quoted x) between between.turn (Some given) new b c
     → PutsSoFar x hub between (span a b) served count o au → PutsOut {E = Unit {0}} count given (Ok more) p bu
     → PutsSoFar x hub new (span a c) served more (o ++ p) (au ++ bu)
@@ -110,7 +110,7 @@ so_far_more x hub between new a b c served count more given o au p bu next s put
 }
 
 -- the next one was torn
-pub so_far_torn : (x : Answering) (hub between new : HubSeen) (a b c : KeeperSeen) (served count : ℕ) (given : HubOut) (o au p bu : List ℕ)
+pub so_far_torn : (x : Answering) (hub between new : HubSeen) (a b c : Holding) (served count : ℕ) (given : HubOut) (o au p bu : List ℕ)
     → Nexts IsTaken (handled spellings.Quoted x) between between.turn (Some given) new b c
     → PutsSoFar x hub between (span a b) served count o au → IsOutTorn (count + 1) given p bu
     → PutsSome x hub (span a c) served (o ++ p) (au ++ bu)
@@ -127,7 +127,7 @@ so_far_torn x hub between new a b c served count given o au p bu next s torn = r
 }
 
 -- nothing more is given
-pub so_far_all : (x : Answering) (hub between new : HubSeen) (a b c : KeeperSeen) (served count : ℕ) (o au : List ℕ)
+pub so_far_all : (x : Answering) (hub between new : HubSeen) (a b c : Holding) (served count : ℕ) (o au : List ℕ)
     → Nexts IsTaken (handled spellings.Quoted x) between between.turn None new b c
     → PutsSoFar x hub between (span a b) served count o au → PutsAll x hub new (span a c) served count o au
 so_far_all x hub between new a b c served count o au next s = record {

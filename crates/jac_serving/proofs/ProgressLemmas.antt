@@ -1,7 +1,7 @@
 -- Serving line after line.
 use Rattle.std.proofs.Common.{◌≡◌, ◌∙◌, ap, sym, subst, refl, ℕ, ◌+◌, ◌≤◌, ◌<◌, ◌⊎◌, true, false, Bool, IsTrue, IfSome, Option, Some, None, Result, Ok, Err, List, [], ◌∷◌, ◌++◌, length, append_assoc, append-nil, length-append, arith}
 use denote.Ref.{Bor}
-use Rattle.jac_keep.specs.KeeperSeen.{KeeperSeen}
+use Rattle.jac_serving.specs.Keeping.{Holding}
 use Rattle.jac_value.specs.Parts.{parts_left, option_now, length_left}
 use Rattle.jac_replies.specs.declared.answer.Ask.{Ask}
 use Rattle.jac_events.specs.declared.event.Event.{Event}
@@ -27,7 +27,7 @@ abbrev pub served_before : List Event → Script → Script
 served_before events script = record { events = events ++ script.events; refused = script.refused }
 
 -- some lines were served, and these are left
-pub record Progress (x : Answering) (hub : HubSeen) (k : Span KeeperSeen) (bytes : List ℕ) (left : Option (List ℕ)) (lines served : ℕ) (out audit : List ℕ) : Type 0 where
+pub record Progress (x : Answering) (hub : HubSeen) (k : Span Holding) (bytes : List ℕ) (left : Option (List ℕ)) (lines served : ℕ) (out audit : List ℕ) : Type 0 where
   pub events : List Event
   pub log : List Entry
   pub known : Connections Ask
@@ -39,7 +39,7 @@ pub record Progress (x : Answering) (hub : HubSeen) (k : Span KeeperSeen) (bytes
   pub out_text : Brings x no_connections 0 events log out known
   pub audit_text : audit ≡ audited log
 
-start_new : (x : Answering) (lawful : IsAnswering x) (a : KeeperSeen) (bytes : List ℕ) → x.ready a
+start_new : (x : Answering) (lawful : IsAnswering x) (a : Holding) (bytes : List ℕ) → x.ready a
     → Progress x new_hub (span a a) bytes (Some bytes) 0 0 [] []
 start_new x lawful a bytes starts = record {
   events = [];
@@ -54,13 +54,13 @@ start_new x lawful a bytes starts = record {
   audit_text = refl;
 }
 
-pub start : (x : Answering) (lawful : IsAnswering x) (hub : HubSeen) (a : KeeperSeen) (bytes : List ℕ) → hub ≡ new_hub → x.ready a
+pub start : (x : Answering) (lawful : IsAnswering x) (hub : HubSeen) (a : Holding) (bytes : List ℕ) → hub ≡ new_hub → x.ready a
     → Progress x hub (span a a) bytes (Some bytes) 0 0 [] []
 start x lawful hub a bytes new starts =
     subst (λ (h : HubSeen). Progress x h (span a a) bytes (Some bytes) 0 0 [] []) (sym new) (start_new x lawful a bytes starts)
 
 -- the lines that are left, by what the first of them writes down
-opened : {x : Answering} {hub : HubSeen} {k : Span KeeperSeen} {bytes : List ℕ} {left : Option (List ℕ)} {lines served : ℕ} {out audit : List ℕ}
+opened : {x : Answering} {hub : HubSeen} {k : Span Holding} {bytes : List ℕ} {left : Option (List ℕ)} {lines served : ℕ} {out audit : List ℕ}
     (p : Progress x hub k bytes left lines served out audit) (line : List ℕ) (rest : List (List ℕ)) (written : Option (Option Event)) → parts_left 10 left ≡ line ∷ rest → line_of line ≡ written
     → served_before p.events (script_step (lines + 1) written (is_open p.known) (script_from rest (lines + 1 + 1))) ≡ script_of bytes
 opened {x} {hub} {k} {bytes} {left} {lines} p line rest written parts is =
@@ -68,7 +68,7 @@ opened {x} {hub} {k} {bytes} {left} {lines} p line rest written parts is =
     ∙ ap (λ (ls : List (List ℕ)). served_before p.events (script_from ls (lines + 1) (is_open p.known))) (sym parts) ∙ p.script
 
 -- an empty line is passed over
-pass_over : (x : Answering) (hub new : HubSeen) (a b c : KeeperSeen) (bytes : List ℕ) (left after : Option (List ℕ)) (lines served : ℕ) (out audit line : List ℕ)
+pass_over : (x : Answering) (hub new : HubSeen) (a b c : Holding) (bytes : List ℕ) (left after : Option (List ℕ)) (lines served : ℕ) (out audit line : List ℕ)
     → Progress x hub (span a b) bytes left lines served out audit → new ≡ hub → c ≡ b
     → parts_left 10 left ≡ line ∷ parts_left 10 after → line_of line ≡ Some None → Progress x new (span a c) bytes after (lines + 1) served out audit
 pass_over x hub new a b c bytes left after lines served out audit line p same still parts is = record {
@@ -88,7 +88,7 @@ pub served_push : (events : List Event) (event : Event) (script : Script) → se
 served_push events event script = ap (λ (es : List Event). let s : Script = record { events = es; refused = script.refused } in s) (append_assoc events (event ∷ []) script.events)
 
 -- the script by the line of an event that may stand there
-allowed : {x : Answering} {hub : HubSeen} {k : Span KeeperSeen} {bytes : List ℕ} {left : Option (List ℕ)} {lines served : ℕ} {out audit : List ℕ}
+allowed : {x : Answering} {hub : HubSeen} {k : Span Holding} {bytes : List ℕ} {left : Option (List ℕ)} {lines served : ℕ} {out audit : List ℕ}
     (p : Progress x hub k bytes left lines served out audit) (after : Option (List ℕ)) (line : List ℕ) (event : Event)
     → parts_left 10 left ≡ line ∷ parts_left 10 after → line_of line ≡ Some (Some event) → lapse_of (lines + 1) (is_open p.known) event ≡ None
     → served_before p.events (with_event event (script_from (parts_left 10 after) (lines + 1 + 1) (opened_by event (is_open p.known)))) ≡ script_of bytes
@@ -103,7 +103,7 @@ audited_more log mine served audit more counted is more_is =
     ∙ sym (audited-append 1 log mine)
 
 -- a line's event is served
-serve_one : (x : Answering) (lawful : IsAnswering x) (hub new : HubSeen) (a b c : KeeperSeen) (bytes : List ℕ) (left after : Option (List ℕ)) (lines served count : ℕ) (out audit line o au : List ℕ) (event : Event)
+serve_one : (x : Answering) (lawful : IsAnswering x) (hub new : HubSeen) (a b c : Holding) (bytes : List ℕ) (left after : Option (List ℕ)) (lines served count : ℕ) (out audit line o au : List ℕ) (event : Event)
     → (p : Progress x hub (span a b) bytes left lines served out audit)
     → parts_left 10 left ≡ line ∷ parts_left 10 after → line_of line ≡ Some (Some event) → lapse_of (lines + 1) (is_open p.known) event ≡ None
     → IsEventServed x new (span b c) served count (0 + length p.events) event p.known o au
@@ -138,7 +138,7 @@ no_ok X count stopped e = absurd cc
 ok_same : (x y : ℕ) → ◌≡◌ {A = Result ℕ Stopped} (Ok x) (Ok y) → x ≡ y
 ok_same x y e = cc
 
-pub go_on : (x : Answering) (lawful : IsAnswering x) (hub new : HubSeen) (a b c : KeeperSeen) (bytes : List ℕ) (left after : Option (List ℕ)) (lines served count : ℕ) (out audit line o au : List ℕ)
+pub go_on : (x : Answering) (lawful : IsAnswering x) (hub new : HubSeen) (a b c : Holding) (bytes : List ℕ) (left after : Option (List ℕ)) (lines served count : ℕ) (out audit line o au : List ℕ)
     → Progress x hub (span a b) bytes left lines served out audit → parts_left 10 left ≡ line ∷ parts_left 10 after → (written : Option (Option Event)) → line_of line ≡ written
     → AnswersLine x hub new (span b c) served (lines + 1) written (Ok count) o au
     → Progress x new (span a c) bytes after (lines + 1) count (out ++ o) (audit ++ au)
@@ -161,7 +161,7 @@ heard_by false x events unserved all log out known brings parts whole =
 heard_by true x events unserved all log out known brings parts whole =
     subst (λ (es : List Event). IsHeardBy true (hearing x) es log) (sym parts) (brings-part x events unserved no_connections known 0 log out brings)
 
-pub is_served_by : (early : Bool) (x : Answering) (a b : KeeperSeen) (all : List Event) (log : List Entry) → IsHeardBy early (hearing x) all log → x.entries (span a b) log
+pub is_served_by : (early : Bool) (x : Answering) (a b : Holding) (all : List Event) (log : List Entry) → IsHeardBy early (hearing x) all log → x.entries (span a b) log
     → IsServed early x (span a b) all log
 is_served_by early x a b all log heard entries = record {
   subjects = heard;
@@ -169,7 +169,7 @@ is_served_by early x a b all log heard entries = record {
 }
 
 -- the lines so far were put, and no more
-finish_with : (early : Bool) (x : Answering) (hub : HubSeen) (a b c : KeeperSeen) (bytes : List ℕ) (left : Option (List ℕ)) (lines served : ℕ) (out audit : List ℕ) (unserved : List Event)
+finish_with : (early : Bool) (x : Answering) (hub : HubSeen) (a b c : Holding) (bytes : List ℕ) (left : Option (List ℕ)) (lines served : ℕ) (out audit : List ℕ) (unserved : List Event)
     → (p : Progress x hub (span a b) bytes left lines served out audit) → c ≡ b → (script_of bytes).events ≡ p.events ++ unserved → (early ≡ false → unserved ≡ [])
     → PutsServed early x (span a c) (script_of bytes) out audit
 finish_with early x hub a b c bytes left lines served out audit unserved p still parts whole = record {
@@ -187,7 +187,7 @@ finish_with early x hub a b c bytes left lines served out audit unserved p still
 }
 
 -- a line is refused
-finish_refused : (x : Answering) (hub : HubSeen) (a b c : KeeperSeen) (bytes : List ℕ) (left : Option (List ℕ)) (lines served : ℕ) (out audit o au : List ℕ) (lapse : Lapse)
+finish_refused : (x : Answering) (hub : HubSeen) (a b c : Holding) (bytes : List ℕ) (left : Option (List ℕ)) (lines served : ℕ) (out audit o au : List ℕ) (lapse : Lapse)
     → (p : Progress x hub (span a b) bytes left lines served out audit) → served_before p.events (stopped_at lapse) ≡ script_of bytes → o ≡ [] → au ≡ [] → c ≡ b
     → ServesAs x (span a c) bytes (Err (stops.Refused lapse)) (out ++ o) (audit ++ au)
 finish_refused x hub a b c bytes left lines served out audit o au lapse p script no_out no_audit still = (
@@ -220,7 +220,7 @@ none_before : (n : ℕ) → 0 + n ≡ n
 none_before n = omega arith
 
 -- a put failed
-finish_torn : (x : Answering) (lawful : IsAnswering x) (hub : HubSeen) (a b c : KeeperSeen) (bytes : List ℕ) (left after : Option (List ℕ)) (lines served : ℕ) (out audit line o au : List ℕ) (event : Event)
+finish_torn : (x : Answering) (lawful : IsAnswering x) (hub : HubSeen) (a b c : Holding) (bytes : List ℕ) (left after : Option (List ℕ)) (lines served : ℕ) (out audit line o au : List ℕ) (event : Event)
     → (p : Progress x hub (span a b) bytes left lines served out audit)
     → parts_left 10 left ≡ line ∷ parts_left 10 after → line_of line ≡ Some (Some event) → lapse_of (lines + 1) (is_open p.known) event ≡ None
     → IsEventTorn x (span b c) served (0 + length p.events) event p.known o au
@@ -251,7 +251,7 @@ finish_torn x lawful hub a b c bytes left after lines served out audit line o au
       audit_text = ap (λ (x : List ℕ). x ++ au) p.audit_text;
     }
 
-pub stop_at : (x : Answering) (lawful : IsAnswering x) (hub new : HubSeen) (a b c : KeeperSeen) (bytes : List ℕ) (left after : Option (List ℕ)) (lines served : ℕ) (out audit line o au : List ℕ)
+pub stop_at : (x : Answering) (lawful : IsAnswering x) (hub new : HubSeen) (a b c : Holding) (bytes : List ℕ) (left after : Option (List ℕ)) (lines served : ℕ) (out audit line o au : List ℕ)
     → Progress x hub (span a b) bytes left lines served out audit → parts_left 10 left ≡ line ∷ parts_left 10 after → (written : Option (Option Event)) → line_of line ≡ written → (stopped : Stopped)
     → AnswersLine x hub new (span b c) served (lines + 1) written (Err stopped) o au
     → ServesAs x (span a c) bytes (Err stopped) (out ++ o) (audit ++ au)
@@ -276,7 +276,7 @@ stop_at x lawful hub new a b c bytes left after lines served out audit line o au
     finish_torn x lawful hub a b c bytes left after lines served out audit line o au event p parts is one.0 one.1
 
 -- no line is left
-pub finish_left : (x : Answering) (hub : HubSeen) (a b : KeeperSeen) (bytes : List ℕ) (left : Option (Bor (List ℕ))) (lines served : ℕ) (out audit : List ℕ)
+pub finish_left : (x : Answering) (hub : HubSeen) (a b : Holding) (bytes : List ℕ) (left : Option (Bor (List ℕ))) (lines served : ℕ) (out audit : List ℕ)
     → ((rest : Bor (List ℕ)) → left ≡ Some rest → ⊥) → Progress x hub (span a b) bytes (option_now left) lines served out audit
     → ServesAs x (span a b) bytes (Ok tt) out audit
 finish_left x hub a b bytes None lines served out audit none p = (
@@ -290,24 +290,24 @@ shorter_left None n h = omega arith
 shorter_left (Some rest) n h = omega (arith, h)
 
 -- an event's answer is its line's
-pub event_line : (x : Answering) (hub new : HubSeen) (k : Span KeeperSeen) (served line : ℕ) (event : Event) (result : Result ℕ Stopped) (out audit : List ℕ)
+pub event_line : (x : Answering) (hub new : HubSeen) (k : Span Holding) (served line : ℕ) (event : Event) (result : Result ℕ Stopped) (out audit : List ℕ)
     → AnswersEvent x hub new k served line event result out audit → AnswersLine x hub new k served line (Some (Some event)) result out audit
 event_line x hub new k served line event (Ok count) out audit h = h
 event_line x hub new k served line event (Err (stops.Refused lapse)) out audit h = h
 event_line x hub new k served line event (Err stops.Memory) out audit h = h
 event_line x hub new k served line event (Err stops.Write) out audit h = h
 
-pub line_empty : (x : Answering) (hub : HubSeen) (k : KeeperSeen) (served line : ℕ) (written : Option (Option Event)) → written ≡ Some None
+pub line_empty : (x : Answering) (hub : HubSeen) (k : Holding) (served line : ℕ) (written : Option (Option Event)) → written ≡ Some None
     → AnswersLine x hub hub (span k k) served line written (Ok served) [] []
 line_empty x hub k served line written is =
     subst (λ (w : Option (Option Event)). AnswersLine x hub hub (span k k) served line w (Ok served) [] []) (sym is) (refl, refl, refl, refl, refl)
 
-pub line_formless : (x : Answering) (hub : HubSeen) (k : KeeperSeen) (served line : ℕ) (written : Option (Option Event)) → written ≡ None
+pub line_formless : (x : Answering) (hub : HubSeen) (k : Holding) (served line : ℕ) (written : Option (Option Event)) → written ≡ None
     → AnswersLine x hub hub (span k k) served line written (Err (stops.Refused (lapses.NoForm line))) [] []
 line_formless x hub k served line written is =
     subst (λ (w : Option (Option Event)). AnswersLine x hub hub (span k k) served line w (Err (stops.Refused (lapses.NoForm line))) [] []) (sym is) (refl, refl, refl, refl)
 
-pub line_event : (x : Answering) (hub new : HubSeen) (k : Span KeeperSeen) (served line : ℕ) (event : Event) (written : Option (Option Event)) (result : Result ℕ Stopped) (out audit : List ℕ)
+pub line_event : (x : Answering) (hub new : HubSeen) (k : Span Holding) (served line : ℕ) (event : Event) (written : Option (Option Event)) (result : Result ℕ Stopped) (out audit : List ℕ)
     → written ≡ Some (Some event) → AnswersEvent x hub new k served line event result out audit → AnswersLine x hub new k served line written result out audit
 line_event x hub new k served line event written result out audit is h =
     subst (λ (w : Option (Option Event)). AnswersLine x hub new k served line w result out audit) (sym is)

@@ -9,6 +9,7 @@ use Rattle.jac_keep.specs.KeeperSeen.{KeeperSeen}
 use Rattle.jac_replies.specs.Refused.{refusal}
 use Rattle.jac_replies.specs.declared.answer.Answer.{Answer}
 use Rattle.jac_replies.specs.declared.answer.Ask.{Ask}
+use Rattle.jac_serving.specs.Keeping.{Holding}
 use Rattle.jac_serving.specs.Outside.{Span, span}
 use Rattle.jac_sittings.specs.declared.sittings.Sitting.{Sitting}
 
@@ -40,13 +41,13 @@ pub record Answering : Type 1 where
   -- the request of an `ask` line: its viewer, method, path, query and body
   pub asks : Option ℕ → List ℕ → List ℕ → List ℕ → List ℕ → Ask
   -- what is kept may be answered on
-  pub ready : KeeperSeen → Type 0
+  pub ready : Holding → Type 0
   -- what was settled for those who looked still is, on what is kept
   pub settled : KeeperSeen → List Sitting → Type 0
   -- the subject has this answer, and what that leaves of what is kept
-  pub entry : Span KeeperSeen → Subject → Answer → Type 0
+  pub entry : Span Holding → Subject → Answer → Type 0
   -- some subjects were answered one after another, and what that leaves
-  pub entries : Span KeeperSeen → List Entry → Type 0
+  pub entries : Span Holding → List Entry → Type 0
 
 abbrev pub hearing : Answering → Hearing Ask Answer
 hearing x = hearing_by x.wants x.asks
@@ -61,8 +62,8 @@ IsHeardBy true h events log = IsHeardInPart h events log
 -- heard, that is answered without the keeper
 pub record IsAnswering (x : Answering) : Type 0 where
   pub same_method : (viewer : Option ℕ) (method path query body : List ℕ) → (x.asks viewer method path query body).method ≡ method
-  pub none : (k : KeeperSeen) → x.ready k → x.entries (span k k) []
-  pub one : (a b : KeeperSeen) (entry : Entry) → x.entry (span a b) entry.subject entry.answer → x.entries (span a b) (entry ∷ [])
-  pub joined : (a b c : KeeperSeen) (xs ys : List Entry) → x.entries (span a b) xs → x.entries (span b c) ys → x.entries (span a c) (xs ++ ys)
-  pub goes_on : (a b : KeeperSeen) (subject : Subject) (answer : Answer) → x.entry (span a b) subject answer → x.ready b
-  pub wanting : (k : KeeperSeen) → x.ready k → x.entry (span k k) broken (refusal 500 None)
+  pub none : (k : Holding) → x.ready k → x.entries (span k k) []
+  pub one : (a b : Holding) (entry : Entry) → x.entry (span a b) entry.subject entry.answer → x.entries (span a b) (entry ∷ [])
+  pub joined : (a b c : Holding) (xs ys : List Entry) → x.entries (span a b) xs → x.entries (span b c) ys → x.entries (span a c) (xs ++ ys)
+  pub goes_on : (a b : Holding) (subject : Subject) (answer : Answer) → x.entry (span a b) subject answer → x.ready b
+  pub wanting : (k : Holding) → x.ready k → x.entry (span k k) broken (refusal 500 None)

@@ -1,10 +1,22 @@
--- What a run sees of its keeper.
+-- What a run sees of its keeper, and of the facets that it splits.
 use Rattle.std.specs.Prelude.{◌≡◌, ℕ, ◌+◌, ◌-◌, ◌^◌, ◌≤◌, min}
 use Rattle.jac_keep.specs.KeeperSeen.{KeeperSeen}
-use Rattle.jac_serving.specs.Outside.{Span}
+use Rattle.jac_serving.specs.Outside.{Span, span}
 
--- the keeper was not called
-abbrev pub IsStill : Span KeeperSeen → Type 0
+-- what a run sees of its keeper, and how many facets were split
+pub record Holding : Type 0 where
+  pub keeper : KeeperSeen
+  pub splits : ℕ
+
+abbrev pub holding_of : KeeperSeen → ℕ → Holding
+holding_of keeper splits = record { keeper = keeper; splits = splits }
+
+-- the keeper alone
+abbrev pub keepers : Span Holding → Span KeeperSeen
+keepers k = span k.before.keeper k.after.keeper
+
+-- it was not called
+abbrev pub IsStill : {X : Type 0} → Span X → Type 0
 IsStill k = k.after ≡ k.before
 
 -- a count grew by so much, or stands at its end

@@ -29,11 +29,13 @@ closes_behind broken answer = true
 
 abbrev pub bytes_of : Subject → Answer → List ℕ
 bytes_of subject answer =
-    reply_bytes answer.status answer.location answer.allow answer.body (is_some answer.shown) (bytes_eq (method_of subject) (codes "HEAD")) (closes_behind subject answer)
+    reply_bytes answer.status answer.location answer.allow answer.body (is_some answer.shown)
+    (bytes_eq (method_of subject) (codes "HEAD")) (closes_behind subject answer)
 
 -- the reply, which on a connection is spelled so
 abbrev pub reply_on : Spelling → Source → Subject → Answer → List ℕ
-reply_on spelling asked subject answer = reply_text (method_of subject) answer.status answer.location answer.body
+reply_on spelling asked subject answer =
+    reply_text (method_of subject) answer.status answer.location answer.body
 reply_on spelling (connection c) subject answer = spelled spelling c (bytes_of subject answer)
 
 abbrev pub entry_on : Spelling → Entry → List ℕ
@@ -57,19 +59,23 @@ replies_text log = replies_on spellings.Quoted log
 abbrev pub closing_text : Event → Connections Ask → Connections Ask → List ℕ
 closing_text (Asking viewer method path query body) before after = []
 closing_text (Begin c) before after = []
-closing_text (Piece c bytes) before after = if not (is_shut (before c)) && is_shut (after c) then closed_text c else []
+closing_text (Piece c bytes) before after =
+    if not (is_shut (before c)) && is_shut (after c) then closed_text c else []
 closing_text (Finish c) before after = []
 
 -- the text of an event: the lines of its replies, and that its connection was closed
 abbrev pub event_text : Answering → Event → Connections Ask → List Entry → List ℕ
-event_text x event known mine = replies_text mine ++ closing_text event known (after_both (hearing x) event mine known)
+event_text x event known mine =
+    replies_text mine ++ closing_text event known (after_both (hearing x) event mine known)
 
 -- the events, of which the first is the n-th, bring the log, this is their text, and behind them the connections
 -- stand so
-abbrev pub Brings : Answering → Connections Ask → ℕ → List Event → List Entry → List ℕ → Connections Ask → Type 0
+abbrev pub Brings : Answering → Connections Ask → ℕ → List Event → List Entry → List ℕ
+    → Connections Ask → Type 0
 Brings x known n [] log text later = (log ≡ []) × (text ≡ []) × (later ≡ known)
 Brings x known n (event ∷ events) log text later =
-    (mine : List Entry) × (others : List Entry) × (rest : List ℕ) × (log ≡ mine ++ others) × (text ≡ event_text x event known mine ++ rest)
+    (mine : List Entry) × (others : List Entry) × (rest : List ℕ) × (log ≡ mine ++ others)
+    × (text ≡ event_text x event known mine ++ rest)
     × IsBroughtBy (hearing x) n event known mine
     × Brings x (after_both (hearing x) event mine known) (n + 1) events others rest later
 
@@ -79,7 +85,9 @@ viewer_of (refused status) = None
 viewer_of broken = None
 
 abbrev pub audit_line : ℕ → Entry → List ℕ
-audit_line k entry = audit_text k entry.answer.status (viewer_of entry.subject) entry.answer.shown
+audit_line k entry =
+    audit_text k entry.answer.status (viewer_of entry.subject) entry.answer.shown
+    entry.answer.consulted
 
 abbrev pub audited_from : ℕ → List Entry → List ℕ
 audited_from k [] = []

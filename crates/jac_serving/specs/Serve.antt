@@ -1,7 +1,6 @@
 -- What serving the lines of an events file puts on the two sinks.
 use Rattle.std.specs.Prelude.{◌≡◌, ℕ, ◌+◌, ◌⊎◌, Bool, IsTrue, length, true, false, is_some, decimal, Result, Ok, Err, Option, Some, None, List, [], ◌∷◌, ◌++◌, ⊤}
 use Rattle.std.specs.List.{flat_map}
-use Rattle.jac_keep.specs.KeeperSeen.{KeeperSeen}
 use Rattle.jac_events.specs.declared.event.Event.{Event}
 use Rattle.jac_http.specs.Requests.{IsTaken}
 use Rattle.jac_http.specs.Replies.{reply_bytes, status_of_fixed}
@@ -33,16 +32,16 @@ use Rattle.jac_serving.specs.declared.serve.Lapse.TheVariants as lapses
 use Rattle.jac_serving.specs.declared.serve.Stopped.{Stopped}
 use Rattle.jac_serving.specs.declared.serve.Stopped.TheVariants as stops
 use Rattle.jac_serving.specs.Answering.{Subject, Entry, is_failure, Answering, hearing, IsHeardBy}
-use Rattle.jac_serving.specs.Keeping.{IsStill}
+use Rattle.jac_serving.specs.Keeping.{Holding, IsStill}
 use Rattle.jac_serving.specs.Log.{Brings, reply_on, reply_to, reply_line, closing_text, event_text, replies_text, viewer_of, audit_line, audited, audited_from}
 use Rattle.jac_serving.specs.Outside.{Span, span, PutBoth, IsTorn, IsFront}
 use Rattle.jac_serving.specs.Script.{Script, script_of, lapse_of}
 
 -- the request of an `ask` line was answered: its reply, and what follows the number of its audit line; or it wasn't, and
 -- this says why
-abbrev pub IsAsked : Answering → Span KeeperSeen → Ask → Asked → Type 0
+abbrev pub IsAsked : Answering → Span Holding → Ask → Asked → Type 0
 IsAsked x k ask (Answered reply audit) =
-    (answer : Answer) × x.entry k (whole ask false) answer × (reply ≡ reply_to asked (whole ask false) answer) × (audit ≡ audit_rest answer.status ask.viewer answer.shown)
+    (answer : Answer) × x.entry k (whole ask false) answer × (reply ≡ reply_to asked (whole ask false) answer) × (audit ≡ audit_rest answer.status ask.viewer answer.shown answer.consulted)
 IsAsked x k ask (Unanswered stop viewer) = x.entry k (whole ask false) (refusal (status_of_stop stop) None) × (viewer ≡ ask.viewer)
 
 -- what is put for it, as the k-th reply
@@ -52,7 +51,7 @@ asked_line method (Unanswered stop viewer) = reply_text method (status_of_stop s
 
 abbrev pub asked_audit : ℕ → Asked → List ℕ
 asked_audit k (Answered reply audit) = decimal k ++ audit
-asked_audit k (Unanswered stop viewer) = audit_text k (status_of_stop stop) viewer None
+asked_audit k (Unanswered stop viewer) = audit_text k (status_of_stop stop) viewer None None
 
 abbrev pub subject_of : Answering → Heard → Subject
 subject_of x (Whole request) = whole (x.wants request) request.close
@@ -70,16 +69,16 @@ sent_line c sent = sent_on spellings.Quoted c sent
 -- the audit's line for it, of the k-th reply
 abbrev pub sent_audit : ℕ → Sent → List ℕ
 sent_audit k (Made line audit close) = decimal k ++ audit
-sent_audit k (Still status head viewer) = audit_text k (status_of_fixed status) viewer None
+sent_audit k (Still status head viewer) = audit_text k (status_of_fixed status) viewer None None
 
 -- what was heard of a connection has this answer, and what was sent is its reply
-pub record IsHandled (spelling : Spelling) (x : Answering) (before : KeeperSeen) (c : ℕ) (heard : Heard) (sent : Sent) (after : KeeperSeen) (answer : Answer) : Type 0 where
+pub record IsHandled (spelling : Spelling) (x : Answering) (before : Holding) (c : ℕ) (heard : Heard) (sent : Sent) (after : Holding) (answer : Answer) : Type 0 where
   pub line : sent_on spelling c sent ≡ reply_on spelling (connection c) (subject_of x heard) answer
-  pub audit : (k : ℕ) → sent_audit k sent ≡ audit_text k answer.status (viewer_of (subject_of x heard)) answer.shown
+  pub audit : (k : ℕ) → sent_audit k sent ≡ audit_text k answer.status (viewer_of (subject_of x heard)) answer.shown answer.consulted
   pub closing : sent_closes sent ≡ is_failure answer
   pub entry : x.entry (span before after) (subject_of x heard) answer
 
-abbrev pub handled : Spelling → Answering → KeeperSeen → ℕ → Heard → Sent → KeeperSeen → Type 0
+abbrev pub handled : Spelling → Answering → Holding → ℕ → Heard → Sent → Holding → Type 0
 handled spelling x before c heard sent after = (answer : Answer) × IsHandled spelling x before c heard sent after answer
 
 -- that a connection was closed is told in a text alone
@@ -125,7 +124,7 @@ PutsOut served given (Ok count) out audit =
 PutsOut served given (Err failed) out audit = IsOutTorn (served + 1) given out audit
 
 -- what a hub gave so far was put
-pub record PutsSoFar (x : Answering) (hub now : HubSeen) (k : Span KeeperSeen) (served count : ℕ) (out audit : List ℕ) : Type 0 where
+pub record PutsSoFar (x : Answering) (hub now : HubSeen) (k : Span Holding) (served count : ℕ) (out audit : List ℕ) : Type 0 where
   pub outs : List HubOut
   pub given : IsGiven IsTaken (handled spellings.Quoted x) hub outs now k.before k.after
   pub count_is : count ≡ served + replies_in outs
@@ -133,7 +132,7 @@ pub record PutsSoFar (x : Answering) (hub now : HubSeen) (k : Span KeeperSeen) (
   pub audit_text : audit ≡ outs_audited (served + 1) outs
 
 -- some of what a hub gave was put, and then a put failed
-pub record PutsSome (x : Answering) (hub : HubSeen) (k : Span KeeperSeen) (served : ℕ) (out audit : List ℕ) : Type 0 where
+pub record PutsSome (x : Answering) (hub : HubSeen) (k : Span Holding) (served : ℕ) (out audit : List ℕ) : Type 0 where
   pub outs : List HubOut
   pub last : HubOut
   pub left : HubSeen
@@ -145,14 +144,14 @@ pub record PutsSome (x : Answering) (hub : HubSeen) (k : Span KeeperSeen) (serve
   pub audit_text : audit ≡ outs_audited (served + 1) outs ++ audit_torn
 
 -- all that a hub gave was put
-pub record PutsAll (x : Answering) (hub new : HubSeen) (k : Span KeeperSeen) (served count : ℕ) (out audit : List ℕ) : Type 0 where
+pub record PutsAll (x : Answering) (hub new : HubSeen) (k : Span Holding) (served count : ℕ) (out audit : List ℕ) : Type 0 where
   pub outs : List HubOut
   pub emptied : IsEmptied IsTaken (handled spellings.Quoted x) hub outs new k.before k.after
   pub count_is : count ≡ served + replies_in outs
   pub out_text : out ≡ outs_text outs
   pub audit_text : audit ≡ outs_audited (served + 1) outs
 
-abbrev pub PutsOuts : {E : Type 0} → Answering → HubSeen → HubSeen → Span KeeperSeen → ℕ → Result ℕ E → List ℕ → List ℕ → Type 0
+abbrev pub PutsOuts : {E : Type 0} → Answering → HubSeen → HubSeen → Span Holding → ℕ → Result ℕ E → List ℕ → List ℕ → Type 0
 PutsOuts x hub new k served (Ok count) out audit = PutsAll x hub new k served count out audit
 PutsOuts x hub new k served (Err failed) out audit = PutsSome x hub k served out audit
 
@@ -179,7 +178,7 @@ pub record IsFollowing (x : Answering) (hub : HubSeen) : Type 0 where
   pub like : AreLike (hearing x) hub.channels known
 
 -- the n-th event was served whole, of which the connections stood so before
-pub record IsEventServed (x : Answering) (new : HubSeen) (k : Span KeeperSeen) (served count n : ℕ) (event : Event) (known : Connections Ask) (out audit : List ℕ) : Type 0 where
+pub record IsEventServed (x : Answering) (new : HubSeen) (k : Span Holding) (served count n : ℕ) (event : Event) (known : Connections Ask) (out audit : List ℕ) : Type 0 where
   pub mine : List Entry
   pub brought : IsBroughtBy (hearing x) n event known mine
   pub entries : x.entries k mine
@@ -209,14 +208,14 @@ pub record IsClosingTorn (x : Answering) (served n : ℕ) (event : Event) (known
   pub audit_text : audit ≡ audited_from (served + 1) mine
 
 -- the first entries of the n-th event were answered, and a put failed
-pub record IsEventTorn (x : Answering) (k : Span KeeperSeen) (served n : ℕ) (event : Event) (known : Connections Ask) (out audit : List ℕ) : Type 0 where
+pub record IsEventTorn (x : Answering) (k : Span Holding) (served n : ℕ) (event : Event) (known : Connections Ask) (out audit : List ℕ) : Type 0 where
   pub mine : List Entry
   pub begun : IsBegunBy (hearing x) n event known mine
   pub entries : x.entries k mine
   pub torn : IsEntryTorn served mine out audit ⊎ IsClosingTorn x served n event known mine out audit
 
 -- an event is served, whichever connections the hub may stand for; it stands on this line
-abbrev pub AnswersEvent : Answering → HubSeen → HubSeen → Span KeeperSeen → ℕ → ℕ → Event → Result ℕ Stopped → List ℕ → List ℕ → Type 0
+abbrev pub AnswersEvent : Answering → HubSeen → HubSeen → Span Holding → ℕ → ℕ → Event → Result ℕ Stopped → List ℕ → List ℕ → Type 0
 AnswersEvent x hub new k served line event (Ok count) out audit =
     (n : ℕ) (known : Connections Ask) → AreLike (hearing x) hub.channels known
     → (lapse_of line (is_open known) event ≡ None) × IsEventServed x new k served count n event known out audit
@@ -229,7 +228,7 @@ AnswersEvent x hub new k served line event (Err stops.Write) out audit =
     → (lapse_of line (is_open known) event ≡ None) × IsEventTorn x k served n event known out audit
 
 -- a line by what it writes down: nothing, an event, or it has no form
-abbrev pub AnswersLine : Answering → HubSeen → HubSeen → Span KeeperSeen → ℕ → ℕ → Option (Option Event) → Result ℕ Stopped → List ℕ → List ℕ → Type 0
+abbrev pub AnswersLine : Answering → HubSeen → HubSeen → Span Holding → ℕ → ℕ → Option (Option Event) → Result ℕ Stopped → List ℕ → List ℕ → Type 0
 AnswersLine x hub new k served line written (Err stops.Memory) out audit = (out ≡ []) × (audit ≡ []) × IsStill k
 AnswersLine x hub new k served line None result out audit =
     (result ≡ Err (stops.Refused (lapses.NoForm line))) × (out ≡ []) × (audit ≡ []) × IsStill k
@@ -239,12 +238,12 @@ AnswersLine x hub new k served line (Some (Some event)) result out audit = Answe
 
 -- these events were served, or, where it may stop early, the first of them: the log has what they bring, and its
 -- entries were answered
-pub record IsServed (early : Bool) (x : Answering) (k : Span KeeperSeen) (events : List Event) (log : List Entry) : Type 0 where
+pub record IsServed (early : Bool) (x : Answering) (k : Span Holding) (events : List Event) (log : List Entry) : Type 0 where
   pub subjects : IsHeardBy early (hearing x) events log
   pub entries : x.entries k log
 
 -- and their lines were put whole: the text is that of the events that were served
-pub record PutsServed (early : Bool) (x : Answering) (k : Span KeeperSeen) (script : Script) (out audit : List ℕ) : Type 0 where
+pub record PutsServed (early : Bool) (x : Answering) (k : Span Holding) (script : Script) (out audit : List ℕ) : Type 0 where
   pub events : List Event
   pub unserved : List Event
   pub log : List Entry
@@ -256,7 +255,7 @@ pub record PutsServed (early : Bool) (x : Answering) (k : Span KeeperSeen) (scri
   pub audit_text : audit ≡ audited log
 
 -- the first events were served, and the lines of the one behind them were torn
-pub record PutsTorn (x : Answering) (k : Span KeeperSeen) (script : Script) (out audit : List ℕ) : Type 0 where
+pub record PutsTorn (x : Answering) (k : Span Holding) (script : Script) (out audit : List ℕ) : Type 0 where
   pub events : List Event
   pub event : Event
   pub unserved : List Event
@@ -276,7 +275,7 @@ pub record PutsTorn (x : Answering) (k : Span KeeperSeen) (script : Script) (out
   pub audit_text : audit ≡ audited log ++ audit_more
 
 -- how serving the events of a file ends
-abbrev pub ServesAs : Answering → Span KeeperSeen → List ℕ → Result (Unit {0}) Stopped → List ℕ → List ℕ → Type 0
+abbrev pub ServesAs : Answering → Span Holding → List ℕ → Result (Unit {0}) Stopped → List ℕ → List ℕ → Type 0
 ServesAs x k bytes (Ok done) out audit =
     ((script_of bytes).refused ≡ None) × PutsServed false x k (script_of bytes) out audit
 ServesAs x k bytes (Err (stops.Refused lapse)) out audit =

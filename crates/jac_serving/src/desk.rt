@@ -36,7 +36,7 @@ pub trait Desk {
     /// The next thing that a hub gives, whose replies are spelled so.
     fn next_out(&mut self, spelling: Spelling, hub: &mut Hub) -> Option<HubOut>
         requires { MayServe answering (seen self.old) }
-        ensures next { Nexts IsTaken (handled spelling (answering (seen self.old).of)) (hub_seen hub.old) (hub_seen hub.old).turn result (hub_seen hub.new) (seen self.old).keeper (seen self.new).keeper }
+        ensures next { Nexts IsTaken (handled spelling (answering (seen self.old).of)) (hub_seen hub.old) (hub_seen hub.old).turn result (hub_seen hub.new) (seen self.old).holding (seen self.new).holding }
         ensures idle { result ≡ None → (hub_seen hub.new).turn ≡ Idle }
         ensures nearer { IfSome result (λ out. left (hub_seen hub.new) < left (hub_seen hub.old)) }
         ensures keeps { Keeps answering (seen self.old) (seen self.new) };

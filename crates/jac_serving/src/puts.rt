@@ -78,7 +78,7 @@ fn put_failed<O: Sink, U: AuditSink>(
     status: Fixed,
     viewer: Option<Id>,
 ) -> Result<(), Failed>
-    ensures put { Went (sinks (O.seen out.old) (O.seen out.new) (U.seen audit.old) (U.seen audit.new)) (PutBoth reply.now (audit_text k (status_of_fixed status) viewer None) result) }
+    ensures put { Went (sinks (O.seen out.old) (O.seen out.new) (U.seen audit.old) (U.seen audit.new)) (PutBoth reply.now (audit_text k (status_of_fixed status) viewer None None) result) }
     ensures cause { OnErr result (AWriteFailed (sinks (O.seen out.old) (O.seen out.new) (U.seen audit.old) (U.seen audit.new))) }
 {
     match put_failed_audit(audit, k, status, viewer) {
@@ -97,7 +97,7 @@ pub fn put_failed_audit<U: AuditSink>(
     status: Fixed,
     viewer: Option<Id>,
 ) -> Result<(), Failed>
-    ensures { IsPut (span (U.seen audit.old) (U.seen audit.new)) (audit_text k (status_of_fixed status) viewer None) result }
+    ensures { IsPut (span (U.seen audit.old) (U.seen audit.new)) (audit_text k (status_of_fixed status) viewer None None) result }
 {
     let mut number_buffer = Buffer::new();
     let mut viewer_buffer = Buffer::new();
@@ -122,7 +122,7 @@ fn put_still<O: Sink, U: AuditSink>(
     head: bool,
     viewer: Option<Id>,
 ) -> Result<(), Failed>
-    ensures put { Went (sinks (O.seen out.old) (O.seen out.new) (U.seen audit.old) (U.seen audit.new)) (PutBoth (sent_text conn (reply_bytes (status_of_fixed status) None None [] false head true)) (audit_text k (status_of_fixed status) viewer None) result) }
+    ensures put { Went (sinks (O.seen out.old) (O.seen out.new) (U.seen audit.old) (U.seen audit.new)) (PutBoth (sent_text conn (reply_bytes (status_of_fixed status) None None [] false head true)) (audit_text k (status_of_fixed status) viewer None None) result) }
     ensures cause { OnErr result (AWriteFailed (sinks (O.seen out.old) (O.seen out.new) (U.seen audit.old) (U.seen audit.new))) }
 {
     match put_failed_audit(audit, k, status, viewer) {

@@ -1,5 +1,5 @@
--- The files that commands name.
-use Rattle.std.specs.Prelude.{◌≤◌, ⊤, ℕ, Option, Some, None, List, [], codes}
+-- The files that commands name, and what else of a command its run asks.
+use Rattle.std.specs.Prelude.{◌≤◌, ⊤, ℕ, Bool, false, Option, Some, None, List, [], codes}
 use Rattle.jac_words.specs.declared.words.Command.{Command}
 use Rattle.jac_words.specs.declared.words.Command.TheVariants as commands
 use Rattle.jac_words.specs.declared.role.Role.{Role}
@@ -54,6 +54,12 @@ db_of (commands.Dump dumping) = dumping.db
 db_of (commands.Upgrade upgrading) = Some upgrading.db
 db_of (commands.Why explaining) = explaining.db
 db_of command = None
+
+-- a page of a GET resolves only the labels that it consults
+abbrev pub lazy_of : Command → Bool
+lazy_of (commands.Replay replay) = replay.lazy
+lazy_of (commands.Serve serving) = serving.lazy
+lazy_of command = false
 
 -- the number of a demo is one that words may give
 abbrev pub HasCount : Command → Type 0

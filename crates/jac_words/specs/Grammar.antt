@@ -2,7 +2,7 @@
 use Rattle.std.specs.Prelude.{List, ℕ, Some, true, codes}
 use Rattle.clap.specs.Words.{App, Rule, new_app, new_rule, with_rule, with_subcommand}
 use Rattle.clap.specs.Simple.{on_top}
-use Rattle.clap.specs.declared.builder.action.ArgAction.TheVariants.{Set}
+use Rattle.clap.specs.declared.builder.action.ArgAction.TheVariants.{Set, SetTrue}
 
 -- a word that has to be there
 abbrev pub operand_rule : List ℕ → Rule
@@ -12,11 +12,18 @@ operand_rule name = record (new_rule name) { action = Some Set; required = true 
 abbrev pub option_rule : List ℕ → Rule
 option_rule name = record (new_rule name) { long = Some name; action = Some Set }
 
+-- a word that may be there once, as `--NAME`
+abbrev pub flag_rule : List ℕ → Rule
+flag_rule name = record (new_rule name) { long = Some name; action = Some SetTrue }
+
 abbrev pub with_operand : List ℕ → App → App
 with_operand name app = with_rule app (operand_rule name)
 
 abbrev pub with_option : List ℕ → App → App
 with_option name app = with_rule app (option_rule name)
+
+abbrev pub with_flag : List ℕ → App → App
+with_flag name app = with_rule app (flag_rule name)
 
 -- the files of a run that serves
 abbrev pub with_files : App → App
@@ -26,10 +33,16 @@ abbrev pub check_app : App
 check_app = with_operand (codes "APP") (new_app (codes "check"))
 
 abbrev pub replay_app : App
-replay_app = with_files (with_operand (codes "EVENTS") (with_operand (codes "APP") (new_app (codes "replay"))))
+replay_app =
+    with_flag (codes "lazy")
+    (with_files (with_operand (codes "EVENTS") (with_operand (codes "APP") (new_app (codes "replay")))))
 
 abbrev pub serve_app : App
-serve_app = with_files (with_operand (codes "COUNT") (with_operand (codes "PORT") (with_operand (codes "APP") (new_app (codes "serve")))))
+serve_app =
+    with_flag (codes "lazy")
+    (with_files
+    (with_operand (codes "COUNT")
+    (with_operand (codes "PORT") (with_operand (codes "APP") (new_app (codes "serve"))))))
 
 abbrev pub demo_app : App
 demo_app = with_operand (codes "N") (new_app (codes "demo"))

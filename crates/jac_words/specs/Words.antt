@@ -1,7 +1,7 @@
 -- The command that the words behind the program's name give. Which word is a command, an operand, an option or its
 -- value is `clap`'s own meaning of the grammar `jac`.
-use Rattle.std.specs.Prelude.{ℕ, Bool, not, ◌==◌, ◌&&◌, ◌^◌, ◌-◌, nat_le, nat_lt, if◌then◌else◌, List, [], ◌∷◌, length, slice_index, codes, Option, Some, None}
-use Rattle.std.specs.Option.{option_map, option_and_then}
+use Rattle.std.specs.Prelude.{ℕ, Bool, false, not, ◌==◌, ◌&&◌, ◌^◌, ◌-◌, nat_le, nat_lt, if◌then◌else◌, List, [], ◌∷◌, length, slice_index, codes, Option, Some, None}
+use Rattle.std.specs.Option.{option_map, option_map_or, option_and_then}
 use Rattle.std.specs.List.{list_all, slice_split}
 use Rattle.std.specs.Char.{is_ascii_digit}
 use Rattle.std.specs.Str.{bytes_eq}
@@ -59,6 +59,10 @@ option_of (Some text) = option_map (λ file. Some file) (filled text)
 abbrev pub option_in : List ℕ → List Row → Option (Option (List ℕ))
 option_in id rows = option_of (first_of id rows)
 
+-- the option without a value is there: clap gives it the text `true` there, and `false` elsewhere
+abbrev pub flag_in : List ℕ → List Row → Bool
+flag_in id rows = option_map_or (λ text. bytes_eq text (codes "true")) (first_of id rows) false
+
 -- a number from 1 on
 abbrev pub number_in : ℕ → List ℕ → List Row → Option ℕ
 number_in most id rows = option_and_then (number_within 1 most) (first_of id rows)
@@ -67,7 +71,12 @@ abbrev pub options_in : List Row → Option Options
 options_in rows =
     option_and_then (λ db.
     option_and_then (λ sessions.
-    option_map (λ audit. record { db = db; sessions = sessions; audit = audit })
+    option_map (λ audit. record {
+      db = db;
+      sessions = sessions;
+      audit = audit;
+      lazy = flag_in (codes "lazy") rows;
+    })
     (option_in (codes "audit") rows))
     (option_in (codes "sessions") rows))
     (option_in (codes "db") rows)
@@ -81,7 +90,14 @@ abbrev pub replay_in : List Row → Option Command
 replay_in rows =
     option_and_then (λ app.
     option_and_then (λ events.
-    option_map (λ options. commands.Replay (record { app = app; events = events; sessions = options.sessions; audit = options.audit; db = options.db }))
+    option_map (λ options. commands.Replay (record {
+      app = app;
+      events = events;
+      sessions = options.sessions;
+      audit = options.audit;
+      db = options.db;
+      lazy = options.lazy;
+    }))
     (options_in rows))
     (file_in (codes "EVENTS") rows))
     (file_in (codes "APP") rows)
@@ -91,7 +107,15 @@ serve_in rows =
     option_and_then (λ app.
     option_and_then (λ port.
     option_and_then (λ count.
-    option_map (λ options. commands.Serve (record { app = app; port = port; count = count; sessions = options.sessions; audit = options.audit; db = options.db }))
+    option_map (λ options. commands.Serve (record {
+      app = app;
+      port = port;
+      count = count;
+      sessions = options.sessions;
+      audit = options.audit;
+      db = options.db;
+      lazy = options.lazy;
+    }))
     (options_in rows))
     (number_in 1_000_000 (codes "COUNT") rows))
     (number_in 65_535 (codes "PORT") rows))

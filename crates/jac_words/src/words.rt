@@ -2,7 +2,7 @@ ghost use Rattle.std.specs.Prelude.{◌≡◌, ◌≢◌, ◌≤◌, IfOk, IfSom
 ghost use Rattle.std.specs.Option.{option_map, option_and_then};
 ghost use Rattle.clap.specs.Words.{first_of, found_of, kind_of, rows_of, subcommand_rows_of};
 ghost use Rattle.jac_route.specs.Words.{viewer_read};
-ghost use Rattle.jac_words.specs.Words.{filled, labels_of, file_in, option_in, number_in, number_within, options_in, check_in, replay_in, serve_in, demo_in, dump_in, upgrade_in, why_in, command_named, entered_command, command_of};
+ghost use Rattle.jac_words.specs.Words.{filled, labels_of, file_in, option_in, flag_in, number_in, number_within, options_in, check_in, replay_in, serve_in, demo_in, dump_in, upgrade_in, why_in, command_named, entered_command, command_of};
 
 mod grammar;
 mod labels;
@@ -32,7 +32,7 @@ pub enum Command {
     Why(Explaining),
 }
 
-/// The files of a replay.
+/// The files of a replay, and whether its pages are made lazily.
 #[derive(Debug, Drop)]
 pub struct Replay {
     pub app: Txt,
@@ -40,6 +40,8 @@ pub struct Replay {
     pub sessions: Option<Txt>,
     pub audit: Option<Txt>,
     pub db: Option<Txt>,
+    /// A page of a GET resolves only the labels that it consults.
+    pub lazy: bool,
 }
 
 /// An application to serve, on a port from 1 on, for a count of connections from 1 to 1,000,000.
@@ -51,6 +53,8 @@ pub struct Serving {
     pub sessions: Option<Txt>,
     pub audit: Option<Txt>,
     pub db: Option<Txt>,
+    /// A page of a GET resolves only the labels that it consults.
+    pub lazy: bool,
 }
 
 /// A store to print, as it looks where the labels are shown.
@@ -78,12 +82,13 @@ pub struct Explaining {
     pub db: Option<Txt>,
 }
 
-// The files that options name.
+// What the options of a run that serves say.
 #[derive(Debug, Drop)]
 struct Options {
     db: Option<Txt>,
     sessions: Option<Txt>,
     audit: Option<Txt>,
+    lazy: bool,
 }
 
 /// The command that the words behind the program's name give. Where they give none, that is no error: the caller
@@ -188,6 +193,7 @@ fn replay_in(alloc: Global, matches: &ArgMatches<'_>) -> Result<Option<Command>,
         sessions: options.sessions,
         audit: options.audit,
         db: options.db,
+        lazy: options.lazy,
     })))
 }
 
@@ -213,6 +219,7 @@ fn serve_in(alloc: Global, matches: &ArgMatches<'_>) -> Result<Option<Command>, 
         sessions: options.sessions,
         audit: options.audit,
         db: options.db,
+        lazy: options.lazy,
     })))
 }
 
@@ -284,6 +291,7 @@ fn options_in(alloc: Global, matches: &ArgMatches<'_>) -> Result<Option<Options>
         db,
         sessions,
         audit,
+        lazy: flag_in(matches, "lazy"),
     }))
 }
 
@@ -312,6 +320,16 @@ fn option_in(
         return Ok(None);
     };
     Ok(Some(Some(file)))
+}
+
+// Whether the option without a value was given.
+fn flag_in(matches: &ArgMatches<'_>, id: &str) -> bool
+    ensures { result ≡ flag_in id.now (rows_of (found_of matches.now)) }
+{
+    match value_in(matches, id) {
+        Some(text) => text == "true",
+        None => false,
+    }
 }
 
 fn filled(alloc: Global, text: &str) -> Result<Option<Txt>, Memory>

@@ -1,7 +1,7 @@
 ghost use Rattle.std.specs.Prelude.{◌≡◌, false, IfOk};
 ghost use Rattle.clap.specs.Words.{app_of, rule_of, with_rule};
 ghost use Rattle.clap.specs.declared.Command.TheViews.{out-Command};
-ghost use Rattle.jac_words.specs.Grammar.{operand_rule, option_rule, with_operand, with_option, with_files, check_app, replay_app, serve_app, demo_app, dump_app, upgrade_app, why_app, bare_app, with_command, jac};
+ghost use Rattle.jac_words.specs.Grammar.{operand_rule, option_rule, with_operand, with_option, with_flag, with_files, check_app, replay_app, serve_app, demo_app, dump_app, upgrade_app, why_app, bare_app, with_command, jac};
 
 use clap::{Arg, ArgAction, Command};
 use jac_value::Memory;
@@ -46,7 +46,8 @@ fn replay<'a>(alloc: Global) -> Result<Command<'a>, Memory>
     let command = Command::new(alloc, "replay");
     let command = with_operand(alloc, command, "APP")?;
     let command = with_operand(alloc, command, "EVENTS")?;
-    with_files(alloc, command)
+    let command = with_files(alloc, command)?;
+    with_flag(alloc, command, "lazy")
 }
 
 fn serve<'a>(alloc: Global) -> Result<Command<'a>, Memory>
@@ -57,7 +58,8 @@ fn serve<'a>(alloc: Global) -> Result<Command<'a>, Memory>
     let command = with_operand(alloc, command, "APP")?;
     let command = with_operand(alloc, command, "PORT")?;
     let command = with_operand(alloc, command, "COUNT")?;
-    with_files(alloc, command)
+    let command = with_files(alloc, command)?;
+    with_flag(alloc, command, "lazy")
 }
 
 fn demo<'a>(alloc: Global) -> Result<Command<'a>, Memory>
@@ -99,7 +101,8 @@ fn why<'a>(alloc: Global) -> Result<Command<'a>, Memory>
 
 fn with_files<'a>(alloc: Global, command: Command<'a>) -> Result<Command<'a>, Memory>
     ensures app { IfOk result (λ c. app_of c ≡ with_files (app_of command.entry)) }
-    ensures local { IfOk result (λ c. (out-Command c).has_globals ≡ (out-Command command.entry).has_globals) }
+    ensures local { IfOk result (λ c.
+        (out-Command c).has_globals ≡ (out-Command command.entry).has_globals) }
 {
     let command = with_option(alloc, command, "db")?;
     let command = with_option(alloc, command, "sessions")?;
@@ -112,7 +115,8 @@ fn with_operand<'a>(
     name: &'a str,
 ) -> Result<Command<'a>, Memory>
     ensures app { IfOk result (λ c. app_of c ≡ with_operand name.entry.now (app_of command.entry)) }
-    ensures local { IfOk result (λ c. (out-Command c).has_globals ≡ (out-Command command.entry).has_globals) }
+    ensures local { IfOk result (λ c.
+        (out-Command c).has_globals ≡ (out-Command command.entry).has_globals) }
 {
     let operand = Arg::new(alloc, name).action(ArgAction::Set).required(true);
     with_argument(command, operand)
@@ -124,16 +128,27 @@ fn with_option<'a>(
     name: &'a str,
 ) -> Result<Command<'a>, Memory>
     ensures app { IfOk result (λ c. app_of c ≡ with_option name.entry.now (app_of command.entry)) }
-    ensures local { IfOk result (λ c. (out-Command c).has_globals ≡ (out-Command command.entry).has_globals) }
+    ensures local { IfOk result (λ c.
+        (out-Command c).has_globals ≡ (out-Command command.entry).has_globals) }
 {
     let option = Arg::new(alloc, name).long(name).action(ArgAction::Set);
     with_argument(command, option)
 }
 
+fn with_flag<'a>(alloc: Global, command: Command<'a>, name: &'a str) -> Result<Command<'a>, Memory>
+    ensures app { IfOk result (λ c. app_of c ≡ with_flag name.entry.now (app_of command.entry)) }
+    ensures local { IfOk result (λ c.
+        (out-Command c).has_globals ≡ (out-Command command.entry).has_globals) }
+{
+    let flag = Arg::new(alloc, name).long(name).action(ArgAction::SetTrue);
+    with_argument(command, flag)
+}
+
 fn with_argument<'a>(command: Command<'a>, argument: Arg<'a>) -> Result<Command<'a>, Memory>
     requires local { argument.global ≡ false }
     ensures app { IfOk result (λ c. app_of c ≡ with_rule (app_of command.entry) (rule_of argument.entry)) }
-    ensures local { IfOk result (λ c. (out-Command c).has_globals ≡ (out-Command command.entry).has_globals) }
+    ensures local { IfOk result (λ c.
+        (out-Command c).has_globals ≡ (out-Command command.entry).has_globals) }
 {
     let command = command.arg(argument)?;
     Ok(command)

@@ -1,5 +1,6 @@
 use Rattle.std.proofs.Common.{inr, None}
 use Rattle.jac_lang.specs.Mirror.{application_of}
+use Rattle.jac_serving.specs.Keeping.{holding_of}
 use Rattle.jac_serving.specs.Outside.{span}
 use Rattle.jac_app.proofs.DemoLemmas.{told_behind, unaimed}
 use Rattle.jac_ending.proofs.EndingLemmas.{went_aimed}
@@ -20,11 +21,11 @@ returns-in-Ok g c =
     (λ is_aimed o a h.
     inr (
       is_aimed,
-      told_behind out later before aimed after (application_of c.args.service.now) (span (K.seen c.args.vault.now) (K.seen c.tell_attached.new.vault)) c.args.count c.tell_attached.result o a aims.later h,
+      told_behind out later before aimed after (application_of c.args.service.now) (span (holding_of (K.seen c.args.vault.now) c.args.splits.now) (holding_of (K.seen c.tell_attached.new.vault) c.tell_attached.new.splits)) c.args.count c.tell_attached.result o a aims.later h,
     ))
     c.tell_attached.ensures
 
 pub returns-in-Err : goal.returns-in-Err
 returns-in-Err g c =
     let U = g.U.Sink in
-    unaimed (g.O.Sink.seen c.args.out.now) (U.seen c.args.audit.now) (U.seen c.aim.new.self) _ (application_of c.args.service.now) (g.K.Keeper.seen c.args.vault.now) c.args.count c.in-Err.ensures
+    unaimed (g.O.Sink.seen c.args.out.now) (U.seen c.args.audit.now) (U.seen c.aim.new.self) _ (application_of c.args.service.now) (holding_of (g.K.Keeper.seen c.args.vault.now) c.args.splits.now) c.args.count c.in-Err.ensures

@@ -6,12 +6,12 @@ use Rattle.jac_app.proofs.demo.demo.Goals as goal
 pub returns-in-Err : goal.returns-in-Err
 returns-in-Err g c =
     let audit = g.U.Sink.seen c.args.audit.now in
-    idle_ends (g.O.Sink.seen c.args.out.now) audit _ (inl (c.in-Err.ensures.unopened, still_idle audit (g.K.Keeper.seen c.args.vault.now)))
+    idle_ends (g.O.Sink.seen c.args.out.now) audit _ (inl (c.in-Err.ensures.unopened, record { idle = still_idle audit (g.K.Keeper.seen c.args.vault.now); unsplit = refl }))
 
 pub returns-in-Err-schema : goal.returns-in-Err-schema
 returns-in-Err-schema g c =
     let audit = g.U.Sink.seen c.args.audit.now in
-    idle_ends (g.O.Sink.seen c.args.out.now) audit _ (inl (inr refl, still_idle audit (g.K.Keeper.seen c.args.vault.now)))
+    idle_ends (g.O.Sink.seen c.args.out.now) audit _ (inl (inr refl, record { idle = still_idle audit (g.K.Keeper.seen c.args.vault.now); unsplit = refl }))
 
 pub returns : goal.returns
 returns g c =

@@ -5,6 +5,7 @@ use Rattle.jac_lang.specs.Mirror.{application_of}
 use Rattle.jac_calendar.specs.Asking.{IsAsking}
 use Rattle.jac_app.specs.Demo.{Tallies}
 use Rattle.jac_serving.specs.Line.{lines_of}
+use Rattle.jac_serving.specs.Keeping.{holding_of}
 use Rattle.jac_serving.specs.Outside.{span}
 use Rattle.jac_serving.specs.Script.{script_of}
 use Rattle.jac_calendar.proofs.AskingLemmas.{text_asking, text_short}
@@ -24,14 +25,14 @@ tally_events-requires-clause-asking g c =
 pub returns-in-Ok-clause-served : goal.returns-in-Ok-clause-served
 returns-in-Ok-clause-served g c =
     let K = g.K.Keeper in
-    let before = K.seen c.args.keeper.now in
+    let before = holding_of (K.seen c.args.keeper.now) c.args.splits.now in
     WentTo-on _ _ _
     (λ put h.
-    subst (λ (t : List ℕ). Tallies (application_of c.args.service.now) (span before (K.seen c.tally_events.new.keeper)) (script_of t) c.tally_events.result put)
+    subst (λ (t : List ℕ). Tallies (application_of c.args.service.now) (span before (holding_of (K.seen c.tally_events.new.keeper) c.tally_events.new.splits)) (script_of t) c.tally_events.result put)
     (c.as_slice.ensures ∙ c.in-Ok.ensures) h)
     c.tally_events.ensures.tallied
 
 pub returns-in-Err-clause-served : goal.returns-in-Err-clause-served
 returns-in-Err-clause-served g c =
-    let k = g.K.Keeper.seen c.args.keeper.now in
+    let k = holding_of (g.K.Keeper.seen c.args.keeper.now) c.args.splits.now in
     WentTo-none (g.U.Sink.seen c.args.audit.now) _ (tally_none (application_of c.args.service.now) k c.args.count c.requires.start)

@@ -2,6 +2,7 @@ use Rattle.std.proofs.Common.{◌+◌, ap, Err, false}
 use Rattle.jac_keep.specs.declared.stop.Stop.{Stop}
 use Rattle.jac_lang.specs.Mirror.{application_of}
 use Rattle.jac_desk.specs.Asked.{ask_in}
+use Rattle.jac_serving.specs.Keeping.{holding_of}
 use Rattle.jac_serving.specs.Outside.{span}
 use Rattle.jac_serving.proofs.OutsideLemmas.{WentTo-on}
 use Rattle.jac_app.proofs.DemoLemmas.{ask_counted, ask_stopped, same_line}
@@ -12,7 +13,7 @@ pub returns-in-Ok-clause-answered : goal.returns-in-Ok-clause-answered
 returns-in-Ok-clause-answered g c =
     let K = g.K.Keeper in
     let app = application_of c.args.service.now in
-    let k = span (K.seen c.args.keeper.now) (K.seen c.count_ask.new.keeper) in
+    let k = span (holding_of (K.seen c.args.keeper.now) c.args.splits.now) (holding_of (K.seen c.count_ask.new.keeper) c.count_ask.new.splits) in
     let ask = ask_in app c.args.viewer c.args.method.now c.args.path.now c.args.query.now c.args.body.now in
     WentTo-on _ _ _
     (λ put h.
@@ -25,13 +26,13 @@ pub returns-in-Err-clause-answered : goal.returns-in-Err-clause-answered
 returns-in-Err-clause-answered g c =
     let K = g.K.Keeper in
     let app = application_of c.args.service.now in
-    let k = span (K.seen c.args.keeper.now) (K.seen c.count_ask.new.keeper) in
+    let k = span (holding_of (K.seen c.args.keeper.now) c.args.splits.now) (holding_of (K.seen c.count_ask.new.keeper) c.count_ask.new.splits) in
     let ask = ask_in app c.args.viewer c.args.method.now c.args.path.now c.args.query.now c.args.body.now in
     let stop = c.in-Err.stop in
     WentTo-on _ _ _
     (λ put h.
     ask_stopped app k c.args.served ask c.viewer_in.result stop c.put_stopped.result put (rw c.app.ensures.app at c.viewer_in.ensures)
-    (is_failed app k ask false stop
-    c.in-Err.ensures.refused c.in-Err.ensures.told c.requires.start c.in-Err.ensures.cause.later (λ is. c.in-Err.ensures.cause.rose (ap (λ (s : Stop). Err s) is)))
+    (is_failed false app k ask false stop
+    c.in-Err.ensures.refused c.in-Err.ensures.reading c.in-Err.ensures.told c.requires.start c.in-Err.ensures.cause.later (λ is. c.in-Err.ensures.cause.rose (ap (λ (s : Stop). Err s) is)))
     h)
     c.put_stopped.ensures.put

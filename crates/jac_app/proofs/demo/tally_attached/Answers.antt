@@ -1,4 +1,6 @@
+use Rattle.std.proofs.Common.{refl}
 use Rattle.jac_lang.specs.Mirror.{application_of}
+use Rattle.jac_serving.specs.Keeping.{holding_of}
 use Rattle.jac_serving.specs.Outside.{span}
 use Rattle.jac_serving.proofs.OutsideLemmas.{WentTo-none, WentTo-on}
 use Rattle.jac_app.proofs.DemoLemmas.{tallied_on, tally_unattached}
@@ -9,7 +11,7 @@ returns-in-Ok-serve_calendar-clause-served g c =
     let K = g.K.Keeper in
     WentTo-on _ _ _
     (λ a served.
-    tallied_on (application_of c.args.service.now) (K.seen c.args.vault.now) (K.seen c.attach.new.vault) (K.seen c.serve_calendar.new.keeper)
+    tallied_on (application_of c.args.service.now) (K.seen c.args.vault.now) (K.seen c.attach.new.vault) c.args.splits.now (holding_of (K.seen c.serve_calendar.new.keeper) c.serve_calendar.new.splits)
     c.args.count _ a c.in-Ok.ensures.attaches c.in-Ok-serve_calendar.ensures.store served)
     c.in-Ok-serve_calendar.ensures.served
 
@@ -17,4 +19,4 @@ pub returns-in-Err-clause-served : goal.returns-in-Err-clause-served
 returns-in-Err-clause-served g c =
     let K = g.K.Keeper in
     WentTo-none (g.U.Sink.seen c.args.audit.now) _
-    (tally_unattached (application_of c.args.service.now) (span (K.seen c.args.vault.now) (K.seen c.attach.new.vault)) c.args.count c.in-Err.ending c.in-Err.ensures.attaches)
+    (tally_unattached (application_of c.args.service.now) (span (holding_of (K.seen c.args.vault.now) c.args.splits.now) (holding_of (K.seen c.attach.new.vault) c.args.splits.now)) c.args.count c.in-Err.ending c.in-Err.ensures.attaches refl)

@@ -7,6 +7,7 @@ use Rattle.jac_events.specs.Lines.{line_of}
 use Rattle.jac_value.specs.Parts.{parts_left, option_now, length_left}
 use Rattle.jac_app.specs.declared.summary.Summary.{Summary}
 use Rattle.jac_calendar.specs.Asking.{IsAsking}
+use Rattle.jac_serving.specs.Keeping.{holding_of}
 use Rattle.jac_serving.proofs.OutsideLemmas.{WentTo-none, WentTo-on, WentTo-then}
 use Rattle.jac_app.proofs.DemoLemmas.{tally_start, tally_on, tally_stop, tally_all}
 use Rattle.jac_serving.proofs.ProgressLemmas.{shorter_left}
@@ -25,7 +26,7 @@ lines-init g c =
       start = c.requires.start;
       went =
           WentTo-none (g.U.Sink.seen c.args.audit.now) _
-          (tally_start (application_of c.args.service.now) (g.K.Keeper.seen c.args.keeper.now) c.args.bytes.now c.none_counted-summary.result c.none_counted-summary.ensures.none c.requires.start);
+          (tally_start (application_of c.args.service.now) (holding_of (g.K.Keeper.seen c.args.keeper.now) c.args.splits.now) c.args.bytes.now c.none_counted-summary.result c.none_counted-summary.ensures.none c.requires.start);
     }
 
 pub tally_line-requires-clause-asking : goal.tally_line-requires-clause-asking
@@ -41,7 +42,7 @@ returns-in-Err-clause-tallied g c =
     let parts = ap (λ (o : Option (Bor (List ℕ))). parts_left 10 (option_now o)) c.in-Some.is ∙ c.first_part.ensures.parts in
     WentTo-then (U.seen c.args.audit.now) (U.seen c.lines.audit) (U.seen c.tally_line.new.audit) _ _ _
     (λ a b progress line.
-    tally_stop (application_of c.args.service.now) (K.seen c.args.keeper.now) (K.seen c.lines.keeper) (K.seen c.tally_line.new.keeper)
+    tally_stop (application_of c.args.service.now) (holding_of (K.seen c.args.keeper.now) c.args.splits.now) (holding_of (K.seen c.lines.keeper) c.lines.splits) (holding_of (K.seen c.tally_line.new.keeper) c.tally_line.new.splits)
     c.args.bytes.now (option_now c.lines.left) (option_now c.first_part.result.1) c.lines.summary a c.first_part.result.0.now b (line_of c.first_part.result.0.now) c.in-Err.fault
     progress parts refl line)
     c.lines.invariant.went c.in-Err.ensures.tallied
@@ -66,7 +67,7 @@ lines-preserved g c =
       went =
           WentTo-then (U.seen c.args.audit.now) (U.seen c.lines.audit) (U.seen c.tally_line.new.audit) _ _ _
           (λ a b progress line.
-          tally_on (application_of c.args.service.now) (K.seen c.args.keeper.now) (K.seen c.lines.keeper) (K.seen c.tally_line.new.keeper)
+          tally_on (application_of c.args.service.now) (holding_of (K.seen c.args.keeper.now) c.args.splits.now) (holding_of (K.seen c.lines.keeper) c.lines.splits) (holding_of (K.seen c.tally_line.new.keeper) c.tally_line.new.splits)
           c.args.bytes.now (option_now c.lines.left) (option_now c.first_part.result.1) c.lines.summary c.in-Ok.more a c.first_part.result.0.now b (line_of c.first_part.result.0.now)
           progress parts refl line)
           before.went c.in-Ok.ensures.tallied;
@@ -76,5 +77,5 @@ pub returns-clause-tallied : goal.returns-clause-tallied
 returns-clause-tallied g c =
     let K = g.K.Keeper in
     WentTo-on _ _ _
-    (λ a progress. tally_all (application_of c.args.service.now) (K.seen c.args.keeper.now) (K.seen c.lines.keeper) c.args.bytes.now c.lines.left c.lines.summary a c.in_default.not-Some progress)
+    (λ a progress. tally_all (application_of c.args.service.now) (holding_of (K.seen c.args.keeper.now) c.args.splits.now) (holding_of (K.seen c.lines.keeper) c.lines.splits) c.args.bytes.now c.lines.left c.lines.summary a c.in_default.not-Some progress)
     c.lines.invariant.went

@@ -6,6 +6,7 @@ use Rattle.jac_events.specs.Lines.{line_of}
 use Rattle.jac_value.specs.Parts.{option_now, length_left, parts_left}
 use Rattle.jac_calendar.specs.Asking.{IsAsking}
 use Rattle.jac_app.specs.Demo.{IsBounded}
+use Rattle.jac_serving.specs.Keeping.{holding_of}
 use Rattle.jac_serving.specs.Outside.{WentTo, span}
 use Rattle.jac_app.proofs.DemoLemmas.{Tallying}
 use Rattle.jac_app.proofs.demo.tally_events.Given as goal
@@ -23,7 +24,7 @@ invariant-lines g l =
       same_store : (K.seen l.keeper).store ≡ (K.seen l.fn.keeper).store;
       start : IsTrue (K.seen l.keeper).tells → IsStart (application_of l.service) (K.seen l.keeper).state;
       went : WentTo (span (U.seen l.fn.audit) (U.seen l.audit))
-          (Tallying (application_of l.service) (span (K.seen l.fn.keeper) (K.seen l.keeper)) l.bytes (option_now l.left) l.summary);
+          (Tallying (application_of l.service) (span (holding_of (K.seen l.fn.keeper) l.fn.splits) (holding_of (K.seen l.keeper) l.splits)) l.bytes (option_now l.left) l.summary);
     }
 
 abbrev pub decreases-lines : goal.decreases-lines

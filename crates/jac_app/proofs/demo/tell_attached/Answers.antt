@@ -1,4 +1,5 @@
 use Rattle.jac_lang.specs.Mirror.{application_of}
+use Rattle.jac_serving.specs.Keeping.{holding_of}
 use Rattle.jac_serving.specs.Outside.{span}
 use Rattle.jac_app.proofs.DemoLemmas.{told_whole, told_torn, told_none}
 use Rattle.jac_app.proofs.demo.tell_attached.Goals as goal
@@ -9,7 +10,7 @@ returns-in-Ok-put_summary g c =
     let U = g.U.Sink in
     let K = g.K.Keeper in
     told_whole (O.seen c.args.out.now) (O.seen c.put_summary.new.out) (U.seen c.args.audit.now) (U.seen c.tally_attached.new.audit) (application_of c.args.service.now)
-    (span (K.seen c.args.vault.now) (K.seen c.tally_attached.new.vault)) c.args.count c.in-Ok.summary _ c.in-Ok.ensures.served c.in-Ok-put_summary.ensures
+    (span (holding_of (K.seen c.args.vault.now) c.args.splits.now) (holding_of (K.seen c.tally_attached.new.vault) c.tally_attached.new.splits)) c.args.count c.in-Ok.summary _ c.in-Ok.ensures.served c.in-Ok-put_summary.ensures
 
 pub returns-in-Err-put_summary : goal.returns-in-Err-put_summary
 returns-in-Err-put_summary g c =
@@ -17,11 +18,11 @@ returns-in-Err-put_summary g c =
     let U = g.U.Sink in
     let K = g.K.Keeper in
     told_torn (O.seen c.args.out.now) (O.seen c.put_summary.new.out) (U.seen c.args.audit.now) (U.seen c.tally_attached.new.audit) (application_of c.args.service.now)
-    (span (K.seen c.args.vault.now) (K.seen c.tally_attached.new.vault)) c.args.count c.in-Ok.summary _ c.in-Ok.ensures.served c.in-Err-put_summary.ensures
+    (span (holding_of (K.seen c.args.vault.now) c.args.splits.now) (holding_of (K.seen c.tally_attached.new.vault) c.tally_attached.new.splits)) c.args.count c.in-Ok.summary _ c.in-Ok.ensures.served c.in-Err-put_summary.ensures
 
 pub returns-in-Err : goal.returns-in-Err
 returns-in-Err g c =
     let U = g.U.Sink in
     let K = g.K.Keeper in
     told_none (g.O.Sink.seen c.args.out.now) (U.seen c.args.audit.now) (U.seen c.tally_attached.new.audit) (application_of c.args.service.now)
-    (span (K.seen c.args.vault.now) (K.seen c.tally_attached.new.vault)) c.args.count c.in-Err.ending c.in-Err.ensures.served c.in-Err.ensures.cause
+    (span (holding_of (K.seen c.args.vault.now) c.args.splits.now) (holding_of (K.seen c.tally_attached.new.vault) c.tally_attached.new.splits)) c.args.count c.in-Err.ending c.in-Err.ensures.served c.in-Err.ensures.cause

@@ -1,11 +1,7 @@
 use Rattle.std.proofs.Common.{◌∙◌, sym, refl, inl, inr, [], ◌++◌, arith}
-use Rattle.jac_serving.specs.Outside.{span}
-use Rattle.jac_ending.specs.Files.{sight}
 use Rattle.jac_serving.proofs.OutsideLemmas.{Lasts-then, Took-none, Took-then}
 use Rattle.jac_words.proofs.CountLemmas.{has_count}
 use Rattle.jac_ending.proofs.EndingLemmas.{still_idle}
-use Rattle.jac_app.proofs.LaterLemmas.{Ends-later}
-use Rattle.jac_ending.proofs.LaterLemmas.{Finishes-widen}
 use Rattle.jac_app.proofs.program.run_words.Goals as goal
 
 pub take_steps-ended-requires-clause-count : goal.take_steps-ended-requires-clause-count
@@ -22,7 +18,7 @@ returns-in-Ok-None-clause-ran g c =
       audit_later = omega arith;
       out_took = closed.took;
       audit_took = Took-none audit;
-      holds = inr (inl (record { no_command = sym c.in-Ok-None.ensures ∙ c.in-Ok-None.field-0-is; closes = closed.holds; idle = still_idle audit (g.K.Keeper.seen c.args.vault.now); uncalled = refl }));
+      holds = inr (inl (record { no_command = sym c.in-Ok-None.ensures ∙ c.in-Ok-None.field-0-is; closes = closed.holds; idle = still_idle audit (g.K.Keeper.seen c.args.vault.now); uncalled = refl; unsplit = refl }));
     }
 
 pub returns-in-Err-clause-ran : goal.returns-in-Err-clause-ran
@@ -36,23 +32,16 @@ returns-in-Err-clause-ran g c =
       audit_later = omega arith;
       out_took = closed.took;
       audit_took = Took-none audit;
-      holds = inr (inr (record { closes = closed.holds; idle = still_idle audit (g.K.Keeper.seen c.args.vault.now); uncalled = refl }));
+      holds = inr (inr (record { closes = closed.holds; idle = still_idle audit (g.K.Keeper.seen c.args.vault.now); uncalled = refl; unsplit = refl }));
     }
 
 pub returns-in-Ok-Some-clause-ran : goal.returns-in-Ok-Some-clause-ran
 returns-in-Ok-Some-clause-ran g c =
-    let F = g.F.Files in
     let O = g.O.Sink in
-    let U = g.U.Sink in
-    let K = g.K.Keeper in
-    let D = g.D.Door in
     let command = c.in-Ok-Some.command in
     let before = O.seen c.args.out.now in
     let middle = O.seen c.take_steps-ended.new.out in
     let after = O.seen c.finish.new.out in
-    let seen =
-    sight (F.seen c.args.files.now) (F.seen c.take_steps-ended.new.files) before middle (U.seen c.args.audit.now) (U.seen c.take_steps-ended.new.audit)
-    (K.seen c.args.vault.now) (K.seen c.take_steps-ended.new.vault) in
     let ended = c.take_steps-ended.ensures.ends in
     let finished = c.finish.ensures in
     record {
@@ -68,8 +57,11 @@ returns-in-Ok-Some-clause-ran g c =
         served = ended.out;
         last = finished.put;
         is_command = sym c.in-Ok-Some.ensures ∙ c.in-Ok-Some.field-0-is;
-        ends = Ends-later g.D.Line.Link.seen seen after finished.lasts.later (span (D.seen c.args.door.now) (D.seen c.take_steps-ended.new.door)) command ended.out ended.audit c.take_steps-ended.result ended.holds;
-        finishes = Finishes-widen before middle after ended.out_lasts.later command c.take_steps-ended.result finished.put c.finish.result finished.holds;
+        standing = middle;
+        ends = ended.holds;
+        finishes = finished.holds;
+        earlier = ended.out_lasts.later;
+        later = finished.lasts.later;
         out_text = refl;
       });
     }

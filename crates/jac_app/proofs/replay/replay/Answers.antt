@@ -22,10 +22,13 @@ returns-in-Err g c =
     let later = F.seen c.read_file.new.files in
     idle_ends out audit _
     (inl (
-      unread_ends (sight files later out out audit audit k k) command roles.App (span files later) c.in-Err.ending tt
-          (record { earlier = omega arith; later = omega arith; told = λ told. told; same_file = λ told. refl })
-          c.in-Err.ensures.unread,
-      still_idle audit k,
+      (
+        unread_ends (sight files later out out audit audit k k) command roles.App (span files later) c.in-Err.ending tt
+            (record { earlier = omega arith; later = omega arith; told = λ told. told; same_file = λ told. refl })
+            c.in-Err.ensures.unread,
+        still_idle audit k,
+      ),
+      refl,
     ))
 
 pub returns-in-Err-open_app : goal.returns-in-Err-open_app
@@ -42,10 +45,13 @@ returns-in-Err-open_app g c =
     let later = F.seen c.read_file.new.files in
     idle_ends out audit _
     (inl (
-      unopened_ends (sight files later out out audit audit k k) command c.in-Ok.bytes c.in-Err-open_app.ending
-          (record { short = c.in-Ok.ensures.short; told = c.in-Ok.ensures.told })
-          (rw c.as_slice.ensures at c.in-Err-open_app.ensures.unopened),
-      still_idle audit k,
+      (
+        unopened_ends (sight files later out out audit audit k k) command c.in-Ok.bytes c.in-Err-open_app.ending
+            (record { short = c.in-Ok.ensures.short; told = c.in-Ok.ensures.told })
+            (rw c.as_slice.ensures at c.in-Err-open_app.ensures.unopened),
+        still_idle audit k,
+      ),
+      refl,
     ))
 
 pub returns-in-Err-read_sessions : goal.returns-in-Err-read_sessions
@@ -65,17 +71,20 @@ returns-in-Err-read_sessions g c =
     let lasts = c.in-Err-read_sessions.ensures.lasts in
     idle_ends out audit _
     (inl (
-      sessionless_ends (sight files later out out audit audit k k) command (span middle later) c.in-Err-read_sessions.ending (
-        application_of c.in-Ok-open_app.service,
-        record {
-          bytes = c.in-Ok.bytes;
-          read = record { short = c.in-Ok.ensures.short; told = λ told. c.in-Ok.ensures.told (lasts.told told) };
-          spelled = rw c.as_slice.ensures at c.in-Ok-open_app.ensures.opened;
-        },
-      )
-          (record { earlier = first.later; later = omega arith; told = λ told. told; same_file = λ told. first.same_file (lasts.told told) })
-          (rw c.named.ensures at c.in-Err-read_sessions.ensures.sessionless),
-      still_idle audit k,
+      (
+        sessionless_ends (sight files later out out audit audit k k) command (span middle later) c.in-Err-read_sessions.ending (
+          application_of c.in-Ok-open_app.service,
+          record {
+            bytes = c.in-Ok.bytes;
+            read = record { short = c.in-Ok.ensures.short; told = λ told. c.in-Ok.ensures.told (lasts.told told) };
+            spelled = rw c.as_slice.ensures at c.in-Ok-open_app.ensures.opened;
+          },
+        )
+            (record { earlier = first.later; later = omega arith; told = λ told. told; same_file = λ told. first.same_file (lasts.told told) })
+            (rw c.named.ensures at c.in-Err-read_sessions.ensures.sessionless),
+        still_idle audit k,
+      ),
+      refl,
     ))
 
 pub returns-in-Err-read_file : goal.returns-in-Err-read_file
@@ -97,42 +106,45 @@ returns-in-Err-read_file g c =
     let third = c.in-Err-read_file.ensures.lasts in
     idle_ends out audit _
     (inl (
-      unread_ends (sight files later out out audit audit k k) command roles.Events (span middle later) c.in-Err-read_file.ending (
-        (
-          application_of c.in-Ok-open_app.service,
-          record {
-            bytes = c.in-Ok.bytes;
-            read = record { short = c.in-Ok.ensures.short; told = λ told. c.in-Ok.ensures.told (second.told (third.told told)) };
-            spelled = rw c.as_slice.ensures at c.in-Ok-open_app.ensures.opened;
-          },
-        ),
-        (
-          c.in-Ok-read_sessions.sessions,
-          sessions_within (span files later) (span opened middle)
-              (record { earlier = first.later; later = third.later; told = λ told. third.told told; same_file = λ told. first.same_file (second.told (third.told told)) })
-              c.args.command.now.sessions c.in-Ok-read_sessions.sessions (rw c.named.ensures at c.in-Ok-read_sessions.ensures.had),
-        ),
-        refl,
-      )
-          (record {
-            earlier = omega (arith, first.later, second.later);
-            later = omega arith;
-            told = λ told. told;
-            same_file = λ told. second.same_file (third.told told) ∙ first.same_file (second.told (third.told told));
-          })
-          c.in-Err-read_file.ensures.unread,
-      still_idle audit k,
+      (
+        unread_ends (sight files later out out audit audit k k) command roles.Events (span middle later) c.in-Err-read_file.ending (
+          (
+            application_of c.in-Ok-open_app.service,
+            record {
+              bytes = c.in-Ok.bytes;
+              read = record { short = c.in-Ok.ensures.short; told = λ told. c.in-Ok.ensures.told (second.told (third.told told)) };
+              spelled = rw c.as_slice.ensures at c.in-Ok-open_app.ensures.opened;
+            },
+          ),
+          (
+            c.in-Ok-read_sessions.sessions,
+            sessions_within (span files later) (span opened middle)
+                (record { earlier = first.later; later = third.later; told = λ told. third.told told; same_file = λ told. first.same_file (second.told (third.told told)) })
+                c.args.command.now.sessions c.in-Ok-read_sessions.sessions (rw c.named.ensures at c.in-Ok-read_sessions.ensures.had),
+          ),
+          refl,
+        )
+            (record {
+              earlier = omega (arith, first.later, second.later);
+              later = omega arith;
+              told = λ told. told;
+              same_file = λ told. second.same_file (third.told told) ∙ first.same_file (second.told (third.told told));
+            })
+            c.in-Err-read_file.ensures.unread,
+        still_idle audit k,
+      ),
+      refl,
     ))
 
 pub returns-in-Err-copy_name : goal.returns-in-Err-copy_name
 returns-in-Err-copy_name g c =
     let audit = g.U.Sink.seen c.args.audit.now in
-    idle_ends (g.O.Sink.seen c.args.out.now) audit _ (inl (tt, still_idle audit (g.K.Keeper.seen c.args.vault.now)))
+    idle_ends (g.O.Sink.seen c.args.out.now) audit _ (inl ((tt, still_idle audit (g.K.Keeper.seen c.args.vault.now)), refl))
 
 pub returns-in-Err-schema : goal.returns-in-Err-schema
 returns-in-Err-schema g c =
     let audit = g.U.Sink.seen c.args.audit.now in
-    idle_ends (g.O.Sink.seen c.args.out.now) audit _ (inl (tt, still_idle audit (g.K.Keeper.seen c.args.vault.now)))
+    idle_ends (g.O.Sink.seen c.args.out.now) audit _ (inl ((tt, still_idle audit (g.K.Keeper.seen c.args.vault.now)), refl))
 
 pub returns : goal.returns
 returns g c =
@@ -152,7 +164,7 @@ returns g c =
     let third = c.in-Ok-read_file.ensures.lasts in
     WentAimed-on _ _ _
     (λ o a served.
-    served_ends seen command (application_of c.in-Ok-open_app.service) c.in-Ok-read_sessions.sessions c.in-Ok-read_file.events o a c.serve_over.result
+    served_ends seen (span c.args.splits.now c.serve_over.new.splits) command (application_of c.in-Ok-open_app.service) c.in-Ok-read_sessions.sessions c.in-Ok-read_file.events o a c.serve_over.result
     (record {
       application = record {
         bytes = c.in-Ok.bytes;

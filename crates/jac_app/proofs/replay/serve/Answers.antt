@@ -1,5 +1,6 @@
 use Rattle.jac_lang.specs.Mirror.{application_of}
 use Rattle.jac_words.specs.declared.words.Command.TheVariants as commands
+use Rattle.jac_serving.specs.Keeping.{holding_of}
 use Rattle.jac_serving.specs.Outside.{span, sinks}
 use Rattle.jac_serving.specs.Script.{script_of}
 use Rattle.jac_ending.proofs.EndingLemmas.{went_aimed, failed_behind}
@@ -20,13 +21,13 @@ returns-in-Ok-clause-served g c =
     let aims = rw c.requires.aim at c.in-Ok.ensures in
     went_aimed out later before aimed after c.args.command.now.audit _ aims _ _
     (λ is_aimed o a h.
-    serving_behind (sinks out later before after) command (application_of c.args.desk.now.service.now) c.args.desk.now.sessions.now (span (K.seen c.args.desk.now.keeper.now) (K.seen c.serve_attached.new.desk.keeper.now))
+    serving_behind (sinks out later before after) command (application_of c.args.desk.now.service.now) c.args.desk.now.sessions.now (span (holding_of (K.seen c.args.desk.now.keeper.now) c.args.desk.now.splits.now) (holding_of (K.seen c.serve_attached.new.desk.keeper.now) c.serve_attached.new.desk.splits.now))
     (script_of c.args.events.now) c.serve_attached.result o a
     (λ is. failed_behind out later before aimed after c.args.command.now.audit _ aims (c.serve_attached.ensures.cause is)) is_aimed h)
-    (rw c.named.ensures at c.serve_attached.ensures.served)
+    c.serve_attached.ensures.served
 
 pub returns-in-Err-clause-served : goal.returns-in-Err-clause-served
 returns-in-Err-clause-served g c =
     let U = g.U.Sink in
     aim_failed (g.O.Sink.seen c.args.out.now) (U.seen c.args.audit.now) (U.seen c.aim.new.self) (commands.Replay c.args.command.now) _ (application_of c.args.desk.now.service.now) c.args.desk.now.sessions.now
-    (g.K.Keeper.seen c.args.desk.now.keeper.now) (script_of c.args.events.now) (rw c.requires.aim at c.in-Err.ensures)
+    (holding_of (g.K.Keeper.seen c.args.desk.now.keeper.now) c.args.desk.now.splits.now) (script_of c.args.events.now) (rw c.requires.aim at c.in-Err.ensures)

@@ -29,6 +29,7 @@ returns-in-Err-clause-ends g c =
         still_idle audit k,
       ),
       refl,
+      refl,
     ))
 
 pub returns-in-Err-open_app-clause-ends : goal.returns-in-Err-open_app-clause-ends
@@ -51,6 +52,7 @@ returns-in-Err-open_app-clause-ends g c =
             (rw c.as_slice.ensures at c.in-Err-open_app.ensures.unopened),
         still_idle audit k,
       ),
+      refl,
       refl,
     ))
 
@@ -85,17 +87,18 @@ returns-in-Err-read_sessions-clause-ends g c =
         still_idle audit k,
       ),
       refl,
+      refl,
     ))
 
 pub returns-in-Err-copy_name-clause-ends : goal.returns-in-Err-copy_name-clause-ends
 returns-in-Err-copy_name-clause-ends g c =
     let audit = g.U.Sink.seen c.args.audit.now in
-    idle_ends (g.O.Sink.seen c.args.out.now) audit _ (inl ((tt, still_idle audit (g.K.Keeper.seen c.args.vault.now)), refl))
+    idle_ends (g.O.Sink.seen c.args.out.now) audit _ (inl ((tt, still_idle audit (g.K.Keeper.seen c.args.vault.now)), refl, refl))
 
 pub returns-in-Err-schema-clause-ends : goal.returns-in-Err-schema-clause-ends
 returns-in-Err-schema-clause-ends g c =
     let audit = g.U.Sink.seen c.args.audit.now in
-    idle_ends (g.O.Sink.seen c.args.out.now) audit _ (inl ((tt, still_idle audit (g.K.Keeper.seen c.args.vault.now)), refl))
+    idle_ends (g.O.Sink.seen c.args.out.now) audit _ (inl ((tt, still_idle audit (g.K.Keeper.seen c.args.vault.now)), refl, refl))
 
 pub returns-clause-ends : goal.returns-clause-ends
 returns-clause-ends g c =
@@ -113,7 +116,7 @@ returns-clause-ends g c =
     let second = c.in-Ok-read_sessions.ensures.lasts in
     WentAimed-on _ _ _
     (λ o a served.
-    server_ends g.D.Line.Link.seen seen (span (D.seen c.args.door.now) (D.seen c.serve_over.new.door)) c.args.serving.now (application_of c.in-Ok-open_app.service) c.in-Ok-read_sessions.sessions o a
+    server_ends g.D.Line.Link.seen seen (span (D.seen c.args.door.now) (D.seen c.serve_over.new.door)) (span c.args.splits.now c.serve_over.new.splits) c.args.serving.now (application_of c.in-Ok-open_app.service) c.in-Ok-read_sessions.sessions o a
     c.serve_over.result
     (record {
       bytes = c.in-Ok.bytes;

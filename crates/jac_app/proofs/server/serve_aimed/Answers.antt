@@ -1,4 +1,5 @@
 use Rattle.jac_lang.specs.Mirror.{application_of}
+use Rattle.jac_serving.specs.Keeping.{holding_of}
 use Rattle.jac_serving.specs.Outside.{span, sinks}
 use Rattle.jac_ending.proofs.EndingLemmas.{went_aimed, failed_behind}
 use Rattle.jac_app.proofs.ServerLemmas.{aimed_ends, unaimed_ends}
@@ -19,7 +20,7 @@ returns-in-Ok-clause-served g c =
     went_aimed out later before aimed after c.args.serving.now.audit _ aims _ _
     (λ is_aimed o a h.
     aimed_ends g.D.Line.Link.seen (application_of c.args.desk.now.service.now) c.args.desk.now.sessions.now (sinks out later before after) c.args.serving.now (span (D.seen c.args.door.now) (D.seen c.serve_attached.new.door))
-    (span (K.seen c.args.desk.now.keeper.now) (K.seen c.serve_attached.new.desk.keeper.now)) c.serve_attached.result o a
+    (span (holding_of (K.seen c.args.desk.now.keeper.now) c.args.desk.now.splits.now) (holding_of (K.seen c.serve_attached.new.desk.keeper.now) c.serve_attached.new.desk.splits.now)) c.serve_attached.result o a
     (λ is. failed_behind out later before aimed after c.args.serving.now.audit _ aims (c.serve_attached.ensures.cause is)) is_aimed h)
     c.serve_attached.ensures.served
 
@@ -27,4 +28,4 @@ pub returns-in-Err-clause-served : goal.returns-in-Err-clause-served
 returns-in-Err-clause-served g c =
     let U = g.U.Sink in
     unaimed_ends g.D.Line.Link.seen (application_of c.args.desk.now.service.now) c.args.desk.now.sessions.now (g.O.Sink.seen c.args.out.now) (U.seen c.args.audit.now) (U.seen c.aim.new.self) c.args.serving.now
-    (g.D.Door.seen c.args.door.now) (g.K.Keeper.seen c.args.desk.now.keeper.now) _ (rw c.requires.aim at c.in-Err.ensures)
+    (g.D.Door.seen c.args.door.now) (holding_of (g.K.Keeper.seen c.args.desk.now.keeper.now) c.args.desk.now.splits.now) _ (rw c.requires.aim at c.in-Err.ensures)

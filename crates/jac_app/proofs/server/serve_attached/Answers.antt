@@ -1,4 +1,6 @@
+use Rattle.std.proofs.Common.{refl}
 use Rattle.jac_lang.specs.Mirror.{application_of}
+use Rattle.jac_serving.specs.Keeping.{holding_of}
 use Rattle.jac_serving.specs.Outside.{span}
 use Rattle.jac_serving.proofs.OutsideLemmas.{Went-none, Went-on}
 use Rattle.jac_desk.proofs.SittingLaws.{none_settled}
@@ -9,19 +11,24 @@ pub returns-in-Ok-clause-served : goal.returns-in-Ok-clause-served
 returns-in-Ok-clause-served g c =
     let D = g.D.Door in
     let K = g.K.Keeper in
+    let desk = c.args.desk.now in
+    let after = c.serve_door.new.desk in
     Went-on _ _ _
     (λ out audit served.
-    attached_ends g.D.Line.Link.seen (application_of c.args.desk.now.service.now) c.args.desk.now.sessions.now c.args.serving.now (span (D.seen c.args.door.now) (D.seen c.serve_door.new.door))
-    (K.seen c.args.desk.now.keeper.now) (K.seen c.attach.new.vault) (K.seen c.serve_door.new.desk.keeper.now) (rw c.named.ensures at c.in-Ok.ensures.attaches) c.serve_door.ensures.keeps.store c.serve_door.result out audit served)
+    attached_ends g.D.Line.Link.seen (application_of desk.service.now) desk.sessions.now c.args.serving.now (span (D.seen c.args.door.now) (D.seen c.serve_door.new.door))
+    (K.seen desk.keeper.now) (K.seen c.attach.new.vault) desk.splits.now (holding_of (K.seen after.keeper.now) after.splits.now)
+    (rw c.named.ensures at c.in-Ok.ensures.attaches) c.serve_door.ensures.keeps.store c.serve_door.result out audit served)
     c.serve_door.ensures.served
 
 pub returns-in-Err-clause-served : goal.returns-in-Err-clause-served
 returns-in-Err-clause-served g c =
     let D = g.D.Door in
     let K = g.K.Keeper in
+    let desk = c.args.desk.now in
     Went-none (g.O.Sink.seen c.args.out.now) (g.U.Sink.seen c.args.audit.now) _
-    (unattached_ends g.D.Line.Link.seen (application_of c.args.desk.now.service.now) c.args.desk.now.sessions.now c.args.serving.now (D.seen c.args.door.now) (span (K.seen c.args.desk.now.keeper.now) (K.seen c.attach.new.vault))
-    c.in-Err.ending c.in-Err.ensures.attaches)
+    (unattached_ends g.D.Line.Link.seen (application_of desk.service.now) desk.sessions.now c.args.serving.now (D.seen c.args.door.now)
+    (span (holding_of (K.seen desk.keeper.now) desk.splits.now) (holding_of (K.seen c.attach.new.vault) desk.splits.now))
+    c.in-Err.ending c.in-Err.ensures.attaches refl)
 
 pub serve_door-requires : goal.serve_door-requires
 serve_door-requires g c = record {
@@ -30,7 +37,11 @@ serve_door-requires g c = record {
     ready = c.in-Ok.ensures.start;
     settled = none_settled (application_of c.args.desk.now.service.now) (g.K.Keeper.seen c.attach.new.vault) _ c.forget.ensures;
   };
+  lazy = c.requires.lazy;
 }
 
-pub returns-in-Ok-clause-same_reference : goal.returns-in-Ok-clause-same_reference
-returns-in-Ok-clause-same_reference g c = λ i. (c.serve_door.ensures.keeps.same i).keeper
+pub returns-in-Ok-clause-same_keeper : goal.returns-in-Ok-clause-same_keeper
+returns-in-Ok-clause-same_keeper g c = λ i. (c.serve_door.ensures.keeps.same i).keeper
+
+pub returns-in-Ok-clause-same_splits : goal.returns-in-Ok-clause-same_splits
+returns-in-Ok-clause-same_splits g c = λ i. (c.serve_door.ensures.keeps.same i).splits

@@ -1,8 +1,10 @@
 use Rattle.jac_lang.specs.Mirror.{application_of}
+use Rattle.jac_serving.specs.Keeping.{holding_of}
 use Rattle.jac_serving.specs.Outside.{span}
 use Rattle.jac_serving.proofs.DeskLemmas.{keeps-none}
 use Rattle.jac_serving.proofs.OutsideLemmas.{Went-none, Went-on}
-use Rattle.jac_desk.specs.Answered.{answering, desk_of}
+use Rattle.jac_desk.specs.Answered.{answering}
+use Rattle.jac_desk.specs.Seen.{desk_seen}
 use Rattle.jac_app.proofs.ServerLemmas.{door_ends, unheard_ends}
 use Rattle.jac_app.proofs.server.serve_door.Goals as goal
 
@@ -10,19 +12,22 @@ pub returns-in-Ok-clause-served : goal.returns-in-Ok-clause-served
 returns-in-Ok-clause-served g c =
     let D = g.D.Door in
     let K = g.K.Keeper in
+    let desk = c.args.desk.now in
+    let after = c.serve_connections.new.desk in
     Went-on _ _ _
     (λ out audit served.
-    door_ends g.D.Line.Link.seen (application_of c.args.desk.now.service.now) c.args.desk.now.sessions.now (D.seen c.args.door.now) (D.seen c.listen.new.self) (D.seen c.serve_connections.new.door) c.args.serving.now _
-    c.in-Ok.ensures c.serve_connections.ensures.lasts c.serve_connections.ensures.same_port (span (K.seen c.args.desk.now.keeper.now) (K.seen c.serve_connections.new.desk.keeper.now)) c.serve_connections.result out audit served)
+    door_ends g.D.Line.Link.seen (application_of desk.service.now) desk.sessions.now (D.seen c.args.door.now) (D.seen c.listen.new.self) (D.seen c.serve_connections.new.door) c.args.serving.now _
+    c.in-Ok.ensures c.serve_connections.ensures.lasts c.serve_connections.ensures.same_port desk.lazy c.requires.lazy
+    (span (holding_of (K.seen desk.keeper.now) desk.splits.now) (holding_of (K.seen after.keeper.now) after.splits.now)) c.serve_connections.result out audit served)
     c.serve_connections.ensures.served
 
 pub returns-in-Err-clause-served : goal.returns-in-Err-clause-served
 returns-in-Err-clause-served g c =
     let D = g.D.Door in
+    let desk = c.args.desk.now in
     Went-none (g.O.Sink.seen c.args.out.now) (g.U.Sink.seen c.args.audit.now) _
-    (unheard_ends g.D.Line.Link.seen (application_of c.args.desk.now.service.now) c.args.desk.now.sessions.now (D.seen c.args.door.now) (D.seen c.listen.new.self) c.args.serving.now (g.K.Keeper.seen c.args.desk.now.keeper.now) _ c.in-Err.ensures)
+    (unheard_ends g.D.Line.Link.seen (application_of desk.service.now) desk.sessions.now (D.seen c.args.door.now) (D.seen c.listen.new.self) c.args.serving.now
+    (holding_of (g.K.Keeper.seen desk.keeper.now) desk.splits.now) _ c.in-Err.ensures)
 
 pub returns-in-Err-clause-keeps : goal.returns-in-Err-clause-keeps
-returns-in-Err-clause-keeps g c =
-    let desk = c.args.desk.now in
-    keeps-none answering (desk_of (application_of desk.service.now) desk.sessions.now desk.keeper.ghost_name (g.K.Keeper.seen desk.keeper.now) desk.sittings.now) c.requires.desk
+returns-in-Err-clause-keeps g c = keeps-none answering (desk_seen g.K.Keeper.seen c.args.desk.now) c.requires.desk

@@ -6,7 +6,7 @@ pub returns-in-Ok-clause-settled : goal.returns-in-Ok-clause-settled
 returns-in-Ok-clause-settled g c =
     let K = g.K.Keeper in
     let desk = c.args.desk.now in
-    stored_settled (application_of desk.service.now) (K.seen desk.keeper.now) (K.seen c.commit.new.keeper) c.args.ask.now c.args.prepared
+    stored_settled desk.lazy (application_of desk.service.now) (K.seen desk.keeper.now) (K.seen c.commit.new.keeper) c.args.ask.now c.args.prepared
     c.in-Ok.ensures.told c.in-Ok.ensures.applied c.requires.prepared desk.sittings.now c.forget_if.new.sittings c.keep_shown.new.sittings
     c.forget_if.ensures (rw c.in-Ok.ensures.answer at c.keep_shown.ensures) c.requires.settled
 

@@ -1,16 +1,11 @@
-use Rattle.std.proofs.Common.{subst}
 use Rattle.jac_lang.specs.Mirror.{application_of}
-use Rattle.jac_route.specs.Found.{found}
-use Rattle.jac_engine.specs.Viewed.{IsPreparedFor}
 use Rattle.jac_engine.proofs.PreparedLaws.{is_prepared}
 use Rattle.jac_engine.proofs.answer.prepare.Goals as goal
 
 pub returns-clause-prepared : goal.returns-clause-prepared
 returns-clause-prepared g c =
     let K = g.K.Keeper in
-    let ask = c.args.ask.now in
     let tells = (K.seen c.prepare_found.new.keeper).tells in
     let state = (K.seen c.args.keeper.now).state in
-    is_prepared tells (application_of c.args.service.now) state ask c.in_ok-prepared.prepared c.app-app.ensures.served c.app-app.ensures.few
-    (λ told. c.requires.start (c.in_ok-prepared.ensures.reads.left.told told))
-    (subst (λ app. IsPreparedFor (found (application_of app) ask.method ask.path) tells (application_of app) state ask c.in_ok-prepared.prepared) c.app-app.ensures.app c.in_ok-prepared.ensures.prepared)
+    is_prepared c.args.lazy tells (application_of c.args.service.now) state c.args.ask.now c.in_ok-prepared.prepared c.app-app.ensures.served c.app-app.ensures.few
+    (λ told. c.requires.start (c.in_ok-prepared.ensures.reads.left.told told)) c.in_ok-prepared.ensures.prepared

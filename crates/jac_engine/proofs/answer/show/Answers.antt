@@ -10,19 +10,19 @@ use Rattle.jac_engine.proofs.answer.show.Goals as goal
 
 pub shown_page-requires-clause-reading : goal.shown_page-requires-clause-reading
 shown_page-requires-clause-reading g c =
-    let body = statements_of c.args.view.now.body in
+    let body = statements_of c.args.visited.now.view.now.body in
     (and_parts (are_untemplated body) (are_reading body) c.requires.served).1
 
 pub shown_page-requires-clause-ready : goal.shown_page-requires-clause-ready
 shown_page-requires-clause-ready g c = λ told.
     let left = c.in_ok-number.ensures.reads.left in
     let start = c.requires.start (left.told told) in
-    rw (left.same_state told) (ready_to_show (application_of c.args.app.now) (page_of c.args.view.now) (asked_with c.args.path.now c.args.ask.now) c.in_ok-number.number (g.K.Keeper.seen c.args.keeper.now).state c.requires.served start.sound
+    rw (left.same_state told) (ready_to_show (application_of c.args.visited.now.app.now) (page_of c.args.visited.now.view.now) (asked_with c.args.visited.now.path.now c.args.visited.now.ask.now) c.in_ok-number.number (g.K.Keeper.seen c.args.keeper.now).state c.requires.served start.sound
     (c.in_ok-number.ensures.exact told))
 
 pub returns-clause-shown : goal.returns-clause-shown
 returns-clause-shown g c =
-    let app = application_of c.args.app.now in
+    let app = application_of c.args.visited.now.app.now in
     let left = c.in_ok-number.ensures.reads.left in
     let made = c.in_ok-shown.ensures.made in
     let labels = c.in_ok-shown.shown.labels in
@@ -36,7 +36,7 @@ returns-clause-shown g c =
             labels = labels;
             made =
                 c.answer_of.ensures.answer
-                ∙ page_shown app (page_of c.args.view.now) (asked_with c.args.path.now c.args.ask.now) c.args.place c.in_ok-number.number s labels c.in_ok-shown.shown.page c.requires.view c.requires.served
+                ∙ page_shown app (page_of c.args.visited.now.view.now) (asked_with c.args.visited.now.path.now c.args.visited.now.ask.now) c.args.visited.now.place c.in_ok-number.number s labels c.in_ok-shown.shown.page c.requires.view c.requires.served
                 (c.in_ok-number.ensures.exact before) (c.requires.start (left.told before)) (rw (left.same_state before) at (c.in_ok-shown.ensures.page told));
             settled = rw (left.same_state before) at (c.in_ok-shown.ensures.settled told);
           };

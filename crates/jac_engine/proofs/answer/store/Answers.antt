@@ -12,35 +12,35 @@ pub stored_page-requires-clause-tables : goal.stored_page-requires-clause-tables
 stored_page-requires-clause-tables g c = λ told.
     let left = c.in_ok-number.ensures.reads.left in
     let start = c.requires.start (left.told told) in
-    rw (left.same_state told, ← length-entities c.args.app.now.models) start.tables
+    rw (left.same_state told, ← length-entities c.args.visited.now.app.now.models) start.tables
 
 pub stored_page-requires-clause-runnable : goal.stored_page-requires-clause-runnable
 stored_page-requires-clause-runnable g c =
     let some : 0 < c.in_ok-number.number = omega (arith, c.in_ok-number.ensures.in_range.0) in
     let few : c.in_ok-number.number < 2 ^ 40 = omega (arith, c.in_ok-number.ensures.in_range.1, c.if-number-eq-LAST_NUMBER.false) in
-    storing_runs (application_of c.args.app.now).models c.in_ok-number.number _ some few c.requires.served
+    storing_runs (application_of c.args.visited.now.app.now).models c.in_ok-number.number _ some few c.requires.served
 
 pub stored_page-requires-clause-ready : goal.stored_page-requires-clause-ready
 stored_page-requires-clause-ready g c = λ told.
     let left = c.in_ok-number.ensures.reads.left in
     let start = c.requires.start (left.told told) in
     let few : c.in_ok-number.number < 2 ^ 40 = omega (arith, c.in_ok-number.ensures.in_range.1, c.if-number-eq-LAST_NUMBER.false) in
-    rw (left.same_state told) (ready_to_store (application_of c.args.app.now) (page_of c.args.view.now) (asked_with c.args.path.now c.args.ask.now) c.in_ok-number.number (g.K.Keeper.seen c.args.keeper.now).state c.requires.served start
+    rw (left.same_state told) (ready_to_store (application_of c.args.visited.now.app.now) (page_of c.args.visited.now.view.now) (asked_with c.args.visited.now.path.now c.args.visited.now.ask.now) c.in_ok-number.number (g.K.Keeper.seen c.args.keeper.now).state c.requires.served start
     c.requires.few (c.in_ok-number.ensures.exact told) few)
 
 pub returns-clause-stored : goal.returns-clause-stored
 returns-clause-stored g c =
-    let app = application_of c.args.app.now in
+    let app = application_of c.args.visited.now.app.now in
     let left = c.in_ok-number.ensures.reads.left in
     let s = (g.K.Keeper.seen c.args.keeper.now).state in
     let n = c.in_ok-number.number in
-    let v = page_of c.args.view.now in
+    let v = page_of c.args.visited.now.view.now in
     let few : n < 2 ^ 40 = omega (arith, c.in_ok-number.ensures.in_range.1, c.if-number-eq-LAST_NUMBER.false) in
     let made = c.in_ok-stored.ensures.made in
     let shown = c.in_ok-stored.stored.shown in
-    let stores : IsTrue (g.K.Keeper.seen c.stored_page.new.keeper).tells → Stores app s (visit_of app (asked_with c.args.path.now c.args.ask.now) c.args.place) c.in_ok-stored.stored.change = λ told.
+    let stores : IsTrue (g.K.Keeper.seen c.stored_page.new.keeper).tells → Stores app s (visit_of app (asked_with c.args.visited.now.path.now c.args.visited.now.ask.now) c.args.visited.now.place) c.in_ok-stored.stored.change = λ told.
     let before = c.in_ok-stored.ensures.left.told told in
-    change_stored app v (asked_with c.args.path.now c.args.ask.now) c.args.place n s c.in_ok-stored.stored.change c.requires.view c.requires.method c.requires.served
+    change_stored app v (asked_with c.args.visited.now.path.now c.args.visited.now.ask.now) c.args.visited.now.place n s c.in_ok-stored.stored.change c.requires.view c.requires.method c.requires.served
     (c.in_ok-number.ensures.exact before) few (c.requires.start (left.told before)) c.requires.few c.in_ok-stored.ensures.number
     (rw (left.same_state before) at (c.in_ok-stored.ensures.stored told)) in
     inr record {
@@ -53,9 +53,9 @@ returns-clause-stored g c =
             labels = shown.labels;
             made =
                 c.answer_of.ensures.answer
-                ∙ page_stored app v (asked_with c.args.path.now c.args.ask.now) c.args.place n s shown.labels shown.page c.requires.view c.requires.served
+                ∙ page_stored app v (asked_with c.args.visited.now.path.now c.args.visited.now.ask.now) c.args.visited.now.place n s shown.labels shown.page c.requires.view c.requires.served
                 (c.in_ok-number.ensures.exact before) few (c.requires.start (left.told before)) c.requires.few (rw (left.same_state before) at (c.in_ok-stored.ensures.page told));
-            settled = settled_after app s (asked_with c.args.path.now c.args.ask.now) c.args.place c.in_ok-stored.stored.change shown.labels (stores told) (rw (left.same_state before) at (c.in_ok-stored.ensures.settled told));
+            settled = settled_after app s (asked_with c.args.visited.now.path.now c.args.visited.now.ask.now) c.args.visited.now.place c.in_ok-stored.stored.change shown.labels (stores told) (rw (left.same_state before) at (c.in_ok-stored.ensures.settled told));
           };
       stores = stores;
     }

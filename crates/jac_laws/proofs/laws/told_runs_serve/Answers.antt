@@ -1,7 +1,7 @@
 use Rattle.jac_laws.proofs.laws.told_runs_serve.Goals as goal
 
 pub returns : goal.returns
-returns c early app sessions k events log served told = record {
+returns c lazy early app sessions k events log served told = record {
   subjects = served.subjects;
   answered = served.entries.answered told;
   worlds = served.entries.worlds told;

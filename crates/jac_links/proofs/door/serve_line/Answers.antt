@@ -14,7 +14,7 @@ returns-in-Ok-close-clause-served g c =
     Went-second (sinks (as_sink (N.seen c.args.line)) (as_sink (N.seen c.serve_link.new.link)) (U.seen c.args.audit.now) (U.seen c.serve_link.new.audit)) _ _
     (λ out audit took served.
     line_back N.seen (K.answering (K.seen c.args.desk.now).of) c.args.tally _ c.args.line c.serve_link.new.link (D.seen c.args.door.now) (D.seen c.close.new.self)
-    (K.seen c.args.desk.now).keeper (K.seen c.serve_link.new.desk).keeper c.in-Ok.count out audit _ took served c.in-Ok-close.ensures refl refl)
+    (K.seen c.args.desk.now).holding (K.seen c.serve_link.new.desk).holding c.in-Ok.count out audit _ took served c.in-Ok-close.ensures refl refl)
     c.in-Ok.ensures.served
 
 pub returns-in-Ok-clause-served : goal.returns-in-Ok-clause-served
@@ -26,7 +26,7 @@ returns-in-Ok-clause-served g c =
     Went-second (sinks (as_sink (N.seen c.args.line)) (as_sink (N.seen c.serve_link.new.link)) (U.seen c.args.audit.now) (U.seen c.serve_link.new.audit)) _ _
     (λ out audit took served.
     line_kept N.seen (K.answering (K.seen c.args.desk.now).of) c.args.tally c.args.line c.serve_link.new.link (D.seen c.args.door.now) (D.seen c.close.new.self)
-    (K.seen c.args.desk.now).keeper (K.seen c.serve_link.new.desk).keeper c.in-Ok.count out audit _ took served c.in-Err.ensures)
+    (K.seen c.args.desk.now).holding (K.seen c.serve_link.new.desk).holding c.in-Ok.count out audit _ took served c.in-Err.ensures)
     c.in-Ok.ensures.served
 
 pub returns-in-Err-Write-clause-served : goal.returns-in-Err-Write-clause-served
@@ -38,7 +38,7 @@ returns-in-Err-Write-clause-served g c =
     Went-second (sinks (as_sink (N.seen c.args.line)) (as_sink (N.seen c.serve_link.new.link)) (U.seen c.args.audit.now) (U.seen c.serve_link.new.audit)) _ _
     (λ out audit took served.
     line_cut N.seen (K.answering (K.seen c.args.desk.now).of) c.args.tally c.args.line c.serve_link.new.link (D.seen c.args.door.now)
-    (K.seen c.args.desk.now).keeper (K.seen c.serve_link.new.desk).keeper out audit took served)
+    (K.seen c.args.desk.now).holding (K.seen c.serve_link.new.desk).holding out audit took served)
     (rw c.in-Err-Write.field-0-is at c.in-Err-Write.ensures.served)
 
 pub returns-clause-served : goal.returns-clause-served
@@ -50,5 +50,5 @@ returns-clause-served g c =
     Went-second (sinks (as_sink (N.seen c.args.line)) (as_sink (N.seen c.serve_link.new.link)) (U.seen c.args.audit.now) (U.seen c.serve_link.new.audit)) _ _
     (λ out audit took served.
     line_wanting N.seen (K.answering (K.seen c.args.desk.now).of) c.args.tally c.args.line c.serve_link.new.link (D.seen c.args.door.now)
-    (K.seen c.args.desk.now).keeper (K.seen c.serve_link.new.desk).keeper out audit took served)
+    (K.seen c.args.desk.now).holding (K.seen c.serve_link.new.desk).holding out audit took served)
     (rw c.in-Err-Memory.field-0-is at c.in-Err-Memory.ensures.served)

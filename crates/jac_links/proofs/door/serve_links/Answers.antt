@@ -17,7 +17,7 @@ links-init g c = record {
   same_port = λ told. refl;
   went =
       WentTo-none (g.U.Sink.seen c.args.audit.now) _
-      (door_start g.D.Line.Link.seen (g.K.Desk.answering (g.K.Desk.seen c.args.desk.now).of) c.lawful.ensures (g.D.Door.seen c.args.door.now) (g.K.Desk.seen c.args.desk.now).keeper c.requires.desk.ready);
+      (door_start g.D.Line.Link.seen (g.K.Desk.answering (g.K.Desk.seen c.args.desk.now).of) c.lawful.ensures (g.D.Door.seen c.args.door.now) (g.K.Desk.seen c.args.desk.now).holding c.requires.desk.ready);
 }
 
 pub returns-clause-served : goal.returns-clause-served
@@ -26,7 +26,7 @@ returns-clause-served g c =
     let K = g.K.Desk in
     WentTo-on _ _ _
     (λ o so_far.
-    door_end g.D.Line.Link.seen (K.answering (K.seen c.args.desk.now).of) c.args.most (D.seen c.args.door.now) (D.seen c.links.door) (K.seen c.args.desk.now).keeper (K.seen c.links.desk).keeper c.links.tally o so_far
+    door_end g.D.Line.Link.seen (K.answering (K.seen c.args.desk.now).of) c.args.most (D.seen c.args.door.now) (D.seen c.links.door) (K.seen c.args.desk.now).holding (K.seen c.links.desk).holding c.links.tally o so_far
     c.links.invariant.few (inl (omega (arith, c.links.invariant.few, c.links-test.false))))
     c.links.invariant.went
 
@@ -39,7 +39,7 @@ returns-in-Ok-None-clause-served g c =
     WentTo-then (U.seen c.args.audit.now) (U.seen c.links.audit) (U.seen c.serve_next.new.audit) _ _ _
     (λ o au so_far next.
     next_none N.seen (K.answering (K.seen c.args.desk.now).of) c.lawful.ensures (D.seen c.args.door.now) (D.seen c.links.door) (D.seen c.serve_next.new.door)
-    (K.seen c.args.desk.now).keeper (K.seen c.links.desk).keeper (K.seen c.serve_next.new.desk).keeper c.links.tally o au c.in-Ok-None.ensures.lasts.told so_far c.args.most c.links.invariant.few
+    (K.seen c.args.desk.now).holding (K.seen c.links.desk).holding (K.seen c.serve_next.new.desk).holding c.links.tally o au c.in-Ok-None.ensures.lasts.told so_far c.args.most c.links.invariant.few
     (next_link-of K.answering (K.seen c.args.desk.now) (K.seen c.links.desk) c.links.invariant.keeps N.seen c.links.tally (span (D.seen c.links.door) (D.seen c.serve_next.new.door))
     (kept (K.seen c.links.desk) (K.seen c.serve_next.new.desk)) (Ok None) au next))
     c.links.invariant.went (rw c.in-Ok-None.field-0-is at c.in-Ok-None.ensures.served)
@@ -53,7 +53,7 @@ returns-in-Err-clause-served g c =
     WentTo-then (U.seen c.args.audit.now) (U.seen c.links.audit) (U.seen c.serve_next.new.audit) _ _ _
     (λ o au so_far next.
     next_halt N.seen (K.answering (K.seen c.args.desk.now).of) c.lawful.ensures (D.seen c.args.door.now) (D.seen c.links.door) (D.seen c.serve_next.new.door)
-    (K.seen c.args.desk.now).keeper (K.seen c.links.desk).keeper (K.seen c.serve_next.new.desk).keeper c.links.tally o au c.in-Err.ensures.lasts.told so_far c.args.most c.links.invariant.lasts.later c.in-Err.halt
+    (K.seen c.args.desk.now).holding (K.seen c.links.desk).holding (K.seen c.serve_next.new.desk).holding c.links.tally o au c.in-Err.ensures.lasts.told so_far c.args.most c.links.invariant.lasts.later c.in-Err.halt
     (next_link-of K.answering (K.seen c.args.desk.now) (K.seen c.links.desk) c.links.invariant.keeps N.seen c.links.tally (span (D.seen c.links.door) (D.seen c.serve_next.new.door))
     (kept (K.seen c.links.desk) (K.seen c.serve_next.new.desk)) (Err c.in-Err.halt) au next))
     c.links.invariant.went c.in-Err.ensures.served
@@ -78,7 +78,7 @@ links-preserved g c =
           WentTo-then (U.seen c.args.audit.now) (U.seen c.links.audit) (U.seen c.serve_next.new.audit) _ _ _
           (λ o au so_far next_one.
           next_on N.seen (K.answering (K.seen c.args.desk.now).of) c.lawful.ensures (D.seen c.args.door.now) (D.seen c.links.door) (D.seen c.serve_next.new.door)
-          (K.seen c.args.desk.now).keeper (K.seen c.links.desk).keeper (K.seen c.serve_next.new.desk).keeper c.links.tally o au next.lasts.told so_far c.in-Ok-Some.more
+          (K.seen c.args.desk.now).holding (K.seen c.links.desk).holding (K.seen c.serve_next.new.desk).holding c.links.tally o au next.lasts.told so_far c.in-Ok-Some.more
           (next_link-of K.answering (K.seen c.args.desk.now) (K.seen c.links.desk) c.links.invariant.keeps N.seen c.links.tally (span (D.seen c.links.door) (D.seen c.serve_next.new.door))
           (kept (K.seen c.links.desk) (K.seen c.serve_next.new.desk)) (Ok (Some c.in-Ok-Some.more)) au next_one))
           before.went served;

@@ -30,7 +30,7 @@ returns-in-Ok-None-clause-served g c =
     let K = g.K.Desk in
     let N = g.D.Line.Link in
     WentTo-none (g.U.Sink.seen c.args.audit.now) _
-    (next_no_more N.seen (K.answering (K.seen c.args.desk.now).of) c.args.tally (D.seen c.args.door.now) (D.seen c.next.new.self) (g.K.Desk.seen c.args.desk.now).keeper
+    (next_no_more N.seen (K.answering (K.seen c.args.desk.now).of) c.args.tally (D.seen c.args.door.now) (D.seen c.next.new.self) (g.K.Desk.seen c.args.desk.now).holding
     (rw c.in-Ok-None.field-0-is at c.in-Ok-None.ensures))
 
 pub returns-in-Err-clause-served : goal.returns-in-Err-clause-served
@@ -39,4 +39,4 @@ returns-in-Err-clause-served g c =
     let K = g.K.Desk in
     let N = g.D.Line.Link in
     WentTo-none (g.U.Sink.seen c.args.audit.now) _
-    (next_failed N.seen (K.answering (K.seen c.args.desk.now).of) c.args.tally (D.seen c.args.door.now) (D.seen c.next.new.self) (g.K.Desk.seen c.args.desk.now).keeper _ c.in-Err.ensures)
+    (next_failed N.seen (K.answering (K.seen c.args.desk.now).of) c.args.tally (D.seen c.args.door.now) (D.seen c.next.new.self) (g.K.Desk.seen c.args.desk.now).holding _ c.in-Err.ensures)

@@ -9,10 +9,10 @@ pub returns-in-Ok-clause-begun : goal.returns-in-Ok-clause-begun
 returns-in-Ok-clause-begun g c =
     let D = g.D.Desk in
     (begins IsTaken (handled spellings.Raw (D.answering (D.seen c.args.desk.now).of)) c.args.conn (seen c.args.hub.now) (seen c.step.new.self) (seen c.next_out-none.new.hub) c.in-Ok.field-0 c.next_out-none.result
-    (D.seen c.args.desk.now).keeper (D.seen c.next_out-none.new.self).keeper c.requires.new c.in-Ok.ensures c.next_out-none.ensures.next).0
+    (D.seen c.args.desk.now).holding (D.seen c.next_out-none.new.self).holding c.requires.new c.in-Ok.ensures c.next_out-none.ensures.next).0
 
 pub returns-in-Ok-clause-still : goal.returns-in-Ok-clause-still
 returns-in-Ok-clause-still g c =
     let D = g.D.Desk in
     (begins IsTaken (handled spellings.Raw (D.answering (D.seen c.args.desk.now).of)) c.args.conn (seen c.args.hub.now) (seen c.step.new.self) (seen c.next_out-none.new.hub) c.in-Ok.field-0 c.next_out-none.result
-    (D.seen c.args.desk.now).keeper (D.seen c.next_out-none.new.self).keeper c.requires.new c.in-Ok.ensures c.next_out-none.ensures.next).1
+    (D.seen c.args.desk.now).holding (D.seen c.next_out-none.new.self).holding c.requires.new c.in-Ok.ensures c.next_out-none.ensures.next).1

@@ -17,7 +17,7 @@ outs-init g c = record {
   same_left = λ told. refl;
   went =
       Went-none (as_sink (g.N.Link.seen c.args.link.now)) (g.U.Sink.seen c.args.audit.now) _
-      (so_far_on_none (g.D.Desk.answering (g.D.Desk.seen c.args.desk.now).of) (seen c.args.hub.now) (g.D.Desk.seen c.args.desk.now).keeper c.args.served);
+      (so_far_on_none (g.D.Desk.answering (g.D.Desk.seen c.args.desk.now).of) (seen c.args.hub.now) (g.D.Desk.seen c.args.desk.now).holding c.args.served);
 }
 
 pub returns-in-Err-clause-put : goal.returns-in-Err-clause-put
@@ -27,11 +27,11 @@ returns-in-Err-clause-put g c =
     let D = g.D.Desk in
     let next =
     next-of D.answering (D.seen c.args.desk.now) (D.seen c.outs.desk) spellings.Raw (seen c.outs.hub) (seen c.next_out.new.hub) (Some c.in-Some.given)
-    (D.seen c.outs.desk).keeper (D.seen c.next_out.new.self).keeper c.outs.invariant.keeps c.in-Some.ensures.next in
+    (D.seen c.outs.desk).holding (D.seen c.next_out.new.self).holding c.outs.invariant.keeps c.in-Some.ensures.next in
     Went-then (as_sink (N.seen c.args.link.now)) (as_sink (N.seen c.outs.link)) (as_sink (N.seen c.put_out.new.link)) (U.seen c.args.audit.now) (U.seen c.outs.audit) (U.seen c.put_out.new.audit) _ _ _
     (λ o au p bu so_far cut.
     so_far_on_cut (D.answering (D.seen c.args.desk.now).of) (seen c.args.hub.now) (seen c.outs.hub) (seen c.next_out.new.hub)
-    (D.seen c.args.desk.now).keeper (D.seen c.outs.desk).keeper (D.seen c.next_out.new.self).keeper c.args.served c.outs.so_far c.in-Some.given o au p bu c.in-Err.cut next so_far cut)
+    (D.seen c.args.desk.now).holding (D.seen c.outs.desk).holding (D.seen c.next_out.new.self).holding c.args.served c.outs.so_far c.in-Some.given o au p bu c.in-Err.cut next so_far cut)
     c.outs.invariant.went c.in-Err.ensures.put
 
 pub returns-clause-put : goal.returns-clause-put
@@ -39,11 +39,11 @@ returns-clause-put g c =
     let D = g.D.Desk in
     let next =
     next-of D.answering (D.seen c.args.desk.now) (D.seen c.outs.desk) spellings.Raw (seen c.outs.hub) (seen c.next_out.new.hub) None
-    (D.seen c.outs.desk).keeper (D.seen c.next_out.new.self).keeper c.outs.invariant.keeps c.in_default.ensures.next in
+    (D.seen c.outs.desk).holding (D.seen c.next_out.new.self).holding c.outs.invariant.keeps c.in_default.ensures.next in
     Went-on _ _ _
     (λ o au so_far.
     so_far_on_all (D.answering (D.seen c.args.desk.now).of) (seen c.args.hub.now) (seen c.outs.hub) (seen c.next_out.new.hub)
-    (D.seen c.args.desk.now).keeper (D.seen c.outs.desk).keeper (D.seen c.next_out.new.self).keeper c.args.served c.outs.so_far o au next so_far)
+    (D.seen c.args.desk.now).holding (D.seen c.outs.desk).holding (D.seen c.next_out.new.self).holding c.args.served c.outs.so_far o au next so_far)
     c.outs.invariant.went
 
 pub returns-in-Err-clause-link : goal.returns-in-Err-clause-link
@@ -61,7 +61,7 @@ outs-preserved-in-Ok g c =
     let D = g.D.Desk in
     let next =
     next-of D.answering (D.seen c.args.desk.now) (D.seen c.outs.desk) spellings.Raw (seen c.outs.hub) (seen c.next_out.new.hub) (Some c.in-Some.given)
-    (D.seen c.outs.desk).keeper (D.seen c.next_out.new.self).keeper c.outs.invariant.keeps c.in-Some.ensures.next in
+    (D.seen c.outs.desk).holding (D.seen c.next_out.new.self).holding c.outs.invariant.keeps c.in-Some.ensures.next in
     let before = c.outs.invariant in
     record {
       few = before.few;
@@ -73,7 +73,7 @@ outs-preserved-in-Ok g c =
           Went-then (as_sink (N.seen c.args.link.now)) (as_sink (N.seen c.outs.link)) (as_sink (N.seen c.put_out.new.link)) (U.seen c.args.audit.now) (U.seen c.outs.audit) (U.seen c.put_out.new.audit) _ _ _
           (λ o au p bu so_far put.
           so_far_on_more (D.answering (D.seen c.args.desk.now).of) (seen c.args.hub.now) (seen c.outs.hub) (seen c.next_out.new.hub)
-          (D.seen c.args.desk.now).keeper (D.seen c.outs.desk).keeper (D.seen c.next_out.new.self).keeper c.args.served c.outs.so_far c.in-Ok.more c.in-Some.given o au p bu next so_far put)
+          (D.seen c.args.desk.now).holding (D.seen c.outs.desk).holding (D.seen c.next_out.new.self).holding c.args.served c.outs.so_far c.in-Ok.more c.in-Some.given o au p bu next so_far put)
           before.went c.in-Ok.ensures.put;
     }
 
@@ -84,7 +84,7 @@ outs-preserved-in-Ok-2 g c =
     let D = g.D.Desk in
     let next =
     next-of D.answering (D.seen c.args.desk.now) (D.seen c.outs.desk) spellings.Raw (seen c.outs.hub) (seen c.next_out.new.hub) (Some c.in-Some.given)
-    (D.seen c.outs.desk).keeper (D.seen c.next_out.new.self).keeper c.outs.invariant.keeps c.in-Some.ensures.next in
+    (D.seen c.outs.desk).holding (D.seen c.next_out.new.self).holding c.outs.invariant.keeps c.in-Some.ensures.next in
     let before = c.outs.invariant in
     record {
       few = before.few;
@@ -96,7 +96,7 @@ outs-preserved-in-Ok-2 g c =
           Went-then (as_sink (N.seen c.args.link.now)) (as_sink (N.seen c.outs.link)) (as_sink (N.seen c.put_out.new.link)) (U.seen c.args.audit.now) (U.seen c.outs.audit) (U.seen c.put_out.new.audit) _ _ _
           (λ o au p bu so_far put.
           so_far_on_more (D.answering (D.seen c.args.desk.now).of) (seen c.args.hub.now) (seen c.outs.hub) (seen c.next_out.new.hub)
-          (D.seen c.args.desk.now).keeper (D.seen c.outs.desk).keeper (D.seen c.next_out.new.self).keeper c.args.served c.outs.so_far c.in-Ok.more c.in-Some.given o au p bu next so_far put)
+          (D.seen c.args.desk.now).holding (D.seen c.outs.desk).holding (D.seen c.next_out.new.self).holding c.args.served c.outs.so_far c.in-Ok.more c.in-Some.given o au p bu next so_far put)
           before.went c.in-Ok.ensures.put;
     }
 
@@ -107,7 +107,7 @@ outs-preserved g c =
     let D = g.D.Desk in
     let next =
     next-of D.answering (D.seen c.args.desk.now) (D.seen c.outs.desk) spellings.Raw (seen c.outs.hub) (seen c.next_out.new.hub) (Some c.in-Some.given)
-    (D.seen c.outs.desk).keeper (D.seen c.next_out.new.self).keeper c.outs.invariant.keeps c.in-Some.ensures.next in
+    (D.seen c.outs.desk).holding (D.seen c.next_out.new.self).holding c.outs.invariant.keeps c.in-Some.ensures.next in
     let before = c.outs.invariant in
     record {
       few = before.few;
@@ -119,7 +119,7 @@ outs-preserved g c =
           Went-then (as_sink (N.seen c.args.link.now)) (as_sink (N.seen c.outs.link)) (as_sink (N.seen c.put_out.new.link)) (U.seen c.args.audit.now) (U.seen c.outs.audit) (U.seen c.put_out.new.audit) _ _ _
           (λ o au p bu so_far put.
           so_far_on_more (D.answering (D.seen c.args.desk.now).of) (seen c.args.hub.now) (seen c.outs.hub) (seen c.next_out.new.hub)
-          (D.seen c.args.desk.now).keeper (D.seen c.outs.desk).keeper (D.seen c.next_out.new.self).keeper c.args.served c.outs.so_far c.in-Ok.more c.in-Some.given o au p bu next so_far put)
+          (D.seen c.args.desk.now).holding (D.seen c.outs.desk).holding (D.seen c.next_out.new.self).holding c.args.served c.outs.so_far c.in-Ok.more c.in-Some.given o au p bu next so_far put)
           before.went c.in-Ok.ensures.put;
     }
 

@@ -20,5 +20,5 @@ returns-clause-answered g c =
     Went-on _ _ _
     (λ out audit puts.
     answers_on (D.answering (D.seen c.args.desk.now).of) c.lawful.ensures c.requests_are_read.ensures c.args.served c.args.event.now (seen c.args.hub.now) (seen c.take_in.new.hub) (seen c.put_outs.new.hub)
-    (D.seen c.args.desk.now).keeper (D.seen c.put_outs.new.desk).keeper out audit c.requires.idle c.requires.piece c.take_in.ensures c.requires.desk.ready c.put_outs.result puts)
+    (D.seen c.args.desk.now).holding (D.seen c.put_outs.new.desk).holding out audit c.requires.idle c.requires.piece c.take_in.ensures c.requires.desk.ready c.put_outs.result puts)
     c.put_outs.ensures.put

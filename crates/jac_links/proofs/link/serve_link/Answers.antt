@@ -23,4 +23,4 @@ returns-clause-served g c =
     let desk = D.seen c.args.desk.now in
     rw c.in-Err.ensures.still
     (Went-none (as_sink (g.N.Link.seen c.args.link.now)) (g.U.Sink.seen c.args.audit.now) _
-    (link_unbegun (D.answering desk.of) c.lawful.ensures c.args.conn c.args.first (g.N.Link.seen c.args.link.now) desk.keeper c.requires.desk.ready))
+    (link_unbegun (D.answering desk.of) c.lawful.ensures c.args.conn c.args.first (g.N.Link.seen c.args.link.now) desk.holding c.requires.desk.ready))

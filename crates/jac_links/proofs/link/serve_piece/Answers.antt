@@ -15,7 +15,7 @@ returns-in-Ok-clause-served g c =
     c.in-Ok-Some.ensures.lasts c.in-Ok-Some.ensures.none_put
     (λ out audit answers.
     piece_stands (D.answering (D.seen c.args.desk.now).of) c.args.conn c.args.served (seen c.args.hub.now) (seen c.serve_event.new.hub)
-    (N.seen c.args.link.now) (N.seen c.take_piece.new.link) (N.seen c.serve_event.new.link) (D.seen c.args.desk.now).keeper (D.seen c.serve_event.new.desk).keeper c.in-Ok-Some.bytes out audit c.in-Ok.brought
+    (N.seen c.args.link.now) (N.seen c.take_piece.new.link) (N.seen c.serve_event.new.link) (D.seen c.args.desk.now).holding (D.seen c.serve_event.new.desk).holding c.in-Ok-Some.bytes out audit c.in-Ok.brought
     c.in-Ok.ensures.answered.out_lasts.told c.in-Ok.ensures.left (rw c.in-Ok-Some.field-0-is at c.in-Ok-Some.ensures.taken) answers)
     c.in-Ok.ensures.answered)
 
@@ -29,7 +29,7 @@ returns-in-Err-Link-serve_event-clause-served g c =
     c.in-Ok-Some.ensures.lasts c.in-Ok-Some.ensures.none_put
     (λ out audit answers.
     piece_torn (D.answering (D.seen c.args.desk.now).of) c.args.conn c.args.served c.in-Err-Link-serve_event.count (seen c.args.hub.now) (seen c.serve_event.new.hub)
-    (N.seen c.args.link.now) (N.seen c.take_piece.new.link) (N.seen c.serve_event.new.link) (D.seen c.args.desk.now).keeper (D.seen c.serve_event.new.desk).keeper c.in-Ok-Some.bytes out audit
+    (N.seen c.args.link.now) (N.seen c.take_piece.new.link) (N.seen c.serve_event.new.link) (D.seen c.args.desk.now).holding (D.seen c.serve_event.new.desk).holding c.in-Ok-Some.bytes out audit
     answered.out_lasts.told c.in-Err-Link-serve_event.ensures.left
     (Rose-widen _ _ _ _ c.in-Ok-Some.ensures.lasts.later (omega arith) (c.in-Err-Link-serve_event.ensures.link c.in-Err-Link-serve_event.count (rw c.in-Err-Link-serve_event.field-0-is refl)))
     (rw c.in-Ok-Some.field-0-is at c.in-Ok-Some.ensures.taken) answers)
@@ -45,7 +45,7 @@ returns-in-Ok-Some-clause-served g c =
     c.in-Ok-Some.ensures.lasts c.in-Ok-Some.ensures.none_put
     (λ out audit answers.
     piece_cut (D.answering (D.seen c.args.desk.now).of) c.args.conn c.args.served (seen c.args.hub.now) (seen c.serve_event.new.hub)
-    (N.seen c.args.link.now) (N.seen c.take_piece.new.link) (N.seen c.serve_event.new.link) (D.seen c.args.desk.now).keeper (D.seen c.serve_event.new.desk).keeper c.in-Ok-Some.bytes out audit
+    (N.seen c.args.link.now) (N.seen c.take_piece.new.link) (N.seen c.serve_event.new.link) (D.seen c.args.desk.now).holding (D.seen c.serve_event.new.desk).holding c.in-Ok-Some.bytes out audit
     answered.out_lasts.told c.in-Err-Audit.ensures.left (rw c.in-Ok-Some.field-0-is at c.in-Ok-Some.ensures.taken) answers)
     answered
 
@@ -55,7 +55,7 @@ returns-in-Ok-None-clause-served g c =
     let U = g.U.Sink in
     let D = g.D.Desk in
     Went-quiet (as_sink (N.seen c.args.link.now)) (as_sink (N.seen c.take_piece.new.link)) (U.seen c.args.audit.now) _ c.in-Ok-None.ensures.lasts c.in-Ok-None.ensures.none_put
-    (piece_last (D.answering (D.seen c.args.desk.now).of) c.args.conn c.args.served (seen c.args.hub.now) (N.seen c.args.link.now) (N.seen c.take_piece.new.link) (D.seen c.args.desk.now).keeper
+    (piece_last (D.answering (D.seen c.args.desk.now).of) c.args.conn c.args.served (seen c.args.hub.now) (N.seen c.args.link.now) (N.seen c.take_piece.new.link) (D.seen c.args.desk.now).holding
     (rw c.in-Ok-None.field-0-is at c.in-Ok-None.ensures.taken))
 
 pub returns-in-Err-Link-clause-served : goal.returns-in-Err-Link-clause-served
@@ -64,5 +64,5 @@ returns-in-Err-Link-clause-served g c =
     let U = g.U.Sink in
     let D = g.D.Desk in
     Went-quiet (as_sink (N.seen c.args.link.now)) (as_sink (N.seen c.take_piece.new.link)) (U.seen c.args.audit.now) _ c.in-Err-Link.ensures.lasts c.in-Err-Link.ensures.none_put
-    (piece_missed (D.answering (D.seen c.args.desk.now).of) c.args.conn c.args.served (seen c.args.hub.now) (N.seen c.args.link.now) (N.seen c.take_piece.new.link) (D.seen c.args.desk.now).keeper
+    (piece_missed (D.answering (D.seen c.args.desk.now).of) c.args.conn c.args.served (seen c.args.hub.now) (N.seen c.args.link.now) (N.seen c.take_piece.new.link) (D.seen c.args.desk.now).holding
     (rw c.in-Err-Link.field-0-is at c.in-Err-Link.ensures.taken))

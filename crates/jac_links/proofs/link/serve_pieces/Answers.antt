@@ -21,7 +21,7 @@ pieces-init g c = record {
   went =
       rw c.requires.begun
       (Went-none (as_sink (g.N.Link.seen c.args.link.now)) (g.U.Sink.seen c.args.audit.now) _
-      (link_start (g.D.Desk.answering (g.D.Desk.seen c.args.desk.now).of) c.lawful.ensures c.args.conn c.args.first (g.N.Link.seen c.args.link.now) (g.D.Desk.seen c.args.desk.now).keeper c.requires.desk.ready));
+      (link_start (g.D.Desk.answering (g.D.Desk.seen c.args.desk.now).of) c.lawful.ensures c.args.conn c.args.first (g.N.Link.seen c.args.link.now) (g.D.Desk.seen c.args.desk.now).holding c.requires.desk.ready));
 }
 
 pub serve_piece-requires-clause-few : goal.serve_piece-requires-clause-few
@@ -47,7 +47,7 @@ pieces-smaller g c =
     let D = g.D.Desk in
     let served = rw c.in-Ok-Open.field-0-is at c.in-Ok-Open.ensures.served in
     pieces_less (D.answering (D.seen c.args.desk.now).of) c.lawful.ensures c.requests_are_read.ensures c.args.conn c.args.first (seen c.pieces.hub) (seen c.serve_piece.new.hub)
-    (N.seen c.args.link.now) (N.seen c.pieces.link) (N.seen c.serve_piece.new.link) (D.seen c.args.desk.now).keeper (D.seen c.pieces.desk).keeper (D.seen c.serve_piece.new.desk).keeper
+    (N.seen c.args.link.now) (N.seen c.pieces.link) (N.seen c.serve_piece.new.link) (D.seen c.args.desk.now).holding (D.seen c.pieces.desk).holding (D.seen c.serve_piece.new.desk).holding
     c.pieces.count c.in-Ok-Open.more _ _ _ _ served.out_lasts.told c.pieces.invariant.went.holds
     (piece-of D.answering (D.seen c.args.desk.now) (D.seen c.pieces.desk) c.pieces.invariant.keeps c.args.conn (seen c.pieces.hub) (seen c.serve_piece.new.hub)
     (span (N.seen c.pieces.link) (N.seen c.serve_piece.new.link)) (kept (D.seen c.pieces.desk) (D.seen c.serve_piece.new.desk)) c.pieces.count (Ok (standings.Open c.in-Ok-Open.more)) served.out served.audit served.holds)
@@ -67,7 +67,7 @@ pieces-preserved g c =
           Went-then (as_sink (N.seen c.args.link.now)) (as_sink (N.seen c.pieces.link)) (as_sink (N.seen c.serve_piece.new.link)) (U.seen c.args.audit.now) (U.seen c.pieces.audit) (U.seen c.serve_piece.new.audit) _ _ _
           (λ o au p bu so_far piece.
           pieces_open (D.answering (D.seen c.args.desk.now).of) c.lawful.ensures c.requests_are_read.ensures c.args.conn c.args.first (seen c.pieces.hub) (seen c.serve_piece.new.hub)
-          (N.seen c.args.link.now) (N.seen c.pieces.link) (N.seen c.serve_piece.new.link) (D.seen c.args.desk.now).keeper (D.seen c.pieces.desk).keeper (D.seen c.serve_piece.new.desk).keeper
+          (N.seen c.args.link.now) (N.seen c.pieces.link) (N.seen c.serve_piece.new.link) (D.seen c.args.desk.now).holding (D.seen c.pieces.desk).holding (D.seen c.serve_piece.new.desk).holding
           c.pieces.count c.in-Ok-Open.more o au p bu served.out_lasts.told so_far
           (piece-of D.answering (D.seen c.args.desk.now) (D.seen c.pieces.desk) c.pieces.invariant.keeps c.args.conn (seen c.pieces.hub) (seen c.serve_piece.new.hub)
           (span (N.seen c.pieces.link) (N.seen c.serve_piece.new.link)) (kept (D.seen c.pieces.desk) (D.seen c.serve_piece.new.desk)) c.pieces.count (Ok (standings.Open c.in-Ok-Open.more)) p bu piece))
@@ -80,7 +80,7 @@ overflow_sub-result g c =
     let D = g.D.Desk in
     let served = rw c.in-Ok-Over.field-0-is at c.in-Ok-Over.ensures.served in
     pieces_last (D.answering (D.seen c.args.desk.now).of) c.lawful.ensures c.requests_are_read.ensures c.args.conn c.args.first (seen c.pieces.hub) (seen c.serve_piece.new.hub)
-    (N.seen c.args.link.now) (N.seen c.pieces.link) (N.seen c.serve_piece.new.link) (D.seen c.args.desk.now).keeper (D.seen c.pieces.desk).keeper (D.seen c.serve_piece.new.desk).keeper
+    (N.seen c.args.link.now) (N.seen c.pieces.link) (N.seen c.serve_piece.new.link) (D.seen c.args.desk.now).holding (D.seen c.pieces.desk).holding (D.seen c.serve_piece.new.desk).holding
     c.pieces.count c.in-Ok-Over.last _ _ _ _ served.out_lasts.told c.pieces.invariant.went.holds
     (piece-of D.answering (D.seen c.args.desk.now) (D.seen c.pieces.desk) c.pieces.invariant.keeps c.args.conn (seen c.pieces.hub) (seen c.serve_piece.new.hub)
     (span (N.seen c.pieces.link) (N.seen c.serve_piece.new.link)) (kept (D.seen c.pieces.desk) (D.seen c.serve_piece.new.desk)) c.pieces.count (Ok (standings.Over c.in-Ok-Over.last)) served.out served.audit served.holds)
@@ -94,7 +94,7 @@ returns-in-Ok-Over-clause-served g c =
     Went-then (as_sink (N.seen c.args.link.now)) (as_sink (N.seen c.pieces.link)) (as_sink (N.seen c.serve_piece.new.link)) (U.seen c.args.audit.now) (U.seen c.pieces.audit) (U.seen c.serve_piece.new.audit) _ _ _
     (λ o au p bu so_far piece.
     pieces_over (D.answering (D.seen c.args.desk.now).of) c.lawful.ensures c.requests_are_read.ensures c.args.conn c.args.first (seen c.pieces.hub) (seen c.serve_piece.new.hub)
-    (N.seen c.args.link.now) (N.seen c.pieces.link) (N.seen c.serve_piece.new.link) (D.seen c.args.desk.now).keeper (D.seen c.pieces.desk).keeper (D.seen c.serve_piece.new.desk).keeper
+    (N.seen c.args.link.now) (N.seen c.pieces.link) (N.seen c.serve_piece.new.link) (D.seen c.args.desk.now).holding (D.seen c.pieces.desk).holding (D.seen c.serve_piece.new.desk).holding
     c.pieces.count c.in-Ok-Over.last o au p bu served.out_lasts.told c.pieces.invariant.went.out_lasts.later so_far
     (piece-of D.answering (D.seen c.args.desk.now) (D.seen c.pieces.desk) c.pieces.invariant.keeps c.args.conn (seen c.pieces.hub) (seen c.serve_piece.new.hub)
     (span (N.seen c.pieces.link) (N.seen c.serve_piece.new.link)) (kept (D.seen c.pieces.desk) (D.seen c.serve_piece.new.desk)) c.pieces.count (Ok (standings.Over c.in-Ok-Over.last)) p bu piece))
@@ -108,7 +108,7 @@ returns-in-Err-clause-served g c =
     Went-then (as_sink (N.seen c.args.link.now)) (as_sink (N.seen c.pieces.link)) (as_sink (N.seen c.serve_piece.new.link)) (U.seen c.args.audit.now) (U.seen c.pieces.audit) (U.seen c.serve_piece.new.audit) _ _ _
     (λ o au p bu so_far piece.
     pieces_halt (D.answering (D.seen c.args.desk.now).of) c.lawful.ensures c.requests_are_read.ensures c.args.conn c.args.first (seen c.pieces.hub) (seen c.serve_piece.new.hub)
-    (N.seen c.args.link.now) (N.seen c.pieces.link) (N.seen c.serve_piece.new.link) (D.seen c.args.desk.now).keeper (D.seen c.pieces.desk).keeper (D.seen c.serve_piece.new.desk).keeper
+    (N.seen c.args.link.now) (N.seen c.pieces.link) (N.seen c.serve_piece.new.link) (D.seen c.args.desk.now).holding (D.seen c.pieces.desk).holding (D.seen c.serve_piece.new.desk).holding
     c.pieces.count o au p bu c.in-Err.ensures.served.out_lasts.told so_far c.in-Err.halt
     (piece-of D.answering (D.seen c.args.desk.now) (D.seen c.pieces.desk) c.pieces.invariant.keeps c.args.conn (seen c.pieces.hub) (seen c.serve_piece.new.hub)
     (span (N.seen c.pieces.link) (N.seen c.serve_piece.new.link)) (kept (D.seen c.pieces.desk) (D.seen c.serve_piece.new.desk)) c.pieces.count (Err c.in-Err.halt) p bu piece))

@@ -17,7 +17,7 @@ outs-init g c =
       keeps = keeps-none D.answering desk c.requires.desk;
       went =
           Went-none (g.O.Sink.seen c.args.out.now) (g.U.Sink.seen c.args.audit.now) _
-          (so_far_none (D.answering desk.of) (seen c.args.hub.now) desk.keeper c.args.served);
+          (so_far_none (D.answering desk.of) (seen c.args.hub.now) desk.holding c.args.served);
     }
 
 pub returns-in-Err-clause-put : goal.returns-in-Err-clause-put
@@ -32,10 +32,10 @@ returns-in-Err-clause-put g c =
     let b = D.seen c.outs.desk in
     let d = D.seen c.next_out.new.self in
     let next =
-    next-of D.answering a b spellings.Quoted between new (Some c.in-Some.given) b.keeper d.keeper c.outs.invariant.keeps c.in-Some.ensures.next in
+    next-of D.answering a b spellings.Quoted between new (Some c.in-Some.given) b.holding d.holding c.outs.invariant.keeps c.in-Some.ensures.next in
     Went-then (O.seen c.args.out.now) (O.seen c.outs.out) (O.seen c.put_out.new.out) (U.seen c.args.audit.now) (U.seen c.outs.audit) (U.seen c.put_out.new.audit) _ _ _
     (λ o au p bu so_far torn.
-    so_far_torn (D.answering a.of) hub between new a.keeper b.keeper d.keeper c.args.served c.outs.count c.in-Some.given o au p bu next so_far torn)
+    so_far_torn (D.answering a.of) hub between new a.holding b.holding d.holding c.args.served c.outs.count c.in-Some.given o au p bu next so_far torn)
     c.outs.invariant.went c.in-Err.ensures.put
 
 pub returns-clause-put : goal.returns-clause-put
@@ -48,9 +48,9 @@ returns-clause-put g c =
     let b = D.seen c.outs.desk in
     let d = D.seen c.next_out.new.self in
     let next =
-    next-of D.answering a b spellings.Quoted between new None b.keeper d.keeper c.outs.invariant.keeps c.in_default.ensures.next in
+    next-of D.answering a b spellings.Quoted between new None b.holding d.holding c.outs.invariant.keeps c.in_default.ensures.next in
     Went-on _ _ _
-    (λ o au so_far. so_far_all (D.answering a.of) hub between new a.keeper b.keeper d.keeper c.args.served c.outs.count o au next so_far)
+    (λ o au so_far. so_far_all (D.answering a.of) hub between new a.holding b.holding d.holding c.args.served c.outs.count o au next so_far)
     c.outs.invariant.went
 
 pub outs-preserved-in-Ok : goal.outs-preserved-in-Ok
@@ -66,7 +66,7 @@ outs-preserved-in-Ok g c =
     let d = D.seen c.next_out.new.self in
     let before = c.outs.invariant in
     let next =
-    next-of D.answering a b spellings.Quoted between new (Some c.in-Some.given) b.keeper d.keeper before.keeps c.in-Some.ensures.next in
+    next-of D.answering a b spellings.Quoted between new (Some c.in-Some.given) b.holding d.holding before.keeps c.in-Some.ensures.next in
     record {
       few = before.few;
       fewer = omega (arith, before.fewer, c.in-Some.ensures.nearer, c.in-Ok.ensures.put.holds.0, few_replies c.in-Some.given);
@@ -75,7 +75,7 @@ outs-preserved-in-Ok g c =
       went =
           Went-then (O.seen c.args.out.now) (O.seen c.outs.out) (O.seen c.put_out.new.out) (U.seen c.args.audit.now) (U.seen c.outs.audit) (U.seen c.put_out.new.audit) _ _ _
           (λ o au p bu so_far put.
-          so_far_more (D.answering a.of) hub between new a.keeper b.keeper d.keeper c.args.served c.outs.count c.in-Ok.more c.in-Some.given o au p bu next so_far put)
+          so_far_more (D.answering a.of) hub between new a.holding b.holding d.holding c.args.served c.outs.count c.in-Ok.more c.in-Some.given o au p bu next so_far put)
           before.went c.in-Ok.ensures.put;
     }
 
@@ -92,7 +92,7 @@ outs-preserved-in-Ok-2 g c =
     let d = D.seen c.next_out.new.self in
     let before = c.outs.invariant in
     let next =
-    next-of D.answering a b spellings.Quoted between new (Some c.in-Some.given) b.keeper d.keeper before.keeps c.in-Some.ensures.next in
+    next-of D.answering a b spellings.Quoted between new (Some c.in-Some.given) b.holding d.holding before.keeps c.in-Some.ensures.next in
     record {
       few = before.few;
       fewer = omega (arith, before.fewer, c.in-Some.ensures.nearer, c.in-Ok.ensures.put.holds.0, few_replies c.in-Some.given);
@@ -101,7 +101,7 @@ outs-preserved-in-Ok-2 g c =
       went =
           Went-then (O.seen c.args.out.now) (O.seen c.outs.out) (O.seen c.put_out.new.out) (U.seen c.args.audit.now) (U.seen c.outs.audit) (U.seen c.put_out.new.audit) _ _ _
           (λ o au p bu so_far put.
-          so_far_more (D.answering a.of) hub between new a.keeper b.keeper d.keeper c.args.served c.outs.count c.in-Ok.more c.in-Some.given o au p bu next so_far put)
+          so_far_more (D.answering a.of) hub between new a.holding b.holding d.holding c.args.served c.outs.count c.in-Ok.more c.in-Some.given o au p bu next so_far put)
           before.went c.in-Ok.ensures.put;
     }
 
@@ -118,7 +118,7 @@ outs-preserved g c =
     let d = D.seen c.next_out.new.self in
     let before = c.outs.invariant in
     let next =
-    next-of D.answering a b spellings.Quoted between new (Some c.in-Some.given) b.keeper d.keeper before.keeps c.in-Some.ensures.next in
+    next-of D.answering a b spellings.Quoted between new (Some c.in-Some.given) b.holding d.holding before.keeps c.in-Some.ensures.next in
     record {
       few = before.few;
       fewer = omega (arith, before.fewer, c.in-Some.ensures.nearer, c.in-Ok.ensures.put.holds.0, few_replies c.in-Some.given);
@@ -127,7 +127,7 @@ outs-preserved g c =
       went =
           Went-then (O.seen c.args.out.now) (O.seen c.outs.out) (O.seen c.put_out.new.out) (U.seen c.args.audit.now) (U.seen c.outs.audit) (U.seen c.put_out.new.audit) _ _ _
           (λ o au p bu so_far put.
-          so_far_more (D.answering a.of) hub between new a.keeper b.keeper d.keeper c.args.served c.outs.count c.in-Ok.more c.in-Some.given o au p bu next so_far put)
+          so_far_more (D.answering a.of) hub between new a.holding b.holding d.holding c.args.served c.outs.count c.in-Ok.more c.in-Some.given o au p bu next so_far put)
           before.went c.in-Ok.ensures.put;
     }
 

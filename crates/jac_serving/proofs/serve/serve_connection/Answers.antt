@@ -37,7 +37,7 @@ returns-in-Ok-put_given-clause-answered g c =
     (λ out audit puts n known like. (
       step_kept (hearing x) c.args.line c.args.event.now known taken.0 old stepped like taken.1 taken.3,
       event_whole x c.lawful.ensures c.requests_are_read.ensures n c.args.served c.in-Ok-put_given.count c.args.event.now known taken.0 old stepped (seen c.put_given.new.hub)
-          desk.keeper (D.seen c.put_given.new.desk).keeper out audit c.requires.idle like taken.1 taken.2 c.requires.desk.ready puts,
+          desk.holding (D.seen c.put_given.new.desk).holding out audit c.requires.idle like taken.1 taken.2 c.requires.desk.ready puts,
     ))
     c.in-Ok-put_given.ensures.put
 
@@ -53,7 +53,7 @@ returns-in-Err-put_given-clause-answered g c =
     (λ out audit puts n known like. (
       step_kept (hearing x) c.args.line c.args.event.now known taken.0 old stepped like taken.1 taken.3,
       event_torn x c.lawful.ensures c.requests_are_read.ensures n c.args.served c.args.event.now known taken.0 old stepped
-          desk.keeper (D.seen c.put_given.new.desk).keeper out audit c.requires.idle like taken.1 c.requires.desk.ready puts,
+          desk.holding (D.seen c.put_given.new.desk).holding out audit c.requires.idle like taken.1 c.requires.desk.ready puts,
     ))
     c.in-Err-put_given.ensures.put
 
@@ -62,7 +62,7 @@ returns-in-Err-clause-answered g c =
     let D = g.D.Desk in
     let desk = D.seen c.args.desk.now in
     Went-none (g.O.Sink.seen c.args.out.now) (g.U.Sink.seen c.args.audit.now) _
-    (stopped_answers (D.answering desk.of) (seen c.args.hub.now) (seen c.take_event.new.hub) desk.keeper c.args.served c.args.line
+    (stopped_answers (D.answering desk.of) (seen c.args.hub.now) (seen c.take_event.new.hub) desk.holding c.args.served c.args.line
     c.args.event.now c.in-Err.stopped c.in-Err.ensures)
 
 pub returns-in-Err-clause-keeps : goal.returns-in-Err-clause-keeps

@@ -12,7 +12,7 @@ returns-in-Ok-clause-answered g c =
     (Went-on _ _ _
     (λ out audit put n known like. (
       refl,
-      ask_served (D.answering desk.of) c.lawful.ensures (seen c.args.hub.now) desk.keeper (D.seen c.ask-asked.new.self).keeper c.args.served n
+      ask_served (D.answering desk.of) c.lawful.ensures (seen c.args.hub.now) desk.holding (D.seen c.ask-asked.new.self).holding c.args.served n
           c.in-Ask.viewer c.in-Ask.method c.in-Ask.path c.in-Ask.query c.in-Ask.body out audit known c.ask-asked.result c.requires.idle like c.ask-asked.ensures.asked put,
     ))
     (rw c.as_bytes.ensures at c.in-Ok.ensures.put))
@@ -25,7 +25,7 @@ returns-in-Ask-clause-answered g c =
     (Went-on _ _ _
     (λ out audit torn n known like. (
       refl,
-      ask_torn (D.answering desk.of) c.lawful.ensures desk.keeper (D.seen c.ask-asked.new.self).keeper c.args.served n
+      ask_torn (D.answering desk.of) c.lawful.ensures desk.holding (D.seen c.ask-asked.new.self).holding c.args.served n
           c.in-Ask.viewer c.in-Ask.method c.in-Ask.path c.in-Ask.query c.in-Ask.body out audit known c.ask-asked.result c.ask-asked.ensures.asked torn,
     ))
     (rw c.as_bytes.ensures at c.in-Err.ensures.put))

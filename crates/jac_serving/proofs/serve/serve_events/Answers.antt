@@ -15,7 +15,7 @@ pub lines-init : goal.lines-init
 lines-init g c =
     let D = g.D.Desk in
     let desk = D.seen c.args.desk.now in
-    let progress = start (D.answering desk.of) c.lawful.ensures (seen c.new-hub.result) desk.keeper c.args.bytes.now c.new-hub.ensures c.requires.desk.ready in
+    let progress = start (D.answering desk.of) c.lawful.ensures (seen c.new-hub.result) desk.holding c.args.bytes.now c.new-hub.ensures c.requires.desk.ready in
     record {
       short = c.requires.short;
       lines = omega arith;
@@ -38,7 +38,7 @@ returns-in-Err-clause-served g c =
     let parts = ap (λ (o : Option (Bor (List ℕ))). parts_left 10 (option_now o)) c.in-Some.is ∙ c.first_part.ensures.parts in
     Went-then (O.seen c.args.out.now) (O.seen c.lines.out) (O.seen c.serve_line.new.out) (U.seen c.args.audit.now) (U.seen c.lines.audit) (U.seen c.serve_line.new.audit) _ _ _
     (λ o au p bu progress line.
-    stop_at (D.answering a.of) c.lawful.ensures (seen c.lines.hub) (seen c.serve_line.new.hub) a.keeper b.keeper d.keeper
+    stop_at (D.answering a.of) c.lawful.ensures (seen c.lines.hub) (seen c.serve_line.new.hub) a.holding b.holding d.holding
     _ _ (option_now c.first_part.result.1) _ _ _ _ _ _ _ progress parts (line_of c.first_part.result.0.now) refl c.in-Err.stopped
     (line-of D.answering a b (seen c.lines.hub) (seen c.serve_line.new.hub) (kept b d) c.lines.served (c.lines.number + 1) (line_of c.first_part.result.0.now) (Err c.in-Err.stopped) p bu c.lines.invariant.keeps line))
     c.lines.invariant.went c.in-Err.ensures.answered
@@ -58,7 +58,7 @@ lines-preserved g c =
     let went =
     Went-then (O.seen c.args.out.now) (O.seen c.lines.out) (O.seen c.serve_line.new.out) (U.seen c.args.audit.now) (U.seen c.lines.audit) (U.seen c.serve_line.new.audit) _ _ _
     (λ o au p bu progress line.
-    go_on (D.answering a.of) c.lawful.ensures (seen c.lines.hub) (seen c.serve_line.new.hub) a.keeper b.keeper d.keeper
+    go_on (D.answering a.of) c.lawful.ensures (seen c.lines.hub) (seen c.serve_line.new.hub) a.holding b.holding d.holding
     _ _ (option_now c.first_part.result.1) _ _ c.in-Ok.count _ _ _ _ _ progress parts (line_of c.first_part.result.0.now) refl
     (line-of D.answering a b (seen c.lines.hub) (seen c.serve_line.new.hub) (kept b d) c.lines.served (c.lines.number + 1) (line_of c.first_part.result.0.now) (Ok c.in-Ok.count) p bu before.keeps line))
     before.went c.in-Ok.ensures.answered in
@@ -81,6 +81,6 @@ returns-clause-served g c =
     let a = D.seen c.args.desk.now in
     Went-on _ _ _
     (λ o au progress.
-    finish_left (D.answering a.of) (seen c.lines.hub) a.keeper (D.seen c.lines.desk).keeper c.args.bytes.now c.lines.left _ _ o au
+    finish_left (D.answering a.of) (seen c.lines.hub) a.holding (D.seen c.lines.desk).holding c.args.bytes.now c.lines.left _ _ o au
     c.in_default.not-Some progress)
     c.lines.invariant.went

@@ -10,7 +10,7 @@ returns-in-Ok-None-clause-answered g c =
     let D = g.D.Desk in
     let desk = D.seen c.args.desk.now in
     Went-none (g.O.Sink.seen c.args.out.now) (g.U.Sink.seen c.args.audit.now) _
-    (line_empty (D.answering desk.of) (seen c.args.hub.now) desk.keeper c.args.served c.args.number (line_of c.args.line.now)
+    (line_empty (D.answering desk.of) (seen c.args.hub.now) desk.holding c.args.served c.args.number (line_of c.args.line.now)
     (rw c.in-Ok-None.field-0-is at c.in-Ok-None.ensures.read))
 
 pub returns-in-Err-BadLine-clause-answered : goal.returns-in-Err-BadLine-clause-answered
@@ -18,5 +18,5 @@ returns-in-Err-BadLine-clause-answered g c =
     let D = g.D.Desk in
     let desk = D.seen c.args.desk.now in
     Went-none (g.O.Sink.seen c.args.out.now) (g.U.Sink.seen c.args.audit.now) _
-    (line_formless (D.answering desk.of) (seen c.args.hub.now) desk.keeper c.args.served c.args.number (line_of c.args.line.now)
+    (line_formless (D.answering desk.of) (seen c.args.hub.now) desk.holding c.args.served c.args.number (line_of c.args.line.now)
     ((rw c.in-Err-BadLine.field-0-is at c.in-Err-BadLine.ensures.bad) refl))

@@ -1,0 +1,17 @@
+-- A request that found a view, as the ordinary interpreter takes it.
+use Rattle.jac_lang.specs.Mirror.{application_of}
+use Rattle.jac_lang.specs.Syntax.{Application}
+use Rattle.jac_plain.specs.Requests.{Visit}
+use Rattle.jac_replies.specs.declared.answer.Ask.{Ask}
+use Rattle.jac_engine.specs.Answers.{asked_with, visit_of}
+use Rattle.jac_engine.specs.declared.lookup.Visited.{Visited}
+
+abbrev pub app_of : Visited → Application
+app_of visited = application_of visited.app.now
+
+-- with the pairs of its path before its own
+abbrev pub request_at : Visited → Ask
+request_at visited = asked_with visited.path.now visited.ask.now
+
+abbrev pub visit_at : Visited → Visit
+visit_at visited = visit_of (app_of visited) (request_at visited) visited.place
