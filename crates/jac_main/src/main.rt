@@ -4,6 +4,12 @@
 ghost use Rattle.std.specs.Prelude.{◌≡◌, ◌<◌};
 
 #[cfg(test)]
+mod database;
+#[cfg(test)]
+mod faults;
+#[cfg(test)]
+mod links;
+#[cfg(test)]
 mod tests;
 
 use jac_app::{Status, run};

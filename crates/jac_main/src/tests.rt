@@ -1,11 +1,11 @@
-//! The program's top call over files, sinks, a keeper and a door in memory that fail at chosen calls.
-ghost use Rattle.std.specs.Prelude.{◌≡◌, ◌<◌, ◌≤◌, ◌^◌, length};
+//! The program's top call over files, sinks, a keeper and a door in memory, which may fail at
+//! chosen calls.
+ghost use Rattle.std.specs.Prelude.{◌≡◌, ◌<◌, ◌≤◌, ◌^◌, IfOk, false};
 
 use jac_app::{Status, run};
 use jac_io::{Calls, Links, MemoryDoor, MemoryFiles, MemoryLink, MemorySink, NamedFiles, Pieces};
-use jac_keep::MemoryKeeper;
+use jac_keep::{MemoryKeeper, Vault};
 use jac_rows::{State, Tables};
-use jac_sqlkeep::{MemoryOpener, SqlKeeper};
 use jac_value::{Bytes, Memory, Txt};
 use jac_world::Steps;
 use std::alloc::Global;
@@ -13,7 +13,21 @@ use std::marker::Brand;
 use std::sync::ledger::{Blank, Ledger};
 use std::test::Fail;
 
-const HELLO: &str = "(app (view get \"/\" (params) (put \"hello\")))";
+pub(crate) const HELLO: &str = "(app (view get \"/\" (params) (put \"hello\")))";
+
+pub(crate) const CALENDAR: &str = "(app (viewer User)
+ (model User (fields (name text)))
+ (model Event (fields (title text) (host (ref User)) (open bool))
+  (group (guards (title \"private\"))
+   (policy (or (get Event open this) (eq (get Event host this) viewer)))))
+ (view post \"/join\" (params (name text))
+  (create u User (set (name name)) (put u)))
+ (view post \"/add\" (params (title text) (open bool))
+  (create e Event (set (title title) (host viewer) (open open)) (put e)))
+ (view get \"/list\" (params)
+  (for (from ((e Event)) true key) (put (get Event title e)) (put \";\")))
+ (view get \"/hidden\" (params)
+  (put (count (from ((e Event)) (eq (get Event title e) \"private\") key)))))";
 
 const PEOPLE: &str = "(app (model User (fields (name text)))
  (view post \"/join\" (params (name text)) (create u User (set (name name)) (put u)))
@@ -23,45 +37,92 @@ const PEOPLE: &str = "(app (model User (fields (name text)))
 const PEOPLE_WITH_NOTES: &[u8] = b"(app (model User (fields (name text) (mail text)))
  (model Note (fields (body text))))";
 
-const JOIN_AND_LIST: &[u8] =
-    b"ask - POST \"/join\" \"name=Ann\"\nask - POST \"/join\" \"name=Bob\"\nask - GET \"/all\" \"\"\n";
-
-const SERVED: &[u8] =
-    b"HTTP/1.1 200 OK\r\nContent-Type: text/html; charset=utf-8\r\nContent-Length: 5\r\nConnection: close\r\n\r\nhello";
+/// The words of a run of events.
+pub(crate) const REPLAY: [&str; 3] = ["replay", "app", "events"];
 
 /// How many bytes a sink takes.
 const SINK_ROOM: usize = 65_536;
 
-/// What a run leaves: the next number is that of the keeper.
+/// How many bytes a link takes.
+const LINK_ROOM: usize = 4096;
+
+/// The calls that are to fail, by their numbers.
+#[derive(Clone, Copy)]
+pub(crate) struct Fails<'f> {
+    pub(crate) files: &'f [u64],
+    pub(crate) out: &'f [u64],
+    pub(crate) audit: &'f [u64],
+    pub(crate) reads: &'f [u64],
+    pub(crate) applies: &'f [u64],
+    pub(crate) door: &'f [u64],
+}
+
+pub(crate) const NO_FAILS: Fails<'static> = Fails {
+    files: &[],
+    out: &[],
+    audit: &[],
+    reads: &[],
+    applies: &[],
+    door: &[],
+};
+
+/// What a link gives, piece by piece, and those of its calls that are to fail.
+#[derive(Clone, Copy)]
+pub(crate) struct Line<'l> {
+    pub(crate) pieces: &'l [&'l [u8]],
+    pub(crate) fails: &'l [u64],
+}
+
+/// A run: its words, its two files, and the links of its door.
+#[derive(Clone, Copy)]
+pub(crate) struct Script<'s> {
+    pub(crate) words: &'s [&'s str],
+    pub(crate) app: &'s str,
+    pub(crate) events: &'s [u8],
+    pub(crate) lines: &'s [Line<'s>],
+    pub(crate) fails: Fails<'s>,
+}
+
+/// What a run is to leave.
+#[derive(Clone, Copy)]
+pub(crate) struct Wanted<'w> {
+    pub(crate) status: Status,
+    pub(crate) out: &'w [u8],
+    pub(crate) audit: &'w [u8],
+    pub(crate) number: u64,
+}
+
+/// What is around a run, but for its keeper.
 #[derive(Drop)]
-struct Left {
-    status: Status,
+pub(crate) struct Around {
+    files: MemoryFiles,
     out: MemorySink,
     audit: MemorySink,
-    keeper: MemoryKeeper,
     door: MemoryDoor,
-    number: u64,
 }
 
-/// The calls that are to fail.
+/// How a run ended, what it put, and its door.
 #[derive(Drop)]
-struct Fails {
-    out: Calls,
-    audit: Calls,
-    reads: Calls,
-    applies: Calls,
+pub(crate) struct Ran {
+    pub(crate) status: Status,
+    pub(crate) out: MemorySink,
+    pub(crate) audit: MemorySink,
+    pub(crate) door: MemoryDoor,
 }
 
-fn no_fails(alloc: Global) -> Fails {
-    Fails {
-        out: Calls::empty(alloc),
-        audit: Calls::empty(alloc),
-        reads: Calls::empty(alloc),
-        applies: Calls::empty(alloc),
-    }
+/// What a run over a keeper in memory leaves.
+#[derive(Drop)]
+pub(crate) struct Left {
+    pub(crate) ran: Ran,
+    pub(crate) keeper: MemoryKeeper,
 }
 
-fn words_of(alloc: Global, words: &[&str]) -> Result<Vec<Txt>, Memory> {
+fn calls_of(alloc: Global, numbers: &[u64]) -> Result<Calls, Memory> {
+    let numbers = Vec::from_slice(alloc, numbers)?;
+    Ok(Calls::from_vec(numbers))
+}
+
+pub(crate) fn words_of(alloc: Global, words: &[&str]) -> Result<Vec<Txt>, Memory> {
     let mut all = Vec::new(alloc);
     for word in words {
         let word = Txt::from_str(alloc, word)?;
@@ -70,133 +131,81 @@ fn words_of(alloc: Global, words: &[&str]) -> Result<Vec<Txt>, Memory> {
     Ok(all)
 }
 
-fn files_of(alloc: Global, app: &str, events: &[u8]) -> Result<MemoryFiles, Memory> {
-    let mut files = Vec::new(alloc);
-    let name = Txt::from_str(alloc, "app")?;
-    let bytes = Bytes::from_slice(alloc, app.as_bytes())?;
-    files.push((name, bytes))?;
-    let name = Txt::from_str(alloc, "events")?;
-    let bytes = Bytes::from_slice(alloc, events)?;
-    files.push((name, bytes))?;
-    Ok(MemoryFiles::new(NamedFiles::from_vec(files), Calls::empty(alloc)))
+fn file_of(alloc: Global, name: &str, bytes: &[u8]) -> Result<(Txt, Bytes), Memory> {
+    let name = Txt::from_str(alloc, name)?;
+    let bytes = Bytes::from_slice(alloc, bytes)?;
+    Ok((name, bytes))
 }
 
-/// A door with one link, which gives these pieces; with none where there are none.
-fn door_of(alloc: Global, pieces: &[&[u8]], fails: Calls) -> Result<MemoryDoor, Memory> {
-    let mut links = Vec::new(alloc);
-    if !pieces.is_empty() {
-        let mut all = Vec::new(alloc);
-        for piece in pieces {
-            let piece = Bytes::from_slice(alloc, piece)?;
-            all.push(piece)?;
-        }
-        let link = MemoryLink::new(alloc, Pieces::from_vec(all), 4096, Calls::empty(alloc))?;
-        links.push(link)?;
+fn files_of(alloc: Global, script: &Script) -> Result<MemoryFiles, Memory> {
+    let mut files = Vec::new(alloc);
+    files.push(file_of(alloc, "app", script.app.as_bytes())?)?;
+    files.push(file_of(alloc, "events", script.events)?)?;
+    let fails = calls_of(alloc, script.fails.files)?;
+    Ok(MemoryFiles::new(NamedFiles::from_vec(files), fails))
+}
+
+fn sink_of(alloc: Global, fails: &[u64]) -> Result<MemorySink, Memory> {
+    let fails = calls_of(alloc, fails)?;
+    MemorySink::new(alloc, SINK_ROOM, fails)
+}
+
+pub(crate) fn link_of(alloc: Global, line: &Line) -> Result<MemoryLink, Memory> {
+    let mut pieces = Vec::new(alloc);
+    for piece in line.pieces {
+        pieces.push(Bytes::from_slice(alloc, piece)?)?;
     }
+    let fails = calls_of(alloc, line.fails)?;
+    MemoryLink::new(alloc, Pieces::from_vec(pieces), LINK_ROOM, fails)
+}
+
+fn door_of(alloc: Global, script: &Script) -> Result<MemoryDoor, Memory> {
+    let mut links = Vec::new(alloc);
+    for line in script.lines {
+        links.push(link_of(alloc, line)?)?;
+    }
+    let fails = calls_of(alloc, script.fails.door)?;
     MemoryDoor::new(alloc, Links::from_vec(links), fails)
 }
 
-fn run_words(
-    alloc: Global,
-    words: &[&str],
-    app: &str,
-    events: &[u8],
-    number: u64,
-    fails: Fails,
-) -> Result<Left, Memory>
-    requires from_one { 1 ≤ number }
-    requires in_range { number ≤ 2 ^ 40 }
-{
-    let door = door_of(alloc, &[], Calls::empty(alloc))?;
-    run_at_door(alloc, words, app, events, number, fails, door)
-}
-
-fn run_at_door(
-    alloc: Global,
-    words: &[&str],
-    app: &str,
-    events: &[u8],
-    number: u64,
-    fails: Fails,
-    door: MemoryDoor,
-) -> Result<Left, Memory>
-    requires from_one { 1 ≤ number }
-    requires in_range { number ≤ 2 ^ 40 }
-{
-    let words = words_of(alloc, words)?;
-    let files = files_of(alloc, app, events)?;
-    run_counted::<Brand, Brand>(
-        alloc,
-        words.as_slice(),
+pub(crate) fn around_of(alloc: Global, script: &Script) -> Result<Around, Memory> {
+    let files = files_of(alloc, script)?;
+    let out = sink_of(alloc, script.fails.out)?;
+    let audit = sink_of(alloc, script.fails.audit)?;
+    let door = door_of(alloc, script)?;
+    Ok(Around {
         files,
-        number,
-        fails,
+        out,
+        audit,
         door,
-        Blank::new(1),
-        Blank::new(1),
-    )
+    })
 }
 
-fn run_counted<L: Ledger, M: Ledger>(
-    alloc: Global,
-    words: &[Txt],
-    files: MemoryFiles,
-    number: u64,
-    fails: Fails,
-    door: MemoryDoor,
-    blank: Blank,
-    second: Blank,
-) -> Result<Left, Memory>
+// A keeper that has nothing stored, and this number.
+fn keeper_at(alloc: Global, number: u64, fails: Fails) -> Result<MemoryKeeper, Memory>
     requires from_one { 1 ≤ number }
     requires in_range { number ≤ 2 ^ 40 }
-    requires name { blank.name ≡ L.name }
-    requires parts { blank.parts ≡ L.parts }
-    requires some { 0 < blank.parts }
-    requires second_name { second.name ≡ M.name }
-    requires second_parts { second.parts ≡ M.parts }
-    requires second_some { 0 < second.parts }
+    ensures { IfOk result (λ k. k.store.called ≡ false) }
 {
-    let mut files = files;
-    let mut out = MemorySink::new(alloc, SINK_ROOM, fails.out)?;
-    let mut audit = MemorySink::new(alloc, SINK_ROOM, fails.audit)?;
+    let reads = calls_of(alloc, fails.reads)?;
+    let applies = calls_of(alloc, fails.applies)?;
     let state = State {
         tables: Tables::empty(alloc),
         number,
     };
-    let mut keeper = MemoryKeeper::new(state, None, fails.reads, fails.applies);
-    let mut door = door;
-    let mut splits: Steps<L> = Steps::new(blank);
-    let mut evaluations: Steps<M> = Steps::new(second);
-    let status = run(
-        alloc,
-        words,
-        &mut files,
-        &mut out,
-        &mut audit,
-        &mut keeper,
-        &mut door,
-        &mut splits,
-        &mut evaluations,
-    );
-    let number = keeper.state().number;
-    Ok(Left {
-        status,
-        out,
-        audit,
-        keeper,
-        door,
-        number,
-    })
+    Ok(MemoryKeeper::new(state, None, reads, applies))
 }
 
-// The same over a database in memory: how it ended, and what it put.
-fn run_in_database<L: Ledger, M: Ledger>(
+/// Runs the words over a keeper to which none was attached yet.
+pub(crate) fn run_over<K: Vault, L: Ledger, M: Ledger>(
     alloc: Global,
     words: &[Txt],
-    files: MemoryFiles,
+    around: Around,
+    keeper: &mut K,
     blank: Blank,
     second: Blank,
-) -> Result<(Status, MemorySink), Memory>
+) -> Ran
+    requires first { (K.seen keeper.old).store.called ≡ false }
     requires name { blank.name ≡ L.name }
     requires parts { blank.parts ≡ L.parts }
     requires some { 0 < blank.parts }
@@ -204,11 +213,10 @@ fn run_in_database<L: Ledger, M: Ledger>(
     requires second_parts { second.parts ≡ M.parts }
     requires second_some { 0 < second.parts }
 {
-    let mut files = files;
-    let mut out = MemorySink::new(alloc, SINK_ROOM, Calls::empty(alloc))?;
-    let mut audit = MemorySink::new(alloc, SINK_ROOM, Calls::empty(alloc))?;
-    let mut keeper = SqlKeeper::new(MemoryOpener::new());
-    let mut door = door_of(alloc, &[], Calls::empty(alloc))?;
+    let mut files = around.files;
+    let mut out = around.out;
+    let mut audit = around.audit;
+    let mut door = around.door;
     let mut splits: Steps<L> = Steps::new(blank);
     let mut evaluations: Steps<M> = Steps::new(second);
     let status = run(
@@ -217,169 +225,141 @@ fn run_in_database<L: Ledger, M: Ledger>(
         &mut files,
         &mut out,
         &mut audit,
-        &mut keeper,
+        keeper,
         &mut door,
         &mut splits,
         &mut evaluations,
     );
-    Ok((status, out))
+    Ran {
+        status,
+        out,
+        audit,
+        door,
+    }
 }
 
-#[test]
-fn a_store_in_a_database_is_served(rt: HostRuntime) -> Result<(), Fail> {
-    let alloc = rt.alloc();
-    let words = words_of(alloc, &["replay", "app", "events"])?;
-    let files = files_of(alloc, PEOPLE, JOIN_AND_LIST)?;
-    let (status, out) = run_in_database::<Brand, Brand>(
+/// Runs a script over a new store with this number.
+pub(crate) fn run_script(alloc: Global, script: &Script, number: u64) -> Result<Left, Memory>
+    requires from_one { 1 ≤ number }
+    requires in_range { number ≤ 2 ^ 40 }
+{
+    let words = words_of(alloc, script.words)?;
+    let around = around_of(alloc, script)?;
+    let mut keeper = keeper_at(alloc, number, script.fails)?;
+    let ran = run_over::<MemoryKeeper, Brand, Brand>(
         alloc,
         words.as_slice(),
-        files,
+        around,
+        &mut keeper,
         Blank::new(1),
         Blank::new(1),
-    )?;
-    assert_eq!(rt; status, Status::Done);
-    assert_eq!(rt;
-        out.taken(),
-        b"reply 200 \"\" \"4096\"\nreply 200 \"\" \"8192\"\nreply 200 \"\" \"Ann;Bob;\"\n".as_slice()
     );
-    Ok(())
+    Ok(Left { ran, keeper })
 }
 
-#[test]
-fn a_failed_put_ends_the_run_after_the_audit_line(rt: HostRuntime) -> Result<(), Fail> {
-    let alloc = rt.alloc();
-    let mut fails = no_fails(alloc);
-    fails.out = Calls::from_vec(vec![in alloc; 2]?);
-    let events = b"ask - GET \"/\" \"\"\nask - GET \"/\" \"\"\nask - GET \"/\" \"\"\n";
-    let left = run_words(alloc, &["replay", "app", "events"], HELLO, events, 1, fails)?;
-    assert_eq!(rt; left.status, Status::WriteFault);
-    assert_eq!(rt;
-        left.out.taken(),
-        b"reply 200 \"\" \"hello\"\nwrite fault\n".as_slice()
-    );
-    assert_eq!(rt; left.audit.taken(), b"1 200 - -\n2 200 - -\n".as_slice());
-    Ok(())
+pub(crate) fn is_left(left: &Left, wanted: &Wanted) -> bool {
+    left.ran.status == wanted.status
+        && left.ran.out.taken() == wanted.out
+        && left.ran.audit.taken() == wanted.audit
+        && left.keeper.state().number == wanted.number
 }
 
-#[test]
-fn a_fault_of_the_keeper_leaves_the_state(rt: HostRuntime) -> Result<(), Fail> {
-    let alloc = rt.alloc();
-    let mut fails = no_fails(alloc);
-    fails.applies = Calls::from_vec(vec![in alloc; 2]?);
-    let left = run_words(
-        alloc,
-        &["replay", "app", "events"],
-        PEOPLE,
-        JOIN_AND_LIST,
-        1,
-        fails,
-    )?;
-    assert_eq!(rt; left.status, Status::Done);
-    assert_eq!(rt;
-        left.out.taken(),
-        b"reply 200 \"\" \"4096\"\nreply 503 \"\" \"503 Service Unavailable\\n\"\nreply 200 \"\" \"Ann;\"\n".as_slice()
-    );
-    assert_eq!(rt;
-        left.audit.taken(),
-        b"1 200 - -\n2 503 - nopage\n3 200 - -\n".as_slice()
-    );
-    assert_eq!(rt; left.number, 2);
-    Ok(())
+/// Whether a run over a new store with this number leaves what is wanted.
+pub(crate) fn leaves(
+    alloc: Global,
+    script: &Script,
+    number: u64,
+    wanted: &Wanted,
+) -> Result<bool, Memory>
+    requires from_one { 1 ≤ number }
+    requires in_range { number ≤ 2 ^ 40 }
+{
+    let left = run_script(alloc, script, number)?;
+    Ok(is_left(&left, wanted))
 }
+
+const AT_THE_END: Script<'static> = Script {
+    words: &REPLAY,
+    app: CALENDAR,
+    events: b"ask - POST \"/join\" \"name=Ann\"
+ask - POST \"/join\" \"name=Bob\"
+ask - GET \"/list\" \"\"
+",
+    lines: &[],
+    fails: NO_FAILS,
+};
+
+const LEFT_AT_THE_END: Wanted<'static> = Wanted {
+    status: Status::Done,
+    out: b"reply 200 \"\" \"4503599627366400\"
+reply 507 \"\" \"507 Insufficient Storage\\n\"
+reply 200 \"\" \"\"
+",
+    audit: b"1 200 - -\n2 507 - nopage\n3 200 - -\n",
+    number: 1_099_511_627_776,
+};
 
 #[test]
 fn a_post_past_the_last_number_is_refused(rt: HostRuntime) -> Result<(), Fail> {
-    let alloc = rt.alloc();
-    let last: u64 = 1_099_511_627_776;
-    let left = run_words(
-        alloc,
-        &["replay", "app", "events"],
-        PEOPLE,
-        b"ask - POST \"/join\" \"name=Ann\"\n",
-        last,
-        no_fails(alloc),
-    )?;
-    assert_eq!(rt;
-        left.out.taken(),
-        b"reply 507 \"\" \"507 Insufficient Storage\\n\"\n".as_slice()
-    );
-    assert_eq!(rt; left.audit.taken(), b"1 507 - nopage\n".as_slice());
-    assert_eq!(rt; left.number, last);
+    let last: u64 = 1_099_511_627_775;
+    assert!(rt; leaves(rt.alloc(), &AT_THE_END, last, &LEFT_AT_THE_END)?);
     Ok(())
 }
+
+/// An upgrade, and how many tables the store has behind it.
+fn upgraded(alloc: Global, fails: Fails, wanted: &Wanted) -> Result<Option<usize>, Memory> {
+    let script = Script {
+        words: &["upgrade", "app", "events", "--db", "store"],
+        app: PEOPLE,
+        events: PEOPLE_WITH_NOTES,
+        lines: &[],
+        fails,
+    };
+    let left = run_script(alloc, &script, 3)?;
+    if !is_left(&left, wanted) {
+        return Ok(None);
+    }
+    Ok(Some(left.keeper.state().tables.as_slice().len()))
+}
+
+const UPGRADED: Wanted<'static> = Wanted {
+    status: Status::Done,
+    out: b"upgraded 0 records\n",
+    audit: b"",
+    number: 3,
+};
+
+const NOT_UPGRADED: Wanted<'static> = Wanted {
+    status: Status::StoreFault,
+    out: b"store fault\n",
+    audit: b"",
+    number: 3,
+};
+
+const TO_LESS: Script<'static> = Script {
+    words: &["upgrade", "app", "events", "--db", "store"],
+    app: "(app (model User (fields (name text))) (model Note (fields (body text))))",
+    events: b"(app (model User (fields (name text))))",
+    lines: &[],
+    fails: NO_FAILS,
+};
+
+const REFUSED: Wanted<'static> = Wanted {
+    status: Status::UpgradeRefused,
+    out: b"upgrade: model Note\n",
+    audit: b"",
+    number: 1,
+};
 
 #[test]
 fn an_upgrade_is_applied_or_leaves_the_store(rt: HostRuntime) -> Result<(), Fail> {
     let alloc = rt.alloc();
-    let words = ["upgrade", "app", "events", "--db", "store"];
-    let left = run_words(alloc, &words, PEOPLE, PEOPLE_WITH_NOTES, 3, no_fails(alloc))?;
-    assert_eq!(rt; left.status, Status::Done);
-    assert_eq!(rt; left.out.taken(), b"upgraded 0 records\n".as_slice());
-    assert_eq!(rt; left.keeper.state().tables.as_slice().len(), 2);
-    assert_eq!(rt; left.number, 3);
-    let mut fails = no_fails(alloc);
-    fails.applies = Calls::from_vec(vec![in alloc; 1]?);
-    let left = run_words(alloc, &words, PEOPLE, PEOPLE_WITH_NOTES, 3, fails)?;
-    assert_eq!(rt; left.status, Status::StoreFault);
-    assert_eq!(rt; left.out.taken(), b"store fault\n".as_slice());
-    assert_eq!(rt; left.keeper.state().tables.as_slice().len(), 1);
-    assert_eq!(rt; left.number, 3);
-    Ok(())
-}
-
-#[test]
-fn an_upgrade_to_less_is_refused(rt: HostRuntime) -> Result<(), Fail> {
-    let alloc = rt.alloc();
-    let left = run_words(
-        alloc,
-        &["upgrade", "app", "events", "--db", "store"],
-        "(app (model User (fields (name text))) (model Note (fields (body text))))",
-        PEOPLE.as_bytes(),
-        1,
-        no_fails(alloc),
-    )?;
-    assert_eq!(rt; left.status, Status::UpgradeRefused);
-    assert_eq!(rt; left.out.taken(), b"upgrade: model Note\n".as_slice());
-    Ok(())
-}
-
-/// Serves one link that gives these pieces.
-fn serve_pieces(
-    alloc: Global,
-    app: &str,
-    pieces: &[&[u8]],
-    fails: Fails,
-    door: Calls,
-) -> Result<Left, Memory> {
-    let door = door_of(alloc, pieces, door)?;
-    run_at_door(
-        alloc,
-        &["serve", "app", "8080", "1"],
-        app,
-        b"",
-        1,
-        fails,
-        door,
-    )
-}
-
-#[test]
-fn a_link_of_a_door_is_served(rt: HostRuntime) -> Result<(), Fail> {
-    let alloc = rt.alloc();
-    let pieces: [&[u8]; 2] = [b"GET / HTT", b"P/1.0\r\n\r\n"];
-    let left = serve_pieces(alloc, HELLO, &pieces, no_fails(alloc), Calls::empty(alloc))?;
-    assert_eq!(rt; left.status, Status::Done);
-    assert_eq!(rt;
-        left.out.taken(),
-        b"served 1 connections, 1 replies\n".as_slice()
-    );
-    match left.door.lines() {
-        [line] => assert_eq!(rt; line.taken(), SERVED),
-        _ => assert!(rt; false),
-    }
-    let first = Calls::from_vec(vec![in alloc; 1]?);
-    let left = serve_pieces(alloc, HELLO, &pieces, no_fails(alloc), first)?;
-    assert_eq!(rt; left.status, Status::DoorFault);
-    assert_eq!(rt; left.out.taken(), b"door fault\n".as_slice());
+    assert_eq!(rt; upgraded(alloc, NO_FAILS, &UPGRADED)?, Some(2));
+    let fails = Fails {
+        applies: &[1],
+        ..NO_FAILS
+    };
+    assert_eq!(rt; upgraded(alloc, fails, &NOT_UPGRADED)?, Some(1));
+    assert!(rt; leaves(alloc, &TO_LESS, 1, &REFUSED)?);
     Ok(())
 }
