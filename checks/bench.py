@@ -2,11 +2,12 @@
 """Measures the built program. Words: the program, and the numbers of records, or none for 256, 1024 and 4096, and for
 1024, 4096 and 16384 guarded ones.
 
-For each number N a store of N events is made by N requests, and then each kind of request is asked of it. Then the same
-for N events that are for their host alone, made 64 by a request: there each page is made under labels, those of all
-events where the host of all asks, and none where nobody does. A request
-costs the processor time of a run with some of them less that of the run without, divided by their number, the best of
-three.
+For each number N a store of N events is made by N requests, and then each kind of request is asked of it, and a list of
+N users by N events that are theirs. Then the same for N events that are for their host alone, made 64 by a request: there
+each page is made under labels, those of all events where the host of all asks, and none where nobody does. Their list is
+asked again and again, under labels that are kept, and then anew behind a `POST` of nobody. A request costs the processor
+time of a run with some of them less that of the run without, divided by their number, the best of three; what is asked
+anew, less that of its `POST`. `jac demo` is taken whole, the best of three.
 Where Flask is installed it serves the same lists from SQLite in the same run, in one process and by its test client,
 with queries written by hand; the ratio is our time to its. Last stand the bars: what the costs are meant to keep to.
 docs/COSTS.md has what it said last, with its date. It is no part of the gate: what a machine takes is no property of the
@@ -24,7 +25,8 @@ GUARDED_SIZES = [1024, 4096, 16384]
 HOSTS = 16
 LEAST = 0.4     # seconds that the requests of one measurement take at least
 MOST = 60       # and that a single one may take before larger stores are left out
-PAIRED = 1000   # records of each of two models that a query crosses
+PAIRED = [250, 1000, 4000]      # records of each of two models that a query crosses
+DEMOS = {1000: 1, 2000: 4}      # requests of a demo, and the seconds that it may take
 
 APPLICATION = r"""(app (viewer User)
 
@@ -84,13 +86,23 @@ GUARDED = r"""(app (viewer User)
 
 HOST = 4096     # the record of who hosts all guarded events
 
-# what is asked of the guarded ones, and the line that asks it
+# these make no further event, so that the number of events stays
+JOINED = 'ask %d POST "/join" "name=New"' % HOST
+JOIN = 'ask - POST "/join" "name=New"'
+HOSTED = 'ask %d GET "/list" ""' % HOST
+UNHOSTED = 'ask - GET "/list" ""'
+BY_NOBODY = 'guarded, nobody: a POST'
+
+# what is asked of the guarded ones, the lines that ask it, and the row that is no part of it
 GUARDED_ASKED = [
-    ('guarded, the host: a POST', 'ask %d POST "/add" "title=New&open=0"' % HOST),
-    ('guarded, the host: the list', 'ask %d GET "/list" ""' % HOST),
-    ('guarded, nobody: a POST', 'ask - POST "/join" "name=New"'),
-    ('guarded, nobody: the list', 'ask - GET "/list" ""'),
+    ('guarded, the host: a POST', [JOINED], None),
+    (BY_NOBODY, [JOIN], None),
+    ('guarded, the host: kept', [HOSTED], None),
+    ('guarded, nobody: kept', [UNHOSTED], None),
+    ('guarded, the host: anew', [JOIN, HOSTED], BY_NOBODY),
+    ('guarded, nobody: anew', [JOIN, UNHOSTED], BY_NOBODY),
 ]
+CROSSED = 'two binders, N by N'
 
 # what is asked, and its path
 LISTS = [
@@ -132,6 +144,11 @@ def stored(count):
     return joins(HOSTS) + adds(0, count, HOSTS)
 
 
+def crossed(count):
+    """The requests that make a store of as many users as events, one event each."""
+    return joins(count) + adds(0, count, count)
+
+
 def guarded(count):
     """The requests that make the store of guarded events."""
     return ['ask - POST "/join" "name=Ann"'] + ['ask %d POST "/many" "title=Event+%d"' % (HOST, i) for i in range(count // ROUND)]
@@ -164,20 +181,29 @@ class Bench:
         with open(os.path.join(folder, 'bench.app'), 'w') as file:
             file.write(application)
 
-    def once(self, events):
+    def run(self, words):
         """Processor seconds and peak bytes of one run."""
-        path = os.path.join(self.folder, 'bench.events')
-        with open(path, 'w') as file:
-            file.write('\n'.join(events) + '\n')
-        words = [self.program, 'replay', os.path.join(self.folder, 'bench.app'), path]
         status, took, peak = self.pool.submit(run_once, words).result()
         if status:
             sys.exit('%s ended with %d' % (self.program, status))
         return took, peak
 
-    def best(self, events):
-        runs = [self.once(events) for _ in range(3)]
+    def best_of(self, words):
+        runs = [self.run(words) for _ in range(3)]
         return min(took for took, _ in runs), max(peak for _, peak in runs)
+
+    def replay(self, events):
+        """The words of a run that answers these."""
+        path = os.path.join(self.folder, 'bench.events')
+        with open(path, 'w') as file:
+            file.write('\n'.join(events) + '\n')
+        return [self.program, 'replay', os.path.join(self.folder, 'bench.app'), path]
+
+    def once(self, events):
+        return self.run(self.replay(events))
+
+    def best(self, events):
+        return self.best_of(self.replay(events))
 
     def before(self, count):
         """The run that only makes the store."""
@@ -302,21 +328,29 @@ def main():
                 table.line(name, path, count, took, peak)
                 if took > MOST / 16:
                     slow.add(name)
-        paired = joins(PAIRED) + adds(0, PAIRED, PAIRED)
-        took, peak = bench.once(paired + ['ask - GET "/pairs" ""'])
-        base, _ = bench.once(paired)
-        print('%-28s %6d %12.3f %8s %9.1f' % ('two binders, N by N', PAIRED, (took - base) * 1000, '', peak / 2 ** 20))
+        peaks = measure_crossed(Bench(pool, program, folder, APPLICATION, crossed), table)
         labelled = [int(word) for word in sys.argv[2:]] or GUARDED_SIZES
         measure_guarded(Bench(pool, program, folder, GUARDED, guarded), table, labelled)
-        bars(table, sizes, peak)
+        for count in DEMOS:
+            table.line('demo, whole', None, count, *bench.best_of([program, 'demo', str(count)]))
+        bars(table, sizes, peaks)
         guarded_bars(table, labelled)
+
+
+def measure_crossed(bench, table):
+    """The most memory of each run."""
+    peaks = {}
+    for count in PAIRED:
+        took, peaks[count] = bench.request(count, lambda number: ['ask - GET "/pairs" ""'] * number)
+        table.line(CROSSED, None, count, took, peaks[count])
+    return peaks
 
 
 def measure_guarded(bench, table, sizes):
     for count in sizes:
-        for name, asked in GUARDED_ASKED:
-            took, peak = bench.request(count, lambda number, asked=asked: [asked] * number)
-            table.line(name, None, count, took, peak)
+        for name, asked, beside in GUARDED_ASKED:
+            took, peak = bench.request(count, lambda number, asked=asked: asked * number)
+            table.line(name, None, count, took - table.took[beside, count] if beside else took, peak)
 
 
 def rename(count, number):
@@ -325,7 +359,7 @@ def rename(count, number):
     return ['ask - POST "/rename" "event=%d&title=New+%d"' % ((first + i * 37 % count) * 4096 + 1, i) for i in range(number)]
 
 
-def bars(table, sizes, peak):
+def bars(table, sizes, peaks):
     took = table.took
     first, last = sizes[0], sizes[-1]
     for name in ['a POST that creates', 'a POST that updates']:
@@ -337,14 +371,21 @@ def bars(table, sizes, peak):
             bar('%s, growth from N = %d to %d' % (name, count // 4, count), value, 4.6)
     if 1024 in sizes:
         bar('one get a record, N = 1024, over Flask', table.ratio('one get a record', '/titles', 1024), 1)
-    bar('two binders over %d records each, peak MB' % PAIRED, peak / 2 ** 20, 40)
+    growth_bars(table, CROSSED, PAIRED)
+    bar('two binders over 1000 records each, peak MB', peaks[1000] / 2 ** 20, 40)
+
+
+def growth_bars(table, name, sizes):
+    for count in sizes[1:]:
+        fourth = table.took.get((name, count // 4))
+        bar('%s, growth from N = %d to %d' % (name, count // 4, count), table.took[name, count] / fourth if fourth else None, 4.6)
 
 
 def guarded_bars(table, sizes):
-    for name, _ in GUARDED_ASKED:
-        for count in sizes[1:]:
-            fourth = table.took.get((name, count // 4))
-            bar('%s, growth from N = %d to %d' % (name, count // 4, count), table.took[name, count] / fourth if fourth else None, 4.6)
+    for name, _, _ in GUARDED_ASKED:
+        growth_bars(table, name, sizes)
+    for count, most in DEMOS.items():
+        bar('demo %d, seconds' % count, table.took['demo, whole', count], most)
 
 
 if __name__ == '__main__':

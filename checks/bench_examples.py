@@ -1,13 +1,14 @@
 #!/usr/bin/env python3
 """Measures the lists of the four larger applications in examples/. Words: the program, and the numbers of records that
-the main model of each has, or none for 16, 63, 250 and 1,000. The records are made by the application's own forms,
-spread over its users, one for 20 records, and mostly guarded. Making them isn't what is measured: they are made with
-policies that are always true, in the file of a store, and the application with its own policies is then served over
-that file. The list is asked by somebody who may see much of it, by somebody who may see little, and by nobody. A time
-is that which the client waits for the page; the memory is the most that the program held meanwhile, and the labels are
-those that the page shows. A page that takes longer than a minute is left, and its application with it. Behind the
-pages stands, for the same people, what a run that replays the page alone takes of a processor, from its beginning to
-its end, and what one of `jac why` takes, without their memory.
+the main model of each has, or none for 250, 1,000 and 4,000. The records are made by the application's own forms, spread
+over its users, one for 20 records, and mostly guarded. They are made twice: with policies that are always true in the
+file of a store, over which the application with its own policies is then served, and with its own policies in memory,
+where it is told what making them took, each request of which settles its page. The list is asked by somebody who may see
+much of it, by somebody who may see little, and by nobody, twice each. A time is what the program takes of a processor;
+the memory is the most that the program held meanwhile, and the labels are those that the page shows. A page that takes
+longer than a minute is left, and its application with it. Behind the pages of the file stands, for the same people, what
+a run that replays the page alone takes of a processor, from its beginning to its end, and what one of `jac why` takes,
+without their memory. Last stand the bars: what the costs are meant to keep to.
 docs/COSTS.md has what it said last, with its date. It is no part of the gate: what a machine takes is no property of the
 program."""
 import contextlib
@@ -18,14 +19,14 @@ import re
 import subprocess
 import sys
 import tempfile
-import time
 import urllib.parse
 
 import proved
-from serving import served
+from bench import bar
+from serving import processor_seconds, served
 
 TOP = os.path.dirname(os.path.dirname(os.path.abspath(__file__)))
-SIZES = [16, 63, 250, 1000]
+SIZES = [250, 1000, 4000]
 MOST = 60       # seconds for one page
 FORM = {'Content-Type': 'application/x-www-form-urlencoded'}
 SHARE = 20      # records of a user
@@ -67,14 +68,19 @@ class Site:
         headers = dict(FORM) if method == 'POST' else {}
         if viewer is not None:
             headers['Cookie'] = 'session=%d' % viewer
-        self.line.close()
-        began = time.perf_counter()
-        try:
-            self.line.request(method, path, body, headers)
-            answer = self.line.getresponse()
-            return answer.status, answer.getheader('Location'), answer.read(), time.perf_counter() - began
-        except TimeoutError:
-            raise Left('%s %s takes more than %d seconds' % (method, path, MOST))
+        while True:
+            self.line.close()
+            began = processor_seconds(self.process)
+            try:
+                self.line.request(method, path, body, headers)
+                answer = self.line.getresponse()
+                read = answer.read()
+                return answer.status, answer.getheader('Location'), read, processor_seconds(self.process) - began
+            except TimeoutError:
+                raise Left('%s %s takes more than %d seconds' % (method, path, MOST))
+            except (BrokenPipeError, ConnectionResetError):
+                # let go before its request was whole, where this script waited for a processor too long
+                continue
 
     def post(self, viewer, path, **fields):
         """Sends a form, and gives the path that it leads to."""
@@ -89,13 +95,14 @@ class Site:
         return id_of(self.number)
 
     def page(self, viewer, path):
-        """The status, seconds, bytes, peak bytes of memory and labels of a page."""
+        """The status of a page, the seconds that it and the next one take, its bytes, peak bytes of memory and labels."""
         with open('/proc/%d/clear_refs' % self.process, 'w') as refs:
             refs.write('5')
         status, _, body, took = self.ask('GET', viewer, path)
+        _, _, _, again = self.ask('GET', viewer, path)
         with open('/proc/%d/status' % self.process) as table:
             peak = next(int(line.split()[1]) * 1024 for line in table if line.startswith('VmHWM'))
-        return status, took, len(body), peak, self.shown()
+        return status, took, again, len(body), peak, self.shown()
 
     def shown(self):
         """How many labels the last line of the audit names."""
@@ -190,40 +197,60 @@ def without_policies(text):
 
 
 @contextlib.contextmanager
-def site_of(program, app, folder):
-    """The application, served over the file of a store in the folder."""
-    options = '--sessions', 'sessions', '--audit', 'audit', '--db', 'store'
+def site_of(program, app, folder, options=('--db', 'store')):
+    """The application, served over the file of a store in the folder, or with no options in memory."""
+    options = '--sessions', 'sessions', '--audit', 'audit', *options
     with served(program, app, 1000000, folder, options) as run:
         site = Site(run, os.path.join(folder, 'audit'))
         with contextlib.closing(site.line):
             yield site
 
 
-def made(program, make, count, folder):
+def made(make, count, site):
     """Makes so many records, and gives who asks for which list."""
+    return next(itertools.islice(make(site), count - 1, None))
+
+
+def write(make, count, folder):
+    """Writes the application, the one whose policies are always true, and the sessions."""
+    with open(os.path.join(TOP, 'examples', make.__name__, 'app')) as file:
+        text = file.read()
+    for name, data in (('app', text), ('open', without_policies(text)), ('sessions', users_file(3 * count + 500))):
+        with open(os.path.join(folder, name), 'w') as file:
+            file.write(data)
+
+
+def over_a_file(program, make, count, folder):
     with site_of(program, 'open', folder) as site:
-        return next(itertools.islice(make(site), count - 1, None))
+        pages = made(make, count, site)
+    with site_of(program, 'app', folder) as site:
+        for who, viewer, path in pages:
+            line(make.__name__, count, 'file', who, *site.page(viewer, path))
+    for who, viewer, path in pages:
+        for name, ran in (('replay', replay), ('why', why)):
+            line(make.__name__, count, name, who, *ran(program, viewer, path, folder))
+
+
+def in_memory(program, make, count, folder):
+    with site_of(program, 'app', folder, ()) as site:
+        pages = made(make, count, site)
+        took = processor_seconds(site.process)
+        TOOK[make.__name__, count, 'memory', 'all POSTs'] = took
+        print('%-11s %7d  memory  all %d POSTs %33.3f' % (make.__name__, count, site.number, took), flush=True)
+        for who, viewer, path in pages:
+            line(make.__name__, count, 'memory', who, *site.page(viewer, path))
 
 
 def measure(program, make, sizes):
-    with open(os.path.join(TOP, 'examples', make.__name__, 'app')) as file:
-        text = file.read()
     for count in sizes:
-        with tempfile.TemporaryDirectory() as folder:
-            for name, data in (('app', text), ('open', without_policies(text)), ('sessions', users_file(3 * count + 500))):
-                with open(os.path.join(folder, name), 'w') as file:
-                    file.write(data)
-            try:
-                pages = made(program, make, count, folder)
-                with site_of(program, 'app', folder) as site:
-                    for who, viewer, path in pages:
-                        line(make.__name__, count, who, *site.page(viewer, path))
-                for who, viewer, path in pages:
-                    for name, ran in (('replay', replay), ('why', why)):
-                        line(make.__name__, count, '%s, %s' % (name, who), *ran(program, viewer, path, folder))
-            except Left as left:
-                print('%-11s is left at %d records: %s' % (make.__name__, count, left), flush=True)
-                return
+        for ways in over_a_file, in_memory:
+            with tempfile.TemporaryDirectory() as folder:
+                write(make, count, folder)
+                try:
+                    ways(program, make, count, folder)
+                except Left as left:
+                    print('%-11s is left at %d records: %s' % (make.__name__, count, left), flush=True)
+                    return
 
 
 def whole(words, folder):
@@ -243,31 +270,48 @@ def replay(program, viewer, path, folder):
     words = [program, 'replay', 'app', 'events', '--audit', 'page', '--db', 'store']
     status, took, out = whole(words, folder)
     with open(os.path.join(folder, 'page')) as file:
-        return status, took, len(out), 0, counted(file.read().splitlines()[-1].split()[3])
+        return status, took, None, len(out), 0, counted(file.read().splitlines()[-1].split()[3])
 
 
 def why(program, viewer, path, folder):
     """The same of a `why` over the file."""
     words = [program, 'why', 'app', '-' if viewer is None else str(viewer), '--db', 'store']
     status, took, out = whole(words, folder)
-    return status, took, len(out), 0, counted(out.decode().split('\n')[0].removeprefix('shown '))
+    return status, took, None, len(out), 0, counted(out.decode().split('\n')[0].removeprefix('shown '))
 
 
 def counted(labels):
     return 0 if labels in ('-', 'nopage') else labels.count(',') + 1
 
 
-def line(name, count, who, status, took, size, peak, shown):
-    print('%-11s %7d  %-20s %6d %9.4f %9d %8.1f %7d' % (name, count, who, status, took, size, peak / 2 ** 20, shown), flush=True)
+TOOK = {}   # the seconds of the first page, by application, number, place and who asks
+
+
+def line(name, count, where, who, status, took, again, size, peak, shown):
+    TOOK[name, count, where, who] = took
+    print('%-11s %7d  %-7s %-16s %6d %9.4f %9s %9d %8.1f %7d' % (
+        name, count, where, who, status, took, '' if again is None else '%.4f' % again, size, peak / 2 ** 20, shown),
+        flush=True)
+
+
+BARS = [
+    ('conference', 1000, 'memory', 'an author', 0.15),
+    ('conference', 1000, 'file', 'an author', 0.15),
+    ('conference', 4000, 'memory', 'an author', 0.7),
+    ('conference', 4000, 'file', 'an author', 0.7),
+    ('conference', 1000, 'memory', 'all POSTs', 10),
+]
 
 
 def main():
     program = proved.program(sys.argv[1])
     sizes = [int(word) for word in sys.argv[2:]] or SIZES
-    print('%-11s %7s  %-20s %6s %9s %9s %8s %7s' % (
-        'application', 'records', 'who asks', 'status', 'seconds', 'bytes', 'peak MB', 'labels'))
+    print('%-11s %7s  %-7s %-16s %6s %9s %9s %9s %8s %7s' % (
+        'application', 'records', 'where', 'who asks', 'status', 'seconds', 'again', 'bytes', 'peak MB', 'labels'))
     for make in (calendar, conference, health, courses):
         measure(program, make, sizes)
+    for name, count, where, who, most in BARS:
+        bar('%s of %d, %s, %s, seconds' % (name, count, where, who), TOOK.get((name, count, where, who)), most)
 
 
 if __name__ == '__main__':
