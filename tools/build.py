@@ -18,10 +18,20 @@ from program import PROVED, State, is_current                               # no
 from schedule import Schedule, Task                                         # noqa: E402
 
 EVERY = 60      # seconds after which a line is due where no crate began or ended
+STEP = '--step'
 
 
 def tell(text):
     print('jac: ' + text, file=sys.stderr, flush=True)
+
+
+def step(words):
+    """Runs `rt` on these words in the crate's folder, beside others that stand on the same crates. This is a process of
+    its own."""
+    rt = kit.load()
+    kit.remember_stamps(rt.rtlib, os.getcwd())
+    kit.share_below(rt.rtlib)
+    return rt.main(words)
 
 
 class Proof:
@@ -31,7 +41,7 @@ class Proof:
         self.name = name
         self.program = os.path.join(folder(name), 'out', name) if is_program else None
         self.log = tempfile.TemporaryFile()
-        words = ['rt', 'run' if is_program else 'lib', '--jobs', str(jobs)]
+        words = [sys.executable, os.path.abspath(__file__), STEP, 'run' if is_program else 'lib', '--jobs', str(jobs)]
         self.process = subprocess.Popen(
             words, cwd=folder(name), stdin=subprocess.DEVNULL, stdout=self.log, stderr=subprocess.STDOUT)
 
@@ -135,6 +145,8 @@ def build(program):
 
 
 if __name__ == '__main__':
+    if sys.argv[1:2] == [STEP]:
+        sys.exit(step(sys.argv[2:]))
     # so that the proofs that are under way end with it
     for number in signal.SIGTERM, signal.SIGHUP, signal.SIGINT:
         signal.signal(number, lambda number, _: sys.exit(128 + number))

@@ -37,8 +37,10 @@ def step(what, name):
     if what == EDITS:
         # the libraries below are there, as the proofs of this run made them
         rt.rtlib.Crate.build_rlib = lambda *given, **named: 0
+        # a kit that keeps no tries takes the flag for the name of a crate, and there is none of that name
         return rt.edits_alone(['--anew', name])
-    crate = next(crate for crate in rt.crates_of(os.getcwd()) if crate.name == name)
+    rt.rtlib.Crate = rt.Crate
+    crate = next(crate for crate in rt.rtlib.crates_below(os.getcwd()) if crate.name == name)
     if what == TESTS and not crate.has_tests():
         return 0
     os.makedirs(os.path.join(crate.folder, 'out'), exist_ok=True)

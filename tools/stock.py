@@ -12,6 +12,7 @@ import kit                                                                  # no
 
 
 def load():
+    """The kit's module, which reads the files of a program as `rt` does."""
     module = kit.load()
     make = module.rtlib.Crate.__init__
 
@@ -20,6 +21,7 @@ def load():
         module.read_files(crate)
 
     module.rtlib.Crate.__init__ = with_files
+    kit.remember_stamps(module.rtlib)
     return module.rtlib
 
 
