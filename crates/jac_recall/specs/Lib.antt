@@ -1,0 +1,3 @@
+pub mod Recalled
+pub mod Touched
+pub mod Seats

@@ -1,0 +1,66 @@
+-- Answers of policies that are remembered with the signs of the labels that were consulted for them.
+use Rattle.std.specs.Prelude.{◌≡◌, ℕ, Bool, true, false, List, [], ◌∷◌, Option, Some, None, is_some, if◌then◌else◌}
+use Rattle.std.specs.List.{list_any}
+use Rattle.std.specs.Ordering.{nat_cmp}
+use Rattle.std.specs.BTreeMap.{get}
+use Rattle.jac_world.specs.World.{shown, holds, names}
+use Rattle.jac_recall.specs.declared.answers.Answers.{Answers}
+use Rattle.jac_recall.specs.declared.answers.Given.{Given}
+use Rattle.jac_recall.specs.declared.answers.Known.{Known}
+
+-- the answer where its signs are those of the assignment
+abbrev pub known_at : Known → (ℕ → Bool) → Option Bool
+known_at c w = if holds w c.when then Some c.holds else None
+
+-- what was known before, else this
+abbrev pub or_known : Option Bool → Known → (ℕ → Bool) → Option Bool
+or_known (Some b) c w = Some b
+or_known None c w = known_at c w
+
+-- the first answer whose signs are those of the assignment
+abbrev pub first_fitting : List Known → (ℕ → Bool) → Option Bool
+first_fitting [] w = None
+first_fitting (c ∷ cs) w = if holds w c.when then Some c.holds else first_fitting cs w
+
+abbrev pub recall_in : Option Given → (ℕ → Bool) → Option Bool
+recall_in None w = None
+recall_in (Some given) w = first_fitting given.answers.items w
+
+abbrev pub watched_in : Option (List ℕ) → ℕ → Bool
+watched_in None j = false
+watched_in (Some watchers) j = shown watchers j
+
+-- what is remembered of a label under an assignment
+abbrev pub recall : Answers → ℕ → (ℕ → Bool) → Option Bool
+recall answers k w = recall_in (get nat_cmp answers.given k) w
+
+-- the first label is watched by the second
+abbrev pub watches : Answers → ℕ → ℕ → Bool
+watches answers k j = watched_in (get nat_cmp answers.watchers k) j
+
+abbrev pub hangs_in : Option Given → ℕ → Bool
+hangs_in None k = false
+hangs_in (Some given) k = list_any (λ (c : Known). names c.when k) given.answers.items
+
+-- some answer of the first label was given with the sign of the second
+abbrev pub hangs : Answers → ℕ → ℕ → Bool
+hangs answers j k = hangs_in (get nat_cmp answers.given j) k
+
+-- something was answered of the label
+abbrev pub is_asked : Answers → ℕ → Bool
+is_asked answers k = is_some (get nat_cmp answers.given k)
+
+-- the labels with the signs that they have under an assignment
+abbrev pub signed : (ℕ → Bool) → List ℕ → List (ℕ × Bool)
+signed w [] = []
+signed w (k ∷ ks) = (k, w k) ∷ signed w ks
+
+-- what is remembered of a label hangs on those alone that it watches
+pub record AreWatched (answers : Answers) : Type 0 where
+  pub each : (j : ℕ) (v w : ℕ → Bool) → ((k : ℕ) → watches answers k j ≡ true → v k ≡ w k) →
+      recall answers j v ≡ recall answers j w
+
+-- each label of the list is in it with all that watch it, and with all that its answers hang on
+pub record IsLinked (answers : Answers) (labels : List ℕ) : Type 0 where
+  pub watchers : (k j : ℕ) → shown labels k ≡ true → watches answers k j ≡ true → shown labels j ≡ true
+  pub hanging : (j k : ℕ) → shown labels j ≡ true → hangs answers j k ≡ true → shown labels k ≡ true
