@@ -1,3 +1,4 @@
+pub mod Linked
 pub mod Recalled
-pub mod Touched
 pub mod Seats
+pub mod Touched

@@ -1,4 +1,5 @@
--- Answers of policies that are remembered with the signs of the labels that were consulted for them.
+-- Answers of policies that are remembered with the signs of the labels that were consulted for
+-- them.
 use Rattle.std.specs.Prelude.{◌≡◌, ℕ, Bool, true, false, List, [], ◌∷◌, Option, Some, None, is_some, if◌then◌else◌}
 use Rattle.std.specs.List.{list_any}
 use Rattle.std.specs.Ordering.{nat_cmp}
@@ -38,9 +39,13 @@ recall answers k w = recall_in (get nat_cmp answers.given k) w
 abbrev pub watches : Answers → ℕ → ℕ → Bool
 watches answers k j = watched_in (get nat_cmp answers.watchers k) j
 
+-- some answer has a sign of the label
+abbrev pub names_label : List Known → ℕ → Bool
+names_label cs k = list_any (λ (c : Known). names c.when k) cs
+
 abbrev pub hangs_in : Option Given → ℕ → Bool
 hangs_in None k = false
-hangs_in (Some given) k = list_any (λ (c : Known). names c.when k) given.answers.items
+hangs_in (Some given) k = names_label given.answers.items k
 
 -- some answer of the first label was given with the sign of the second
 abbrev pub hangs : Answers → ℕ → ℕ → Bool
@@ -62,5 +67,6 @@ pub record AreWatched (answers : Answers) : Type 0 where
 
 -- each label of the list is in it with all that watch it, and with all that its answers hang on
 pub record IsLinked (answers : Answers) (labels : List ℕ) : Type 0 where
-  pub watchers : (k j : ℕ) → shown labels k ≡ true → watches answers k j ≡ true → shown labels j ≡ true
+  pub watchers : (k j : ℕ) → shown labels k ≡ true → watches answers k j ≡ true
+      → shown labels j ≡ true
   pub hanging : (j k : ℕ) → shown labels j ≡ true → hangs answers j k ≡ true → shown labels k ≡ true

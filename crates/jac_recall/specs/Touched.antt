@@ -28,11 +28,14 @@ is_in_group g k = (model_of_id (record_of_label k) == g.model) && (group_of_labe
 
 -- the policy of the label may answer otherwise to this viewer
 abbrev pub touches : Touch → Option ℕ → ℕ → Bool
-touches t viewer k = shown t.labels k || list_any (λ (g : TouchedGroup). is_in_group g k && is_for g.viewer viewer) t.groups.items
+touches t viewer k = shown t.labels k
+    || list_any (λ (g : TouchedGroup). is_in_group g k && is_for g.viewer viewer) t.groups.items
 
--- between worlds and later ones, a label that isn't named is live as it was, and one that isn't touched is allowed
--- wherever it was
-pub record IsCovered (app : Application) (worlds later : Worlds) (touch : Touch) (viewer : Option ℕ) : Type 0 where
-  pub living : (k : ℕ) → shown touch.labels k ≡ false → (IsLiveLabel app worlds k ↔ IsLiveLabel app later k)
+-- between worlds and later ones, a label that isn't named is live as it was, and one that isn't
+-- touched is allowed wherever it was
+pub record IsCovered (app : Application) (worlds later : Worlds) (touch : Touch)
+    (viewer : Option ℕ) : Type 0 where
+  pub living : (k : ℕ) → shown touch.labels k ≡ false
+      → (IsLiveLabel app worlds k ↔ IsLiveLabel app later k)
   pub allowed : (k : ℕ) → touches touch viewer k ≡ false → (w : ℕ → Bool) →
       is_allowed app (later w) viewer k ≡ is_allowed app (worlds w) viewer k

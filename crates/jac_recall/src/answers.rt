@@ -1,19 +1,16 @@
 //! Answers of policies, remembered with the signs of the labels that were consulted for them.
-ghost use Rattle.std.specs.Prelude.{◌≡◌, ◌==◌, ◌||◌, ◌&&◌, ℕ, Bool, true, false, Option, None, Some, is_some, if◌then◌else◌, List, IfOk, OnOk};
+ghost use Rattle.std.specs.Prelude.{◌≡◌, ◌==◌, ◌||◌, ◌&&◌, ℕ, Bool, false, None, Some, true, is_some, if◌then◌else◌, Option, IfOk, OnOk};
 ghost use Rattle.jac_world.specs.World.{shown, holds, names, IsAscending};
 ghost use Rattle.std.specs.Ordering.{nat_cmp};
 ghost use Rattle.std.specs.BTreeMap.{get};
-ghost use Rattle.jac_lang.specs.Syntax.{Application};
-ghost use Rattle.jac_plain.specs.Requests.{Worlds};
 ghost use Rattle.jac_plain.specs.Policies.{with_label};
-ghost use Rattle.jac_value.specs.Ids.{record_of_label};
-ghost use Rattle.jac_pruned.specs.Consulted.{Grows};
-ghost use Rattle.jac_resolve.specs.Room.{AreOwn};
-ghost use Rattle.jac_resolve.specs.Recalled.{AreRight, Grown, IsRight, first_fitting, recall, recall_in, watches, watched_in, signed, or_known};
+ghost use Rattle.jac_recall.specs.Recalled.{first_fitting, hangs, hangs_in, is_asked, names_label, or_known, recall, recall_in, signed, watched_in, watches};
+ghost use Rattle.jac_recall.specs.Linked.{AreLinkedIf};
+ghost use Rattle.jac_recall.specs.Touched.{touches};
 
-use crate::Labels;
-use jac_pruned::Support;
-use jac_value::Memory;
+use crate::links::linked;
+use crate::{Labels, Touch};
+use jac_value::{Id, Memory};
 use jac_world::{Assignment, Guard, Label};
 use std::alloc::Global;
 use std::collections::BTreeMap;
@@ -28,14 +25,15 @@ pub struct Known {
 /// All that was answered of one label, the oldest first.
 #[derive(Debug, Drop)]
 pub struct Given {
-    answers: Vec<Known>,
+    pub answers: Vec<Known>,
 }
 
-/// What was answered of each label; and by each label the others, its watchers, that consulted it for an answer.
+/// What was answered of each label; and by each label the others, its watchers, that consulted it
+/// for an answer.
 #[derive(Debug, Drop)]
 pub struct Answers {
-    given: BTreeMap<Label, Given>,
-    watchers: BTreeMap<Label, Labels>,
+    pub given: BTreeMap<Label, Given>,
+    pub watchers: BTreeMap<Label, Labels>,
 }
 
 impl Answers {
@@ -59,9 +57,11 @@ impl Answers {
         }
     }
 
-    /// Whether it is remembered that the label isn't allowed under the assignment, once it is shown.
+    /// Whether it is remembered that the label isn't allowed under the assignment, once it is
+    /// shown.
     pub fn refuses(&self, a: &Assignment, label: Label) -> bool
-        ensures { result ≡ true → recall self.now label (with_label label (shown a.now)) ≡ Some false }
+        ensures { result ≡ true
+            → recall self.now label (with_label label (shown a.now)) ≡ Some false }
     {
         match self.recalled(a, label) {
             Some(holds) => !holds,
@@ -70,20 +70,13 @@ impl Answers {
     }
 
     /// Remembers an answer of the label, which then watches all labels that were consulted.
-    pub fn remember(&mut self, alloc: Global, label: Label, known: Known) -> Result<(), Memory>
-        ensures right { (app : Application) (worlds : Worlds) (viewer : Option ℕ) → AreRight app worlds viewer self.old → IsRight app worlds viewer label known → OnOk result (AreRight app worlds viewer self.new) }
-        ensures fits { (w : ℕ → Bool) → holds w known.when ≡ true → OnOk result (is_some (recall self.new label w) ≡ true) }
-        ensures grown { OnOk result (Grown self.old self.new) }
-        ensures own { (labels : List ℕ) → AreOwn labels self.old → shown labels label ≡ true → ((k : ℕ) → names known.when k ≡ true → record_of_label k ≡ record_of_label label) → OnOk result (AreOwn labels self.new) }
-    {
-        self.put(alloc, label, known)?;
-        Ok(())
-    }
-
-    // Remembers it: what is then recalled, and who watches what.
-    fn put(&mut self, alloc: Global, label: Label, known: Known) -> Result<(), Memory>
-        ensures watches { OnOk result ((k j : ℕ) → watches self.new k j ≡ ((names known.when k && label == j) || watches self.old k j)) }
-        ensures recalls { OnOk result ((k : ℕ) → (w : ℕ → Bool) → recall self.new k w ≡ (if label == k then or_known (recall self.old k w) known w else recall self.old k w)) }
+    pub fn put(&mut self, alloc: Global, label: Label, known: Known) -> Result<(), Memory>
+        ensures watches { OnOk result ((k j : ℕ)
+            → watches self.new k j ≡ ((names known.when k && label == j) || watches self.old k j)) }
+        ensures recalls { OnOk result ((k : ℕ) → (w : ℕ → Bool) → recall self.new k w ≡ (if label
+            == k then or_known (recall self.old k w) known w else recall self.old k w)) }
+        ensures hangs { OnOk result ((j k : ℕ)
+            → hangs self.new j k ≡ ((label == j && names known.when k) || hangs self.old j k)) }
     {
         watch_all(&mut self.watchers, alloc, known.when.pairs(), label)?;
         give(&mut self.given, alloc, label, known)
@@ -99,26 +92,61 @@ impl Answers {
         }
     }
 
-    /// Adds all labels that were consulted for what is remembered.
-    pub fn add_consulted(&self, consulted: &mut Support) -> Result<(), Memory>
-        ensures added { OnOk result ((k j : ℕ) → watches self.now k j ≡ true →
-            shown consulted.new k ≡ true) }
-        ensures grows { Grows consulted.old consulted.new }
+    /// Adds the labels that the answers of this one hang on.
+    pub fn add_named(&self, label: Label, labels: &mut Labels) -> Result<(), Memory>
+        ensures { OnOk result ((k : ℕ)
+            → shown labels.new k ≡ (shown labels.old k || hangs self.now label k)) }
     {
-        add_watched(&self.watchers, consulted)
+        match self.given.get(&label) {
+            Some(given) => add_answers(given.answers.as_slice(), labels),
+            None => Ok(()),
+        }
     }
-}
 
-// Adds each label that is watched.
-fn add_watched(watchers: &BTreeMap<Label, Labels>, consulted: &mut Support) -> Result<(), Memory>
-    ensures added { OnOk result ((k j : ℕ) → watched_in (get nat_cmp watchers.now k) j ≡ true →
-        shown consulted.new k ≡ true) }
-    ensures grows { Grows consulted.old consulted.new }
-{
-    'watched: for label in watchers.keys() {
-        consulted.add(*label)?;
+    /// Adds those labels of which something was answered that the change may touch. It goes through
+    /// all of which something was.
+    pub fn add_touched(
+        &self,
+        touch: &Touch,
+        viewer: &Option<Id>,
+        labels: &mut Labels,
+    ) -> Result<(), Memory>
+        ensures { OnOk result ((k : ℕ) → shown labels.new k ≡ (shown labels.old k
+            || (touches touch.now viewer.now k && is_asked self.now k))) }
+    {
+        add_asked(&self.given, touch, viewer, labels)
     }
-    Ok(())
+
+    /// Forgets what was answered of the label. Its watchers stay, and the labels that it watches.
+    pub fn forget(&mut self, label: Label)
+        ensures recalls { (k : ℕ) (w : ℕ → Bool)
+            → recall self.new k w ≡ (if label == k then None else recall self.old k w) }
+        ensures watches { (k j : ℕ) → watches self.new k j ≡ watches self.old k j }
+        ensures hangs { (j k : ℕ)
+            → hangs self.new j k ≡ (if label == j then false else hangs self.old j k) }
+        ensures asked { (k : ℕ)
+            → is_asked self.new k ≡ (if label == k then false else is_asked self.old k) }
+    {
+        forget_in(&mut self.given, label);
+    }
+
+    /// The labels with all that watch them, and all that their answers hang on, again and again; or
+    /// none, where these aren't fewer than `most`.
+    pub fn linked(
+        &self,
+        alloc: Global,
+        labels: &Labels,
+        most: usize,
+    ) -> Result<Option<Labels>, Memory>
+        ensures { IfOk result (AreLinkedIf self.now labels.now) }
+    {
+        linked(self, alloc, labels, most)
+    }
+
+    /// Of how many labels something was answered.
+    pub fn len(&self) -> usize {
+        self.given.len()
+    }
 }
 
 // The first answer whose signs are those of the assignment, once the label is shown.
@@ -151,7 +179,11 @@ fn give(
     label: Label,
     known: Known,
 ) -> Result<(), Memory>
-    ensures { OnOk result ((k : ℕ) → (w : ℕ → Bool) → recall_in (get nat_cmp given.new k) w ≡ (if label == k then or_known (recall_in (get nat_cmp given.old k) w) known w else recall_in (get nat_cmp given.old k) w)) }
+    ensures hangs { OnOk result ((j k : ℕ) → hangs_in (get nat_cmp given.new j) k
+        ≡ ((label == j && names known.when k) || hangs_in (get nat_cmp given.old j) k)) }
+    ensures recalls { OnOk result ((k : ℕ) → (w : ℕ → Bool) → recall_in (get nat_cmp given.new k) w
+        ≡ (if label == k then or_known (recall_in (get nat_cmp given.old k) w) known w
+        else recall_in (get nat_cmp given.old k) w)) }
 {
     let none = Given {
         answers: Vec::new(alloc),
@@ -161,13 +193,71 @@ fn give(
     Ok(())
 }
 
+fn forget_in(given: &mut BTreeMap<Label, Given>, label: Label)
+    ensures { (k : ℕ)
+        → get nat_cmp given.new k ≡ (if label == k then None else get nat_cmp given.old k) }
+{
+    let _ = given.remove(&label);
+}
+
+fn add_answers(answers: &[Known], labels: &mut Labels) -> Result<(), Memory>
+    ensures { OnOk result ((k : ℕ)
+        → shown labels.new k ≡ (shown labels.old k || names_label answers.now k)) }
+{
+    'answers: for known in answers {
+        add_pairs(known.when.pairs(), labels)?;
+    }
+    Ok(())
+}
+
+fn add_pairs(pairs: &[(Label, bool)], labels: &mut Labels) -> Result<(), Memory>
+    ensures { OnOk result ((k : ℕ)
+        → shown labels.new k ≡ (shown labels.old k || names pairs.now k)) }
+{
+    'pairs: for pair in pairs {
+        labels.add(pair.0)?;
+    }
+    Ok(())
+}
+
+fn add_asked(
+    given: &BTreeMap<Label, Given>,
+    touch: &Touch,
+    viewer: &Option<Id>,
+    labels: &mut Labels,
+) -> Result<(), Memory>
+    ensures { OnOk result ((k : ℕ) → shown labels.new k ≡ (shown labels.old k
+        || (touches touch.now viewer.now k && is_some (get nat_cmp given.now k)))) }
+{
+    'asked: for label in given.keys() {
+        add_if_touched(touch, viewer, *label, labels)?;
+    }
+    Ok(())
+}
+
+fn add_if_touched(
+    touch: &Touch,
+    viewer: &Option<Id>,
+    label: Label,
+    labels: &mut Labels,
+) -> Result<(), Memory>
+    ensures { OnOk result ((k : ℕ) → shown labels.new k ≡ (shown labels.old k
+        || (label == k && touches touch.now viewer.now k))) }
+{
+    if touch.touches(viewer, label) {
+        labels.add(label)?;
+    }
+    Ok(())
+}
+
 fn watch_all(
     watchers: &mut BTreeMap<Label, Labels>,
     alloc: Global,
     pairs: &[(Label, bool)],
     label: Label,
 ) -> Result<(), Memory>
-    ensures { OnOk result ((k j : ℕ) → watched_in (get nat_cmp watchers.new k) j ≡ ((names pairs.now k && label == j) || watched_in (get nat_cmp watchers.old k) j)) }
+    ensures { OnOk result ((k j : ℕ) → watched_in (get nat_cmp watchers.new k) j
+        ≡ ((names pairs.now k && label == j) || watched_in (get nat_cmp watchers.old k) j)) }
 {
     'pairs: for pair in pairs {
         watch(watchers, alloc, pair.0, label)?;
@@ -182,7 +272,8 @@ fn watch(
     watched: Label,
     label: Label,
 ) -> Result<(), Memory>
-    ensures { OnOk result ((k j : ℕ) → watched_in (get nat_cmp watchers.new k) j ≡ ((watched == k && label == j) || watched_in (get nat_cmp watchers.old k) j)) }
+    ensures { OnOk result ((k j : ℕ) → watched_in (get nat_cmp watchers.new k) j
+        ≡ ((watched == k && label == j) || watched_in (get nat_cmp watchers.old k) j)) }
 {
     let of_watched = watchers.entry(watched)?.or_insert(Labels::empty(alloc));
     of_watched.add(label)?;

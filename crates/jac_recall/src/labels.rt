@@ -1,9 +1,9 @@
-ghost use Rattle.std.specs.Prelude.{◌≡◌, ◌==◌, ◌||◌, [], ℕ, IfOk, OnOk};
+ghost use Rattle.std.specs.Prelude.{◌≡◌, ◌==◌, ◌||◌, [], ℕ, length, IfOk, OnOk};
 ghost use Rattle.jac_world.specs.World.{shown, IsAscending};
 
 use crate::memory::from_world;
 use jac_value::Memory;
-use jac_world::{Label, add_among};
+use jac_world::{Label, add_among, is_among};
 use std::alloc::Global;
 use std::marker::Model;
 
@@ -47,6 +47,19 @@ impl Labels {
         ensures ascending { IsAscending self.now }
     {
         self.labels.as_slice()
+    }
+
+    /// Whether the label is one of these.
+    pub fn has(&self, label: Label) -> bool
+        ensures { result ≡ shown self.now label }
+    {
+        is_among(self.labels.as_slice(), label)
+    }
+
+    pub fn len(&self) -> usize
+        ensures { result ≡ length self.now }
+    {
+        self.labels.len()
     }
 
     /// The same labels and this one.

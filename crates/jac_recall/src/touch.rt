@@ -1,7 +1,13 @@
 //! The labels whose policies may answer otherwise behind a change.
+ghost use Rattle.std.specs.Prelude.{◌≡◌, ◌&&◌, ◌||◌};
+ghost use Rattle.std.specs.List.{list_any};
+ghost use Rattle.jac_value.specs.Ids.{record_of_label};
+ghost use Rattle.jac_recall.specs.declared.touch.TouchedGroup.{TouchedGroup as Group};
+ghost use Rattle.jac_recall.specs.Touched.{touches, is_for, is_in_group, is_same_viewer};
 
 use crate::Labels;
-use jac_value::Id;
+use jac_value::{Id, id_model};
+use jac_world::Label;
 
 /// To whom a policy may answer otherwise.
 #[derive(Debug, Drop)]
@@ -19,10 +25,58 @@ pub struct TouchedGroup {
     pub viewer: Whose,
 }
 
-/// What a change may touch: the labels of each record that it names, those of records whose policies find such a
-/// record by a value, and whole groups whose policies go through a table, or read the viewer's own record.
+/// What a change may touch: the labels of each record that it names, those of records whose
+/// policies find such a record by a value, and whole groups whose policies go through a table, or
+/// read the viewer's own record.
 #[derive(Debug, Drop)]
 pub struct Touch {
     pub labels: Labels,
     pub groups: Vec<TouchedGroup>,
+}
+
+impl Touch {
+    /// Whether the policy of the label may answer otherwise to this viewer.
+    pub fn touches(&self, viewer: &Option<Id>, label: Label) -> bool
+        ensures { result ≡ touches self.now viewer.now label }
+    {
+        self.labels.has(label) || is_in_groups(self.groups.as_slice(), viewer, label)
+    }
+}
+
+fn is_in_groups(groups: &[TouchedGroup], viewer: &Option<Id>, label: Label) -> bool
+    ensures { result
+        ≡ list_any (λ (g : Group). is_in_group g label && is_for g.viewer viewer.now) groups.now }
+{
+    groups.iter().any(|group| is_in_group(group, label) && is_for(&group.viewer, viewer))
+}
+
+fn is_in_group(group: &TouchedGroup, label: Label) -> bool
+    ensures { result ≡ is_in_group group.now label }
+{
+    id_model(record_of(label)) == group.model && (label.0 % 8) as u8 == group.group
+}
+
+fn record_of(label: Label) -> Id
+    ensures { result ≡ record_of_label label }
+{
+    Id(label.0 / 8)
+}
+
+fn is_for(whose: &Whose, viewer: &Option<Id>) -> bool
+    ensures { result ≡ is_for whose.now viewer.now }
+{
+    match whose {
+        Whose::Everybody => true,
+        Whose::Only(one) => is_same_viewer(one, viewer),
+    }
+}
+
+fn is_same_viewer(one: &Option<Id>, other: &Option<Id>) -> bool
+    ensures { result ≡ is_same_viewer one.now other.now }
+{
+    match (one, other) {
+        (Some(one), Some(other)) => one == other,
+        (None, None) => true,
+        _ => false,
+    }
 }

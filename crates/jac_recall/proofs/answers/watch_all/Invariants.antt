@@ -2,8 +2,8 @@ use Rattle.std.proofs.Common.{◌≡◌, ◌==◌, ◌||◌, ◌&&◌, ℕ, drop
 use Rattle.jac_world.specs.World.{names}
 use Rattle.std.specs.Ordering.{nat_cmp}
 use Rattle.std.specs.BTreeMap.{get}
-use Rattle.jac_resolve.specs.Recalled.{watched_in}
-use Rattle.jac_resolve.proofs.recall.watch_all.Given as goal
+use Rattle.jac_recall.specs.Recalled.{watched_in}
+use Rattle.jac_recall.proofs.answers.watch_all.Given as goal
 
 abbrev pub invariant-pairs : goal.invariant-pairs
 invariant-pairs l = (k j : ℕ) →

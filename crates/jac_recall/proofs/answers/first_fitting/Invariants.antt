@@ -1,8 +1,8 @@
 use Rattle.std.proofs.Common.{◌≡◌, drop}
 use Rattle.jac_world.specs.World.{shown}
 use Rattle.jac_plain.specs.Policies.{with_label}
-use Rattle.jac_resolve.specs.Recalled.{first_fitting}
-use Rattle.jac_resolve.proofs.recall.first_fitting.Given as goal
+use Rattle.jac_recall.specs.Recalled.{first_fitting}
+use Rattle.jac_recall.proofs.answers.first_fitting.Given as goal
 
 abbrev pub invariant-answers : goal.invariant-answers
 invariant-answers l =

@@ -1,10 +1,9 @@
 use Rattle.std.proofs.Common.{◌∙◌, sym, drop, ◌+◌}
 use Rattle.jac_world.specs.World.{shown}
 use Rattle.jac_plain.specs.Policies.{with_label}
-use Rattle.jac_resolve.specs.Recalled.{first_fitting}
-use Rattle.jac_pruned.proofs.Working.{next}
-use Rattle.jac_resolve.proofs.Recalling.{fits_here, fits_not}
-use Rattle.jac_resolve.proofs.recall.first_fitting.Goals as goal
+use Rattle.jac_recall.specs.Recalled.{first_fitting}
+use Rattle.jac_recall.proofs.Recalling.{fits_here, fits_not, next}
+use Rattle.jac_recall.proofs.answers.first_fitting.Goals as goal
 
 pub returns-then-fits : goal.returns-then-fits
 returns-then-fits c =

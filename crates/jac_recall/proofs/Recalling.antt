@@ -1,13 +1,15 @@
 -- Answers that are remembered, over plain lists.
-use Rattle.std.proofs.Common.{◌≡◌, ◌==◌, ◌&&◌, ◌||◌, ℕ, Bool, true, false, if◌then◌else◌, List, [], ◌∷◌, ◌++◌, Option, Some, None, refl, ap, sym, subst, ◌∙◌, arith, unwrap_or}
+use Rattle.std.proofs.Common.{◌≡◌, ◌==◌, ◌&&◌, ◌||◌, ℕ, Bool, true, false, if◌then◌else◌, List, [], ◌∷◌, ◌++◌, Option, Some, None, refl, ap, sym, subst, ◌∙◌, arith, unwrap_or, ◌<◌, ◌+◌, suc, length, drop, get_or, drop-cons, add-one}
 use Rattle.std.specs.List.{list_any}
 use Rattle.std.specs.Option.{is_some}
 use Rattle.std.specs.Ordering.{nat_cmp, is_eq}
 use Rattle.std.proofs.lemmas.Bool.Decides.{nat_tests, Decides-eqb}
 use Rattle.jac_world.specs.World.{shown, holds, IsAscending, IsRising}
-use Rattle.jac_resolve.specs.declared.recall.Given.{Given}
-use Rattle.jac_resolve.specs.declared.recall.Known.{Known}
-use Rattle.jac_resolve.specs.Recalled.{first_fitting, or_known, recall_in, signed, watched_in}
+use Rattle.jac_recall.specs.declared.answers.Given.{Given}
+use Rattle.jac_recall.specs.declared.answers.Known.{Known}
+use Rattle.jac_world.specs.World.{names}
+use Rattle.jac_world.proofs.Contradict.{by_names}
+use Rattle.jac_recall.specs.Recalled.{first_fitting, hangs_in, names_label, or_known, recall_in, signed, watched_in}
 
 -- one answer more of a label
 
@@ -43,6 +45,56 @@ pub or_none : (old : Option Given) (none : Given) → none.answers.items ≡ [] 
 or_none None none empty = empty
 or_none (Some given) none empty = refl
 
+-- the labels that its answers name
+
+named_if : (a b c : Bool) → (a || (b || c)) ≡ (b || (a || c))
+named_if true true c = refl
+named_if true false c = refl
+named_if false b c = refl
+
+one_named : (xs : List Known) (c : Known) (k : ℕ) → names_label (xs ++ c ∷ []) k ≡ (names c.when k || names_label xs k)
+one_named [] c k = refl
+one_named (x ∷ xs) c k = ap (λ b. names x.when k || b) (one_named xs c k) ∙ named_if (names x.when k) (names c.when k) (names_label xs k)
+
+named_items : (old : Option Given) (k : ℕ) → hangs_in old k ≡ names_label (items_in old) k
+named_items None k = refl
+named_items (Some given) k = refl
+
+hung_if : (old : Option Given) (given : Given) (known : Known) (b : Bool) (k : ℕ) → (b ≡ true → given.answers.items ≡ items_in old ++ known ∷ []) →
+    hangs_in (if b then Some given else old) k ≡ ((b && names known.when k) || hangs_in old k)
+hung_if old given known true k is = ap (λ xs. names_label xs k) (is refl) ∙ one_named (items_in old) known k ∙ ap (λ b. names known.when k || b) (sym (named_items old k))
+hung_if old given known false k is = refl
+
+pub hung_more : (old : ℕ → Option Given) (new : Option Given) (given : Given) (known : Known) (label j k : ℕ) →
+    new ≡ (if label == j then Some given else old j) → given.answers.items ≡ items_in (old label) ++ known ∷ [] →
+    hangs_in new k ≡ ((label == j && names known.when k) || hangs_in (old j) k)
+hung_more old new given known label j k new_is is =
+    ap (λ o. hangs_in o k) new_is
+    ∙ hung_if (old j) given known (label == j) k (λ e. is ∙ ap (λ (i : ℕ). items_in (old i) ++ known ∷ []) ((Decides-eqb label j).0 e))
+
+pub or_left : (a b : Bool) → a ≡ true → (a || b) ≡ true
+or_left true b h = refl
+or_left false b h = absurd cc
+
+pub or_right : (a b : Bool) → b ≡ true → (a || b) ≡ true
+or_right true b h = refl
+or_right false b h = h
+
+-- an answer hangs on those labels alone that are named
+first_by : (cs : List Known) (v w : ℕ → Bool) → ((k : ℕ) → names_label cs k ≡ true → v k ≡ w k) → first_fitting cs v ≡ first_fitting cs w
+first_by [] v w alike = refl
+first_by (c ∷ cs) v w alike =
+    ap (λ b. if b then Some c.holds else first_fitting cs v) (by_names c.when v w (λ k h. alike k (or_left (names c.when k) (names_label cs k) h)))
+    ∙ ap (λ o. if holds w c.when then Some c.holds else o) (first_by cs v w (λ k h. alike k (or_right (names c.when k) (names_label cs k) h)))
+
+pub recall_by : (given : Option Given) (v w : ℕ → Bool) → ((k : ℕ) → hangs_in given k ≡ true → v k ≡ w k) → recall_in given v ≡ recall_in given w
+recall_by None v w alike = refl
+recall_by (Some given) v w alike = first_by given.answers.items v w alike
+
+-- the step of a loop by index
+pub next : {T : Type 0} (xs : List T) (x : T) (i : ℕ) → x ≡ get_or xs i x → i < length xs → drop i xs ≡ x ∷ drop (i + 1) xs
+next xs x i item below = rw add-one (drop-cons xs i x below ∙ ap (λ z. z ∷ drop (suc i) xs) (sym item))
+
 pub is_at_number : (k j : ℕ) → is_eq (nat_cmp k j) ≡ (k == j)
 is_at_number k j = grind (arith, nat_tests)
 
@@ -51,7 +103,7 @@ is_at_number k j = grind (arith, nat_tests)
 same_test : (a b : ℕ) → (a == b) ≡ (b == a)
 same_test a b = grind (arith, nat_tests)
 
-key_is_shown : (ks : List ℕ) (k : ℕ) → list_any (λ x. is_eq (nat_cmp k x)) ks ≡ shown ks k
+pub key_is_shown : (ks : List ℕ) (k : ℕ) → list_any (λ x. is_eq (nat_cmp k x)) ks ≡ shown ks k
 key_is_shown [] k = refl
 key_is_shown (x ∷ ks) k =
     ap (λ b. b || list_any (λ y. is_eq (nat_cmp k y)) ks) (is_at_number k x ∙ same_test k x) ∙ ap (λ b. x == k || b) (key_is_shown ks k)
@@ -62,6 +114,15 @@ is_key (Some watchers) j h = refl
 
 pub watched_is_key : (of_label : Option (List ℕ)) (ks : List ℕ) (k j : ℕ) → is_some of_label ≡ list_any (λ x. is_eq (nat_cmp k x)) ks → watched_in of_label j ≡ true → shown ks k ≡ true
 watched_is_key of_label ks k j has h = sym (key_is_shown ks k) ∙ sym has ∙ is_key of_label j h
+
+or_nothing : (a t : Bool) → (a || (t && false)) ≡ a
+or_nothing true t = refl
+or_nothing false true = refl
+or_nothing false false = refl
+
+-- where none is left, all that were asked were looked at
+pub asked_all : (a b t x y z : Bool) → y ≡ false → z ≡ x → (a || (t && y)) ≡ (b || (t && x)) → a ≡ (b || (t && z))
+asked_all a b t x y z none is h = sym (or_nothing a t) ∙ ap (λ c. a || (t && c)) (sym none) ∙ h ∙ ap (λ c. b || (t && c)) (sym is)
 
 pub left_alone : (a b : Bool) → b ≡ false → (a || b) ≡ true → a ≡ true
 left_alone true b none h = refl

@@ -1,6 +1,6 @@
 use Rattle.std.proofs.lemmas.List.Filters.{dedup_is}
-use Rattle.jac_resolve.proofs.Rising.{ascending_if_sorted, same_if_sorted}
-use Rattle.jac_resolve.proofs.labels.sorted.Goals as goal
+use Rattle.jac_recall.proofs.Rising.{ascending_if_sorted, same_if_sorted}
+use Rattle.jac_recall.proofs.labels.sorted.Goals as goal
 
 pub returns-clause-ascending : goal.returns-clause-ascending
 returns-clause-ascending c =
