@@ -1,0 +1,374 @@
+-- A label that no mark is of is spared.
+use Rattle.std.proofs.Common.{◌≡◌, ◌∙◌, refl, sym, ap, subst, arith, ℕ, zero, suc, ◌+◌, ◌<◌, ◌^◌, ◌==◌, ◌&&◌, ◌||◌, not, nat_lt, Bool, true, false, if◌then◌else◌, List, [], ◌∷◌, ◌++◌, ◌↔◌}
+use Rattle.std.specs.Prelude.{Option, Some, None, slice_get, length}
+use Rattle.std.specs.List.{list_any, list_all}
+use Rattle.std.proofs.lemmas.Bool.{and_parts}
+use Rattle.std.proofs.lemmas.Bool.Decides.{nat_tests}
+use Rattle.jac_value.specs.Ids.{model_of_id, record_of_label, group_of_label, label_of}
+use Rattle.jac_world.specs.World.{shown, holds}
+use Rattle.jac_lang.specs.Lookup.{groups_in}
+use Rattle.jac_lang.specs.Syntax.{Entity, FieldGroup, Application}
+use Rattle.jac_rows.specs.Good.{IsSound}
+use Rattle.jac_rows.specs.Project.{rows_at, project_at}
+use Rattle.jac_rows.specs.Tables.{rows_of}
+use Rattle.jac_rows.specs.declared.row.Row.{Row}
+use Rattle.jac_rows.specs.declared.state.State.{State}
+use Rattle.jac_keep.specs.declared.alteration.Alteration.{Alteration}
+use Rattle.jac_keep.specs.Alterations.{AreOwn, ArePlaced, alters}
+use Rattle.jac_plain.specs.World.{record_with}
+use Rattle.jac_plain.specs.Expressions.{stands}
+use Rattle.jac_plain.specs.Policies.{has_group, has_record, is_some_group, labelled_group, policy_world, policy_is_true, is_allowed, IsLiveLabel}
+use Rattle.jac_recall.specs.Touched.{is_same_viewer, is_for, is_in_group, IsCovered}
+use Rattle.jac_recall.specs.declared.touch.Touch.{Touch}
+use Rattle.jac_recall.specs.declared.touch.TouchedGroup.{TouchedGroup}
+use Rattle.jac_rests.specs.declared.mark.Mark.{Mark}
+use Rattle.jac_rests.specs.declared.mark.Mark.TheVariants as mark
+use Rattle.jac_rests.specs.declared.rest.Rest.{Rest}
+use Rattle.jac_rests.specs.declared.rest.Rest.TheVariants as rest
+use Rattle.jac_rests.specs.declared.rest.Whom.{Whom}
+use Rattle.jac_rests.specs.declared.rest.Whom.TheVariants as whom
+use Rattle.jac_rests.specs.Rests.{rests}
+use Rattle.jac_rests.specs.Altered.{state_over, is_altered, is_outside, is_viewer_altered, rows_altered, referred_by, is_to, row_refers, whom_of, alters_none, test_of, group_rests}
+use Rattle.jac_rests.specs.Marks.{group_mark, whose_of, touched_group, id_where, own_mark, own_marks, viewer_marks, cell_mark, row_mark, found_marks, marks_if, some_marks, rest_marks, is_same_whom, is_same_rest, comes_again, each_rest_marks, policy_marks, groups_marks, models_marks, marks_label, is_one, marked_labels, marked_groups}
+use Rattle.jac_rests.proofs.Replaced.{AreSmall, are_small, or_cases}
+use Rattle.jac_choice.proofs.Finding.{rows_of-shown}
+use Rattle.jac_rests.proofs.Sparing.{same_has, spared_allowed, spared_live}
+
+-- none of two lists
+or_none : (a b : Bool) → (a || b) ≡ false → (a ≡ false) × (b ≡ false)
+or_none true b h = absurd cc
+or_none false b h = (refl, h)
+
+none_parts : (q : Mark → Bool) (xs ys : List Mark) → list_any q (xs ++ ys) ≡ false → (list_any q xs ≡ false) × (list_any q ys ≡ false)
+none_parts q [] ys h = (refl, h)
+none_parts q (x ∷ xs) ys h =
+    let parts = or_none (q x) (list_any q (xs ++ ys)) h in
+    let later = none_parts q xs ys parts.1 in
+    (rw (parts.0, later.0) refl, later.1)
+
+none_one : (q : Mark → Bool) (x : Mark) → list_any q (x ∷ []) ≡ false → q x ≡ false
+none_one q x h = (or_none (q x) false h).0
+
+both_true : (a b : Bool) → a ≡ true → b ≡ true → (a && b) ≡ true
+both_true true b p q = q
+both_true false b p q = absurd cc
+
+not_of : (b : Bool) → b ≡ false → not b ≡ true
+not_of true h = absurd cc
+not_of false h = refl
+
+unless : (b : Bool) → (b ≡ true → true ≡ false) → b ≡ false
+unless true f = f refl
+unless false f = refl
+
+itself : (n : ℕ) → (n == n) ≡ true
+itself n = grind arith
+
+same_if : (a b : ℕ) → (a == b) ≡ true → a ≡ b
+same_if a b e = grind (arith, e)
+
+label_again : (k : ℕ) → label_of (record_of_label k) (group_of_label k) ≡ k
+label_again k = omega arith
+
+-- the marks of a policy are among all
+in_groups : (q : Mark → Bool) (models : List Entity) (m g i n : ℕ) (over : List Alteration) (rows : List Row) (groups : List FieldGroup) (group : FieldGroup)
+    → n ≡ g + i → slice_get groups i ≡ Some group → list_any q (groups_marks models m g over rows groups) ≡ false → list_any q (policy_marks models m n over rows group) ≡ false
+in_groups q models m g zero n over rows [] group at e h = absurd cc
+in_groups q models m g (suc i) n over rows [] group at e h = absurd cc
+in_groups q models m g zero n over rows (x ∷ groups) group at e h =
+    let same : x ≡ group = cc in
+    let here : n ≡ g = omega (arith, at) in
+    let first : list_any q (policy_marks models m g over rows x) ≡ false =
+    (none_parts q (policy_marks models m g over rows x) (groups_marks models m (g + 1) over rows groups) h).0 in
+    subst (λ y. list_any q (policy_marks models m n over rows y) ≡ false) same
+    (subst (λ j. list_any q (policy_marks models m j over rows x) ≡ false) (sym here) first)
+in_groups q models m g (suc i) n over rows (x ∷ groups) group at e h =
+    in_groups q models m (g + 1) i n over rows groups group (omega (arith, at)) e
+    (none_parts q (policy_marks models m g over rows x) (groups_marks models m (g + 1) over rows groups) h).1
+
+in_models : (q : Mark → Bool) (models : List Entity) (m i n : ℕ) (over : List Alteration) (rows : List Row) (all : List Entity) (entity : Entity)
+    → n ≡ m + i → slice_get all i ≡ Some entity → list_any q (models_marks models m over rows all) ≡ false → list_any q (groups_marks models n 0 over rows entity.groups) ≡ false
+in_models q models m zero n over rows [] entity at e h = absurd cc
+in_models q models m (suc i) n over rows [] entity at e h = absurd cc
+in_models q models m zero n over rows (x ∷ all) entity at e h =
+    let same : x ≡ entity = cc in
+    let here : n ≡ m = omega (arith, at) in
+    let first : list_any q (groups_marks models m 0 over rows x.groups) ≡ false =
+    (none_parts q (groups_marks models m 0 over rows x.groups) (models_marks models (m + 1) over rows all) h).0 in
+    subst (λ (y : Entity). list_any q (groups_marks models n 0 over rows y.groups) ≡ false) same
+    (subst (λ j. list_any q (groups_marks models j 0 over rows x.groups) ≡ false) (sym here) first)
+in_models q models m (suc i) n over rows (x ∷ all) entity at e h =
+    in_models q models (m + 1) i n over rows all entity (omega (arith, at)) e
+    (none_parts q (groups_marks models m 0 over rows x.groups) (models_marks models (m + 1) over rows all) h).1
+
+no_group : (g : ℕ) (group : FieldGroup) → slice_get (groups_in None) g ≡ Some group → false ≡ true
+no_group zero group e = absurd cc
+no_group (suc g) group e = absurd cc
+
+in_entity : (q : Mark → Bool) (models : List Entity) (m g : ℕ) (over : List Alteration) (rows : List Row) (found : Option Entity) (group : FieldGroup)
+    → slice_get models m ≡ found → slice_get (groups_in found) g ≡ Some group → list_any q (models_marks models 0 over rows models) ≡ false
+    → list_any q (policy_marks models m g over rows group) ≡ false
+in_entity q models m g over rows None group is e h = let wrong : false ≡ true = no_group g group e in absurd cc
+in_entity q models m g over rows (Some entity) group is e h =
+    in_groups q models m 0 g g over rows entity.groups group (omega arith) e (in_models q models 0 m m over rows models entity (omega arith) is h)
+
+-- a label that no mark of its group's own is of is of no replaced record
+own_if : (q : Mark → Bool) (k id : ℕ) (b : Bool) → q (mark.One k) ≡ true → id ≡ record_of_label k → (model_of_id id == model_of_id (record_of_label k)) ≡ b
+    → list_any q (own_mark (id_where b id) (group_of_label k)) ≡ false → true ≡ false
+own_if q k id true is same e h =
+    let label : label_of id (group_of_label k) ≡ k = ap (λ i. label_of i (group_of_label k)) same ∙ label_again k in
+    sym is ∙ ap (λ j. q (mark.One j)) (sym label) ∙ none_one q (mark.One (label_of id (group_of_label k))) h
+own_if q k id false is same e h = sym (ap (λ i. model_of_id i == model_of_id (record_of_label k)) same ∙ itself (model_of_id (record_of_label k))) ∙ e
+
+not_own : (q : Mark → Bool) (k : ℕ) (over : List Alteration) → q (mark.One k) ≡ true
+    → list_any q (own_marks (model_of_id (record_of_label k)) (group_of_label k) over) ≡ false → is_altered over (record_of_label k) ≡ false
+not_own q k [] is h = refl
+not_own q k (a ∷ more) is h =
+    let m : ℕ = model_of_id (record_of_label k) in
+    let g : ℕ = group_of_label k in
+    let parts = none_parts q (own_mark (id_where (model_of_id a.id == m) a.id) g) (own_marks m g more) h in
+    let here : (a.id == record_of_label k) ≡ false =
+    unless (a.id == record_of_label k) (λ e. own_if q k a.id (model_of_id a.id == m) is (same_if a.id (record_of_label k) e) refl parts.0) in
+    rw here (not_own q k more is parts.1)
+
+same_whom : (s t : Whom) → is_same_whom s t ≡ true → s ≡ t
+same_whom whom.This whom.This e = refl
+same_whom whom.Viewer whom.Viewer e = refl
+same_whom whom.This whom.Viewer e = absurd cc
+same_whom whom.Viewer whom.This e = absurd cc
+
+same_rest : (x y : Rest) → is_same_rest x y ≡ true → x ≡ y
+same_rest rest.Asker rest.Asker e = refl
+same_rest (rest.Table m) (rest.Table n) e = ap rest.Table (same_if m n e)
+same_rest (rest.Found s m f) (rest.Found t n g) e =
+    let parts = and_parts (is_same_whom s t) ((m == n) && (f == g)) e in
+    let later = and_parts (m == n) (f == g) parts.1 in
+    rw (same_whom s t parts.0, same_if m n later.0, same_if f g later.1) refl
+same_rest rest.Any rest.Any e = refl
+same_rest x y e = absurd cc
+
+-- the marks of what a policy rests on
+module _ (viewer : Option ℕ) (k : ℕ) (over : List Alteration) (rows : List Row) (small : record_of_label k < 2 ^ 124) where
+  abbrev model : ℕ
+  model = model_of_id (record_of_label k)
+
+  abbrev group : ℕ
+  group = group_of_label k
+
+  abbrev hit : Mark → Bool
+  hit = marks_label viewer k
+
+  both_if : (a b c : Bool) → a ≡ true → b ≡ true → ((a && b) && c) ≡ c
+  both_if true true c p q = refl
+  both_if true false c p q = absurd cc
+  both_if false b c p q = absurd cc
+
+  group_is : (v : Option (Option ℕ)) → hit (group_mark model group v) ≡ is_for (whose_of v) viewer
+  group_is None = both_if (model == model) (group == group) true (itself model) (itself group)
+  group_is (Some x) = both_if (model == model) (group == group) (is_same_viewer x viewer) (itself model) (itself group)
+
+  everybody : hit (group_mark model group None) ≡ true
+  everybody = group_is None
+
+  one_is : (j : ℕ) → j ≡ k → hit (mark.One j) ≡ true
+  one_is j e = ap (λ i. i == k) e ∙ itself k
+
+  asker_not : (id : ℕ) (others : List Alteration) → viewer ≡ Some id → list_any hit (viewer_marks model group others) ≡ false → is_altered others id ≡ false
+  asker_not id [] is h = refl
+  asker_not id (a ∷ more) is h =
+      let parts = or_none (hit (group_mark model group (Some (Some a.id)))) (list_any hit (viewer_marks model group more)) h in
+      let here : (a.id == id) ≡ false = ap (λ v. is_same_viewer (Some a.id) v) (sym is) ∙ sym (group_is (Some (Some a.id))) ∙ parts.0 in
+      rw here (asker_not id more is parts.1)
+
+  viewer_not : (v : Option ℕ) → viewer ≡ v → list_any hit (viewer_marks model group over) ≡ false → not (is_viewer_altered over v) ≡ true
+  viewer_not None is h = refl
+  viewer_not (Some id) is h = not_of (is_altered over id) (asker_not id over is h)
+
+  table_not : (b : Bool) → list_any hit (marks_if b model group) ≡ false → not b ≡ true
+  table_not true h = sym (none_one hit (group_mark model group None) h) ∙ everybody
+  table_not false h = refl
+
+  any_not : (others : List Alteration) → list_any hit (some_marks others model group) ≡ false → alters_none others ≡ true
+  any_not [] h = refl
+  any_not (a ∷ more) h = sym (none_one hit (group_mark model group None) h) ∙ everybody
+
+  small_if : (y : ℕ) → y ≡ record_of_label k → nat_lt y (2 ^ 124) ≡ true
+  small_if y e = ap (λ i. nat_lt i (2 ^ 124)) e ∙ grind (arith, nat_tests, small)
+
+  label_hit : (y : ℕ) → y ≡ record_of_label k → list_any hit (own_mark (id_where (nat_lt y (2 ^ 124)) y) group) ≡ true
+  label_hit y e =
+      ap (λ b. list_any hit (own_mark (id_where b y) group)) (small_if y e)
+      ∙ ap (λ b. b || false) (one_is (label_of y group) (ap (λ i. label_of i group) e ∙ label_again k))
+
+  cell_not : (s : Whom) (x : Option (Option ℕ)) → list_any hit (cell_mark model group s x) ≡ false → is_to (whom_of (record_of_label k) viewer s) x ≡ false
+  cell_not whom.This None h = refl
+  cell_not whom.This (Some None) h = refl
+  cell_not whom.This (Some (Some y)) h =
+      unless (y == record_of_label k) (λ e. sym (label_hit y (same_if y (record_of_label k) e)) ∙ h)
+  cell_not whom.Viewer None h = refl
+  cell_not whom.Viewer (Some x) h = sym (group_is (Some x)) ∙ none_one hit (group_mark model group (Some x)) h
+
+  row_not : (s : Whom) (n f : ℕ) (r : Row) (b : Bool) → (model_of_id r.id == n) ≡ b
+      → list_any hit (if b then cell_mark model group s (referred_by (slice_get r.cells f)) else []) ≡ false
+      → (b && is_to (whom_of (record_of_label k) viewer s) (referred_by (slice_get r.cells f))) ≡ false
+  row_not s n f r true e h = cell_not s (referred_by (slice_get r.cells f)) h
+  row_not s n f r false e h = refl
+
+  found_not : (s : Whom) (n f : ℕ) (some : List Row) → list_any hit (found_marks model group s n f some) ≡ false → list_any (row_refers n f (whom_of (record_of_label k) viewer s)) some ≡ false
+  found_not s n f [] h = refl
+  found_not s n f (r ∷ some) h =
+      let parts = none_parts hit (row_mark model group s n f r) (found_marks model group s n f some) h in
+      let here : row_refers n f (whom_of (record_of_label k) viewer s) r ≡ false = row_not s n f r (model_of_id r.id == n) refl parts.0 in
+      rw here (found_not s n f some parts.1)
+
+  rest_not : (x : Rest) → list_any hit (rest_marks model group over rows x) ≡ false → test_of over rows (record_of_label k) viewer x ≡ true
+  rest_not rest.Asker h = viewer_not viewer refl h
+  rest_not (rest.Table n) h = table_not (alters n over) h
+  rest_not (rest.Found s n f) h = not_of (list_any (row_refers n f (whom_of (record_of_label k) viewer s)) rows) (found_not s n f rows h)
+  rest_not rest.Any h = any_not over h
+
+  same_test : (x y : Rest) → is_same_rest x y ≡ true → test_of over rows (record_of_label k) viewer y ≡ true → test_of over rows (record_of_label k) viewer x ≡ true
+  same_test x y e h = subst (λ z. test_of over rows (record_of_label k) viewer z ≡ true) (sym (same_rest x y e)) h
+
+  again_test : (x : Rest) (xs : List Rest) → comes_again x xs ≡ true → list_all (test_of over rows (record_of_label k) viewer) xs ≡ true → test_of over rows (record_of_label k) viewer x ≡ true
+  again_test x [] e h = absurd cc
+  again_test x (y ∷ xs) e h =
+      let parts = and_parts (test_of over rows (record_of_label k) viewer y) (list_all (test_of over rows (record_of_label k) viewer) xs) h in
+      or_cases (test_of over rows (record_of_label k) viewer x ≡ true) (is_same_rest x y) (comes_again x xs)
+      (λ i. same_test x y i parts.0) (λ i. again_test x xs i parts.1) e
+
+  first_not : (x : Rest) (xs : List Rest) (b : Bool) → comes_again x xs ≡ b → list_any hit (if b then [] else rest_marks model group over rows x) ≡ false
+      → list_all (test_of over rows (record_of_label k) viewer) xs ≡ true → test_of over rows (record_of_label k) viewer x ≡ true
+  first_not x xs true e h all = again_test x xs e all
+  first_not x xs false e h all = rest_not x h
+
+  pub each_not : (xs : List Rest) → list_any hit (each_rest_marks model group over rows xs) ≡ false → list_all (test_of over rows (record_of_label k) viewer) xs ≡ true
+  each_not [] h = refl
+  each_not (x ∷ xs) h =
+      let parts = none_parts hit (if comes_again x xs then [] else rest_marks model group over rows x) (each_rest_marks model group over rows xs) h in
+      let later = each_not xs parts.1 in
+      rw (first_not x xs (comes_again x xs) refl parts.0 later) later
+
+-- all marks
+abbrev pub all_marks : Application → List Alteration → List Row → List Mark
+all_marks app over rows = models_marks app.models 0 over rows app.models
+
+rests_spared : (app : Application) (over : List Alteration) (rows : List Row) (viewer : Option ℕ) (k : ℕ) (found : Option FieldGroup) → record_of_label k < 2 ^ 124 → labelled_group app k ≡ found
+    → list_any (marks_label viewer k) (all_marks app over rows) ≡ false → list_all (test_of over rows (record_of_label k) viewer) (group_rests app.models found) ≡ true
+rests_spared app over rows viewer k None small is h = refl
+rests_spared app over rows viewer k (Some g) small is h =
+    let m : ℕ = model_of_id (record_of_label k) in
+    let n : ℕ = group_of_label k in
+    let all = in_entity (marks_label viewer k) app.models m n over rows (slice_get app.models m) g refl is h in
+    each_not viewer k over rows small (rests app.models g.policy)
+    (none_parts (marks_label viewer k) (own_marks m n over) (each_rest_marks m n over rows (rests app.models g.policy)) all).1
+
+own_spared : (app : Application) (over : List Alteration) (rows : List Row) (k : ℕ) (found : Option FieldGroup) → labelled_group app k ≡ found → is_some_group found ≡ true
+    → list_any (is_one k) (all_marks app over rows) ≡ false → is_outside over (record_of_label k) ≡ true
+own_spared app over rows k None is some h = absurd cc
+own_spared app over rows k (Some g) is some h =
+    let m : ℕ = model_of_id (record_of_label k) in
+    let n : ℕ = group_of_label k in
+    let all = in_entity (is_one k) app.models m n over rows (slice_get app.models m) g refl is h in
+    not_of (is_altered over (record_of_label k))
+    (not_own (is_one k) k over (itself k) (none_parts (is_one k) (own_marks m n over) (each_rest_marks m n over rows (rests app.models g.policy)) all).0)
+
+-- from a touch to marks
+labels_are : (k : ℕ) (marks : List Mark) → shown (marked_labels marks) k ≡ list_any (is_one k) marks
+labels_are k [] = refl
+labels_are k (mark.One j ∷ marks) = ap (λ b. (j == k) || b) (labels_are k marks)
+labels_are k (mark.All m g ∷ marks) = labels_are k marks
+labels_are k (mark.Only m g v ∷ marks) = labels_are k marks
+
+groups_are : (viewer : Option ℕ) (k : ℕ) (marks : List Mark) → list_any (is_one k) marks ≡ false
+    → list_any (λ (g : TouchedGroup). is_in_group g k && is_for g.viewer viewer) (marked_groups marks) ≡ false → list_any (marks_label viewer k) marks ≡ false
+groups_are viewer k [] a b = refl
+groups_are viewer k (mark.One j ∷ marks) a b =
+    let parts = or_none (j == k) (list_any (is_one k) marks) a in
+    rw parts.0 (groups_are viewer k marks parts.1 b)
+groups_are viewer k (mark.All m g ∷ marks) a b =
+    let parts = or_none (is_in_group (touched_group m g None) k && is_for (whose_of None) viewer) (list_any (λ (g : TouchedGroup). is_in_group g k && is_for g.viewer viewer) (marked_groups marks)) b in
+    rw parts.0 (groups_are viewer k marks a parts.1)
+groups_are viewer k (mark.Only m g v ∷ marks) a b =
+    let parts = or_none (is_in_group (touched_group m g (Some v)) k && is_for (whose_of (Some v)) viewer) (list_any (λ (g : TouchedGroup). is_in_group g k && is_for g.viewer viewer) (marked_groups marks)) b in
+    rw parts.0 (groups_are viewer k marks a parts.1)
+
+-- a record past the end stands nowhere
+stands_if : (u : ℕ → Bool) (h b : Bool) (id : ℕ) (r : Row) (rows : List Row) → (r.id == id) ≡ b → b ≡ false → stands (record_with id (rows_at u rows)) ≡ false
+    → stands (record_with id (if h then record { id = r.id; cells = r.cells } ∷ rows_at u rows else rows_at u rows)) ≡ false
+stands_if u true true id r rows e f h = absurd cc
+stands_if u true false id r rows e f h = rw e h
+stands_if u false b id r rows e f h = h
+
+none_with : (u : ℕ → Bool) (id : ℕ) (rows : List Row) → AreSmall rows → (id < 2 ^ 124 → false ≡ true) → stands (record_with id (rows_at u rows)) ≡ false
+none_with u id [] small big = refl
+none_with u id (r ∷ rows) small big =
+    stands_if u (holds u r.guard) (r.id == id) id r rows refl
+    (unless (r.id == id) (λ e. sym (big (subst (λ i. i < 2 ^ 124) (same_if r.id id e) small.0))))
+    (none_with u id rows small.1 big)
+
+and_false : (a : Bool) → (a && false) ≡ false
+and_false true = refl
+and_false false = refl
+
+-- what a touch of the marks covers
+module _ (app : Application) (s : State) (over : List Alteration) (sound : IsSound s) (own : AreOwn over) (placed : ArePlaced over (length s.tables)) where
+  abbrev rows : List Row
+  rows = rows_altered s.tables over
+
+  abbrev behind : State
+  behind = state_over over s
+
+  group_there : (k : ℕ) (b : Bool) → has_group app k ≡ b → list_any (is_one k) (all_marks app over rows) ≡ false
+      → IsLiveLabel app (λ u. project_at u s) k ↔ IsLiveLabel app (λ u. project_at u behind) k
+  group_there k true is h =
+      spared_live app s over sound own placed k (own_spared app over rows k (labelled_group app k) refl is h)
+  group_there k false is h = (
+    (λ live. let wrong : false ≡ true = sym is ∙ live.group in absurd cc),
+    (λ live. let wrong : false ≡ true = sym is ∙ live.group in absurd cc),
+  )
+
+  has_none : (u : ℕ → Bool) (k : ℕ) → (record_of_label k < 2 ^ 124 → false ≡ true) → has_record (project_at u s) k ≡ false
+  has_none u k big =
+      let id : ℕ = record_of_label k in
+      ap (λ l. stands (record_with id l)) (rows_of-shown u s.tables (model_of_id id))
+      ∙ none_with u id (rows_of s.tables (model_of_id id)) (are_small s (model_of_id id) sound) big
+
+  size_there : (viewer : Option ℕ) (k : ℕ) (b : Bool) → nat_lt (record_of_label k) (2 ^ 124) ≡ b → is_outside over (record_of_label k) ≡ true
+      → list_any (marks_label viewer k) (all_marks app over rows) ≡ false
+      → (u : ℕ → Bool) → is_allowed app (project_at u behind) viewer k ≡ is_allowed app (project_at u s) viewer k
+  size_there viewer k true is stay h u =
+      let small : record_of_label k < 2 ^ 124 = grind (arith, nat_tests, is) in
+      spared_allowed app s over sound own placed viewer k
+      (both_true (is_outside over (record_of_label k)) (list_all (test_of over rows (record_of_label k) viewer) (group_rests app.models (labelled_group app k))) stay
+      (rests_spared app over rows viewer k (labelled_group app k) small refl h)) u
+  size_there viewer k false is stay h u =
+      let big : record_of_label k < 2 ^ 124 → false ≡ true = λ small. grind (arith, nat_tests, is, small) in
+      let before : has_record (project_at u s) k ≡ false = has_none u k big in
+      let later : has_record (project_at u behind) k ≡ false = same_has app s over sound own placed u (record_of_label k) stay ∙ before in
+      ap (λ b. b && policy_is_true (labelled_group app k) (policy_world app (project_at u behind) viewer (record_of_label k))) later
+      ∙ ap (λ b. b && policy_is_true (labelled_group app k) (policy_world app (project_at u s) viewer (record_of_label k))) (sym before)
+
+  policy_there : (viewer : Option ℕ) (k : ℕ) (found : Option FieldGroup) → labelled_group app k ≡ found
+      → list_any (is_one k) (all_marks app over rows) ≡ false → list_any (marks_label viewer k) (all_marks app over rows) ≡ false
+      → (u : ℕ → Bool) → is_allowed app (project_at u behind) viewer k ≡ is_allowed app (project_at u s) viewer k
+  policy_there viewer k None is a b u =
+      ap (λ g. has_record (project_at u behind) k && policy_is_true g (policy_world app (project_at u behind) viewer (record_of_label k))) is
+      ∙ and_false (has_record (project_at u behind) k)
+      ∙ sym (and_false (has_record (project_at u s) k))
+      ∙ ap (λ g. has_record (project_at u s) k && policy_is_true g (policy_world app (project_at u s) viewer (record_of_label k))) (sym is)
+  policy_there viewer k (Some g) is a b u =
+      size_there viewer k (nat_lt (record_of_label k) (2 ^ 124)) refl (own_spared app over rows k (Some g) is refl a) b u
+
+  pub covered : (t : Touch) (viewer : Option ℕ) → ((k : ℕ) → shown t.labels k ≡ shown (marked_labels (all_marks app over rows)) k)
+      → t.groups.items ≡ marked_groups (all_marks app over rows)
+      → IsCovered app (λ u. project_at u s) (λ u. project_at u behind) t viewer
+  covered t viewer labels groups = record {
+    living = λ k h. group_there k (has_group app k) refl (sym (labels_are k (all_marks app over rows)) ∙ sym (labels k) ∙ h);
+    allowed = λ k h u.
+        let parts = or_none (shown t.labels k) (list_any (λ (g : TouchedGroup). is_in_group g k && is_for g.viewer viewer) t.groups.items) h in
+        let one : list_any (is_one k) (all_marks app over rows) ≡ false = sym (labels_are k (all_marks app over rows)) ∙ sym (labels k) ∙ parts.0 in
+        let each : list_any (λ (g : TouchedGroup). is_in_group g k && is_for g.viewer viewer) (marked_groups (all_marks app over rows)) ≡ false =
+        subst (λ (l : List TouchedGroup). list_any (λ (g : TouchedGroup). is_in_group g k && is_for g.viewer viewer) l ≡ false) groups parts.1 in
+        policy_there viewer k (labelled_group app k) refl one (groups_are viewer k (all_marks app over rows) one each) u;
+  }

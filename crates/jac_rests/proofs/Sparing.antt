@@ -1,0 +1,236 @@
+-- Labels that are spared by replaced records are allowed where they were.
+use Rattle.std.proofs.Common.{◌≡◌, ◌∙◌, refl, sym, ap, subst, arith, ℕ, ◌==◌, ◌&&◌, ◌||◌, not, Bool, true, false, if◌then◌else◌, List, [], ◌∷◌, ◌↔◌}
+use Rattle.std.specs.Prelude.{Option, Some, None, map, slice_get, unwrap_or, length}
+use Rattle.std.specs.List.{list_any, list_all}
+use Rattle.std.proofs.lemmas.Bool.{and_parts}
+use Rattle.jac_value.specs.Ids.{model_of_id, record_of_label}
+use Rattle.jac_value.specs.SameValue.{same_value}
+use Rattle.jac_value.specs.Values.{default_value}
+use Rattle.jac_value.specs.declared.value.Kind.{Kind}
+use Rattle.jac_value.specs.declared.value.Kind.TheVariants as kind
+use Rattle.jac_value.specs.declared.value.Value.{Value}
+use Rattle.jac_value.specs.declared.value.Value.TheVariants as value
+use Rattle.jac_value.specs.contracts.value.ValuePartialEq.TheImpl as equality
+use Rattle.jac_world.specs.World.{holds}
+use Rattle.jac_lang.specs.Lookup.{fields_at, kind_at}
+use Rattle.jac_lang.specs.Syntax.{Entity, Expression, FieldGroup, Application}
+use Rattle.jac_rows.specs.Good.{IsSound}
+use Rattle.jac_rows.specs.Project.{rows_at, project_at}
+use Rattle.jac_rows.specs.Tables.{rows_of}
+use Rattle.jac_rows.specs.declared.plain.PlainRow.{PlainRow}
+use Rattle.jac_rows.specs.declared.row.Row.{Row}
+use Rattle.jac_rows.specs.declared.state.State.{State}
+use Rattle.jac_keep.specs.declared.alteration.Alteration.{Alteration}
+use Rattle.jac_keep.specs.Alterations.{AreOwn, ArePlaced, alters, overlaid}
+use Rattle.jac_keep.specs.Records.{with_id}
+use Rattle.jac_keep.proofs.AlteringLaws.{rows_of-overlaid}
+use Rattle.jac_keep.proofs.Forgotten.{rows_unaltered}
+use Rattle.jac_keep.proofs.SoundLaws.{tables_of_sound}
+use Rattle.jac_plain.specs.World.{World, record_with, cell_of}
+use Rattle.jac_plain.specs.Expressions.{is_true, mean, stands}
+use Rattle.jac_plain.specs.Policies.{has_id, has_record, labelled_group, policy_world, policy_is_true, is_allowed, IsLiveLabel}
+use Rattle.jac_plain.specs.Records.{with_ids}
+use Rattle.jac_choice.proofs.Finding.{rows_at_with_id, rows_of-shown}
+use Rattle.jac_rests.specs.declared.rest.Whom.{Whom}
+use Rattle.jac_rests.specs.declared.rest.Whom.TheVariants as whom
+use Rattle.jac_rests.specs.Rests.{rests}
+use Rattle.jac_rests.specs.Cleared.{is_clear, whom_in, field_in, IsTest}
+use Rattle.jac_rests.specs.Altered.{state_over, is_altered, is_outside, is_viewer_altered, rows_altered, referred_by, is_to, row_refers, whom_of, alters_none, test_of, group_rests, is_spared}
+use Rattle.jac_rests.proofs.Clearing.{same_answers, rows_cleared, record_stays}
+use Rattle.jac_rests.proofs.Replaced.{OfModel, stay_same, of_model, altered_alters, cell_refers, found_before, found_behind}
+
+-- a cell that reads as a reference row_refers to it
+refers_is : (c : Option Value) (k : Kind) (x : Option ℕ) → unwrap_or c (default_value k) ≡ value.Ref x → is_to x (referred_by c) ≡ true
+refers_is None kind.Int x e = absurd cc
+refers_is None kind.Text x e = absurd cc
+refers_is None kind.Bool x e = absurd cc
+refers_is None (kind.Ref m) None e = refl
+refers_is None (kind.Ref m) (Some y) e = absurd cc
+refers_is (Some (value.Ref None)) k None e = refl
+refers_is (Some (value.Ref None)) k (Some y) e = absurd cc
+refers_is (Some (value.Ref (Some z))) k None e = absurd cc
+refers_is (Some (value.Ref (Some z))) k (Some y) e =
+    let same : z ≡ y = cc in
+    grind (arith, same)
+refers_is (Some (value.Int i)) k x e = absurd cc
+refers_is (Some (value.Text t)) k x e = absurd cc
+refers_is (Some (value.Bool b)) k x e = absurd cc
+
+cell_is : (c : Option Value) (k : Kind) (x : Option ℕ) → equality.ghosts.eq (unwrap_or c (default_value k)) (value.Ref x) ≡ true → is_to x (referred_by c) ≡ true
+cell_is c k x e = refers_is c k x (same_value (unwrap_or c (default_value k)) (value.Ref x) e)
+
+both_or : (a b c : Bool) → a ≡ true → b ≡ true → ((a && b) || c) ≡ true
+both_or true true c p q = refl
+both_or true false c p q = absurd cc
+both_or false b c p q = absurd cc
+
+later_or : (a b : Bool) → b ≡ true → (a || b) ≡ true
+later_or true b h = refl
+later_or false b h = h
+
+-- a record whose field row_refers in one world has a row that does
+read_if : (h s : Bool) (r : Row) (u : ℕ → Bool) (rows : List Row) (f : ℕ) (k : Kind) (x : Option ℕ) (id : ℕ) → (r.id == id) ≡ s
+    → (stands (record_with id (rows_at u rows)) ≡ true → equality.ghosts.eq (cell_of (record_with id (rows_at u rows)) f (default_value k)) (value.Ref x) ≡ true
+    → list_any (λ r. (r.id == id) && cell_refers f x r) rows ≡ true)
+    → stands (record_with id (if h then record { id = r.id; cells = r.cells } ∷ rows_at u rows else rows_at u rows)) ≡ true
+    → equality.ghosts.eq (cell_of (record_with id (if h then record { id = r.id; cells = r.cells } ∷ rows_at u rows else rows_at u rows)) f (default_value k)) (value.Ref x) ≡ true
+    → list_any (λ r. (r.id == id) && cell_refers f x r) (r ∷ rows) ≡ true
+read_if true true r u rows f k x id s ih stood e =
+    let cell : equality.ghosts.eq (unwrap_or (slice_get r.cells f) (default_value k)) (value.Ref x) ≡ true = rw s at e in
+    both_or (r.id == id) (cell_refers f x r) (list_any (λ r. (r.id == id) && cell_refers f x r) rows) s (cell_is (slice_get r.cells f) k x cell)
+read_if true false r u rows f k x id s ih stood e =
+    let there : stands (record_with id (rows_at u rows)) ≡ true = rw s at stood in
+    let cell : equality.ghosts.eq (cell_of (record_with id (rows_at u rows)) f (default_value k)) (value.Ref x) ≡ true = rw s at e in
+    later_or ((r.id == id) && cell_refers f x r) (list_any (λ r. (r.id == id) && cell_refers f x r) rows) (ih there cell)
+read_if false s r u rows f k x id same ih stood e =
+    later_or ((r.id == id) && cell_refers f x r) (list_any (λ r. (r.id == id) && cell_refers f x r) rows) (ih stood e)
+
+read_refers : (u : ℕ → Bool) (rows : List Row) (f : ℕ) (k : Kind) (x : Option ℕ) (id : ℕ) → stands (record_with id (rows_at u rows)) ≡ true
+    → equality.ghosts.eq (cell_of (record_with id (rows_at u rows)) f (default_value k)) (value.Ref x) ≡ true
+    → list_any (λ r. (r.id == id) && cell_refers f x r) rows ≡ true
+read_refers u [] f k x id stood e = absurd cc
+read_refers u (r ∷ rows) f k x id stood e = read_if (holds u r.guard) (r.id == id) r u rows f k x id refl (read_refers u rows f k x id) stood e
+
+-- rows of which none is replaced
+not_altered : (b : Bool) → (b ≡ true → false ≡ true) → not b ≡ true
+not_altered true f = absurd (bad (f refl))
+  where
+    bad : false ≡ true → ⊥
+    bad e = cc
+not_altered false f = refl
+
+keep_if : (b : Bool) (r : Row) (xs ys : List Row) → b ≡ true → xs ≡ ys → (if b then r ∷ xs else xs) ≡ r ∷ ys
+keep_if true r xs ys e h = ap (λ l. r ∷ l) h
+keep_if false r xs ys e h = absurd cc
+
+all_stay : (over : List Alteration) (m : ℕ) (rows : List Row) → OfModel m rows → alters m over ≡ false → with_id (is_outside over) rows ≡ rows
+all_stay over m [] all none = refl
+all_stay over m (r ∷ rows) all none =
+    keep_if (is_outside over r.id) r (with_id (is_outside over) rows) rows
+    (not_altered (is_altered over r.id) (λ h. sym none ∙ ap (λ n. alters n over) (sym all.0) ∙ altered_alters over r.id h))
+    (all_stay over m rows all.1 none)
+
+-- what a world's tables are to be for the test
+pub record AreTested (over : List Alteration) (rows : List Row) (tables : List (List Row)) : Type 0 where
+  pub whole : (m : ℕ) → alters m over ≡ false → with_id (is_outside over) (rows_of tables m) ≡ rows_of tables m
+  pub found : (m f : ℕ) (x : Option ℕ) (id : ℕ) → is_altered over id ≡ true
+      → list_any (λ r. (r.id == id) && cell_refers f x r) (rows_of tables m) ≡ true → list_any (row_refers m f x) rows ≡ true
+
+pub tested_before : (s : State) (over : List Alteration) → IsSound s → AreTested over (rows_altered s.tables over) s.tables
+tested_before s over sound = record {
+  whole = λ m none. all_stay over m (rows_of s.tables m) (of_model s m sound) none;
+  found = λ m f x id is h. found_before s.tables over m f x id (of_model s m sound) is h;
+}
+
+pub tested_behind : (s : State) (over : List Alteration) → IsSound s → AreOwn over → ArePlaced over (length s.tables)
+    → AreTested over (rows_altered s.tables over) (overlaid over s.tables)
+tested_behind s over sound own placed = record {
+  whole = λ m none. ap (with_id (is_outside over)) (rows_unaltered m over s.tables none)
+      ∙ all_stay over m (rows_of s.tables m) (of_model s m sound) none
+      ∙ sym (rows_unaltered m over s.tables none);
+  found = λ m f x id is h. found_behind s.tables over m f x id own (of_model s m sound) is
+      (subst (λ (l : List Row). list_any (λ r. (r.id == id) && cell_refers f x r) l ≡ true) (rows_of-overlaid m over s.tables placed) h);
+}
+
+not_true : (b : Bool) → not b ≡ true → b ≡ false
+not_true true h = absurd cc
+not_true false h = refl
+
+stays_or : (b c : Bool) → not c ≡ true → (b ≡ true → c ≡ true) → not b ≡ true
+stays_or true true n f = absurd cc
+stays_or true false n f = let wrong : false ≡ true = f refl in absurd cc
+stays_or false c n f = refl
+
+stays_any : (over : List Alteration) (id : ℕ) → alters_none over ≡ true → is_outside over id ≡ true
+stays_any [] id h = refl
+stays_any (a ∷ more) id h = absurd cc
+
+viewer_stays : (over : List Alteration) (viewer : Option ℕ) → not (is_viewer_altered over viewer) ≡ true → is_clear (is_outside over) (value.Ref viewer) ≡ true
+viewer_stays over None h = refl
+viewer_stays over (Some id) h = h
+
+abbrev world_at : List Entity → ℕ → Option ℕ → (ℕ → Bool) → List (List Row) → World
+world_at models this viewer u tables = record { models = models; this = Some this; viewer = viewer; tables = map (rows_at u) tables }
+
+whom_same : (models : List Entity) (this : ℕ) (viewer : Option ℕ) (u : ℕ → Bool) (tables : List (List Row)) (s : Whom) → whom_in (world_at models this viewer u tables) s ≡ whom_of this viewer s
+whom_same models this viewer u tables whom.This = refl
+whom_same models this viewer u tables whom.Viewer = refl
+
+found_stays : (models : List Entity) (this : ℕ) (viewer : Option ℕ) (u : ℕ → Bool) (over : List Alteration) (rows : List Row) (tables : List (List Row)) → AreTested over rows tables
+    → (s : Whom) (m f id : ℕ) → not (list_any (row_refers m f (whom_of this viewer s)) rows) ≡ true
+    → stands (record_with id (rows_of (map (rows_at u) tables) m)) ≡ true
+    → equality.ghosts.eq (field_in (world_at models this viewer u tables) m f id) (value.Ref (whom_in (world_at models this viewer u tables) s)) ≡ true
+    → is_outside over id ≡ true
+found_stays models this viewer u over rows tables tested s m f id none stood e =
+    let k : Kind = kind_at models (fields_at models m) f in
+    let x : Option ℕ = whom_of this viewer s in
+    let there : stands (record_with id (rows_at u (rows_of tables m))) ≡ true =
+    subst (λ (l : List PlainRow). stands (record_with id l) ≡ true) (rows_of-shown u tables m) stood in
+    let cell : equality.ghosts.eq (cell_of (record_with id (rows_at u (rows_of tables m))) f (default_value k)) (value.Ref x) ≡ true =
+    subst (λ (l : List PlainRow). equality.ghosts.eq (cell_of (record_with id l) f (default_value k)) (value.Ref x) ≡ true) (rows_of-shown u tables m)
+    (subst (λ (y : Option ℕ). equality.ghosts.eq (cell_of (record_with id (rows_of (map (rows_at u) tables) m)) f (default_value k)) (value.Ref y) ≡ true)
+    (whom_same models this viewer u tables s) e) in
+    stays_or (is_altered over id) (list_any (row_refers m f x) rows) none
+    (λ is. tested.found m f x id is (read_refers u (rows_of tables m) f k x id there cell))
+
+pub is_test : (models : List Entity) (this : ℕ) (viewer : Option ℕ) (u : ℕ → Bool) (over : List Alteration) (rows : List Row) (tables : List (List Row)) → AreTested over rows tables
+    → is_outside over this ≡ true → IsTest (is_outside over) (test_of over rows this viewer) (world_at models this viewer u tables)
+is_test models this viewer u over rows tables tested own = record {
+  own = own;
+  asker = λ h. viewer_stays over viewer h;
+  table = λ m h.
+      ap (with_ids (is_outside over)) (rows_of-shown u tables m)
+      ∙ sym (rows_at_with_id u (is_outside over) (rows_of tables m))
+      ∙ ap (rows_at u) (tested.whole m (not_true (alters m over) h))
+      ∙ sym (rows_of-shown u tables m);
+  found = λ s m f id h stood e. found_stays models this viewer u over rows tables tested s m f id h stood e;
+  any = λ h id. stays_any over id h;
+}
+
+-- the states before and behind show the same of records that stay
+module _ (app : Application) (s : State) (over : List Alteration) (sound : IsSound s) (own : AreOwn over) (placed : ArePlaced over (length s.tables)) where
+  pub same_has : (u : ℕ → Bool) (id : ℕ) → is_outside over id ≡ true → has_id (project_at u (state_over over s)) id ≡ has_id (project_at u s) id
+  same_has u id stay =
+      let m : ℕ = model_of_id id in
+      let before : List (List PlainRow) = map (rows_at u) s.tables in
+      let behind : List (List PlainRow) = map (rows_at u) (overlaid over s.tables) in
+      ap stands (sym (record_stays (is_outside over) id (rows_of behind m) stay))
+      ∙ ap (λ l. stands (record_with id l)) (sym (rows_cleared (is_outside over) behind m))
+      ∙ ap (λ tables. stands (record_with id (rows_of tables m))) (stay_same u over s.tables own (tables_of_sound s sound))
+      ∙ ap (λ l. stands (record_with id l)) (rows_cleared (is_outside over) before m)
+      ∙ ap stands (record_stays (is_outside over) id (rows_of before m) stay)
+
+  same_mean : (u : ℕ → Bool) (viewer : Option ℕ) (id : ℕ) (e : Expression) → is_outside over id ≡ true
+      → list_all (test_of over (rows_altered s.tables over) id viewer) (rests app.models e) ≡ true
+      → mean (policy_world app (project_at u (state_over over s)) viewer id) e [] ≡ mean (policy_world app (project_at u s) viewer id) e []
+  same_mean u viewer id e stay h =
+      let rows : List Row = rows_altered s.tables over in
+      let test = test_of over rows id viewer in
+      sym (same_answers (is_outside over) test (policy_world app (project_at u (state_over over s)) viewer id) e
+      (is_test app.models id viewer u over rows (overlaid over s.tables) (tested_behind s over sound own placed) stay) h)
+      ∙ ap (λ (tables : List (List PlainRow)). mean (record { models = app.models; this = Some id; viewer = viewer; tables = tables }) e [])
+      (stay_same u over s.tables own (tables_of_sound s sound))
+      ∙ same_answers (is_outside over) test (policy_world app (project_at u s) viewer id) e
+      (is_test app.models id viewer u over rows s.tables (tested_before s over sound) stay) h
+
+  same_policy : (u : ℕ → Bool) (viewer : Option ℕ) (id : ℕ) (g : Option FieldGroup) → is_outside over id ≡ true
+      → list_all (test_of over (rows_altered s.tables over) id viewer) (group_rests app.models g) ≡ true
+      → policy_is_true g (policy_world app (project_at u (state_over over s)) viewer id) ≡ policy_is_true g (policy_world app (project_at u s) viewer id)
+  same_policy u viewer id None stay h = refl
+  same_policy u viewer id (Some g) stay h = ap is_true (same_mean u viewer id g.policy stay h)
+
+  pub spared_allowed : (viewer : Option ℕ) (k : ℕ) → is_spared app over (rows_altered s.tables over) viewer k ≡ true → (u : ℕ → Bool)
+      → is_allowed app (project_at u (state_over over s)) viewer k ≡ is_allowed app (project_at u s) viewer k
+  spared_allowed viewer k spared u =
+      let id : ℕ = record_of_label k in
+      let g : Option FieldGroup = labelled_group app k in
+      let parts = and_parts (is_outside over id) (list_all (test_of over (rows_altered s.tables over) id viewer) (group_rests app.models g)) spared in
+      ap (λ b. b && policy_is_true g (policy_world app (project_at u (state_over over s)) viewer id)) (same_has u id parts.0)
+      ∙ ap (λ b. has_record (project_at u s) k && b) (same_policy u viewer id g parts.0 parts.1)
+
+  pub spared_live : (k : ℕ) → is_outside over (record_of_label k) ≡ true
+      → IsLiveLabel app (λ u. project_at u s) k ↔ IsLiveLabel app (λ u. project_at u (state_over over s)) k
+  spared_live k stay = (
+    (λ live. record { group = live.group; seen_by = live.seen_by; stands = same_has live.seen_by (record_of_label k) stay ∙ live.stands }),
+    (λ live. record { group = live.group; seen_by = live.seen_by; stands = sym (same_has live.seen_by (record_of_label k) stay) ∙ live.stands }),
+  )

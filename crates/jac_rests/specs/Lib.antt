@@ -1,0 +1,4 @@
+pub mod Rests
+pub mod Cleared
+pub mod Altered
+pub mod Marks

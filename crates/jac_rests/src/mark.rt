@@ -1,0 +1,15 @@
+//! What a policy that rests on replaced records marks.
+
+use jac_value::Id;
+use jac_world::Label;
+
+/// A label, or a group of all records of a model by their places, whose policy may answer
+/// otherwise.
+#[derive(Debug, Drop)]
+pub enum Mark {
+    One(Label),
+    /// To everybody.
+    All(u8, u8),
+    /// To this viewer, or to nobody's requests.
+    Only(u8, u8, Option<Id>),
+}

@@ -1,0 +1,154 @@
+//! What a work's replaced records may touch.
+ghost use Rattle.std.specs.Prelude.{◌≡◌, ◌++◌, ◌∷◌, ℕ, [], Option, IfOk, OnOk, IsErrOf, IsTrue};
+ghost use Rattle.jac_io.specs.Faults.{Rose};
+ghost use Rattle.jac_world.specs.World.{shown};
+ghost use Rattle.jac_lang.specs.Mirror.{application_of};
+ghost use Rattle.jac_rows.specs.Good.{IsSound};
+ghost use Rattle.jac_rows.specs.Project.{project_at};
+ghost use Rattle.jac_keep.specs.declared.stop.Stop.TheVariants.{Keeper as OfKeeper};
+ghost use Rattle.jac_keep.specs.KeeperSeen.{IsLeft};
+ghost use Rattle.jac_keep.specs.Worked.{state_of, IsTold, ReadsWork};
+ghost use Rattle.jac_recall.specs.Touched.{IsCovered};
+ghost use Rattle.jac_rests.specs.Altered.{rows_altered};
+ghost use Rattle.jac_rests.specs.Marks.{marked_groups, marked_label, marked_labels, models_marks, marked_group, touched_group};
+
+use crate::mark::Mark;
+use crate::marker::mark_models;
+use jac_keep::{Alteration, Keeper, Stop, Work};
+use jac_lang::App;
+use jac_recall::{Labels, Touch, TouchedGroup, Whose};
+use jac_rows::{Row, Rows};
+use jac_value::{Id, Memory};
+use jac_world::Label;
+use std::alloc::Global;
+
+/// What the replaced records of the work may touch: the labels of each, and those whose policies
+/// rest on one, as it was or as it is. A policy is told by its text, and costs nothing more where
+/// it is evaluated.
+pub fn touch_of<K: Keeper>(alloc: Global, work: &mut Work<'_, K>, app: &App) -> Result<Touch, Stop>
+    requires attached { IsTrue (K.seen work.old.keeper.now).store.attached }
+    requires sound { IsTrue (K.seen work.old.keeper.now).tells
+        → IsSound (K.seen work.old.keeper.now).state }
+    ensures covered { IsTold K.seen work.new → IfOk result (λ t. (viewer : Option ℕ) →
+        IsCovered (application_of app.now) (λ w. project_at w (K.seen work.old.keeper.now).state)
+        (λ w. project_at w (state_of K.seen work.old)) t viewer) }
+    ensures reads { ReadsWork K.seen work.old work.new result }
+{
+    let mut rows = Vec::new(alloc);
+    add_altered(alloc, work.keeper, work.over.as_slice(), &mut rows)?;
+    let touch = touch_among(alloc, app, work.over.as_slice(), rows.as_slice())?;
+    Ok(touch)
+}
+
+// Adds the alternatives of the replaced records, as they were and as they are.
+fn add_altered<K: Keeper>(
+    alloc: Global,
+    keeper: &mut K,
+    over: &[Alteration],
+    rows: &mut Vec<Row>,
+) -> Result<(), Stop>
+    requires attached { IsTrue (K.seen keeper.old).store.attached }
+    ensures rows { IsTrue (K.seen keeper.new).tells → OnOk result (rows.new.items
+        ≡ rows.old.items ++ rows_altered (K.seen keeper.old).state.tables over.now) }
+    ensures left { IsLeft (K.seen keeper.old) (K.seen keeper.new) }
+    ensures rose { IsErrOf result OfKeeper
+        → Rose (K.seen keeper.old).faults (K.seen keeper.new).faults }
+{
+    'over: for alteration in over {
+        let old = keeper.one(alloc, alteration.id)?;
+        let new = alteration.rows.copy(alloc)?;
+        push_rows(rows, old)?;
+        push_rows(rows, new)?;
+    }
+    Ok(())
+}
+
+fn push_rows(rows: &mut Vec<Row>, more: Rows) -> Result<(), Memory>
+    ensures { OnOk result (rows.new.items ≡ rows.old.items ++ more) }
+{
+    let mut more = more.into_vec();
+    rows.append(&mut more)?;
+    Ok(())
+}
+
+// What records with these rows touch where they are replaced.
+fn touch_among(alloc: Global, app: &App, over: &[Alteration], rows: &[Row]) -> Result<Touch, Memory>
+    ensures labels { IfOk result (λ t. (k : ℕ)
+        → shown t.labels k ≡ shown (marked_labels (models_marks
+        (application_of app.now).models 0 over.now rows.now (application_of app.now).models)) k) }
+    ensures groups { IfOk result (λ t. t.groups.items ≡ marked_groups (models_marks
+        (application_of app.now).models 0 over.now rows.now (application_of app.now).models)) }
+{
+    let mut marks = Vec::new(alloc);
+    mark_models(alloc, app, over, rows, &mut marks)?;
+    let labels = marked_labels(alloc, marks.as_slice())?;
+    let groups = groups_in(alloc, marks.as_slice())?;
+    Ok(Touch {
+        labels: Labels::rising(labels),
+        groups,
+    })
+}
+
+fn marked_labels(alloc: Global, marks: &[Mark]) -> Result<Vec<Label>, Memory>
+    ensures { IfOk result (λ v. v.items ≡ marked_labels marks.now) }
+{
+    let mut labels = Vec::new(alloc);
+    'marks: for mark in marks {
+        add_label(&mut labels, mark)?;
+    }
+    Ok(labels)
+}
+
+fn add_label(labels: &mut Vec<Label>, mark: &Mark) -> Result<(), Memory>
+    ensures { OnOk result (labels.new.items ≡ labels.old.items ++ marked_label mark.now) }
+{
+    match mark {
+        Mark::One(label) => {
+            labels.push(*label)?;
+            Ok(())
+        }
+        Mark::All(_, _) => Ok(()),
+        Mark::Only(_, _, _) => Ok(()),
+    }
+}
+
+fn groups_in(alloc: Global, marks: &[Mark]) -> Result<Vec<TouchedGroup>, Memory>
+    ensures { IfOk result (λ v. v.items ≡ marked_groups marks.now) }
+{
+    let mut groups = Vec::new(alloc);
+    'marks: for mark in marks {
+        add_group(&mut groups, mark)?;
+    }
+    Ok(groups)
+}
+
+fn add_group(groups: &mut Vec<TouchedGroup>, mark: &Mark) -> Result<(), Memory>
+    ensures { OnOk result (groups.new.items ≡ groups.old.items ++ marked_group mark.now) }
+{
+    match mark {
+        Mark::One(_) => Ok(()),
+        Mark::All(model, group) => push_group(groups, *model, *group, None),
+        Mark::Only(model, group, viewer) => push_group(groups, *model, *group, Some(*viewer)),
+    }
+}
+
+fn push_group(
+    groups: &mut Vec<TouchedGroup>,
+    model: u8,
+    group: u8,
+    viewer: Option<Option<Id>>,
+) -> Result<(), Memory>
+    ensures { OnOk result (groups.new.items
+        ≡ groups.old.items ++ touched_group model group viewer ∷ []) }
+{
+    let viewer = match viewer {
+        None => Whose::Everybody,
+        Some(viewer) => Whose::Only(viewer),
+    };
+    groups.push(TouchedGroup {
+        model,
+        group,
+        viewer,
+    })?;
+    Ok(())
+}
