@@ -1,1 +1,1 @@
-pub mod SettledLaws
+pub mod KeptLaws

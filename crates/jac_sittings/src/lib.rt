@@ -1,4 +1,4 @@
-//! The labels that were settled for those who looked, as long as nothing changes.
+//! What was settled for those who looked.
 #![tactic(auto)]
 
 mod sittings;

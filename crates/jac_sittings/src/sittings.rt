@@ -1,20 +1,27 @@
-ghost use Rattle.std.specs.Prelude.{◌≡◌, ◌⊎◌, ◌++◌, ◌∷◌, [], List, ℕ, Option, Some, IfOk};
-ghost use Rattle.jac_sittings.specs.Settled.{is_of, settled_for, IsKeptFor};
+ghost use Rattle.std.specs.Prelude.{◌≡◌, ◌<◌, ◌⊎◌, ◌++◌, ◌∷◌, [], length, Some, IfOk, IfSome};
+ghost use Rattle.std.specs.List.{position};
+ghost use Rattle.jac_recall.specs.Seats.{Unsettles};
+ghost use Rattle.jac_recall.specs.Touched.{is_same_viewer};
+ghost use Rattle.jac_sittings.specs.Kept.{AreUnsettled, IsOneOf, sitting_of};
 
+use jac_recall::{Seat, Touch};
 use jac_value::{Id, Memory};
-use jac_world::Assignment;
 use std::alloc::Global;
 use std::marker::Model;
+use std::mem::replace;
 
-/// For so many viewers the labels are kept.
+/// For so many viewers a seat is kept.
 const VIEWERS: usize = 64;
 
-/// The labels that were settled for somebody.
+/// So many labels may have been asked for all that is kept.
+const ASKED: usize = 1 << 17;
+
+/// What was settled for somebody.
 #[derive(Debug, Drop)]
 pub struct Sitting {
     /// Who looked, if anybody did.
     pub viewer: Option<Id>,
-    pub labels: Assignment,
+    pub seat: Seat,
 }
 
 /// What was settled, once for each of at most 64 viewers.
@@ -25,9 +32,13 @@ pub struct Sittings {
 
 impl Model for Sittings {
     ghost use Rattle.std.specs.Prelude.{List};
+    ghost use Rattle.std.specs.Coded.{codes};
+    ghost use Rattle.jac_sittings.specs.contracts.sittings.Sitting as item;
     ghost use Rattle.jac_sittings.specs.declared.sittings.Sitting.{Sitting as Item};
 
     ghost Value = { List Item };
+
+    ghost coded = { Prim.hlevel (codes, item.the_row.coded) };
 
     ghost view = { λ s. s.sittings.items };
 }
@@ -42,20 +53,30 @@ impl Sittings {
         }
     }
 
-    /// A copy of the labels that were settled for the viewer, if they were.
-    pub fn find(&self, alloc: Global, viewer: Option<Id>) -> Result<Option<Assignment>, Memory>
-        ensures { IfOk result (λ labels. labels ≡ settled_for viewer self.now) }
+    /// Takes out the seat of the viewer, where one is kept.
+    pub fn take(&mut self, viewer: &Option<Id>) -> Option<Seat>
+        ensures taken { IfSome result (λ seat. IsOneOf (sitting_of viewer.now seat) self.old) }
+        ensures left { (s : Sitting) → IsOneOf s self.new → IsOneOf s self.old }
     {
-        find_in(alloc, self.sittings.as_slice(), &viewer)
+        take_from(&mut self.sittings, viewer)
     }
 
-    /// Keeps the labels for the viewer, unless some are kept for him. Beyond 64 viewers, all that were kept before are
-    /// dropped. For want of memory nothing is kept.
-    pub fn keep(&mut self, alloc: Global, viewer: Option<Id>, labels: &Assignment)
-        ensures { (v : Option ℕ) (found : List ℕ) → settled_for v self.new ≡ Some found
-            → IsKeptFor viewer labels.now v found ⊎ (settled_for v self.old ≡ Some found) }
+    /// Keeps the seat for the viewer, whose seat was taken out before. Beyond 64 viewers, and
+    /// beyond 2^17 labels that were asked for all of them, all others are dropped. For want of
+    /// memory the seat itself is.
+    pub fn put(&mut self, viewer: Option<Id>, seat: Seat)
+        ensures { (s : Sitting) → IsOneOf s self.new
+            → (s ≡ sitting_of viewer seat) ⊎ IsOneOf s self.old }
     {
-        keep_in(alloc, &mut self.sittings, viewer, labels);
+        put_in(&mut self.sittings, Sitting { viewer, seat });
+    }
+
+    /// Makes due for each viewer what the change may have touched. For want of memory all are
+    /// dropped.
+    pub fn unsettle(&mut self, alloc: Global, touch: &Touch)
+        ensures { AreUnsettled touch.now self.old self.new }
+    {
+        unsettle_in(alloc, &mut self.sittings, touch);
     }
 
     /// Drops all that was kept.
@@ -66,52 +87,31 @@ impl Sittings {
     }
 }
 
-fn find_in(
-    alloc: Global,
-    sittings: &[Sitting],
-    viewer: &Option<Id>,
-) -> Result<Option<Assignment>, Memory>
-    ensures { IfOk result (λ labels. labels ≡ settled_for viewer.now sittings.now) }
+fn take_from(sittings: &mut Vec<Sitting>, viewer: &Option<Id>) -> Option<Seat>
+    ensures taken { IfSome result (λ seat.
+        IsOneOf (sitting_of viewer.now seat) sittings.old.items) }
+    ensures left { (s : Sitting) → IsOneOf s sittings.new.items → IsOneOf s sittings.old.items }
 {
-    let mut left = sittings;
-    'sittings: while let Some((sitting, rest)) = left.split_first() {
-        if is_of(&sitting.viewer, viewer) {
-            let labels = copy_labels(alloc, &sitting.labels)?;
-            return Ok(Some(labels));
+    let place = place_of(sittings.as_slice(), viewer);
+    match place {
+        Some(place) => {
+            let Sitting { viewer: _, seat } = sittings.remove(place);
+            Some(seat)
         }
-        left = rest;
+        None => None,
     }
-    Ok(None)
 }
 
-fn copy_labels(alloc: Global, labels: &Assignment) -> Result<Assignment, Memory>
-    ensures { IfOk result (λ copy. copy ≡ labels.now) }
+fn place_of(sittings: &[Sitting], viewer: &Option<Id>) -> Option<usize>
+    ensures { result ≡ position (λ (s : Sitting). is_same_viewer s.viewer viewer.now) sittings.now }
 {
-    match labels.copy(alloc) {
-        Ok(copy) => Ok(copy),
-        Err(jac_world::Memory) => Err(Memory),
-    }
-}
-
-#[tactic(auto, using(crate::proofs::SettledLaws::kept_more))]
-fn keep_in(alloc: Global, sittings: &mut Vec<Sitting>, viewer: Option<Id>, labels: &Assignment)
-    ensures { (v : Option ℕ) (found : List ℕ) → settled_for v sittings.new.items ≡ Some found
-        → IsKeptFor viewer labels.now v found ⊎ (settled_for v sittings.old.items ≡ Some found) }
-{
-    if !is_kept(sittings.as_slice(), &viewer) {
-        make_room(sittings);
-        push(alloc, sittings, viewer, labels);
-    }
-}
-
-fn is_kept(sittings: &[Sitting], viewer: &Option<Id>) -> bool {
     sittings
         .iter()
-        .any(|sitting| is_of(&sitting.viewer, viewer))
+        .position(|sitting| is_same_viewer(&sitting.viewer, viewer))
 }
 
-fn is_of(one: &Option<Id>, other: &Option<Id>) -> bool
-    ensures { result ≡ is_of one.now other.now }
+fn is_same_viewer(one: &Option<Id>, other: &Option<Id>) -> bool
+    ensures { result ≡ is_same_viewer one.now other.now }
 {
     match (one, other) {
         (Some(one), Some(other)) => one == other,
@@ -120,30 +120,74 @@ fn is_of(one: &Option<Id>, other: &Option<Id>) -> bool
     }
 }
 
-// Where it is full, it is emptied.
-fn make_room(sittings: &mut Vec<Sitting>)
+fn put_in(sittings: &mut Vec<Sitting>, sitting: Sitting)
+    ensures { (s : Sitting) → IsOneOf s sittings.new.items
+        → (s ≡ sitting) ⊎ IsOneOf s sittings.old.items }
+{
+    make_room(sittings, &sitting.seat);
+    push(sittings, sitting);
+}
+
+// Where there are too many, or too much was asked for them, it is emptied.
+fn make_room(sittings: &mut Vec<Sitting>, seat: &Seat)
     ensures { (sittings.new.items ≡ sittings.old.items) ⊎ (sittings.new.items ≡ []) }
 {
-    if sittings.len() >= VIEWERS {
+    if sittings.len() >= VIEWERS || asked_for(sittings.as_slice(), seat) > ASKED {
         sittings.clear();
     }
 }
 
-fn push(alloc: Global, sittings: &mut Vec<Sitting>, viewer: Option<Id>, labels: &Assignment)
-    ensures { (sittings.new.items ≡ sittings.old.items ++ (record { viewer = viewer; labels = labels.now }) ∷ [])
-        ⊎ (sittings.new.items ≡ sittings.old.items) }
-{
-    match labels.copy(alloc) {
-        Ok(labels) => push_sitting(sittings, Sitting { viewer, labels }),
-        Err(_) => (),
+// How many labels were asked for all of them and for this one.
+fn asked_for(sittings: &[Sitting], seat: &Seat) -> usize {
+    let mut asked = seat.answers.len();
+    'sittings: for sitting in sittings {
+        asked = asked.saturating_add(sitting.seat.answers.len());
     }
+    asked
 }
 
-fn push_sitting(sittings: &mut Vec<Sitting>, sitting: Sitting)
-    ensures { (sittings.new.items ≡ sittings.old.items ++ sitting ∷ []) ⊎ (sittings.new.items ≡ sittings.old.items) }
+fn push(sittings: &mut Vec<Sitting>, sitting: Sitting)
+    ensures { (sittings.new.items ≡ sittings.old.items ++ sitting ∷ [])
+        ⊎ (sittings.new.items ≡ sittings.old.items) }
 {
     match sittings.push(sitting) {
         Ok(()) => (),
         Err(_) => (),
     }
+}
+
+fn unsettle_in(alloc: Global, sittings: &mut Vec<Sitting>, touch: &Touch)
+    ensures { AreUnsettled touch.now sittings.old.items sittings.new.items }
+{
+    let kept = replace(sittings, Vec::new(alloc));
+    match unsettled_all(alloc, kept, touch) {
+        Ok(unsettled) => *sittings = unsettled,
+        Err(Memory) => (),
+    }
+}
+
+fn unsettled_all(
+    alloc: Global,
+    sittings: Vec<Sitting>,
+    touch: &Touch,
+) -> Result<Vec<Sitting>, Memory>
+    ensures { IfOk result (λ unsettled. AreUnsettled touch.now sittings.items unsettled.items) }
+{
+    let mut left = sittings;
+    let mut unsettled = Vec::new(alloc);
+    'sittings: while let Some(sitting) = left.pop() {
+        let sitting = unsettled_one(alloc, sitting, touch)?;
+        unsettled.push(sitting)?;
+    }
+    Ok(unsettled)
+}
+
+fn unsettled_one(alloc: Global, sitting: Sitting, touch: &Touch) -> Result<Sitting, Memory>
+    ensures viewer { IfOk result (λ s. s.viewer ≡ sitting.viewer) }
+    ensures seat { IfOk result (λ s. Unsettles touch.now sitting.viewer sitting.seat s.seat) }
+{
+    let Sitting { viewer, seat } = sitting;
+    let mut seat = seat;
+    seat.unsettle(alloc, &viewer, touch)?;
+    Ok(Sitting { viewer, seat })
 }
