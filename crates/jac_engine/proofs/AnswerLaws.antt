@@ -1,5 +1,5 @@
 -- From the run of a view to the answer of a request.
-use Rattle.std.proofs.Common.{◌≡◌, ◌<◌, ◌≤◌, ◌+◌, ◌^◌, refl, ap, sym, subst, ◌∙◌, arith, suc, ℕ, Bool, true, List, [], ◌∷◌, length, Some}
+use Rattle.std.proofs.Common.{◌≡◌, ◌<◌, ◌≤◌, ◌+◌, ◌^◌, refl, ap, sym, subst, ◌∙◌, arith, suc, ℕ, Bool, true, Option, List, [], ◌∷◌, length, Some}
 use Rattle.std.specs.Prelude.{slice_get}
 use Rattle.jac_lang.specs.Syntax.{Page as View, Application}
 use Rattle.jac_lang.specs.declared.pages.Verb.TheVariants as verbs
@@ -10,7 +10,7 @@ use Rattle.jac_rows.specs.declared.plain.PlainState.{PlainState}
 use Rattle.jac_rows.specs.declared.row.Row.{Row}
 use Rattle.jac_rows.specs.declared.state.State.{State}
 use Rattle.jac_plain.specs.Models.{AreFlat}
-use Rattle.jac_plain.specs.Policies.{IsSettled}
+use Rattle.jac_plain.specs.Policies.{IsLiveLabel, IsSettled, is_allowed}
 use Rattle.jac_plain.specs.Requests.{Visit, Worlds, page, page_of, after}
 use Rattle.jac_plain.specs.declared.page.Page.{Page}
 use Rattle.jac_plain.proofs.GoodLaws.{flat_after}
@@ -24,11 +24,14 @@ use Rattle.jac_replies.specs.declared.answer.Answer.{Answer}
 use Rattle.jac_replies.specs.declared.answer.Ask.{Ask}
 use Rattle.jac_route.specs.Parameters.{parameters}
 use Rattle.jac_engine.specs.Answers.{visit_of, page_answer, lazy_answer, IsLazyPage, worlds_after}
-use Rattle.jac_engine.specs.Prepared.{worlds_of}
+use Rattle.jac_engine.specs.Prepared.{AreCovered, worlds_of}
+use Rattle.jac_recall.specs.declared.touch.Touch.{Touch}
 use Rattle.jac_opening.specs.Served.{is_served_body}
 use Rattle.jac_engine.specs.Start.{IsStart}
 use Rattle.jac_engine.specs.Viewed.{Stores}
-use Rattle.jac_engine.specs.Views.{ran_by, ShowsView, LeavesTables}
+use Rattle.jac_engine.specs.Views.{ran_by, ShowsView, LeavesTables, SettlesView}
+use Rattle.jac_recall.specs.declared.seat.Seat.{Seat}
+use Rattle.jac_resolve.specs.Seated.{IsSeated}
 use Rattle.jac_engine.proofs.ServedLaws.{storing}
 use Rattle.jac_engine.proofs.ViewLaws.{ordered, may_show, may_store, sound_now, sound_next}
 
@@ -108,3 +111,27 @@ pub settled_after : (app : Application) (s : State) (ask : Ask) (place : ℕ) (c
     → IsSettled app (worlds_of (applied change s)) ask.viewer labels → IsSettled app (worlds_after app (worlds_of s) (visit_of app ask place)) ask.viewer labels
 settled_after app s ask place change labels stores settled =
     subst (λ (worlds : Worlds). IsSettled app worlds ask.viewer labels) (λ i w. stores.worlds w i) settled
+
+live_numbered : (app : Application) (s : State) (number k : ℕ) → IsLiveLabel app (worlds_of s) k → IsLiveLabel app (worlds_of (record s { number = number })) k
+live_numbered app s number k live = record { group = live.group; seen_by = live.seen_by; stands = live.stands }
+
+-- what is touched hangs on the tables alone, and not on the next number
+covered_numbered : (app : Application) (s later : State) (number : ℕ) (touch : Touch) → AreCovered app s later touch → AreCovered app s (record later { number = number }) touch
+covered_numbered app s later number touch covered viewer = record {
+  living = λ k free.
+      let both = (covered viewer).living k free in
+      (λ live. live_numbered app later number k (both.0 live), λ live. both.1 (live_numbered app (record later { number = number }) later.number k live));
+  allowed = λ k free w. (covered viewer).allowed k free w;
+}
+
+-- and so do the labels that are settled, and what was settled for somebody
+pub settles_view : (app : Application) (viewer : Option ℕ) (old later : State) (labels : List ℕ) (seat : Seat) (touch : Touch)
+    → ((app : Application) (s t : State) (viewer : Option ℕ) (labels : List ℕ) → s.tables ≡ t.tables → IsSettled app (worlds_of s) viewer labels → IsSettled app (worlds_of t) viewer labels)
+    → ((app : Application) (s t : State) (viewer : Option ℕ) (seat : Seat) → s.tables ≡ t.tables → IsSeated app (worlds_of s) viewer seat → IsSeated app (worlds_of t) viewer seat)
+    → IsSettled app (worlds_of later) viewer labels → IsSeated app (worlds_of later) viewer seat → AreCovered app old later touch
+    → SettlesView app viewer old later.tables labels seat touch
+settles_view app viewer old later labels seat touch settled_by seated_by settled seated covered = record {
+  settled = λ n. settled_by app later (record later { number = n }) viewer labels refl settled;
+  seated = λ n. seated_by app later (record later { number = n }) viewer seat refl seated;
+  touched = λ n. covered_numbered app old later n touch covered;
+}

@@ -50,19 +50,26 @@ allow_text true true = codes "GET, HEAD, POST"
 allow_text true false = codes "GET, HEAD"
 allow_text false post = codes "POST"
 
--- the request as the ordinary interpreter takes it: the place of its view, its parameters and who looks
+-- the request as the ordinary interpreter takes it: the place of its view, its parameters and who
+-- looks
 abbrev pub visit_of : Application → Ask → ℕ → Visit
-visit_of app ask n = record { view = n; env = parameters app.models (params_in (slice_get app.views n)) ask.pairs; viewer = ask.viewer }
+visit_of app ask n = record {
+  view = n;
+  env = parameters app.models (params_in (slice_get app.views n)) ask.pairs;
+  viewer = ask.viewer;
+}
 
--- a page under its labels: the interpreter's, in the world before the request that they show; and the labels are
--- settled for who asks, in the worlds after it
-pub record IsPage (app : Application) (before after : Worlds) (visit : Visit) (answer : Answer) : Type 0 where
+-- a page under its labels: the interpreter's, in the world before the request that they show; and
+-- the labels are settled for who asks, in the worlds after it
+pub record IsPage (app : Application) (before after : Worlds) (visit : Visit)
+    (answer : Answer) : Type 0 where
   pub labels : List ℕ
   pub made : answer ≡ page_answer labels (page (shown labels) app (before (shown labels)) visit)
   pub settled : IsSettled app after visit.viewer labels
 
--- a page for which the labels alone were resolved that it and their policies consulted: these labels
--- are steady for who asks, and it is the interpreter's page whatever is shown beside what was consulted
+-- a page for which the labels alone were resolved that it and their policies consulted: these
+-- labels are steady for who asks, and it is the interpreter's page whatever is shown beside what
+-- was consulted
 pub record IsLazyPage
     (app : Application) (worlds : Worlds) (visit : Visit) (answer : Answer) : Type 0 where
   pub labels : List ℕ
@@ -90,7 +97,8 @@ HasNumber worlds = (w : ℕ → Bool) → (worlds w).number < 2 ^ 40
 abbrev pub IsAnswerOf : Bool → Verb → Application → Worlds → Visit → Answer → Type 0
 IsAnswerOf lazy verbs.Get app worlds visit answer = IsShownPage lazy app worlds visit answer
 IsAnswerOf lazy verbs.Post app worlds visit answer =
-    ((answer ≡ refusal 507 None) × HasNoNumber worlds) ⊎ (HasNumber worlds × IsPage app worlds (worlds_after app worlds visit) visit answer)
+    ((answer ≡ refusal 507 None) × HasNoNumber worlds)
+    ⊎ (HasNumber worlds × IsPage app worlds (worlds_after app worlds visit) visit answer)
 
 -- by what the request finds
 abbrev pub IsAnswerBy : Bool → Found → Application → Worlds → Ask → Answer → Type 0
@@ -137,15 +145,18 @@ HasFormBy lazy (founds.WrongMethod allow) app answer =
 HasFormBy lazy (founds.View n pairs) app answer =
     HasFormOf lazy (method_in (slice_get app.views n)) answer
 
--- what is known of the answer where no world is: a refusal has its cause, and a page is one that a run made
+-- what is known of the answer where no world is: a refusal has its cause, and a page is one that a
+-- run made
 abbrev pub HasForm : Bool → Application → Ask → Answer → Type 0
 HasForm lazy app ask answer = HasFormBy lazy (found app ask.method ask.path) app answer
 
-abbrev pub left_by : Found → (ℕ → Bool) → Application → Ask → Option (List ℕ) → PlainState → PlainState
+abbrev pub left_by : Found → (ℕ → Bool) → Application → Ask → Option (List ℕ)
+    → PlainState → PlainState
 left_by founds.NoRoute w app ask shown t = t
 left_by (founds.WrongMethod allow) w app ask shown t = t
 left_by (founds.View n pairs) w app ask None t = t
-left_by (founds.View n pairs) w app ask (Some labels) t = after w app t (visit_of app (asked_with pairs ask) n)
+left_by (founds.View n pairs) w app ask (Some labels) t =
+    after w app t (visit_of app (asked_with pairs ask) n)
 
 -- what an answer leaves of the world of an assignment: what its view leaves, where it is a page
 abbrev pub left : (ℕ → Bool) → Application → Ask → Answer → PlainState → PlainState

@@ -1,5 +1,5 @@
 -- What answers a request before anything is stored.
-use Rattle.std.specs.Prelude.{◌≡◌, ℕ, Bool, IsTrue, Option, Some, None, is_some}
+use Rattle.std.specs.Prelude.{◌≡◌, ℕ, Bool, IsTrue, Option, Some, None, is_some, ⊤}
 use Rattle.jac_lang.specs.Syntax.{Application}
 use Rattle.jac_rows.specs.Good.{IsGood}
 use Rattle.jac_rows.specs.Project.{project_at}
@@ -12,6 +12,10 @@ use Rattle.jac_engine.specs.Answers.{IsAnswerTo, HasForm, left, is_stored}
 use Rattle.jac_engine.specs.Start.{IsStart}
 use Rattle.jac_replies.specs.declared.answer.Ask.{Ask}
 use Rattle.jac_engine.specs.declared.answer.Prepared.{Prepared}
+use Rattle.jac_engine.specs.declared.answer.Seated.{Seated}
+use Rattle.jac_recall.specs.Touched.{IsCovered}
+use Rattle.jac_recall.specs.declared.touch.Touch.{Touch}
+use Rattle.jac_resolve.specs.Seated.{IsSeated}
 
 -- the state after a change, if there is one
 abbrev pub applied_if : Option Change → State → State
@@ -22,13 +26,34 @@ applied_if (Some change) s = applied change s
 abbrev pub worlds_of : State → Worlds
 worlds_of s w = project_at w s
 
--- what answers a request on a state; where the state is told, the answer is the interpreter's in its worlds,
--- and what is to be stored shows under every assignment what the interpreter leaves, and stays good
+-- what answers a request on a state; where the state is told, the answer is the interpreter's in
+-- its worlds, and what is to be stored shows under every assignment what the interpreter leaves,
+-- and stays good
 pub record IsPrepared
     (lazy tells : Bool) (app : Application) (s : State) (ask : Ask) (p : Prepared) : Type 0 where
   pub form : HasForm lazy app ask p.answer
   pub stored : is_some p.change ≡ is_stored app ask p.answer
   pub answered : IsTrue tells → IsAnswerTo lazy app (worlds_of s) ask p.answer
-  pub worlds : IsTrue tells → (w : ℕ → Bool) → project_at w (applied_if p.change s) ≡ left w app ask p.answer (project_at w s)
+  pub worlds : IsTrue tells → (w : ℕ → Bool)
+      → project_at w (applied_if p.change s) ≡ left w app ask p.answer (project_at w s)
   pub start : IsTrue tells → IsStart app (applied_if p.change s)
-  pub good : IsTrue tells → IsGood (shapes_of app) s → IsGood (shapes_of app) (applied_if p.change s)
+  pub good : IsTrue tells → IsGood (shapes_of app) s
+      → IsGood (shapes_of app) (applied_if p.change s)
+
+-- for each viewer, what lies between the worlds of the two states is touched
+abbrev pub AreCovered : Application → State → State → Touch → Type 0
+AreCovered app s later touch = (viewer : Option ℕ)
+    → IsCovered app (worlds_of s) (worlds_of later) touch viewer
+
+-- a change has its touch
+abbrev pub IsTouchOf : Application → State → Option Change → Option Touch → Type 0
+IsTouchOf app s None touch = ⊤
+IsTouchOf app s (Some change) None = ⊥
+IsTouchOf app s (Some change) (Some touch) = AreCovered app s (applied change s) touch
+
+-- what was settled for who asks is so behind the change, which has its touch
+pub record KeepsSeat (tells : Bool) (app : Application) (s : State) (viewer : Option ℕ)
+    (it : Seated) : Type 0 where
+  pub seated : IsTrue tells
+      → IsSeated app (worlds_of (applied_if it.prepared.change s)) viewer it.seat
+  pub touched : IsTrue tells → IsTouchOf app s it.prepared.change it.touch

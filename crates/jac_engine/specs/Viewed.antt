@@ -22,7 +22,8 @@ refused status allow = record { answer = refusal status allow; change = None }
 
 -- a GET changes nothing
 pub record IsShown
-    (lazy tells : Bool) (app : Application) (s : State) (visit : Visit) (p : Prepared) : Type 0 where
+    (lazy tells : Bool) (app : Application) (s : State) (visit : Visit)
+    (p : Prepared) : Type 0 where
   pub change : p.change ≡ None
   pub form : IsSomeShownPage lazy p.answer
   pub shows : IsTrue tells → IsShownPage lazy app (worlds_of s) visit p.answer
@@ -39,11 +40,13 @@ pub record Stores (app : Application) (s : State) (visit : Visit) (change : Chan
   pub start : IsStart app (applied change s)
 
 -- a POST with a page
-pub record IsStored (tells : Bool) (app : Application) (s : State) (visit : Visit) (p : Prepared) : Type 0 where
+pub record IsStored (tells : Bool) (app : Application) (s : State) (visit : Visit)
+    (p : Prepared) : Type 0 where
   pub change : Change
   pub changes : p.change ≡ Some change
   pub form : IsSomePage p.answer
-  pub shows : IsTrue tells → IsPage app (worlds_of s) (worlds_after app (worlds_of s) visit) visit p.answer
+  pub shows : IsTrue tells
+      → IsPage app (worlds_of s) (worlds_after app (worlds_of s) visit) visit p.answer
   pub stores : IsTrue tells → Stores app s visit change
 
 abbrev pub IsPreparedBy : Bool → Verb → Bool → Application → State → Visit → Prepared → Type 0

@@ -9,26 +9,28 @@ ghost use Rattle.jac_keep.specs.Kept.{applied};
 ghost use Rattle.jac_rows.specs.Good.{IsSound};
 ghost use Rattle.jac_route.specs.Found.{found, IsWithin};
 ghost use Rattle.jac_route.specs.Routes.{AreRoutes};
-ghost use Rattle.jac_engine.specs.Answers.{asked_with, visit_of, page_answer, lazy_answer, is_post, stores};
-ghost use Rattle.jac_plain.specs.Policies.{IsSettled};
-ghost use Rattle.jac_engine.specs.Prepared.{IsPrepared, applied_if, worlds_of};
+ghost use Rattle.jac_engine.specs.Answers.{page_answer, lazy_answer, is_post, stores};
+ghost use Rattle.jac_resolve.specs.Seated.{IsSeated};
+ghost use Rattle.jac_engine.specs.Prepared.{IsPrepared, IsTouchOf, KeepsSeat, applied_if, worlds_of};
 ghost use Rattle.jac_opening.specs.Served.{are_served, is_served_body};
 ghost use Rattle.jac_engine.specs.Start.{IsStart};
-ghost use Rattle.jac_engine.specs.Visits.{app_of, visit_at};
+ghost use Rattle.jac_engine.specs.Visits.{app_of, visit_at, viewer_at};
 ghost use Rattle.jac_engine.specs.Viewed.{IsPreparedBy, IsPreparedFor, IsShown};
 
 use crate::lookup::{Visited, view_at};
 use crate::refusal::{refuse, refuse_method};
-use crate::visit::{Labelled, known_page, shown_lazily, shown_page, stored_page};
+use crate::visit::{Labelled, shown_lazily, shown_page, stored_page};
 use jac_keep::{Change, Keeper, Stop};
-use jac_lang::{App, Verb, View};
+use jac_lang::{App, Verb};
 use jac_lazy::LazyPage;
 use jac_opening::Service;
 use jac_plain::Page;
+use jac_recall::{Seat, Touch};
 use jac_replies::{Answer, Ask};
-use jac_route::{Found, Pairs, Routes, find};
+use jac_resolve::empty_is_seated;
+use jac_route::{Found, Routes, find};
 use jac_value::Memory;
-use jac_world::{Assignment, Steps};
+use jac_world::Steps;
 use std::alloc::Global;
 use std::sync::ledger::Ledger;
 
@@ -39,6 +41,24 @@ const LAST_NUMBER: u64 = 1 << 40;
 pub struct Prepared {
     pub answer: Answer,
     pub change: Option<Change>,
+}
+
+/// What was prepared, what is settled for who asks on what it leaves, and what its change may
+/// touch, where there is one.
+#[derive(Debug, Drop)]
+pub struct Seated {
+    pub prepared: Prepared,
+    pub seat: Seat,
+    pub touch: Option<Touch>,
+}
+
+// How the labels of a page are found.
+#[derive(Drop)]
+struct Manner {
+    // Of a GET's page only those are resolved that it consults.
+    lazy: bool,
+    // What was settled for who asks.
+    seat: Seat,
 }
 
 /// Answers the request on what the keeper keeps, and changes nothing. The labels of a page are
@@ -65,133 +85,87 @@ pub fn prepare<K: Keeper, L: Ledger, M: Ledger>(
         → splits.new ≡ splits.old }
     ensures reads { Reads (K.seen keeper.old) (K.seen keeper.new) result }
 {
-    let _app = service.app();
-    let prepared = prepare_found(alloc, service, keeper, ask, lazy, splits, evaluations)?;
-    Ok(prepared)
+    empty_is_seated();
+    let seat = Seat::empty(alloc);
+    let manner = Manner { lazy, seat };
+    let seated = prepare_by(alloc, service, keeper, ask, manner, splits, evaluations)?;
+    Ok(prepared_of(seated))
 }
 
-/// The page of a GET, where these labels were settled for who looks, on what the keeper keeps; none where the request asks
-/// for anything else. No policy is asked.
-pub fn show_again<K: Keeper>(
+fn prepared_of(seated: Seated) -> Prepared
+    ensures { result ≡ seated.prepared }
+{
+    let Seated {
+        prepared,
+        seat: _,
+        touch: _,
+    } = seated;
+    prepared
+}
+
+/// The same where `lazy` isn't set, over what was settled for who asks on what the keeper keeps:
+/// what is due is settled again, and no policy is asked whose answer is remembered.
+pub fn prepare_seated<K: Keeper, L: Ledger, M: Ledger>(
     alloc: Global,
     service: &Service,
     keeper: &mut K,
     ask: &Ask,
-    labels: Assignment,
-) -> Result<Option<Prepared>, Stop>
+    seat: Seat,
+    splits: &mut Steps<L>,
+    evaluations: &mut Steps<M>,
+) -> Result<Seated, Stop>
     requires attached { IsTrue (K.seen keeper.old).store.attached }
     requires start { IsTrue (K.seen keeper.old).tells
         → IsStart (application_of service.now) (K.seen keeper.old).state }
-    requires settled { IsTrue (K.seen keeper.old).tells
-        → IsSettled (application_of service.now) (worlds_of (K.seen keeper.old).state) ask.now.viewer labels }
-    ensures prepared { IfOk result (λ p. IfSome p
-        (IsPrepared false (K.seen keeper.new).tells
-        (application_of service.now) (K.seen keeper.old).state ask.now)) }
+    requires seated { IsTrue (K.seen keeper.old).tells
+        → IsSeated (application_of service.now) (worlds_of (K.seen keeper.old).state)
+        ask.now.viewer seat }
+    ensures prepared { IfOk result (λ r. IsPrepared false (K.seen keeper.new).tells
+        (application_of service.now) (K.seen keeper.old).state ask.now r.prepared) }
+    ensures seated { IsTrue (K.seen keeper.new).tells → IfOk result (λ r. IsSeated
+        (application_of service.now)
+        (worlds_of (applied_if r.prepared.change (K.seen keeper.old).state))
+        ask.now.viewer r.seat) }
+    ensures touched { IsTrue (K.seen keeper.new).tells → IfOk result (λ r. IsTouchOf
+        (application_of service.now) (K.seen keeper.old).state r.prepared.change r.touch) }
+    ensures unsplit { IfOk result (λ r. IsNone r.prepared.change → splits.new ≡ splits.old) }
+    ensures reading { stores (application_of service.now) ask.now ≡ false
+        → splits.new ≡ splits.old }
     ensures reads { Reads (K.seen keeper.old) (K.seen keeper.new) result }
 {
-    let app = service.app();
-    let routes = service.routes();
-    match show_found_again(alloc, app, routes, keeper, ask, labels)? {
-        Some(prepared) => Ok(Some(prepared)),
-        None => Ok(None),
-    }
+    let manner = Manner { lazy: false, seat };
+    let seated = prepare_by(alloc, service, keeper, ask, manner, splits, evaluations)?;
+    Ok(seated)
 }
 
-// The same, by what the request finds.
-fn show_found_again<K: Keeper>(
+// The same in either manner.
+fn prepare_by<K: Keeper, L: Ledger, M: Ledger>(
     alloc: Global,
-    app: &App,
-    routes: &Routes,
+    service: &Service,
     keeper: &mut K,
     ask: &Ask,
-    labels: Assignment,
-) -> Result<Option<Prepared>, Stop>
-    requires attached { IsTrue (K.seen keeper.old).store.attached }
-    requires served { are_served (application_of app.now) ≡ true }
-    requires routes { AreRoutes (application_of app.now) routes.now }
-    requires start { IsTrue (K.seen keeper.old).tells
-        → IsStart (application_of app.now) (K.seen keeper.old).state }
-    requires settled { IsTrue (K.seen keeper.old).tells
-        → IsSettled (application_of app.now) (worlds_of (K.seen keeper.old).state) ask.now.viewer labels }
-    ensures prepared { IfOk result (λ p. IfSome p
-        (IsPreparedFor false (found (application_of app.now) ask.now.method ask.now.path)
-        (K.seen keeper.new).tells (application_of app.now)
-        (K.seen keeper.old).state ask.now)) }
-    ensures reads { Reads (K.seen keeper.old) (K.seen keeper.new) result }
-{
-    let found = find_view(alloc, app, routes, ask)?;
-    match found {
-        Found::View { view, pairs } => {
-            let prepared = show_view_again(alloc, app, keeper, ask, &pairs, view, labels)?;
-            Ok(prepared)
-        }
-        Found::NoRoute => Ok(None),
-        Found::WrongMethod(_) => Ok(None),
-    }
-}
-
-// The same, by the view at this place.
-fn show_view_again<K: Keeper>(
-    alloc: Global,
-    app: &App,
-    keeper: &mut K,
-    ask: &Ask,
-    path: &Pairs,
-    place: u32,
-    labels: Assignment,
-) -> Result<Option<Prepared>, Stop>
-    requires attached { IsTrue (K.seen keeper.old).store.attached }
-    requires served { are_served (application_of app.now) ≡ true }
-    requires start { IsTrue (K.seen keeper.old).tells
-        → IsStart (application_of app.now) (K.seen keeper.old).state }
-    requires settled { IsTrue (K.seen keeper.old).tells
-        → IsSettled (application_of app.now) (worlds_of (K.seen keeper.old).state) ask.now.viewer labels }
-    requires within { place < length app.now.views }
-    ensures prepared { IfOk result (λ p. IfSome p
-        (IsPreparedBy false (method_in (slice_get (application_of app.now).views place))
-        (K.seen keeper.new).tells (application_of app.now)
-        (K.seen keeper.old).state (visit_of (application_of app.now) (asked_with path.now ask.now) place))) }
-    ensures reads { Reads (K.seen keeper.old) (K.seen keeper.new) result }
-{
-    let view = view_at(app, place);
-    match view.method {
-        Verb::Get => {
-            let prepared = show_known(alloc, app, keeper, ask, path, place, view, labels)?;
-            Ok(Some(prepared))
-        }
-        Verb::Post => Ok(None),
-    }
-}
-
-// The page of a view that shows, under labels that are known to be settled.
-fn show_known<K: Keeper>(
-    alloc: Global,
-    app: &App,
-    keeper: &mut K,
-    ask: &Ask,
-    path: &Pairs,
-    place: u32,
-    view: &View,
-    labels: Assignment,
-) -> Result<Prepared, Stop>
+    manner: Manner,
+    splits: &mut Steps<L>,
+    evaluations: &mut Steps<M>,
+) -> Result<Seated, Stop>
     requires attached { IsTrue (K.seen keeper.old).store.attached }
     requires start { IsTrue (K.seen keeper.old).tells
-        → IsStart (application_of app.now) (K.seen keeper.old).state }
-    requires settled { IsTrue (K.seen keeper.old).tells
-        → IsSettled (application_of app.now) (worlds_of (K.seen keeper.old).state) ask.now.viewer labels }
-    requires view { slice_get (application_of app.now).views place ≡ Some (page_of view.now) }
-    requires served { is_served_body (application_of app.now).models verbs.Get (statements_of view.now.body) ≡ true }
-    ensures shown { IfOk result (IsShown false (K.seen keeper.new).tells
-        (application_of app.now) (K.seen keeper.old).state
-        (visit_of (application_of app.now) (asked_with path.now ask.now) place)) }
+        → IsStart (application_of service.now) (K.seen keeper.old).state }
+    requires seated { IsTrue (K.seen keeper.old).tells
+        → IsSeated (application_of service.now) (worlds_of (K.seen keeper.old).state)
+        ask.now.viewer manner.seat }
+    ensures prepared { IfOk result (λ r. IsPrepared manner.lazy (K.seen keeper.new).tells
+        (application_of service.now) (K.seen keeper.old).state ask.now r.prepared) }
+    ensures keeps { IfOk result (KeepsSeat (K.seen keeper.new).tells
+        (application_of service.now) (K.seen keeper.old).state ask.now.viewer) }
+    ensures unsplit { IfOk result (λ r. IsNone r.prepared.change → splits.new ≡ splits.old) }
+    ensures reading { stores (application_of service.now) ask.now ≡ false
+        → splits.new ≡ splits.old }
     ensures reads { Reads (K.seen keeper.old) (K.seen keeper.new) result }
 {
-    let number = keeper.number()?;
-    let page = known_page(alloc, app, keeper, ask, path, view, number, &labels)?;
-    Ok(Prepared {
-        answer: answer_of(Labelled { page, labels }),
-        change: None,
-    })
+    let _app = service.app();
+    let seated = prepare_found(alloc, service, keeper, ask, manner, splits, evaluations)?;
+    Ok(seated)
 }
 
 // The same, by what the request finds.
@@ -200,17 +174,22 @@ fn prepare_found<K: Keeper, L: Ledger, M: Ledger>(
     service: &Service,
     keeper: &mut K,
     ask: &Ask,
-    lazy: bool,
+    manner: Manner,
     splits: &mut Steps<L>,
     evaluations: &mut Steps<M>,
-) -> Result<Prepared, Stop>
+) -> Result<Seated, Stop>
     requires attached { IsTrue (K.seen keeper.old).store.attached }
     requires start { IsTrue (K.seen keeper.old).tells
         → IsStart (application_of service.now) (K.seen keeper.old).state }
-    ensures prepared { IfOk result (IsPreparedFor lazy
+    requires seated { IsTrue (K.seen keeper.old).tells
+        → IsSeated (application_of service.now) (worlds_of (K.seen keeper.old).state)
+        ask.now.viewer manner.seat }
+    ensures prepared { IfOk result (λ r. IsPreparedFor manner.lazy
         (found (application_of service.now) ask.now.method ask.now.path) (K.seen keeper.new).tells
-        (application_of service.now) (K.seen keeper.old).state ask.now) }
-    ensures unsplit { IfOk result (λ p. IsNone p.change → splits.new ≡ splits.old) }
+        (application_of service.now) (K.seen keeper.old).state ask.now r.prepared) }
+    ensures keeps { IfOk result (KeepsSeat (K.seen keeper.new).tells
+        (application_of service.now) (K.seen keeper.old).state ask.now.viewer) }
+    ensures unsplit { IfOk result (λ r. IsNone r.prepared.change → splits.new ≡ splits.old) }
     ensures reading { stores (application_of service.now) ask.now ≡ false
         → splits.new ≡ splits.old }
     ensures reads { Reads (K.seen keeper.old) (K.seen keeper.new) result }
@@ -226,24 +205,36 @@ fn prepare_found<K: Keeper, L: Ledger, M: Ledger>(
                 place: view,
                 view: view_at(app, view),
             };
-            let prepared = answer_view(alloc, keeper, &visited, lazy, splits, evaluations)?;
-            Ok(prepared)
+            let seated = answer_view(alloc, keeper, &visited, manner, splits, evaluations)?;
+            Ok(seated)
         }
         Found::NoRoute => {
             let prepared = refuse(alloc, 404, None)?;
-            Ok(prepared)
+            Ok(unmoved(prepared, manner.seat))
         }
         Found::WrongMethod(allow) => {
             let prepared = refuse_method(alloc, allow)?;
-            Ok(prepared)
+            Ok(unmoved(prepared, manner.seat))
         }
+    }
+}
+
+// Nothing is stored, and what was settled stays so.
+fn unmoved(prepared: Prepared, seat: Seat) -> Seated
+    ensures { result ≡ record { prepared = prepared; seat = seat; touch = None } }
+{
+    Seated {
+        prepared,
+        seat,
+        touch: None,
     }
 }
 
 // What the request finds: a view is one of the application's.
 fn find_view(alloc: Global, app: &App, routes: &Routes, ask: &Ask) -> Result<Found, Memory>
     requires routes { AreRoutes (application_of app.now) routes.now }
-    ensures found { IfOk result (λ f. f ≡ found (application_of app.now) ask.now.method ask.now.path) }
+    ensures found { IfOk result (λ f.
+        f ≡ found (application_of app.now) ask.now.method ask.now.path) }
     ensures within { IfOk result (λ f. IsWithin (length app.now.views) f) }
 {
     find(alloc, routes, &ask.method, &ask.path)
@@ -253,10 +244,10 @@ fn answer_view<K: Keeper, L: Ledger, M: Ledger>(
     alloc: Global,
     keeper: &mut K,
     visited: &Visited<'_>,
-    lazy: bool,
+    manner: Manner,
     splits: &mut Steps<L>,
     evaluations: &mut Steps<M>,
-) -> Result<Prepared, Stop>
+) -> Result<Seated, Stop>
     requires attached { IsTrue (K.seen keeper.old).store.attached }
     requires served { are_served (app_of visited.now) ≡ true }
     requires few { length (app_of visited.now).models ≤ 64 }
@@ -265,23 +256,27 @@ fn answer_view<K: Keeper, L: Ledger, M: Ledger>(
     requires within { visited.now.place < length visited.now.app.now.views }
     requires view { slice_get (app_of visited.now).views visited.now.place
         ≡ Some (page_of visited.now.view.now) }
-    ensures prepared { IfOk result (IsPreparedBy lazy
+    requires seated { IsTrue (K.seen keeper.old).tells → IsSeated (app_of visited.now)
+        (worlds_of (K.seen keeper.old).state) (viewer_at visited.now) manner.seat }
+    ensures prepared { IfOk result (λ r. IsPreparedBy manner.lazy
         (method_in (slice_get (app_of visited.now).views visited.now.place))
-        (K.seen keeper.new).tells
-        (app_of visited.now) (K.seen keeper.old).state (visit_at visited.now)) }
-    ensures unsplit { IfOk result (λ p. IsNone p.change → splits.new ≡ splits.old) }
+        (K.seen keeper.new).tells (app_of visited.now) (K.seen keeper.old).state
+        (visit_at visited.now) r.prepared) }
+    ensures keeps { IfOk result (KeepsSeat (K.seen keeper.new).tells (app_of visited.now)
+        (K.seen keeper.old).state (viewer_at visited.now)) }
+    ensures unsplit { IfOk result (λ r. IsNone r.prepared.change → splits.new ≡ splits.old) }
     ensures reading { is_post (method_in (slice_get (app_of visited.now).views visited.now.place))
         ≡ false → splits.new ≡ splits.old }
     ensures reads { Reads (K.seen keeper.old) (K.seen keeper.new) result }
 {
     match visited.view.method {
         Verb::Get => {
-            let prepared = show_by(alloc, keeper, visited, lazy, evaluations)?;
-            Ok(prepared)
+            let seated = show_by(alloc, keeper, visited, manner, evaluations)?;
+            Ok(seated)
         }
         Verb::Post => {
-            let prepared = store(alloc, keeper, visited, splits, evaluations)?;
-            Ok(prepared)
+            let seated = store(alloc, keeper, visited, manner.seat, splits, evaluations)?;
+            Ok(seated)
         }
     }
 }
@@ -291,9 +286,9 @@ fn show_by<K: Keeper, M: Ledger>(
     alloc: Global,
     keeper: &mut K,
     visited: &Visited<'_>,
-    lazy: bool,
+    manner: Manner,
     evaluations: &mut Steps<M>,
-) -> Result<Prepared, Stop>
+) -> Result<Seated, Stop>
     requires attached { IsTrue (K.seen keeper.old).store.attached }
     requires start { IsTrue (K.seen keeper.old).tells
         → IsStart (app_of visited.now) (K.seen keeper.old).state }
@@ -302,23 +297,30 @@ fn show_by<K: Keeper, M: Ledger>(
         ≡ Some (page_of visited.now.view.now) }
     requires served { is_served_body (app_of visited.now).models verbs.Get
         (statements_of visited.now.view.now.body) ≡ true }
-    ensures shown { IfOk result (IsShown lazy (K.seen keeper.new).tells
-        (app_of visited.now) (K.seen keeper.old).state (visit_at visited.now)) }
+    requires seated { IsTrue (K.seen keeper.old).tells → IsSeated (app_of visited.now)
+        (worlds_of (K.seen keeper.old).state) (viewer_at visited.now) manner.seat }
+    ensures shown { IfOk result (λ r. IsShown manner.lazy (K.seen keeper.new).tells
+        (app_of visited.now) (K.seen keeper.old).state (visit_at visited.now) r.prepared) }
+    ensures keeps { IfOk result (KeepsSeat (K.seen keeper.new).tells (app_of visited.now)
+        (K.seen keeper.old).state (viewer_at visited.now)) }
     ensures reads { Reads (K.seen keeper.old) (K.seen keeper.new) result }
 {
+    let Manner { lazy, seat } = manner;
     if lazy {
-        return show_lazily(alloc, keeper, visited, evaluations);
+        let prepared = show_lazily(alloc, keeper, visited, evaluations)?;
+        return Ok(unmoved(prepared, seat));
     }
-    show(alloc, keeper, visited, evaluations)
+    show(alloc, keeper, visited, seat, evaluations)
 }
 
-// The page of a view that shows, after all live labels were resolved.
+// The page of a view that shows, under the labels of the seat.
 fn show<K: Keeper, M: Ledger>(
     alloc: Global,
     keeper: &mut K,
     visited: &Visited<'_>,
+    seat: Seat,
     evaluations: &mut Steps<M>,
-) -> Result<Prepared, Stop>
+) -> Result<Seated, Stop>
     requires attached { IsTrue (K.seen keeper.old).store.attached }
     requires start { IsTrue (K.seen keeper.old).tells
         → IsStart (app_of visited.now) (K.seen keeper.old).state }
@@ -326,24 +328,24 @@ fn show<K: Keeper, M: Ledger>(
         ≡ Some (page_of visited.now.view.now) }
     requires served { is_served_body (app_of visited.now).models verbs.Get
         (statements_of visited.now.view.now.body) ≡ true }
-    ensures shown { IfOk result (IsShown false (K.seen keeper.new).tells
-        (app_of visited.now) (K.seen keeper.old).state (visit_at visited.now)) }
+    requires seated { IsTrue (K.seen keeper.old).tells → IsSeated (app_of visited.now)
+        (worlds_of (K.seen keeper.old).state) (viewer_at visited.now) seat }
+    ensures shown { IfOk result (λ r. IsShown false (K.seen keeper.new).tells
+        (app_of visited.now) (K.seen keeper.old).state (visit_at visited.now) r.prepared) }
+    ensures keeps { IfOk result (KeepsSeat (K.seen keeper.new).tells (app_of visited.now)
+        (K.seen keeper.old).state (viewer_at visited.now)) }
     ensures reads { Reads (K.seen keeper.old) (K.seen keeper.new) result }
 {
     let number = keeper.number()?;
-    let shown = shown_page(
-        alloc,
-        visited.app,
-        keeper,
-        visited.ask,
-        visited.path,
-        visited.view,
-        number,
-        evaluations,
-    )?;
-    Ok(Prepared {
-        answer: answer_of(shown),
-        change: None,
+    let mut seat = seat;
+    let shown = shown_page(alloc, keeper, visited, number, &mut seat, evaluations)?;
+    Ok(Seated {
+        prepared: Prepared {
+            answer: answer_of(shown),
+            change: None,
+        },
+        seat,
+        touch: None,
     })
 }
 
@@ -377,9 +379,10 @@ fn store<K: Keeper, L: Ledger, M: Ledger>(
     alloc: Global,
     keeper: &mut K,
     visited: &Visited<'_>,
+    seat: Seat,
     splits: &mut Steps<L>,
     evaluations: &mut Steps<M>,
-) -> Result<Prepared, Stop>
+) -> Result<Seated, Stop>
     requires attached { IsTrue (K.seen keeper.old).store.attached }
     requires start { IsTrue (K.seen keeper.old).tells
         → IsStart (app_of visited.now) (K.seen keeper.old).state }
@@ -389,30 +392,37 @@ fn store<K: Keeper, L: Ledger, M: Ledger>(
     requires served { is_served_body (app_of visited.now).models verbs.Post
         (statements_of visited.now.view.now.body) ≡ true }
     requires few { length (app_of visited.now).models ≤ 64 }
-    ensures stored { IfOk result (λ p. IsPreparedBy false verbs.Post (K.seen keeper.new).tells
-        (app_of visited.now) (K.seen keeper.old).state (visit_at visited.now) p) }
-    ensures unsplit { IfOk result (λ p. IsNone p.change → splits.new ≡ splits.old) }
+    requires seated { IsTrue (K.seen keeper.old).tells → IsSeated (app_of visited.now)
+        (worlds_of (K.seen keeper.old).state) (viewer_at visited.now) seat }
+    ensures stored { IfOk result (λ r. IsPreparedBy false verbs.Post (K.seen keeper.new).tells
+        (app_of visited.now) (K.seen keeper.old).state (visit_at visited.now) r.prepared) }
+    ensures keeps { IfOk result (KeepsSeat (K.seen keeper.new).tells (app_of visited.now)
+        (K.seen keeper.old).state (viewer_at visited.now)) }
+    ensures unsplit { IfOk result (λ r. IsNone r.prepared.change → splits.new ≡ splits.old) }
     ensures reads { Reads (K.seen keeper.old) (K.seen keeper.new) result }
 {
     let number = keeper.number()?;
     if number == LAST_NUMBER {
         let prepared = refuse(alloc, 507, None)?;
-        return Ok(prepared);
+        return Ok(unmoved(prepared, seat));
     }
+    let mut seat = seat;
     let stored = stored_page(
         alloc,
-        visited.app,
         keeper,
-        visited.ask,
-        visited.path,
-        visited.view,
+        visited,
         number,
+        &mut seat,
         splits,
         evaluations,
     )?;
-    Ok(Prepared {
-        answer: answer_of(stored.shown),
-        change: Some(stored.change),
+    Ok(Seated {
+        prepared: Prepared {
+            answer: answer_of(stored.shown),
+            change: Some(stored.change),
+        },
+        seat,
+        touch: Some(stored.touch),
     })
 }
 
@@ -466,14 +476,17 @@ fn lazy_answer_of(made: LazyPage) -> Answer
     }
 }
 
-/// Stores what was prepared, by one call of the keeper's `apply` where there is a change. It takes no memory
-/// of its own.
+/// Stores what was prepared, by one call of the keeper's `apply` where there is a change. It takes
+/// no memory of its own.
 pub fn commit<K: Keeper>(alloc: Global, keeper: &mut K, prepared: Prepared) -> Result<Answer, Stop>
     requires attached { IsTrue (K.seen keeper.old).store.attached }
-    requires good { IsTrue (K.seen keeper.old).tells → IfSome prepared.change (λ c. IsSound (applied c (K.seen keeper.old).state)) }
+    requires good { IsTrue (K.seen keeper.old).tells
+        → IfSome prepared.change (λ c. IsSound (applied c (K.seen keeper.old).state)) }
     ensures answer { IfOk result (λ a. a ≡ prepared.answer) }
-    ensures applied { IsTrue (K.seen keeper.new).tells → OnOk result ((K.seen keeper.new).state ≡ applied_if prepared.change (K.seen keeper.old).state) }
-    ensures refused { IsTrue (K.seen keeper.new).tells → OnErr result ((K.seen keeper.new).state ≡ (K.seen keeper.old).state) }
+    ensures applied { IsTrue (K.seen keeper.new).tells → OnOk result ((K.seen keeper.new).state
+        ≡ applied_if prepared.change (K.seen keeper.old).state) }
+    ensures refused { IsTrue (K.seen keeper.new).tells
+        → OnErr result ((K.seen keeper.new).state ≡ (K.seen keeper.old).state) }
     ensures told { IsTrue (K.seen keeper.new).tells → IsTrue (K.seen keeper.old).tells }
     ensures cause { HasCause (K.seen keeper.old).faults (K.seen keeper.new).faults result }
     ensures attached { (K.seen keeper.new).store ≡ (K.seen keeper.old).store }

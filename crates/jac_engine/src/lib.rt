@@ -7,4 +7,4 @@ mod parameters;
 mod refusal;
 mod visit;
 
-pub use answer::{Prepared, commit, prepare, show_again};
+pub use answer::{Prepared, Seated, commit, prepare, prepare_seated};

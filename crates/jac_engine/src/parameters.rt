@@ -11,7 +11,8 @@ use jac_route::{Pairs, bind};
 use jac_value::{Memory, Txt, Value};
 use std::alloc::Global;
 
-/// The parameters of the view, alike under every assignment: pairs of the path come before the others.
+/// The parameters of the view, alike under every assignment: pairs of the path come before the
+/// others.
 pub(crate) fn bind_alike(
     alloc: Global,
     app: &App,
@@ -19,7 +20,8 @@ pub(crate) fn bind_alike(
     path: &Pairs,
     pairs: &Pairs,
 ) -> Result<Env, Memory>
-    ensures { IfOk result (λ env. (w : ℕ → Bool) → env_at w env ≡ parameters (application_of app.now).models view.now.params (path.now ++ pairs.now)) }
+    ensures { IfOk result (λ env. (w : ℕ → Bool) → env_at w env
+        ≡ parameters (application_of app.now).models view.now.params (path.now ++ pairs.now)) }
 {
     let bindings = bind(alloc, &view.params, app, path, pairs)?.into_vec();
     let env = alike(alloc, bindings.as_slice())?;
@@ -42,7 +44,8 @@ fn add_alike(
     env: &mut Vec<(Txt, Facet<Value>)>,
     binding: &Binding,
 ) -> Result<(), Memory>
-    ensures { OnOk result ((w : ℕ → Bool) → env_at w env.new.items ≡ env_at w env.old.items ++ binding.now ∷ []) }
+    ensures { OnOk result ((w : ℕ → Bool)
+        → env_at w env.new.items ≡ env_at w env.old.items ++ binding.now ∷ []) }
 {
     let name = binding.name.copy(alloc)?;
     let value = binding.bound_to.copy(alloc)?;

@@ -4,27 +4,28 @@ ghost use Rattle.jac_io.specs.Faults.{Rose};
 ghost use Rattle.jac_keep.specs.KeeperSeen.{IsLeft};
 ghost use Rattle.jac_keep.specs.Kept.{applied};
 ghost use Rattle.jac_keep.specs.Worked.{state_of, IsTold, ReadsWork, WritesWork};
-ghost use Rattle.jac_lang.specs.Mirror.{application_of, page_of as view_of, statements_of};
+ghost use Rattle.jac_lang.specs.Mirror.{page_of as view_of, statements_of};
+ghost use Rattle.jac_rows.specs.Good.{IsSound};
 ghost use Rattle.jac_stmt.specs.Runs.{AreRunnable};
 ghost use Rattle.jac_write.specs.Writes.{StaysTold};
 ghost use Rattle.jac_plain.specs.Policies.{IsSettled};
 ghost use Rattle.jac_plain.specs.Reading.{are_reading};
-ghost use Rattle.jac_engine.specs.Answers.{asked_with};
-ghost use Rattle.jac_engine.specs.Prepared.{worlds_of};
-ghost use Rattle.jac_engine.specs.Visits.{app_of, visit_at};
+ghost use Rattle.jac_resolve.specs.Seated.{IsSeated};
+ghost use Rattle.jac_engine.specs.Prepared.{worlds_of, AreCovered};
+ghost use Rattle.jac_engine.specs.Visits.{app_of, found_view, request_at, viewer_at, visit_at};
 ghost use Rattle.jac_lazy.specs.Steady.{IsPageOf, IsSteady};
-ghost use Rattle.jac_engine.specs.Views.{IsMade, IsReady, ShowsView, LeavesTables, RunsView};
+ghost use Rattle.jac_engine.specs.Views.{IsMade, IsReady, SettlesView, ShowsView, LeavesTables, RunsView};
 
 use crate::lookup::Visited;
 use crate::parameters::bind_alike;
 use jac_keep::{Change, Keeper, Stop, Work};
-use jac_lang::{App, View};
 use jac_lazy::{LazyPage, page_lazily};
 use jac_plain::{Ctx, Page};
 use jac_pruned::{Support, run_body_at};
-use jac_replies::Ask;
-use jac_resolve::{resolve, settled_by_tables};
-use jac_route::{Pairs, bind};
+use jac_recall::{Seat, Touch};
+use jac_resolve::{seat_moves, seated_by_tables, settle_seat, settled_by_tables};
+use jac_rests::touch_of;
+use jac_route::bind;
 use jac_stmt::{Out, exec, page_of};
 use jac_world::{Assignment, Guard, Steps};
 use std::alloc::Global;
@@ -37,37 +38,54 @@ pub(crate) struct Labelled {
     pub(crate) labels: Assignment,
 }
 
-/// A page, and what is to be stored with it.
+/// A page, and what the change that comes with it may touch.
+#[derive(Drop)]
+pub(crate) struct Touching {
+    pub(crate) shown: Labelled,
+    pub(crate) touch: Touch,
+}
+
+/// A page, what is to be stored with it, and what that may touch.
 #[derive(Drop)]
 pub(crate) struct Stored {
     pub(crate) shown: Labelled,
     pub(crate) change: Change,
+    pub(crate) touch: Touch,
 }
 
-/// The page of the view, which writes nothing, under labels that are settled on what the keeper keeps. It is run
-/// in the one world that they show.
+/// The page of the view, which writes nothing, under labels that are settled on what the keeper
+/// keeps: those of the seat, once what is due was settled again. It is run in the one world that
+/// they show.
 pub(crate) fn shown_page<K: Keeper, M: Ledger>(
     alloc: Global,
-    app: &App,
     keeper: &mut K,
-    ask: &Ask,
-    path: &Pairs,
-    view: &View,
+    visited: &Visited<'_>,
     number: u64,
+    seat: &mut Seat,
     evaluations: &mut Steps<M>,
 ) -> Result<Labelled, Stop>
     requires attached { IsTrue (K.seen keeper.old).store.attached }
-    requires reading { are_reading (statements_of view.now.body) ≡ true }
-    requires ready { IsTrue (K.seen keeper.old).tells → IsReady (application_of app.now) (view_of view.now) (asked_with path.now ask.now) number (K.seen keeper.old).state }
+    requires reading { are_reading (statements_of visited.now.view.now.body) ≡ true }
+    requires ready { IsTrue (K.seen keeper.old).tells → IsReady (app_of visited.now)
+        (found_view visited.now) (request_at visited.now) number (K.seen keeper.old).state }
+    requires seated { IsTrue (K.seen keeper.old).tells → IsSeated (app_of visited.now)
+        (worlds_of (K.seen keeper.old).state) (viewer_at visited.now) seat.old }
     ensures made { IfOk result (λ x. IsMade x.page) }
-    ensures page { IsTrue (K.seen keeper.new).tells → IfOk result (λ x. ShowsView (application_of app.now) (view_of view.now) (asked_with path.now ask.now) number (K.seen keeper.old).state x.labels x.page) }
-    ensures settled { IsTrue (K.seen keeper.new).tells → IfOk result (λ x. IsSettled (application_of app.now) (worlds_of (K.seen keeper.old).state) ask.now.viewer x.labels) }
+    ensures page { IsTrue (K.seen keeper.new).tells → IfOk result (λ x. ShowsView
+        (app_of visited.now) (found_view visited.now) (request_at visited.now) number
+        (K.seen keeper.old).state x.labels x.page) }
+    ensures settled { IsTrue (K.seen keeper.new).tells → IfOk result (λ x. IsSettled
+        (app_of visited.now) (worlds_of (K.seen keeper.old).state) (viewer_at visited.now)
+        x.labels) }
+    ensures seated { IsTrue (K.seen keeper.new).tells → OnOk result (IsSeated
+        (app_of visited.now) (worlds_of (K.seen keeper.old).state) (viewer_at visited.now)
+        seat.new) }
     ensures left { IsLeft (K.seen keeper.old) (K.seen keeper.new) }
     ensures rose { IsErrOf result Stop.Keeper
         → Rose (K.seen keeper.old).faults (K.seen keeper.new).faults }
 {
     let mut work = Work::new(alloc, keeper);
-    let shown = show_view(alloc, &mut work, app, ask, path, view, number, evaluations)?;
+    let shown = show_view(alloc, &mut work, visited, number, seat, evaluations)?;
     Ok(shown)
 }
 
@@ -148,81 +166,60 @@ fn view_lazily<K: Keeper, M: Ledger>(
 fn show_view<K: Keeper, M: Ledger>(
     alloc: Global,
     work: &mut Work<'_, K>,
-    app: &App,
-    ask: &Ask,
-    path: &Pairs,
-    view: &View,
+    visited: &Visited<'_>,
     number: u64,
+    seat: &mut Seat,
     evaluations: &mut Steps<M>,
 ) -> Result<Labelled, Stop>
     requires attached { IsTrue (K.seen work.old.keeper.now).store.attached }
-    requires reading { are_reading (statements_of view.now.body) ≡ true }
-    requires ready { IsTold K.seen work.old → IsReady (application_of app.now) (view_of view.now) (asked_with path.now ask.now) number (state_of K.seen work.old) }
+    requires reading { are_reading (statements_of visited.now.view.now.body) ≡ true }
+    requires ready { IsTold K.seen work.old → IsReady (app_of visited.now) (found_view visited.now)
+        (request_at visited.now) number (state_of K.seen work.old) }
+    requires seated { IsTold K.seen work.old → IsSeated (app_of visited.now)
+        (worlds_of (state_of K.seen work.old)) (viewer_at visited.now) seat.old }
     ensures made { IfOk result (λ x. IsMade x.page) }
-    ensures page { IsTold K.seen work.new → IfOk result (λ x. ShowsView (application_of app.now) (view_of view.now) (asked_with path.now ask.now) number (state_of K.seen work.old) x.labels x.page) }
-    ensures settled { IsTold K.seen work.new → IfOk result (λ x. IsSettled (application_of app.now) (worlds_of (state_of K.seen work.old)) ask.now.viewer x.labels) }
+    ensures page { IsTold K.seen work.new → IfOk result (λ x. ShowsView (app_of visited.now)
+        (found_view visited.now) (request_at visited.now) number (state_of K.seen work.old)
+        x.labels x.page) }
+    ensures settled { IsTold K.seen work.new → IfOk result (λ x. IsSettled (app_of visited.now)
+        (worlds_of (state_of K.seen work.old)) (viewer_at visited.now) x.labels) }
+    ensures seated { IsTold K.seen work.new → OnOk result (IsSeated (app_of visited.now)
+        (worlds_of (state_of K.seen work.old)) (viewer_at visited.now) seat.new) }
     ensures told { OnOk result (StaysTold K.seen work.old work.new) }
     ensures keeps { WritesWork K.seen work.old work.new result }
 {
-    let labels = resolve(alloc, work, app, ask.viewer, evaluations)?;
-    let page = page_under(alloc, work, app, ask, path, view, number, &labels)?;
+    let viewer = &visited.ask.viewer;
+    let labels = settle_seat(alloc, work, visited.app, viewer, seat, evaluations)?;
+    let page = page_under(alloc, work, visited, number, &labels)?;
     Ok(Labelled { page, labels })
-}
-
-/// The page of the view, which writes nothing, under labels that are known to be settled on what the keeper keeps.
-pub(crate) fn known_page<K: Keeper>(
-    alloc: Global,
-    app: &App,
-    keeper: &mut K,
-    ask: &Ask,
-    path: &Pairs,
-    view: &View,
-    number: u64,
-    labels: &Assignment,
-) -> Result<Page, Stop>
-    requires attached { IsTrue (K.seen keeper.old).store.attached }
-    requires reading { are_reading (statements_of view.now.body) ≡ true }
-    ensures made { IfOk result IsMade }
-    ensures page { IsTrue (K.seen keeper.new).tells → IfOk result (ShowsView (application_of app.now) (view_of view.now) (asked_with path.now ask.now) number (K.seen keeper.old).state labels.now) }
-    ensures left { IsLeft (K.seen keeper.old) (K.seen keeper.new) }
-    ensures rose { IsErrOf result Stop.Keeper
-        → Rose (K.seen keeper.old).faults (K.seen keeper.new).faults }
-{
-    let mut work = Work::new(alloc, keeper);
-    let page = page_under(alloc, &mut work, app, ask, path, view, number, labels)?;
-    Ok(page)
 }
 
 // Makes the page in the world that the labels show.
 fn page_under<K: Keeper>(
     alloc: Global,
     work: &mut Work<'_, K>,
-    app: &App,
-    ask: &Ask,
-    path: &Pairs,
-    view: &View,
+    visited: &Visited<'_>,
     number: u64,
     labels: &Assignment,
 ) -> Result<Page, Stop>
     requires attached { IsTrue (K.seen work.old.keeper.now).store.attached }
-    requires reading { are_reading (statements_of view.now.body) ≡ true }
+    requires reading { are_reading (statements_of visited.now.view.now.body) ≡ true }
     ensures made { IfOk result IsMade }
-    ensures page { IsTold K.seen work.new → IfOk result (ShowsView (application_of app.now) (view_of view.now) (asked_with path.now ask.now) number (state_of K.seen work.old) labels.now) }
+    ensures page { IsTold K.seen work.new → IfOk result (ShowsView (app_of visited.now)
+        (found_view visited.now) (request_at visited.now) number (state_of K.seen work.old)
+        labels.now) }
     ensures told { OnOk result (StaysTold K.seen work.old work.new) }
     ensures keeps { WritesWork K.seen work.old work.new result }
 {
-    let env = bind(alloc, &view.params, app, path, &ask.pairs)?;
-    let ctx = Ctx {
-        viewer: ask.viewer,
-        this: None,
-        number,
-        around: None,
-    };
+    let view = visited.view;
+    let asked = &visited.ask.pairs;
+    let env = bind(alloc, &view.params, visited.app, visited.path, asked)?;
+    let ctx = context(visited, number);
     let mut support = Support::empty(alloc);
     let page = run_body_at(
         alloc,
         work,
-        app,
+        visited.app,
         &ctx,
         labels,
         &view.body,
@@ -232,112 +229,216 @@ fn page_under<K: Keeper>(
     Ok(page)
 }
 
-/// The page of the view, under labels that are settled on what its run leaves, and what is to be stored.
+// What a view is run in.
+fn context(visited: &Visited<'_>, number: u64) -> Ctx
+    ensures { result
+        ≡ record { viewer = viewer_at visited.now; this = None; number = number; around = None } }
+{
+    Ctx {
+        viewer: visited.ask.viewer,
+        this: None,
+        number,
+        around: None,
+    }
+}
+
+/// The page of the view, under labels that are settled on what its run leaves, what is to be
+/// stored, and what that may touch. What was settled for who asks is settled on what the run
+/// leaves.
 pub(crate) fn stored_page<K: Keeper, L: Ledger, M: Ledger>(
     alloc: Global,
-    app: &App,
     keeper: &mut K,
-    ask: &Ask,
-    path: &Pairs,
-    view: &View,
+    visited: &Visited<'_>,
     number: u64,
+    seat: &mut Seat,
     splits: &mut Steps<L>,
     evaluations: &mut Steps<M>,
 ) -> Result<Stored, Stop>
     requires attached { IsTrue (K.seen keeper.old).store.attached }
-    requires tables { IsTrue (K.seen keeper.old).tells → length app.now.models ≤ length (K.seen keeper.old).state.tables }
+    requires tables { IsTrue (K.seen keeper.old).tells
+        → length visited.now.app.now.models ≤ length (K.seen keeper.old).state.tables }
+    requires sound { IsTrue (K.seen keeper.old).tells → IsSound (K.seen keeper.old).state }
     requires few { number < 2 ^ 40 }
-    requires runnable { AreRunnable number (statements_of view.now.body) }
-    requires ready { IsTrue (K.seen keeper.old).tells → IsReady (application_of app.now) (view_of view.now) (asked_with path.now ask.now) number (K.seen keeper.old).state }
+    requires runnable { AreRunnable number (statements_of visited.now.view.now.body) }
+    requires ready { IsTrue (K.seen keeper.old).tells → IsReady (app_of visited.now)
+        (found_view visited.now) (request_at visited.now) number (K.seen keeper.old).state }
+    requires seated { IsTrue (K.seen keeper.old).tells → IsSeated (app_of visited.now)
+        (worlds_of (K.seen keeper.old).state) (viewer_at visited.now) seat.old }
     ensures made { IfOk result (λ x. IsMade x.shown.page) }
-    ensures page { IsTrue (K.seen keeper.new).tells → IfOk result (λ x. ShowsView (application_of app.now) (view_of view.now) (asked_with path.now ask.now) number (K.seen keeper.old).state x.shown.labels x.shown.page) }
-    ensures settled { IsTrue (K.seen keeper.new).tells → IfOk result (λ x. IsSettled (application_of app.now) (worlds_of (applied x.change (K.seen keeper.old).state)) ask.now.viewer x.shown.labels) }
-    ensures stored { IsTrue (K.seen keeper.new).tells → IfOk result (λ x. LeavesTables (application_of app.now) (view_of view.now) (asked_with path.now ask.now) number (K.seen keeper.old).state (applied x.change (K.seen keeper.old).state).tables) }
+    ensures page { IsTrue (K.seen keeper.new).tells → IfOk result (λ x. ShowsView
+        (app_of visited.now) (found_view visited.now) (request_at visited.now) number
+        (K.seen keeper.old).state x.shown.labels x.shown.page) }
+    ensures settles { IsTrue (K.seen keeper.new).tells → IfOk result (λ x. SettlesView
+        (app_of visited.now) (viewer_at visited.now) (K.seen keeper.old).state
+        (applied x.change (K.seen keeper.old).state).tables x.shown.labels seat.new x.touch) }
+    ensures stored { IsTrue (K.seen keeper.new).tells → IfOk result (λ x. LeavesTables
+        (app_of visited.now) (found_view visited.now) (request_at visited.now) number
+        (K.seen keeper.old).state (applied x.change (K.seen keeper.old).state).tables) }
     ensures number { IfOk result (λ x. x.change.number ≡ number + 1) }
     ensures left { IsLeft (K.seen keeper.old) (K.seen keeper.new) }
     ensures rose { IsErrOf result Stop.Keeper
         → Rose (K.seen keeper.old).faults (K.seen keeper.new).faults }
 {
-    settled_by_tables();
     let mut work = Work::new(alloc, keeper);
-    let shown = store_view(
+    let Touching { shown, touch } = settle_view(
         alloc,
         &mut work,
-        app,
-        ask,
-        path,
-        view,
+        visited,
         number,
+        seat,
         splits,
         evaluations,
     )?;
     let change = work.into_change(number + 1)?;
-    Ok(Stored { shown, change })
+    Ok(Stored {
+        shown,
+        change,
+        touch,
+    })
 }
 
-// Runs the statements of the view, settles the labels on what they leave, and makes the page that these show.
-fn store_view<K: Keeper, L: Ledger, M: Ledger>(
+// The same over a work, said of its tables alone.
+fn settle_view<K: Keeper, L: Ledger, M: Ledger>(
     alloc: Global,
     work: &mut Work<'_, K>,
-    app: &App,
-    ask: &Ask,
-    path: &Pairs,
-    view: &View,
+    visited: &Visited<'_>,
     number: u64,
+    seat: &mut Seat,
     splits: &mut Steps<L>,
     evaluations: &mut Steps<M>,
-) -> Result<Labelled, Stop>
+) -> Result<Touching, Stop>
     requires attached { IsTrue (K.seen work.old.keeper.now).store.attached }
-    requires tables { IsTrue (K.seen work.old.keeper.now).tells → length app.now.models ≤ length (K.seen work.old.keeper.now).state.tables }
-    requires runnable { AreRunnable number (statements_of view.now.body) }
-    requires ready { IsTold K.seen work.old → IsReady (application_of app.now) (view_of view.now) (asked_with path.now ask.now) number (state_of K.seen work.old) }
-    ensures made { IfOk result (λ x. IsMade x.page) }
-    ensures page { IsTold K.seen work.new → IfOk result (λ x. ShowsView (application_of app.now) (view_of view.now) (asked_with path.now ask.now) number (state_of K.seen work.old) x.labels x.page) }
-    ensures settled { IsTold K.seen work.new → IfOk result (λ x. IsSettled (application_of app.now) (worlds_of (state_of K.seen work.new)) ask.now.viewer x.labels) }
-    ensures stored { IsTold K.seen work.new → OnOk result (LeavesTables (application_of app.now) (view_of view.now) (asked_with path.now ask.now) number (state_of K.seen work.old) (state_of K.seen work.new).tables) }
+    requires tables { IsTrue (K.seen work.old.keeper.now).tells
+        → length visited.now.app.now.models ≤ length (K.seen work.old.keeper.now).state.tables }
+    requires sound { IsTrue (K.seen work.old.keeper.now).tells
+        → IsSound (K.seen work.old.keeper.now).state }
+    requires runnable { AreRunnable number (statements_of visited.now.view.now.body) }
+    requires ready { IsTold K.seen work.old → IsReady (app_of visited.now) (found_view visited.now)
+        (request_at visited.now) number (state_of K.seen work.old) }
+    requires seated { IsTrue (K.seen work.old.keeper.now).tells → IsSeated (app_of visited.now)
+        (worlds_of (K.seen work.old.keeper.now).state) (viewer_at visited.now) seat.old }
+    ensures made { IfOk result (λ x. IsMade x.shown.page) }
+    ensures page { IsTold K.seen work.new → IfOk result (λ x. ShowsView (app_of visited.now)
+        (found_view visited.now) (request_at visited.now) number (state_of K.seen work.old)
+        x.shown.labels x.shown.page) }
+    ensures settles { IsTold K.seen work.new → IfOk result (λ x. SettlesView (app_of visited.now)
+        (viewer_at visited.now) (K.seen work.old.keeper.now).state (state_of K.seen work.new).tables
+        x.shown.labels seat.new x.touch) }
+    ensures stored { IsTold K.seen work.new → OnOk result (LeavesTables (app_of visited.now)
+        (found_view visited.now) (request_at visited.now) number (state_of K.seen work.old)
+        (state_of K.seen work.new).tables) }
     ensures told { OnOk result (StaysTold K.seen work.old work.new) }
     ensures keeps { WritesWork K.seen work.old work.new result }
 {
-    let pieces = run_body(alloc, work, app, ask, path, view, number, splits)?;
-    let settled = resolve(alloc, work, app, ask.viewer, evaluations)?;
+    settled_by_tables();
+    seated_by_tables();
+    let touching = store_view(alloc, work, visited, number, seat, splits, evaluations)?;
+    Ok(touching)
+}
+
+// Runs the statements of the view, settles the labels on what they leave, and makes the page that
+// these show.
+fn store_view<K: Keeper, L: Ledger, M: Ledger>(
+    alloc: Global,
+    work: &mut Work<'_, K>,
+    visited: &Visited<'_>,
+    number: u64,
+    seat: &mut Seat,
+    splits: &mut Steps<L>,
+    evaluations: &mut Steps<M>,
+) -> Result<Touching, Stop>
+    requires attached { IsTrue (K.seen work.old.keeper.now).store.attached }
+    requires tables { IsTrue (K.seen work.old.keeper.now).tells
+        → length visited.now.app.now.models ≤ length (K.seen work.old.keeper.now).state.tables }
+    requires sound { IsTrue (K.seen work.old.keeper.now).tells
+        → IsSound (K.seen work.old.keeper.now).state }
+    requires runnable { AreRunnable number (statements_of visited.now.view.now.body) }
+    requires ready { IsTold K.seen work.old → IsReady (app_of visited.now) (found_view visited.now)
+        (request_at visited.now) number (state_of K.seen work.old) }
+    requires seated { IsTrue (K.seen work.old.keeper.now).tells → IsSeated (app_of visited.now)
+        (worlds_of (K.seen work.old.keeper.now).state) (viewer_at visited.now) seat.old }
+    ensures made { IfOk result (λ x. IsMade x.shown.page) }
+    ensures page { IsTold K.seen work.new → IfOk result (λ x. ShowsView (app_of visited.now)
+        (found_view visited.now) (request_at visited.now) number (state_of K.seen work.old)
+        x.shown.labels x.shown.page) }
+    ensures settled { IsTold K.seen work.new → IfOk result (λ x. IsSettled (app_of visited.now)
+        (worlds_of (state_of K.seen work.new)) (viewer_at visited.now) x.shown.labels) }
+    ensures seated { IsTold K.seen work.new → OnOk result (IsSeated (app_of visited.now)
+        (worlds_of (state_of K.seen work.new)) (viewer_at visited.now) seat.new) }
+    ensures touched { IsTold K.seen work.new → IfOk result (λ x. AreCovered (app_of visited.now)
+        (K.seen work.old.keeper.now).state (state_of K.seen work.new) x.touch) }
+    ensures stored { IsTold K.seen work.new → OnOk result (LeavesTables (app_of visited.now)
+        (found_view visited.now) (request_at visited.now) number (state_of K.seen work.old)
+        (state_of K.seen work.new).tables) }
+    ensures told { OnOk result (StaysTold K.seen work.old work.new) }
+    ensures keeps { WritesWork K.seen work.old work.new result }
+{
+    let pieces = run_body(alloc, work, visited, number, splits)?;
+    let touch = touch_seat(alloc, work, visited, seat)?;
+    let viewer = &visited.ask.viewer;
+    let settled = settle_seat(alloc, work, visited.app, viewer, seat, evaluations)?;
     let page = page_of(alloc, &pieces, &settled)?;
-    Ok(Labelled {
-        page,
-        labels: settled,
+    Ok(Touching {
+        shown: Labelled {
+            page,
+            labels: settled,
+        },
+        touch,
     })
+}
+
+// What the work may touch, of which nothing is settled any longer for who asks.
+fn touch_seat<K: Keeper>(
+    alloc: Global,
+    work: &mut Work<'_, K>,
+    visited: &Visited<'_>,
+    seat: &mut Seat,
+) -> Result<Touch, Stop>
+    requires attached { IsTrue (K.seen work.old.keeper.now).store.attached }
+    requires sound { IsTrue (K.seen work.old.keeper.now).tells
+        → IsSound (K.seen work.old.keeper.now).state }
+    requires seated { IsTrue (K.seen work.old.keeper.now).tells → IsSeated (app_of visited.now)
+        (worlds_of (K.seen work.old.keeper.now).state) (viewer_at visited.now) seat.old }
+    ensures seated { IsTold K.seen work.new → OnOk result (IsSeated (app_of visited.now)
+        (worlds_of (state_of K.seen work.old)) (viewer_at visited.now) seat.new) }
+    ensures touched { IsTold K.seen work.new → IfOk result (AreCovered (app_of visited.now)
+        (K.seen work.old.keeper.now).state (state_of K.seen work.old)) }
+    ensures reads { ReadsWork K.seen work.old work.new result }
+{
+    seat_moves();
+    let touch = touch_of(alloc, work, visited.app)?;
+    seat.unsettle(alloc, &visited.ask.viewer, &touch)?;
+    Ok(touch)
 }
 
 // Runs the statements of the view for all assignments at once.
 fn run_body<K: Keeper, L: Ledger>(
     alloc: Global,
     work: &mut Work<'_, K>,
-    app: &App,
-    ask: &Ask,
-    path: &Pairs,
-    view: &View,
+    visited: &Visited<'_>,
     number: u64,
     splits: &mut Steps<L>,
 ) -> Result<Out, Stop>
     requires attached { IsTrue (K.seen work.old.keeper.now).store.attached }
-    requires tables { IsTrue (K.seen work.old.keeper.now).tells → length app.now.models ≤ length (K.seen work.old.keeper.now).state.tables }
-    requires runnable { AreRunnable number (statements_of view.now.body) }
-    ensures runs { IsTold K.seen work.new → IfOk result (RunsView (application_of app.now) (view_of view.now) (asked_with path.now ask.now) number (state_of K.seen work.old) (state_of K.seen work.new).tables) }
+    requires tables { IsTrue (K.seen work.old.keeper.now).tells
+        → length visited.now.app.now.models ≤ length (K.seen work.old.keeper.now).state.tables }
+    requires runnable { AreRunnable number (statements_of visited.now.view.now.body) }
+    ensures runs { IsTold K.seen work.new → IfOk result (RunsView (app_of visited.now)
+        (found_view visited.now) (request_at visited.now) number (state_of K.seen work.old)
+        (state_of K.seen work.new).tables) }
     ensures told { OnOk result (StaysTold K.seen work.old work.new) }
     ensures keeps { WritesWork K.seen work.old work.new result }
 {
-    let mut env = bind_alike(alloc, app, view, path, &ask.pairs)?;
+    let view = visited.view;
+    let asked = &visited.ask.pairs;
+    let mut env = bind_alike(alloc, visited.app, view, visited.path, asked)?;
     let mut out = Out::empty(alloc);
-    let ctx = Ctx {
-        viewer: ask.viewer,
-        this: None,
-        number,
-        around: None,
-    };
+    let ctx = context(visited, number);
     let everywhere = Guard::empty(alloc);
     exec(
         alloc,
         work,
-        app,
+        visited.app,
         &ctx,
         &mut env,
         &mut out,

@@ -1,11 +1,13 @@
 use Rattle.jac_lang.specs.Mirror.{application_of}
-use Rattle.jac_engine.proofs.PreparedLaws.{is_prepared}
+use Rattle.jac_engine.specs.Prepared.{worlds_of}
 use Rattle.jac_engine.proofs.answer.prepare.Goals as goal
 
+pub prepare_by-requires-clause-seated : goal.prepare_by-requires-clause-seated
+prepare_by-requires-clause-seated g c = λ told.
+    c.empty_is_seated.ensures (application_of c.args.service.now) (worlds_of (g.K.Keeper.seen c.args.keeper.now).state) c.args.ask.now.viewer c.empty-seat.result c.empty-seat.ensures
+
 pub returns-clause-prepared : goal.returns-clause-prepared
-returns-clause-prepared g c =
-    let K = g.K.Keeper in
-    let tells = (K.seen c.prepare_found.new.keeper).tells in
-    let state = (K.seen c.args.keeper.now).state in
-    is_prepared c.args.lazy tells (application_of c.args.service.now) state c.args.ask.now c.in_ok-prepared.prepared c.app-app.ensures.served c.app-app.ensures.few
-    (λ told. c.requires.start (c.in_ok-prepared.ensures.reads.left.told told)) c.in_ok-prepared.ensures.prepared
+returns-clause-prepared g c = rw c.prepared_of.ensures c.in_ok-seated.ensures.prepared
+
+pub returns-clause-unsplit : goal.returns-clause-unsplit
+returns-clause-unsplit g c = rw c.prepared_of.ensures c.in_ok-seated.ensures.unsplit

@@ -14,6 +14,16 @@ stored_page-requires-clause-tables g c = λ told.
     let start = c.requires.start (left.told told) in
     rw (left.same_state told, ← length-entities c.args.visited.now.app.now.models) start.tables
 
+pub stored_page-requires-clause-sound : goal.stored_page-requires-clause-sound
+stored_page-requires-clause-sound g c = λ told.
+    let left = c.in_ok-number.ensures.reads.left in
+    rw (left.same_state told) (c.requires.start (left.told told)).sound
+
+pub stored_page-requires-clause-seated : goal.stored_page-requires-clause-seated
+stored_page-requires-clause-seated g c = λ told.
+    let left = c.in_ok-number.ensures.reads.left in
+    rw (left.same_state told) (c.requires.seated (left.told told))
+
 pub stored_page-requires-clause-runnable : goal.stored_page-requires-clause-runnable
 stored_page-requires-clause-runnable g c =
     let some : 0 < c.in_ok-number.number = omega (arith, c.in_ok-number.ensures.in_range.0) in
@@ -55,7 +65,16 @@ returns-clause-stored g c =
                 c.answer_of.ensures.answer
                 ∙ page_stored app v (asked_with c.args.visited.now.path.now c.args.visited.now.ask.now) c.args.visited.now.place n s shown.labels shown.page c.requires.view c.requires.served
                 (c.in_ok-number.ensures.exact before) few (c.requires.start (left.told before)) c.requires.few (rw (left.same_state before) at (c.in_ok-stored.ensures.page told));
-            settled = settled_after app s (asked_with c.args.visited.now.path.now c.args.visited.now.ask.now) c.args.visited.now.place c.in_ok-stored.stored.change shown.labels (stores told) (rw (left.same_state before) at (c.in_ok-stored.ensures.settled told));
+            settled = settled_after app s (asked_with c.args.visited.now.path.now c.args.visited.now.ask.now) c.args.visited.now.place c.in_ok-stored.stored.change shown.labels (stores told) ((rw (left.same_state before) at (c.in_ok-stored.ensures.settles told)).settled c.in_ok-stored.stored.change.number);
           };
       stores = stores;
+    }
+
+pub returns-clause-keeps : goal.returns-clause-keeps
+returns-clause-keeps g c =
+    let left = c.in_ok-number.ensures.reads.left in
+    let change = c.in_ok-stored.stored.change in
+    record {
+      seated = λ told. (rw (left.same_state (c.in_ok-stored.ensures.left.told told)) at (c.in_ok-stored.ensures.settles told)).seated change.number;
+      touched = λ told. (rw (left.same_state (c.in_ok-stored.ensures.left.told told)) at (c.in_ok-stored.ensures.settles told)).touched change.number;
     }
