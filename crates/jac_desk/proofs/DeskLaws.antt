@@ -4,7 +4,7 @@ use Rattle.jac_rows.specs.declared.state.State.{State}
 use Rattle.jac_serving.specs.Answering.{IsAnswering}
 use Rattle.jac_engine.specs.Start.{IsStart}
 use Rattle.jac_serving.specs.Desk.{DeskSeen, Keeps}
-use Rattle.jac_desk.specs.Answered.{DeskOf, AreSettled, answering}
+use Rattle.jac_desk.specs.Answered.{DeskOf, AreSeated, answering}
 use Rattle.jac_desk.proofs.EntriesLemmas.{entries-none, entries-one, entries-then}
 use Rattle.jac_desk.proofs.EntryLemmas.{is_wanting}
 use Rattle.jac_hub.specs.Hearing.{broken}
@@ -21,7 +21,7 @@ lawful of = record {
 
 -- behind an answer that was made, and where none was, a desk may serve again
 module _ (before after : DeskSeen DeskOf) (same : after.of ≡ before.of) (stays : after.holding.keeper.store ≡ before.holding.keeper.store)
-    (settled : AreSettled before.of.app after.holding.keeper after.sittings) where
+    (settled : AreSeated before.of.app after.holding.keeper after.sittings) where
   pub keeps-made : (IsTrue after.holding.keeper.tells → IsStart before.of.app after.holding.keeper.state) → Keeps answering before after
   keeps-made start = record { same = same; store = stays; ready = start; settled = settled }
 

@@ -1,117 +1,110 @@
--- What was settled for somebody, behind an answer.
-use Rattle.std.proofs.Common.{◌≡◌, ◌∙◌, sym, ap, subst, refl, ℕ, Bool, true, false, IsTrue, ◌⊎◌, inl, inr, Option, Some, None, List, [], slice_get, arith}
-use Rattle.jac_lang.specs.declared.pages.Verb.{Verb}
-use Rattle.jac_lang.specs.declared.pages.Verb.TheVariants as verbs
+-- What is kept for those who looked, behind an answer.
+use Rattle.std.proofs.Common.{◌≡◌, sym, subst, ℕ, Bool, IsTrue, IfSome, ◌⊎◌, inl, inr, Option, Some, None, List, []}
 use Rattle.jac_lang.specs.Syntax.{Application}
+use Rattle.jac_rows.specs.Good.{IsGood}
 use Rattle.jac_rows.specs.Project.{project_at}
 use Rattle.jac_rows.specs.declared.state.State.{State}
 use Rattle.jac_keep.specs.KeeperSeen.{KeeperSeen}
 use Rattle.jac_keep.specs.declared.alteration.Change.{Change}
-use Rattle.jac_plain.specs.Policies.{IsSettled}
-use Rattle.jac_plain.specs.Requests.{Visit, Worlds, method_in, after_by}
-use Rattle.jac_route.specs.Found.{found}
-use Rattle.jac_route.specs.declared.lookup.Found.{Found}
-use Rattle.jac_route.specs.declared.lookup.Found.TheVariants as founds
-use Rattle.jac_replies.specs.declared.answer.Answer.{Answer}
+use Rattle.jac_plain.specs.Models.{shapes_of}
+use Rattle.jac_plain.specs.Requests.{Worlds}
+use Rattle.jac_recall.specs.declared.seat.Seat.{Seat}
+use Rattle.jac_recall.specs.declared.touch.Touch.{Touch}
+use Rattle.jac_recall.specs.Seats.{IsEmptySeat, Unsettles}
+use Rattle.jac_recall.specs.Touched.{IsCovered}
+use Rattle.jac_resolve.specs.Seated.{IsSeated}
 use Rattle.jac_replies.specs.declared.answer.Ask.{Ask}
-use Rattle.jac_engine.specs.Answers.{IsAnswerBy, IsAnswerOf, IsAnswerTo, asked_with, left, left_by, visit_of}
+use Rattle.jac_engine.specs.Answers.{IsAnswerTo, left}
 use Rattle.jac_engine.specs.Prepared.{IsPrepared, applied_if, worlds_of}
 use Rattle.jac_engine.specs.Start.{IsStart}
 use Rattle.jac_engine.specs.declared.answer.Prepared.{Prepared}
-use Rattle.jac_plain.specs.Models.{shapes_of}
-use Rattle.jac_rows.specs.Good.{IsGood}
-use Rattle.jac_sittings.specs.Settled.{settled_for}
+use Rattle.jac_sittings.specs.Kept.{IsOneOf, sitting_of}
 use Rattle.jac_sittings.specs.declared.sittings.Sitting.{Sitting}
-use Rattle.jac_desk.specs.Answered.{AreSettled}
+use Rattle.jac_desk.specs.Answered.{AreSeated, AreTouched, AreUnsettledIf, IsPutBack}
 
-none_shown : {P : Type 0} (labels : List ℕ) (shown : Option (List ℕ)) → shown ≡ None → shown ≡ Some labels → P
-none_shown labels shown none some = grind (arith, none, some)
+none_in : {P : Type 0} (s : Sitting) (sittings : List Sitting) → sittings ≡ [] → IsOneOf s sittings → P
+none_in s sittings none is = let nothing : ⊥ = subst (λ (xs : List Sitting). IsOneOf s xs) none is in absurd nothing
 
-abbrev value_or : List ℕ → Option (List ℕ) → List ℕ
-value_or other None = other
-value_or other (Some labels) = labels
-
--- of the page of a view, the labels are settled in the worlds behind it
-settled_view : (verb : Verb) (app : Application) (worlds later : Worlds) (visit : Visit) (a : Answer) (labels : List ℕ)
-    → verb ≡ method_in (slice_get app.views visit.view)
-    → IsAnswerOf false verb app worlds visit a → a.shown ≡ Some labels
-    → ((w : ℕ → Bool) → later w ≡ after_by verb w app (worlds w) visit)
-    → IsSettled app later visit.viewer labels
-settled_view verbs.Get app worlds later visit a labels same is some left =
-    subst (λ (seen : List ℕ). IsSettled app later visit.viewer seen) (sym (ap (value_or []) (ap (λ (x : Answer). x.shown) is.made)) ∙ ap (value_or []) some)
-    (subst (λ (at : Worlds). IsSettled app at visit.viewer is.labels) (λ i w. sym (left w) i) is.settled)
-settled_view verbs.Post app worlds later visit a labels same (inl full) some left =
-    none_shown labels a.shown (ap (λ (x : Answer). x.shown) full.0) some
-settled_view verbs.Post app worlds later visit a labels same (inr page) some left =
-    let is = page.1 in
-    subst (λ (seen : List ℕ). IsSettled app later visit.viewer seen) (sym (ap (value_or []) (ap (λ (x : Answer). x.shown) is.made)) ∙ ap (value_or []) some)
-    (subst (λ (at : Worlds). IsSettled app at visit.viewer is.labels)
-    (λ i w. sym (left w ∙ ap (λ (v : Verb). after_by v w app (worlds w) visit) same) i) is.settled)
-
-settled_by : (f : Found) (app : Application) (s t : State) (ask : Ask) (a : Answer) (labels : List ℕ)
-    → IsAnswerBy false f app (worlds_of s) ask a → ((w : ℕ → Bool) → project_at w t ≡ left_by f w app ask a.shown (project_at w s))
-    → a.shown ≡ Some labels → IsSettled app (worlds_of t) ask.viewer labels
-settled_by founds.NoRoute app s t ask a labels is left some = none_shown labels a.shown (ap (λ (x : Answer). x.shown) is) some
-settled_by (founds.WrongMethod allow) app s t ask a labels is left some = none_shown labels a.shown (ap (λ (x : Answer). x.shown) is) some
-settled_by (founds.View n pairs) app s t ask a labels is left some =
-    settled_view (method_in (slice_get app.views n)) app (worlds_of s) (worlds_of t) (visit_of app (asked_with pairs ask) n) a labels refl is some
-    (λ w. rw some at (left w))
-
--- the labels of an answer's page are settled on what it leaves
-pub answered_settled : (app : Application) (s t : State) (ask : Ask) (a : Answer) (labels : List ℕ)
-    → IsAnswerTo false app (worlds_of s) ask a → ((w : ℕ → Bool) → project_at w t ≡ left w app ask a (project_at w s))
-    → a.shown ≡ Some labels → IsSettled app (worlds_of t) ask.viewer labels
-answered_settled app s t ask a labels is left some = settled_by (found app ask.method ask.path) app s t ask a labels is left some
-
--- where nothing is kept, what is kept is settled
-pub none_settled : (app : Application) (k : KeeperSeen) (sittings : List Sitting) → sittings ≡ [] → AreSettled app k sittings
-none_settled app k sittings none = record {
-  each = λ told viewer labels some. none_shown labels (settled_for viewer sittings) (ap (settled_for viewer) none) some;
-}
+-- where nothing is kept
+pub none_settled : (app : Application) (k : KeeperSeen) (sittings : List Sitting) → sittings ≡ [] → AreSeated app k sittings
+none_settled app k sittings none = record { each = λ told s is. none_in s sittings none is }
 
 -- fewer are kept, on the same state
-pub fewer_settled : (app : Application) (a b : KeeperSeen) (before after : List Sitting)
+pub fewer_seated : (app : Application) (a b : KeeperSeen) (before after : List Sitting)
     → (IsTrue b.tells → IsTrue a.tells) → (IsTrue b.tells → b.state ≡ a.state)
-    → ((v : Option ℕ) (labels : List ℕ) → settled_for v after ≡ Some labels → settled_for v before ≡ Some labels)
-    → AreSettled app a before → AreSettled app b after
-fewer_settled app a b before after told same fewer settled = record {
-  each = λ tells viewer labels some.
-      subst (λ (s : State). IsSettled app (worlds_of s) viewer labels) (sym (same tells)) (settled.each (told tells) viewer labels (fewer viewer labels some));
+    → ((s : Sitting) → IsOneOf s after → IsOneOf s before)
+    → AreSeated app a before → AreSeated app b after
+fewer_seated app a b before after told same fewer seated = record {
+  each = λ tells s is.
+      subst (λ (t : State). IsSeated app (worlds_of t) s.viewer s.seat) (sym (same tells)) (seated.each (told tells) s (fewer s is));
 }
 
--- the labels of what was prepared are settled on what it leaves, but where only what a page consults is resolved
-prepared_settled : (lazy tells : Bool) (app : Application) (s t : State) (ask : Ask) (p : Prepared) (labels : List ℕ) → lazy ≡ false
-    → IsPrepared lazy tells app s ask p → IsTrue tells → t ≡ applied_if p.change s → p.answer.shown ≡ Some labels
-    → IsSettled app (worlds_of t) ask.viewer labels
-prepared_settled true tells app s t ask p labels eager prepared told applied some = absurd cc
-prepared_settled false tells app s t ask p labels eager prepared told applied some =
-    answered_settled app s t ask p.answer labels (prepared.answered told)
-    (λ w. ap (λ (x : State). project_at w x) applied ∙ prepared.worlds told w) some
+-- what is taken out for somebody is what was kept, or nothing
+pub taken_seated : (app : Application) (k : KeeperSeen) (sittings : List Sitting) (viewer : Option ℕ) (seat : Seat)
+    → ((app : Application) (worlds : Worlds) (viewer : Option ℕ) (seat : Seat) → IsEmptySeat seat → IsSeated app worlds viewer seat)
+    → AreSeated app k sittings → IsOneOf (sitting_of viewer seat) sittings ⊎ IsEmptySeat seat → IsTrue k.tells → IsSeated app (worlds_of k.state) viewer seat
+taken_seated app k sittings viewer seat empty seated (inl kept) told = seated.each told (sitting_of viewer seat) kept
+taken_seated app k sittings viewer seat empty seated (inr none) told = empty app (worlds_of k.state) viewer seat none
 
--- behind what was stored
-module _ (lazy : Bool) (app : Application) (a b : KeeperSeen) (ask : Ask) (p : Prepared) (told : IsTrue b.tells → IsTrue a.tells)
-    (applied : IsTrue b.tells → b.state ≡ applied_if p.change a.state) (prepared : IsPrepared lazy a.tells app a.state ask p) where
-  shown_settled : (tells : IsTrue b.tells) (v : Option ℕ) (labels : List ℕ) → v ≡ ask.viewer → p.answer.shown ≡ Some labels → lazy ≡ false
-      → IsSettled app (worlds_of b.state) v labels
-  shown_settled tells v labels who some eager =
-      rw who (prepared_settled lazy a.tells app a.state b.state ask p labels eager prepared (told tells) (applied tells) some)
+-- settled on what stands before a change, and on what stands behind it
+record IsSeatedTwice (app : Application) (s later : State) (x : Sitting) : Type 0 where
+  before : IsSeated app (worlds_of s) x.viewer x.seat
+  behind : IsSeated app (worlds_of later) x.viewer x.seat
 
-  still_settled : (tells : IsTrue b.tells) (before : List Sitting) (v : Option ℕ) (labels : List ℕ) → p.change ≡ None
-      → AreSettled app a before → settled_for v before ≡ Some labels → IsSettled app (worlds_of b.state) v labels
-  still_settled tells before v labels none settled some =
-      subst (λ (s : State). IsSettled app (worlds_of s) v labels) (sym (applied tells ∙ ap (λ (c : Option Change). applied_if c a.state) none))
-      (settled.each (told tells) v labels some)
+abbrev IsKept : Application → State → List Sitting → Type 0
+IsKept app s sittings = (x : Sitting) → IsOneOf x sittings → IsSeated app (worlds_of s) x.viewer x.seat
 
-  pub stored_settled : (before mid after : List Sitting)
-      → ((v : Option ℕ) (labels : List ℕ) → settled_for v mid ≡ Some labels → (p.change ≡ None) × (settled_for v before ≡ Some labels))
-      → ((v : Option ℕ) (labels : List ℕ) → settled_for v after ≡ Some labels
-      → ((v ≡ ask.viewer) × (p.answer.shown ≡ Some labels) × (lazy ≡ false)) ⊎ (settled_for v mid ≡ Some labels))
-      → AreSettled app a before → AreSettled app b after
-  stored_settled before mid after gone more settled = record {
-    each = λ tells v labels some. elim (more v labels some) [
-      | inl new ↦ shown_settled tells v labels new.0 new.1 new.2
-      | inr old ↦ let was = gone v labels old in still_settled tells before v labels was.0 settled was.1
-    ];
+module _ (moves : (app : Application) (worlds later : Worlds) (viewer : Option ℕ) (touch : Touch) (old new : Seat) → IsSeated app worlds viewer old → Unsettles touch viewer old new → IsCovered app worlds later touch viewer → IsSeated app later viewer new)
+    (nothing : (app : Application) (worlds : Worlds) (viewer : Option ℕ) (touch : Touch) → IsCovered app worlds worlds touch viewer)
+    (app : Application) (s : State) where
+  touched_twice : (change : Option Change) (touch : Option Touch) (old new : List Sitting)
+      → AreTouched app s change touch old → AreUnsettledIf touch old new → IsKept app s old → (x : Sitting) → IsOneOf x new → IsSeatedTwice app s (applied_if change s) x
+  touched_twice change None old new (inl none) same kept x is = none_in x old none (subst (λ (xs : List Sitting). IsOneOf x xs) same is)
+  touched_twice None None old new (inr touched) same kept x is =
+      let it = kept x (subst (λ (xs : List Sitting). IsOneOf x xs) same is) in record { before = it; behind = it }
+  touched_twice (Some change) None old new (inr touched) same kept x is = absurd touched
+  touched_twice change (Some touch) old new (inl none) unsettled kept x is =
+      let was = unsettled.each x is in none_in (sitting_of x.viewer was.before) old none was.kept
+  touched_twice None (Some touch) old new (inr touched) unsettled kept x is =
+      let was = unsettled.each x is in
+      let it = moves app (worlds_of s) (worlds_of s) x.viewer touch was.before x.seat (kept (sitting_of x.viewer was.before) was.kept) was.unsettled (nothing app (worlds_of s) x.viewer touch) in
+      record { before = it; behind = it }
+  touched_twice (Some change) (Some touch) old new (inr touched) unsettled kept x is =
+      let was = unsettled.each x is in
+      let it = kept (sitting_of x.viewer was.before) was.kept in
+      record {
+        before = moves app (worlds_of s) (worlds_of s) x.viewer touch was.before x.seat it was.unsettled (nothing app (worlds_of s) x.viewer touch);
+        behind = moves app (worlds_of s) (worlds_of (applied_if (Some change) s)) x.viewer touch was.before x.seat it was.unsettled (touched x.viewer);
+      }
+
+put_seated : (app : Application) (worlds : Worlds) (viewer : Option ℕ) (seat : Option Seat) (x : Sitting) → IsPutBack viewer seat x → IfSome seat (IsSeated app worlds viewer)
+    → IsSeated app worlds x.viewer x.seat
+put_seated app worlds viewer None x put seated = absurd put
+put_seated app worlds viewer (Some seat) x put seated = subst (λ (y : Sitting). IsSeated app worlds y.viewer y.seat) (sym put) seated
+
+-- behind a change that was stored, or refused
+module _ (moves : (app : Application) (worlds later : Worlds) (viewer : Option ℕ) (touch : Touch) (old new : Seat) → IsSeated app worlds viewer old → Unsettles touch viewer old new → IsCovered app worlds later touch viewer → IsSeated app later viewer new)
+    (nothing : (app : Application) (worlds : Worlds) (viewer : Option ℕ) (touch : Touch) → IsCovered app worlds worlds touch viewer)
+    (app : Application) (a b : KeeperSeen) (change : Option Change) (touch : Option Touch) (old mid : List Sitting)
+    (told : IsTrue b.tells → IsTrue a.tells) (touched : IsTrue a.tells → AreTouched app a.state change touch old)
+    (unsettled : AreUnsettledIf touch old mid) (seated : AreSeated app a old) where
+  pub stored_seated : (viewer : Option ℕ) (seat : Option Seat) (after : List Sitting) → (IsTrue b.tells → b.state ≡ applied_if change a.state)
+      → (IsTrue a.tells → IfSome seat (IsSeated app (worlds_of (applied_if change a.state)) viewer))
+      → ((x : Sitting) → IsOneOf x after → IsPutBack viewer seat x ⊎ IsOneOf x mid) → AreSeated app b after
+  stored_seated viewer seat after applied own put = record {
+    each = λ tells x is.
+        subst (λ (t : State). IsSeated app (worlds_of t) x.viewer x.seat) (sym (applied tells))
+        (elim (put x is) [
+          | inl it ↦ put_seated app (worlds_of (applied_if change a.state)) viewer seat x it (own (told tells))
+          | inr was ↦ (touched_twice moves nothing app a.state change touch old mid (touched (told tells)) unsettled (seated.each (told tells)) x was).behind
+        ]);
+  }
+
+  pub refused_seated : (IsTrue b.tells → b.state ≡ a.state) → AreSeated app b mid
+  refused_seated same = record {
+    each = λ tells x is.
+        subst (λ (t : State). IsSeated app (worlds_of t) x.viewer x.seat) (sym (same tells))
+        (touched_twice moves nothing app a.state change touch old mid (touched (told tells)) unsettled (seated.each (told tells)) x is).before;
   }
 
 -- what was prepared on a state is prepared on the same state

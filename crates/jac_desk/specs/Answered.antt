@@ -5,9 +5,8 @@ use Rattle.jac_rows.specs.Good.{IsGood}
 use Rattle.jac_rows.specs.Project.{project_at}
 use Rattle.jac_keep.specs.KeeperSeen.{KeeperSeen}
 use Rattle.jac_plain.specs.Models.{shapes_of}
-use Rattle.jac_plain.specs.Policies.{IsSettled}
 use Rattle.jac_engine.specs.Answers.{IsAnswerTo, HasForm, left, is_stored}
-use Rattle.jac_engine.specs.Prepared.{worlds_of}
+use Rattle.jac_engine.specs.Prepared.{IsTouchOf, worlds_of}
 use Rattle.jac_engine.specs.Start.{IsStart}
 use Rattle.jac_http.specs.Replies.{reply_bytes}
 use Rattle.jac_hub.specs.declared.sent.Sent.{Sent}
@@ -20,7 +19,12 @@ use Rattle.jac_replies.specs.declared.reply.Spelling.{Spelling}
 use Rattle.jac_replies.specs.declared.reply.Spelling.TheVariants as spellings
 use Rattle.jac_replies.specs.Spelled.{spelled, audit_rest}
 use Rattle.jac_route.specs.declared.sessions.Session.{Session}
-use Rattle.jac_sittings.specs.Settled.{settled_for}
+use Rattle.jac_recall.specs.declared.seat.Seat.{Seat}
+use Rattle.jac_recall.specs.declared.touch.Touch.{Touch}
+use Rattle.jac_resolve.specs.Seated.{IsSeated}
+use Rattle.jac_rows.specs.declared.state.State.{State}
+use Rattle.jac_keep.specs.declared.alteration.Change.{Change}
+use Rattle.jac_sittings.specs.Kept.{AreUnsettled, IsOneOf, sitting_of}
 use Rattle.jac_sittings.specs.declared.sittings.Sitting.{Sitting}
 use Rattle.jac_serving.specs.Answering.{Subject, Entry, Answering}
 use Rattle.jac_serving.specs.Desk.{DeskSeen}
@@ -44,8 +48,8 @@ abbrev pub spelling_of : Via → Spelling
 spelling_of ways.Line = spellings.Quoted
 spelling_of (ways.Connection conn close spelling) = spelling
 
--- a request was answered, and its answer stored; these are the line of its reply and what follows the number
--- of its audit line
+-- a request was answered, and its answer stored; these are the line of its reply and what follows
+-- the number of its audit line
 pub record IsAnswerMade (lazy : Bool) (app : Application) (k : Span Holding) (via : Via) (ask : Ask)
     (reply audit : List ℕ) : Type 0 where
   pub answer : Answer
@@ -78,8 +82,8 @@ pub record IsEntryOf (lazy : Bool) (app : Application) (k : Span Holding) (subje
   pub goes_on : IsTrue k.after.keeper.tells → IsStart app k.after.keeper.state
   pub good : IsTrue k.after.keeper.tells → IsGood (shapes_of app) k.before.keeper.state
       → IsGood (shapes_of app) k.after.keeper.state
-  -- what isn't stored leaves the state as it was, and what doesn't store leaves the count of facets that
-  -- were split
+  -- what isn't stored leaves the state as it was, and what doesn't store leaves the count of facets
+  -- that were split
   pub unstored : IsTrue k.after.keeper.tells → is_stored_for app subject answer ≡ false
       → k.after.keeper.state ≡ k.before.keeper.state
   pub unsplit : may_split app subject answer ≡ false → k.after.splits ≡ k.before.splits
@@ -109,25 +113,38 @@ IsRefusalSent spelling c status sent =
     (audit_rest status None None None) false)
     ⊎ (sent ≡ fixed_500)
 
--- the labels that are kept for somebody are settled for them, on what the keeper tells
-pub record AreSettled (app : Application) (k : KeeperSeen) (sittings : List Sitting) : Type 0 where
-  pub each : IsTrue k.tells → (viewer : Option ℕ) (labels : List ℕ)
-      → settled_for viewer sittings ≡ Some labels → IsSettled app (worlds_of k.state) viewer labels
+-- what is kept for somebody is settled for them, but for what is due, on what the keeper tells
+pub record AreSeated (app : Application) (k : KeeperSeen) (sittings : List Sitting) : Type 0 where
+  pub each : IsTrue k.tells → (s : Sitting) → IsOneOf s sittings
+      → IsSeated app (worlds_of k.state) s.viewer s.seat
 
--- how an application answers, whose sessions these are; the flag says that a GET's page resolves only what
--- it consults
+-- the change has its touch, or nothing is kept that it could touch
+abbrev pub AreTouched : Application → State → Option Change → Option Touch → List Sitting → Type 0
+AreTouched app s change touch sittings = (sittings ≡ []) ⊎ IsTouchOf app s change touch
+
+abbrev pub AreUnsettledIf : Option Touch → List Sitting → List Sitting → Type 0
+AreUnsettledIf None old new = new ≡ old
+AreUnsettledIf (Some touch) old new = AreUnsettled touch old new
+
+-- the sitting is that of the viewer, with the seat that is put back
+abbrev pub IsPutBack : Option ℕ → Option Seat → Sitting → Type 0
+IsPutBack viewer None s = ⊥
+IsPutBack viewer (Some seat) s = s ≡ sitting_of viewer seat
+
+-- how an application answers, whose sessions these are; the flag says that a GET's page resolves
+-- only what it consults
 abbrev pub answering_of : Bool → Application → List Session → Answering
 answering_of lazy app sessions = record {
   wants = request_in app sessions;
   asks = ask_in app;
   ready = λ k. IsTrue k.keeper.tells → IsStart app k.keeper.state;
-  settled = AreSettled app;
+  settled = AreSeated app;
   entry = IsEntryOf lazy app;
   entries = AreEntries lazy app;
 }
 
--- whose a desk is: an application's, with its sessions, whether a GET's page resolves only what it consults,
--- and the references to its keeper and to the count of facets that were split
+-- whose a desk is: an application's, with its sessions, whether a GET's page resolves only what it
+-- consults, and the references to its keeper and to the count of facets that were split
 pub record DeskOf : Type 0 where
   pub app : Application
   pub sessions : List Session

@@ -20,7 +20,12 @@ form_body method body = if bytes_eq method (codes "POST") then body else []
 
 -- the pairs of the query, and then those of the form body
 abbrev pub ask_by : Option ℕ → List ℕ → List ℕ → List ℕ → List ℕ → Ask
-ask_by viewer method path query body = record { viewer = viewer; method = method; path = path; pairs = pairs_in query ++ pairs_in (form_body method body) }
+ask_by viewer method path query body = record {
+  viewer = viewer;
+  method = method;
+  path = path;
+  pairs = pairs_in query ++ pairs_in (form_body method body);
+}
 
 -- the request of an `ask` line
 abbrev pub ask_in : Application → Option ℕ → List ℕ → List ℕ → List ℕ → List ℕ → Ask
@@ -28,4 +33,5 @@ ask_in app viewer method path query body = ask_by (viewer_in app viewer) method 
 
 -- the request of a connection: who looks is told by the session of its token
 abbrev pub request_in : Application → List Session → Request → Ask
-request_in app sessions request = ask_by (session_viewer sessions request.token app) request.method request.path request.query request.body
+request_in app sessions request = ask_by (session_viewer sessions request.token app) request.method
+    request.path request.query request.body

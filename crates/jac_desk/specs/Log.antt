@@ -40,8 +40,9 @@ refused_with status =
 abbrev pub HasFailed : Answer → Type 0
 HasFailed answer = (answer ≡ refusal 500 None) ⊎ (answer ≡ refusal 503 None)
 
--- the subject is answered in these worlds, or it was met by want of memory or a fault of the keeper, which is
--- asked for requests alone. The flag says that a GET's page resolves only what it consults
+-- the subject is answered in these worlds, or it was met by want of memory or a fault of the
+-- keeper, which is asked for requests alone. The flag says that a GET's page resolves only what it
+-- consults
 abbrev pub IsAnswer : Bool → Application → Worlds → Subject → Answer → Type 0
 IsAnswer lazy app worlds (whole ask closes) answer =
     HasFailed answer ⊎ IsAnswerTo lazy app worlds ask answer
@@ -62,8 +63,8 @@ is_stored_for app (whole ask closes) answer = is_stored app ask answer
 is_stored_for app (refused status) answer = false
 is_stored_for app broken answer = false
 
--- facets may be split for the answer to the subject: it is stored, or stands for a failure where the request
--- finds a view that stores
+-- facets may be split for the answer to the subject: it is stored, or stands for a failure where
+-- the request finds a view that stores
 abbrev pub may_split : Application → Subject → Answer → Bool
 may_split app (whole ask closes) answer =
     is_stored app ask answer || (is_failure answer && stores app ask)
@@ -102,8 +103,9 @@ AreAnswered lazy app worlds (entry ∷ log) =
     IsAnswer lazy app worlds entry.subject entry.answer
     × AreAnswered lazy app (λ w. after_entry w app entry (worlds w)) log
 
--- the log answers what the events bring, each in the worlds before it; and under every assignment the state
--- at the end shows the world that the log leaves of what the start shows; a good start stays good
+-- the log answers what the events bring, each in the worlds before it; and under every assignment
+-- the state at the end shows the world that the log leaves of what the start shows; a good start
+-- stays good
 pub record Serves (lazy early : Bool) (app : Application) (sessions : List Session) (start : State)
     (events : List Event) (log : List Entry) (finish : State) : Type 0 where
   pub subjects : IsHeardBy early (hearing app sessions) events log

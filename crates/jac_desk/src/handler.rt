@@ -12,7 +12,7 @@ ghost use Rattle.jac_replies.specs.Spelled.{spelled, audit_rest};
 ghost use Rattle.jac_engine.specs.Answers.{stores};
 ghost use Rattle.jac_serving.specs.Desk.{MayServe, Keeps, kept};
 ghost use Rattle.jac_serving.specs.Serve.{handled};
-ghost use Rattle.jac_desk.specs.Answered.{IsAnswerMade, IsRefusalSent, AreSettled, answering};
+ghost use Rattle.jac_desk.specs.Answered.{IsAnswerMade, IsRefusalSent, AreSeated, answering};
 ghost use Rattle.jac_desk.specs.Asked.{ask_in, request_in};
 ghost use Rattle.jac_desk.specs.Seen.{whose, desk_seen};
 ghost use Rattle.jac_desk.specs.declared.answer.Via.TheVariants as ways;
@@ -46,7 +46,7 @@ pub struct Answerer<'k, 's, 'e, 'a, 'b, 't, K: Keeper, L: Ledger, M: Ledger> {
     pub sessions: &'b Sessions,
     /// A GET's page resolves only what it consults.
     pub lazy: bool,
-    /// What was settled for those who looked, since something was stored.
+    /// What was settled for those who looked.
     pub sittings: &'t mut Sittings,
 }
 
@@ -174,7 +174,7 @@ fn ask_lines<K: Keeper, L: Ledger, M: Ledger>(
         (K.seen desk.new.keeper.now).faults result }
     ensures same { whose desk.new ≡ whose desk.old }
     ensures attached { (K.seen desk.new.keeper.now).store ≡ (K.seen desk.old.keeper.now).store }
-    ensures settled { AreSettled (whose desk.old).app (K.seen desk.new.keeper.now)
+    ensures settled { AreSeated (whose desk.old).app (K.seen desk.new.keeper.now)
         desk.new.sittings.now }
 {
     let ask = ask_in(
@@ -211,7 +211,7 @@ fn request_lines<K: Keeper, L: Ledger, M: Ledger>(
         (K.seen desk.new.keeper.now).faults result }
     ensures same { whose desk.new ≡ whose desk.old }
     ensures attached { (K.seen desk.new.keeper.now).store ≡ (K.seen desk.old.keeper.now).store }
-    ensures settled { AreSettled (whose desk.old).app (K.seen desk.new.keeper.now)
+    ensures settled { AreSeated (whose desk.old).app (K.seen desk.new.keeper.now)
         desk.new.sittings.now }
 {
     let ask = request_in(desk.alloc, desk.service.app(), desk.sessions, request)?;
