@@ -10,7 +10,7 @@ use Rattle.jac_serving.specs.Answering.{Answering}
 use Rattle.jac_serving.specs.Desk.{DeskSeen, MayServe, Keeps}
 use Rattle.jac_serving.specs.declared.serve.Stopped.{Stopped}
 use Rattle.jac_serving.specs.Keeping.{Holding}
-use Rattle.jac_serving.specs.Outside.{Span}
+use Rattle.jac_serving.specs.Outside.{Span, Sinks}
 use Rattle.jac_serving.specs.Serve.{handled, AnswersLine}
 
 module _ {O : Type 0} (answering : O → Answering) where
@@ -45,7 +45,7 @@ module _ {O : Type 0} (answering : O → Answering) where
   next-of a b spelling hub new result before after keeps h =
       keeps-of a b (λ (x : Answering). Nexts IsTaken (handled spelling x) hub hub.turn result new before after) keeps h
 
-  pub line-of : (a b : DeskSeen O) (hub new : HubSeen) (k : Span Holding) (served line : ℕ) (written : Option (Option Event)) (result : Result ℕ Stopped) (out audit : List ℕ) → Keeps answering a b
-      → AnswersLine (answering b.of) hub new k served line written result out audit → AnswersLine (answering a.of) hub new k served line written result out audit
-  line-of a b hub new k served line written result out audit keeps h =
-      keeps-of a b (λ (x : Answering). AnswersLine x hub new k served line written result out audit) keeps h
+  pub line-of : (a b : DeskSeen O) (hub new : HubSeen) (k : Span Holding) (served line : ℕ) (written : Option (Option Event)) (result : Result ℕ Stopped) (s : Sinks) (out audit : List ℕ) → Keeps answering a b
+      → AnswersLine (answering b.of) hub new k served line written result s out audit → AnswersLine (answering a.of) hub new k served line written result s out audit
+  line-of a b hub new k served line written result s out audit keeps h =
+      keeps-of a b (λ (x : Answering). AnswersLine x hub new k served line written result s out audit) keeps h

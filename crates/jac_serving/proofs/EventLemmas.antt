@@ -30,7 +30,7 @@ use Rattle.jac_replies.specs.declared.reply.Spelling.TheVariants as spellings
 use Rattle.jac_serving.specs.Answering.{Entry, hearing, Answering, IsAnswering}
 use Rattle.jac_serving.specs.Log.{reply_to, reply_line, replies_text, closing_text, audit_line}
 use Rattle.jac_replies.specs.Spelled.{closed_text, audit_text}
-use Rattle.jac_serving.specs.Outside.{Span, span, PutBoth, IsFront, IsTorn}
+use Rattle.jac_serving.specs.Outside.{Span, span, Sinks, PutBoth, IsFront, IsTorn}
 use Rattle.jac_serving.specs.Script.{lapse_of}
 use Rattle.jac_serving.specs.declared.desk.Asked.{Asked}
 use Rattle.jac_serving.specs.declared.desk.Asked.TheVariants.{Answered, Unanswered}
@@ -128,12 +128,12 @@ step_kept h line (Piece c bytes) known taken old new like steps kept = piece_kep
 step_kept h line (Finish c) known taken old new like steps kept = finish_kept h line c (old.channels c) (known c) taken old new (like c) steps kept
 
 -- why an event isn't taken
-pub stopped_answers : (x : Answering) (old new : HubSeen) (k : Holding) (served line : ℕ) (event : Event) (stopped : Stopped)
-    → TakesEvent line old event (Err stopped) new → AnswersEvent x old new (span k k) served line event (Err stopped) [] []
-stopped_answers x old new k served line event (stops.Refused lapse) h =
+pub stopped_answers : (x : Answering) (old new : HubSeen) (k : Holding) (served line : ℕ) (event : Event) (stopped : Stopped) (s : Sinks)
+    → TakesEvent line old event (Err stopped) new → AnswersEvent x old new (span k k) served line event (Err stopped) s [] []
+stopped_answers x old new k served line event (stops.Refused lapse) s h =
     (λ known like. step_refused (hearing x) line event known h.0 lapse old new like h.1 h.2, refl, refl, refl)
-stopped_answers x old new k served line event stops.Memory h = (refl, refl, refl)
-stopped_answers x old new k served line event stops.Write h = absurd h
+stopped_answers x old new k served line event stops.Memory s h = (refl, refl, refl)
+stopped_answers x old new k served line event stops.Write s h = absurd h
 
 drop_shorter : (n : ℕ) (xs : List ℕ) → length (drop n xs) ≤ length xs
 drop_shorter zero xs = omega arith
@@ -235,6 +235,9 @@ closing_shape (Piece c bytes) before after = shape (piece_closing c (not (is_shu
     shape (inr one) = inr (c, record { out = one.0; text = one.1 })
 closing_shape (Finish c) before after = inl refl
 
+closed_some : (c : ℕ) → closed_text c ≡ [] → ⊥
+closed_some c none = cc
+
 last_same : (xs ys : List HubOut) (x y : HubOut) → xs ++ x ∷ [] ≡ ys ++ y ∷ [] → (xs ≡ ys) × (x ≡ y)
 last_same [] [] x y e = (refl, cc)
 last_same [] (a ∷ []) x y e = absurd cc
@@ -249,25 +252,27 @@ last_same (a ∷ xs) (b ∷ ys) x y e =
 
 -- what was torn, by what the hub gave
 module _ (x : Answering) (lawful : IsAnswering x) (n served : ℕ) (event : Event) (known : Connections Ask) (a b : Holding) (mine : List Entry) (replies outs : List HubOut) (last : HubOut)
-    (out audit out_torn audit_torn : List ℕ) (start : x.ready a)
+    (s : Sinks) (out audit out_torn audit_torn : List ℕ) (start : x.ready a)
     (answered : AreAnswered (hearing x) (IsHandled spellings.Quoted x) (refusal 500 None) a mine replies b)
-    (torn : IsOutTorn (served + replies_in outs + 1) last out_torn audit_torn)
+    (torn : IsOutTorn (served + replies_in outs + 1) last s out_torn audit_torn)
     (out_text : out ≡ outs_text outs ++ out_torn) (audit_text : audit ≡ outs_audited (served + 1) outs ++ audit_torn) where
-  by_reply : replies ≡ outs ++ last ∷ [] → IsEntryTorn served mine out audit
-  by_reply parts = torn_reply x lawful n served event known a b mine replies outs last out audit out_torn audit_torn start answered parts torn out_text audit_text
+  by_reply : replies ≡ outs ++ last ∷ [] → IsEntryTorn served mine s out audit
+  by_reply parts = torn_reply x lawful n served event known a b mine replies outs last s out audit out_torn audit_torn start answered parts torn out_text audit_text
 
   by_closing : IsBroughtBy (hearing x) n event known mine
       → outs ++ last ∷ [] ≡ replies ++ closings event known (after_both (hearing x) event mine known)
       → (closings event known (after_both (hearing x) event mine known) ≡ []) ⊎ ((c : ℕ) × IsClosingOut event known (after_both (hearing x) event mine known) c)
-      → IsEntryTorn served mine out audit ⊎ IsClosingTorn x served n event known mine out audit
+      → IsEntryTorn served mine s out audit ⊎ IsClosingTorn x served n event known mine s out audit
   by_closing brought parts (inl none) = inl (by_reply (sym (parts ∙ ap (λ (t : List HubOut). replies ++ t) none ∙ append-nil replies)))
   by_closing brought parts (inr one) =
       let same = last_same outs replies last (Closed one.0) (parts ∙ ap (λ (t : List HubOut). replies ++ t) one.1.out) in
-      let closed : IsOutTorn (served + replies_in outs + 1) (Closed one.0) out_torn audit_torn =
-      subst (λ (l : HubOut). IsOutTorn (served + replies_in outs + 1) l out_torn audit_torn) same.1 torn in
+      let closed : IsOutTorn (served + replies_in outs + 1) (Closed one.0) s out_torn audit_torn =
+      subst (λ (l : HubOut). IsOutTorn (served + replies_in outs + 1) l s out_torn audit_torn) same.1 torn in
       let lines = lines_all spellings.Quoted x lawful mine replies a b start answered in
       inr (record {
         out_torn = out_torn;
+        fault = closed.2;
+        some = λ none. closed_some one.0 (sym one.1.text ∙ none);
         brought = brought;
         torn = subst (λ (t : List ℕ). IsFront out_torn t) (sym one.1.text) closed.0;
         out_text = out_text ∙ ap (λ (t : List ℕ). t ++ out_torn) (ap outs_text same.0 ∙ lines.text);
@@ -277,16 +282,16 @@ module _ (x : Answering) (lawful : IsAnswering x) (n served : ℕ) (event : Even
       })
 
   torn_by : (outs ++ last ∷ [] ≡ replies) ⊎ (IsBroughtBy (hearing x) n event known mine × (outs ++ last ∷ [] ≡ replies ++ closings event known (after_both (hearing x) event mine known)))
-      → IsEntryTorn served mine out audit ⊎ IsClosingTorn x served n event known mine out audit
+      → IsEntryTorn served mine s out audit ⊎ IsClosingTorn x served n event known mine s out audit
   torn_by (inl parts) = inl (by_reply (sym parts))
   torn_by (inr h) = by_closing h.0 h.1 (closing_shape event known (after_both (hearing x) event mine known))
 
 -- a put failed while an event was served
 pub event_torn : (x : Answering) (lawful : IsAnswering x) → IsReading IsTaken → (n served : ℕ) (event : Event) (known : Connections Ask) (taken : Result (Unit {0}) HubFault)
-    (old stepped : HubSeen) (a b : Holding) (out audit : List ℕ)
+    (old stepped : HubSeen) (a b : Holding) (s : Sinks) (out audit : List ℕ)
     → old.turn ≡ turns.Idle → AreLike (hearing x) old.channels known → Steps old event taken stepped → x.ready a
-    → PutsSome x stepped (span a b) served out audit → IsEventTorn x (span a b) served n event known out audit
-event_torn x lawful law n served event known taken old stepped a b out audit idle like steps start p =
+    → PutsSome x stepped (span a b) served s out audit → IsEventTorn x (span a b) served n event known s out audit
+event_torn x lawful law n served event known taken old stepped a b sinks out audit idle like steps start p =
     let s = event-served_in_part (hearing x) law (handled spellings.Quoted x) (IsHandled spellings.Quoted x) (refusal 500 None) n (handled-tells spellings.Quoted x)
     event known taken old stepped p.left (p.outs ++ p.last ∷ []) a b idle like steps p.given in
     let lines = lines_all spellings.Quoted x lawful s.mine s.replies a b start s.answered in
@@ -294,7 +299,7 @@ event_torn x lawful law n served event known taken old stepped a b out audit idl
       mine = s.mine;
       begun = s.begun;
       entries = lines.entries;
-      torn = torn_by x lawful n served event known a b s.mine s.replies p.outs p.last out audit p.out_torn p.audit_torn start s.answered p.torn p.out_text p.audit_text s.put;
+      torn = torn_by x lawful n served event known a b s.mine s.replies p.outs p.last sinks out audit p.out_torn p.audit_torn start s.answered p.torn p.out_text p.audit_text s.put;
     }
 
 -- the lines of what a desk made of a request
@@ -309,12 +314,12 @@ abbrev pub ask_entry : ℕ → Ask → Answer → Entry
 ask_entry n ask answer = record { place = n; source = asked; subject = whole ask false; answer = answer }
 
 -- the request of an `ask` line was served
-pub ask_served : (x : Answering) (lawful : IsAnswering x) (hub : HubSeen) (a b : Holding) (served n : ℕ) (viewer : Option ℕ) (method path query body out audit : List ℕ) (known : Connections Ask) (made : Asked)
+pub ask_served : (x : Answering) (lawful : IsAnswering x) (hub : HubSeen) (a b : Holding) (served n : ℕ) (viewer : Option ℕ) (method path query body : List ℕ) (s : Sinks) (out audit : List ℕ) (known : Connections Ask) (made : Asked)
     → hub.turn ≡ turns.Idle → AreLike (hearing x) hub.channels known
     → IsAsked x (span a b) (x.asks viewer method path query body) made
-    → PutBoth {E = Unit {0}} (asked_line method made) (asked_audit (served + 1) made) (Ok tt) out audit
+    → PutBoth {E = Unit {0}} (asked_line method made) (asked_audit (served + 1) made) (Ok tt) s out audit
     → IsEventServed x hub (span a b) served (served + 1) n (Asking viewer method path query body) known out audit
-ask_served x lawful hub a b served n viewer method path query body out audit known made idle like is put =
+ask_served x lawful hub a b served n viewer method path query body s out audit known made idle like is put =
     let ask = x.asks viewer method path query body in
     let told = asked_told x (span a b) ask made is in
     let entry = ask_entry n ask told.0 in
@@ -331,11 +336,11 @@ ask_served x lawful hub a b served n viewer method path query body out audit kno
       audit_text = put.1 ∙ told.3 (served + 1) ∙ sym (append-nil (audit_line (served + 1) entry));
     }
 
-pub ask_torn : (x : Answering) (lawful : IsAnswering x) (a b : Holding) (served n : ℕ) (viewer : Option ℕ) (method path query body out audit : List ℕ) (known : Connections Ask) (made : Asked)
+pub ask_torn : (x : Answering) (lawful : IsAnswering x) (a b : Holding) (served n : ℕ) (viewer : Option ℕ) (method path query body : List ℕ) (s : Sinks) (out audit : List ℕ) (known : Connections Ask) (made : Asked)
     → IsAsked x (span a b) (x.asks viewer method path query body) made
-    → IsTorn (asked_line method made) (asked_audit (served + 1) made) out audit
-    → IsEventTorn x (span a b) served n (Asking viewer method path query body) known out audit
-ask_torn x lawful a b served n viewer method path query body out audit known made is torn =
+    → IsTorn (asked_line method made) (asked_audit (served + 1) made) s out audit
+    → IsEventTorn x (span a b) served n (Asking viewer method path query body) known s out audit
+ask_torn x lawful a b served n viewer method path query body s out audit known made is torn =
     let ask = x.asks viewer method path query body in
     let told = asked_told x (span a b) ask made is in
     let entry = ask_entry n ask told.0 in
@@ -350,8 +355,8 @@ ask_torn x lawful a b served n viewer method path query body out audit known mad
         audit_torn = audit;
         parts = refl;
         torn =
-            subst (λ (t : List ℕ). IsTorn t (audit_line (served + 0 + 1) entry) out audit) (ap (λ (m : List ℕ). asked_line m made) (sym (lawful.same_method viewer method path query body)) ∙ told.2)
-            (subst (λ (t : List ℕ). IsTorn (asked_line method made) t out audit) (told.3 (served + 1) ∙ ap (λ (m : ℕ). audit_line m entry) (omega arith)) torn);
+            subst (λ (t : List ℕ). IsTorn t (audit_line (served + 0 + 1) entry) s out audit) (ap (λ (m : List ℕ). asked_line m made) (sym (lawful.same_method viewer method path query body)) ∙ told.2)
+            (subst (λ (t : List ℕ). IsTorn (asked_line method made) t s out audit) (told.3 (served + 1) ∙ ap (λ (m : ℕ). audit_line m entry) (omega arith)) torn);
         out_text = refl;
         audit_text = refl;
       });

@@ -26,7 +26,7 @@ use Rattle.jac_replies.specs.declared.reply.Spelling.TheVariants as spellings
 use Rattle.jac_serving.specs.Answering.{Subject, Entry, hearing, Answering, IsAnswering}
 use Rattle.jac_serving.specs.Log.{reply_on, entry_on, replies_on, reply_line, replies_text, closing_text, reply_to, audit_line, audited_from, viewer_of}
 use Rattle.jac_replies.specs.Spelled.{closed_text, audit_text}
-use Rattle.jac_serving.specs.Outside.{Span, span, IsTorn}
+use Rattle.jac_serving.specs.Outside.{Span, span, Sinks, IsTorn}
 use Rattle.jac_serving.specs.Serve.{IsHandled, handled, sent_on, sent_line, sent_audit, out_on, outs_on, outs_text, out_text, outs_audited, replies_in, IsOutTorn, PutsAll, IsEventServed, IsEntryTorn}
 
 agrees : (spelling : Spelling) (x : Answering) (before after : Holding) (c : ℕ) (heard : Heard) (sent : Sent) (answer : Answer)
@@ -183,7 +183,7 @@ pub record IsCut (x : Answering) (k : Span Holding) (mine : List Entry) (outs : 
   pub audited : (n : ℕ) → outs_audited n outs ≡ audited_from n whole_ones
   pub replies : replies_in outs ≡ length whole_ones
   pub line : out_text last ≡ reply_line entry
-  pub torn : (n : ℕ) (o a : List ℕ) → IsOutTorn n last o a → IsTorn (reply_line entry) (audit_line n entry) o a
+  pub torn : (n : ℕ) (s : Sinks) (o a : List ℕ) → IsOutTorn n last s o a → IsTorn (reply_line entry) (audit_line n entry) s o a
 
 no_replies : (X : Type 0) (outs : List HubOut) (last : HubOut) → [] ≡ outs ++ last ∷ [] → X
 no_replies X [] last e = absurd cc
@@ -215,10 +215,10 @@ cut_last x lawful (entry ∷ mine) replies [] last before after start (c, sent, 
       audited = λ n. refl;
       replies = refl;
       line = ap out_text (sym (head_same (Reply c sent) last rest [] both)) ∙ same;
-      torn = λ n o a torn.
-          subst (λ (t : List ℕ). IsTorn t (audit_line n entry) o a) same
-          (subst (λ (t : List ℕ). IsTorn (sent_line c sent) t o a) (line.audit n)
-          (subst (λ (l : HubOut). IsOutTorn n l o a) (sym (head_same (Reply c sent) last rest [] both)) torn));
+      torn = λ n s o a torn.
+          subst (λ (t : List ℕ). IsTorn t (audit_line n entry) s o a) same
+          (subst (λ (t : List ℕ). IsTorn (sent_line c sent) t s o a) (line.audit n)
+          (subst (λ (l : HubOut). IsOutTorn n l s o a) (sym (head_same (Reply c sent) last rest [] both)) torn));
     }
 cut_last x lawful (entry ∷ mine) replies (first ∷ outs) last before after start (c, sent, rest, between, is, whole_ones, answered, more) parts =
     let line = line_of spellings.Quoted x lawful c entry.subject entry.answer sent before between start answered in
@@ -240,11 +240,11 @@ cut_last x lawful (entry ∷ mine) replies (first ∷ outs) last before after st
 
 -- where the replies are torn, or the line behind them all
 pub torn_reply : (x : Answering) (lawful : IsAnswering x) (n served : ℕ) (event : Event) (known : Connections Ask) (a b : Holding) (mine : List Entry) (replies outs : List HubOut) (last : HubOut)
-    (out audit out_torn audit_torn : List ℕ) → x.ready a
+    (s : Sinks) (out audit out_torn audit_torn : List ℕ) → x.ready a
     → AreAnswered (hearing x) (IsHandled spellings.Quoted x) (refusal 500 None) a mine replies b → replies ≡ outs ++ last ∷ []
-    → IsOutTorn (served + replies_in outs + 1) last out_torn audit_torn → out ≡ outs_text outs ++ out_torn → audit ≡ outs_audited (served + 1) outs ++ audit_torn
-    → IsEntryTorn served mine out audit
-torn_reply x lawful n served event known a b mine replies outs last out audit out_torn audit_torn start answered parts torn text audited =
+    → IsOutTorn (served + replies_in outs + 1) last s out_torn audit_torn → out ≡ outs_text outs ++ out_torn → audit ≡ outs_audited (served + 1) outs ++ audit_torn
+    → IsEntryTorn served mine s out audit
+torn_reply x lawful n served event known a b mine replies outs last s out audit out_torn audit_torn start answered parts torn text audited =
     let cut = cut_last x lawful mine replies outs last a b start answered parts in
     record {
       whole_ones = cut.whole_ones;
@@ -253,8 +253,8 @@ torn_reply x lawful n served event known a b mine replies outs last out audit ou
       audit_torn = audit_torn;
       parts = cut.parts;
       torn =
-          subst (λ (m : ℕ). IsTorn (reply_line cut.entry) (audit_line (served + m + 1) cut.entry) out_torn audit_torn) cut.replies
-          (cut.torn (served + replies_in outs + 1) out_torn audit_torn torn);
+          subst (λ (m : ℕ). IsTorn (reply_line cut.entry) (audit_line (served + m + 1) cut.entry) s out_torn audit_torn) cut.replies
+          (cut.torn (served + replies_in outs + 1) s out_torn audit_torn torn);
       out_text = text ∙ ap (λ (t : List ℕ). t ++ out_torn) cut.text;
       audit_text = audited ∙ ap (λ (t : List ℕ). t ++ audit_torn) (cut.audited (served + 1));
     }

@@ -17,9 +17,10 @@ use Rattle.jac_hub.specs.Hub.{HubSeen, Nexts, NextServing}
 use Rattle.jac_hub.proofs.Giving.{given-push, given-all}
 use Rattle.jac_replies.specs.declared.reply.Spelling.TheVariants as spellings
 use Rattle.jac_serving.specs.Answering.{Answering}
-use Rattle.jac_serving.specs.Outside.{span}
-use Rattle.jac_serving.specs.Serve.{handled, out_text, outs_text, outs_audited, replies_in, IsOutTorn, PutsOut, PutsSoFar, PutsSome, PutsAll}
+use Rattle.jac_serving.specs.Outside.{span, Sinks}
+use Rattle.jac_serving.specs.Serve.{handled, sent_line, sent_audit, out_text, outs_text, outs_audited, replies_in, IsOutTorn, PutsOut, PutsSoFar, PutsSome, PutsAll}
 use Rattle.jac_serving.proofs.HubLemmas.{outs_on-append, outs_audited-append, replies_in-append}
+use Rattle.jac_serving.proofs.OutsideLemmas.{FailsWithin, torn_within}
 
 -- a call of a hub calls its handler once, or not at all
 module _ {H : Type 0} (reads : List ℕ → Taken → Type 0) (before after : H) (handles : H → ℕ → Heard → Sent → H → Type 0) where
@@ -91,11 +92,11 @@ out_alone : (given : HubOut) → out_text given ≡ outs_text (given ∷ [])
 out_alone given = sym (append-nil (out_text given))
 
 -- one more was put
-pub so_far_more : (x : Answering) (hub between new : HubSeen) (a b c : Holding) (served count more : ℕ) (given : HubOut) (o au p bu : List ℕ)
+pub so_far_more : (x : Answering) (hub between new : HubSeen) (a b c : Holding) (served count more : ℕ) (given : HubOut) (part : Sinks) (o au p bu : List ℕ)
     → Nexts IsTaken (handled spellings.Quoted x) between between.turn (Some given) new b c
-    → PutsSoFar x hub between (span a b) served count o au → PutsOut {E = Unit {0}} count given (Ok more) p bu
+    → PutsSoFar x hub between (span a b) served count o au → PutsOut {E = Unit {0}} count given (Ok more) part p bu
     → PutsSoFar x hub new (span a c) served more (o ++ p) (au ++ bu)
-so_far_more x hub between new a b c served count more given o au p bu next s put = record {
+so_far_more x hub between new a b c served count more given part o au p bu next s put = record {
   outs = s.outs ++ given ∷ [];
   given = given-push IsTaken (handled spellings.Quoted x) s.outs hub between new given a b c s.given next;
   count_is =
@@ -109,19 +110,25 @@ so_far_more x hub between new a b c served count more given o au p bu next s put
       ∙ audited_next served count s.outs given s.count_is;
 }
 
+-- what was torn by a part was torn by the whole
+out_torn_within : (all part : Sinks) (k : ℕ) (given : HubOut) (o au : List ℕ) → FailsWithin all part → IsOutTorn k given part o au → IsOutTorn k given all o au
+out_torn_within all part k (Reply c sent) o au within h = torn_within all part (sent_line c sent) (sent_audit k sent) o au within h
+out_torn_within all part k (Closed c) o au within h = (h.0, h.1, within.out h.2)
+
 -- the next one was torn
-pub so_far_torn : (x : Answering) (hub between new : HubSeen) (a b c : Holding) (served count : ℕ) (given : HubOut) (o au p bu : List ℕ)
+pub so_far_torn : (x : Answering) (hub between new : HubSeen) (a b c : Holding) (served count : ℕ) (given : HubOut) (all part : Sinks) (o au p bu : List ℕ)
+    → FailsWithin all part
     → Nexts IsTaken (handled spellings.Quoted x) between between.turn (Some given) new b c
-    → PutsSoFar x hub between (span a b) served count o au → IsOutTorn (count + 1) given p bu
-    → PutsSome x hub (span a c) served (o ++ p) (au ++ bu)
-so_far_torn x hub between new a b c served count given o au p bu next s torn = record {
+    → PutsSoFar x hub between (span a b) served count o au → IsOutTorn (count + 1) given part p bu
+    → PutsSome x hub (span a c) served all (o ++ p) (au ++ bu)
+so_far_torn x hub between new a b c served count given all part o au p bu within next s torn = record {
   outs = s.outs;
   last = given;
   left = new;
   out_torn = p;
   audit_torn = bu;
   given = given-push IsTaken (handled spellings.Quoted x) s.outs hub between new given a b c s.given next;
-  torn = subst (λ (n : ℕ). IsOutTorn (n + 1) given p bu) s.count_is torn;
+  torn = subst (λ (n : ℕ). IsOutTorn (n + 1) given all p bu) s.count_is (out_torn_within all part (count + 1) given p bu within torn);
   out_text = ap (λ (t : List ℕ). t ++ p) s.out_text;
   audit_text = ap (λ (t : List ℕ). t ++ bu) s.audit_text;
 }

@@ -3,7 +3,7 @@ use Rattle.std.proofs.Common.{◌≡◌, ◌≤◌, ◌∙◌, ap, sym, subst, r
 use Rattle.jac_io.specs.Faults.{Rose}
 use Rattle.jac_io.specs.Put.{AddsPrefix}
 use Rattle.jac_io.specs.Seen.{SinkSeen, Lasts}
-use Rattle.jac_serving.specs.Outside.{Span, span, Took, IsFront, Put, IsPut, PutBoth, Sinks, sinks, Went, WentTo, AWriteFailed}
+use Rattle.jac_serving.specs.Outside.{Span, span, Took, IsFront, Put, IsPut, IsTorn, PutBoth, Sinks, sinks, Went, WentWith, WentTo, HasFaulted, AWriteFailed}
 
 -- a put that failed left the front of its bytes
 pub torn_put : (tells : Bool) (before after bytes : List ℕ) → (IsTrue tells → AddsPrefix before after bytes)
@@ -73,15 +73,36 @@ pub failed_later : (one two : Sinks) → one.out.before.faults ≤ two.out.befor
 failed_later one two out_before audit_before out_after audit_after (inl rose) = inl (Rose-widen _ _ _ _ out_before out_after rose)
 failed_later one two out_before audit_before out_after audit_after (inr rose) = inr (Rose-widen _ _ _ _ audit_before audit_after rose)
 
+-- what failed in a part failed in the whole
+pub record FailsWithin (all part : Sinks) : Type 0 where
+  pub out : HasFaulted part.out → HasFaulted all.out
+  pub audit : HasFaulted part.audit → HasFaulted all.audit
+
+-- the part that comes last
+pub fails_behind : (out_a out_b out_c audit_a audit_b audit_c : SinkSeen) → out_a.faults ≤ out_b.faults → audit_a.faults ≤ audit_b.faults
+    → FailsWithin (sinks out_a out_c audit_a audit_c) (sinks out_b out_c audit_b audit_c)
+fails_behind out_a out_b out_c audit_a audit_b audit_c out_later audit_later = record {
+  out = λ rose. Rose-widen out_a.faults out_b.faults out_c.faults out_c.faults out_later (omega arith) rose;
+  audit = λ rose. Rose-widen audit_a.faults audit_b.faults audit_c.faults audit_c.faults audit_later (omega arith) rose;
+}
+
+pub torn_within : (all part : Sinks) (reply line out audit : List ℕ) → FailsWithin all part → IsTorn reply line part out audit → IsTorn reply line all out audit
+torn_within all part reply line out audit within (inl h) = inl (h.0, h.1, within.audit h.2)
+torn_within all part reply line out audit within (inr h) = inr (h.0, h.1, within.out h.2)
+
+pub torn_failed : (s : Sinks) (reply line out audit : List ℕ) → IsTorn reply line s out audit → AWriteFailed s
+torn_failed s reply line out audit (inl h) = inr h.2
+torn_failed s reply line out audit (inr h) = inl h.2
+
 -- the same of equal lines
-pub PutBoth-same : (E : Type 0) (reply reply_now line line_now out audit : List ℕ) (result : Result (Unit {0}) E)
-    → reply ≡ reply_now → line ≡ line_now → PutBoth reply line result out audit → PutBoth reply_now line_now result out audit
-PutBoth-same E reply reply_now line line_now out audit result same_reply same_line h =
-    subst (λ (r : List ℕ). PutBoth {E = E} r line_now result out audit) same_reply
-    (subst (λ (l : List ℕ). PutBoth {E = E} reply l result out audit) same_line h)
+pub PutBoth-same : (E : Type 0) (s : Sinks) (reply reply_now line line_now out audit : List ℕ) (result : Result (Unit {0}) E)
+    → reply ≡ reply_now → line ≡ line_now → PutBoth reply line result s out audit → PutBoth reply_now line_now result s out audit
+PutBoth-same E s reply reply_now line line_now out audit result same_reply same_line h =
+    subst (λ (r : List ℕ). PutBoth {E = E} r line_now result s out audit) same_reply
+    (subst (λ (l : List ℕ). PutBoth {E = E} reply l result s out audit) same_line h)
 
 pub Went-same : (E : Type 0) (s : Sinks) (reply reply_now line line_now : List ℕ) (result : Result (Unit {0}) E)
-    → reply ≡ reply_now → line ≡ line_now → Went s (PutBoth reply line result) → Went s (PutBoth reply_now line_now result)
+    → reply ≡ reply_now → line ≡ line_now → WentWith s (PutBoth reply line result) → WentWith s (PutBoth reply_now line_now result)
 Went-same E s reply reply_now line line_now result same_reply same_line went = record {
   out = went.out;
   audit = went.audit;
@@ -89,12 +110,12 @@ Went-same E s reply reply_now line line_now result same_reply same_line went = r
   audit_lasts = went.audit_lasts;
   out_took = went.out_took;
   audit_took = went.audit_took;
-  holds = PutBoth-same E reply reply_now line line_now went.out went.audit result same_reply same_line went.holds;
+  holds = PutBoth-same E s reply reply_now line line_now went.out went.audit result same_reply same_line went.holds;
 }
 
 -- the audit's line failed, and nothing was put on out
 pub Went-line : (E : Type 0) (out audit_before audit_after : SinkSeen) (reply line : List ℕ) (failed : E)
-    → IsPut {E = E} (span audit_before audit_after) line (Err failed) → Went (sinks out out audit_before audit_after) (PutBoth {E = E} reply line (Err failed))
+    → IsPut {E = E} (span audit_before audit_after) line (Err failed) → WentWith (sinks out out audit_before audit_after) (PutBoth {E = E} reply line (Err failed))
 Went-line E out audit_before audit_after reply line failed put = record {
   out = [];
   audit = put.put;
@@ -102,13 +123,13 @@ Went-line E out audit_before audit_after reply line failed put = record {
   audit_lasts = put.lasts;
   out_took = Took-none out;
   audit_took = put.took;
-  holds = inl (refl, put.is_put);
+  holds = inl (refl, put.is_put, put.rose);
 }
 
 -- the audit's line was put, and then the reply
 pub Went-reply : (E : Type 0) (out_before out_after audit_before audit_after : SinkSeen) (reply line : List ℕ) (done : Unit {0}) (result : Result (Unit {0}) E)
     → IsPut {E = E} (span audit_before audit_after) line (Ok done) → IsPut (span out_before out_after) reply result
-    → Went (sinks out_before out_after audit_before audit_after) (PutBoth reply line result)
+    → WentWith (sinks out_before out_after audit_before audit_after) (PutBoth reply line result)
 Went-reply E out_before out_after audit_before audit_after reply line done (Ok _) put_line put_reply = record {
   out = put_reply.put;
   audit = put_line.put;
@@ -125,7 +146,7 @@ Went-reply E out_before out_after audit_before audit_after reply line done (Err 
   audit_lasts = put_line.lasts;
   out_took = put_reply.took;
   audit_took = put_line.took;
-  holds = inr (put_reply.is_put, put_line.is_put);
+  holds = inr (put_reply.is_put, put_line.is_put, put_reply.rose);
 }
 
 -- what follows of the bytes

@@ -1,5 +1,5 @@
 -- Serving line after line.
-use Rattle.std.proofs.Common.{◌≡◌, ◌∙◌, ap, sym, subst, refl, ℕ, ◌+◌, ◌≤◌, ◌<◌, ◌⊎◌, true, false, Bool, IsTrue, IfSome, Option, Some, None, Result, Ok, Err, List, [], ◌∷◌, ◌++◌, length, append_assoc, append-nil, length-append, arith}
+use Rattle.std.proofs.Common.{◌≡◌, ◌∙◌, ap, sym, subst, refl, inl, inr, ℕ, ◌+◌, ◌≤◌, ◌<◌, ◌⊎◌, true, false, Bool, IsTrue, IfSome, Option, Some, None, Result, Ok, Err, List, [], ◌∷◌, ◌++◌, length, append_assoc, append-nil, length-append, arith}
 use denote.Ref.{Bor}
 use Rattle.jac_serving.specs.Keeping.{Holding}
 use Rattle.jac_value.specs.Parts.{parts_left, option_now, length_left}
@@ -15,12 +15,13 @@ use Rattle.jac_serving.specs.declared.serve.Lapse.TheVariants as lapses
 use Rattle.jac_serving.specs.declared.serve.Stopped.{Stopped}
 use Rattle.jac_serving.specs.declared.serve.Stopped.TheVariants as stops
 use Rattle.jac_serving.specs.Answering.{Entry, hearing, IsHeardBy, Answering, IsAnswering}
-use Rattle.jac_serving.specs.Log.{Brings, audited, audited_from}
-use Rattle.jac_serving.specs.Outside.{Span, span}
+use Rattle.jac_serving.specs.Log.{Brings, reply_line, audit_line, audited, audited_from}
+use Rattle.jac_serving.specs.Outside.{Span, span, Sinks, AWriteFailed}
 use Rattle.jac_serving.specs.Script.{Script, script_from, script_of, script_step, script_event, stopped_at, with_event, lapse_of, opened_by}
 use Rattle.jac_serving.specs.Serve.{IsEventServed, IsEventTorn, IsEntryTorn, IsClosingTorn, AnswersEvent, AnswersLine, IsServed, PutsServed, PutsTorn, ServesAs, is_open}
 use Rattle.jac_serving.proofs.EntriesLemmas.{entries-still, audited-append}
 use Rattle.jac_serving.proofs.BringsLemmas.{brings-push, brings-heard, brings-part, brings-begun, open_after}
+use Rattle.jac_serving.proofs.OutsideLemmas.{FailsWithin, torn_within, torn_failed}
 
 -- events that were served, before those of the rest
 abbrev pub served_before : List Event → Script → Script
@@ -138,17 +139,17 @@ no_ok X count stopped e = absurd cc
 ok_same : (x y : ℕ) → ◌≡◌ {A = Result ℕ Stopped} (Ok x) (Ok y) → x ≡ y
 ok_same x y e = cc
 
-pub go_on : (x : Answering) (lawful : IsAnswering x) (hub new : HubSeen) (a b c : Holding) (bytes : List ℕ) (left after : Option (List ℕ)) (lines served count : ℕ) (out audit line o au : List ℕ)
+pub go_on : (x : Answering) (lawful : IsAnswering x) (hub new : HubSeen) (a b c : Holding) (bytes : List ℕ) (left after : Option (List ℕ)) (lines served count : ℕ) (s : Sinks) (out audit line o au : List ℕ)
     → Progress x hub (span a b) bytes left lines served out audit → parts_left 10 left ≡ line ∷ parts_left 10 after → (written : Option (Option Event)) → line_of line ≡ written
-    → AnswersLine x hub new (span b c) served (lines + 1) written (Ok count) o au
+    → AnswersLine x hub new (span b c) served (lines + 1) written (Ok count) s o au
     → Progress x new (span a c) bytes after (lines + 1) count (out ++ o) (audit ++ au)
-go_on x lawful hub new a b c bytes left after lines served count out audit line o au p parts None is h = no_ok _ count _ h.0
-go_on x lawful hub new a b c bytes left after lines served count out audit line o au p parts (Some None) is h =
+go_on x lawful hub new a b c bytes left after lines served count s out audit line o au p parts None is h = no_ok _ count _ h.0
+go_on x lawful hub new a b c bytes left after lines served count s out audit line o au p parts (Some None) is h =
     subst (λ (t : List ℕ). Progress x new (span a c) bytes after (lines + 1) count (out ++ o) t) (nothing_more audit au h.3)
     (subst (λ (t : List ℕ). Progress x new (span a c) bytes after (lines + 1) count t audit) (nothing_more out o h.2)
     (subst (λ (n : ℕ). Progress x new (span a c) bytes after (lines + 1) n out audit) (sym (ok_same count served h.0))
     (pass_over x hub new a b c bytes left after lines served out audit line p h.1 h.4 parts is)))
-go_on x lawful hub new a b c bytes left after lines served count out audit line o au p parts (Some (Some event)) is h =
+go_on x lawful hub new a b c bytes left after lines served count s out audit line o au p parts (Some (Some event)) is h =
     let one = h (0 + length p.events) p.known p.like in
     serve_one x lawful hub new a b c bytes left after lines served count out audit line o au event p parts is one.0 one.1
 
@@ -187,10 +188,10 @@ finish_with early x hub a b c bytes left lines served out audit unserved p still
 }
 
 -- a line is refused
-finish_refused : (x : Answering) (hub : HubSeen) (a b c : Holding) (bytes : List ℕ) (left : Option (List ℕ)) (lines served : ℕ) (out audit o au : List ℕ) (lapse : Lapse)
+finish_refused : (x : Answering) (hub : HubSeen) (a b c : Holding) (bytes : List ℕ) (left : Option (List ℕ)) (lines served : ℕ) (s : Sinks) (out audit o au : List ℕ) (lapse : Lapse)
     → (p : Progress x hub (span a b) bytes left lines served out audit) → served_before p.events (stopped_at lapse) ≡ script_of bytes → o ≡ [] → au ≡ [] → c ≡ b
-    → ServesAs x (span a c) bytes (Err (stops.Refused lapse)) (out ++ o) (audit ++ au)
-finish_refused x hub a b c bytes left lines served out audit o au lapse p script no_out no_audit still = (
+    → ServesAs x (span a c) bytes (Err (stops.Refused lapse)) s (out ++ o) (audit ++ au)
+finish_refused x hub a b c bytes left lines served s out audit o au lapse p script no_out no_audit still = (
   ap (λ (s : Script). s.refused) (sym script),
   subst (λ (t : List ℕ). PutsServed false x (span a c) (script_of bytes) (out ++ o) t) (nothing_more audit au no_audit)
       (subst (λ (t : List ℕ). PutsServed false x (span a c) (script_of bytes) t audit) (nothing_more out o no_out)
@@ -209,23 +210,75 @@ refused_other X x n e = absurd cc
 pub early_is_not_whole : {X : Type 0} → true ≡ false → X
 early_is_not_whole is = absurd cc
 
-torn_at : (x : Answering) (served n : ℕ) (event : Event) (known : Connections Ask) (mine : List Entry) (o au : List ℕ) (count place : ℕ) → served ≡ count → n ≡ place
-    → IsEntryTorn served mine o au ⊎ IsClosingTorn x served n event known mine o au
-    → IsEntryTorn count mine o au ⊎ IsClosingTorn x count place event known mine o au
-torn_at x served n event known mine o au count place same at h =
-    subst (λ (m : ℕ). IsEntryTorn count mine o au ⊎ IsClosingTorn x count m event known mine o au) at
-    (subst (λ (m : ℕ). IsEntryTorn m mine o au ⊎ IsClosingTorn x m n event known mine o au) same h)
+torn_at : (x : Answering) (served n : ℕ) (event : Event) (known : Connections Ask) (mine : List Entry) (s : Sinks) (o au : List ℕ) (count place : ℕ) → served ≡ count → n ≡ place
+    → IsEntryTorn served mine s o au ⊎ IsClosingTorn x served n event known mine s o au
+    → IsEntryTorn count mine s o au ⊎ IsClosingTorn x count place event known mine s o au
+torn_at x served n event known mine s o au count place same at h =
+    subst (λ (m : ℕ). IsEntryTorn count mine s o au ⊎ IsClosingTorn x count m event known mine s o au) at
+    (subst (λ (m : ℕ). IsEntryTorn m mine s o au ⊎ IsClosingTorn x m n event known mine s o au) same h)
+
+-- what was torn by a part was torn by the whole
+module _ (x : Answering) (served n : ℕ) (event : Event) (known : Connections Ask) (mine : List Entry) (o au : List ℕ) (all part : Sinks) (within : FailsWithin all part) where
+  both_within : IsEntryTorn served mine part o au ⊎ IsClosingTorn x served n event known mine part o au → IsEntryTorn served mine all o au ⊎ IsClosingTorn x served n event known mine all o au
+  both_within (inl h) = inl (record {
+    whole_ones = h.whole_ones;
+    entry = h.entry;
+    out_torn = h.out_torn;
+    audit_torn = h.audit_torn;
+    parts = h.parts;
+    torn = torn_within all part (reply_line h.entry) (audit_line (served + length h.whole_ones + 1) h.entry) h.out_torn h.audit_torn within h.torn;
+    out_text = h.out_text;
+    audit_text = h.audit_text;
+  })
+  both_within (inr h) = inr (record {
+    out_torn = h.out_torn;
+    fault = within.out h.fault;
+    some = h.some;
+    brought = h.brought;
+    torn = h.torn;
+    out_text = h.out_text;
+    audit_text = h.audit_text;
+  })
+
+  both_failed : IsEntryTorn served mine all o au ⊎ IsClosingTorn x served n event known mine all o au → AWriteFailed all
+  both_failed (inl h) = torn_failed all (reply_line h.entry) (audit_line (served + length h.whole_ones + 1) h.entry) h.out_torn h.audit_torn h.torn
+  both_failed (inr h) = inl h.fault
+
+pub puts_torn_within : (x : Answering) (k : Span Holding) (script : Script) (all part : Sinks) (out audit : List ℕ) → FailsWithin all part → PutsTorn x k script part out audit
+    → PutsTorn x k script all out audit
+puts_torn_within x k script all part out audit within h = record {
+  events = h.events;
+  event = h.event;
+  unserved = h.unserved;
+  log = h.log;
+  mine = h.mine;
+  known = h.known;
+  text = h.text;
+  out_more = h.out_more;
+  audit_more = h.audit_more;
+  parts = h.parts;
+  served = h.served;
+  brought = h.brought;
+  begun = h.begun;
+  torn = both_within x (length h.log) (length h.events) h.event h.known h.mine h.out_more h.audit_more all part within h.torn;
+  out_text = h.out_text;
+  audit_text = h.audit_text;
+}
+
+pub puts_torn_failed : (x : Answering) (k : Span Holding) (script : Script) (s : Sinks) (out audit : List ℕ) → PutsTorn x k script s out audit → AWriteFailed s
+puts_torn_failed x k script s out audit h =
+    both_failed x (length h.log) (length h.events) h.event h.known h.mine h.out_more h.audit_more s s (record { out = λ rose. rose; audit = λ rose. rose }) h.torn
 
 none_before : (n : ℕ) → 0 + n ≡ n
 none_before n = omega arith
 
 -- a put failed
-finish_torn : (x : Answering) (lawful : IsAnswering x) (hub : HubSeen) (a b c : Holding) (bytes : List ℕ) (left after : Option (List ℕ)) (lines served : ℕ) (out audit line o au : List ℕ) (event : Event)
-    → (p : Progress x hub (span a b) bytes left lines served out audit)
+finish_torn : (x : Answering) (lawful : IsAnswering x) (hub : HubSeen) (a b c : Holding) (bytes : List ℕ) (left after : Option (List ℕ)) (lines served : ℕ) (all part : Sinks) (out audit line o au : List ℕ) (event : Event)
+    → FailsWithin all part → (p : Progress x hub (span a b) bytes left lines served out audit)
     → parts_left 10 left ≡ line ∷ parts_left 10 after → line_of line ≡ Some (Some event) → lapse_of (lines + 1) (is_open p.known) event ≡ None
-    → IsEventTorn x (span b c) served (0 + length p.events) event p.known o au
-    → PutsTorn x (span a c) (script_of bytes) (out ++ o) (audit ++ au)
-finish_torn x lawful hub a b c bytes left after lines served out audit line o au event p parts is none t =
+    → IsEventTorn x (span b c) served (0 + length p.events) event p.known part o au
+    → PutsTorn x (span a c) (script_of bytes) all (out ++ o) (audit ++ au)
+finish_torn x lawful hub a b c bytes left after lines served sinks part out audit line o au event within p parts is none t =
     let unserved = (script_from (parts_left 10 after) (lines + 1 + 1) (opened_by event (is_open p.known))).events in
     let all : (script_of bytes).events ≡ p.events ++ event ∷ unserved = ap (λ (s : Script). s.events) (sym (allowed p after line event parts is none)) in
     record {
@@ -246,69 +299,70 @@ finish_torn x lawful hub a b c bytes left after lines served out audit line o au
           (lawful.joined a b c p.log t.mine p.entries t.entries);
       brought = p.out_text;
       begun = subst (λ (n : ℕ). IsBegunBy (hearing x) n event p.known t.mine) (none_before (length p.events)) t.begun;
-      torn = torn_at x served (0 + length p.events) event p.known t.mine o au (length p.log) (length p.events) (sym p.counted) (none_before (length p.events)) t.torn;
+      torn = torn_at x served (0 + length p.events) event p.known t.mine sinks o au (length p.log) (length p.events) (sym p.counted) (none_before (length p.events))
+          (both_within x served (0 + length p.events) event p.known t.mine o au sinks part within t.torn);
       out_text = refl;
       audit_text = ap (λ (x : List ℕ). x ++ au) p.audit_text;
     }
 
-pub stop_at : (x : Answering) (lawful : IsAnswering x) (hub new : HubSeen) (a b c : Holding) (bytes : List ℕ) (left after : Option (List ℕ)) (lines served : ℕ) (out audit line o au : List ℕ)
-    → Progress x hub (span a b) bytes left lines served out audit → parts_left 10 left ≡ line ∷ parts_left 10 after → (written : Option (Option Event)) → line_of line ≡ written → (stopped : Stopped)
-    → AnswersLine x hub new (span b c) served (lines + 1) written (Err stopped) o au
-    → ServesAs x (span a c) bytes (Err stopped) (out ++ o) (audit ++ au)
-stop_at x lawful hub new a b c bytes left after lines served out audit line o au p parts written is stops.Memory h =
+pub stop_at : (x : Answering) (lawful : IsAnswering x) (hub new : HubSeen) (a b c : Holding) (bytes : List ℕ) (left after : Option (List ℕ)) (lines served : ℕ) (all part : Sinks) (out audit line o au : List ℕ)
+    → FailsWithin all part → Progress x hub (span a b) bytes left lines served out audit → parts_left 10 left ≡ line ∷ parts_left 10 after → (written : Option (Option Event)) → line_of line ≡ written → (stopped : Stopped)
+    → AnswersLine x hub new (span b c) served (lines + 1) written (Err stopped) part o au
+    → ServesAs x (span a c) bytes (Err stopped) all (out ++ o) (audit ++ au)
+stop_at x lawful hub new a b c bytes left after lines served all part out audit line o au within p parts written is stops.Memory h =
     subst (λ (t : List ℕ). PutsServed true x (span a c) (script_of bytes) (out ++ o) t) (nothing_more audit au h.1)
     (subst (λ (t : List ℕ). PutsServed true x (span a c) (script_of bytes) t audit) (nothing_more out o h.0)
     (finish_with true x hub a b c bytes left lines served out audit _ p h.2 (ap (λ (s : Script). s.events) (sym p.script)) early_is_not_whole))
-stop_at x lawful hub new a b c bytes left after lines served out audit line o au p parts None is (stops.Refused lapse) h =
-    finish_refused x hub a b c bytes left lines served out audit o au lapse p
+stop_at x lawful hub new a b c bytes left after lines served all part out audit line o au within p parts None is (stops.Refused lapse) h =
+    finish_refused x hub a b c bytes left lines served all out audit o au lapse p
     (ap (λ (l : Lapse). served_before p.events (stopped_at l)) (refused_same lapse (lapses.NoForm (lines + 1)) h.0) ∙ opened p line (parts_left 10 after) None parts is)
     h.1 h.2 h.3
-stop_at x lawful hub new a b c bytes left after lines served out audit line o au p parts (Some None) is (stops.Refused lapse) h = refused_other _ (stops.Refused lapse) served h.0
-stop_at x lawful hub new a b c bytes left after lines served out audit line o au p parts (Some (Some event)) is (stops.Refused lapse) h =
-    finish_refused x hub a b c bytes left lines served out audit o au lapse p
+stop_at x lawful hub new a b c bytes left after lines served all part out audit line o au within p parts (Some None) is (stops.Refused lapse) h = refused_other _ (stops.Refused lapse) served h.0
+stop_at x lawful hub new a b c bytes left after lines served all part out audit line o au within p parts (Some (Some event)) is (stops.Refused lapse) h =
+    finish_refused x hub a b c bytes left lines served all out audit o au lapse p
     (ap (λ (l : Option Lapse). served_before p.events (script_event l event (script_from (parts_left 10 after) (lines + 1 + 1) (opened_by event (is_open p.known))))) (sym (h.0 p.known p.like))
     ∙ opened p line (parts_left 10 after) (Some (Some event)) parts is)
     h.1 h.2 h.3
-stop_at x lawful hub new a b c bytes left after lines served out audit line o au p parts None is stops.Write h = write_other _ (lapses.NoForm (lines + 1)) h.0
-stop_at x lawful hub new a b c bytes left after lines served out audit line o au p parts (Some None) is stops.Write h = refused_other _ stops.Write served h.0
-stop_at x lawful hub new a b c bytes left after lines served out audit line o au p parts (Some (Some event)) is stops.Write h =
+stop_at x lawful hub new a b c bytes left after lines served all part out audit line o au within p parts None is stops.Write h = write_other _ (lapses.NoForm (lines + 1)) h.0
+stop_at x lawful hub new a b c bytes left after lines served all part out audit line o au within p parts (Some None) is stops.Write h = refused_other _ stops.Write served h.0
+stop_at x lawful hub new a b c bytes left after lines served all part out audit line o au within p parts (Some (Some event)) is stops.Write h =
     let one = h (0 + length p.events) p.known p.like in
-    finish_torn x lawful hub a b c bytes left after lines served out audit line o au event p parts is one.0 one.1
+    finish_torn x lawful hub a b c bytes left after lines served all part out audit line o au event within p parts is one.0 one.1
 
 -- no line is left
-pub finish_left : (x : Answering) (hub : HubSeen) (a b : Holding) (bytes : List ℕ) (left : Option (Bor (List ℕ))) (lines served : ℕ) (out audit : List ℕ)
+pub finish_left : (x : Answering) (hub : HubSeen) (a b : Holding) (bytes : List ℕ) (left : Option (Bor (List ℕ))) (lines served : ℕ) (s : Sinks) (out audit : List ℕ)
     → ((rest : Bor (List ℕ)) → left ≡ Some rest → ⊥) → Progress x hub (span a b) bytes (option_now left) lines served out audit
-    → ServesAs x (span a b) bytes (Ok tt) out audit
-finish_left x hub a b bytes None lines served out audit none p = (
+    → ServesAs x (span a b) bytes (Ok tt) s out audit
+finish_left x hub a b bytes None lines served s out audit none p = (
   ap (λ (s : Script). s.refused) (sym p.script),
   finish_with false x hub a b b bytes None lines served out audit [] p refl (ap (λ (s : Script). s.events) (sym p.script)) (λ is. refl),
 )
-finish_left x hub a b bytes (Some rest) lines served out audit none p = absurd (none rest refl)
+finish_left x hub a b bytes (Some rest) lines served s out audit none p = absurd (none rest refl)
 
 pub shorter_left : (after : Option (Bor (List ℕ))) (n : ℕ) → IfSome after (λ rest. length rest.now < n) → length_left (option_now after) ≤ n
 shorter_left None n h = omega arith
 shorter_left (Some rest) n h = omega (arith, h)
 
 -- an event's answer is its line's
-pub event_line : (x : Answering) (hub new : HubSeen) (k : Span Holding) (served line : ℕ) (event : Event) (result : Result ℕ Stopped) (out audit : List ℕ)
-    → AnswersEvent x hub new k served line event result out audit → AnswersLine x hub new k served line (Some (Some event)) result out audit
-event_line x hub new k served line event (Ok count) out audit h = h
-event_line x hub new k served line event (Err (stops.Refused lapse)) out audit h = h
-event_line x hub new k served line event (Err stops.Memory) out audit h = h
-event_line x hub new k served line event (Err stops.Write) out audit h = h
+pub event_line : (x : Answering) (hub new : HubSeen) (k : Span Holding) (served line : ℕ) (event : Event) (result : Result ℕ Stopped) (s : Sinks) (out audit : List ℕ)
+    → AnswersEvent x hub new k served line event result s out audit → AnswersLine x hub new k served line (Some (Some event)) result s out audit
+event_line x hub new k served line event (Ok count) s out audit h = h
+event_line x hub new k served line event (Err (stops.Refused lapse)) s out audit h = h
+event_line x hub new k served line event (Err stops.Memory) s out audit h = h
+event_line x hub new k served line event (Err stops.Write) s out audit h = h
 
-pub line_empty : (x : Answering) (hub : HubSeen) (k : Holding) (served line : ℕ) (written : Option (Option Event)) → written ≡ Some None
-    → AnswersLine x hub hub (span k k) served line written (Ok served) [] []
-line_empty x hub k served line written is =
-    subst (λ (w : Option (Option Event)). AnswersLine x hub hub (span k k) served line w (Ok served) [] []) (sym is) (refl, refl, refl, refl, refl)
+pub line_empty : (x : Answering) (hub : HubSeen) (k : Holding) (served line : ℕ) (s : Sinks) (written : Option (Option Event)) → written ≡ Some None
+    → AnswersLine x hub hub (span k k) served line written (Ok served) s [] []
+line_empty x hub k served line s written is =
+    subst (λ (w : Option (Option Event)). AnswersLine x hub hub (span k k) served line w (Ok served) s [] []) (sym is) (refl, refl, refl, refl, refl)
 
-pub line_formless : (x : Answering) (hub : HubSeen) (k : Holding) (served line : ℕ) (written : Option (Option Event)) → written ≡ None
-    → AnswersLine x hub hub (span k k) served line written (Err (stops.Refused (lapses.NoForm line))) [] []
-line_formless x hub k served line written is =
-    subst (λ (w : Option (Option Event)). AnswersLine x hub hub (span k k) served line w (Err (stops.Refused (lapses.NoForm line))) [] []) (sym is) (refl, refl, refl, refl)
+pub line_formless : (x : Answering) (hub : HubSeen) (k : Holding) (served line : ℕ) (s : Sinks) (written : Option (Option Event)) → written ≡ None
+    → AnswersLine x hub hub (span k k) served line written (Err (stops.Refused (lapses.NoForm line))) s [] []
+line_formless x hub k served line s written is =
+    subst (λ (w : Option (Option Event)). AnswersLine x hub hub (span k k) served line w (Err (stops.Refused (lapses.NoForm line))) s [] []) (sym is) (refl, refl, refl, refl)
 
-pub line_event : (x : Answering) (hub new : HubSeen) (k : Span Holding) (served line : ℕ) (event : Event) (written : Option (Option Event)) (result : Result ℕ Stopped) (out audit : List ℕ)
-    → written ≡ Some (Some event) → AnswersEvent x hub new k served line event result out audit → AnswersLine x hub new k served line written result out audit
-line_event x hub new k served line event written result out audit is h =
-    subst (λ (w : Option (Option Event)). AnswersLine x hub new k served line w result out audit) (sym is)
-    (event_line x hub new k served line event result out audit h)
+pub line_event : (x : Answering) (hub new : HubSeen) (k : Span Holding) (served line : ℕ) (event : Event) (written : Option (Option Event)) (result : Result ℕ Stopped) (s : Sinks) (out audit : List ℕ)
+    → written ≡ Some (Some event) → AnswersEvent x hub new k served line event result s out audit → AnswersLine x hub new k served line written result s out audit
+line_event x hub new k served line event written result s out audit is h =
+    subst (λ (w : Option (Option Event)). AnswersLine x hub new k served line w result s out audit) (sym is)
+    (event_line x hub new k served line event result s out audit h)

@@ -40,8 +40,12 @@ pub record Sinks : Type 0 where
 abbrev pub sinks : SinkSeen → SinkSeen → SinkSeen → SinkSeen → Sinks
 sinks out_before out_after audit_before audit_after = record { out = span out_before out_after; audit = span audit_before audit_after }
 
+-- a call of a sink failed: its count rose
+abbrev pub HasFaulted : Span SinkSeen → Type 0
+HasFaulted sink = Rose sink.before.faults sink.after.faults
+
 abbrev pub AWriteFailed : Sinks → Type 0
-AWriteFailed s = Rose s.out.before.faults s.out.after.faults ⊎ Rose s.audit.before.faults s.audit.after.faults
+AWriteFailed s = HasFaulted s.out ⊎ HasFaulted s.audit
 
 -- some bytes went to the one sink and some to the other, and of these it holds; neither is aimed anew
 pub record Went (s : Sinks) (Holds : List ℕ → List ℕ → Type 0) : Type 0 where
@@ -53,6 +57,10 @@ pub record Went (s : Sinks) (Holds : List ℕ → List ℕ → Type 0) : Type 0 
   pub audit_took : Took s.audit audit
   pub holds : Holds out audit
 
+-- the same, where it holds of these and of the sinks
+abbrev pub WentWith : Sinks → (Sinks → List ℕ → List ℕ → Type 0) → Type 0
+WentWith s Holds = Went s (Holds s)
+
 -- some bytes went to one sink, which isn't aimed anew, and of these it holds
 pub record WentTo (sink : Span SinkSeen) (Holds : List ℕ → Type 0) : Type 0 where
   pub put : List ℕ
@@ -60,14 +68,18 @@ pub record WentTo (sink : Span SinkSeen) (Holds : List ℕ → Type 0) : Type 0 
   pub took : Took sink put
   pub holds : Holds put
 
--- the audit's line was torn, or it was whole and the reply's was torn
-abbrev pub IsTorn : List ℕ → List ℕ → List ℕ → List ℕ → Type 0
-IsTorn reply line out audit = ((out ≡ []) × IsFront audit line) ⊎ (IsFront out reply × (audit ≡ line))
+-- the audit's line was torn, where the audit failed; or it was whole and the reply was torn, where
+-- the sink of replies failed
+abbrev pub IsTorn : List ℕ → List ℕ → Sinks → List ℕ → List ℕ → Type 0
+IsTorn reply line s out audit =
+    ((out ≡ []) × IsFront audit line × HasFaulted s.audit)
+    ⊎ (IsFront out reply × (audit ≡ line) × HasFaulted s.out)
 
 -- a reply goes to one sink, after its audit line has gone to the other
-abbrev pub PutBoth : {E : Type 0} → List ℕ → List ℕ → Result (Unit {0}) E → List ℕ → List ℕ → Type 0
-PutBoth reply line (Ok done) out audit = (out ≡ reply) × (audit ≡ line)
-PutBoth reply line (Err failed) out audit = IsTorn reply line out audit
+abbrev pub PutBoth : {E : Type 0} → List ℕ → List ℕ → Result (Unit {0}) E → Sinks → List ℕ
+    → List ℕ → Type 0
+PutBoth reply line (Ok done) s out audit = (out ≡ reply) × (audit ≡ line)
+PutBoth reply line (Err failed) s out audit = IsTorn reply line s out audit
 
 -- some bytes went to the one sink and some to the other, and of these it holds; the audit may have been aimed
 pub record WentAimed (s : Sinks) (Holds : List ℕ → List ℕ → Type 0) : Type 0 where

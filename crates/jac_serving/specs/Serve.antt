@@ -34,7 +34,7 @@ use Rattle.jac_serving.specs.declared.serve.Stopped.TheVariants as stops
 use Rattle.jac_serving.specs.Answering.{Subject, Entry, is_failure, Answering, hearing, IsHeardBy}
 use Rattle.jac_serving.specs.Keeping.{Holding, IsStill}
 use Rattle.jac_serving.specs.Log.{Brings, reply_on, reply_to, reply_line, closing_text, event_text, replies_text, viewer_of, audit_line, audited, audited_from}
-use Rattle.jac_serving.specs.Outside.{Span, span, PutBoth, IsTorn, IsFront}
+use Rattle.jac_serving.specs.Outside.{Span, span, Sinks, PutBoth, IsTorn, IsFront, HasFaulted}
 use Rattle.jac_serving.specs.Script.{Script, script_of, lapse_of}
 
 -- the request of an `ask` line was answered: its reply, and what follows the number of its audit line; or it wasn't, and
@@ -113,15 +113,16 @@ outs_audited k (Reply c sent ∷ outs) = sent_audit k sent ++ outs_audited (k + 
 outs_audited k (Closed c ∷ outs) = outs_audited k outs
 
 -- what was to be put for one of them was torn
-abbrev pub IsOutTorn : ℕ → HubOut → List ℕ → List ℕ → Type 0
-IsOutTorn k (Reply c sent) out audit = IsTorn (sent_line c sent) (sent_audit k sent) out audit
-IsOutTorn k (Closed c) out audit = IsFront out (closed_text c) × (audit ≡ [])
+abbrev pub IsOutTorn : ℕ → HubOut → Sinks → List ℕ → List ℕ → Type 0
+IsOutTorn k (Reply c sent) s out audit = IsTorn (sent_line c sent) (sent_audit k sent) s out audit
+IsOutTorn k (Closed c) s out audit =
+    IsFront out (closed_text c) × (audit ≡ []) × HasFaulted s.out
 
 -- one of them is put, behind so many replies
-abbrev pub PutsOut : {E : Type 0} → ℕ → HubOut → Result ℕ E → List ℕ → List ℕ → Type 0
-PutsOut served given (Ok count) out audit =
+abbrev pub PutsOut : {E : Type 0} → ℕ → HubOut → Result ℕ E → Sinks → List ℕ → List ℕ → Type 0
+PutsOut served given (Ok count) s out audit =
     (count ≡ served + replies_in (given ∷ [])) × (out ≡ out_text given) × (audit ≡ outs_audited (served + 1) (given ∷ []))
-PutsOut served given (Err failed) out audit = IsOutTorn (served + 1) given out audit
+PutsOut served given (Err failed) s out audit = IsOutTorn (served + 1) given s out audit
 
 -- what a hub gave so far was put
 pub record PutsSoFar (x : Answering) (hub now : HubSeen) (k : Span Holding) (served count : ℕ) (out audit : List ℕ) : Type 0 where
@@ -132,14 +133,15 @@ pub record PutsSoFar (x : Answering) (hub now : HubSeen) (k : Span Holding) (ser
   pub audit_text : audit ≡ outs_audited (served + 1) outs
 
 -- some of what a hub gave was put, and then a put failed
-pub record PutsSome (x : Answering) (hub : HubSeen) (k : Span Holding) (served : ℕ) (out audit : List ℕ) : Type 0 where
+pub record PutsSome (x : Answering) (hub : HubSeen) (k : Span Holding) (served : ℕ) (s : Sinks)
+    (out audit : List ℕ) : Type 0 where
   pub outs : List HubOut
   pub last : HubOut
   pub left : HubSeen
   pub out_torn : List ℕ
   pub audit_torn : List ℕ
   pub given : IsGiven IsTaken (handled spellings.Quoted x) hub (outs ++ last ∷ []) left k.before k.after
-  pub torn : IsOutTorn (served + replies_in outs + 1) last out_torn audit_torn
+  pub torn : IsOutTorn (served + replies_in outs + 1) last s out_torn audit_torn
   pub out_text : out ≡ outs_text outs ++ out_torn
   pub audit_text : audit ≡ outs_audited (served + 1) outs ++ audit_torn
 
@@ -151,9 +153,10 @@ pub record PutsAll (x : Answering) (hub new : HubSeen) (k : Span Holding) (serve
   pub out_text : out ≡ outs_text outs
   pub audit_text : audit ≡ outs_audited (served + 1) outs
 
-abbrev pub PutsOuts : {E : Type 0} → Answering → HubSeen → HubSeen → Span Holding → ℕ → Result ℕ E → List ℕ → List ℕ → Type 0
-PutsOuts x hub new k served (Ok count) out audit = PutsAll x hub new k served count out audit
-PutsOuts x hub new k served (Err failed) out audit = PutsSome x hub k served out audit
+abbrev pub PutsOuts : {E : Type 0} → Answering → HubSeen → HubSeen → Span Holding → ℕ → Result ℕ E
+    → Sinks → List ℕ → List ℕ → Type 0
+PutsOuts x hub new k served (Ok count) s out audit = PutsAll x hub new k served count out audit
+PutsOuts x hub new k served (Err failed) s out audit = PutsSome x hub k served s out audit
 
 abbrev pub lapse_by : ℕ → HubFault → Option Lapse
 lapse_by line (faults.NotOpen c) = Some (lapses.NotOpen line c)
@@ -189,52 +192,66 @@ pub record IsEventServed (x : Answering) (new : HubSeen) (k : Span Holding) (ser
   pub audit_text : audit ≡ audited_from (served + 1) mine
 
 -- the lines of an entry were torn
-pub record IsEntryTorn (served : ℕ) (mine : List Entry) (out audit : List ℕ) : Type 0 where
+pub record IsEntryTorn (served : ℕ) (mine : List Entry) (s : Sinks) (out audit : List ℕ)
+    : Type 0 where
   pub whole_ones : List Entry
   pub entry : Entry
   pub out_torn : List ℕ
   pub audit_torn : List ℕ
   pub parts : mine ≡ whole_ones ++ entry ∷ []
-  pub torn : IsTorn (reply_line entry) (audit_line (served + length whole_ones + 1) entry) out_torn audit_torn
+  pub torn : IsTorn (reply_line entry) (audit_line (served + length whole_ones + 1) entry) s
+      out_torn audit_torn
   pub out_text : out ≡ replies_text whole_ones ++ out_torn
   pub audit_text : audit ≡ audited_from (served + 1) whole_ones ++ audit_torn
 
--- the line was torn that tells that a connection was closed
-pub record IsClosingTorn (x : Answering) (served n : ℕ) (event : Event) (known : Connections Ask) (mine : List Entry) (out audit : List ℕ) : Type 0 where
+-- the line was torn that tells that a connection was closed, where the event has one, and the sink of
+-- replies failed
+pub record IsClosingTorn (x : Answering) (served n : ℕ) (event : Event) (known : Connections Ask)
+    (mine : List Entry) (s : Sinks) (out audit : List ℕ) : Type 0 where
   pub out_torn : List ℕ
+  pub fault : HasFaulted s.out
+  pub some : ¬ (closing_text event known (after_both (hearing x) event mine known) ≡ [])
   pub brought : IsBroughtBy (hearing x) n event known mine
   pub torn : IsFront out_torn (closing_text event known (after_both (hearing x) event mine known))
   pub out_text : out ≡ replies_text mine ++ out_torn
   pub audit_text : audit ≡ audited_from (served + 1) mine
 
 -- the first entries of the n-th event were answered, and a put failed
-pub record IsEventTorn (x : Answering) (k : Span Holding) (served n : ℕ) (event : Event) (known : Connections Ask) (out audit : List ℕ) : Type 0 where
+pub record IsEventTorn (x : Answering) (k : Span Holding) (served n : ℕ) (event : Event)
+    (known : Connections Ask) (s : Sinks) (out audit : List ℕ) : Type 0 where
   pub mine : List Entry
   pub begun : IsBegunBy (hearing x) n event known mine
   pub entries : x.entries k mine
-  pub torn : IsEntryTorn served mine out audit ⊎ IsClosingTorn x served n event known mine out audit
+  pub torn : IsEntryTorn served mine s out audit
+      ⊎ IsClosingTorn x served n event known mine s out audit
 
 -- an event is served, whichever connections the hub may stand for; it stands on this line
-abbrev pub AnswersEvent : Answering → HubSeen → HubSeen → Span Holding → ℕ → ℕ → Event → Result ℕ Stopped → List ℕ → List ℕ → Type 0
-AnswersEvent x hub new k served line event (Ok count) out audit =
+abbrev pub AnswersEvent : Answering → HubSeen → HubSeen → Span Holding → ℕ → ℕ → Event
+    → Result ℕ Stopped → Sinks → List ℕ → List ℕ → Type 0
+AnswersEvent x hub new k served line event (Ok count) s out audit =
     (n : ℕ) (known : Connections Ask) → AreLike (hearing x) hub.channels known
     → (lapse_of line (is_open known) event ≡ None) × IsEventServed x new k served count n event known out audit
-AnswersEvent x hub new k served line event (Err (stops.Refused lapse)) out audit =
+AnswersEvent x hub new k served line event (Err (stops.Refused lapse)) s out audit =
     ((known : Connections Ask) → AreLike (hearing x) hub.channels known → lapse_of line (is_open known) event ≡ Some lapse)
     × (out ≡ []) × (audit ≡ []) × IsStill k
-AnswersEvent x hub new k served line event (Err stops.Memory) out audit = (out ≡ []) × (audit ≡ []) × IsStill k
-AnswersEvent x hub new k served line event (Err stops.Write) out audit =
+AnswersEvent x hub new k served line event (Err stops.Memory) s out audit =
+    (out ≡ []) × (audit ≡ []) × IsStill k
+AnswersEvent x hub new k served line event (Err stops.Write) s out audit =
     (n : ℕ) (known : Connections Ask) → AreLike (hearing x) hub.channels known
-    → (lapse_of line (is_open known) event ≡ None) × IsEventTorn x k served n event known out audit
+    → (lapse_of line (is_open known) event ≡ None)
+    × IsEventTorn x k served n event known s out audit
 
 -- a line by what it writes down: nothing, an event, or it has no form
-abbrev pub AnswersLine : Answering → HubSeen → HubSeen → Span Holding → ℕ → ℕ → Option (Option Event) → Result ℕ Stopped → List ℕ → List ℕ → Type 0
-AnswersLine x hub new k served line written (Err stops.Memory) out audit = (out ≡ []) × (audit ≡ []) × IsStill k
-AnswersLine x hub new k served line None result out audit =
+abbrev pub AnswersLine : Answering → HubSeen → HubSeen → Span Holding → ℕ → ℕ
+    → Option (Option Event) → Result ℕ Stopped → Sinks → List ℕ → List ℕ → Type 0
+AnswersLine x hub new k served line written (Err stops.Memory) s out audit =
+    (out ≡ []) × (audit ≡ []) × IsStill k
+AnswersLine x hub new k served line None result s out audit =
     (result ≡ Err (stops.Refused (lapses.NoForm line))) × (out ≡ []) × (audit ≡ []) × IsStill k
-AnswersLine x hub new k served line (Some None) result out audit =
+AnswersLine x hub new k served line (Some None) result s out audit =
     (result ≡ Ok served) × (new ≡ hub) × (out ≡ []) × (audit ≡ []) × IsStill k
-AnswersLine x hub new k served line (Some (Some event)) result out audit = AnswersEvent x hub new k served line event result out audit
+AnswersLine x hub new k served line (Some (Some event)) result s out audit =
+    AnswersEvent x hub new k served line event result s out audit
 
 -- these events were served, or, where it may stop early, the first of them: the log has what they bring, and its
 -- entries were answered
@@ -255,7 +272,8 @@ pub record PutsServed (early : Bool) (x : Answering) (k : Span Holding) (script 
   pub audit_text : audit ≡ audited log
 
 -- the first events were served, and the lines of the one behind them were torn
-pub record PutsTorn (x : Answering) (k : Span Holding) (script : Script) (out audit : List ℕ) : Type 0 where
+pub record PutsTorn (x : Answering) (k : Span Holding) (script : Script) (s : Sinks)
+    (out audit : List ℕ) : Type 0 where
   pub events : List Event
   pub event : Event
   pub unserved : List Event
@@ -269,16 +287,17 @@ pub record PutsTorn (x : Answering) (k : Span Holding) (script : Script) (out au
   pub served : IsServed true x k script.events (log ++ mine)
   pub brought : Brings x no_connections 0 events log text known
   pub begun : IsBegunBy (hearing x) (length events) event known mine
-  pub torn : IsEntryTorn (length log) mine out_more audit_more
-      ⊎ IsClosingTorn x (length log) (length events) event known mine out_more audit_more
+  pub torn : IsEntryTorn (length log) mine s out_more audit_more
+      ⊎ IsClosingTorn x (length log) (length events) event known mine s out_more audit_more
   pub out_text : out ≡ text ++ out_more
   pub audit_text : audit ≡ audited log ++ audit_more
 
 -- how serving the events of a file ends
-abbrev pub ServesAs : Answering → Span Holding → List ℕ → Result (Unit {0}) Stopped → List ℕ → List ℕ → Type 0
-ServesAs x k bytes (Ok done) out audit =
+abbrev pub ServesAs : Answering → Span Holding → List ℕ → Result (Unit {0}) Stopped → Sinks
+    → List ℕ → List ℕ → Type 0
+ServesAs x k bytes (Ok done) s out audit =
     ((script_of bytes).refused ≡ None) × PutsServed false x k (script_of bytes) out audit
-ServesAs x k bytes (Err (stops.Refused lapse)) out audit =
+ServesAs x k bytes (Err (stops.Refused lapse)) s out audit =
     ((script_of bytes).refused ≡ Some lapse) × PutsServed false x k (script_of bytes) out audit
-ServesAs x k bytes (Err stops.Memory) out audit = PutsServed true x k (script_of bytes) out audit
-ServesAs x k bytes (Err stops.Write) out audit = PutsTorn x k (script_of bytes) out audit
+ServesAs x k bytes (Err stops.Memory) s out audit = PutsServed true x k (script_of bytes) out audit
+ServesAs x k bytes (Err stops.Write) s out audit = PutsTorn x k (script_of bytes) s out audit

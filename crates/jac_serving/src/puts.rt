@@ -1,8 +1,8 @@
 //! What is put for each answer: the audit's line first, and then the reply.
-ghost use Rattle.std.specs.Prelude.{◌≡◌, ◌++◌, ◌+◌, ◌-◌, ◌<◌, ◌^◌, ◌∷◌, [], true, false, ℕ, None, Option, List, Result, OnErr, codes, decimal};
+ghost use Rattle.std.specs.Prelude.{◌≡◌, ◌++◌, ◌+◌, ◌-◌, ◌<◌, ◌^◌, ◌∷◌, [], true, false, ℕ, None, Option, List, Result, codes, decimal};
 ghost use Rattle.jac_http.specs.Replies.{reply_bytes, status_of_fixed};
 ghost use Rattle.jac_replies.specs.Spelled.{sent_text, closed_text, audit_text};
-ghost use Rattle.jac_serving.specs.Outside.{AWriteFailed, IsPut, PutBoth, Went, sinks, span};
+ghost use Rattle.jac_serving.specs.Outside.{IsPut, PutBoth, WentWith, sinks, span};
 ghost use Rattle.jac_serving.specs.Serve.{asked_line, asked_audit, sent_line, sent_audit, PutsOut};
 
 use crate::desk::Asked;
@@ -22,8 +22,7 @@ pub fn put_asked<O: Sink, U: AuditSink>(
     method: &[u8],
     asked: &Asked,
 ) -> Result<(), Failed>
-    ensures put { Went (sinks (O.seen out.old) (O.seen out.new) (U.seen audit.old) (U.seen audit.new)) (PutBoth (asked_line method.now asked.now) (asked_audit k asked.now) result) }
-    ensures cause { OnErr result (AWriteFailed (sinks (O.seen out.old) (O.seen out.new) (U.seen audit.old) (U.seen audit.new))) }
+    ensures put { WentWith (sinks (O.seen out.old) (O.seen out.new) (U.seen audit.old) (U.seen audit.new)) (PutBoth (asked_line method.now asked.now) (asked_audit k asked.now) result) }
 {
     match asked {
         Asked::Answered { reply, audit: rest } => {
@@ -48,8 +47,7 @@ fn put_lines<O: Sink, U: AuditSink>(
     reply: &[u8],
     rest: &[u8],
 ) -> Result<(), Failed>
-    ensures put { Went (sinks (O.seen out.old) (O.seen out.new) (U.seen audit.old) (U.seen audit.new)) (PutBoth reply.now (decimal k ++ rest.now) result) }
-    ensures cause { OnErr result (AWriteFailed (sinks (O.seen out.old) (O.seen out.new) (U.seen audit.old) (U.seen audit.new))) }
+    ensures put { WentWith (sinks (O.seen out.old) (O.seen out.new) (U.seen audit.old) (U.seen audit.new)) (PutBoth reply.now (decimal k ++ rest.now) result) }
 {
     match put_numbered(audit, k, rest) {
         Ok(()) => match put(out, reply) {
@@ -78,8 +76,7 @@ fn put_failed<O: Sink, U: AuditSink>(
     status: Fixed,
     viewer: Option<Id>,
 ) -> Result<(), Failed>
-    ensures put { Went (sinks (O.seen out.old) (O.seen out.new) (U.seen audit.old) (U.seen audit.new)) (PutBoth reply.now (audit_text k (status_of_fixed status) viewer None None) result) }
-    ensures cause { OnErr result (AWriteFailed (sinks (O.seen out.old) (O.seen out.new) (U.seen audit.old) (U.seen audit.new))) }
+    ensures put { WentWith (sinks (O.seen out.old) (O.seen out.new) (U.seen audit.old) (U.seen audit.new)) (PutBoth reply.now (audit_text k (status_of_fixed status) viewer None None) result) }
 {
     match put_failed_audit(audit, k, status, viewer) {
         Ok(()) => match put(out, reply) {
@@ -122,8 +119,7 @@ fn put_still<O: Sink, U: AuditSink>(
     head: bool,
     viewer: Option<Id>,
 ) -> Result<(), Failed>
-    ensures put { Went (sinks (O.seen out.old) (O.seen out.new) (U.seen audit.old) (U.seen audit.new)) (PutBoth (sent_text conn (reply_bytes (status_of_fixed status) None None [] false head true)) (audit_text k (status_of_fixed status) viewer None None) result) }
-    ensures cause { OnErr result (AWriteFailed (sinks (O.seen out.old) (O.seen out.new) (U.seen audit.old) (U.seen audit.new))) }
+    ensures put { WentWith (sinks (O.seen out.old) (O.seen out.new) (U.seen audit.old) (U.seen audit.new)) (PutBoth (sent_text conn (reply_bytes (status_of_fixed status) None None [] false head true)) (audit_text k (status_of_fixed status) viewer None None) result) }
 {
     match put_failed_audit(audit, k, status, viewer) {
         Ok(()) => match put_still_line(out, conn, status, head) {
@@ -158,8 +154,7 @@ fn put_sent<O: Sink, U: AuditSink>(
     conn: u32,
     sent: &Sent,
 ) -> Result<(), Failed>
-    ensures put { Went (sinks (O.seen out.old) (O.seen out.new) (U.seen audit.old) (U.seen audit.new)) (PutBoth (sent_line conn sent.now) (sent_audit k sent.now) result) }
-    ensures cause { OnErr result (AWriteFailed (sinks (O.seen out.old) (O.seen out.new) (U.seen audit.old) (U.seen audit.new))) }
+    ensures put { WentWith (sinks (O.seen out.old) (O.seen out.new) (U.seen audit.old) (U.seen audit.new)) (PutBoth (sent_line conn sent.now) (sent_audit k sent.now) result) }
 {
     match sent {
         Sent::Made {
@@ -183,8 +178,7 @@ pub fn put_out<O: Sink, U: AuditSink>(
     given: &HubOut,
 ) -> Result<u64, Failed>
     requires few { served < 2 ^ 64 - 1 }
-    ensures put { Went (sinks (O.seen out.old) (O.seen out.new) (U.seen audit.old) (U.seen audit.new)) (PutsOut served given.now result) }
-    ensures cause { OnErr result (AWriteFailed (sinks (O.seen out.old) (O.seen out.new) (U.seen audit.old) (U.seen audit.new))) }
+    ensures put { WentWith (sinks (O.seen out.old) (O.seen out.new) (U.seen audit.old) (U.seen audit.new)) (PutsOut served given.now result) }
 {
     match given {
         HubOut::Reply { conn, sent } => match put_sent(out, audit, served + 1, *conn, sent) {

@@ -1,10 +1,10 @@
 //! The events of a text are served, line by line.
-ghost use Rattle.std.specs.Prelude.{◌≡◌, ◌≤◌, ◌<◌, ◌+◌, ◌*◌, ◌-◌, ◌^◌, ℕ, true, List, Result, Err, OnErr, IfOk, IsTrue, length};
+ghost use Rattle.std.specs.Prelude.{◌≡◌, ◌≤◌, ◌<◌, ◌+◌, ◌*◌, ◌-◌, ◌^◌, ℕ, true, List, Result, IfOk, IsTrue, length};
 ghost use Rattle.jac_events.specs.Lines.{line_of};
 ghost use Rattle.jac_hub.specs.Hub.{seen, left, IsOfConnection};
 ghost use Rattle.jac_hub.specs.declared.hub.Turn.TheVariants.{Idle};
 ghost use Rattle.jac_serving.specs.Desk.{MayServe, Keeps, kept};
-ghost use Rattle.jac_serving.specs.Outside.{AWriteFailed, Went, sinks, span};
+ghost use Rattle.jac_serving.specs.Outside.{WentWith, sinks, span};
 ghost use Rattle.jac_serving.specs.Serve.{IsFollowing, PutsOuts, TakesEvent, AnswersEvent, AnswersLine, ServesAs};
 
 use crate::desk::Desk;
@@ -46,9 +46,8 @@ fn put_given<D: Desk, O: Sink, U: AuditSink>(
 ) -> Result<u64, Failed>
     requires few { served + left (seen hub.old) < 2 ^ 64 - 1 }
     requires desk { MayServe D.answering (D.seen desk.old) }
-    ensures put { Went (sinks (O.seen out.old) (O.seen out.new) (U.seen audit.old) (U.seen audit.new))
+    ensures put { WentWith (sinks (O.seen out.old) (O.seen out.new) (U.seen audit.old) (U.seen audit.new))
         (PutsOuts (D.answering (D.seen desk.old).of) (seen hub.old) (seen hub.new) (kept (D.seen desk.old) (D.seen desk.new)) served result) }
-    ensures cause { OnErr result (AWriteFailed (sinks (O.seen out.old) (O.seen out.new) (U.seen audit.old) (U.seen audit.new))) }
     ensures count { IfOk result (λ count. count ≤ served + left (seen hub.old)) }
     ensures keeps { Keeps D.answering (D.seen desk.old) (D.seen desk.new) }
 {
@@ -96,9 +95,8 @@ fn serve_connection<D: Desk, O: Sink, U: AuditSink>(
     requires following { IsFollowing (D.answering (D.seen desk.old).of) (seen hub.old) }
     requires connection { IsOfConnection event.now }
     requires desk { MayServe D.answering (D.seen desk.old) }
-    ensures answered { Went (sinks (O.seen out.old) (O.seen out.new) (U.seen audit.old) (U.seen audit.new))
+    ensures answered { WentWith (sinks (O.seen out.old) (O.seen out.new) (U.seen audit.old) (U.seen audit.new))
         (AnswersEvent (D.answering (D.seen desk.old).of) (seen hub.old) (seen hub.new) (kept (D.seen desk.old) (D.seen desk.new)) served line event.now result) }
-    ensures cause { result ≡ Err Stopped.Write → AWriteFailed (sinks (O.seen out.old) (O.seen out.new) (U.seen audit.old) (U.seen audit.new)) }
     ensures count { IfOk result (λ count. count ≤ served + 2 ^ 26) }
     ensures keeps { Keeps D.answering (D.seen desk.old) (D.seen desk.new) }
 {
@@ -127,9 +125,8 @@ fn serve_event<D: Desk, O: Sink, U: AuditSink>(
     requires idle { (seen hub.old).turn ≡ Idle }
     requires following { IsFollowing (D.answering (D.seen desk.old).of) (seen hub.old) }
     requires desk { MayServe D.answering (D.seen desk.old) }
-    ensures answered { Went (sinks (O.seen out.old) (O.seen out.new) (U.seen audit.old) (U.seen audit.new))
+    ensures answered { WentWith (sinks (O.seen out.old) (O.seen out.new) (U.seen audit.old) (U.seen audit.new))
         (AnswersEvent (D.answering (D.seen desk.old).of) (seen hub.old) (seen hub.new) (kept (D.seen desk.old) (D.seen desk.new)) served line event.now result) }
-    ensures cause { result ≡ Err Stopped.Write → AWriteFailed (sinks (O.seen out.old) (O.seen out.new) (U.seen audit.old) (U.seen audit.new)) }
     ensures count { IfOk result (λ count. count ≤ served + 2 ^ 26) }
     ensures keeps { Keeps D.answering (D.seen desk.old) (D.seen desk.new) }
 {
@@ -166,9 +163,8 @@ fn serve_line<D: Desk, O: Sink, U: AuditSink>(
     requires idle { (seen hub.old).turn ≡ Idle }
     requires following { IsFollowing (D.answering (D.seen desk.old).of) (seen hub.old) }
     requires desk { MayServe D.answering (D.seen desk.old) }
-    ensures answered { Went (sinks (O.seen out.old) (O.seen out.new) (U.seen audit.old) (U.seen audit.new))
+    ensures answered { WentWith (sinks (O.seen out.old) (O.seen out.new) (U.seen audit.old) (U.seen audit.new))
         (AnswersLine (D.answering (D.seen desk.old).of) (seen hub.old) (seen hub.new) (kept (D.seen desk.old) (D.seen desk.new)) served number (line_of line.now) result) }
-    ensures cause { result ≡ Err Stopped.Write → AWriteFailed (sinks (O.seen out.old) (O.seen out.new) (U.seen audit.old) (U.seen audit.new)) }
     ensures count { IfOk result (λ count. count ≤ served + 2 ^ 26) }
     ensures keeps { Keeps D.answering (D.seen desk.old) (D.seen desk.new) }
 {
@@ -189,9 +185,8 @@ pub fn serve_events<D: Desk, O: Sink, U: AuditSink>(
 ) -> Result<(), Stopped>
     requires short { length bytes.now < 2 ^ 32 }
     requires desk { MayServe D.answering (D.seen desk.old) }
-    ensures served { Went (sinks (O.seen out.old) (O.seen out.new) (U.seen audit.old) (U.seen audit.new))
+    ensures served { WentWith (sinks (O.seen out.old) (O.seen out.new) (U.seen audit.old) (U.seen audit.new))
         (ServesAs (D.answering (D.seen desk.old).of) (kept (D.seen desk.old) (D.seen desk.new)) bytes.now result) }
-    ensures cause { result ≡ Err Stopped.Write → AWriteFailed (sinks (O.seen out.old) (O.seen out.new) (U.seen audit.old) (U.seen audit.new)) }
     ensures keeps { Keeps D.answering (D.seen desk.old) (D.seen desk.new) }
 {
     desk.lawful();

@@ -5,8 +5,11 @@ use Rattle.jac_replies.specs.Spelled.{sent_text, audit_text}
 use Rattle.jac_serving.proofs.OutsideLemmas.{Went-line}
 use Rattle.jac_serving.proofs.puts.put_still.Goals as goal
 
-pub returns-in-Err-clause-put : goal.returns-in-Err-clause-put
-returns-in-Err-clause-put g c =
+pub returns-in-Err : goal.returns-in-Err
+returns-in-Err g c =
     let U = g.U.Sink in
-    Went-line Failed (g.O.Sink.seen c.args.out.now) (U.seen c.args.audit.now) (U.seen c.put_failed_audit.new.audit)
-    (sent_text c.args.conn (reply_bytes (status_of_fixed c.args.status) None None [] false c.args.head true)) (audit_text c.args.k (status_of_fixed c.args.status) c.args.viewer None None) _ c.in-Err.ensures
+    record {
+      put =
+          Went-line Failed (g.O.Sink.seen c.args.out.now) (U.seen c.args.audit.now) (U.seen c.put_failed_audit.new.audit)
+          (sent_text c.args.conn (reply_bytes (status_of_fixed c.args.status) None None [] false c.args.head true)) (audit_text c.args.k (status_of_fixed c.args.status) c.args.viewer None None) _ c.in-Err.ensures;
+    }

@@ -2,7 +2,8 @@ use Rattle.std.proofs.Common.{arith, Some, None}
 use Rattle.jac_hub.specs.Hub.{seen}
 use Rattle.jac_replies.specs.declared.reply.Spelling.TheVariants as spellings
 use Rattle.jac_serving.proofs.DeskLemmas.{keeps-none, keeps-may, keeps-then, next-of}
-use Rattle.jac_serving.proofs.OutsideLemmas.{Went-none, Went-on, Went-then}
+use Rattle.jac_serving.specs.Outside.{sinks}
+use Rattle.jac_serving.proofs.OutsideLemmas.{Went-none, Went-on, Went-then, fails_behind}
 use Rattle.jac_serving.proofs.NextLemmas.{so_far_none, so_far_more, so_far_torn, so_far_all, few_replies}
 use Rattle.jac_serving.proofs.serve.put_given.Goals as goal
 
@@ -33,10 +34,17 @@ returns-in-Err-clause-put g c =
     let d = D.seen c.next_out.new.self in
     let next =
     next-of D.answering a b spellings.Quoted between new (Some c.in-Some.given) b.holding d.holding c.outs.invariant.keeps c.in-Some.ensures.next in
-    Went-then (O.seen c.args.out.now) (O.seen c.outs.out) (O.seen c.put_out.new.out) (U.seen c.args.audit.now) (U.seen c.outs.audit) (U.seen c.put_out.new.audit) _ _ _
+    let went = c.outs.invariant.went in
+    let out_last = O.seen c.put_out.new.out in
+    let audit_last = U.seen c.put_out.new.audit in
+    let all = sinks (O.seen c.args.out.now) out_last (U.seen c.args.audit.now) audit_last in
+    let part = sinks (O.seen c.outs.out) out_last (U.seen c.outs.audit) audit_last in
+    Went-then (O.seen c.args.out.now) (O.seen c.outs.out) out_last (U.seen c.args.audit.now) (U.seen c.outs.audit) audit_last _ _ _
     (λ o au p bu so_far torn.
-    so_far_torn (D.answering a.of) hub between new a.holding b.holding d.holding c.args.served c.outs.count c.in-Some.given o au p bu next so_far torn)
-    c.outs.invariant.went c.in-Err.ensures.put
+    so_far_torn (D.answering a.of) hub between new a.holding b.holding d.holding c.args.served c.outs.count c.in-Some.given all part o au p bu
+    (fails_behind (O.seen c.args.out.now) (O.seen c.outs.out) out_last (U.seen c.args.audit.now) (U.seen c.outs.audit) audit_last went.out_lasts.later went.audit_lasts.later)
+    next so_far torn)
+    went c.in-Err.ensures.put
 
 pub returns-clause-put : goal.returns-clause-put
 returns-clause-put g c =
@@ -75,7 +83,8 @@ outs-preserved-in-Ok g c =
       went =
           Went-then (O.seen c.args.out.now) (O.seen c.outs.out) (O.seen c.put_out.new.out) (U.seen c.args.audit.now) (U.seen c.outs.audit) (U.seen c.put_out.new.audit) _ _ _
           (λ o au p bu so_far put.
-          so_far_more (D.answering a.of) hub between new a.holding b.holding d.holding c.args.served c.outs.count c.in-Ok.more c.in-Some.given o au p bu next so_far put)
+          so_far_more (D.answering a.of) hub between new a.holding b.holding d.holding c.args.served c.outs.count c.in-Ok.more c.in-Some.given
+          (sinks (O.seen c.outs.out) (O.seen c.put_out.new.out) (U.seen c.outs.audit) (U.seen c.put_out.new.audit)) o au p bu next so_far put)
           before.went c.in-Ok.ensures.put;
     }
 
@@ -101,7 +110,8 @@ outs-preserved-in-Ok-2 g c =
       went =
           Went-then (O.seen c.args.out.now) (O.seen c.outs.out) (O.seen c.put_out.new.out) (U.seen c.args.audit.now) (U.seen c.outs.audit) (U.seen c.put_out.new.audit) _ _ _
           (λ o au p bu so_far put.
-          so_far_more (D.answering a.of) hub between new a.holding b.holding d.holding c.args.served c.outs.count c.in-Ok.more c.in-Some.given o au p bu next so_far put)
+          so_far_more (D.answering a.of) hub between new a.holding b.holding d.holding c.args.served c.outs.count c.in-Ok.more c.in-Some.given
+          (sinks (O.seen c.outs.out) (O.seen c.put_out.new.out) (U.seen c.outs.audit) (U.seen c.put_out.new.audit)) o au p bu next so_far put)
           before.went c.in-Ok.ensures.put;
     }
 
@@ -127,7 +137,8 @@ outs-preserved g c =
       went =
           Went-then (O.seen c.args.out.now) (O.seen c.outs.out) (O.seen c.put_out.new.out) (U.seen c.args.audit.now) (U.seen c.outs.audit) (U.seen c.put_out.new.audit) _ _ _
           (λ o au p bu so_far put.
-          so_far_more (D.answering a.of) hub between new a.holding b.holding d.holding c.args.served c.outs.count c.in-Ok.more c.in-Some.given o au p bu next so_far put)
+          so_far_more (D.answering a.of) hub between new a.holding b.holding d.holding c.args.served c.outs.count c.in-Ok.more c.in-Some.given
+          (sinks (O.seen c.outs.out) (O.seen c.put_out.new.out) (U.seen c.outs.audit) (U.seen c.put_out.new.audit)) o au p bu next so_far put)
           before.went c.in-Ok.ensures.put;
     }
 

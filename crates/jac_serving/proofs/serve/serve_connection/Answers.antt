@@ -1,6 +1,7 @@
 use Rattle.std.proofs.Common.{arith}
 use Rattle.jac_hub.specs.Hub.{seen}
 use Rattle.jac_serving.specs.Answering.{hearing}
+use Rattle.jac_serving.specs.Outside.{sinks}
 use Rattle.jac_serving.proofs.DeskLemmas.{keeps-none}
 use Rattle.jac_serving.proofs.OutsideLemmas.{Went-none, Went-on}
 use Rattle.jac_serving.proofs.HubLemmas.{event_whole}
@@ -49,11 +50,14 @@ returns-in-Err-put_given-clause-answered g c =
     let old = seen c.args.hub.now in
     let stepped = seen c.take_event.new.hub in
     let taken = c.in-Ok.ensures in
+    let O = g.O.Sink in
+    let U = g.U.Sink in
+    let s = sinks (O.seen c.args.out.now) (O.seen c.put_given.new.out) (U.seen c.args.audit.now) (U.seen c.put_given.new.audit) in
     Went-on _ _ _
     (λ out audit puts n known like. (
       step_kept (hearing x) c.args.line c.args.event.now known taken.0 old stepped like taken.1 taken.3,
       event_torn x c.lawful.ensures c.requests_are_read.ensures n c.args.served c.args.event.now known taken.0 old stepped
-          desk.holding (D.seen c.put_given.new.desk).holding out audit c.requires.idle like taken.1 c.requires.desk.ready puts,
+          desk.holding (D.seen c.put_given.new.desk).holding s out audit c.requires.idle like taken.1 c.requires.desk.ready puts,
     ))
     c.in-Err-put_given.ensures.put
 
@@ -61,9 +65,11 @@ pub returns-in-Err-clause-answered : goal.returns-in-Err-clause-answered
 returns-in-Err-clause-answered g c =
     let D = g.D.Desk in
     let desk = D.seen c.args.desk.now in
-    Went-none (g.O.Sink.seen c.args.out.now) (g.U.Sink.seen c.args.audit.now) _
+    let out = g.O.Sink.seen c.args.out.now in
+    let audit = g.U.Sink.seen c.args.audit.now in
+    Went-none out audit _
     (stopped_answers (D.answering desk.of) (seen c.args.hub.now) (seen c.take_event.new.hub) desk.holding c.args.served c.args.line
-    c.args.event.now c.in-Err.stopped c.in-Err.ensures)
+    c.args.event.now c.in-Err.stopped (sinks out out audit audit) c.in-Err.ensures)
 
 pub returns-in-Err-clause-keeps : goal.returns-in-Err-clause-keeps
 returns-in-Err-clause-keeps g c =

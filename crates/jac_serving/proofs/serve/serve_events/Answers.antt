@@ -7,7 +7,8 @@ use Rattle.jac_serving.specs.Answering.{Answering}
 use Rattle.jac_serving.specs.Desk.{kept}
 use Rattle.jac_serving.specs.Serve.{IsFollowing}
 use Rattle.jac_serving.proofs.DeskLemmas.{keeps-none, keeps-may, keeps-then, line-of, of-keeps}
-use Rattle.jac_serving.proofs.OutsideLemmas.{Went-none, Went-on, Went-then}
+use Rattle.jac_serving.specs.Outside.{sinks}
+use Rattle.jac_serving.proofs.OutsideLemmas.{Went-none, Went-on, Went-then, fails_behind}
 use Rattle.jac_serving.proofs.ProgressLemmas.{start, go_on, stop_at, finish_left, shorter_left}
 use Rattle.jac_serving.proofs.serve.serve_events.Goals as goal
 
@@ -36,12 +37,19 @@ returns-in-Err-clause-served g c =
     let b = D.seen c.lines.desk in
     let d = D.seen c.serve_line.new.desk in
     let parts = ap (λ (o : Option (Bor (List ℕ))). parts_left 10 (option_now o)) c.in-Some.is ∙ c.first_part.ensures.parts in
-    Went-then (O.seen c.args.out.now) (O.seen c.lines.out) (O.seen c.serve_line.new.out) (U.seen c.args.audit.now) (U.seen c.lines.audit) (U.seen c.serve_line.new.audit) _ _ _
+    let went = c.lines.invariant.went in
+    let out_last = O.seen c.serve_line.new.out in
+    let audit_last = U.seen c.serve_line.new.audit in
+    let all = sinks (O.seen c.args.out.now) out_last (U.seen c.args.audit.now) audit_last in
+    let part = sinks (O.seen c.lines.out) out_last (U.seen c.lines.audit) audit_last in
+    Went-then (O.seen c.args.out.now) (O.seen c.lines.out) out_last (U.seen c.args.audit.now) (U.seen c.lines.audit) audit_last _ _ _
     (λ o au p bu progress line.
     stop_at (D.answering a.of) c.lawful.ensures (seen c.lines.hub) (seen c.serve_line.new.hub) a.holding b.holding d.holding
-    _ _ (option_now c.first_part.result.1) _ _ _ _ _ _ _ progress parts (line_of c.first_part.result.0.now) refl c.in-Err.stopped
-    (line-of D.answering a b (seen c.lines.hub) (seen c.serve_line.new.hub) (kept b d) c.lines.served (c.lines.number + 1) (line_of c.first_part.result.0.now) (Err c.in-Err.stopped) p bu c.lines.invariant.keeps line))
-    c.lines.invariant.went c.in-Err.ensures.answered
+    _ _ (option_now c.first_part.result.1) _ _ all part _ _ _ _ _
+    (fails_behind (O.seen c.args.out.now) (O.seen c.lines.out) out_last (U.seen c.args.audit.now) (U.seen c.lines.audit) audit_last went.out_lasts.later went.audit_lasts.later)
+    progress parts (line_of c.first_part.result.0.now) refl c.in-Err.stopped
+    (line-of D.answering a b (seen c.lines.hub) (seen c.serve_line.new.hub) (kept b d) c.lines.served (c.lines.number + 1) (line_of c.first_part.result.0.now) (Err c.in-Err.stopped) part p bu c.lines.invariant.keeps line))
+    went c.in-Err.ensures.answered
 
 pub lines-preserved : goal.lines-preserved
 lines-preserved g c =
@@ -55,12 +63,13 @@ lines-preserved g c =
     let left = ap (λ (o : Option (Bor (List ℕ))). length_left (option_now o)) c.in-Some.is in
     let parts = ap (λ (o : Option (Bor (List ℕ))). parts_left 10 (option_now o)) c.in-Some.is ∙ c.first_part.ensures.parts in
     let keeps = keeps-then D.answering a b d before.keeps c.in-Ok.ensures.keeps in
+    let part = sinks (O.seen c.lines.out) (O.seen c.serve_line.new.out) (U.seen c.lines.audit) (U.seen c.serve_line.new.audit) in
     let went =
     Went-then (O.seen c.args.out.now) (O.seen c.lines.out) (O.seen c.serve_line.new.out) (U.seen c.args.audit.now) (U.seen c.lines.audit) (U.seen c.serve_line.new.audit) _ _ _
     (λ o au p bu progress line.
     go_on (D.answering a.of) c.lawful.ensures (seen c.lines.hub) (seen c.serve_line.new.hub) a.holding b.holding d.holding
-    _ _ (option_now c.first_part.result.1) _ _ c.in-Ok.count _ _ _ _ _ progress parts (line_of c.first_part.result.0.now) refl
-    (line-of D.answering a b (seen c.lines.hub) (seen c.serve_line.new.hub) (kept b d) c.lines.served (c.lines.number + 1) (line_of c.first_part.result.0.now) (Ok c.in-Ok.count) p bu before.keeps line))
+    _ _ (option_now c.first_part.result.1) _ _ c.in-Ok.count part _ _ _ _ _ progress parts (line_of c.first_part.result.0.now) refl
+    (line-of D.answering a b (seen c.lines.hub) (seen c.serve_line.new.hub) (kept b d) c.lines.served (c.lines.number + 1) (line_of c.first_part.result.0.now) (Ok c.in-Ok.count) part p bu before.keeps line))
     before.went c.in-Ok.ensures.answered in
     record {
       short = before.short;
@@ -81,6 +90,7 @@ returns-clause-served g c =
     let a = D.seen c.args.desk.now in
     Went-on _ _ _
     (λ o au progress.
-    finish_left (D.answering a.of) (seen c.lines.hub) a.holding (D.seen c.lines.desk).holding c.args.bytes.now c.lines.left _ _ o au
+    finish_left (D.answering a.of) (seen c.lines.hub) a.holding (D.seen c.lines.desk).holding c.args.bytes.now c.lines.left _ _
+    (sinks (g.O.Sink.seen c.args.out.now) (g.O.Sink.seen c.lines.out) (g.U.Sink.seen c.args.audit.now) (g.U.Sink.seen c.lines.audit)) o au
     c.in_default.not-Some progress)
     c.lines.invariant.went

@@ -1,6 +1,7 @@
 use Rattle.std.proofs.Common.{refl}
 use Rattle.jac_events.specs.Lines.{line_of}
 use Rattle.jac_hub.specs.Hub.{seen}
+use Rattle.jac_serving.specs.Outside.{sinks}
 use Rattle.jac_serving.proofs.OutsideLemmas.{Went-none}
 use Rattle.jac_serving.proofs.ProgressLemmas.{line_empty, line_formless}
 use Rattle.jac_serving.proofs.serve.serve_line.Goals as goal
@@ -9,14 +10,18 @@ pub returns-in-Ok-None-clause-answered : goal.returns-in-Ok-None-clause-answered
 returns-in-Ok-None-clause-answered g c =
     let D = g.D.Desk in
     let desk = D.seen c.args.desk.now in
-    Went-none (g.O.Sink.seen c.args.out.now) (g.U.Sink.seen c.args.audit.now) _
-    (line_empty (D.answering desk.of) (seen c.args.hub.now) desk.holding c.args.served c.args.number (line_of c.args.line.now)
+    let out = g.O.Sink.seen c.args.out.now in
+    let audit = g.U.Sink.seen c.args.audit.now in
+    Went-none out audit _
+    (line_empty (D.answering desk.of) (seen c.args.hub.now) desk.holding c.args.served c.args.number (sinks out out audit audit) (line_of c.args.line.now)
     (rw c.in-Ok-None.field-0-is at c.in-Ok-None.ensures.read))
 
 pub returns-in-Err-BadLine-clause-answered : goal.returns-in-Err-BadLine-clause-answered
 returns-in-Err-BadLine-clause-answered g c =
     let D = g.D.Desk in
     let desk = D.seen c.args.desk.now in
-    Went-none (g.O.Sink.seen c.args.out.now) (g.U.Sink.seen c.args.audit.now) _
-    (line_formless (D.answering desk.of) (seen c.args.hub.now) desk.holding c.args.served c.args.number (line_of c.args.line.now)
+    let out = g.O.Sink.seen c.args.out.now in
+    let audit = g.U.Sink.seen c.args.audit.now in
+    Went-none out audit _
+    (line_formless (D.answering desk.of) (seen c.args.hub.now) desk.holding c.args.served c.args.number (sinks out out audit audit) (line_of c.args.line.now)
     ((rw c.in-Err-BadLine.field-0-is at c.in-Err-BadLine.ensures.bad) refl))
