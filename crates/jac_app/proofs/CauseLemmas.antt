@@ -38,6 +38,8 @@ use Rattle.jac_app.specs.declared.summary.Summary.{Summary}
 use Rattle.jac_world.specs.World.{shown}
 use Rattle.jac_admin.specs.Dump.{EndsDumping}
 use Rattle.jac_app.proofs.LaterLemmas.{comes_later}
+use Rattle.jac_app.proofs.ServerLemmas.{a_connection_failed}
+use Rattle.jac_serving.proofs.ProgressLemmas.{puts_torn_failed}
 use Rattle.jac_app.specs.Demo.{EndsCounting, EndsTallying, PutsSummary, summary_line}
 
 pub same_ending : (x y : Ending) → ◌≡◌ {A = Result (Unit {0}) Ending} (Err x) (Err y) → x ≡ y
@@ -76,7 +78,7 @@ module _ {L : Type 0} (line : L → LinkSeen) (seen : Sight) (door : Span (DoorS
       → (HasApplication seen command app → Sources seen command app) → command_of words ≡ Some command → IsOpened seen command app sessions events
       → EndsServing (sinks_of seen) command app sessions (held_of seen splits) (script_of events) (Err ending) out audit → ComesFor seen door words (status_of ending)
   cause_of_serving command app sessions events out audit endings.WriteFault source is opened (inl h) = inr h.0
-  cause_of_serving command app sessions events out audit endings.WriteFault source is opened (inr h) = h.0
+  cause_of_serving command app sessions events out audit endings.WriteFault source is opened (inr h) = puts_torn_failed _ _ _ (sinks_of seen) out audit h.1.ends
   cause_of_serving command app sessions events out audit endings.Memory source is opened h = tt
   cause_of_serving command app sessions events out audit endings.StoreFault source is opened h = h.1.0
   cause_of_serving command app sessions events out audit endings.DoorFault source is opened h = absurd h.1.ends
@@ -167,7 +169,7 @@ module _ {L : Type 0} (line : L → LinkSeen) (seen : Sight) (door : Span (DoorS
       → command_of words ≡ Some (commands.Serve serving) → HasApplication seen (commands.Serve serving) app
       → EndsAimed line (sinks_of seen) app sessions serving door (held_of seen splits) (Err ending) out audit → ComesFor seen door words (status_of ending)
   cause_of_aimed serving app sessions out audit endings.WriteFault is had (inl h) = inr h.0
-  cause_of_aimed serving app sessions out audit endings.WriteFault is had (inr h) = h.0
+  cause_of_aimed serving app sessions out audit endings.WriteFault is had (inr h) = a_connection_failed line _ (sinks_of seen) _ _ _ out audit h.1.ends.ends
   cause_of_aimed serving app sessions out audit endings.Memory is had h = tt
   cause_of_aimed serving app sessions out audit endings.StoreFault is had h = h.1.0
   cause_of_aimed serving app sessions out audit endings.DoorFault is had h = h.1.ends.0

@@ -40,6 +40,8 @@ use Rattle.jac_app.specs.Demo.{EndsDemo, EndsCounting, EndsTallying, PutsSummary
 use Rattle.jac_app.specs.Run.{Ends, Runs, IsCompleted, CanHaveSessions, CanOpen, CanReplay, CanServe, CanCheck, CanDemo, CanDump, CanExplain, CanUpgrade, Extends}
 use Rattle.jac_calendar.proofs.CalendarOpens.{calendar, calendar_is}
 use Rattle.jac_app.proofs.CauseLemmas.{same_ending, none_there}
+use Rattle.jac_app.proofs.ServerLemmas.{a_connection_failed}
+use Rattle.jac_serving.proofs.ProgressLemmas.{puts_torn_failed}
 use Rattle.jac_opening.proofs.OpeningLemmas.{some_same}
 use Rattle.jac_serving.proofs.OutsideLemmas.{Rose-widen, failed_later}
 
@@ -158,15 +160,13 @@ module _ {L : Type 0} (line : L → LinkSeen) (seen : Sight) (door : Span (DoorS
   no_long roles.Sessions reached long = not_long_named seen.files can.replay.sessions reached.1 can.sessions_file (long can.opens.told)
   no_long roles.Events reached long = not_long seen its roles.Events can.events can.opens.told can.events_file can.short long
 
-  -- a write failed
-  not_served : {A B C : Type 0} → (Rose seen.audit.before.faults seen.audit.after.faults × A) ⊎ (AWriteFailed (sinks_of seen) × B × C) → AWriteFailed (sinks_of seen)
-  not_served (inl h) = inr h.0
-  not_served (inr h) = h.0
-
   no_ending : (out audit : List ℕ) (ending : Ending) → EndsReplay seen splits its (Err ending) out audit → IsCompleted (status_of ending)
   no_ending out audit ending (inl h) =
       inr (inl (no_opening_fault seen its can.app can.opens ending h.0.0 no_long (λ line bad. no_bad_line seen.files can.replay.sessions line can.opens.told can.sessions_file bad) (λ there bytes line. absurd (none_there there))))
-  no_ending out audit endings.WriteFault (inr h) = absurd (can.opens.no_write_fault (not_served h.ends))
+  no_ending out audit endings.WriteFault (inr h) = elim h.ends [
+    | inl unaimed ↦ absurd (can.opens.no_write_fault (inr unaimed.0))
+    | inr behind ↦ absurd (can.opens.no_write_fault (puts_torn_failed _ _ _ (sinks_of seen) out audit behind.1.ends))
+  ]
   no_ending out audit endings.Memory (inr h) = inr (inl refl)
   no_ending out audit endings.StoreFault (inr h) = inr (inr (inl refl))
   no_ending out audit endings.DoorFault (inr h) = absurd h.ends.1.ends
@@ -517,15 +517,13 @@ module _ {L : Type 0} (line : L → LinkSeen) (seen : Sight) (door : Span (DoorS
   serve_long roles.Sessions reached long = not_long_named seen.files can.serving.sessions reached.1 can.sessions_file (long can.opens.told)
   serve_long roles.Events reached long = none_there reached.2
 
-  -- a write failed
-  not_listened : {A B C D : Type 0} → (Rose seen.audit.before.faults seen.audit.after.faults × A × B) ⊎ (AWriteFailed (sinks_of seen) × C × D) → AWriteFailed (sinks_of seen)
-  not_listened (inl h) = inr h.0
-  not_listened (inr h) = h.0
-
   no_serve_ending : (out audit : List ℕ) (ending : Ending) → EndsServer line seen door splits can.serving (Err ending) out audit → IsCompleted (status_of ending)
   no_serve_ending out audit ending (inl h) =
       inr (inl (no_opening_fault seen listening can.app can.opens ending h.0.0 serve_long (λ n bad. no_bad_line seen.files can.serving.sessions n can.opens.told can.sessions_file bad) (λ there bytes line. absurd (none_there there))))
-  no_serve_ending out audit endings.WriteFault (inr h) = absurd (can.opens.no_write_fault (not_listened h.ends))
+  no_serve_ending out audit endings.WriteFault (inr h) = elim h.ends [
+    | inl unaimed ↦ absurd (can.opens.no_write_fault (inr unaimed.0))
+    | inr behind ↦ absurd (can.opens.no_write_fault (a_connection_failed line _ (sinks_of seen) _ _ _ out audit behind.1.ends.ends))
+  ]
   no_serve_ending out audit endings.DoorFault (inr h) = absurd (can.no_door_fault h.ends.1.ends.0)
   no_serve_ending out audit endings.Memory (inr h) = inr (inl refl)
   no_serve_ending out audit endings.StoreFault (inr h) = inr (inr (inl refl))

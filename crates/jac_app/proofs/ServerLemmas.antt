@@ -15,7 +15,7 @@ use Rattle.jac_links.specs.declared.door.Tally.{Tally}
 use Rattle.jac_ending.specs.declared.ending.Ending.{Ending}
 use Rattle.jac_ending.specs.declared.ending.Ending.TheVariants as endings
 use Rattle.jac_desk.specs.Answered.{answering_of}
-use Rattle.jac_serving.specs.Outside.{Span, span, Sinks, sinks, IsPut, Went, WentTo, WentAimed, AWriteFailed}
+use Rattle.jac_serving.specs.Outside.{Span, span, Sinks, sinks, IsPut, WentWith, WentTo, WentAimed, HasFaulted, AWriteFailed}
 use Rattle.jac_ending.specs.Files.{Sight, sinks_of, HasApplication, HasSessions, IsAimed}
 use Rattle.jac_ending.specs.Attached.{AttachesAs}
 use Rattle.jac_links.specs.Door.{Visit, IsEnding, AreLinksServed}
@@ -23,21 +23,14 @@ use Rattle.jac_serving.specs.Answering.{Answering, Entry}
 use Rattle.jac_serving.specs.Keeping.{Holding, holding_of, keepers}
 use Rattle.jac_app.specs.Held.{held_of}
 use Rattle.jac_app.specs.Server.{served_line, halted, EndsConnections, IsListenedAt, EndsDoor, IsServedAt, EndsAttached, EndsAimed, EndsServer}
-use Rattle.jac_serving.proofs.OutsideLemmas.{Lasts-none, Took-none, Rose-widen}
+use Rattle.jac_serving.proofs.OutsideLemmas.{Lasts-none, Took-none, Rose-widen, FailsWithin}
 use Rattle.jac_ending.proofs.EndingLemmas.{is_attached}
-
--- a door that halted ends the command by a write fault only where a put on the audit failed
-pub write_failed : (s : Sinks) (halt : DoorHalt) (ending : Ending) → ending ≡ halted halt → (◌≡◌ {A = Result Tally DoorHalt} (Err halt) (Err halts.Write) → Rose s.audit.before.faults s.audit.after.faults)
-    → ◌≡◌ {A = Result (Unit {0}) Ending} (Err ending) (Err endings.WriteFault) → AWriteFailed s
-write_failed s halts.Door ending is rose same = cc
-write_failed s halts.Write ending is rose same = inr (rose refl)
-write_failed s halts.Memory ending is rose same = cc
 
 module _ {L : Type 0} (line : L → LinkSeen) (x : Answering) where
   -- the connections were served, and it was told how many
   pub served_told : (most : ℕ) (door : Span (DoorSeen L)) (k : Span Holding) (out_before out_after audit_before audit_after : SinkSeen) (tally : Tally) (put done : Unit {0})
       → WentTo (span audit_before audit_after) (AreLinksServed line x most door k (Ok tally)) → IsPut {E = Failed} (span out_before out_after) (served_line tally) (Ok put)
-      → Went (sinks out_before out_after audit_before audit_after) (EndsConnections line x most door k (Ok done))
+      → WentWith (sinks out_before out_after audit_before audit_after) (EndsConnections line x most door k (Ok done))
   served_told most door k out_before out_after audit_before audit_after tally put done went told = record {
     out = told.put;
     audit = went.put;
@@ -51,7 +44,7 @@ module _ {L : Type 0} (line : L → LinkSeen) (x : Answering) where
   -- that put failed
   pub served_torn : (most : ℕ) (door : Span (DoorSeen L)) (k : Span Holding) (out_before out_after audit_before audit_after : SinkSeen) (tally : Tally) (failed : Failed)
       → WentTo (span audit_before audit_after) (AreLinksServed line x most door k (Ok tally)) → IsPut {E = Failed} (span out_before out_after) (served_line tally) (Err failed)
-      → Went (sinks out_before out_after audit_before audit_after) (EndsConnections line x most door k (Err endings.WriteFault))
+      → WentWith (sinks out_before out_after audit_before audit_after) (EndsConnections line x most door k (Err endings.WriteFault))
   served_torn most door k out_before out_after audit_before audit_after tally failed went told = record {
     out = told.put;
     audit = went.put;
@@ -59,28 +52,36 @@ module _ {L : Type 0} (line : L → LinkSeen) (x : Answering) where
     audit_lasts = went.lasts;
     out_took = told.took;
     audit_took = went.took;
-    holds = inr (tally, went.holds, told.is_put);
+    holds = inr (tally, went.holds, told.is_put, told.rose);
   }
 
-  halted_as : (most : ℕ) (door : Span (DoorSeen L)) (k : Span Holding) (halt : DoorHalt) (audit : List ℕ) → AreLinksServed line x most door k (Err halt) audit
-      → EndsConnections line x most door k (Err (halted halt)) [] audit
-  halted_as most door k halts.Door audit h = (h, refl)
-  halted_as most door k halts.Write audit h = inl (h, refl)
-  halted_as most door k halts.Memory audit h = (h, refl)
+  halted_as : (most : ℕ) (door : Span (DoorSeen L)) (k : Span Holding) (halt : DoorHalt) (s : Sinks) (audit : List ℕ)
+      → (◌≡◌ {A = Result Tally DoorHalt} (Err halt) (Err halts.Write) → HasFaulted s.audit) → AreLinksServed line x most door k (Err halt) audit
+      → EndsConnections line x most door k (Err (halted halt)) s [] audit
+  halted_as most door k halts.Door s audit rose h = (h, refl)
+  halted_as most door k halts.Write s audit rose h = inl (h, refl, rose refl)
+  halted_as most door k halts.Memory s audit rose h = (h, refl)
 
   -- serving them ended early
   pub served_part : (most : ℕ) (door : Span (DoorSeen L)) (k : Span Holding) (out audit_before audit_after : SinkSeen) (halt : DoorHalt)
+      → (◌≡◌ {A = Result Tally DoorHalt} (Err halt) (Err halts.Write) → HasFaulted (span audit_before audit_after))
       → WentTo (span audit_before audit_after) (AreLinksServed line x most door k (Err halt))
-      → Went (sinks out out audit_before audit_after) (EndsConnections line x most door k (Err (halted halt)))
-  served_part most door k out audit_before audit_after halt went = record {
+      → WentWith (sinks out out audit_before audit_after) (EndsConnections line x most door k (Err (halted halt)))
+  served_part most door k out audit_before audit_after halt rose went = record {
     out = [];
     audit = went.put;
     out_lasts = Lasts-none out;
     audit_lasts = went.lasts;
     out_took = Took-none out;
     audit_took = went.took;
-    holds = halted_as most door k halt went.put went.holds;
+    holds = halted_as most door k halt (sinks out out audit_before audit_after) went.put rose went.holds;
   }
+
+  -- a write failed
+  pub a_connection_failed : (s : Sinks) (most : ℕ) (door : Span (DoorSeen L)) (k : Span Holding) (out audit : List ℕ)
+      → EndsConnections line x most door k (Err endings.WriteFault) s out audit → AWriteFailed s
+  a_connection_failed s most door k out audit (inl h) = inr h.2
+  a_connection_failed s most door k out audit (inr h) = inl h.3
 
 -- and what stands around it
 module _ {L : Type 0} (line : L → LinkSeen) (app : Application) (sessions : List Session) where
@@ -109,56 +110,56 @@ module _ {L : Type 0} (line : L → LinkSeen) (app : Application) (sessions : Li
       ended = ending_from most s.visits s.last s.log result s.ended;
     }
 
-    connections_from : (x : Answering) (most : ℕ) (k : Span Holding) (result : Result (Unit {0}) Ending) (out audit : List ℕ)
-        → EndsConnections line x most (span db dc) k result out audit → EndsConnections line x most (span da dc) k result out audit
-    connections_from x most k (Ok done) out audit h = (h.0, links_from x most k (Ok h.0) audit h.1, h.2)
-    connections_from x most k (Err endings.WriteFault) out audit (inl h) = inl (links_from x most k (Err halts.Write) audit h.0, h.1)
-    connections_from x most k (Err endings.WriteFault) out audit (inr h) = inr (h.0, links_from x most k (Ok h.0) audit h.1, h.2)
-    connections_from x most k (Err endings.DoorFault) out audit h = (links_from x most k (Err halts.Door) audit h.0, h.1)
-    connections_from x most k (Err endings.Memory) out audit h = (links_from x most k (Err halts.Memory) audit h.0, h.1)
-    connections_from x most k (Err endings.StoreFault) out audit h = absurd h
-    connections_from x most k (Err (endings.OtherStore stored wanted)) out audit h = absurd h
-    connections_from x most k (Err (endings.ReadFault role)) out audit h = absurd h
-    connections_from x most k (Err (endings.TooLong role)) out audit h = absurd h
-    connections_from x most k (Err (endings.AppRefused text)) out audit h = absurd h
-    connections_from x most k (Err (endings.NewRefused text)) out audit h = absurd h
-    connections_from x most k (Err (endings.UpgradeRefused text)) out audit h = absurd h
-    connections_from x most k (Err (endings.LineRefused lapse)) out audit h = absurd h
-    connections_from x most k (Err (endings.SessionsRefused n)) out audit h = absurd h
+    connections_from : (x : Answering) (most : ℕ) (k : Span Holding) (result : Result (Unit {0}) Ending) (s : Sinks) (out audit : List ℕ)
+        → EndsConnections line x most (span db dc) k result s out audit → EndsConnections line x most (span da dc) k result s out audit
+    connections_from x most k (Ok done) s out audit h = (h.0, links_from x most k (Ok h.0) audit h.1, h.2)
+    connections_from x most k (Err endings.WriteFault) s out audit (inl h) = inl (links_from x most k (Err halts.Write) audit h.0, h.1, h.2)
+    connections_from x most k (Err endings.WriteFault) s out audit (inr h) = inr (h.0, links_from x most k (Ok h.0) audit h.1, h.2, h.3)
+    connections_from x most k (Err endings.DoorFault) s out audit h = (links_from x most k (Err halts.Door) audit h.0, h.1)
+    connections_from x most k (Err endings.Memory) s out audit h = (links_from x most k (Err halts.Memory) audit h.0, h.1)
+    connections_from x most k (Err endings.StoreFault) s out audit h = absurd h
+    connections_from x most k (Err (endings.OtherStore stored wanted)) s out audit h = absurd h
+    connections_from x most k (Err (endings.ReadFault role)) s out audit h = absurd h
+    connections_from x most k (Err (endings.TooLong role)) s out audit h = absurd h
+    connections_from x most k (Err (endings.AppRefused text)) s out audit h = absurd h
+    connections_from x most k (Err (endings.NewRefused text)) s out audit h = absurd h
+    connections_from x most k (Err (endings.UpgradeRefused text)) s out audit h = absurd h
+    connections_from x most k (Err (endings.LineRefused lapse)) s out audit h = absurd h
+    connections_from x most k (Err (endings.SessionsRefused n)) s out audit h = absurd h
 
     -- by a desk that is as lazy as the command says
     module _ (lazy : Bool) (same : lazy ≡ serving.lazy) where
-      listened : (k : Span Holding) (result : Result (Unit {0}) Ending) (out audit : List ℕ)
-          → EndsConnections line (answering_of lazy app sessions) serving.count (span db dc) k result out audit → IsListenedAt line app sessions serving (span da dc) k result out audit
-      listened k result out audit h = record {
+      listened : (k : Span Holding) (result : Result (Unit {0}) Ending) (s : Sinks) (out audit : List ℕ)
+          → EndsConnections line (answering_of lazy app sessions) serving.count (span db dc) k result s out audit → IsListenedAt line app sessions serving (span da dc) k result s out audit
+      listened k result s out audit h = record {
         listens = λ told. same_port told ∙ heard.ok (lasts.told told);
-        ends = subst (λ (is : Bool). EndsConnections line (answering_of is app sessions) serving.count (span da dc) k result out audit) same
-            (connections_from (answering_of lazy app sessions) serving.count k result out audit h);
+        ends = subst (λ (is : Bool). EndsConnections line (answering_of is app sessions) serving.count (span da dc) k result s out audit) same
+            (connections_from (answering_of lazy app sessions) serving.count k result s out audit h);
       }
 
       -- the port was listened at, and the connections were served
-      pub door_ends : (k : Span Holding) (result : Result (Unit {0}) Ending) (out audit : List ℕ)
-          → EndsConnections line (answering_of lazy app sessions) serving.count (span db dc) k result out audit → EndsDoor line app sessions serving (span da dc) k result out audit
-      door_ends k (Ok done) out audit h = listened k (Ok done) out audit h
-      door_ends k (Err endings.DoorFault) out audit h =
-          let is = listened k (Err endings.DoorFault) out audit h in
+      pub door_ends : (k : Span Holding) (result : Result (Unit {0}) Ending) (s : Sinks) (out audit : List ℕ)
+          → EndsConnections line (answering_of lazy app sessions) serving.count (span db dc) k result s out audit → EndsDoor line app sessions serving (span da dc) k result s out audit
+      door_ends k (Ok done) s out audit h = listened k (Ok done) s out audit h
+      door_ends k (Err endings.DoorFault) s out audit h =
+          let is = listened k (Err endings.DoorFault) s out audit h in
           (is.ends.0.ended.1, inr is)
-      door_ends k (Err endings.WriteFault) out audit h = listened k (Err endings.WriteFault) out audit h
-      door_ends k (Err endings.Memory) out audit h = listened k (Err endings.Memory) out audit h
-      door_ends k (Err endings.StoreFault) out audit h = absurd h
-      door_ends k (Err (endings.OtherStore stored wanted)) out audit h = absurd h
-      door_ends k (Err (endings.ReadFault role)) out audit h = absurd h
-      door_ends k (Err (endings.TooLong role)) out audit h = absurd h
-      door_ends k (Err (endings.AppRefused text)) out audit h = absurd h
-      door_ends k (Err (endings.NewRefused text)) out audit h = absurd h
-      door_ends k (Err (endings.UpgradeRefused text)) out audit h = absurd h
-      door_ends k (Err (endings.LineRefused lapse)) out audit h = absurd h
-      door_ends k (Err (endings.SessionsRefused n)) out audit h = absurd h
+      door_ends k (Err endings.WriteFault) s out audit h = listened k (Err endings.WriteFault) s out audit h
+      door_ends k (Err endings.Memory) s out audit h = listened k (Err endings.Memory) s out audit h
+      door_ends k (Err endings.StoreFault) s out audit h = absurd h
+      door_ends k (Err (endings.OtherStore stored wanted)) s out audit h = absurd h
+      door_ends k (Err (endings.ReadFault role)) s out audit h = absurd h
+      door_ends k (Err (endings.TooLong role)) s out audit h = absurd h
+      door_ends k (Err (endings.AppRefused text)) s out audit h = absurd h
+      door_ends k (Err (endings.NewRefused text)) s out audit h = absurd h
+      door_ends k (Err (endings.UpgradeRefused text)) s out audit h = absurd h
+      door_ends k (Err (endings.LineRefused lapse)) s out audit h = absurd h
+      door_ends k (Err (endings.SessionsRefused n)) s out audit h = absurd h
 
   -- it wasn't
-  pub unheard_ends : (da db : DoorSeen L) (serving : Serving) (k : Holding) (failed : Failed) → Listens da db serving.port (Err failed)
-      → EndsDoor line app sessions serving (span da db) (span k k) (Err endings.DoorFault) [] []
-  unheard_ends da db serving k failed listens = (
+  pub unheard_ends : (da db : DoorSeen L) (serving : Serving) (k : Holding) (failed : Failed) (s : Sinks) → Listens da db serving.port (Err failed)
+      → EndsDoor line app sessions serving (span da db) (span k k) (Err endings.DoorFault) s [] []
+  unheard_ends da db serving k failed s listens = (
     listens.rose,
     inl (record { same_port = listens.err; same_coming = listens.same_coming; same_returned = listens.same_returned; still = refl; no_out = refl; no_audit = refl }),
   )
@@ -167,62 +168,113 @@ module _ {L : Type 0} (line : L → LinkSeen) (app : Application) (sessions : Li
 
   module _ (serving : Serving) (door : Span (DoorSeen L)) (before opened : KeeperSeen) (splits : ℕ) (after : Holding)
       (attaches : AttachesAs serving.db app (span before opened) (Ok tt)) (stays : after.keeper.store ≡ opened.store) where
-    served_on : (result : Result (Unit {0}) Ending) (out audit : List ℕ) → EndsDoor line app sessions serving door (span (holding_of opened splits) after) result out audit
-        → IsServedAt line app sessions serving door (span (holding_of before splits) after) result out audit
-    served_on result out audit ends = record { opened = opened; attached = is_attached serving.db app before opened after.keeper attaches stays; ends = ends }
+    served_on : (result : Result (Unit {0}) Ending) (s : Sinks) (out audit : List ℕ) → EndsDoor line app sessions serving door (span (holding_of opened splits) after) result s out audit
+        → IsServedAt line app sessions serving door (span (holding_of before splits) after) result s out audit
+    served_on result s out audit ends = record { opened = opened; attached = is_attached serving.db app before opened after.keeper attaches stays; ends = ends }
 
     -- the store was attached, and the door was served
-    pub attached_ends : (result : Result (Unit {0}) Ending) (out audit : List ℕ) → EndsDoor line app sessions serving door (span (holding_of opened splits) after) result out audit
-        → EndsAttached line app sessions serving door (span (holding_of before splits) after) result out audit
-    attached_ends (Ok done) out audit h = served_on (Ok done) out audit h
-    attached_ends (Err endings.DoorFault) out audit h = served_on (Err endings.DoorFault) out audit h
-    attached_ends (Err endings.WriteFault) out audit h = served_on (Err endings.WriteFault) out audit h
-    attached_ends (Err endings.Memory) out audit h = inr (served_on (Err endings.Memory) out audit h)
-    attached_ends (Err endings.StoreFault) out audit h = absurd h.ends
-    attached_ends (Err (endings.OtherStore stored wanted)) out audit h = absurd h.ends
-    attached_ends (Err (endings.ReadFault role)) out audit h = absurd h.ends
-    attached_ends (Err (endings.TooLong role)) out audit h = absurd h.ends
-    attached_ends (Err (endings.AppRefused text)) out audit h = absurd h.ends
-    attached_ends (Err (endings.NewRefused text)) out audit h = absurd h.ends
-    attached_ends (Err (endings.UpgradeRefused text)) out audit h = absurd h.ends
-    attached_ends (Err (endings.LineRefused lapse)) out audit h = absurd h.ends
-    attached_ends (Err (endings.SessionsRefused n)) out audit h = absurd h.ends
+    pub attached_ends : (result : Result (Unit {0}) Ending) (s : Sinks) (out audit : List ℕ) → EndsDoor line app sessions serving door (span (holding_of opened splits) after) result s out audit
+        → EndsAttached line app sessions serving door (span (holding_of before splits) after) result s out audit
+    attached_ends (Ok done) s out audit h = served_on (Ok done) s out audit h
+    attached_ends (Err endings.DoorFault) s out audit h = served_on (Err endings.DoorFault) s out audit h
+    attached_ends (Err endings.WriteFault) s out audit h = served_on (Err endings.WriteFault) s out audit h
+    attached_ends (Err endings.Memory) s out audit h = inr (served_on (Err endings.Memory) s out audit h)
+    attached_ends (Err endings.StoreFault) s out audit h = absurd h.ends
+    attached_ends (Err (endings.OtherStore stored wanted)) s out audit h = absurd h.ends
+    attached_ends (Err (endings.ReadFault role)) s out audit h = absurd h.ends
+    attached_ends (Err (endings.TooLong role)) s out audit h = absurd h.ends
+    attached_ends (Err (endings.AppRefused text)) s out audit h = absurd h.ends
+    attached_ends (Err (endings.NewRefused text)) s out audit h = absurd h.ends
+    attached_ends (Err (endings.UpgradeRefused text)) s out audit h = absurd h.ends
+    attached_ends (Err (endings.LineRefused lapse)) s out audit h = absurd h.ends
+    attached_ends (Err (endings.SessionsRefused n)) s out audit h = absurd h.ends
 
   -- it wasn't
-  pub unattached_ends : (serving : Serving) (door : DoorSeen L) (k : Span Holding) (ending : Ending) → AttachesAs serving.db app (keepers k) (Err ending) → k.after.splits ≡ k.before.splits
-      → EndsAttached line app sessions serving (span door door) k (Err ending) [] []
-  unattached_ends serving door k endings.StoreFault h unsplit = (h.0, record { unstarted = record { unattached = h.1; unsplit = unsplit }; uncalled = refl })
-  unattached_ends serving door k (endings.OtherStore stored wanted) h unsplit = (h.0, h.1, record { unstarted = record { unattached = h.2; unsplit = unsplit }; uncalled = refl })
-  unattached_ends serving door k endings.Memory h unsplit = inl (record { unstarted = record { unattached = h; unsplit = unsplit }; uncalled = refl })
-  unattached_ends serving door k endings.DoorFault h unsplit = absurd h
-  unattached_ends serving door k endings.WriteFault h unsplit = absurd h
-  unattached_ends serving door k (endings.ReadFault role) h unsplit = absurd h
-  unattached_ends serving door k (endings.TooLong role) h unsplit = absurd h
-  unattached_ends serving door k (endings.AppRefused text) h unsplit = absurd h
-  unattached_ends serving door k (endings.NewRefused text) h unsplit = absurd h
-  unattached_ends serving door k (endings.UpgradeRefused text) h unsplit = absurd h
-  unattached_ends serving door k (endings.LineRefused lapse) h unsplit = absurd h
-  unattached_ends serving door k (endings.SessionsRefused n) h unsplit = absurd h
+  pub unattached_ends : (serving : Serving) (door : DoorSeen L) (k : Span Holding) (ending : Ending) (s : Sinks) → AttachesAs serving.db app (keepers k) (Err ending) → k.after.splits ≡ k.before.splits
+      → EndsAttached line app sessions serving (span door door) k (Err ending) s [] []
+  unattached_ends serving door k endings.StoreFault s h unsplit = (h.0, record { unstarted = record { unattached = h.1; unsplit = unsplit }; uncalled = refl })
+  unattached_ends serving door k (endings.OtherStore stored wanted) s h unsplit = (h.0, h.1, record { unstarted = record { unattached = h.2; unsplit = unsplit }; uncalled = refl })
+  unattached_ends serving door k endings.Memory s h unsplit = inl (record { unstarted = record { unattached = h; unsplit = unsplit }; uncalled = refl })
+  unattached_ends serving door k endings.DoorFault s h unsplit = absurd h
+  unattached_ends serving door k endings.WriteFault s h unsplit = absurd h
+  unattached_ends serving door k (endings.ReadFault role) s h unsplit = absurd h
+  unattached_ends serving door k (endings.TooLong role) s h unsplit = absurd h
+  unattached_ends serving door k (endings.AppRefused text) s h unsplit = absurd h
+  unattached_ends serving door k (endings.NewRefused text) s h unsplit = absurd h
+  unattached_ends serving door k (endings.UpgradeRefused text) s h unsplit = absurd h
+  unattached_ends serving door k (endings.LineRefused lapse) s h unsplit = absurd h
+  unattached_ends serving door k (endings.SessionsRefused n) s h unsplit = absurd h
 
   -- ---- behind the aim
 
-  -- the audit was aimed, and what follows it
-  pub aimed_ends : (s : Sinks) (serving : Serving) (door : Span (DoorSeen L)) (k : Span Holding) (result : Result (Unit {0}) Ending) (out audit : List ℕ)
-      → (result ≡ Err endings.WriteFault → AWriteFailed s) → IsAimed serving.audit s.audit → EndsAttached line app sessions serving door k result out audit
-      → EndsAimed line s app sessions serving door k result out audit
-  aimed_ends s serving door k (Ok done) out audit failed aimed h = (aimed, h)
-  aimed_ends s serving door k (Err endings.WriteFault) out audit failed aimed h = inr (failed refl, aimed, h)
-  aimed_ends s serving door k (Err endings.DoorFault) out audit failed aimed h = (aimed, h)
-  aimed_ends s serving door k (Err endings.Memory) out audit failed aimed h = (aimed, h)
-  aimed_ends s serving door k (Err endings.StoreFault) out audit failed aimed h = (aimed, h)
-  aimed_ends s serving door k (Err (endings.OtherStore stored wanted)) out audit failed aimed h = (aimed, h)
-  aimed_ends s serving door k (Err (endings.ReadFault role)) out audit failed aimed h = (aimed, h)
-  aimed_ends s serving door k (Err (endings.TooLong role)) out audit failed aimed h = (aimed, h)
-  aimed_ends s serving door k (Err (endings.AppRefused text)) out audit failed aimed h = (aimed, h)
-  aimed_ends s serving door k (Err (endings.NewRefused text)) out audit failed aimed h = (aimed, h)
-  aimed_ends s serving door k (Err (endings.UpgradeRefused text)) out audit failed aimed h = (aimed, h)
-  aimed_ends s serving door k (Err (endings.LineRefused lapse)) out audit failed aimed h = (aimed, h)
-  aimed_ends s serving door k (Err (endings.SessionsRefused n)) out audit failed aimed h = (aimed, h)
+  -- what failed behind the aim failed within all
+  module _ (serving : Serving) (door : Span (DoorSeen L)) (all part : Sinks) (within : FailsWithin all part) where
+    connections_within : (x : Answering) (most : ℕ) (k : Span Holding) (result : Result (Unit {0}) Ending) (out audit : List ℕ)
+        → EndsConnections line x most door k result part out audit → EndsConnections line x most door k result all out audit
+    connections_within x most k (Ok done) out audit h = h
+    connections_within x most k (Err endings.WriteFault) out audit (inl h) = inl (h.0, h.1, within.audit h.2)
+    connections_within x most k (Err endings.WriteFault) out audit (inr h) = inr (h.0, h.1, h.2, within.out h.3)
+    connections_within x most k (Err endings.DoorFault) out audit h = h
+    connections_within x most k (Err endings.Memory) out audit h = h
+    connections_within x most k (Err endings.StoreFault) out audit h = absurd h
+    connections_within x most k (Err (endings.OtherStore stored wanted)) out audit h = absurd h
+    connections_within x most k (Err (endings.ReadFault role)) out audit h = absurd h
+    connections_within x most k (Err (endings.TooLong role)) out audit h = absurd h
+    connections_within x most k (Err (endings.AppRefused text)) out audit h = absurd h
+    connections_within x most k (Err (endings.NewRefused text)) out audit h = absurd h
+    connections_within x most k (Err (endings.UpgradeRefused text)) out audit h = absurd h
+    connections_within x most k (Err (endings.SessionsRefused n)) out audit h = absurd h
+    connections_within x most k (Err (endings.LineRefused lapse)) out audit h = absurd h
+
+    listened_within : (k : Span Holding) (result : Result (Unit {0}) Ending) (out audit : List ℕ)
+        → IsListenedAt line app sessions serving door k result part out audit → IsListenedAt line app sessions serving door k result all out audit
+    listened_within k result out audit h = record {
+      listens = h.listens;
+      ends = connections_within (answering_of serving.lazy app sessions) serving.count k result out audit h.ends;
+    }
+
+    door_within : (k : Span Holding) (result : Result (Unit {0}) Ending) (out audit : List ℕ)
+        → EndsDoor line app sessions serving door k result part out audit → EndsDoor line app sessions serving door k result all out audit
+    door_within k (Ok done) out audit h = listened_within k (Ok done) out audit h
+    door_within k (Err endings.DoorFault) out audit (rose, inl h) = (rose, inl h)
+    door_within k (Err endings.DoorFault) out audit (rose, inr h) = (rose, inr (listened_within k (Err endings.DoorFault) out audit h))
+    door_within k (Err endings.WriteFault) out audit h = listened_within k (Err endings.WriteFault) out audit h
+    door_within k (Err endings.Memory) out audit h = listened_within k (Err endings.Memory) out audit h
+    door_within k (Err endings.StoreFault) out audit h = absurd h.ends
+    door_within k (Err (endings.OtherStore stored wanted)) out audit h = absurd h.ends
+    door_within k (Err (endings.ReadFault role)) out audit h = absurd h.ends
+    door_within k (Err (endings.TooLong role)) out audit h = absurd h.ends
+    door_within k (Err (endings.AppRefused text)) out audit h = absurd h.ends
+    door_within k (Err (endings.NewRefused text)) out audit h = absurd h.ends
+    door_within k (Err (endings.UpgradeRefused text)) out audit h = absurd h.ends
+    door_within k (Err (endings.SessionsRefused n)) out audit h = absurd h.ends
+    door_within k (Err (endings.LineRefused lapse)) out audit h = absurd h.ends
+
+    at_within : (k : Span Holding) (result : Result (Unit {0}) Ending) (out audit : List ℕ)
+        → IsServedAt line app sessions serving door k result part out audit → IsServedAt line app sessions serving door k result all out audit
+    at_within k result out audit h = record {
+      opened = h.opened;
+      attached = h.attached;
+      ends = door_within (span (holding_of h.opened k.before.splits) k.after) result out audit h.ends;
+    }
+
+    -- the audit was aimed, and what follows it
+    pub aimed_ends : (k : Span Holding) (result : Result (Unit {0}) Ending) (out audit : List ℕ) → IsAimed serving.audit all.audit
+        → EndsAttached line app sessions serving door k result part out audit → EndsAimed line all app sessions serving door k result out audit
+    aimed_ends k (Ok done) out audit aimed h = (aimed, at_within k (Ok done) out audit h)
+    aimed_ends k (Err endings.WriteFault) out audit aimed h = inr (aimed, at_within k (Err endings.WriteFault) out audit h)
+    aimed_ends k (Err endings.DoorFault) out audit aimed h = (aimed, at_within k (Err endings.DoorFault) out audit h)
+    aimed_ends k (Err endings.Memory) out audit aimed (inl h) = (aimed, inl h)
+    aimed_ends k (Err endings.Memory) out audit aimed (inr h) = (aimed, inr (at_within k (Err endings.Memory) out audit h))
+    aimed_ends k (Err endings.StoreFault) out audit aimed h = (aimed, h)
+    aimed_ends k (Err (endings.OtherStore stored wanted)) out audit aimed h = (aimed, h)
+    aimed_ends k (Err (endings.ReadFault role)) out audit aimed h = absurd h.ends.ends
+    aimed_ends k (Err (endings.TooLong role)) out audit aimed h = absurd h.ends.ends
+    aimed_ends k (Err (endings.AppRefused text)) out audit aimed h = absurd h.ends.ends
+    aimed_ends k (Err (endings.NewRefused text)) out audit aimed h = absurd h.ends.ends
+    aimed_ends k (Err (endings.UpgradeRefused text)) out audit aimed h = absurd h.ends.ends
+    aimed_ends k (Err (endings.SessionsRefused n)) out audit aimed h = absurd h.ends.ends
+    aimed_ends k (Err (endings.LineRefused lapse)) out audit aimed h = absurd h.ends.ends
 
   -- it wasn't
   pub unaimed_ends : (out audit_before audit_after : SinkSeen) (serving : Serving) (door : DoorSeen L) (k : Holding) (failed : Failed) → Aims audit_before audit_after serving.audit (Err failed)

@@ -11,7 +11,7 @@ use Rattle.jac_opening.specs.Application.{schema_text}
 use Rattle.jac_desk.specs.Answered.{answering_of}
 use Rattle.jac_serving.specs.Answering.{Answering}
 use Rattle.jac_serving.specs.Keeping.{Holding, holding_of, keepers, IsStill}
-use Rattle.jac_serving.specs.Outside.{Span, span, Sinks, AWriteFailed}
+use Rattle.jac_serving.specs.Outside.{Span, span, Sinks, HasFaulted}
 use Rattle.jac_words.specs.Commands.{audit_of, db_of, lazy_of}
 use Rattle.jac_ending.specs.Files.{Sight, sinks_of, IsOpened, IsAimed}
 use Rattle.jac_serving.specs.Script.{Script, script_of}
@@ -20,48 +20,50 @@ use Rattle.jac_ending.specs.Attached.{IsAttached, IsOther}
 use Rattle.jac_ending.specs.Early.{IsEndedEarly}
 use Rattle.jac_app.specs.Held.{held_of, IsUnstarted, IsLeftAlone}
 
--- how the events of a script are served on an attached store
-abbrev pub EndsServed : Answering → Span Holding → Script → Result (Unit {0}) Ending
+-- how the events of a script are served on an attached store: what was torn was so on the sink that
+-- failed
+abbrev pub EndsServed : Answering → Span Holding → Script → Result (Unit {0}) Ending → Sinks
     → List ℕ → List ℕ → Type 0
-EndsServed x k script (Ok done) out audit =
+EndsServed x k script (Ok done) s out audit =
     (script.refused ≡ None) × PutsServed false x k script out audit
-EndsServed x k script (Err (endings.LineRefused lapse)) out audit =
+EndsServed x k script (Err (endings.LineRefused lapse)) s out audit =
     (script.refused ≡ Some lapse) × PutsServed false x k script out audit
-EndsServed x k script (Err endings.WriteFault) out audit = PutsTorn x k script out audit
-EndsServed x k script (Err endings.Memory) out audit = PutsServed true x k script out audit
-EndsServed x k script (Err ending) out audit = ⊥
+EndsServed x k script (Err endings.WriteFault) s out audit = PutsTorn x k script s out audit
+EndsServed x k script (Err endings.Memory) s out audit = PutsServed true x k script out audit
+EndsServed x k script (Err ending) s out audit = ⊥
 
 -- a store was attached, and the events were served from what it keeps; attaching it split no facet
 pub record IsServedOn (command : Command) (app : Application) (sessions : List Session)
-    (k : Span Holding) (script : Script) (result : Result (Unit {0}) Ending) (out audit : List ℕ)
-    : Type 0 where
+    (k : Span Holding) (script : Script) (result : Result (Unit {0}) Ending) (s : Sinks)
+    (out audit : List ℕ) : Type 0 where
   pub opened : KeeperSeen
   pub attached : IsAttached (db_of command) app (keepers k) opened
   pub ends : EndsServed (answering_of (lazy_of command) app sessions)
-      (span (holding_of opened k.before.splits) k.after) script result out audit
+      (span (holding_of opened k.before.splits) k.after) script result s out audit
 
 -- how the steps from the attaching on end
 abbrev pub EndsAttaching : Command → Application → List Session → Span Holding → Script
-    → Result (Unit {0}) Ending → List ℕ → List ℕ → Type 0
-EndsAttaching command app sessions k script (Err endings.StoreFault) out audit =
+    → Result (Unit {0}) Ending → Sinks → List ℕ → List ℕ → Type 0
+EndsAttaching command app sessions k script (Err endings.StoreFault) s out audit =
     Rose k.before.keeper.faults k.after.keeper.faults × IsUnstarted k out audit
-EndsAttaching command app sessions k script (Err (endings.OtherStore stored wanted)) out audit =
+EndsAttaching command app sessions k script (Err (endings.OtherStore stored wanted)) s out audit =
     (wanted ≡ schema_text app) × IsOther (keepers k) stored wanted × IsUnstarted k out audit
-EndsAttaching command app sessions k script (Err endings.Memory) out audit =
-    IsUnstarted k out audit ⊎ IsServedOn command app sessions k script (Err endings.Memory) out audit
-EndsAttaching command app sessions k script result out audit =
-    IsServedOn command app sessions k script result out audit
+EndsAttaching command app sessions k script (Err endings.Memory) s out audit =
+    IsUnstarted k out audit
+    ⊎ IsServedOn command app sessions k script (Err endings.Memory) s out audit
+EndsAttaching command app sessions k script result s out audit =
+    IsServedOn command app sessions k script result s out audit
 
 -- how the steps from the audit's aim on end: that failed, or a put behind it
 abbrev pub EndsServing : Sinks → Command → Application → List Session → Span Holding → Script
     → Result (Unit {0}) Ending → List ℕ → List ℕ → Type 0
 EndsServing s command app sessions k script (Err endings.WriteFault) out audit =
-    (Rose s.audit.before.faults s.audit.after.faults × IsLeftAlone s.audit k out audit)
-    ⊎ (AWriteFailed s × IsAimed (audit_of command) s.audit
-    × EndsAttaching command app sessions k script (Err endings.WriteFault) out audit)
+    (HasFaulted s.audit × IsLeftAlone s.audit k out audit)
+    ⊎ (IsAimed (audit_of command) s.audit
+    × EndsAttaching command app sessions k script (Err endings.WriteFault) s out audit)
 EndsServing s command app sessions k script result out audit =
     IsAimed (audit_of command) s.audit
-    × EndsAttaching command app sessions k script result out audit
+    × EndsAttaching command app sessions k script result s out audit
 
 -- the files were read, and then the events were served
 pub record IsServing (seen : Sight) (splits : Span ℕ) (command : Command)

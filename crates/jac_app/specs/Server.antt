@@ -15,7 +15,7 @@ use Rattle.jac_ending.specs.declared.ending.Ending.TheVariants as endings
 use Rattle.jac_serving.specs.Answering.{Answering}
 use Rattle.jac_serving.specs.Keeping.{Holding, holding_of, keepers, IsStill}
 use Rattle.jac_desk.specs.Answered.{answering_of}
-use Rattle.jac_serving.specs.Outside.{Span, span, Sinks, IsFront, AWriteFailed}
+use Rattle.jac_serving.specs.Outside.{Span, span, Sinks, IsFront, HasFaulted}
 use Rattle.jac_ending.specs.Files.{Sight, sinks_of, HasApplication, HasSessions, IsAimed}
 use Rattle.jac_opening.specs.Application.{schema_text}
 use Rattle.jac_ending.specs.Attached.{IsAttached, IsOther}
@@ -33,28 +33,30 @@ halted halts.Door = endings.DoorFault
 halted halts.Write = endings.WriteFault
 halted halts.Memory = endings.Memory
 
--- how serving so many connections at most ends, with the line that tells how many there were
+-- how serving so many connections at most ends, with the line that tells how many there were: a put
+-- failed on the audit, within a connection, or all were served and it was that of this line
 abbrev pub EndsConnections : {L : Type 0} → (L → LinkSeen) → Answering → ℕ → Span (DoorSeen L)
-    → Span Holding → Result (Unit {0}) Ending → List ℕ → List ℕ → Type 0
-EndsConnections line x most door k (Ok done) out audit =
+    → Span Holding → Result (Unit {0}) Ending → Sinks → List ℕ → List ℕ → Type 0
+EndsConnections line x most door k (Ok done) s out audit =
     (tally : Tally) × AreLinksServed line x most door k (Ok tally) audit × (out ≡ served_line tally)
-EndsConnections line x most door k (Err endings.WriteFault) out audit =
-    (AreLinksServed line x most door k (Err halts.Write) audit × (out ≡ []))
+EndsConnections line x most door k (Err endings.WriteFault) s out audit =
+    (AreLinksServed line x most door k (Err halts.Write) audit × (out ≡ [])
+    × HasFaulted s.audit)
     ⊎ ((tally : Tally) × AreLinksServed line x most door k (Ok tally) audit
-    × IsFront out (served_line tally))
-EndsConnections line x most door k (Err endings.DoorFault) out audit =
+    × IsFront out (served_line tally) × HasFaulted s.out)
+EndsConnections line x most door k (Err endings.DoorFault) s out audit =
     AreLinksServed line x most door k (Err halts.Door) audit × (out ≡ [])
-EndsConnections line x most door k (Err endings.Memory) out audit =
+EndsConnections line x most door k (Err endings.Memory) s out audit =
     AreLinksServed line x most door k (Err halts.Memory) audit × (out ≡ [])
-EndsConnections line x most door k (Err ending) out audit = ⊥
+EndsConnections line x most door k (Err ending) s out audit = ⊥
 
 -- a door that tells listened on the port, and its connections were served
 pub record IsListenedAt {L : Type 0} (line : L → LinkSeen) (app : Application)
     (sessions : List Session) (serving : Serving) (door : Span (DoorSeen L)) (k : Span Holding)
-    (result : Result (Unit {0}) Ending) (out audit : List ℕ) : Type 0 where
+    (result : Result (Unit {0}) Ending) (s : Sinks) (out audit : List ℕ) : Type 0 where
   pub listens : IsTrue door.after.tells → door.after.port ≡ Some serving.port
   pub ends : EndsConnections line (answering_of serving.lazy app sessions) serving.count door k
-      result out audit
+      result s out audit
 
 -- a door listens where it did, no link of it was served, and nothing was put
 pub record IsUnheard {L : Type 0} (door : Span (DoorSeen L)) (k : Span Holding) (out audit : List ℕ) : Type 0 where
@@ -67,23 +69,24 @@ pub record IsUnheard {L : Type 0} (door : Span (DoorSeen L)) (k : Span Holding) 
 
 -- how the steps from the listening on end
 abbrev pub EndsDoor : {L : Type 0} → (L → LinkSeen) → Application → List Session → Serving
-    → Span (DoorSeen L) → Span Holding → Result (Unit {0}) Ending → List ℕ → List ℕ → Type 0
-EndsDoor line app sessions serving door k (Err endings.DoorFault) out audit =
+    → Span (DoorSeen L) → Span Holding → Result (Unit {0}) Ending → Sinks → List ℕ → List ℕ
+    → Type 0
+EndsDoor line app sessions serving door k (Err endings.DoorFault) s out audit =
     Rose door.before.faults door.after.faults
     × (IsUnheard door k out audit
-    ⊎ IsListenedAt line app sessions serving door k (Err endings.DoorFault) out audit)
-EndsDoor line app sessions serving door k result out audit =
-    IsListenedAt line app sessions serving door k result out audit
+    ⊎ IsListenedAt line app sessions serving door k (Err endings.DoorFault) s out audit)
+EndsDoor line app sessions serving door k result s out audit =
+    IsListenedAt line app sessions serving door k result s out audit
 
 -- a store was attached, and the connections were served from what it keeps; attaching it split no
 -- facet
 pub record IsServedAt {L : Type 0} (line : L → LinkSeen) (app : Application)
     (sessions : List Session) (serving : Serving) (door : Span (DoorSeen L)) (k : Span Holding)
-    (result : Result (Unit {0}) Ending) (out audit : List ℕ) : Type 0 where
+    (result : Result (Unit {0}) Ending) (s : Sinks) (out audit : List ℕ) : Type 0 where
   pub opened : KeeperSeen
   pub attached : IsAttached serving.db app (keepers k) opened
   pub ends : EndsDoor line app sessions serving door
-      (span (holding_of opened k.before.splits) k.after) result out audit
+      (span (holding_of opened k.before.splits) k.after) result s out audit
 
 -- no store was attached, and the door wasn't called
 pub record IsUnserved {L : Type 0} (door : Span (DoorSeen L)) (k : Span Holding)
@@ -93,28 +96,28 @@ pub record IsUnserved {L : Type 0} (door : Span (DoorSeen L)) (k : Span Holding)
 
 -- how the steps from the attaching on end
 abbrev pub EndsAttached : {L : Type 0} → (L → LinkSeen) → Application → List Session → Serving
-    → Span (DoorSeen L) → Span Holding → Result (Unit {0}) Ending → List ℕ → List ℕ → Type 0
-EndsAttached line app sessions serving door k (Err endings.StoreFault) out audit =
+    → Span (DoorSeen L) → Span Holding → Result (Unit {0}) Ending → Sinks → List ℕ → List ℕ
+    → Type 0
+EndsAttached line app sessions serving door k (Err endings.StoreFault) s out audit =
     Rose k.before.keeper.faults k.after.keeper.faults × IsUnserved door k out audit
-EndsAttached line app sessions serving door k (Err (endings.OtherStore stored wanted)) out audit =
+EndsAttached line app sessions serving door k (Err (endings.OtherStore stored wanted)) s out audit =
     (wanted ≡ schema_text app) × IsOther (keepers k) stored wanted × IsUnserved door k out audit
-EndsAttached line app sessions serving door k (Err endings.Memory) out audit =
+EndsAttached line app sessions serving door k (Err endings.Memory) s out audit =
     IsUnserved door k out audit
-    ⊎ IsServedAt line app sessions serving door k (Err endings.Memory) out audit
-EndsAttached line app sessions serving door k result out audit =
-    IsServedAt line app sessions serving door k result out audit
+    ⊎ IsServedAt line app sessions serving door k (Err endings.Memory) s out audit
+EndsAttached line app sessions serving door k result s out audit =
+    IsServedAt line app sessions serving door k result s out audit
 
 -- how the steps from the audit's aim on end: that failed, or a put behind it
 abbrev pub EndsAimed : {L : Type 0} → (L → LinkSeen) → Sinks → Application → List Session → Serving
     → Span (DoorSeen L) → Span Holding → Result (Unit {0}) Ending → List ℕ → List ℕ → Type 0
 EndsAimed line s app sessions serving door k (Err endings.WriteFault) out audit =
-    (Rose s.audit.before.faults s.audit.after.faults
-    × IsLeftAlone s.audit k out audit × (door.after ≡ door.before))
-    ⊎ (AWriteFailed s × IsAimed serving.audit s.audit
-    × EndsAttached line app sessions serving door k (Err endings.WriteFault) out audit)
+    (HasFaulted s.audit × IsLeftAlone s.audit k out audit × (door.after ≡ door.before))
+    ⊎ (IsAimed serving.audit s.audit
+    × EndsAttached line app sessions serving door k (Err endings.WriteFault) s out audit)
 EndsAimed line s app sessions serving door k result out audit =
     IsAimed serving.audit s.audit
-    × EndsAttached line app sessions serving door k result out audit
+    × EndsAttached line app sessions serving door k result s out audit
 
 -- the files were read, and then the connections were served
 pub record IsServer {L : Type 0} (line : L → LinkSeen) (seen : Sight) (door : Span (DoorSeen L))

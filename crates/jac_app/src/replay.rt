@@ -1,12 +1,11 @@
-ghost use Rattle.std.specs.Prelude.{◌≡◌, ◌<◌, ◌^◌, length, IsTrue, IfOk, Err, false};
+ghost use Rattle.std.specs.Prelude.{◌≡◌, ◌<◌, ◌^◌, length, IsTrue, IfOk, false};
 ghost use Rattle.jac_lang.specs.Mirror.{application_of};
 ghost use Rattle.jac_plain.specs.Models.{shapes_of};
 ghost use Rattle.jac_keep.specs.Schema.{IsSchema};
-ghost use Rattle.jac_ending.specs.declared.ending.Ending.TheVariants as endings;
 ghost use Rattle.jac_serving.specs.Desk.{kept};
 ghost use Rattle.jac_serving.specs.Keeping.{holding_of};
 ghost use Rattle.jac_desk.specs.Seen.{desk_seen};
-ghost use Rattle.jac_serving.specs.Outside.{AWriteFailed, Went, WentAimed, span, sinks};
+ghost use Rattle.jac_serving.specs.Outside.{WentAimed, WentWith, span, sinks};
 ghost use Rattle.jac_words.specs.declared.words.Command.TheVariants as commands;
 ghost use Rattle.jac_serving.specs.Script.{script_of};
 ghost use Rattle.jac_ending.specs.Ending.{ending_of};
@@ -54,11 +53,10 @@ fn serve_attached<O: Sink, U: AuditSink, K: Vault, L: Ledger, M: Ledger>(
     requires own { schema ≡ schema_text (application_of desk.old.service.now) }
     requires schema { IsSchema schema (shapes_of (application_of desk.old.service.now)) }
     requires lazy { desk.old.lazy ≡ command.now.lazy }
-    ensures served { Went (sinks (O.seen out.old) (O.seen out.new) (U.seen audit.old) (U.seen audit.new))
+    ensures served { WentWith (sinks (O.seen out.old) (O.seen out.new) (U.seen audit.old) (U.seen audit.new))
         (EndsAttaching (commands.Replay command.now) (application_of desk.old.service.now)
         desk.old.sessions.now (kept (desk_seen K.seen desk.old) (desk_seen K.seen desk.new))
         (script_of events.now) result) }
-    ensures cause { result ≡ Err endings.WriteFault → AWriteFailed (sinks (O.seen out.old) (O.seen out.new) (U.seen audit.old) (U.seen audit.new)) }
     ensures same_keeper { desk.new.keeper.ghost_name ≡ desk.old.keeper.ghost_name }
     ensures same_splits { desk.new.splits.ghost_name ≡ desk.old.splits.ghost_name }
 {

@@ -1,5 +1,5 @@
 //! `serve`: an application is served on a port, to one connection after another.
-ghost use Rattle.std.specs.Prelude.{◌≡◌, IsTrue, Err, false};
+ghost use Rattle.std.specs.Prelude.{◌≡◌, IsTrue, false};
 ghost use Rattle.jac_io.specs.Linked.{DoorLasts};
 ghost use Rattle.jac_lang.specs.Mirror.{application_of};
 ghost use Rattle.jac_plain.specs.Models.{shapes_of};
@@ -7,9 +7,8 @@ ghost use Rattle.jac_keep.specs.Schema.{IsSchema};
 ghost use Rattle.jac_serving.specs.Desk.{MayServe, Keeps, kept};
 ghost use Rattle.jac_desk.specs.Answered.{answering, answering_of};
 ghost use Rattle.jac_desk.specs.Seen.{desk_seen};
-ghost use Rattle.jac_ending.specs.declared.ending.Ending.TheVariants as endings;
 ghost use Rattle.jac_serving.specs.Keeping.{holding_of};
-ghost use Rattle.jac_serving.specs.Outside.{AWriteFailed, IsPut, Went, WentAimed, span, sinks};
+ghost use Rattle.jac_serving.specs.Outside.{IsPut, WentAimed, WentWith, span, sinks};
 ghost use Rattle.jac_ending.specs.Files.{sight};
 ghost use Rattle.jac_opening.specs.Application.{schema_text};
 ghost use Rattle.jac_app.specs.Server.{served_line, halted, EndsConnections, EndsDoor, EndsAttached, EndsAimed, EndsServer};
@@ -69,12 +68,11 @@ fn serve_connections<O: Sink, U: AuditSink, K: Keeper, D: Door, L: Ledger, M: Le
     door: &mut D,
 ) -> Result<(), Ending>
     requires desk { MayServe answering (desk_seen K.seen desk.old) }
-    ensures served { Went (sinks (O.seen out.old) (O.seen out.new) (U.seen audit.old) (U.seen audit.new))
+    ensures served { WentWith (sinks (O.seen out.old) (O.seen out.new) (U.seen audit.old) (U.seen audit.new))
         (EndsConnections D.Line.seen (answering_of desk.old.lazy
         (application_of desk.old.service.now) desk.old.sessions.now) serving.now.count
         (span (D.seen door.old) (D.seen door.new))
         (kept (desk_seen K.seen desk.old) (desk_seen K.seen desk.new)) result) }
-    ensures cause { result ≡ Err endings.WriteFault → AWriteFailed (sinks (O.seen out.old) (O.seen out.new) (U.seen audit.old) (U.seen audit.new)) }
     ensures lasts { DoorLasts (D.seen door.old) (D.seen door.new) }
     ensures same_port { IsTrue (D.seen door.new).tells → (D.seen door.new).port ≡ (D.seen door.old).port }
     ensures keeps { Keeps answering (desk_seen K.seen desk.old) (desk_seen K.seen desk.new) }
@@ -98,11 +96,10 @@ fn serve_door<O: Sink, U: AuditSink, K: Keeper, D: Door, L: Ledger, M: Ledger>(
 ) -> Result<(), Ending>
     requires desk { MayServe answering (desk_seen K.seen desk.old) }
     requires lazy { desk.old.lazy ≡ serving.now.lazy }
-    ensures served { Went (sinks (O.seen out.old) (O.seen out.new) (U.seen audit.old) (U.seen audit.new))
+    ensures served { WentWith (sinks (O.seen out.old) (O.seen out.new) (U.seen audit.old) (U.seen audit.new))
         (EndsDoor D.Line.seen (application_of desk.old.service.now) desk.old.sessions.now
         serving.now (span (D.seen door.old) (D.seen door.new))
         (kept (desk_seen K.seen desk.old) (desk_seen K.seen desk.new)) result) }
-    ensures cause { result ≡ Err endings.WriteFault → AWriteFailed (sinks (O.seen out.old) (O.seen out.new) (U.seen audit.old) (U.seen audit.new)) }
     ensures lasts { DoorLasts (D.seen door.old) (D.seen door.new) }
     ensures keeps { Keeps answering (desk_seen K.seen desk.old) (desk_seen K.seen desk.new) }
 {
@@ -125,11 +122,10 @@ fn serve_attached<O: Sink, U: AuditSink, K: Vault, D: Door, L: Ledger, M: Ledger
     requires own { schema ≡ schema_text (application_of desk.old.service.now) }
     requires schema { IsSchema schema (shapes_of (application_of desk.old.service.now)) }
     requires lazy { desk.old.lazy ≡ serving.now.lazy }
-    ensures served { Went (sinks (O.seen out.old) (O.seen out.new) (U.seen audit.old) (U.seen audit.new))
+    ensures served { WentWith (sinks (O.seen out.old) (O.seen out.new) (U.seen audit.old) (U.seen audit.new))
         (EndsAttached D.Line.seen (application_of desk.old.service.now) desk.old.sessions.now
         serving.now (span (D.seen door.old) (D.seen door.new))
         (kept (desk_seen K.seen desk.old) (desk_seen K.seen desk.new)) result) }
-    ensures cause { result ≡ Err endings.WriteFault → AWriteFailed (sinks (O.seen out.old) (O.seen out.new) (U.seen audit.old) (U.seen audit.new)) }
     ensures lasts { DoorLasts (D.seen door.old) (D.seen door.new) }
     ensures same_keeper { desk.new.keeper.ghost_name ≡ desk.old.keeper.ghost_name }
     ensures same_splits { desk.new.splits.ghost_name ≡ desk.old.splits.ghost_name }

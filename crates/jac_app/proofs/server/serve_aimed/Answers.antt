@@ -1,7 +1,9 @@
 use Rattle.jac_lang.specs.Mirror.{application_of}
 use Rattle.jac_serving.specs.Keeping.{holding_of}
 use Rattle.jac_serving.specs.Outside.{span, sinks}
-use Rattle.jac_ending.proofs.EndingLemmas.{went_aimed, failed_behind}
+use Rattle.std.proofs.Common.{arith}
+use Rattle.jac_serving.proofs.OutsideLemmas.{fails_behind}
+use Rattle.jac_ending.proofs.EndingLemmas.{went_aimed}
 use Rattle.jac_app.proofs.ServerLemmas.{aimed_ends, unaimed_ends}
 use Rattle.jac_app.proofs.server.serve_aimed.Goals as goal
 
@@ -19,9 +21,9 @@ returns-in-Ok-clause-served g c =
     let aims = rw c.requires.aim at c.in-Ok.ensures in
     went_aimed out later before aimed after c.args.serving.now.audit _ aims _ _
     (λ is_aimed o a h.
-    aimed_ends g.D.Line.Link.seen (application_of c.args.desk.now.service.now) c.args.desk.now.sessions.now (sinks out later before after) c.args.serving.now (span (D.seen c.args.door.now) (D.seen c.serve_attached.new.door))
-    (span (holding_of (K.seen c.args.desk.now.keeper.now) c.args.desk.now.splits.now) (holding_of (K.seen c.serve_attached.new.desk.keeper.now) c.serve_attached.new.desk.splits.now)) c.serve_attached.result o a
-    (λ is. failed_behind out later before aimed after c.args.serving.now.audit _ aims (c.serve_attached.ensures.cause is)) is_aimed h)
+    aimed_ends g.D.Line.Link.seen (application_of c.args.desk.now.service.now) c.args.desk.now.sessions.now c.args.serving.now (span (D.seen c.args.door.now) (D.seen c.serve_attached.new.door))
+    (sinks out later before after) (sinks out later aimed after) (fails_behind out out later before aimed after (omega arith) aims.later)
+    (span (holding_of (K.seen c.args.desk.now.keeper.now) c.args.desk.now.splits.now) (holding_of (K.seen c.serve_attached.new.desk.keeper.now) c.serve_attached.new.desk.splits.now)) c.serve_attached.result o a is_aimed h)
     c.serve_attached.ensures.served
 
 pub returns-in-Err-clause-served : goal.returns-in-Err-clause-served
