@@ -17,7 +17,7 @@ use Rattle.jac_words.specs.Words.{command_of}
 use Rattle.jac_ending.specs.declared.ending.Ending.{Ending}
 use Rattle.jac_ending.specs.declared.status.Status.TheVariants as statuses
 use Rattle.jac_ending.specs.Ending.{status_of, Finishes}
-use Rattle.jac_ending.specs.Files.{standing_at}
+use Rattle.jac_ending.specs.Files.{standing_at, sinks_of}
 use Rattle.jac_desk.specs.Answered.{answering_of}
 use Rattle.jac_app.specs.Held.{held_of}
 use Rattle.jac_app.specs.Server.{IsServedAt, IsServer, EndsServer}
@@ -35,7 +35,8 @@ all_returned visits last none = ap (λ o. visits ++ unreturned o) none ∙ appen
 -- out stood so where the steps ended
 module _ {L : Type 0} (serving : Serving) (top : TopRun L) (standing : SinkSeen) (told : IsToldToEnd top) (out audit : List ℕ) (audit_took : Took top.seen.audit audit) where
   door_served : (app : Application) (sessions : List Session) (files : HoldServing top.seen.files.before.file serving app sessions)
-      → IsServedAt top.line app sessions serving top.door (held_of top.seen top.splits) (Ok tt) out audit → HasServed serving top
+      → IsServedAt top.line app sessions serving top.door (held_of top.seen top.splits) (Ok tt) (sinks_of (standing_at top.seen standing)) out audit
+      → HasServed serving top
   door_served app sessions files on =
       let links = on.ends.ends.1 in
       let all : links.visits ++ unreturned links.last ≡ links.visits = all_returned links.visits links.last links.ended.0 in

@@ -21,7 +21,7 @@ use Rattle.jac_ending.specs.declared.status.Status.{Status}
 use Rattle.jac_ending.specs.declared.status.Status.TheVariants as statuses
 use Rattle.jac_desk.specs.Answered.{answering_of}
 use Rattle.jac_ending.specs.Ending.{status_of, Closes, Finishes}
-use Rattle.jac_ending.specs.Files.{standing_at, HasSessions, IsOpened}
+use Rattle.jac_ending.specs.Files.{standing_at, HasSessions, IsOpened, sinks_of}
 use Rattle.jac_desk.specs.Log.{Serves}
 use Rattle.jac_app.specs.Held.{held_of}
 use Rattle.jac_app.specs.Replay.{IsServedOn, IsServing, EndsReplay}
@@ -85,7 +85,8 @@ sessions_held files (Some name) sessions told (bytes, read, listed) = (bytes, re
 -- out stood so where the steps ended
 module _ {L : Type 0} (replay : Replay) (top : TopRun L) (standing : SinkSeen) (told : IsToldToEnd top) (out audit : List ℕ) (out_took : Took top.seen.out out) (audit_took : Took top.seen.audit audit) where
   replayed_on : (app : Application) (sessions : List Session) (bytes : List ℕ) → IsOpened (standing_at top.seen standing) (commands.Replay replay) app sessions bytes
-      → IsServedOn (commands.Replay replay) app sessions (held_of top.seen top.splits) (script_of bytes) (Ok tt) out audit
+      → IsServedOn (commands.Replay replay) app sessions (held_of top.seen top.splits) (script_of bytes) (Ok tt)
+      (sinks_of (standing_at top.seen standing)) out audit
       → HasReplayed replay top
   replayed_on app sessions bytes opened on =
       let lines = on.ends.1 in
