@@ -1,53 +1,122 @@
 -- What keeps the tables that are held those of the keeper's state.
-use Rattle.std.proofs.Common.{◌≡◌, ℕ, Bool, true, false, not, nat_lt, nat_le, if◌then◌else◌, IsTrue, List, take, drop, Option, Some, None, Result, Ok, Err, OnOk, OnErr, refl, sym, ◌∙◌, ap, subst}
+use Rattle.std.proofs.Common.{◌≡◌, ◌≢◌, ◌==◌, ◌<◌, ◌≤◌, ◌+◌, ◌||◌, ℕ, zero, suc, Bool, true, false, not, nat_lt, nat_le, IsTrue, IfSome, List, [], ◌∷◌, length, take, drop, Option, Some, None, refl, sym, ◌∙◌, ap, subst, arith, add-zero, zero-add, inl, inr}
+use Rattle.std.proofs.lemmas.Bool.{cases_lt}
+use Rattle.std.proofs.lemmas.Option.{slice_get_past}
 use Rattle.jac_value.specs.Ids.{model_of_id}
 use Rattle.jac_rows.specs.Good.{IsSound}
-use Rattle.jac_rows.specs.Tables.{rows_of}
+use Rattle.jac_rows.specs.Tables.{rows_of, rows_or_none}
 use Rattle.jac_rows.specs.declared.row.Row.{Row}
 use Rattle.jac_rows.specs.declared.state.State.{State}
+use Rattle.jac_keep.specs.declared.alteration.Alteration.{Alteration}
 use Rattle.jac_keep.specs.declared.alteration.Change.{Change}
-use Rattle.jac_keep.specs.declared.stop.Stop.{Stop}
-use Rattle.jac_keep.specs.Alterations.{alters}
-use Rattle.jac_keep.specs.KeeperSeen.{KeeperSeen, Keeps}
+use Rattle.jac_keep.specs.Alterations.{alters, altered, overlaid, overlaid_from}
+use Rattle.jac_keep.specs.KeeperSeen.{KeeperSeen}
 use Rattle.jac_keep.specs.Kept.{applied}
 use Rattle.jac_keep.specs.Records.{AreOrdered, with_id, alternatives}
 use Rattle.jac_keep.proofs.Bisection.{own_through}
 use Rattle.jac_keep.proofs.Forgotten.{rows_unaltered}
 use Rattle.jac_keep.proofs.OrderLaws.{ordered_if_rising, ordered-with_id}
 use Rattle.jac_keep.proofs.SoundLaws.{rows_of_sound}
-use Rattle.jac_cached.specs.Held.{held, IsTableIn, AreHeld}
+use Rattle.jac_cached.specs.Held.{held, IsAfter, IsLater, IsTableIn, AreHeld}
 
-kept_table : (old new : State) (change : Change) (m : ℕ) (rows : List Row) (table : Option (List Row)) (b : Bool) → alters m change.changed ≡ b
-    → (table ≡ Some rows → IsTableIn old m rows) → IsSound new → new ≡ applied change old
-    → (if b then None else table) ≡ Some rows → IsTableIn new m rows
-kept_table old new change m rows table true test rest sound same is = absurd cc
-kept_table old new change m rows table false test rest sound same is = record {
-  sound = sound;
-  same = (rest is).same ∙ sym (ap (λ (s : State). rows_of s.tables m) same ∙ rows_unaltered m change.changed old.tables test);
-}
+neither : (b c : Bool) → (b || c) ≡ false → (b ≡ false) × (c ≡ false)
+neither true c e = absurd cc
+neither false c e = (refl, e)
 
-left_table : (old new : State) (m : ℕ) (rows : List Row) (table : Option (List Row)) (b : Bool)
-    → (table ≡ Some rows → IsTableIn old m rows) → IsSound new → new ≡ old
-    → (if b then None else table) ≡ Some rows → IsTableIn new m rows
-left_table old new m rows table true rest sound same is = absurd cc
-left_table old new m rows table false rest sound same is = record {
-  sound = sound;
-  same = (rest is).same ∙ sym (ap (λ (s : State). rows_of s.tables m) same);
-}
+altered_other : (m : ℕ) (changed : List Alteration) (rows : List Row) → alters m changed ≡ false → altered m changed rows ≡ rows
+altered_other m [] rows none = refl
+altered_other m (a ∷ rest) rows none =
+    let both = neither (model_of_id a.id == m) (alters m rest) none in
+    rw both.0 (altered_other m rest rows both.1)
 
--- those are held over a change of which it alters no record
-pub held_after : (old new : KeeperSeen) (change : Change) (result : Result (Unit {0}) Stop) (before after : List (Option (List Row))) → AreHeld old before
-    → ((m : ℕ) → held m after ≡ (if alters m change.changed then None else held m before)) → Keeps old new result
-    → (IsTrue new.tells → OnOk result (new.state ≡ applied change old.state)) → (IsTrue new.tells → OnErr result (new.state ≡ old.state))
-    → AreHeld new after
-held_after old new change (Ok done) before after are forgot keeps exact refused = record {
+rows_altered_from : (first m : ℕ) (changed : List Alteration) (tables : List (List Row)) → 0 < length (rows_of tables m)
+    → rows_of (overlaid_from first changed tables) m ≡ altered (first + m) changed (rows_of tables m)
+rows_altered_from first zero changed [] some = absurd (omega (arith, some))
+rows_altered_from first (suc m) changed [] some = absurd (omega (arith, some))
+rows_altered_from first zero changed (t ∷ tables) some = rw (add-zero first) refl
+rows_altered_from first (suc m) changed (t ∷ tables) some =
+    let next : (first + 1) + m ≡ first + suc m = omega arith in
+    rows_altered_from (first + 1) m changed tables some ∙ ap (λ k. altered k changed (rows_of tables m)) next
+
+-- the table of a model after alterations, where an altered one wasn't empty
+altered_table : (m : ℕ) (changed : List Alteration) (tables : List (List Row)) → (alters m changed ≡ true → 0 < length (rows_of tables m))
+    → altered m changed (rows_of tables m) ≡ rows_of (overlaid changed tables) m
+altered_table m changed tables some = by_case (alters m changed) refl
+  where
+    by_case : (b : Bool) → alters m changed ≡ b → altered m changed (rows_of tables m) ≡ rows_of (overlaid changed tables) m
+    by_case true e = sym (rows_altered_from 0 m changed tables (some e) ∙ ap (λ k. altered k changed (rows_of tables m)) (zero-add m))
+    by_case false e = altered_other m changed (rows_of tables m) e ∙ sym (rows_unaltered m changed tables e)
+
+table_after : (old new : State) (change : Change) (m : ℕ) (before : Option (List Row)) (rows : List Row) → ((table : List Row) → before ≡ Some table → IsTableIn old m table)
+    → IsSound new → new ≡ applied change old → IsAfter m change.changed before rows → IsTableIn new m rows
+table_after old new change m before rows tables sound same after =
+    let was : after.old ≡ rows_of old.tables m = (tables after.old after.was).same in
+    record {
+      sound = sound;
+      same = after.same
+          ∙ ap (altered m change.changed) was
+          ∙ altered_table m change.changed old.tables (λ hit. subst (λ (t : List Row). 0 < length t) was (after.some hit))
+          ∙ sym (ap (λ (s : State). rows_of s.tables m) same);
+    }
+
+-- what is held after the alterations of a change that was applied
+pub held_after : (old new : KeeperSeen) (change : Change) (before after : List (Option (List Row))) → AreHeld old before
+    → ((m : ℕ) → IsLater m change.changed (held m before) (held m after)) → (IsTrue new.tells → IsTrue old.tells) → (IsTrue new.tells → IsSound new.state)
+    → (IsTrue new.tells → new.state ≡ applied change old.state) → AreHeld new after
+held_after old new change before after are later told_before good exact = record {
   shown = λ told m rows is.
-      kept_table old.state new.state change m rows (held m before) (alters m change.changed) refl (are.shown (keeps.told told) m rows) (keeps.good told) (exact told) (sym (forgot m) ∙ is);
+      table_after old.state new.state change m (held m before) rows (are.shown (told_before told) m) (good told) (exact told) ((later m).left rows is);
 }
-held_after old new change (Err stop) before after are forgot keeps exact refused = record {
-  shown = λ told m rows is.
-      left_table old.state new.state m rows (held m before) (alters m change.changed) (are.shown (keeps.told told) m rows) (keeps.good told) (refused told) (sym (forgot m) ∙ is);
+
+-- a table of which no record is altered is as before
+pub later_same : (m : ℕ) (changed : List Alteration) (table : Option (List Row)) → alters m changed ≡ false → IsLater m changed table table
+later_same m changed table none = record {
+  left = λ rows is. record {
+    old = rows;
+    was = is;
+    same = sym (altered_other m changed rows none);
+    some = λ hit. absurd cc;
+  };
 }
+
+-- the table that was altered, or is no longer held
+pub later_put : (m : ℕ) (changed : List Alteration) (before put : Option (List Row)) → IfSome put (IsAfter m changed before) → IsLater m changed before put
+later_put m changed before None after = record { left = λ rows is. absurd cc }
+later_put m changed before (Some one) after = record {
+  left = λ rows is. subst (λ (o : Option (List Row)). IsAfter m changed before (rows_or_none o)) is after;
+}
+
+untrue : (b : Bool) → true ≡ false → b ≡ false
+untrue b bad = absurd cc
+
+apart_if : (at m : ℕ) (changed : List Alteration) → alters at changed ≡ true → alters m changed ≡ false → (b : Bool) → (at == m) ≡ b → (at == m) ≡ false
+apart_if at m changed hit none false e = e
+apart_if at m changed hit none true e =
+    let same : at ≡ m = grind (arith, e) in
+    untrue (at == m) (sym hit ∙ ap (λ k. alters k changed) same ∙ none)
+
+-- a place that is altered is no place that isn't
+pub apart_from : (at m : ℕ) (changed : List Alteration) → alters at changed ≡ true → alters m changed ≡ false → (at == m) ≡ false
+apart_from at m changed hit none = apart_if at m changed hit none (at == m) refl
+
+-- beyond all places none is held
+pub none_held : (m : ℕ) (tables : List (Option (List Row))) → length tables ≤ m → held m tables ≡ None
+none_held m tables past = rw (slice_get_past tables m past) refl
+
+pub later_none : (m : ℕ) (changed : List Alteration) (before after : Option (List Row)) → after ≡ before → before ≡ None → IsLater m changed before after
+later_none m changed before after same none = record { left = λ rows is. absurd cc }
+
+-- what one step alters
+pub later_step : (at m : ℕ) (changed : List Alteration) (first before after : Option (List Row)) → m < at + 1
+    → (m < at → IsLater m changed first before) → (at ≤ m → before ≡ first) → (at ≡ m → IsLater m changed before after) → ((at == m) ≡ false → after ≡ before)
+    → IsLater m changed first after
+later_step at m changed first before after within done left here other = elim (cases_lt m at) [
+  | inl below ↦ (let apart : at ≢ m = omega (arith, below) in
+      let no : (at == m) ≡ false = grind (arith, apart) in
+      subst (IsLater m changed first) (sym (other no)) (done below))
+  | inr past ↦ (let same : at ≡ m = omega (arith, within, past) in
+      subst (λ (t : Option (List Row)). IsLater m changed t after) (left past) (here same))
+]
 
 -- a record's alternatives, by two bisections
 pub own_found : (id start count : ℕ) (rows from : List Row) → from ≡ drop start rows

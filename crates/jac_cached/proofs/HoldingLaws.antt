@@ -1,5 +1,5 @@
 -- What keeps the indexes those of the tables that are held.
-use Rattle.std.proofs.Common.{◌≡◌, ℕ, zero, suc, ◌==◌, Bool, true, false, if◌then◌else◌, List, [], ◌∷◌, Option, Some, None, Result, Ok, Err, OnOk, OnErr, refl, sym, ◌∙◌, subst}
+use Rattle.std.proofs.Common.{◌≡◌, ℕ, zero, suc, ◌==◌, Bool, true, false, if◌then◌else◌, List, [], ◌∷◌, Option, Some, None, IfSome, Result, Ok, Err, OnOk, OnErr, refl, sym, ◌∙◌, subst}
 use Rattle.jac_value.specs.declared.memory.Memory.{Memory}
 use Rattle.jac_rows.specs.Tables.{rows_of, rows_or_none}
 use Rattle.jac_rows.specs.declared.row.Row.{Row}
@@ -43,25 +43,26 @@ holding_none indexes right = record {
     none zero = tt
     none (suc m) = tt
 
--- a table that is no longer held has no index
-ordered_if : (b : Bool) (table : Option (List Row)) → AreOrdered (rows_or_none table) → AreOrdered (rows_or_none (if b then None else table))
-ordered_if true table ordered = tt
-ordered_if false table ordered = ordered
-
-indexed_if : (b : Bool) (table : Option (List Row)) (found : Option TableIndex) (x : TableIndex) → (found ≡ Some x → IsIndexOf (rows_or_none table) x)
-    → (if b then None else found) ≡ Some x → IsIndexOf (rows_or_none (if b then None else table)) x
-indexed_if true table found x indexed is = absurd cc
-indexed_if false table found x indexed is = indexed is
+-- a table that was altered has no index
+indexed_left : (b : Bool) (before after : Option (List Row)) (found : Option TableIndex) (x : TableIndex) → (b ≡ false → after ≡ before)
+    → (found ≡ Some x → IsIndexOf (rows_or_none before) x) → (if b then None else found) ≡ Some x → IsIndexOf (rows_or_none after) x
+indexed_left true before after found x same indexed is = absurd cc
+indexed_left false before after found x same indexed is = subst (λ (t : Option (List Row)). IsIndexOf (rows_or_none t) x) (sym (same refl)) (indexed is)
 
 pub holding_left : (changed : List Alteration) (before after : List (Option (List Row))) (old new : TableIndexes) → IsHolding before old
-    → ((m : ℕ) → held m after ≡ (if alters m changed then None else held m before)) → ((m : ℕ) → index_at m new ≡ (if alters m changed then None else index_at m old))
-    → IsHolding after new
-holding_left changed before after old new holding left gone = record {
-  ordered = λ m. subst (λ t. AreOrdered (rows_or_none t)) (sym (left m)) (ordered_if (alters m changed) (held m before) (holding.ordered m));
-  indexed = λ m x is.
-      subst (λ (t : Option (List Row)). IsIndexOf (rows_or_none t) x) (sym (left m))
-      (indexed_if (alters m changed) (held m before) (index_at m old) x (holding.indexed m x) (sym (gone m) ∙ is));
+    → ((m : ℕ) → AreOrdered (rows_held m after)) → ((m : ℕ) → alters m changed ≡ false → held m after ≡ held m before)
+    → ((m : ℕ) → index_at m new ≡ (if alters m changed then None else index_at m old)) → IsHolding after new
+holding_left changed before after old new holding ordered same gone = record {
+  ordered = ordered;
+  indexed = λ m x is. indexed_left (alters m changed) (held m before) (held m after) (index_at m old) x (same m) (holding.indexed m x) (sym (gone m) ∙ is);
 }
+
+-- what is held is by rising id behind a step too
+pub ordered_step : (b : Bool) (put table : Option (List Row)) → IfSome put AreOrdered → AreOrdered (rows_or_none table)
+    → AreOrdered (rows_or_none (if b then put else (if b then None else table)))
+ordered_step true None table put old = tt
+ordered_step true (Some rows) table put old = put
+ordered_step false put table ordered old = old
 
 -- one more table, whose model has no index then
 ordered_put : (b : Bool) (rows : List Row) (table : Option (List Row)) → AreOrdered rows → AreOrdered (rows_or_none table)

@@ -1,9 +1,11 @@
 -- The tables that are held over a keeper.
-use Rattle.std.specs.Prelude.{◌≡◌, ℕ, List, Option, Some, None, slice_get, IsTrue}
+use Rattle.std.specs.Prelude.{◌≡◌, ◌<◌, ℕ, true, List, length, Option, Some, None, slice_get, IsTrue}
 use Rattle.jac_rows.specs.Good.{IsSound}
 use Rattle.jac_rows.specs.Tables.{rows_of, rows_or_none}
 use Rattle.jac_rows.specs.declared.row.Row.{Row}
 use Rattle.jac_rows.specs.declared.state.State.{State}
+use Rattle.jac_keep.specs.declared.alteration.Alteration.{Alteration}
+use Rattle.jac_keep.specs.Alterations.{alters, altered}
 use Rattle.jac_keep.specs.declared.table_index.TableIndex.{TableIndex}
 use Rattle.jac_keep.specs.declared.table_indexes.TableIndexes.{TableIndexes}
 use Rattle.jac_keep.specs.Indexed.{index_at, IsIndexOf}
@@ -37,3 +39,17 @@ pub record IsTableIn (s : State) (model : ℕ) (rows : List Row) : Type 0 where
 pub record AreHeld (seen : KeeperSeen) (tables : List (Option (List Row))) : Type 0 where
   pub shown : IsTrue seen.tells → (model : ℕ) (rows : List Row) → held model tables ≡ Some rows
       → IsTableIn seen.state model rows
+
+-- the rows are those that the table was after alterations, of which none is of a model whose table
+-- was empty
+pub record IsAfter (model : ℕ) (changed : List Alteration) (before : Option (List Row))
+    (rows : List Row) : Type 0 where
+  pub old : List Row
+  pub was : before ≡ Some old
+  pub same : rows ≡ altered model changed old
+  pub some : alters model changed ≡ true → 0 < length old
+
+-- a table that is still held after alterations is as they leave it
+pub record IsLater (model : ℕ) (changed : List Alteration)
+    (before after : Option (List Row)) : Type 0 where
+  pub left : (rows : List Row) → after ≡ Some rows → IsAfter model changed before rows

@@ -1,13 +1,13 @@
 //! The tables that are held, each at the place of its model, and their indexes.
-ghost use Rattle.std.specs.Prelude.{◌≡◌, ◌<◌, ◌==◌, ◌&&◌, ℕ, true, List, [], Some, None, length, if◌then◌else◌, IfOk, OnOk, OnErr};
+ghost use Rattle.std.specs.Prelude.{◌≡◌, ◌<◌, ◌==◌, ◌&&◌, ℕ, true, false, List, [], Some, None, length, if◌then◌else◌, IfOk, IfSome, OnOk, OnErr};
 ghost use Rattle.std.specs.Option.{option_copied, option_map};
 ghost use Rattle.jac_rows.specs.declared.row.Row.{Row as Seen};
 ghost use Rattle.jac_keep.specs.Alterations.{alters};
 ghost use Rattle.jac_keep.specs.Holding.{holders};
-ghost use Rattle.jac_keep.specs.Records.{are_in_order};
-ghost use Rattle.jac_cached.specs.Held.{held, IsHolding};
+ghost use Rattle.jac_keep.specs.Records.{AreOrdered, are_in_order};
+ghost use Rattle.jac_cached.specs.Held.{held, rows_held, IsAfter, IsHolding, IsLater};
 
-use jac_keep::{Alteration, TableIndexes, is_in_order};
+use jac_keep::{Alteration, Alterations, TableIndexes, is_in_order};
 use jac_rows::Rows;
 use jac_value::{Memory, Value, id_model};
 use std::alloc::Global;
@@ -80,12 +80,12 @@ impl HeldTables {
         }
     }
 
-    /// Holds the tables of the altered records no longer.
-    pub fn forget(&mut self, changed: &[Alteration])
-        ensures { (m : ℕ) → held m self.new
-            ≡ (if alters m changed.now then None else held m self.old) }
+    /// The tables that are held as they are after the alterations. An altered one is held no longer
+    /// where it was empty, or where memory lacks.
+    pub fn alter(&mut self, alloc: Global, changed: &Alterations)
+        ensures { (m : ℕ) → IsLater m changed.now (held m self.old) (held m self.new) }
     {
-        forget_in(&mut self.tables, &mut self.indexes, changed);
+        alter_in(alloc, &mut self.tables, &mut self.indexes, changed);
     }
 
     pub fn forget_all(&mut self, alloc: Global)
@@ -158,22 +158,133 @@ fn put_in(tables: &mut Vec<Option<Rows>>, model: u8, rows: Rows) -> Result<(), M
     Ok(())
 }
 
-fn forget_in(tables: &mut Vec<Option<Rows>>, indexes: &mut TableIndexes, changed: &[Alteration])
+fn alter_in(
+    alloc: Global,
+    tables: &mut Vec<Option<Rows>>,
+    indexes: &mut TableIndexes,
+    changed: &Alterations,
+)
     requires { IsHolding tables.old.items indexes.old }
-    ensures left { (m : ℕ) → held m tables.new.items
-        ≡ (if alters m changed.now then None else held m tables.old.items) }
+    ensures later { (m : ℕ) →
+        IsLater m changed.now (held m tables.old.items) (held m tables.new.items) }
     ensures holding { IsHolding tables.new.items indexes.new }
 {
-    forget_each(tables, changed);
-    indexes.forget(changed);
+    alter_each(alloc, tables, changed);
+    indexes.forget(changed.as_slice());
 }
 
-fn forget_each(tables: &mut Vec<Option<Rows>>, changed: &[Alteration])
-    ensures { (m : ℕ) → held m tables.new.items
-        ≡ (if alters m changed.now then None else held m tables.old.items) }
+// Alters each of the tables.
+fn alter_each(alloc: Global, tables: &mut Vec<Option<Rows>>, changed: &Alterations)
+    requires { (m : ℕ) → AreOrdered (rows_held m tables.old.items) }
+    ensures later { (m : ℕ) →
+        IsLater m changed.now (held m tables.old.items) (held m tables.new.items) }
+    ensures ordered { (m : ℕ) → AreOrdered (rows_held m tables.new.items) }
+    ensures same { (m : ℕ) → alters m changed.now ≡ false →
+        held m tables.new.items ≡ held m tables.old.items }
+{
+    'tables: for at in 0..tables.len() {
+        alter_at(alloc, tables, at, changed);
+    }
+}
+
+// Alters the table at this place.
+fn alter_at(alloc: Global, tables: &mut Vec<Option<Rows>>, at: usize, changed: &Alterations)
+    requires { at < length tables.old.items }
+    ensures later { (m : ℕ) → at ≡ m →
+        IsLater m changed.now (held m tables.old.items) (held m tables.new.items) }
+    ensures ordered { ((m : ℕ) → AreOrdered (rows_held m tables.old.items)) →
+        (m : ℕ) → AreOrdered (rows_held m tables.new.items) }
+    ensures others { (m : ℕ) → (at == m) ≡ false →
+        held m tables.new.items ≡ held m tables.old.items }
+    ensures same { (m : ℕ) → alters m changed.now ≡ false →
+        held m tables.new.items ≡ held m tables.old.items }
+    ensures count { length tables.new.items ≡ length tables.old.items }
+{
+    if is_altered(changed.as_slice(), at) {
+        renew_at(alloc, tables, at, changed);
+        return;
+    }
+}
+
+// Alters the table at this place, of which a record is altered.
+fn renew_at(alloc: Global, tables: &mut Vec<Option<Rows>>, at: usize, changed: &Alterations)
+    requires within { at < length tables.old.items }
+    requires hit { alters at changed.now ≡ true }
+    ensures later { (m : ℕ) → at ≡ m →
+        IsLater m changed.now (held m tables.old.items) (held m tables.new.items) }
+    ensures ordered { ((m : ℕ) → AreOrdered (rows_held m tables.old.items)) →
+        (m : ℕ) → AreOrdered (rows_held m tables.new.items) }
+    ensures others { (m : ℕ) → (at == m) ≡ false →
+        held m tables.new.items ≡ held m tables.old.items }
+    ensures same { (m : ℕ) → alters m changed.now ≡ false →
+        held m tables.new.items ≡ held m tables.old.items }
+    ensures count { length tables.new.items ≡ length tables.old.items }
+{
+    let before = take_at(tables, at);
+    let after = altered_table(alloc, before, at, changed);
+    put_at(tables, at, after);
+}
+
+// Whether a record of the model is altered.
+fn is_altered(changed: &[Alteration], model: usize) -> bool
+    ensures { result ≡ alters model changed.now }
 {
     'changed: for alteration in changed {
-        forget_one(tables, usize::from(id_model(alteration.id)));
+        if usize::from(id_model(alteration.id)) == model {
+            return true;
+        }
+    }
+    false
+}
+
+fn take_at(tables: &mut Vec<Option<Rows>>, at: usize) -> Option<Rows>
+    requires { at < length tables.old.items }
+    ensures taken { result ≡ held at tables.old.items }
+    ensures left { (m : ℕ) → held m tables.new.items
+        ≡ (if at == m then None else held m tables.old.items) }
+    ensures count { length tables.new.items ≡ length tables.old.items }
+{
+    tables[at].take()
+}
+
+// The table after the alterations, if it wasn't empty and there is memory.
+fn altered_table(
+    alloc: Global,
+    table: Option<Rows>,
+    model: usize,
+    changed: &Alterations,
+) -> Option<Rows>
+    ensures altered { IfSome result (λ rows. IsAfter model changed.now table rows) }
+    ensures ordered { IfSome result (λ rows. AreOrdered rows) }
+{
+    match table {
+        Some(rows) => altered_rows(alloc, rows, model, changed),
+        None => None,
+    }
+}
+
+fn altered_rows(alloc: Global, rows: Rows, model: usize, changed: &Alterations) -> Option<Rows>
+    ensures altered { IfSome result (λ after. IsAfter model changed.now (Some rows) after) }
+    ensures ordered { IfSome result (λ after. AreOrdered after) }
+{
+    if rows.as_slice().is_empty() {
+        return None;
+    }
+    match changed.alter(alloc, model, rows) {
+        Ok(rows) => in_order(rows),
+        Err(_) => None,
+    }
+}
+
+// The rows, if they are by rising id.
+fn in_order(rows: Rows) -> Option<Rows>
+    ensures same { IfSome result (λ same. same ≡ rows) }
+    ensures ordered { IfSome result (λ same. AreOrdered same) }
+{
+    if is_in_order(rows.as_slice()) {
+        Some(rows)
+    } else {
+        None
     }
 }
 
@@ -190,17 +301,9 @@ fn make_room(tables: &mut Vec<Option<Rows>>, at: usize) -> Result<(), Memory>
 
 fn put_at(tables: &mut Vec<Option<Rows>>, at: usize, table: Option<Rows>)
     requires { at < length tables.old.items }
-    ensures { (m : ℕ) → held m tables.new.items
+    ensures count { length tables.new.items ≡ length tables.old.items }
+    ensures put { (m : ℕ) → held m tables.new.items
         ≡ (if at == m then table else held m tables.old.items) }
 {
     tables[at] = table;
-}
-
-fn forget_one(tables: &mut Vec<Option<Rows>>, at: usize)
-    ensures { (m : ℕ) → held m tables.new.items
-        ≡ (if at == m then None else held m tables.old.items) }
-{
-    if at < tables.len() {
-        put_at(tables, at, None);
-    }
 }

@@ -20,7 +20,7 @@ use std::alloc::Global;
 use std::marker::Model;
 
 /// A keeper over another one, seen as that one. It holds each table that was read, and reads the
-/// table and its records there, until a change names a record of the model.
+/// table and its records there; a change that is applied is made there too.
 #[derive(Drop)]
 pub struct CachedKeeper<K: Keeper> {
     keeper: K,
@@ -94,8 +94,13 @@ impl<K: Keeper> Keeper for CachedKeeper<K> {
     }
 
     fn apply(&mut self, alloc: Global, change: &Change) -> Result<(), Stop> {
-        self.tables.forget(change.changed.as_slice());
-        self.keeper.apply(alloc, change)
+        match self.keeper.apply(alloc, change) {
+            Ok(()) => {
+                self.tables.alter(alloc, &change.changed);
+                Ok(())
+            }
+            Err(stop) => Err(stop),
+        }
     }
 }
 

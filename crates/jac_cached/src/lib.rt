@@ -1,4 +1,5 @@
-//! A keeper over another one, which holds the tables that were read until a change names a record of theirs.
+//! A keeper over another one, which holds the tables that were read, and makes each change there
+//! too.
 #![tactic(auto)]
 
 mod held;

@@ -20,7 +20,8 @@ pub fn own_rows(alloc: Global, rows: &[Row], id: Id) -> Result<Rows, Memory>
 // How many rows have lesser ids.
 fn count_below(rows: &[Row], id: Id) -> usize
     ensures within { result ≤ length rows.now }
-    ensures high { AreOrdered rows.now → drop result rows.now ≡ with_id (λ i. not (nat_lt i id)) rows.now }
+    ensures high { AreOrdered rows.now
+        → drop result rows.now ≡ with_id (λ i. not (nat_lt i id)) rows.now }
 {
     rows.partition_point(|row| row.id < id)
 }
