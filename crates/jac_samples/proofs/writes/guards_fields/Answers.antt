@@ -1,0 +1,15 @@
+use Rattle.std.proofs.Common.{refl}
+use Rattle.std.specs.Fmt.{digits}
+use Rattle.jac_samples.proofs.writes.guards_fields.Goals as goal
+
+pub returns-clause-hidden : goal.returns-clause-hidden
+unfolding digits
+returns-clause-hidden c = refl
+
+pub returns-clause-title : goal.returns-clause-title
+unfolding digits
+returns-clause-title c = refl
+
+pub returns-clause-others : goal.returns-clause-others
+unfolding digits
+returns-clause-others c = refl

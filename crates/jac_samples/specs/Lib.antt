@@ -1,0 +1,4 @@
+pub mod Terms
+pub mod Library
+pub mod Diary
+pub mod Kept
