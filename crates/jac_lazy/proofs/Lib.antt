@@ -1,5 +1,4 @@
 pub mod Filling
-pub mod Living
 pub mod Passing
 pub mod Rising
 pub mod Shown

@@ -6,9 +6,10 @@ use Rattle.jac_lang.specs.Syntax.{Application}
 use Rattle.jac_plain.specs.Requests.{Worlds}
 use Rattle.jac_plain.specs.Policies.{is_allowed}
 use Rattle.jac_pruned.specs.Consulted.{Agrees}
-use Rattle.jac_resolve.specs.declared.recall.Answers.{Answers}
-use Rattle.jac_resolve.specs.Recalled.{AreRight, AreWatched, IsPassed, IsUnderway, RemembersForbidden, recall, watches}
-use Rattle.jac_lazy.specs.Live.{AreLiveOf}
+use Rattle.jac_recall.specs.declared.answers.Answers.{Answers}
+use Rattle.jac_recall.specs.Recalled.{AreWatched, recall, watches}
+use Rattle.jac_resolve.specs.Recalled.{AreRight, IsPassed, IsUnderway, RemembersForbidden}
+use Rattle.jac_resolve.specs.Live.{AreLiveOf}
 use Rattle.jac_lazy.specs.Steady.{AlwaysAllows, AlwaysForbids, IsSteady}
 
 module _ (app : Application) (worlds : Worlds) (viewer : Option ℕ) (answers : Answers) (consulted : List ℕ) (named : (k j : ℕ) → watches answers k j ≡ true → shown consulted k ≡ true) where

@@ -13,9 +13,10 @@ use Rattle.jac_plain.specs.Statements.{leaves_all}
 use Rattle.jac_pruned.specs.Consulted.{Grows}
 use Rattle.jac_pruned.specs.Runs.{page_ran, run_in}
 use Rattle.jac_pruned.proofs.Growing.{grows_then}
-use Rattle.jac_resolve.specs.declared.recall.Answers.{Answers}
-use Rattle.jac_resolve.specs.Recalled.{IsPassed, watches}
-use Rattle.jac_lazy.specs.Live.{AreLiveOf}
+use Rattle.jac_recall.specs.declared.answers.Answers.{Answers}
+use Rattle.jac_recall.specs.Recalled.{watches}
+use Rattle.jac_resolve.specs.Recalled.{IsPassed}
+use Rattle.jac_resolve.specs.Live.{AreLiveOf}
 use Rattle.jac_lazy.specs.Steady.{IsSteady}
 use Rattle.jac_lazy.proofs.Passing.{passed_steady}
 use Rattle.jac_lazy.proofs.Rising.{grown_longer}

@@ -5,7 +5,7 @@ ghost use Rattle.jac_plain.specs.Policies.{IsSettled};
 ghost use Rattle.jac_plain.specs.Requests.{Visit, Worlds};
 ghost use Rattle.jac_plain.specs.declared.page.Page.{Page};
 ghost use Rattle.jac_pruned.specs.Consulted.{Agrees};
-ghost use Rattle.jac_resolve.specs.declared.recall.Answers.{Answers};
+ghost use Rattle.jac_recall.specs.declared.answers.Answers.{Answers};
 ghost use Rattle.jac_resolve.specs.Recalled.{IsPassed};
 ghost use Rattle.jac_resolve.specs.Rounds.{AreLive};
 ghost use Rattle.jac_lazy.specs.Steady.{IsPageOf, IsSteady};

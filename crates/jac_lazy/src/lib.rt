@@ -4,7 +4,6 @@
 
 mod consulted;
 mod laws;
-mod live;
 mod memory;
 mod page;
 

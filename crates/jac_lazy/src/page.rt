@@ -11,12 +11,12 @@ ghost use Rattle.jac_pruned.specs.Runs.{page_ran, IsMade};
 ghost use Rattle.jac_lazy.specs.Steady.{IsPageOf, IsSteady};
 
 use crate::consulted::assignment_of;
-use crate::live::live_of;
 use jac_keep::{Keeper, Stop, Work};
 use jac_lang::{App, Binding, PlainEnv, Stmts};
 use jac_plain::{Ctx, Page};
 use jac_pruned::{Support, run_body_at};
-use jac_resolve::{Answers, settle_among};
+use jac_recall::Answers;
+use jac_resolve::{add_consulted, live_of, settle_among};
 use jac_value::Memory;
 use jac_world::{Assignment, Steps};
 use std::alloc::Global;
@@ -75,7 +75,7 @@ pub fn page_lazily<K: Keeper, M: Ledger>(
             &mut answers,
             evaluations,
         )?;
-        answers.add_consulted(&mut consulted)?;
+        add_consulted(&answers, &mut consulted)?;
         let bindings = copied(alloc, env)?;
         let page = run_body_at(
             alloc,

@@ -7,10 +7,10 @@ use Rattle.jac_plain.specs.Policies.{IsLiveLabel, ShowsForbidden, IsSettled}
 use Rattle.jac_resolve.specs.Rounds.{worlds_of}
 
 module _ (app : Application) (s : State) (number : ℕ) (viewer : Option ℕ) where
-  live_alike : (k : ℕ) → IsLiveLabel app (worlds_of s) k → IsLiveLabel app (worlds_of (record s { number = number })) k
+  pub live_alike : (k : ℕ) → IsLiveLabel app (worlds_of s) k → IsLiveLabel app (worlds_of (record s { number = number })) k
   live_alike k l = record { group = l.group; seen_by = l.seen_by; stands = l.stands }
 
-  live_back : (k : ℕ) → IsLiveLabel app (worlds_of (record s { number = number })) k → IsLiveLabel app (worlds_of s) k
+  pub live_back : (k : ℕ) → IsLiveLabel app (worlds_of (record s { number = number })) k → IsLiveLabel app (worlds_of s) k
   live_back k l = record { group = l.group; seen_by = l.seen_by; stands = l.stands }
 
   refuses_alike : (w : ℕ → Bool) → ShowsForbidden app (worlds_of s) viewer w → ShowsForbidden app (worlds_of (record s { number = number })) viewer w

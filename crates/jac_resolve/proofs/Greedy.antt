@@ -7,7 +7,7 @@ use Rattle.jac_lang.specs.Syntax.{Application}
 use Rattle.jac_plain.specs.Requests.{Worlds}
 use Rattle.jac_plain.specs.Policies.{with_label, IsSettled}
 use Rattle.jac_pruned.proofs.Working.{next}
-use Rattle.jac_resolve.specs.declared.recall.Answers.{Answers}
+use Rattle.jac_recall.specs.declared.answers.Answers.{Answers}
 use Rattle.jac_resolve.specs.Recalled.{Fills, Grown, IsPassed, IsUnderway, RemembersForbidden, Tries}
 use Rattle.jac_resolve.specs.Rounds.{hidden_count, AreLive, MayAdd, Advances, Within}
 use Rattle.jac_resolve.proofs.Underway.{refused_still}

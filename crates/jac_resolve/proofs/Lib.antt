@@ -1,9 +1,10 @@
 pub mod Alike
 pub mod Collecting
 pub mod Greedy
+pub mod Living
 pub mod Local
-pub mod Recalling
-pub mod Rising
+pub mod Moving
 pub mod Room
+pub mod Seating
 pub mod Standing
 pub mod Underway

@@ -9,10 +9,11 @@ use Rattle.jac_world.proofs.Contradict.{by_names}
 use Rattle.jac_lang.specs.Syntax.{Application}
 use Rattle.jac_plain.specs.Requests.{Worlds}
 use Rattle.jac_resolve.specs.Rounds.{AreLive}
-use Rattle.jac_resolve.proofs.Rising.{bool_eq}
-use Rattle.jac_resolve.specs.declared.recall.Answers.{Answers}
-use Rattle.jac_resolve.specs.declared.recall.Known.{Known}
-use Rattle.jac_resolve.specs.Recalled.{Grown, or_known, recall, signed, watches}
+use Rattle.jac_recall.proofs.Rising.{bool_eq}
+use Rattle.jac_recall.specs.declared.answers.Answers.{Answers}
+use Rattle.jac_recall.specs.declared.answers.Known.{Known}
+use Rattle.jac_recall.specs.Recalled.{or_known, recall, signed, watches}
+use Rattle.jac_resolve.specs.Recalled.{Grown}
 use Rattle.jac_resolve.specs.Room.{AreOwn, Spends, room, unknown, with_sign}
 use Rattle.jac_resolve.proofs.Underway.{either, known_if, or_same}
 

@@ -9,9 +9,10 @@ use Rattle.jac_lang.specs.Syntax.{Application}
 use Rattle.jac_plain.specs.Requests.{Worlds}
 use Rattle.jac_plain.specs.Policies.{is_allowed, with_label}
 use Rattle.jac_pruned.specs.Consulted.{Agrees}
-use Rattle.jac_resolve.specs.declared.recall.Answers.{Answers}
-use Rattle.jac_resolve.specs.declared.recall.Known.{Known}
-use Rattle.jac_resolve.specs.Recalled.{AreRight, AreWatched, Fitting, Grown, IsRight, IsUnderway, RemembersForbidden, Stays, known_at, or_known, recall, signed, touched, watches}
+use Rattle.jac_recall.specs.declared.answers.Answers.{Answers}
+use Rattle.jac_recall.specs.declared.answers.Known.{Known}
+use Rattle.jac_recall.specs.Recalled.{AreWatched, known_at, or_known, recall, signed, watches}
+use Rattle.jac_resolve.specs.Recalled.{AreRight, Fitting, Grown, IsRight, IsUnderway, RemembersForbidden, Stays, touched}
 
 right_true : (a b : Bool) → (a && b) ≡ true → b ≡ true
 right_true true b p = p

@@ -1,62 +1,24 @@
--- Answers of policies that are remembered with the signs of the labels that were consulted for them.
-use Rattle.std.specs.Prelude.{◌≡◌, ◌==◌, ◌||◌, ℕ, Bool, true, false, List, [], ◌∷◌, Option, Some, None, is_some, if◌then◌else◌, ⊤}
-use Rattle.std.specs.Ordering.{nat_cmp}
-use Rattle.std.specs.BTreeMap.{get}
+-- What is remembered of policies, while labels are tried.
+use Rattle.std.specs.Prelude.{◌≡◌, ◌==◌, ◌||◌, ℕ, Bool, true, false, List, Option, Some, is_some, ⊤}
 use Rattle.jac_world.specs.World.{shown, holds}
 use Rattle.jac_lang.specs.Syntax.{Application}
 use Rattle.jac_plain.specs.Requests.{Worlds}
 use Rattle.jac_plain.specs.Policies.{is_allowed, with_label, AreAllowed}
-use Rattle.jac_resolve.specs.declared.recall.Answers.{Answers}
-use Rattle.jac_resolve.specs.declared.recall.Given.{Given}
-use Rattle.jac_resolve.specs.declared.recall.Known.{Known}
-
--- the answer where its signs are those of the assignment
-abbrev pub known_at : Known → (ℕ → Bool) → Option Bool
-known_at c w = if holds w c.when then Some c.holds else None
-
--- what was known before, else this
-abbrev pub or_known : Option Bool → Known → (ℕ → Bool) → Option Bool
-or_known (Some b) c w = Some b
-or_known None c w = known_at c w
-
--- the first answer whose signs are those of the assignment
-abbrev pub first_fitting : List Known → (ℕ → Bool) → Option Bool
-first_fitting [] w = None
-first_fitting (c ∷ cs) w = if holds w c.when then Some c.holds else first_fitting cs w
-
-abbrev pub recall_in : Option Given → (ℕ → Bool) → Option Bool
-recall_in None w = None
-recall_in (Some given) w = first_fitting given.answers.items w
-
-abbrev pub watched_in : Option (List ℕ) → ℕ → Bool
-watched_in None j = false
-watched_in (Some watchers) j = shown watchers j
-
--- what is remembered of a label under an assignment
-abbrev pub recall : Answers → ℕ → (ℕ → Bool) → Option Bool
-recall answers k w = recall_in (get nat_cmp answers.given k) w
-
--- the first label is watched by the second
-abbrev pub watches : Answers → ℕ → ℕ → Bool
-watches answers k j = watched_in (get nat_cmp answers.watchers k) j
-
--- the labels with the signs that they have under an assignment
-abbrev pub signed : (ℕ → Bool) → List ℕ → List (ℕ × Bool)
-signed w [] = []
-signed w (k ∷ ks) = (k, w k) ∷ signed w ks
+use Rattle.jac_recall.specs.declared.answers.Answers.{Answers}
+use Rattle.jac_recall.specs.declared.answers.Known.{Known}
+use Rattle.jac_recall.specs.Recalled.{AreWatched, recall, watches}
 
 -- the answer of the label's policy under each assignment that has these signs
-pub record IsRight (app : Application) (worlds : Worlds) (viewer : Option ℕ) (label : ℕ) (known : Known) : Type 0 where
-  pub each : (w : ℕ → Bool) → holds w known.when ≡ true → known.holds ≡ is_allowed app (worlds w) viewer label
+pub record IsRight (app : Application) (worlds : Worlds) (viewer : Option ℕ) (label : ℕ)
+    (known : Known) : Type 0 where
+  pub each : (w : ℕ → Bool) → holds w known.when ≡ true
+      → known.holds ≡ is_allowed app (worlds w) viewer label
 
 -- what is remembered is what the policies answer
-pub record AreRight (app : Application) (worlds : Worlds) (viewer : Option ℕ) (answers : Answers) : Type 0 where
-  pub each : (k : ℕ) (w : ℕ → Bool) (b : Bool) → recall answers k w ≡ Some b → b ≡ is_allowed app (worlds w) viewer k
-
--- what is remembered of a label hangs on those alone that it watches
-pub record AreWatched (answers : Answers) : Type 0 where
-  pub each : (j : ℕ) (v w : ℕ → Bool) → ((k : ℕ) → watches answers k j ≡ true → v k ≡ w k) →
-      recall answers j v ≡ recall answers j w
+pub record AreRight (app : Application) (worlds : Worlds) (viewer : Option ℕ)
+    (answers : Answers) : Type 0 where
+  pub each : (k : ℕ) (w : ℕ → Bool) (b : Bool) → recall answers k w ≡ Some b
+      → b ≡ is_allowed app (worlds w) viewer k
 
 -- the answer of each label that is shown is remembered
 pub record AreFitted (answers : Answers) (w : ℕ → Bool) : Type 0 where
@@ -64,12 +26,14 @@ pub record AreFitted (answers : Answers) (w : ℕ → Bool) : Type 0 where
 
 -- answers and watchers are only added
 pub record Grown (old new : Answers) : Type 0 where
-  pub kept : (k : ℕ) (w : ℕ → Bool) → is_some (recall old k w) ≡ true → is_some (recall new k w) ≡ true
+  pub kept : (k : ℕ) (w : ℕ → Bool) → is_some (recall old k w) ≡ true
+      → is_some (recall new k w) ≡ true
   pub watching : (k j : ℕ) → watches old k j ≡ true → watches new k j ≡ true
   pub watched : AreWatched old → AreWatched new
 
 -- what holds between two tries
-pub record IsUnderway (app : Application) (worlds : Worlds) (viewer : Option ℕ) (a : List ℕ) (answers : Answers) : Type 0 where
+pub record IsUnderway (app : Application) (worlds : Worlds) (viewer : Option ℕ) (a : List ℕ)
+    (answers : Answers) : Type 0 where
   pub right : AreRight app worlds viewer answers
   pub allowed : AreAllowed app worlds viewer a
   pub watched : AreWatched answers
@@ -90,9 +54,11 @@ Stays app worlds viewer answers w asked true =
     (j : ℕ) → asked j ≡ true → w j ≡ true → is_allowed app (worlds w) viewer j ≡ true
 Stays app worlds viewer answers w asked false = RemembersForbidden app worlds viewer answers w
 
--- of the labels that were asked, the answer of each that is shown is remembered, where all were asked
+-- of the labels that were asked, the answer of each that is shown is remembered, where all were
+-- asked
 abbrev pub Fitting : Answers → (ℕ → Bool) → (ℕ → Bool) → Bool → Type 0
-Fitting answers w asked true = (j : ℕ) → asked j ≡ true → w j ≡ true → is_some (recall answers j w) ≡ true
+Fitting answers w asked true = (j : ℕ) → asked j ≡ true → w j ≡ true
+    → is_some (recall answers j w) ≡ true
 Fitting answers w asked false = ⊤
 
 -- the label, and those that watch it

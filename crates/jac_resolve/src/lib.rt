@@ -1,17 +1,20 @@
 //! Which labels a viewer is shown: whether a policy allows one, and a settled assignment.
 #![tactic(auto)]
 
-mod labels;
 mod laws;
 mod live;
 mod memory;
 mod pass;
 mod permission;
 mod recall;
+mod seated;
 
-pub use labels::Labels;
-pub use laws::{live_by_rows, settled_by_tables};
-pub use live::{is_live, live_labels};
+pub use laws::{
+    covered_by_nothing, empty_is_seated, live_by_rows, seat_moves, seated_by_tables,
+    settled_by_tables,
+};
+pub use live::{is_live, live_labels, live_of};
 pub use pass::{resolve, settle_among};
 pub use permission::allowed;
-pub use recall::Answers;
+pub use recall::add_consulted;
+pub use seated::settle_seat;

@@ -1,5 +1,5 @@
 //! The labels that may be shown at all.
-ghost use Rattle.std.specs.Prelude.{◌≡◌, ◌<◌, ◌≤◌, ◌^◌, ◌++◌, ◌&&◌, ◌↔◌, ℕ, true, All, length, IfOk, OnOk, IsTrue};
+ghost use Rattle.std.specs.Prelude.{◌≡◌, ◌<◌, ◌≤◌, ◌^◌, ◌++◌, ◌∷◌, [], ◌&&◌, ◌↔◌, ℕ, true, if◌then◌else◌, All, length, IfOk, OnOk, IsTrue};
 ghost use Rattle.jac_world.specs.World.{shown, holds, wanted, IsAscending};
 ghost use Rattle.jac_lang.specs.Mirror.{application_of, entities_of};
 ghost use Rattle.jac_rows.specs.Tables.{rows_of};
@@ -7,12 +7,13 @@ ghost use Rattle.jac_rows.specs.declared.row.Row.{Row as Alternative};
 ghost use Rattle.jac_keep.specs.Worked.{state_of, IsTold, ReadsWork};
 ghost use Rattle.jac_plain.specs.Policies.{has_group, IsLiveLabel};
 ghost use Rattle.jac_resolve.specs.Rounds.{worlds_of, HasSoundTables, AreLive};
+ghost use Rattle.jac_resolve.specs.Live.{AreLiveOf};
 ghost use Rattle.jac_resolve.specs.Collected.{labels_below, labels_of_rows, CanBeSeen, Collects, CanHold, has_row};
 
-use crate::Labels;
 use crate::permission::{has_group, record_of};
 use jac_keep::{Keeper, Stop, Work};
 use jac_lang::{App, ModelDef};
+use jac_recall::Labels;
 use jac_rows::Row;
 use jac_value::{Id, Memory, label_number};
 use jac_world::Label;
@@ -26,8 +27,10 @@ pub fn live_labels<K: Keeper>(
 ) -> Result<Labels, Stop>
     requires attached { IsTrue (K.seen work.old.keeper.now).store.attached }
     requires sound { IsTold K.seen work.old → HasSoundTables (state_of K.seen work.old) }
-    ensures live { IsTold K.seen work.new → IfOk result (AreLive (application_of app.now) (worlds_of (state_of K.seen work.old))) }
-    ensures by_rows { IsTold K.seen work.new → IfOk result (λ ls. (k : ℕ) → shown ls k ≡ (has_group (application_of app.now) k && has_row (state_of K.seen work.old) k)) }
+    ensures live { IsTold K.seen work.new
+        → IfOk result (AreLive (application_of app.now) (worlds_of (state_of K.seen work.old))) }
+    ensures by_rows { IsTold K.seen work.new → IfOk result (λ ls. (k : ℕ) → shown ls k
+        ≡ (has_group (application_of app.now) k && has_row (state_of K.seen work.old) k)) }
     ensures ascending { IfOk result IsAscending }
     ensures reads { ReadsWork K.seen work.old work.new result }
 {
@@ -56,6 +59,36 @@ pub fn is_live<K: Keeper>(
     Ok(can_be_seen(rows.as_slice()))
 }
 
+/// Those of the labels that are live, in their order.
+pub fn live_of<K: Keeper>(
+    alloc: Global,
+    work: &mut Work<'_, K>,
+    app: &App,
+    labels: &[Label],
+) -> Result<Vec<Label>, Stop>
+    requires attached { IsTrue (K.seen work.old.keeper.now).store.attached }
+    ensures live { IsTold K.seen work.new →
+        IfOk result (λ v. AreLiveOf (application_of app.now) (worlds_of (state_of K.seen work.old))
+        labels.now v.items) }
+    ensures reads { ReadsWork K.seen work.old work.new result }
+{
+    let mut some = Vec::new(alloc);
+    'labels: for label in labels {
+        let live = is_live(alloc, work, app, *label)?;
+        push_if(&mut some, live, *label)?;
+    }
+    Ok(some)
+}
+
+fn push_if(some: &mut Vec<Label>, live: bool, label: Label) -> Result<(), Memory>
+    ensures { OnOk result (some.new.items ≡ some.old.items ++ (if live then label ∷ [] else [])) }
+{
+    if live {
+        some.push(label)?;
+    }
+    Ok(())
+}
+
 // Whether there is a row. Then some assignment shows it, since no guard contradicts itself.
 fn can_be_seen(rows: &[Row]) -> bool
     ensures { CanBeSeen rows.now result }
@@ -78,7 +111,8 @@ fn collect<K: Keeper>(
     requires attached { IsTrue (K.seen work.old.keeper.now).store.attached }
     requires sound { IsTold K.seen work.old → HasSoundTables (state_of K.seen work.old) }
     requires few { length models.now ≤ 64 }
-    ensures labels { IsTold K.seen work.new → IfOk result (λ v. Collects (entities_of models.now) (state_of K.seen work.old).tables (length models.now) v.items) }
+    ensures labels { IsTold K.seen work.new → IfOk result (λ v. Collects (entities_of models.now)
+        (state_of K.seen work.old).tables (length models.now) v.items) }
     ensures reads { ReadsWork K.seen work.old work.new result }
 {
     let mut labels = Vec::new(alloc);
@@ -107,8 +141,11 @@ fn add_model<K: Keeper>(
 ) -> Result<(), Stop>
     requires attached { IsTrue (K.seen work.old.keeper.now).store.attached }
     requires few { groups ≤ 8 }
-    ensures labels { IsTold K.seen work.new → All (λ (r : Alternative). r.id < 2 ^ 124) (rows_of (state_of K.seen work.old).tables model) → OnOk result (labels.new.items ≡ labels.old.items ++ labels_of_rows groups (rows_of (state_of K.seen work.old).tables model)) }
-    ensures guards { IsTold K.seen work.new → 0 < groups → OnOk result (CanHold (rows_of (state_of K.seen work.old).tables model)) }
+    ensures labels { IsTold K.seen work.new → All (λ (r : Alternative). r.id < 2 ^ 124) (rows_of
+        (state_of K.seen work.old).tables model) → OnOk result (labels.new.items ≡ labels.old.items
+        ++ labels_of_rows groups (rows_of (state_of K.seen work.old).tables model)) }
+    ensures guards { IsTold K.seen work.new → 0 < groups
+        → OnOk result (CanHold (rows_of (state_of K.seen work.old).tables model)) }
     ensures reads { ReadsWork K.seen work.old work.new result }
 {
     if groups == 0 {
@@ -121,7 +158,8 @@ fn add_model<K: Keeper>(
 
 fn add_rows(labels: &mut Vec<Label>, rows: &[Row], groups: u8) -> Result<(), Memory>
     requires few { groups ≤ 8 }
-    ensures labels { All (λ (r : Alternative). r.id < 2 ^ 124) rows.now → OnOk result (labels.new.items ≡ labels.old.items ++ labels_of_rows groups rows.now) }
+    ensures labels { All (λ (r : Alternative). r.id < 2 ^ 124) rows.now
+        → OnOk result (labels.new.items ≡ labels.old.items ++ labels_of_rows groups rows.now) }
     ensures guards { OnOk result (CanHold rows.now) }
 {
     'rows: for row in rows {
@@ -132,7 +170,8 @@ fn add_rows(labels: &mut Vec<Label>, rows: &[Row], groups: u8) -> Result<(), Mem
 
 fn add_row(labels: &mut Vec<Label>, row: &Row, groups: u8) -> Result<(), Memory>
     requires few { groups ≤ 8 }
-    ensures labels { row.now.id < 2 ^ 124 → OnOk result (labels.new.items ≡ labels.old.items ++ labels_below row.now.id groups) }
+    ensures labels { row.now.id < 2 ^ 124
+        → OnOk result (labels.new.items ≡ labels.old.items ++ labels_below row.now.id groups) }
     ensures guard { holds (wanted row.now.guard) row.now.guard ≡ true }
 {
     // A guard that is read never contradicts itself.
@@ -145,7 +184,8 @@ const IDS_END: u128 = 1 << 124;
 
 fn add_labels(labels: &mut Vec<Label>, id: Id, groups: u8) -> Result<(), Memory>
     requires few { groups ≤ 8 }
-    ensures { id < 2 ^ 124 → OnOk result (labels.new.items ≡ labels.old.items ++ labels_below id groups) }
+    ensures { id < 2 ^ 124
+        → OnOk result (labels.new.items ≡ labels.old.items ++ labels_below id groups) }
 {
     if IDS_END <= id.0 {
         return Ok(());

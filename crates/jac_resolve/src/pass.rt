@@ -6,23 +6,25 @@ ghost use Rattle.jac_lang.specs.Mirror.{application_of};
 ghost use Rattle.jac_keep.specs.Worked.{state_of, IsTold, ReadsWork};
 ghost use Rattle.jac_pruned.specs.Local.{IsLocalCase};
 ghost use Rattle.jac_plain.specs.Policies.{IsSettled, is_allowed};
-ghost use Rattle.jac_resolve.specs.Recalled.{AreRight, Fills, Fitting, Grown, IsPassed, IsRight, IsUnderway, Stays, Tries, recall, touched};
+ghost use Rattle.jac_recall.specs.Recalled.{recall};
+ghost use Rattle.jac_resolve.specs.Recalled.{AreRight, Fills, Fitting, Grown, IsPassed, IsRight, IsUnderway, Stays, Tries, touched};
 ghost use Rattle.jac_resolve.specs.Room.{AreOwn, Spends, room};
 ghost use Rattle.jac_resolve.specs.Rounds.{worlds_of, HasSoundTables, AreLive, MayAdd, Advances, Within};
 
 use crate::live::live_labels;
 use crate::memory::from_world;
 use crate::permission::allowed;
-use crate::recall::{Answers, Known, signs};
+use crate::recall::remember;
 use jac_keep::{Keeper, Stop, Work};
 use jac_lang::App;
+use jac_recall::{Answers, Known, signs};
 use jac_value::Id;
 use jac_world::{Assignment, Label, Steps};
 use std::alloc::Global;
 use std::sync::ledger::Ledger;
 
-/// The labels that the viewer is shown: each is allowed, and no single live label can be added. The live
-/// labels are tried in rising order, again and again until a round adds none.
+/// The labels that the viewer is shown: each is allowed, and no single live label can be added. The
+/// live labels are tried in rising order, again and again until a round adds none.
 pub fn resolve<K: Keeper, M: Ledger>(
     alloc: Global,
     work: &mut Work<'_, K>,
@@ -32,8 +34,12 @@ pub fn resolve<K: Keeper, M: Ledger>(
 ) -> Result<Assignment, Stop>
     requires attached { IsTrue (K.seen work.old.keeper.now).store.attached }
     requires sound { IsTold K.seen work.old → HasSoundTables (state_of K.seen work.old) }
-    ensures settled { IsTold K.seen work.new → IfOk result (IsSettled (application_of app.now) (worlds_of (state_of K.seen work.old)) viewer) }
-    ensures bounded { IsTold K.seen work.new → IsLocalCase (application_of app.now) (state_of K.seen work.old) viewer → (labels : List ℕ) → IsAscending labels → AreLive (application_of app.now) (worlds_of (state_of K.seen work.old)) labels → evaluations.new ≤ evaluations.old + 256 * length labels }
+    ensures settled { IsTold K.seen work.new → IfOk result
+        (IsSettled (application_of app.now) (worlds_of (state_of K.seen work.old)) viewer) }
+    ensures bounded { IsTold K.seen work.new → IsLocalCase (application_of app.now)
+        (state_of K.seen work.old) viewer → (labels : List ℕ) → IsAscending labels
+        → AreLive (application_of app.now) (worlds_of (state_of K.seen work.old)) labels
+        → evaluations.new ≤ evaluations.old + 256 * length labels }
     ensures later { evaluations.old ≤ evaluations.new }
     ensures reads { ReadsWork K.seen work.old work.new result }
 {
@@ -52,9 +58,13 @@ fn settle<K: Keeper, M: Ledger>(
     evaluations: &mut Steps<M>,
 ) -> Result<Assignment, Stop>
     requires attached { IsTrue (K.seen work.old.keeper.now).store.attached }
-    requires live { IsTold K.seen work.old → AreLive (application_of app.now) (worlds_of (state_of K.seen work.old)) labels.now }
-    ensures settled { IsTold K.seen work.new → IfOk result (IsSettled (application_of app.now) (worlds_of (state_of K.seen work.old)) viewer.now) }
-    ensures bounded { IsTold K.seen work.new → IsLocalCase (application_of app.now) (state_of K.seen work.old) viewer.now → evaluations.new ≤ evaluations.old + 256 * length labels.now }
+    requires live { IsTold K.seen work.old
+        → AreLive (application_of app.now) (worlds_of (state_of K.seen work.old)) labels.now }
+    ensures settled { IsTold K.seen work.new → IfOk result
+        (IsSettled (application_of app.now) (worlds_of (state_of K.seen work.old)) viewer.now) }
+    ensures bounded { IsTold K.seen work.new
+        → IsLocalCase (application_of app.now) (state_of K.seen work.old) viewer.now
+        → evaluations.new ≤ evaluations.old + 256 * length labels.now }
     ensures later { evaluations.old ≤ evaluations.new }
     ensures reads { ReadsWork K.seen work.old work.new result }
 {
@@ -121,10 +131,20 @@ fn try_labels<K: Keeper, M: Ledger>(
     requires attached { IsTrue (K.seen work.old.keeper.now).store.attached }
     ensures advances { IfOk result (Advances labels.now a.old a.new) }
     ensures within { IfOk result (λ b. Within labels.now a.old a.new) }
-    ensures underway { IsTold K.seen work.new → IsUnderway (application_of app.now) (worlds_of (state_of K.seen work.old)) viewer.now a.old answers.old → OnOk result (IsUnderway (application_of app.now) (worlds_of (state_of K.seen work.old)) viewer.now a.new answers.new) }
-    ensures fills { IsTold K.seen work.new → IsUnderway (application_of app.now) (worlds_of (state_of K.seen work.old)) viewer.now a.old answers.old → IfOk result (Fills (application_of app.now) (worlds_of (state_of K.seen work.old)) viewer.now answers.new labels.now a.new) }
-    ensures spends { IsTold K.seen work.new → IsLocalCase (application_of app.now) (state_of K.seen work.old) viewer.now → AreOwn labels.now answers.old → OnOk result (Spends labels.now evaluations.old evaluations.new answers.old answers.new) }
-    ensures most { IsTold K.seen work.new → IsLocalCase (application_of app.now) (state_of K.seen work.old) viewer.now → AreOwn labels.now answers.old → evaluations.new ≤ evaluations.old + room labels.now answers.old }
+    ensures underway { IsTold K.seen work.new → IsUnderway
+        (application_of app.now) (worlds_of (state_of K.seen work.old)) viewer.now a.old answers.old
+        → OnOk result (IsUnderway (application_of app.now)
+        (worlds_of (state_of K.seen work.old)) viewer.now a.new answers.new) }
+    ensures fills { IsTold K.seen work.new → IsUnderway
+        (application_of app.now) (worlds_of (state_of K.seen work.old)) viewer.now a.old answers.old
+        → IfOk result (Fills (application_of app.now)
+        (worlds_of (state_of K.seen work.old)) viewer.now answers.new labels.now a.new) }
+    ensures spends { IsTold K.seen work.new → IsLocalCase (application_of app.now)
+        (state_of K.seen work.old) viewer.now → AreOwn labels.now answers.old
+        → OnOk result (Spends labels.now evaluations.old evaluations.new answers.old answers.new) }
+    ensures most { IsTold K.seen work.new → IsLocalCase (application_of app.now)
+        (state_of K.seen work.old) viewer.now → AreOwn labels.now answers.old
+        → evaluations.new ≤ evaluations.old + room labels.now answers.old }
     ensures later { evaluations.old ≤ evaluations.new }
     ensures reads { ReadsWork K.seen work.old work.new result }
 {
@@ -136,7 +156,8 @@ fn try_labels<K: Keeper, M: Ledger>(
     Ok(added)
 }
 
-// Adds the label where it isn't shown and all are allowed once it is, and says whether it was added.
+// Adds the label where it isn't shown and all are allowed once it is, and says whether it was
+// added.
 fn try_label<K: Keeper, M: Ledger>(
     alloc: Global,
     work: &mut Work<'_, K>,
@@ -150,10 +171,21 @@ fn try_label<K: Keeper, M: Ledger>(
     requires attached { IsTrue (K.seen work.old.keeper.now).store.attached }
     ensures grows { IfOk result (MayAdd label a.old a.new) }
     ensures grown { OnOk result (Grown answers.old answers.new) }
-    ensures tries { IsTold K.seen work.new → IsUnderway (application_of app.now) (worlds_of (state_of K.seen work.old)) viewer.now a.old answers.old → IfOk result (Tries (application_of app.now) (worlds_of (state_of K.seen work.old)) viewer.now answers.new label a.old a.new) }
-    ensures underway { IsTold K.seen work.new → IsUnderway (application_of app.now) (worlds_of (state_of K.seen work.old)) viewer.now a.old answers.old → OnOk result (IsUnderway (application_of app.now) (worlds_of (state_of K.seen work.old)) viewer.now a.new answers.new) }
-    ensures spends { IsTold K.seen work.new → IsLocalCase (application_of app.now) (state_of K.seen work.old) viewer.now → (labels : List ℕ) → shown labels label ≡ true → AreOwn labels answers.old → OnOk result (Spends labels evaluations.old evaluations.new answers.old answers.new) }
-    ensures most { IsTold K.seen work.new → IsLocalCase (application_of app.now) (state_of K.seen work.old) viewer.now → (labels : List ℕ) → shown labels label ≡ true → AreOwn labels answers.old → evaluations.new ≤ evaluations.old + room labels answers.old }
+    ensures tries { IsTold K.seen work.new → IsUnderway
+        (application_of app.now) (worlds_of (state_of K.seen work.old)) viewer.now a.old answers.old
+        → IfOk result (Tries (application_of app.now)
+        (worlds_of (state_of K.seen work.old)) viewer.now answers.new label a.old a.new) }
+    ensures underway { IsTold K.seen work.new → IsUnderway
+        (application_of app.now) (worlds_of (state_of K.seen work.old)) viewer.now a.old answers.old
+        → OnOk result (IsUnderway (application_of app.now)
+        (worlds_of (state_of K.seen work.old)) viewer.now a.new answers.new) }
+    ensures spends { IsTold K.seen work.new
+        → IsLocalCase (application_of app.now) (state_of K.seen work.old) viewer.now
+        → (labels : List ℕ) → shown labels label ≡ true → AreOwn labels answers.old
+        → OnOk result (Spends labels evaluations.old evaluations.new answers.old answers.new) }
+    ensures most { IsTold K.seen work.new → IsLocalCase (application_of app.now)
+        (state_of K.seen work.old) viewer.now → (labels : List ℕ) → shown labels label ≡ true
+        → AreOwn labels answers.old → evaluations.new ≤ evaluations.old + room labels answers.old }
     ensures later { evaluations.old ≤ evaluations.new }
     ensures reads { ReadsWork K.seen work.old work.new result }
 {
@@ -172,8 +204,8 @@ fn try_label<K: Keeper, M: Ledger>(
     Ok(true)
 }
 
-// Whether the label that was added is allowed under the assignment, and so are those that watch it. No answer of
-// another label hangs on it.
+// Whether the label that was added is allowed under the assignment, and so are those that watch it.
+// No answer of another label hangs on it.
 fn may_stay<K: Keeper, M: Ledger>(
     alloc: Global,
     work: &mut Work<'_, K>,
@@ -186,12 +218,22 @@ fn may_stay<K: Keeper, M: Ledger>(
 ) -> Result<bool, Stop>
     requires attached { IsTrue (K.seen work.old.keeper.now).store.attached }
     requires own { shown a.now label ≡ true }
-    ensures value { IsTold K.seen work.new → AreRight (application_of app.now) (worlds_of (state_of K.seen work.old)) viewer.now answers.old → IfOk result (Stays (application_of app.now) (worlds_of (state_of K.seen work.old)) viewer.now answers.new (shown a.now) (touched answers.old label)) }
+    ensures value { IsTold K.seen work.new → AreRight (application_of app.now)
+        (worlds_of (state_of K.seen work.old)) viewer.now answers.old → IfOk result (Stays
+        (application_of app.now) (worlds_of (state_of K.seen work.old)) viewer.now answers.new
+        (shown a.now) (touched answers.old label)) }
     ensures fits { IfOk result (Fitting answers.new (shown a.now) (touched answers.old label)) }
-    ensures right { IsTold K.seen work.new → AreRight (application_of app.now) (worlds_of (state_of K.seen work.old)) viewer.now answers.old → OnOk result (AreRight (application_of app.now) (worlds_of (state_of K.seen work.old)) viewer.now answers.new) }
+    ensures right { IsTold K.seen work.new → AreRight (application_of app.now)
+        (worlds_of (state_of K.seen work.old)) viewer.now answers.old → OnOk result (AreRight
+        (application_of app.now) (worlds_of (state_of K.seen work.old)) viewer.now answers.new) }
     ensures grown { OnOk result (Grown answers.old answers.new) }
-    ensures spends { IsTold K.seen work.new → IsLocalCase (application_of app.now) (state_of K.seen work.old) viewer.now → (labels : List ℕ) → shown labels label ≡ true → AreOwn labels answers.old → OnOk result (Spends labels evaluations.old evaluations.new answers.old answers.new) }
-    ensures most { IsTold K.seen work.new → IsLocalCase (application_of app.now) (state_of K.seen work.old) viewer.now → (labels : List ℕ) → shown labels label ≡ true → AreOwn labels answers.old → evaluations.new ≤ evaluations.old + room labels answers.old }
+    ensures spends { IsTold K.seen work.new
+        → IsLocalCase (application_of app.now) (state_of K.seen work.old) viewer.now
+        → (labels : List ℕ) → shown labels label ≡ true → AreOwn labels answers.old
+        → OnOk result (Spends labels evaluations.old evaluations.new answers.old answers.new) }
+    ensures most { IsTold K.seen work.new → IsLocalCase (application_of app.now)
+        (state_of K.seen work.old) viewer.now → (labels : List ℕ) → shown labels label ≡ true
+        → AreOwn labels answers.old → evaluations.new ≤ evaluations.old + room labels answers.old }
     ensures later { evaluations.old ≤ evaluations.new }
     ensures reads { ReadsWork K.seen work.old work.new result }
 {
@@ -226,12 +268,24 @@ fn watchers_stay<K: Keeper, M: Ledger>(
     evaluations: &mut Steps<M>,
 ) -> Result<bool, Stop>
     requires attached { IsTrue (K.seen work.old.keeper.now).store.attached }
-    ensures value { IsTold K.seen work.new → AreRight (application_of app.now) (worlds_of (state_of K.seen work.old)) viewer.now answers.old → IfOk result (Stays (application_of app.now) (worlds_of (state_of K.seen work.old)) viewer.now answers.new (shown a.now) (shown watchers.now)) }
+    ensures value { IsTold K.seen work.new → AreRight
+        (application_of app.now) (worlds_of (state_of K.seen work.old)) viewer.now answers.old
+        → IfOk result (Stays (application_of app.now) (worlds_of
+        (state_of K.seen work.old)) viewer.now answers.new (shown a.now) (shown watchers.now)) }
     ensures fits { IfOk result (Fitting answers.new (shown a.now) (shown watchers.now)) }
-    ensures right { IsTold K.seen work.new → AreRight (application_of app.now) (worlds_of (state_of K.seen work.old)) viewer.now answers.old → OnOk result (AreRight (application_of app.now) (worlds_of (state_of K.seen work.old)) viewer.now answers.new) }
+    ensures right { IsTold K.seen work.new → AreRight (application_of app.now)
+        (worlds_of (state_of K.seen work.old)) viewer.now answers.old → OnOk result (AreRight
+        (application_of app.now) (worlds_of (state_of K.seen work.old)) viewer.now answers.new) }
     ensures grown { OnOk result (Grown answers.old answers.new) }
-    ensures spends { IsTold K.seen work.new → IsLocalCase (application_of app.now) (state_of K.seen work.old) viewer.now → (labels : List ℕ) → ((j : ℕ) → shown watchers.now j ≡ true → shown labels j ≡ true) → AreOwn labels answers.old → OnOk result (Spends labels evaluations.old evaluations.new answers.old answers.new) }
-    ensures most { IsTold K.seen work.new → IsLocalCase (application_of app.now) (state_of K.seen work.old) viewer.now → (labels : List ℕ) → ((j : ℕ) → shown watchers.now j ≡ true → shown labels j ≡ true) → AreOwn labels answers.old → evaluations.new ≤ evaluations.old + room labels answers.old }
+    ensures spends { IsTold K.seen work.new
+        → IsLocalCase (application_of app.now) (state_of K.seen work.old) viewer.now
+        → (labels : List ℕ) → ((j : ℕ) → shown watchers.now j ≡ true → shown labels j ≡ true)
+        → AreOwn labels answers.old
+        → OnOk result (Spends labels evaluations.old evaluations.new answers.old answers.new) }
+    ensures most { IsTold K.seen work.new
+        → IsLocalCase (application_of app.now) (state_of K.seen work.old) viewer.now
+        → (labels : List ℕ) → ((j : ℕ) → shown watchers.now j ≡ true → shown labels j ≡ true)
+        → AreOwn labels answers.old → evaluations.new ≤ evaluations.old + room labels answers.old }
     ensures later { evaluations.old ≤ evaluations.new }
     ensures reads { ReadsWork K.seen work.old work.new result }
 {
@@ -256,12 +310,22 @@ fn watcher_stays<K: Keeper, M: Ledger>(
     evaluations: &mut Steps<M>,
 ) -> Result<bool, Stop>
     requires attached { IsTrue (K.seen work.old.keeper.now).store.attached }
-    ensures value { IsTold K.seen work.new → AreRight (application_of app.now) (worlds_of (state_of K.seen work.old)) viewer.now answers.old → IfOk result (Stays (application_of app.now) (worlds_of (state_of K.seen work.old)) viewer.now answers.new (shown a.now) (λ j. label == j)) }
+    ensures value { IsTold K.seen work.new → AreRight
+        (application_of app.now) (worlds_of (state_of K.seen work.old)) viewer.now answers.old
+        → IfOk result (Stays (application_of app.now) (worlds_of
+        (state_of K.seen work.old)) viewer.now answers.new (shown a.now) (λ j. label == j)) }
     ensures fits { IfOk result (Fitting answers.new (shown a.now) (λ j. label == j)) }
-    ensures right { IsTold K.seen work.new → AreRight (application_of app.now) (worlds_of (state_of K.seen work.old)) viewer.now answers.old → OnOk result (AreRight (application_of app.now) (worlds_of (state_of K.seen work.old)) viewer.now answers.new) }
+    ensures right { IsTold K.seen work.new → AreRight (application_of app.now)
+        (worlds_of (state_of K.seen work.old)) viewer.now answers.old → OnOk result (AreRight
+        (application_of app.now) (worlds_of (state_of K.seen work.old)) viewer.now answers.new) }
     ensures grown { OnOk result (Grown answers.old answers.new) }
-    ensures spends { IsTold K.seen work.new → IsLocalCase (application_of app.now) (state_of K.seen work.old) viewer.now → (labels : List ℕ) → shown labels label ≡ true → AreOwn labels answers.old → OnOk result (Spends labels evaluations.old evaluations.new answers.old answers.new) }
-    ensures most { IsTold K.seen work.new → IsLocalCase (application_of app.now) (state_of K.seen work.old) viewer.now → (labels : List ℕ) → shown labels label ≡ true → AreOwn labels answers.old → evaluations.new ≤ evaluations.old + room labels answers.old }
+    ensures spends { IsTold K.seen work.new
+        → IsLocalCase (application_of app.now) (state_of K.seen work.old) viewer.now
+        → (labels : List ℕ) → shown labels label ≡ true → AreOwn labels answers.old
+        → OnOk result (Spends labels evaluations.old evaluations.new answers.old answers.new) }
+    ensures most { IsTold K.seen work.new → IsLocalCase (application_of app.now)
+        (state_of K.seen work.old) viewer.now → (labels : List ℕ) → shown labels label ≡ true
+        → AreOwn labels answers.old → evaluations.new ≤ evaluations.old + room labels answers.old }
     ensures later { evaluations.old ≤ evaluations.new }
     ensures reads { ReadsWork K.seen work.old work.new result }
 {
@@ -285,12 +349,22 @@ fn asked_stays<K: Keeper, M: Ledger>(
 ) -> Result<bool, Stop>
     requires attached { IsTrue (K.seen work.old.keeper.now).store.attached }
     requires own { shown a.now label ≡ true }
-    ensures value { IsTold K.seen work.new → AreRight (application_of app.now) (worlds_of (state_of K.seen work.old)) viewer.now answers.old → IfOk result (Stays (application_of app.now) (worlds_of (state_of K.seen work.old)) viewer.now answers.new (shown a.now) (λ j. label == j)) }
+    ensures value { IsTold K.seen work.new → AreRight
+        (application_of app.now) (worlds_of (state_of K.seen work.old)) viewer.now answers.old
+        → IfOk result (Stays (application_of app.now) (worlds_of
+        (state_of K.seen work.old)) viewer.now answers.new (shown a.now) (λ j. label == j)) }
     ensures fits { IfOk result (Fitting answers.new (shown a.now) (λ j. label == j)) }
-    ensures right { IsTold K.seen work.new → AreRight (application_of app.now) (worlds_of (state_of K.seen work.old)) viewer.now answers.old → OnOk result (AreRight (application_of app.now) (worlds_of (state_of K.seen work.old)) viewer.now answers.new) }
+    ensures right { IsTold K.seen work.new → AreRight (application_of app.now)
+        (worlds_of (state_of K.seen work.old)) viewer.now answers.old → OnOk result (AreRight
+        (application_of app.now) (worlds_of (state_of K.seen work.old)) viewer.now answers.new) }
     ensures grown { OnOk result (Grown answers.old answers.new) }
-    ensures spends { IsTold K.seen work.new → IsLocalCase (application_of app.now) (state_of K.seen work.old) viewer.now → (labels : List ℕ) → shown labels label ≡ true → AreOwn labels answers.old → OnOk result (Spends labels evaluations.old evaluations.new answers.old answers.new) }
-    ensures most { IsTold K.seen work.new → IsLocalCase (application_of app.now) (state_of K.seen work.old) viewer.now → (labels : List ℕ) → shown labels label ≡ true → AreOwn labels answers.old → evaluations.new ≤ evaluations.old + room labels answers.old }
+    ensures spends { IsTold K.seen work.new
+        → IsLocalCase (application_of app.now) (state_of K.seen work.old) viewer.now
+        → (labels : List ℕ) → shown labels label ≡ true → AreOwn labels answers.old
+        → OnOk result (Spends labels evaluations.old evaluations.new answers.old answers.new) }
+    ensures most { IsTold K.seen work.new → IsLocalCase (application_of app.now)
+        (state_of K.seen work.old) viewer.now → (labels : List ℕ) → shown labels label ≡ true
+        → AreOwn labels answers.old → evaluations.new ≤ evaluations.old + room labels answers.old }
     ensures later { evaluations.old ≤ evaluations.new }
     ensures reads { ReadsWork K.seen work.old work.new result }
 {
@@ -298,8 +372,8 @@ fn asked_stays<K: Keeper, M: Ledger>(
     Ok(holds)
 }
 
-// Whether the label is allowed under the assignment, which shows it: as it is remembered, or asked of the policy, and
-// then remembered.
+// Whether the label is allowed under the assignment, which shows it: as it is remembered, or asked
+// of the policy, and then remembered.
 fn ask<K: Keeper, M: Ledger>(
     alloc: Global,
     work: &mut Work<'_, K>,
@@ -312,12 +386,22 @@ fn ask<K: Keeper, M: Ledger>(
 ) -> Result<bool, Stop>
     requires attached { IsTrue (K.seen work.old.keeper.now).store.attached }
     requires own { shown a.now label ≡ true }
-    ensures answer { IsTold K.seen work.new → AreRight (application_of app.now) (worlds_of (state_of K.seen work.old)) viewer.now answers.old → IfOk result (λ b. b ≡ is_allowed (application_of app.now) (worlds_of (state_of K.seen work.old) (shown a.now)) viewer.now label) }
+    ensures answer { IsTold K.seen work.new → AreRight
+        (application_of app.now) (worlds_of (state_of K.seen work.old)) viewer.now answers.old
+        → IfOk result (λ b. b ≡ is_allowed (application_of app.now)
+        (worlds_of (state_of K.seen work.old) (shown a.now)) viewer.now label) }
     ensures fits { OnOk result (is_some (recall answers.new label (shown a.now)) ≡ true) }
-    ensures right { IsTold K.seen work.new → AreRight (application_of app.now) (worlds_of (state_of K.seen work.old)) viewer.now answers.old → OnOk result (AreRight (application_of app.now) (worlds_of (state_of K.seen work.old)) viewer.now answers.new) }
+    ensures right { IsTold K.seen work.new → AreRight (application_of app.now)
+        (worlds_of (state_of K.seen work.old)) viewer.now answers.old → OnOk result (AreRight
+        (application_of app.now) (worlds_of (state_of K.seen work.old)) viewer.now answers.new) }
     ensures grown { OnOk result (Grown answers.old answers.new) }
-    ensures spends { IsTold K.seen work.new → IsLocalCase (application_of app.now) (state_of K.seen work.old) viewer.now → (labels : List ℕ) → shown labels label ≡ true → AreOwn labels answers.old → OnOk result (Spends labels evaluations.old evaluations.new answers.old answers.new) }
-    ensures most { IsTold K.seen work.new → IsLocalCase (application_of app.now) (state_of K.seen work.old) viewer.now → (labels : List ℕ) → shown labels label ≡ true → AreOwn labels answers.old → evaluations.new ≤ evaluations.old + room labels answers.old }
+    ensures spends { IsTold K.seen work.new
+        → IsLocalCase (application_of app.now) (state_of K.seen work.old) viewer.now
+        → (labels : List ℕ) → shown labels label ≡ true → AreOwn labels answers.old
+        → OnOk result (Spends labels evaluations.old evaluations.new answers.old answers.new) }
+    ensures most { IsTold K.seen work.new → IsLocalCase (application_of app.now)
+        (state_of K.seen work.old) viewer.now → (labels : List ℕ) → shown labels label ≡ true
+        → AreOwn labels answers.old → evaluations.new ≤ evaluations.old + room labels answers.old }
     ensures later { evaluations.old ≤ evaluations.new }
     ensures reads { ReadsWork K.seen work.old work.new result }
 {
@@ -326,7 +410,7 @@ fn ask<K: Keeper, M: Ledger>(
         None => {
             let known = evaluate(alloc, work, app, viewer, a, label, evaluations)?;
             let holds = known.holds;
-            answers.remember(alloc, label, known)?;
+            remember(answers, alloc, label, known)?;
             Ok(holds)
         }
     }
@@ -343,9 +427,12 @@ fn evaluate<K: Keeper, M: Ledger>(
     evaluations: &mut Steps<M>,
 ) -> Result<Known, Stop>
     requires attached { IsTrue (K.seen work.old.keeper.now).store.attached }
-    ensures right { IsTold K.seen work.new → IfOk result (IsRight (application_of app.now) (worlds_of (state_of K.seen work.old)) viewer.now label) }
+    ensures right { IsTold K.seen work.new → IfOk result
+        (IsRight (application_of app.now) (worlds_of (state_of K.seen work.old)) viewer.now label) }
     ensures fits { IfOk result (λ known. holds (shown a.now) known.when ≡ true) }
-    ensures own { IsTold K.seen work.new → IsLocalCase (application_of app.now) (state_of K.seen work.old) viewer.now → IfOk result (λ known. (k : ℕ) → names known.when k ≡ true → record_of_label k ≡ record_of_label label) }
+    ensures own { IsTold K.seen work.new
+        → IsLocalCase (application_of app.now) (state_of K.seen work.old) viewer.now → IfOk result
+        (λ known. (k : ℕ) → names known.when k ≡ true → record_of_label k ≡ record_of_label label) }
     ensures once { evaluations.new ≤ evaluations.old + 1 }
     ensures later { evaluations.old ≤ evaluations.new }
     ensures reads { ReadsWork K.seen work.old work.new result }

@@ -20,8 +20,9 @@ use jac_world::{Assignment, Label, Steps};
 use std::alloc::Global;
 use std::sync::ledger::Ledger;
 
-/// Whether the record of the label stands under the assignment, and the policy of its group is true there;
-/// and the labels that were consulted for this answer, which is the same wherever they are shown as here.
+/// Whether the record of the label stands under the assignment, and the policy of its group is true
+/// there; and the labels that were consulted for this answer, which is the same wherever they are
+/// shown as here.
 pub fn allowed<K: Keeper, M: Ledger>(
     alloc: Global,
     work: &mut Work<'_, K>,
@@ -32,11 +33,17 @@ pub fn allowed<K: Keeper, M: Ledger>(
     evaluations: &mut Steps<M>,
 ) -> Result<(bool, Support), Stop>
     requires attached { IsTrue (K.seen work.old.keeper.now).store.attached }
-    ensures value { IsTold K.seen work.new → IfOk result (λ r. (w : ℕ → Bool) → Agrees r.1 (shown a.now) w → r.0 ≡ is_allowed (application_of app.now) (worlds_of (state_of K.seen work.old) w) viewer label) }
-    ensures ticks { IsTold K.seen work.new → OnOk result (evaluations.new ≡ evaluations.old + (if has_group (application_of app.now) label && has_record (worlds_of (state_of K.seen work.old) (shown a.now)) label then 1 else 0)) }
+    ensures value { IsTold K.seen work.new
+        → IfOk result (λ r. (w : ℕ → Bool) → Agrees r.1 (shown a.now) w → r.0 ≡ is_allowed
+        (application_of app.now) (worlds_of (state_of K.seen work.old) w) viewer label) }
+    ensures ticks { IsTold K.seen work.new → OnOk result (evaluations.new
+        ≡ evaluations.old + (if has_group (application_of app.now) label
+        && has_record (worlds_of (state_of K.seen work.old) (shown a.now)) label then 1 else 0)) }
     ensures later { evaluations.old ≤ evaluations.new }
     ensures once { evaluations.new ≤ evaluations.old + 1 }
-    ensures own { IsTold K.seen work.new → IsLocalCase (application_of app.now) (state_of K.seen work.old) viewer → IfOk result (λ r. (k : ℕ) → shown r.1 k ≡ true → record_of_label k ≡ record_of_label label) }
+    ensures own { IsTold K.seen work.new
+        → IsLocalCase (application_of app.now) (state_of K.seen work.old) viewer → IfOk result (λ r.
+        (k : ℕ) → shown r.1 k ≡ true → record_of_label k ≡ record_of_label label) }
     ensures reads { ReadsWork K.seen work.old work.new result }
 {
     let mut support = Support::empty(alloc);
@@ -68,8 +75,13 @@ fn policy_holds<K: Keeper>(
     support: &mut Support,
 ) -> Result<bool, Stop>
     requires attached { IsTrue (K.seen work.old.keeper.now).store.attached }
-    ensures value { IsTold K.seen work.new → IfOk result (λ b. (w : ℕ → Bool) → Agrees support.new (shown a.now) w → b ≡ is_true (mean (policy_world (application_of app.now) (worlds_of (state_of K.seen work.old) w) viewer id) (expression_of policy.now) [])) }
-    ensures own { IsTold K.seen work.new → IsLocalCase (application_of app.now) (state_of K.seen work.old) viewer → is_local (application_of app.now).models (is_free_viewer (application_of app.now)) (expression_of policy.now) ≡ true → IsOwn (Some id) support.old → OnOk result (IsOwn (Some id) support.new) }
+    ensures value { IsTold K.seen work.new → IfOk result (λ b. (w : ℕ → Bool) → Agrees support.new
+        (shown a.now) w → b ≡ is_true (mean (policy_world (application_of app.now)
+        (worlds_of (state_of K.seen work.old) w) viewer id) (expression_of policy.now) [])) }
+    ensures own { IsTold K.seen work.new → IsLocalCase (application_of app.now)
+        (state_of K.seen work.old) viewer → is_local (application_of app.now).models
+        (is_free_viewer (application_of app.now)) (expression_of policy.now) ≡ true
+        → IsOwn (Some id) support.old → OnOk result (IsOwn (Some id) support.new) }
     ensures grows { Grows support.old support.new }
     ensures reads { ReadsWork K.seen work.old work.new result }
 {
@@ -103,7 +115,8 @@ pub(crate) fn has_group(app: &App, label: Label) -> bool
 
 // The group of the label, if its model has it.
 fn group_of_label(app: &App, label: Label) -> Option<&Group>
-    ensures { option_map (λ g. field_group_of g.now) result ≡ labelled_group (application_of app.now) label }
+    ensures { option_map (λ g. field_group_of g.now) result
+        ≡ labelled_group (application_of app.now) label }
 {
     match model_at(&app.models, id_model(record_of(label))) {
         Some(model) => group_at(model.groups.as_slice(), (label.0 % 8) as u8),
@@ -118,7 +131,8 @@ fn model_at(models: &Models, place: u8) -> Option<&ModelDef>
 }
 
 fn group_at(groups: &[Group], place: u8) -> Option<&Group>
-    ensures { option_map (λ g. field_group_of g.now) result ≡ slice_get (groups_of groups.now) place }
+    ensures { option_map (λ g. field_group_of g.now) result
+        ≡ slice_get (groups_of groups.now) place }
 {
     groups.get(usize::from(place))
 }

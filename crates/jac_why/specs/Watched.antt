@@ -4,7 +4,7 @@ use Rattle.std.specs.Ordering.{nat_cmp}
 use Rattle.std.specs.BTreeMap.{get}
 use Rattle.jac_world.specs.World.{shown}
 use Rattle.jac_plain.specs.Policies.{is_allowed, with_label}
-use Rattle.jac_resolve.specs.Recalled.{watched_in}
+use Rattle.jac_recall.specs.Recalled.{watched_in}
 use Rattle.jac_why.specs.declared.watch.Watchers.{Watchers}
 use Rattle.jac_why.specs.Scene.{PlainScene}
 

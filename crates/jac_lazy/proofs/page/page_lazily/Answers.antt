@@ -7,7 +7,7 @@ use Rattle.jac_pruned.specs.Consulted.{Grows}
 use Rattle.jac_pruned.proofs.Growing.{grows_then}
 use Rattle.jac_resolve.specs.Recalled.{IsPassed}
 use Rattle.jac_resolve.specs.Rounds.{worlds_of}
-use Rattle.jac_lazy.specs.Live.{AreLiveOf}
+use Rattle.jac_resolve.specs.Live.{AreLiveOf}
 use Rattle.jac_lazy.specs.Steady.{IsSteady}
 use Rattle.jac_lazy.proofs.Shown.{counted_more, ended_steady, fewer_left}
 use Rattle.jac_lazy.proofs.page.page_lazily.Goals as goal

@@ -1,7 +1,7 @@
 use Rattle.std.proofs.Common.{◌≡◌, ◌∙◌, ap, sym, None, true, is_some}
 use Rattle.jac_world.specs.World.{shown}
 use Rattle.jac_plain.specs.Policies.{with_label}
-use Rattle.jac_resolve.specs.Recalled.{recall}
+use Rattle.jac_recall.specs.Recalled.{recall}
 use Rattle.jac_resolve.proofs.Room.{most_asked, spends_asked}
 use Rattle.jac_resolve.proofs.Underway.{shows_own}
 use Rattle.jac_resolve.proofs.pass.ask.Goals as goal
@@ -29,7 +29,7 @@ returns-in_ok-remember-in-None-clause-spends g c told local labels among own =
     let v = shown c.args.a.now in
     let label = c.args.label in
     let w = with_label label v in
-    let new = c.remember.new.self in
+    let new = c.remember.new.answers in
     let none : recall c.args.answers.now label w ≡ None = sym c.recalled.ensures ∙ c.in-None.is in
     let own_new = c.in_ok-remember-in-None.ensures.own labels own among (c.in_ok-known-in-None.ensures.own told local) in
     let fits = c.in_ok-remember-in-None.ensures.fits v c.in_ok-known-in-None.ensures.fits in

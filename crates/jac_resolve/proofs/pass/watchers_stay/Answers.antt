@@ -4,7 +4,8 @@ use Rattle.jac_lang.specs.Mirror.{application_of}
 use Rattle.jac_rows.specs.declared.state.State.{State}
 use Rattle.jac_keep.specs.Worked.{state_of}
 use Rattle.jac_plain.specs.Policies.{is_allowed}
-use Rattle.jac_resolve.specs.Recalled.{AreRight, Fitting, Stays, recall}
+use Rattle.jac_recall.specs.Recalled.{recall}
+use Rattle.jac_resolve.specs.Recalled.{AreRight, Fitting, Stays}
 use Rattle.jac_pruned.specs.Local.{IsLocalCase}
 use Rattle.jac_resolve.specs.Rounds.{worlds_of}
 use Rattle.jac_pruned.proofs.Working.{next}

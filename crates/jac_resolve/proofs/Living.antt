@@ -6,7 +6,7 @@ use Rattle.jac_world.specs.World.{shown}
 use Rattle.jac_lang.specs.Syntax.{Application}
 use Rattle.jac_plain.specs.Policies.{IsLiveLabel}
 use Rattle.jac_plain.specs.Requests.{Worlds}
-use Rattle.jac_lazy.specs.Live.{AreLiveOf}
+use Rattle.jac_resolve.specs.Live.{AreLiveOf}
 
 module _ (app : Application) (worlds : Worlds) where
   -- those that were asked so far: each live one among them is there

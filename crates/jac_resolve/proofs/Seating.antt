@@ -1,0 +1,114 @@
+-- What was settled for somebody, over plain lists.
+use Rattle.std.proofs.Common.{◌≡◌, ◌==◌, ◌&&◌, ◌||◌, ◌⊎◌, inl, inr, ℕ, Bool, true, false, not, if◌then◌else◌, List, [], ◌∷◌, Option, Some, None, refl, ap, sym, subst, ◌∙◌}
+use Rattle.std.specs.Option.{is_some}
+use Rattle.std.specs.Ordering.{nat_cmp}
+use Rattle.std.specs.BTreeMap.{get}
+use Rattle.std.proofs.lemmas.Bool.Decides.{Decides-eqb}
+use Rattle.jac_world.specs.World.{shown, IsAscending}
+use Rattle.jac_lang.specs.Syntax.{Application}
+use Rattle.jac_plain.specs.Policies.{is_allowed, with_label, AreAllowed, IsLiveLabel, IsSettled}
+use Rattle.jac_plain.specs.Requests.{Worlds}
+use Rattle.jac_recall.specs.declared.answers.Answers.{Answers}
+use Rattle.jac_recall.specs.declared.seat.Seat.{Seat}
+use Rattle.jac_recall.specs.declared.touch.Touch.{Touch}
+use Rattle.jac_recall.specs.Recalled.{AreWatched, IsLinked, hangs, is_asked, recall, watches}
+use Rattle.jac_recall.specs.Seats.{IsEmptySeat, Unsettles}
+use Rattle.jac_recall.specs.Touched.{IsCovered, touches}
+use Rattle.jac_recall.proofs.Recalling.{recall_by}
+use Rattle.jac_recall.proofs.Rising.{bool_eq}
+use Rattle.jac_resolve.specs.Recalled.{AreRight, IsPassed, IsUnderway, RemembersForbidden}
+use Rattle.jac_resolve.specs.Rounds.{AreLive}
+use Rattle.jac_resolve.specs.Seated.{AreSettledBut, AreSettledButIf, IsAtRest, StandsRefused, IsSeated}
+use Rattle.jac_resolve.proofs.Underway.{itself}
+
+-- whether a label is shown is nothing to what is remembered of one whose answers don't hang on it
+pub unhung : (answers : Answers) (j k : ℕ) → hangs answers j k ≡ false → (w : ℕ → Bool) → recall answers j (with_label k w) ≡ recall answers j w
+unhung answers j k absent w = recall_by (get nat_cmp answers.given j) (with_label k w) w (λ i h. differs i h (k == i) refl)
+  where
+    differs : (i : ℕ) → hangs answers j i ≡ true → (b : Bool) → (k == i) ≡ b → (b || w i) ≡ w i
+    differs i h true e = absurd (let same : true ≡ false = sym h ∙ ap (λ (n : ℕ). hangs answers j n) (sym ((Decides-eqb k i).0 e)) ∙ absent in cc)
+    differs i h false e = refl
+
+-- a label that is one of two kinds
+pub one_of : (b : Bool) (P : Type 0) → (b ≡ true → P) → (b ≡ false → P) → P
+one_of true P there absent = there refl
+one_of false P there absent = absent refl
+
+pub never : (b : Bool) (P : Type 0) → b ≡ true → b ≡ false → P
+never b P there absent = absurd (let e : true ≡ false = sym there ∙ absent in cc)
+
+pub other_answer : (o : Option Bool) (P : Type 0) → o ≡ Some false → (o ≡ Some true) ⊎ (o ≡ None) → P
+other_answer o P is (inl e) = absurd (let both : Some false ≡ Some true = sym is ∙ e in cc)
+other_answer o P is (inr e) = absurd (let both : Some false ≡ None = sym is ∙ e in cc)
+
+module _ (app : Application) (worlds : Worlds) (viewer : Option ℕ) where
+  -- what is remembered is what the policy answers
+  recalled_is : (answers : Answers) (k : ℕ) (w : ℕ → Bool) (b : Bool) → AreRight app worlds viewer answers → is_some (recall answers k w) ≡ true → is_allowed app (worlds w) viewer k ≡ b →
+      recall answers k w ≡ Some b
+  recalled_is answers k w b right some allowed = by_answer (recall answers k w) refl some
+    where
+      by_answer : (o : Option Bool) → recall answers k w ≡ o → is_some o ≡ true → recall answers k w ≡ Some b
+      by_answer (Some c) e h = e ∙ ap Some (right.each k w c e ∙ allowed)
+      by_answer None e h = absurd cc
+
+  allowed_is : (answers : Answers) (k : ℕ) (w : ℕ → Bool) (b : Bool) → AreRight app worlds viewer answers → recall answers k w ≡ Some b → is_allowed app (worlds w) viewer k ≡ b
+  allowed_is answers k w b right e = sym (right.each k w b e)
+
+  refused_is : (answers : Answers) (k : ℕ) (w : ℕ → Bool) → AreRight app worlds viewer answers → RemembersForbidden app worlds viewer answers (with_label k w) → StandsRefused answers k w
+  refused_is answers k w right one = record {
+    label = one.label;
+    is_shown = one.is_shown;
+    refused = recalled_is answers one.label (with_label k w) false right one.known one.forbidden;
+  }
+
+  -- labels that a pass left, with none that is due
+  pub seated_passed : (labels : List ℕ) (answers : Answers) → IsUnderway app worlds viewer labels answers → ((k : ℕ) → shown labels k ≡ true → IsLiveLabel app worlds k) →
+      ((k : ℕ) → IsLiveLabel app worlds k → shown labels k ≡ false → StandsRefused answers k (shown labels)) →
+      IsSeated app worlds viewer (record { labels = Some labels; answers = answers; due = [] })
+  seated_passed labels answers underway live full = record {
+    right = underway.right;
+    watched = underway.watched;
+    kept = record {
+      stays = λ k s. inl (recalled_is answers k (shown labels) true underway.right (underway.fitted.each k s) (underway.allowed k s));
+      live = λ k s not_due. live k s;
+      full = λ k lives hidden not_due. full k lives hidden;
+    };
+  }
+
+  -- after a pass over all live labels
+  pub seated_all : (labels live : List ℕ) (answers : Answers) → AreLive app worlds live → IsPassed app worlds viewer answers live labels →
+      IsSeated app worlds viewer (record { labels = Some labels; answers = answers; due = [] })
+  seated_all labels live answers are passed =
+      seated_passed labels answers passed.underway (λ k s. are.only k (passed.within k s))
+      (λ k lives hidden. refused_is answers k (shown labels) passed.underway.right (passed.refused.each k (are.every k lives) hidden))
+
+  -- all live labels are tried from none on
+  pub underway_seated : (seat : Seat) → IsSeated app worlds viewer seat → IsUnderway app worlds viewer [] seat.answers
+  underway_seated seat seated = record {
+    right = seated.right;
+    allowed = λ k s. absurd cc;
+    watched = seated.watched;
+    fitted = record { each = λ k s. absurd cc };
+  }
+
+  -- a seat with none due holds labels that are settled
+  pub settled_seated : (seat : Seat) (labels : List ℕ) → IsAscending labels → seat.labels ≡ Some labels → IsAtRest seat → IsSeated app worlds viewer seat → IsSettled app worlds viewer labels
+  settled_seated seat labels ascending are rests seated =
+      settled (subst (λ (due : List ℕ). AreSettledBut app worlds seat.answers labels due) rests.due (subst (λ (o : Option (List ℕ)). AreSettledButIf app worlds seat.answers o seat.due) are seated.kept))
+    where
+      settled : AreSettledBut app worlds seat.answers labels [] → IsSettled app worlds viewer labels
+      settled kept = record {
+        ascending = ascending;
+        live = λ k s. kept.live k s refl;
+        allowed = λ k s. allowed_if k (kept.stays k s);
+        full = λ k lives hidden. (let one = kept.full k lives hidden refl in record {
+          label = one.label;
+          is_shown = one.is_shown;
+          forbidden = allowed_is seat.answers one.label (with_label k (shown labels)) false seated.right one.refused;
+        });
+      }
+        where
+          allowed_if : (k : ℕ) → (recall seat.answers k (shown labels) ≡ Some true) ⊎ ((shown [] k ≡ true) × ((w : ℕ → Bool) → recall seat.answers k w ≡ None)) →
+              is_allowed app (worlds (shown labels)) viewer k ≡ true
+          allowed_if k (inl e) = allowed_is seat.answers k (shown labels) true seated.right e
+          allowed_if k (inr p) = absurd (let e : false ≡ true = p.0 in cc)

@@ -1,0 +1,10 @@
+use Rattle.jac_resolve.proofs.Underway.{grown_by}
+use Rattle.jac_resolve.proofs.Room.{own_by}
+use Rattle.jac_resolve.proofs.recall.remember.Goals as goal
+
+pub returns-clause-grown : goal.returns-clause-grown
+returns-clause-grown c = grown_by c.args.answers.now c.put.new.self c.args.label c.args.known c.in_ok-put.ensures.watches c.in_ok-put.ensures.recalls
+
+pub returns-clause-own : goal.returns-clause-own
+returns-clause-own c labels before among of_record =
+    own_by c.args.answers.now c.put.new.self c.args.label c.args.known labels c.in_ok-put.ensures.watches c.in_ok-put.ensures.recalls before among of_record

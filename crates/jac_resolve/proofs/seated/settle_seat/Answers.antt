@@ -1,0 +1,13 @@
+use Rattle.std.proofs.Common.{rules}
+use Rattle.jac_world.specs.World.{IsAscending}
+use Rattle.jac_lang.specs.Mirror.{application_of}
+use Rattle.jac_keep.specs.Worked.{state_of}
+use Rattle.jac_resolve.specs.Rounds.{worlds_of}
+use Rattle.jac_resolve.proofs.Seating.{settled_seated}
+use Rattle.jac_resolve.proofs.seated.settle_seat.Goals as goal
+
+pub returns-clause-settled : goal.returns-clause-settled
+returns-clause-settled g c told =
+    let rises : IsAscending c.in_ok-labels.labels = search rules in
+    settled_seated (application_of c.args.app.now) (worlds_of (state_of g.K.Keeper.seen c.args.work.now)) c.args.viewer.now c.settle_anew.new.seat c.in_ok-labels.labels rises
+    c.in_ok-labels.ensures c.in_ok-settle_anew.ensures.rests (c.in_ok-settle_anew.ensures.seated told)

@@ -1,0 +1,43 @@
+-- What was settled for somebody, as far as it is still right.
+use Rattle.std.specs.Prelude.{◌≡◌, ◌⊎◌, ℕ, Bool, true, false, List, [], Option, Some, None, is_some, ⊤}
+use Rattle.jac_world.specs.World.{shown}
+use Rattle.jac_lang.specs.Syntax.{Application}
+use Rattle.jac_plain.specs.Policies.{IsLiveLabel, with_label}
+use Rattle.jac_plain.specs.Requests.{Worlds}
+use Rattle.jac_recall.specs.declared.answers.Answers.{Answers}
+use Rattle.jac_recall.specs.declared.seat.Seat.{Seat}
+use Rattle.jac_recall.specs.Recalled.{AreWatched, recall}
+use Rattle.jac_resolve.specs.Recalled.{AreRight}
+
+-- some label that is shown once k is shown too isn't allowed then, and that is remembered
+pub record StandsRefused (answers : Answers) (k : ℕ) (w : ℕ → Bool) : Type 0 where
+  pub label : ℕ
+  pub is_shown : with_label k w label ≡ true
+  pub refused : recall answers label (with_label k w) ≡ Some false
+
+-- each label that is shown is remembered as allowed, or is due, with nothing remembered of it; of
+-- labels that aren't due each that is shown is live, and each live one that is hidden is refused
+pub record AreSettledBut (app : Application) (worlds : Worlds) (answers : Answers)
+    (labels due : List ℕ) : Type 0 where
+  pub stays : (k : ℕ) → shown labels k ≡ true →
+      (recall answers k (shown labels) ≡ Some true)
+      ⊎ ((shown due k ≡ true) × ((w : ℕ → Bool) → recall answers k w ≡ None))
+  pub live : (k : ℕ) → shown labels k ≡ true → shown due k ≡ false → IsLiveLabel app worlds k
+  pub full : (k : ℕ) → IsLiveLabel app worlds k → shown labels k ≡ false → shown due k ≡ false →
+      StandsRefused answers k (shown labels)
+
+abbrev pub AreSettledButIf : Application → Worlds → Answers → Option (List ℕ) → List ℕ → Type 0
+AreSettledButIf app worlds answers None due = ⊤
+AreSettledButIf app worlds answers (Some labels) due = AreSettledBut app worlds answers labels due
+
+-- what is remembered is right, and the labels are settled but for those that are due
+pub record IsSeated (app : Application) (worlds : Worlds) (viewer : Option ℕ)
+    (seat : Seat) : Type 0 where
+  pub right : AreRight app worlds viewer seat.answers
+  pub watched : AreWatched seat.answers
+  pub kept : AreSettledButIf app worlds seat.answers seat.labels seat.due
+
+-- there are labels, and none is due
+pub record IsAtRest (seat : Seat) : Type 0 where
+  pub labels : is_some seat.labels ≡ true
+  pub due : seat.due ≡ []

@@ -1,0 +1,61 @@
+//! What policies answered, remembered with the labels that were consulted for it.
+ghost use Rattle.std.specs.Prelude.{◌≡◌, ◌||◌, ℕ, Bool, true, List, Option, is_some, OnOk};
+ghost use Rattle.std.specs.Ordering.{nat_cmp};
+ghost use Rattle.std.specs.BTreeMap.{get};
+ghost use Rattle.jac_value.specs.Ids.{record_of_label};
+ghost use Rattle.jac_world.specs.World.{shown, holds, names};
+ghost use Rattle.jac_lang.specs.Syntax.{Application};
+ghost use Rattle.jac_plain.specs.Requests.{Worlds};
+ghost use Rattle.jac_pruned.specs.Consulted.{Grows};
+ghost use Rattle.jac_recall.specs.Recalled.{recall, watched_in, watches};
+ghost use Rattle.jac_resolve.specs.Room.{AreOwn};
+ghost use Rattle.jac_resolve.specs.Recalled.{AreRight, Grown, IsRight};
+
+use jac_pruned::Support;
+use jac_recall::{Answers, Known, Labels};
+use jac_value::Memory;
+use jac_world::Label;
+use std::alloc::Global;
+use std::collections::BTreeMap;
+
+// Remembers an answer of the label, which then watches all labels that were consulted.
+pub(crate) fn remember(
+    answers: &mut Answers,
+    alloc: Global,
+    label: Label,
+    known: Known,
+) -> Result<(), Memory>
+    ensures right { (app : Application) (worlds : Worlds) (viewer : Option ℕ)
+        → AreRight app worlds viewer answers.old → IsRight app worlds viewer label known
+        → OnOk result (AreRight app worlds viewer answers.new) }
+    ensures fits { (w : ℕ → Bool) → holds w known.when ≡ true
+        → OnOk result (is_some (recall answers.new label w) ≡ true) }
+    ensures grown { OnOk result (Grown answers.old answers.new) }
+    ensures own { (labels : List ℕ) → AreOwn labels answers.old → shown labels label ≡ true
+        → ((k : ℕ) → names known.when k ≡ true → record_of_label k ≡ record_of_label label)
+        → OnOk result (AreOwn labels answers.new) }
+{
+    answers.put(alloc, label, known)?;
+    Ok(())
+}
+
+/// Adds all labels that were consulted for what is remembered.
+pub fn add_consulted(answers: &Answers, consulted: &mut Support) -> Result<(), Memory>
+    ensures added { OnOk result ((k j : ℕ) → watches answers.now k j ≡ true →
+        shown consulted.new k ≡ true) }
+    ensures grows { Grows consulted.old consulted.new }
+{
+    add_watched(&answers.watchers, consulted)
+}
+
+// Adds each label that is watched.
+fn add_watched(watchers: &BTreeMap<Label, Labels>, consulted: &mut Support) -> Result<(), Memory>
+    ensures added { OnOk result ((k j : ℕ) → watched_in (get nat_cmp watchers.now k) j ≡ true →
+        shown consulted.new k ≡ true) }
+    ensures grows { Grows consulted.old consulted.new }
+{
+    'watched: for label in watchers.keys() {
+        consulted.add(*label)?;
+    }
+    Ok(())
+}
