@@ -1,0 +1,141 @@
+#!/usr/bin/env python3
+"""Compares the built program with one that keeps nothing from request to request, over random applications and random
+requests of several viewers in turn: each reply, each line of the audit, and the dump at the end are the same. Words: the
+program, for how many seconds, as `600s`, or how many applications, and the first one's seed, where it isn't to be the
+time. The other program is a trial of these sources in which labels are kept for no viewer; it is built in a folder of its
+own, which takes some minutes, or named by JAC_FORGETFUL. It is no part of the gate. A second interpreter says what is
+right (compare.py); this looks at longer runs, with more labels than that one can look at."""
+import os
+import re
+import shutil
+import subprocess
+import sys
+import tempfile
+import time
+
+import proved
+from compare import Maker, written
+
+TOP = os.path.dirname(os.path.dirname(os.path.abspath(__file__)))
+KEPT = 'crates/jac_sittings/src/sittings.rt', r'(const VIEWERS: usize = )\d+;', r'\g<1>0;'
+MOST_NUMBERS = 12       # of the requests whose records are named
+MOST_SECONDS = 20       # of one run
+VIEWERS = None, 4096, 8192, 12288, 12289, 16384
+
+
+def forgetful(folder):
+    """The program of these sources that keeps nothing."""
+    given = os.environ.get('JAC_FORGETFUL')
+    if given:
+        return os.path.abspath(given)
+    copy = os.path.join(folder, 'copy')
+    shutil.copytree(TOP, copy, ignore=shutil.ignore_patterns('out', '.git'))
+    path, old, new = KEPT
+    with open(os.path.join(copy, path), encoding='utf-8') as file:
+        text, count = re.subn(old, new, file.read())
+    if count != 1:
+        sys.exit('%s has no line that says for how many viewers labels are kept' % path)
+    with open(os.path.join(copy, path), 'w', encoding='utf-8') as file:
+        file.write(text)
+    done = subprocess.run([sys.executable, os.path.join(copy, 'tools', 'trial.py'), '--print'], stdout=subprocess.PIPE)
+    if done.returncode:
+        sys.exit('the program that keeps nothing could not be built')
+    return done.stdout.decode().strip()
+
+
+def ran(words, folder):
+    """A run that ended, or None where it took too long: some applications answer one request for minutes."""
+    try:
+        return subprocess.run(words, cwd=folder, stdin=subprocess.DEVNULL, stdout=subprocess.PIPE, stderr=subprocess.DEVNULL,
+                              timeout=MOST_SECONDS)
+    except subprocess.TimeoutExpired:
+        return None
+
+
+class Case:
+    """An application, and requests to it that name records which may be there."""
+
+    def __init__(self, seed):
+        self.maker = Maker(seed)
+        self.text = written(self.maker.application()).encode()
+        random = self.maker.random
+        models = range(len(self.maker.models))
+        self.keys = [(number * 64 + site) * 64 + model for number in range(1, MOST_NUMBERS) for site in range(3) for model in models]
+        self.viewers = random.sample(VIEWERS, 3)
+        self.lines = [self.line() for _ in range(random.randint(20, 80))]
+        self.stored = random.random() < 0.3
+
+    def line(self):
+        method, path, query, body = self.maker.request(self.keys)
+        number = self.maker.pick(self.viewers)
+        target = path + ('?' + query if query else '')
+        return 'ask %s %s "%s" "%s"\n' % ('-' if number is None else number, method, target, body)
+
+    def put_files(self, folder):
+        with open(os.path.join(folder, 'app'), 'wb') as file:
+            file.write(self.text)
+        with open(os.path.join(folder, 'events'), 'w') as file:
+            file.write(''.join(self.lines))
+
+    def told_by(self, program, folder):
+        """The status, the replies, the audit, and what the store holds then, if there is one."""
+        for name in ('audit', 'store'):
+            if os.path.exists(os.path.join(folder, name)):
+                os.remove(os.path.join(folder, name))
+        words = [program, 'replay', 'app', 'events', '--audit', 'audit'] + ['--db', 'store'] * self.stored
+        done = ran(words, folder)
+        if done is None:
+            return None
+        with open(os.path.join(folder, 'audit'), 'rb') as file:
+            audit = file.read()
+        dump = b''
+        if self.stored:
+            dump = ran([program, 'dump', 'app', '-', '--db', 'store'], folder).stdout
+        return done.returncode, done.stdout.split(b'\n'), audit.split(b'\n'), dump.split(b'\n')
+
+
+def difference(have, want):
+    """Where two runs differ, or None."""
+    if have == want:
+        return None
+    if have[0] != want[0]:
+        return 'status %d, and %d of the one that keeps nothing' % (have[0], want[0])
+    for what, one, other in zip(('reply', 'line of the audit', 'line of the dump'), have[1:], want[1:]):
+        for place, pair in enumerate(zip(one, other)):
+            if pair[0] != pair[1]:
+                return '%s %d: %r, and %r of the one that keeps nothing' % (what, place + 1, *pair)
+        if len(one) != len(other):
+            return '%d of what is a %s, and %d of the one that keeps nothing' % (len(one), what, len(other))
+
+
+def main():
+    program, word = proved.program(sys.argv[1]), sys.argv[2]
+    most, seconds = (None, float(word[:-1])) if word.endswith('s') else (int(word), None)
+    seed = first = int(sys.argv[3]) if len(sys.argv) > 3 else int(time.time()) * 1000
+    requests = labels = slow = wrong = 0
+    with tempfile.TemporaryDirectory() as folder:
+        other = forgetful(folder)
+        began = time.monotonic()
+        while (time.monotonic() - began < seconds if most is None else seed - first < most) and wrong < 5:
+            case = Case(seed)
+            case.put_files(folder)
+            seed += 1
+            have = case.told_by(program, folder)
+            want = None if have is None else case.told_by(other, folder)
+            if want is None:
+                slow += 1
+                continue
+            told = difference(have, want)
+            if told:
+                wrong += 1
+                print('FAILED seed %d: %s' % (seed - 1, told))
+                if most == 1:
+                    print(case.text.decode() + '\n' + ''.join(case.lines))
+            requests, labels = requests + len(case.lines), max([labels] + [line.count(b',') + 1 for line in have[2]])
+    print('%d applications, %d of which took too long, %d requests, at most %d labels, from seed %d on: %d differ' % (
+        seed - first, slow, requests, labels, first, wrong))
+    sys.exit(1 if wrong else 0)
+
+
+if __name__ == '__main__':
+    main()
