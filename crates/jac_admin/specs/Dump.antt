@@ -41,11 +41,13 @@ cell_text (values.Ref (Some id)) = decimal id
 abbrev pub cells_text : List Field → List Value → List ℕ
 cells_text [] vs = []
 cells_text (f ∷ fs) [] = []
-cells_text (f ∷ fs) (v ∷ vs) = codes " " ++ (f.name ++ (codes "=" ++ (cell_text v ++ cells_text fs vs)))
+cells_text (f ∷ fs) (v ∷ vs) =
+    codes " " ++ (f.name ++ (codes "=" ++ (cell_text v ++ cells_text fs vs)))
 
 -- `MODEL ID` and its fields
 abbrev pub record_line : Entity → PlainRow → List ℕ
-record_line model r = model.name ++ (codes " " ++ (decimal r.id ++ (cells_text model.fields r.cells ++ codes "\n")))
+record_line model r = model.name
+    ++ (codes " " ++ (decimal r.id ++ (cells_text model.fields r.cells ++ codes "\n")))
 
 abbrev pub table_text : Entity → List PlainRow → List ℕ
 table_text model [] = []
@@ -75,40 +77,51 @@ abbrev pub IsDumpOf : Application → (ℕ → Bool) → KeeperSeen → List ℕ
 IsDumpOf app w k text = IsTrue k.tells → text ≡ dump_text app (project_at w k.state)
 
 -- the text of what the store tells was put, or the front of it
-pub record IsPrinted (app : Application) (w : ℕ → Bool) (out : Span SinkSeen) (k : KeeperSeen) (result : Result (Unit {0}) Ending) (put : List ℕ) : Type 0 where
+pub record IsPrinted (app : Application) (w : ℕ → Bool) (out : Span SinkSeen) (k : KeeperSeen)
+    (result : Result (Unit {0}) Ending) (put : List ℕ) : Type 0 where
   pub text : List ℕ
   pub told : IsDumpOf app w k text
   pub puts : PutsText out text result put
 
--- an attached store was read: nothing was put where that failed or memory ran out, and else its text
-abbrev pub EndsRead : Application → (ℕ → Bool) → Span SinkSeen → Span KeeperSeen → Result (Unit {0}) Ending → List ℕ → Type 0
+-- an attached store was read: nothing was put where that failed or memory ran out, and else its
+-- text
+abbrev pub EndsRead : Application → (ℕ → Bool) → Span SinkSeen → Span KeeperSeen
+    → Result (Unit {0}) Ending → List ℕ → Type 0
 EndsRead app w out k (Err endings.StoreFault) put = (put ≡ []) × Rose k.before.faults k.after.faults
 EndsRead app w out k (Err endings.Memory) put = put ≡ []
 EndsRead app w out k result put = IsPrinted app w out k.after result put
 
 -- a store was attached and read, which left it as it was
-pub record IsDumped (db : Option (List ℕ)) (app : Application) (w : ℕ → Bool) (out : Span SinkSeen) (k : Span KeeperSeen) (result : Result (Unit {0}) Ending) (put : List ℕ) : Type 0 where
+pub record IsDumped (db : Option (List ℕ)) (app : Application) (w : ℕ → Bool) (out : Span SinkSeen)
+    (k : Span KeeperSeen) (result : Result (Unit {0}) Ending) (put : List ℕ) : Type 0 where
   pub opened : KeeperSeen
   pub attached : IsAttached db app k opened
   pub left : IsLeft opened k.after
   pub ends : EndsRead app w out (span opened k.after) result put
 
 -- how the steps from the attaching on end
-abbrev pub EndsDumping : Option (List ℕ) → Application → (ℕ → Bool) → Span SinkSeen → Span KeeperSeen → Result (Unit {0}) Ending → List ℕ → Type 0
+abbrev pub EndsDumping : Option (List ℕ) → Application → (ℕ → Bool) → Span SinkSeen
+    → Span KeeperSeen → Result (Unit {0}) Ending → List ℕ → Type 0
 EndsDumping db app w out k (Err endings.StoreFault) put =
-    Rose k.before.faults k.after.faults × (IsUnattached k put [] ⊎ IsDumped db app w out k (Err endings.StoreFault) put)
-EndsDumping db app w out k (Err (endings.OtherStore stored wanted)) put = (wanted ≡ schema_text app) × IsOther k stored wanted × IsUnattached k put []
-EndsDumping db app w out k (Err endings.Memory) put = IsUnattached k put [] ⊎ IsDumped db app w out k (Err endings.Memory) put
+    Rose k.before.faults k.after.faults
+    × (IsUnattached k put [] ⊎ IsDumped db app w out k (Err endings.StoreFault) put)
+EndsDumping db app w out k (Err (endings.OtherStore stored wanted)) put = (wanted ≡ schema_text app)
+    × IsOther k stored wanted × IsUnattached k put []
+EndsDumping db app w out k (Err endings.Memory) put = IsUnattached k put []
+    ⊎ IsDumped db app w out k (Err endings.Memory) put
 EndsDumping db app w out k result put = IsDumped db app w out k result put
 
 -- the application was read, and its store was dumped; the audit was left alone
-pub record IsDumping (seen : Sight) (command : Command) (result : Result (Unit {0}) Ending) (out_bytes audit_bytes : List ℕ) : Type 0 where
+pub record IsDumping (seen : Sight) (command : Command) (result : Result (Unit {0}) Ending)
+    (out_bytes audit_bytes : List ℕ) : Type 0 where
   pub app : Application
   pub application : HasApplication seen command app
   pub no_audit : audit_bytes ≡ []
   pub unaimed : IsTrue seen.audit.after.tells → seen.audit.after.aims ≡ seen.audit.before.aims
-  pub ends : EndsDumping (db_of command) app (shown (labels_in command)) seen.out seen.keeper result out_bytes
+  pub ends : EndsDumping (db_of command) app (shown (labels_in command)) seen.out seen.keeper result
+      out_bytes
 
 -- what the steps of a dump put, and why they ended
 abbrev pub EndsDump : Sight → Command → Result (Unit {0}) Ending → List ℕ → List ℕ → Type 0
-EndsDump seen command result out audit = IsEndedEarly seen command result out audit ⊎ IsDumping seen command result out audit
+EndsDump seen command result out audit = IsEndedEarly seen command result out audit
+    ⊎ IsDumping seen command result out audit

@@ -91,7 +91,8 @@ pub record IsAnswered (app : Application) (viewer : Option ℕ) (out : Span Sink
   pub explains : IsTrue k.tells → IsExplanation app viewer k.state text
   pub puts : PutsText out text result put
 
--- an attached store was read: nothing was put where that failed or memory ran out, and else its text
+-- an attached store was read: nothing was put where that failed or memory ran out, and else its
+-- text
 abbrev pub EndsExplained : Application → Option ℕ → Span SinkSeen → Span KeeperSeen
     → Result (Unit {0}) Ending → List ℕ → Type 0
 EndsExplained app viewer out k result put =
@@ -120,7 +121,8 @@ pub record IsExplaining (seen : Sight) (command : Command) (result : Result (Uni
   pub no_audit : audit_bytes ≡ []
   pub unaimed : IsTrue seen.audit.after.tells → seen.audit.after.aims ≡ seen.audit.before.aims
   pub ends :
-      EndsExplaining (db_of command) app (asker_in command app) seen.out seen.keeper result out_bytes
+      EndsExplaining (db_of command) app (asker_in command app) seen.out seen.keeper result
+      out_bytes
 
 -- what the steps of a `why` put, and why they ended
 abbrev pub EndsExplain : Sight → Command → Result (Unit {0}) Ending → List ℕ → List ℕ → Type 0

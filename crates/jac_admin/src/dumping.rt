@@ -30,8 +30,8 @@ use jac_words::{Dumping, Role};
 use jac_world::Assignment;
 use std::alloc::Global;
 
-/// The steps of a dump: the application, the store, and a line for each record as it looks where the labels are
-/// shown.
+/// The steps of a dump: the application, the store, and a line for each record as it looks where
+/// the labels are shown.
 pub fn dump<F: Files, O: Sink, U: AuditSink, K: Vault>(
     alloc: Global,
     command: &Dumping,
@@ -41,8 +41,10 @@ pub fn dump<F: Files, O: Sink, U: AuditSink, K: Vault>(
     vault: &mut K,
 ) -> Result<(), Ending>
     requires first { (K.seen vault.old).store.called ≡ false }
-    ensures { WentAimed (sinks (O.seen out.old) (O.seen out.new) (U.seen audit.old) (U.seen audit.new))
-        (EndsDump (sight (F.seen files.old) (F.seen files.new) (O.seen out.old) (O.seen out.new) (U.seen audit.old) (U.seen audit.new) (K.seen vault.old) (K.seen vault.new))
+    ensures { WentAimed (sinks (O.seen out.old) (O.seen out.new) (U.seen audit.old)
+        (U.seen audit.new))
+        (EndsDump (sight (F.seen files.old) (F.seen files.new) (O.seen out.old) (O.seen out.new)
+        (U.seen audit.old) (U.seen audit.new) (K.seen vault.old) (K.seen vault.new))
         (commands.Dump command.now) result) }
 {
     let bytes = match read_file(alloc, files, &command.app, Role::App) {
@@ -86,7 +88,9 @@ fn dump_store<O: Sink, K: Vault>(
     requires own { schema ≡ schema_text (application_of service.now) }
     requires schema { IsSchema schema (shapes_of (application_of service.now)) }
     ensures { Closed (span (O.seen out.old) (O.seen out.new))
-        (EndsDumping (option_copied db.entry) (application_of service.now) (shown assignment.now) (span (O.seen out.old) (O.seen out.new)) (span (K.seen vault.old) (K.seen vault.new)) result) }
+        (EndsDumping (option_copied db.entry) (application_of service.now) (shown assignment.now)
+        (span (O.seen out.old) (O.seen out.new)) (span (K.seen vault.old) (K.seen vault.new))
+        result) }
 {
     match attach(alloc, service, db, schema, vault) {
         Ok(()) => dump_attached(alloc, service, assignment, out, vault),
@@ -105,7 +109,9 @@ fn dump_attached<O: Sink, K: Vault>(
     requires attached { IsTrue (K.seen vault.old).store.attached }
     ensures left { IsLeft (K.seen vault.old) (K.seen vault.new) }
     ensures ends { Closed (span (O.seen out.old) (O.seen out.new))
-        (EndsRead (application_of service.now) (shown assignment.now) (span (O.seen out.old) (O.seen out.new)) (span (K.seen vault.old) (K.seen vault.new)) result) }
+        (EndsRead (application_of service.now) (shown assignment.now)
+        (span (O.seen out.old) (O.seen out.new)) (span (K.seen vault.old) (K.seen vault.new))
+        result) }
 {
     match state_text(alloc, service.app(), assignment, vault) {
         Ok(text) => match put(out, text.as_slice()) {
@@ -124,9 +130,12 @@ fn state_text<K: Vault>(
     vault: &mut K,
 ) -> Result<Bytes, Stop>
     requires attached { IsTrue (K.seen vault.old).store.attached }
-    ensures text { IsTrue (K.seen vault.new).tells → IfOk result (λ text. text ≡ dump_text (application_of app.now) (project_at (shown assignment.now) (K.seen vault.new).state)) }
+    ensures text { IsTrue (K.seen vault.new).tells
+        → IfOk result (λ text. text ≡ dump_text (application_of app.now)
+        (project_at (shown assignment.now) (K.seen vault.new).state)) }
     ensures left { IsLeft (K.seen vault.old) (K.seen vault.new) }
-    ensures rose { IsErrOf result Failing → Rose (K.seen vault.old).faults (K.seen vault.new).faults }
+    ensures rose { IsErrOf result Failing
+        → Rose (K.seen vault.old).faults (K.seen vault.new).faults }
 {
     let mut text = Vec::new(alloc);
     push_tables(alloc, &mut text, app.models.as_slice(), assignment, vault)?;
@@ -156,9 +165,12 @@ fn push_tables<K: Vault>(
 ) -> Result<(), Stop>
     requires few { length models.now ≤ 64 }
     requires attached { IsTrue (K.seen vault.old).store.attached }
-    ensures text { IsTrue (K.seen vault.new).tells → OnOk result (text.new.items ≡ text.old.items ++ tables_text (entities_of models.now) 0 (map (rows_at (shown assignment.now)) (K.seen vault.old).state.tables)) }
+    ensures text { IsTrue (K.seen vault.new).tells
+        → OnOk result (text.new.items ≡ text.old.items ++ tables_text (entities_of models.now) 0
+        (map (rows_at (shown assignment.now)) (K.seen vault.old).state.tables)) }
     ensures left { IsLeft (K.seen vault.old) (K.seen vault.new) }
-    ensures rose { IsErrOf result Failing → Rose (K.seen vault.old).faults (K.seen vault.new).faults }
+    ensures rose { IsErrOf result Failing
+        → Rose (K.seen vault.old).faults (K.seen vault.new).faults }
 {
     let mut place = 0;
     let mut left = models;
@@ -180,9 +192,12 @@ fn push_model<K: Vault>(
     vault: &mut K,
 ) -> Result<(), Stop>
     requires attached { IsTrue (K.seen vault.old).store.attached }
-    ensures text { IsTrue (K.seen vault.new).tells → OnOk result (text.new.items ≡ text.old.items ++ table_text (entity_of model.now) (rows_at (shown assignment.now) (rows_of (K.seen vault.old).state.tables place))) }
+    ensures text { IsTrue (K.seen vault.new).tells
+        → OnOk result (text.new.items ≡ text.old.items ++ table_text (entity_of model.now)
+        (rows_at (shown assignment.now) (rows_of (K.seen vault.old).state.tables place))) }
     ensures left { IsLeft (K.seen vault.old) (K.seen vault.new) }
-    ensures rose { IsErrOf result Failing → Rose (K.seen vault.old).faults (K.seen vault.new).faults }
+    ensures rose { IsErrOf result Failing
+        → Rose (K.seen vault.old).faults (K.seen vault.new).faults }
 {
     let rows = vault.rows(alloc, place)?;
     push_rows(alloc, text, model, rows.as_slice(), assignment)?;
@@ -197,7 +212,8 @@ fn push_rows(
     rows: &[Row],
     assignment: &Assignment,
 ) -> Result<(), Memory>
-    ensures { OnOk result (text.new.items ≡ text.old.items ++ table_text (entity_of model.now) (rows_at (shown assignment.now) rows.now)) }
+    ensures { OnOk result (text.new.items ≡ text.old.items ++ table_text (entity_of model.now)
+        (rows_at (shown assignment.now) rows.now)) }
 {
     'rows: for row in rows {
         push_row(alloc, text, model, row, assignment)?;
@@ -213,7 +229,9 @@ fn push_row(
     row: &Row,
     assignment: &Assignment,
 ) -> Result<(), Memory>
-    ensures { OnOk result (text.new.items ≡ text.old.items ++ (if holds (shown assignment.now) row.now.guard then record_line (entity_of model.now) (record { id = row.now.id; cells = row.now.cells }) else [])) }
+    ensures { OnOk result (text.new.items ≡ text.old.items
+        ++ (if holds (shown assignment.now) row.now.guard then record_line (entity_of model.now)
+        (record { id = row.now.id; cells = row.now.cells }) else [])) }
 {
     if row.guard.holds(assignment) {
         push_record(alloc, text, model, row)?;
@@ -222,7 +240,8 @@ fn push_row(
 }
 
 fn push_record(alloc: Global, text: &mut Vec<u8>, model: &ModelDef, row: &Row) -> Result<(), Memory>
-    ensures { OnOk result (text.new.items ≡ text.old.items ++ record_line (entity_of model.now) (record { id = row.now.id; cells = row.now.cells })) }
+    ensures { OnOk result (text.new.items ≡ text.old.items ++ record_line (entity_of model.now)
+        (record { id = row.now.id; cells = row.now.cells })) }
 {
     let mut buffer = Buffer::new();
     let digits = buffer.format(row.id.0);
@@ -257,7 +276,8 @@ fn push_cells(
 }
 
 fn push_field(alloc: Global, text: &mut Vec<u8>, field: &Field, value: &Value) -> Result<(), Memory>
-    ensures { OnOk result (text.new.items ≡ text.old.items ++ (codes " " ++ (field.now.name ++ (codes "=" ++ cell_text value.now)))) }
+    ensures { OnOk result (text.new.items ≡ text.old.items
+        ++ (codes " " ++ (field.now.name ++ (codes "=" ++ cell_text value.now)))) }
 {
     text.extend_from_slice(b" ")?;
     text.extend_from_slice(field.name.as_bytes())?;

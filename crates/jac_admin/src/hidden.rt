@@ -34,9 +34,9 @@ use jac_world::{Assignment, Label, Steps};
 use std::alloc::Global;
 use std::sync::ledger::Ledger;
 
-/// The steps of a `why`: the application, the store, the labels that the viewer is shown, and a line
-/// for each other live label, with what stands against it. Each of these answers is tested once more
-/// before its line is made.
+/// The steps of a `why`: the application, the store, the labels that the viewer is shown, and a
+/// line for each other live label, with what stands against it. Each of these answers is tested
+/// once more before its line is made.
 pub fn explain<F: Files, O: Sink, U: AuditSink, K: Vault, M: Ledger>(
     alloc: Global,
     command: &Explaining,

@@ -9,10 +9,12 @@ use Rattle.jac_ending.specs.Ending.{PutsText}
 
 -- `ok M models, V views`, and how many there are
 abbrev pub checked_text : Application → List ℕ
-checked_text app = codes "ok " ++ decimal (length app.models) ++ codes " models, " ++ decimal (length app.views) ++ codes " views\n"
+checked_text app = codes "ok " ++ decimal (length app.models) ++ codes " models, " ++ decimal
+    (length app.views) ++ codes " views\n"
 
 -- the application was read, and its counts were put
-pub record PutsChecked (seen : Sight) (command : Command) (result : Result (Unit {0}) Ending) (out audit : List ℕ) : Type 0 where
+pub record PutsChecked (seen : Sight) (command : Command) (result : Result (Unit {0}) Ending)
+    (out audit : List ℕ) : Type 0 where
   pub app : Application
   pub application : HasApplication seen command app
   pub text : PutsText seen.out (checked_text app) result out
@@ -20,4 +22,5 @@ pub record PutsChecked (seen : Sight) (command : Command) (result : Result (Unit
 
 -- what the steps of a check put, and why they ended
 abbrev pub EndsCheck : Sight → Command → Result (Unit {0}) Ending → List ℕ → List ℕ → Type 0
-EndsCheck seen command result out audit = IsEndedEarly seen command result out audit ⊎ PutsChecked seen command result out audit
+EndsCheck seen command result out audit = IsEndedEarly seen command result out audit
+    ⊎ PutsChecked seen command result out audit

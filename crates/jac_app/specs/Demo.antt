@@ -38,7 +38,8 @@ use Rattle.jac_serving.specs.Serve.{IsServed}
 -- how many entries are of requests by this method
 abbrev pub asks_by : List ℕ → List Entry → ℕ
 asks_by method [] = 0
-asks_by method (entry ∷ log) = (if bytes_eq (method_of entry.subject) method then 1 else 0) + asks_by method log
+asks_by method (entry ∷ log) = (if bytes_eq (method_of entry.subject) method then 1 else 0)
+    + asks_by method log
 
 -- how many bytes their bodies have
 abbrev pub bytes_in : List Entry → ℕ
@@ -53,7 +54,8 @@ labels_shown (Some labels) = length labels
 -- how many labels the audit lines of the pages of GET name
 abbrev pub labels_in : List Entry → ℕ
 labels_in [] = 0
-labels_in (entry ∷ log) = (if bytes_eq (method_of entry.subject) (codes "GET") then labels_shown entry.answer.shown else 0) + labels_in log
+labels_in (entry ∷ log) = (if bytes_eq (method_of entry.subject) (codes "GET")
+    then labels_shown entry.answer.shown else 0) + labels_in log
 
 -- a log in numbers
 abbrev pub summary_of : List Entry → Summary
@@ -88,16 +90,20 @@ pub record IsBounded (summary : Summary) : Type 0 where
 
 -- `asks N posts P gets G bytes B labels L`
 abbrev pub counts_text : Summary → List ℕ
-counts_text summary = codes "asks " ++ decimal summary.asks ++ codes " posts " ++ decimal summary.posts ++ codes " gets "
+counts_text summary = codes "asks " ++ decimal summary.asks ++ codes " posts " ++ decimal
+    summary.posts ++ codes " gets "
 
 abbrev pub sizes_text : Summary → List ℕ
-sizes_text summary = decimal summary.gets ++ codes " bytes " ++ decimal summary.bytes ++ codes " labels " ++ decimal summary.labels
+sizes_text summary = decimal summary.gets ++ codes " bytes " ++ decimal summary.bytes
+    ++ codes " labels " ++ decimal summary.labels
 
 abbrev pub summary_line : Summary → List ℕ
 summary_line summary = counts_text summary ++ sizes_text summary ++ codes "\n"
 
--- a request was answered and its answer stored; this follows the number of its audit line, and this is counted of it
-pub record IsCounted (app : Application) (k : Span Holding) (ask : Ask) (audit : List ℕ) (tally : Tally) : Type 0 where
+-- a request was answered and its answer stored; this follows the number of its audit line, and this
+-- is counted of it
+pub record IsCounted (app : Application) (k : Span Holding) (ask : Ask) (audit : List ℕ)
+    (tally : Tally) : Type 0 where
   pub reply : List ℕ
   pub made : IsAnswerMade false app k ways.Line ask reply audit
   pub tally_is : tally ≡ tally_of made.answer
@@ -110,42 +116,55 @@ PutsTally line tally (Err failed) put = IsFront put line
 -- the request of an `ask` line is answered, behind so many others, and its audit line is torn
 abbrev pub TearsAsk : Application → Span Holding → ℕ → Ask → List ℕ → Type 0
 TearsAsk app k served ask audit =
-    (answer : Answer) × IsEntryOf false app k (whole ask false) answer × IsFront audit (audit_text (served + 1) answer.status ask.viewer answer.shown answer.consulted)
+    (answer : Answer) × IsEntryOf false app k (whole ask false) answer
+    × IsFront audit (audit_text (served + 1) answer.status ask.viewer answer.shown
+    answer.consulted)
 
 -- or it is put whole, and this is counted
 abbrev pub TalliesAsk : Application → Span Holding → ℕ → Ask → Result Tally Failed → List ℕ → Type 0
 TalliesAsk app k served ask (Ok tally) audit =
-    (answer : Answer) × IsEntryOf false app k (whole ask false) answer × (audit ≡ audit_text (served + 1) answer.status ask.viewer answer.shown answer.consulted) × (tally ≡ tally_of answer)
+    (answer : Answer) × IsEntryOf false app k (whole ask false) answer
+    × (audit ≡ audit_text (served + 1) answer.status ask.viewer answer.shown answer.consulted)
+    × (tally ≡ tally_of answer)
 TalliesAsk app k served ask (Err failed) audit = TearsAsk app k served ask audit
 
 -- a request is answered and counted
-abbrev pub TalliesBy : Application → Span Holding → Summary → List ℕ → Ask → Result Summary DemoFault → List ℕ → Type 0
+abbrev pub TalliesBy : Application → Span Holding → Summary → List ℕ → Ask
+    → Result Summary DemoFault → List ℕ → Type 0
 TalliesBy app k summary method ask (Ok new) audit =
-    (tally : Tally) × TalliesAsk app k summary.asks ask (Ok tally) audit × (new ≡ counted summary method tally)
+    (tally : Tally) × TalliesAsk app k summary.asks ask (Ok tally) audit
+    × (new ≡ counted summary method tally)
 TalliesBy app k summary method ask (Err faults.Write) audit = TearsAsk app k summary.asks ask audit
 TalliesBy app k summary method ask (Err faults.Memory) audit = ⊥
 
-abbrev pub TalliesEvent : Application → Span Holding → Summary → Event → Result Summary DemoFault → List ℕ → Type 0
-TalliesEvent app k summary (Asking viewer method path query body) result audit = TalliesBy app k summary method (ask_in app viewer method path query body) result audit
+abbrev pub TalliesEvent : Application → Span Holding → Summary → Event → Result Summary DemoFault
+    → List ℕ → Type 0
+TalliesEvent app k summary (Asking viewer method path query body) result audit =
+    TalliesBy app k summary method (ask_in app viewer method path query body) result audit
 TalliesEvent app k summary (Begin c) result audit = ⊥
 TalliesEvent app k summary (Piece c bytes) result audit = ⊥
 TalliesEvent app k summary (Finish c) result audit = ⊥
 
 -- a line by what it writes down: nothing or a request, unless memory runs out
-abbrev pub TalliesLine : Application → Span Holding → Summary → Option (Option Event) → Result Summary DemoFault → List ℕ → Type 0
+abbrev pub TalliesLine : Application → Span Holding → Summary → Option (Option Event)
+    → Result Summary DemoFault → List ℕ → Type 0
 TalliesLine app k summary written (Err faults.Memory) audit = (audit ≡ []) × IsStill k
 TalliesLine app k summary None result audit = ⊥
-TalliesLine app k summary (Some None) result audit = (result ≡ Ok summary) × (audit ≡ []) × IsStill k
-TalliesLine app k summary (Some (Some event)) result audit = TalliesEvent app k summary event result audit
+TalliesLine app k summary (Some None) result audit = (result ≡ Ok summary) × (audit ≡ [])
+    × IsStill k
+TalliesLine app k summary (Some (Some event)) result audit = TalliesEvent app k summary event result
+    audit
 
 -- these events were served, or, where it may stop early, the first of them; the audit has the lines
 -- of the log
-pub record Tallied (early : Bool) (app : Application) (k : Span Holding) (events : List Event) (log : List Entry) (audit : List ℕ) : Type 0 where
+pub record Tallied (early : Bool) (app : Application) (k : Span Holding) (events : List Event)
+    (log : List Entry) (audit : List ℕ) : Type 0 where
   pub served : IsServed early (answering_of false app []) k events log
   pub audit_text : audit ≡ audited log
 
 -- the first events were served, and the audit line of the last of these was torn
-pub record TalliedTorn (app : Application) (k : Span Holding) (events : List Event) (audit : List ℕ) : Type 0 where
+pub record TalliedTorn (app : Application) (k : Span Holding) (events : List Event)
+    (audit : List ℕ) : Type 0 where
   pub log : List Entry
   pub entry : Entry
   pub more : List ℕ
@@ -154,10 +173,13 @@ pub record TalliedTorn (app : Application) (k : Span Holding) (events : List Eve
   pub audit_text : audit ≡ audited log ++ more
 
 -- how serving a script in silence ends
-abbrev pub Tallies : Application → Span Holding → Script → Result Summary DemoFault → List ℕ → Type 0
+abbrev pub Tallies : Application → Span Holding → Script → Result Summary DemoFault → List ℕ
+    → Type 0
 Tallies app k script (Ok summary) audit =
-    (script.refused ≡ None) × ((log : List Entry) × Tallied false app k script.events log audit × (summary ≡ summary_of log))
-Tallies app k script (Err faults.Memory) audit = (log : List Entry) × Tallied true app k script.events log audit
+    (script.refused ≡ None) × ((log : List Entry) × Tallied false app k script.events log audit
+    × (summary ≡ summary_of log))
+Tallies app k script (Err faults.Memory) audit = (log : List Entry)
+    × Tallied true app k script.events log audit
 Tallies app k script (Err faults.Write) audit = TalliedTorn app k script.events audit
 
 -- the generated requests, none of whose lines is refused
@@ -165,46 +187,57 @@ abbrev pub demo_script : ℕ → Script
 demo_script count = script_of (demo_text count)
 
 -- a store without a name was attached, and the requests were answered on what it keeps
-pub record IsTalliedOn (app : Application) (k : Span Holding) (count : ℕ) (result : Result Summary DemoFault) (audit : List ℕ) : Type 0 where
+pub record IsTalliedOn (app : Application) (k : Span Holding) (count : ℕ)
+    (result : Result Summary DemoFault) (audit : List ℕ) : Type 0 where
   pub opened : KeeperSeen
   pub attached : IsAttached None app (keepers k) opened
-  pub tallies : Tallies app (span (holding_of opened k.before.splits) k.after) (demo_script count) result audit
+  pub tallies : Tallies app (span (holding_of opened k.before.splits) k.after) (demo_script count)
+      result audit
 
 -- how the steps from the attaching on end
 abbrev pub EndsTallying : Application → Span Holding → ℕ → Result Summary Ending → List ℕ → Type 0
 EndsTallying app k count (Ok summary) audit = IsTalliedOn app k count (Ok summary) audit
-EndsTallying app k count (Err endings.WriteFault) audit = IsTalliedOn app k count (Err faults.Write) audit
-EndsTallying app k count (Err endings.Memory) audit = IsUnstarted k [] audit ⊎ IsTalliedOn app k count (Err faults.Memory) audit
-EndsTallying app k count (Err endings.StoreFault) audit = Rose k.before.keeper.faults k.after.keeper.faults × IsUnstarted k [] audit
+EndsTallying app k count (Err endings.WriteFault) audit = IsTalliedOn app k count (Err faults.Write)
+    audit
+EndsTallying app k count (Err endings.Memory) audit = IsUnstarted k [] audit
+    ⊎ IsTalliedOn app k count (Err faults.Memory) audit
+EndsTallying app k count (Err endings.StoreFault) audit = Rose k.before.keeper.faults
+    k.after.keeper.faults × IsUnstarted k [] audit
 EndsTallying app k count (Err (endings.OtherStore stored wanted)) audit =
     (wanted ≡ schema_text app) × IsOther (keepers k) stored wanted × IsUnstarted k [] audit
 EndsTallying app k count (Err ending) audit = ⊥
 
--- the line of the summary is put, or the front of it where that put fails; no line where there is no summary
-abbrev pub PutsSummary : Span SinkSeen → Result Summary Ending → Result (Unit {0}) Ending → List ℕ → Type 0
+-- the line of the summary is put, or the front of it where that put fails; no line where there is
+-- no summary
+abbrev pub PutsSummary : Span SinkSeen → Result Summary Ending → Result (Unit {0}) Ending → List ℕ
+    → Type 0
 PutsSummary out (Ok summary) result put = PutsText out (summary_line summary) result put
 PutsSummary out (Err ending) result put = (result ≡ Err ending) × (put ≡ [])
 
 -- the requests were counted, and their summary is told
-pub record IsTold (s : Sinks) (app : Application) (k : Span Holding) (count : ℕ) (result : Result (Unit {0}) Ending) (out audit : List ℕ) : Type 0 where
+pub record IsTold (s : Sinks) (app : Application) (k : Span Holding) (count : ℕ)
+    (result : Result (Unit {0}) Ending) (out audit : List ℕ) : Type 0 where
   pub ended : Result Summary Ending
   pub ends : EndsTallying app k count ended audit
   pub rose : ended ≡ Err endings.WriteFault → Rose s.audit.before.faults s.audit.after.faults
   pub told : PutsSummary s.out ended result out
 
 -- the audit's aim failed
-pub record IsUnaimed (s : Sinks) (k : Span Holding) (result : Result (Unit {0}) Ending) (out audit : List ℕ) : Type 0 where
+pub record IsUnaimed (s : Sinks) (k : Span Holding) (result : Result (Unit {0}) Ending)
+    (out audit : List ℕ) : Type 0 where
   pub fault : result ≡ Err endings.WriteFault
   pub rose : Rose s.audit.before.faults s.audit.after.faults
   pub untouched : IsLeftAlone s.audit k out audit
 
 -- how the steps from the audit's aim on end
-abbrev pub EndsCounting : Sinks → Application → Span Holding → ℕ → Result (Unit {0}) Ending → List ℕ → List ℕ → Type 0
+abbrev pub EndsCounting : Sinks → Application → Span Holding → ℕ → Result (Unit {0}) Ending → List ℕ
+    → List ℕ → Type 0
 EndsCounting s app k count result out audit =
     IsUnaimed s k result out audit ⊎ (IsAimed None s.audit × IsTold s app k count result out audit)
 
 -- the calendar was read, and the requests were answered
-pub record IsDemo (s : Sinks) (k : Span Holding) (count : ℕ) (result : Result (Unit {0}) Ending) (out audit : List ℕ) : Type 0 where
+pub record IsDemo (s : Sinks) (k : Span Holding) (count : ℕ) (result : Result (Unit {0}) Ending)
+    (out audit : List ℕ) : Type 0 where
   pub app : Application
   pub calendar : IsApplication calendar_text app
   pub ends : EndsCounting s app k count result out audit
@@ -212,8 +245,10 @@ pub record IsDemo (s : Sinks) (k : Span Holding) (count : ℕ) (result : Result 
 -- the calendar wasn't read, or memory ran out before the audit was aimed
 abbrev pub IsUncounted : Sinks → Span Holding → Result (Unit {0}) Ending → List ℕ → List ℕ → Type 0
 IsUncounted s k (Ok done) out audit = ⊥
-IsUncounted s k (Err ending) out audit = IsUnopened calendar_text ending × IsLeftAlone s.audit k out audit
+IsUncounted s k (Err ending) out audit = IsUnopened calendar_text ending
+    × IsLeftAlone s.audit k out audit
 
 -- what the steps of a demo put, and why they ended
 abbrev pub EndsDemo : Sinks → Span Holding → ℕ → Result (Unit {0}) Ending → List ℕ → List ℕ → Type 0
-EndsDemo s k count result out audit = IsUncounted s k result out audit ⊎ IsDemo s k count result out audit
+EndsDemo s k count result out audit = IsUncounted s k result out audit
+    ⊎ IsDemo s k count result out audit

@@ -72,7 +72,8 @@ pub record IsServing (seen : Sight) (splits : Span ℕ) (command : Command)
   pub sessions : List Session
   pub events : List ℕ
   pub opened : IsOpened seen command app sessions events
-  pub ends : EndsServing (sinks_of seen) command app sessions (held_of seen splits) (script_of events)
+  pub ends : EndsServing (sinks_of seen) command app sessions (held_of seen splits)
+      (script_of events)
       result out audit
 
 -- what the steps of a replay put, and why they ended

@@ -41,14 +41,15 @@ use Rattle.jac_app.specs.Replay.{EndsReplay}
 use Rattle.jac_app.specs.Server.{EndsServer}
 
 abbrev pub usage_line : List ℕ
-usage_line = codes "usage: jac check APP, replay APP EVENTS, serve APP PORT COUNT, demo N, dump APP LABELS, upgrade OLD NEW, why APP VIEWER; options --db FILE --sessions FILE --audit FILE --lazy\n"
+usage_line = codes
+    "usage: jac check APP, replay APP EVENTS, serve APP PORT COUNT, demo N, dump APP LABELS, upgrade OLD NEW, why APP VIEWER; options --db FILE --sessions FILE --audit FILE --lazy\n"
 
 -- the door wasn't called
 abbrev pub IsUncalled : {L : Type 0} → Span (DoorSeen L) → Type 0
 IsUncalled door = door.after ≡ door.before
 
--- what the steps of a command put, and why they ended; those of `serve` alone call the door, and a check, a dump and a
--- `why` split no facet
+-- what the steps of a command put, and why they ended; those of `serve` alone call the door, and a
+-- check, a dump and a `why` split no facet
 abbrev pub Ends : {L : Type 0} → (L → LinkSeen) → Sight → Span (DoorSeen L) → Span ℕ → Command
     → Result (Unit {0}) Ending → List ℕ → List ℕ → Type 0
 Ends line seen door splits (commands.Check app) result out audit =
@@ -66,8 +67,8 @@ Ends line seen door splits (commands.Upgrade upgrading) result out audit =
 Ends line seen door splits (commands.Why explaining) result out audit =
     EndsExplain seen (commands.Why explaining) result out audit × IsUncalled door × IsStill splits
 
--- the words are a command whose steps were run until out stood so, and then the line of its status was put: what fails
--- of that line is no cause of how the steps ended
+-- the words are a command whose steps were run until out stood so, and then the line of its status
+-- was put: what fails of that line is no cause of how the steps ended
 pub record RunsCommand {L : Type 0} (line : L → LinkSeen) (seen : Sight) (door : Span (DoorSeen L))
     (splits : Span ℕ) (words : List (List ℕ)) (status : Status) (out audit : List ℕ) : Type 0 where
   pub command : Command
@@ -110,7 +111,8 @@ Runs line seen door splits words status out audit =
 abbrev pub CanHaveSessions : FilesSeen → Option (List ℕ) → Type 0
 CanHaveSessions files None = ⊤
 CanHaveSessions files (Some name) =
-    (bytes : List ℕ) × (sessions : List Session) × (files.file name ≡ Some bytes) × (length bytes ≤ 1048576) × (sessions_in bytes ≡ Ok sessions)
+    (bytes : List ℕ) × (sessions : List Session) × (files.file name ≡ Some bytes)
+    × (length bytes ≤ 1048576) × (sessions_in bytes ≡ Ok sessions)
 
 -- the application's file is there, and spells one
 pub record CanOpen (seen : Sight) (command : Command) (app : Application) : Type 0 where
@@ -134,7 +136,8 @@ pub record CanReplay (seen : Sight) (words : List (List ℕ)) : Type 0 where
   pub forms : (script_of events).refused ≡ None
 
 -- the same of serving a door, of which no call fails
-pub record CanServe {L : Type 0} (seen : Sight) (door : Span (DoorSeen L)) (words : List (List ℕ)) : Type 0 where
+pub record CanServe {L : Type 0} (seen : Sight) (door : Span (DoorSeen L)) (words : List (List ℕ)) :
+    Type 0 where
   pub serving : Serving
   pub app : Application
   pub is_command : command_of words ≡ Some (commands.Serve serving)
@@ -177,7 +180,8 @@ pub record CanUpgrade (seen : Sight) (words : List (List ℕ)) : Type 0 where
 -- whether the application that the second file spells extends the one that the first spells
 abbrev pub Extends : (seen : Sight) (words : List (List ℕ)) → CanUpgrade seen words → Bool → Type 0
 Extends seen words can extends =
-    (old new : Application) → IsApplication can.opens.bytes old → IsApplication can.next_bytes new → is_none (models_lack 0 old.models new.models) ≡ extends
+    (old new : Application) → IsApplication can.opens.bytes old → IsApplication can.next_bytes new
+    → is_none (models_lack 0 old.models new.models) ≡ extends
 
 -- no put of a demo fails
 pub record CanDemo (seen : Sight) (words : List (List ℕ)) : Type 0 where
@@ -185,11 +189,13 @@ pub record CanDemo (seen : Sight) (words : List (List ℕ)) : Type 0 where
   pub is_command : command_of words ≡ Some (commands.Demo count)
   pub no_write_fault : AWriteFailed (sinks_of seen) → ⊥
 
--- the bytes that a command reads an application in: those of its file, of either file of an upgrade, or the calendar's
+-- the bytes that a command reads an application in: those of its file, of either file of an
+-- upgrade, or the calendar's
 abbrev pub IsSource : Sight → Command → List ℕ → Type 0
 IsSource seen (commands.Demo n) bytes = bytes ≡ calendar_text
 IsSource seen (commands.Upgrade upgrading) bytes =
-    IsRead seen (commands.Upgrade upgrading) roles.App bytes ⊎ IsRead seen (commands.Upgrade upgrading) roles.New bytes
+    IsRead seen (commands.Upgrade upgrading) roles.App bytes
+    ⊎ IsRead seen (commands.Upgrade upgrading) roles.New bytes
 IsSource seen command bytes = IsRead seen command roles.App bytes
 
 -- the application that they spell
@@ -203,28 +209,36 @@ ComesFor seen door words statuses.Done = (command : Command) × (command_of word
 ComesFor seen door words statuses.Usage = command_of words ≡ None
 ComesFor seen door words statuses.AppRefused =
     (command : Command) × (command_of words ≡ Some command)
-    × ((bytes : List ℕ) × IsSource seen command bytes × ((app : Application) → IsApplication bytes app → ⊥))
+    × ((bytes : List ℕ) × IsSource seen command bytes
+    × ((app : Application) → IsApplication bytes app → ⊥))
 ComesFor seen door words statuses.LineRefused =
     (command : Command) × (command_of words ≡ Some command)
-    × (((app : Application) × (sessions : List Session) × (events : List ℕ) × IsOpened seen command app sessions events × ((lapse : Lapse) × ((script_of events).refused ≡ Some lapse)))
-    ⊎ (((app : Application) × HasApplication seen command app) × ((line : ℕ) × HasBadLine seen.files (file_of command roles.Sessions) line)))
+    × (((app : Application) × (sessions : List Session) × (events : List ℕ)
+    × IsOpened seen command app sessions events
+    × ((lapse : Lapse) × ((script_of events).refused ≡ Some lapse)))
+    ⊎ (((app : Application) × HasApplication seen command app)
+    × ((line : ℕ) × HasBadLine seen.files (file_of command roles.Sessions) line)))
 ComesFor seen door words statuses.ReadFault = Rose seen.files.before.faults seen.files.after.faults
 ComesFor seen door words statuses.WriteFault = AWriteFailed (sinks_of seen)
-ComesFor seen door words statuses.StoreFault = Rose seen.keeper.before.faults seen.keeper.after.faults
+ComesFor seen door words statuses.StoreFault = Rose seen.keeper.before.faults
+    seen.keeper.after.faults
 ComesFor seen door words statuses.DoorFault = Rose door.before.faults door.after.faults
 ComesFor seen door words statuses.OtherStore =
     (command : Command) × (command_of words ≡ Some command)
-    × ((app : Application) × Sources seen command app × ((stored : List ℕ) × IsOther seen.keeper stored (schema_text app)))
+    × ((app : Application) × Sources seen command app
+    × ((stored : List ℕ) × IsOther seen.keeper stored (schema_text app)))
 ComesFor seen door words statuses.UpgradeRefused =
     (upgrading : Upgrading) × (command_of words ≡ Some (commands.Upgrade upgrading))
     × ((old : Application) × HasApplication seen (commands.Upgrade upgrading) old
-    × ((new : Application) × HasNext seen (commands.Upgrade upgrading) new × ((fault : UpgradeFault) × (models_lack 0 old.models new.models ≡ Some fault))))
+    × ((new : Application) × HasNext seen (commands.Upgrade upgrading) new
+    × ((fault : UpgradeFault) × (models_lack 0 old.models new.models ≡ Some fault))))
 ComesFor seen door words statuses.Memory = ⊤
 ComesFor seen door words statuses.TooLong =
-    (command : Command) × (command_of words ≡ Some command) × ((role : Role) × IsReached seen command role × IsLong seen command role)
+    (command : Command) × (command_of words ≡ Some command)
+    × ((role : Role) × IsReached seen command role × IsLong seen command role)
 
--- no call of a keeper that tells fails, and what it stored has the schema of the application that the command reads, or
--- the store is new
+-- no call of a keeper that tells fails, and what it stored has the schema of the application that
+-- the command reads, or the store is new
 pub record CanAttach (seen : Sight) (words : List (List ℕ)) : Type 0 where
   pub told : IsTrue seen.keeper.after.tells
   pub no_fault : Rose seen.keeper.before.faults seen.keeper.after.faults → ⊥
@@ -235,12 +249,14 @@ pub record CanAttach (seen : Sight) (words : List (List ℕ)) : Type 0 where
 
 -- all was served, or memory ran out, or the store failed or has another schema
 abbrev pub IsCompleted : Status → Type 0
-IsCompleted status = (status ≡ statuses.Done) ⊎ (status ≡ statuses.Memory) ⊎ (status ≡ statuses.StoreFault) ⊎ (status ≡ statuses.OtherStore)
+IsCompleted status = (status ≡ statuses.Done) ⊎ (status ≡ statuses.Memory)
+    ⊎ (status ≡ statuses.StoreFault) ⊎ (status ≡ statuses.OtherStore)
 
--- a run: what was put on both sinks is what the command's steps put, by the status, and what the keeper keeps
--- at the end shows under every assignment the world that the ordinary interpreter leaves; a door that tells told
--- before, and its count didn't fall; the status has its cause; and where nothing is missing and nothing fails, all is
--- done, unless memory runs out. So many facets were split before and after
+-- a run: what was put on both sinks is what the command's steps put, by the status, and what the
+-- keeper keeps at the end shows under every assignment the world that the ordinary interpreter
+-- leaves; a door that tells told before, and its count didn't fall; the status has its cause; and
+-- where nothing is missing and nothing fails, all is done, unless memory runs out. So many facets
+-- were split before and after
 pub record IsRun {L : Type 0} (line : L → LinkSeen) (seen : Sight) (door : Span (DoorSeen L))
     (splits : Span ℕ) (words : List (List ℕ)) (status : Status) : Type 0 where
   pub ran : WentAimed (sinks_of seen) (Runs line seen door splits words status)
@@ -251,7 +267,8 @@ pub record IsRun {L : Type 0} (line : L → LinkSeen) (seen : Sight) (door : Spa
   pub dumps : CanDump seen words → IsCompleted status
   pub explains : CanExplain seen words → IsCompleted status
   pub upgrades : (can : CanUpgrade seen words) → Extends seen words can true → IsCompleted status
-  pub refuses : (can : CanUpgrade seen words) → Extends seen words can false → (status ≡ statuses.UpgradeRefused) ⊎ (status ≡ statuses.Memory)
+  pub refuses : (can : CanUpgrade seen words) → Extends seen words can false
+      → (status ≡ statuses.UpgradeRefused) ⊎ (status ≡ statuses.Memory)
   pub demos : CanDemo seen words → IsCompleted status
   pub checks : CanCheck seen words → (status ≡ statuses.Done) ⊎ (status ≡ statuses.Memory)
   -- and then it isn't the store that ends it, where that can be attached

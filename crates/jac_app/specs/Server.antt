@@ -25,7 +25,8 @@ use Rattle.jac_links.specs.Door.{AreLinksServed}
 
 -- `served C connections, K replies`
 abbrev pub served_line : Tally → List ℕ
-served_line tally = codes "served " ++ decimal tally.connections ++ codes " connections, " ++ decimal tally.replies ++ codes " replies\n"
+served_line tally = codes "served " ++ decimal tally.connections ++ codes " connections, "
+    ++ decimal tally.replies ++ codes " replies\n"
 
 -- why serving a door that halted ends the command
 abbrev pub halted : DoorHalt → Ending
@@ -59,7 +60,8 @@ pub record IsListenedAt {L : Type 0} (line : L → LinkSeen) (app : Application)
       result s out audit
 
 -- a door listens where it did, no link of it was served, and nothing was put
-pub record IsUnheard {L : Type 0} (door : Span (DoorSeen L)) (k : Span Holding) (out audit : List ℕ) : Type 0 where
+pub record IsUnheard {L : Type 0} (door : Span (DoorSeen L)) (k : Span Holding)
+    (out audit : List ℕ) : Type 0 where
   pub same_port : IsTrue door.after.tells → door.after.port ≡ door.before.port
   pub same_coming : IsTrue door.after.tells → door.after.coming ≡ door.before.coming
   pub same_returned : IsTrue door.after.tells → door.after.returned ≡ door.before.returned

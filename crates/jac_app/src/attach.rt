@@ -14,7 +14,8 @@ use jac_opening::Service;
 use jac_value::Txt;
 use std::alloc::Global;
 
-/// Attaches the store of this name for the application, whose schema this is, so that its requests may be answered.
+/// Attaches the store of this name for the application, whose schema this is, so that its requests
+/// may be answered.
 pub fn attach<K: Vault>(
     alloc: Global,
     service: &Service,
@@ -25,9 +26,11 @@ pub fn attach<K: Vault>(
     requires first { (K.seen vault.old).store.called ≡ false }
     requires own { schema ≡ schema_text (application_of service.now) }
     requires schema { IsSchema schema (shapes_of (application_of service.now)) }
-    ensures attaches { AttachesAs (option_copied db.entry) (application_of service.now) (span (K.seen vault.old) (K.seen vault.new)) result }
+    ensures attaches { AttachesAs (option_copied db.entry) (application_of service.now)
+        (span (K.seen vault.old) (K.seen vault.new)) result }
     ensures attached { OnOk result (IsTrue (K.seen vault.new).store.attached) }
-    ensures start { IsTrue (K.seen vault.new).tells → OnOk result (IsStart (application_of service.now) (K.seen vault.new).state) }
+    ensures start { IsTrue (K.seen vault.new).tells
+        → OnOk result (IsStart (application_of service.now) (K.seen vault.new).state) }
 {
     jac_ending::attach(alloc, service, db, schema, vault)
 }

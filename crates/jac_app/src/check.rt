@@ -25,8 +25,10 @@ pub fn check<F: Files, O: Sink, U: AuditSink, K: Keeper>(
     audit: &mut U,
     vault: &mut K,
 ) -> Result<(), Ending>
-    ensures { WentAimed (sinks (O.seen out.old) (O.seen out.new) (U.seen audit.old) (U.seen audit.new))
-        (EndsCheck (sight (F.seen files.old) (F.seen files.new) (O.seen out.old) (O.seen out.new) (U.seen audit.old) (U.seen audit.new) (K.seen vault.old) (K.seen vault.new))
+    ensures { WentAimed (sinks (O.seen out.old) (O.seen out.new) (U.seen audit.old)
+        (U.seen audit.new))
+        (EndsCheck (sight (F.seen files.old) (F.seen files.new) (O.seen out.old) (O.seen out.new)
+        (U.seen audit.old) (U.seen audit.new) (K.seen vault.old) (K.seen vault.new))
         (commands.Check name.now) result) }
 {
     let bytes = match read_file(alloc, files, name, Role::App) {
@@ -44,7 +46,8 @@ pub fn check<F: Files, O: Sink, U: AuditSink, K: Keeper>(
 }
 
 fn put_counts<O: Sink>(out: &mut O, service: &Service) -> Result<(), Failed>
-    ensures { IsPut (span (O.seen out.old) (O.seen out.new)) (checked_text (application_of service.now)) result }
+    ensures { IsPut (span (O.seen out.old) (O.seen out.new))
+        (checked_text (application_of service.now)) result }
 {
     let app = service.app();
     let mut models = Buffer::new();

@@ -57,7 +57,8 @@ struct Counted {
 }
 
 fn count_answer(alloc: Global, ask: &Ask, answer: &Answer) -> Result<Counted, Memory>
-    ensures audit { IfOk result (λ c. c.audit ≡ audit_rest answer.now.status ask.now.viewer answer.now.shown answer.now.consulted) }
+    ensures audit { IfOk result (λ c. c.audit ≡ audit_rest answer.now.status ask.now.viewer
+        answer.now.shown answer.now.consulted) }
     ensures tally { IfOk result (λ c. c.tally ≡ tally_of answer.now) }
 {
     let audit = audit_rest(
@@ -71,8 +72,8 @@ fn count_answer(alloc: Global, ask: &Ask, answer: &Answer) -> Result<Counted, Me
     Ok(Counted { audit, tally })
 }
 
-// Answers one request and stores what it leaves. What its audit line says is made before, so that nothing is stored
-// without it.
+// Answers one request and stores what it leaves. What its audit line says is made before, so that
+// nothing is stored without it.
 fn answer_counted<K: Keeper, L: Ledger, M: Ledger>(
     alloc: Global,
     service: &Service,
@@ -82,12 +83,15 @@ fn answer_counted<K: Keeper, L: Ledger, M: Ledger>(
     evaluations: &mut Steps<M>,
 ) -> Result<Counted, Stop>
     requires attached { IsTrue (K.seen keeper.old).store.attached }
-    requires start { IsTrue (K.seen keeper.old).tells → IsStart (application_of service.now) (K.seen keeper.old).state }
+    requires start { IsTrue (K.seen keeper.old).tells → IsStart (application_of service.now)
+        (K.seen keeper.old).state }
     ensures counted { IfOk result (λ c. IsCounted (application_of service.now) (span (holding_of
         (K.seen keeper.old) splits.old) (holding_of
         (K.seen keeper.new) splits.new)) ask.now c.audit c.tally) }
-    ensures reading { stores (application_of service.now) ask.now ≡ false → splits.new ≡ splits.old }
-    ensures refused { IsTrue (K.seen keeper.new).tells → OnErr result ((K.seen keeper.new).state ≡ (K.seen keeper.old).state) }
+    ensures reading { stores (application_of service.now) ask.now ≡ false
+        → splits.new ≡ splits.old }
+    ensures refused { IsTrue (K.seen keeper.new).tells
+        → OnErr result ((K.seen keeper.new).state ≡ (K.seen keeper.old).state) }
     ensures told { IsTrue (K.seen keeper.new).tells → IsTrue (K.seen keeper.old).tells }
     ensures cause { HasCause (K.seen keeper.old).faults (K.seen keeper.new).faults result }
     ensures attached { (K.seen keeper.new).store ≡ (K.seen keeper.old).store }
@@ -112,12 +116,16 @@ fn count_ask<K: Keeper, L: Ledger, M: Ledger>(
     evaluations: &mut Steps<M>,
 ) -> Result<Counted, Stop>
     requires attached { IsTrue (K.seen keeper.old).store.attached }
-    requires start { IsTrue (K.seen keeper.old).tells → IsStart (application_of service.now) (K.seen keeper.old).state }
+    requires start { IsTrue (K.seen keeper.old).tells → IsStart (application_of service.now)
+        (K.seen keeper.old).state }
     ensures counted { IfOk result (λ c. IsCounted (application_of service.now) (span (holding_of
         (K.seen keeper.old) splits.old) (holding_of (K.seen keeper.new) splits.new))
-        (ask_in (application_of service.now) viewer method.now path.now query.now body.now) c.audit c.tally) }
-    ensures reading { stores (application_of service.now) (ask_in (application_of service.now) viewer method.now path.now query.now body.now) ≡ false → splits.new ≡ splits.old }
-    ensures refused { IsTrue (K.seen keeper.new).tells → OnErr result ((K.seen keeper.new).state ≡ (K.seen keeper.old).state) }
+        (ask_in (application_of service.now) viewer method.now path.now query.now body.now) c.audit
+        c.tally) }
+    ensures reading { stores (application_of service.now) (ask_in (application_of service.now)
+        viewer method.now path.now query.now body.now) ≡ false → splits.new ≡ splits.old }
+    ensures refused { IsTrue (K.seen keeper.new).tells
+        → OnErr result ((K.seen keeper.new).state ≡ (K.seen keeper.old).state) }
     ensures told { IsTrue (K.seen keeper.new).tells → IsTrue (K.seen keeper.old).tells }
     ensures cause { HasCause (K.seen keeper.old).faults (K.seen keeper.new).faults result }
     ensures attached { (K.seen keeper.new).store ≡ (K.seen keeper.old).store }
@@ -134,7 +142,8 @@ fn put_counted<U: AuditSink>(
     rest: &[u8],
     tally: Tally,
 ) -> Result<Tally, Failed>
-    ensures put { WentTo (span (U.seen audit.old) (U.seen audit.new)) (PutsTally (decimal k ++ rest.now) tally result) }
+    ensures put { WentTo (span (U.seen audit.old) (U.seen audit.new))
+        (PutsTally (decimal k ++ rest.now) tally result) }
     ensures cause { OnErr result (Rose (U.seen audit.old).faults (U.seen audit.new).faults) }
 {
     match put_numbered(audit, k, rest) {
@@ -151,7 +160,8 @@ fn put_stopped<U: AuditSink>(
     viewer: Option<Id>,
 ) -> Result<Tally, Failed>
     ensures put { WentTo (span (U.seen audit.old) (U.seen audit.new))
-        (PutsTally (audit_text k (status_of_stop stop) viewer None None) (tally_of (refusal (status_of_stop stop) None)) result) }
+        (PutsTally (audit_text k (status_of_stop stop) viewer None None)
+        (tally_of (refusal (status_of_stop stop) None)) result) }
     ensures cause { OnErr result (Rose (U.seen audit.old).faults (U.seen audit.new).faults) }
 {
     match put_failed_audit(audit, k, fixed_of(stop), viewer) {
@@ -160,7 +170,8 @@ fn put_stopped<U: AuditSink>(
     }
 }
 
-// Answers the request of an `ask` line, of which so many were answered before, and puts its audit line.
+// Answers the request of an `ask` line, of which so many were answered before, and puts its audit
+// line.
 fn tally_ask<U: AuditSink, K: Keeper, L: Ledger, M: Ledger>(
     alloc: Global,
     service: &Service,
@@ -177,13 +188,15 @@ fn tally_ask<U: AuditSink, K: Keeper, L: Ledger, M: Ledger>(
 ) -> Result<Tally, Failed>
     requires few { served < 2 ^ 64 - 1 }
     requires attached { IsTrue (K.seen keeper.old).store.attached }
-    requires start { IsTrue (K.seen keeper.old).tells → IsStart (application_of service.now) (K.seen keeper.old).state }
+    requires start { IsTrue (K.seen keeper.old).tells → IsStart (application_of service.now)
+        (K.seen keeper.old).state }
     ensures answered { WentTo (span (U.seen audit.old) (U.seen audit.new))
         (TalliesAsk (application_of service.now) (span (holding_of (K.seen keeper.old) splits.old)
         (holding_of (K.seen keeper.new) splits.new)) served (ask_in
         (application_of service.now) viewer method.now path.now query.now body.now) result) }
     ensures cause { OnErr result (Rose (U.seen audit.old).faults (U.seen audit.new).faults) }
-    ensures start { IsTrue (K.seen keeper.new).tells → IsStart (application_of service.now) (K.seen keeper.new).state }
+    ensures start { IsTrue (K.seen keeper.new).tells → IsStart (application_of service.now)
+        (K.seen keeper.new).state }
     ensures attached { (K.seen keeper.new).store ≡ (K.seen keeper.old).store }
 {
     match count_ask(
@@ -218,14 +231,17 @@ fn tally_event<U: AuditSink, K: Keeper, L: Ledger, M: Ledger>(
     requires bounded { IsBounded summary }
     requires asking { IsAsking (Some (Some event.now)) }
     requires attached { IsTrue (K.seen keeper.old).store.attached }
-    requires start { IsTrue (K.seen keeper.old).tells → IsStart (application_of service.now) (K.seen keeper.old).state }
+    requires start { IsTrue (K.seen keeper.old).tells → IsStart (application_of service.now)
+        (K.seen keeper.old).state }
     ensures tallied { WentTo (span (U.seen audit.old) (U.seen audit.new))
         (TalliesEvent (application_of service.now) (span (holding_of (K.seen keeper.old) splits.old)
         (holding_of (K.seen keeper.new) splits.new)) summary event.now result) }
-    ensures cause { result ≡ Err DemoFault.Write → Rose (U.seen audit.old).faults (U.seen audit.new).faults }
+    ensures cause { result ≡ Err DemoFault.Write
+        → Rose (U.seen audit.old).faults (U.seen audit.new).faults }
     ensures bounded { IfOk result (λ more. IsBounded more) }
     ensures count { IfOk result (λ more. more.asks ≤ summary.asks + 1) }
-    ensures start { IsTrue (K.seen keeper.new).tells → IsStart (application_of service.now) (K.seen keeper.new).state }
+    ensures start { IsTrue (K.seen keeper.new).tells → IsStart (application_of service.now)
+        (K.seen keeper.new).state }
     ensures attached { (K.seen keeper.new).store ≡ (K.seen keeper.old).store }
 {
     match event {
@@ -271,14 +287,17 @@ fn tally_line<U: AuditSink, K: Keeper, L: Ledger, M: Ledger>(
     requires bounded { IsBounded summary }
     requires asking { IsAsking (line_of line.now) }
     requires attached { IsTrue (K.seen keeper.old).store.attached }
-    requires start { IsTrue (K.seen keeper.old).tells → IsStart (application_of service.now) (K.seen keeper.old).state }
+    requires start { IsTrue (K.seen keeper.old).tells → IsStart (application_of service.now)
+        (K.seen keeper.old).state }
     ensures tallied { WentTo (span (U.seen audit.old) (U.seen audit.new))
         (TalliesLine (application_of service.now) (span (holding_of (K.seen keeper.old) splits.old)
         (holding_of (K.seen keeper.new) splits.new)) summary (line_of line.now) result) }
-    ensures cause { result ≡ Err DemoFault.Write → Rose (U.seen audit.old).faults (U.seen audit.new).faults }
+    ensures cause { result ≡ Err DemoFault.Write
+        → Rose (U.seen audit.old).faults (U.seen audit.new).faults }
     ensures bounded { IfOk result (λ more. IsBounded more) }
     ensures count { IfOk result (λ more. more.asks ≤ summary.asks + 1) }
-    ensures start { IsTrue (K.seen keeper.new).tells → IsStart (application_of service.now) (K.seen keeper.new).state }
+    ensures start { IsTrue (K.seen keeper.new).tells → IsStart (application_of service.now)
+        (K.seen keeper.new).state }
     ensures attached { (K.seen keeper.new).store ≡ (K.seen keeper.old).store }
 {
     match read_line(alloc, line) {
@@ -311,11 +330,13 @@ fn tally_events<U: AuditSink, K: Keeper, L: Ledger, M: Ledger>(
     requires short { length bytes.now < 2 ^ 63 }
     requires asking { All (λ line. IsAsking (line_of line)) (lines_of bytes.now) }
     requires attached { IsTrue (K.seen keeper.old).store.attached }
-    requires start { IsTrue (K.seen keeper.old).tells → IsStart (application_of service.now) (K.seen keeper.old).state }
+    requires start { IsTrue (K.seen keeper.old).tells → IsStart (application_of service.now)
+        (K.seen keeper.old).state }
     ensures tallied { WentTo (span (U.seen audit.old) (U.seen audit.new))
         (Tallies (application_of service.now) (span (holding_of (K.seen keeper.old) splits.old)
         (holding_of (K.seen keeper.new) splits.new)) (script_of bytes.now) result) }
-    ensures cause { result ≡ Err DemoFault.Write → Rose (U.seen audit.old).faults (U.seen audit.new).faults }
+    ensures cause { result ≡ Err DemoFault.Write
+        → Rose (U.seen audit.old).faults (U.seen audit.new).faults }
     ensures store { (K.seen keeper.new).store ≡ (K.seen keeper.old).store }
 {
     let mut summary = none_counted();
@@ -353,11 +374,13 @@ fn serve_calendar<U: AuditSink, K: Keeper, L: Ledger, M: Ledger>(
     requires some { 1 ≤ count }
     requires few { count ≤ 2000 }
     requires attached { IsTrue (K.seen keeper.old).store.attached }
-    requires start { IsTrue (K.seen keeper.old).tells → IsStart (application_of service.now) (K.seen keeper.old).state }
+    requires start { IsTrue (K.seen keeper.old).tells → IsStart (application_of service.now)
+        (K.seen keeper.old).state }
     ensures served { WentTo (span (U.seen audit.old) (U.seen audit.new))
         (Tallies (application_of service.now) (span (holding_of (K.seen keeper.old) splits.old)
         (holding_of (K.seen keeper.new) splits.new)) (demo_script count) result) }
-    ensures cause { result ≡ Err DemoFault.Write → Rose (U.seen audit.old).faults (U.seen audit.new).faults }
+    ensures cause { result ≡ Err DemoFault.Write
+        → Rose (U.seen audit.old).faults (U.seen audit.new).faults }
     ensures store { (K.seen keeper.new).store ≡ (K.seen keeper.old).store }
 {
     match demo_events(alloc, count) {
@@ -393,7 +416,8 @@ fn tally_attached<U: AuditSink, K: Vault, L: Ledger, M: Ledger>(
     ensures served { WentTo (span (U.seen audit.old) (U.seen audit.new))
         (EndsTallying (application_of service.now) (span (holding_of (K.seen vault.old) splits.old)
         (holding_of (K.seen vault.new) splits.new)) count result) }
-    ensures cause { result ≡ Err endings.WriteFault → Rose (U.seen audit.old).faults (U.seen audit.new).faults }
+    ensures cause { result ≡ Err endings.WriteFault
+        → Rose (U.seen audit.old).faults (U.seen audit.new).faults }
 {
     match attach(alloc, service, None, schema, vault) {
         Ok(()) => match serve_calendar(alloc, service, count, audit, vault, splits, evaluations) {
@@ -462,7 +486,8 @@ fn count_calendar<O: Sink, U: AuditSink, K: Vault, L: Ledger, M: Ledger>(
     requires first { (K.seen vault.old).store.called ≡ false }
     requires own { schema ≡ schema_text (application_of service.now) }
     requires schema { IsSchema schema (shapes_of (application_of service.now)) }
-    ensures { WentAimed (sinks (O.seen out.old) (O.seen out.new) (U.seen audit.old) (U.seen audit.new))
+    ensures { WentAimed (sinks (O.seen out.old) (O.seen out.new) (U.seen audit.old)
+        (U.seen audit.new))
         (EndsCounting
         (sinks (O.seen out.old) (O.seen out.new) (U.seen audit.old) (U.seen audit.new))
         (application_of service.now) (span (holding_of (K.seen vault.old) splits.old) (holding_of
@@ -506,8 +531,9 @@ fn read_calendar(alloc: Global, text: &Bytes) -> Result<Service, Ending>
     }
 }
 
-/// The steps of a demo: the audit is aimed at none, a store without a name is attached, the first `count` requests of
-/// `jac_demo` are answered in silence to its calendar, and their summary is put.
+/// The steps of a demo: the audit is aimed at none, a store without a name is attached, the first
+/// `count` requests of `jac_demo` are answered in silence to its calendar, and their summary is
+/// put.
 pub fn demo<O: Sink, U: AuditSink, K: Vault, L: Ledger, M: Ledger>(
     alloc: Global,
     count: u64,
@@ -520,7 +546,8 @@ pub fn demo<O: Sink, U: AuditSink, K: Vault, L: Ledger, M: Ledger>(
     requires some { 1 ≤ count }
     requires few { count ≤ 2000 }
     requires first { (K.seen vault.old).store.called ≡ false }
-    ensures { WentAimed (sinks (O.seen out.old) (O.seen out.new) (U.seen audit.old) (U.seen audit.new))
+    ensures { WentAimed (sinks (O.seen out.old) (O.seen out.new) (U.seen audit.old)
+        (U.seen audit.new))
         (EndsDemo (sinks (O.seen out.old) (O.seen out.new) (U.seen audit.old) (U.seen audit.new))
         (span (holding_of (K.seen vault.old) splits.old) (holding_of
         (K.seen vault.new) splits.new)) count result) }

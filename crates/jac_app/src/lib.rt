@@ -1,5 +1,5 @@
-//! The program's work between the outside and its bytes: an application is read, and each request of an
-//! events file, or of a door's connections, is answered over a keeper.
+//! The program's work between the outside and its bytes: an application is read, and each request
+//! of an events file, or of a door's connections, is answered over a keeper.
 #![tactic(auto)]
 
 mod attach;

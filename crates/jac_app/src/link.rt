@@ -20,8 +20,9 @@ use jac_world::Steps;
 use std::alloc::Global;
 use std::sync::ledger::Ledger;
 
-/// Serves the connection of this number, behind so many replies, over an attached keeper: the count of its own. What
-/// fails of the link ends this connection alone. `run` does the same for each link of a door.
+/// Serves the connection of this number, behind so many replies, over an attached keeper: the count
+/// of its own. What fails of the link ends this connection alone. `run` does the same for each link
+/// of a door.
 pub fn serve_link<N: Link, U: AuditSink, K: Keeper, L: Ledger, M: Ledger>(
     alloc: Global,
     service: &Service,
@@ -37,13 +38,18 @@ pub fn serve_link<N: Link, U: AuditSink, K: Keeper, L: Ledger, M: Ledger>(
 ) -> Result<u64, Halt>
     requires few { first < 2 ^ 63 }
     requires attached { IsTrue (K.seen keeper.old).store.attached }
-    requires start { IsTrue (K.seen keeper.old).tells → IsStart (application_of service.now) (K.seen keeper.old).state }
-    ensures served { Went (sinks (as_sink (N.seen link.old)) (as_sink (N.seen link.new)) (U.seen audit.old) (U.seen audit.new))
-        (IsLinkServed (answering_of lazy (application_of service.now) sessions.now) conn first (span (N.seen link.old) (N.seen link.new))
+    requires start { IsTrue (K.seen keeper.old).tells → IsStart (application_of service.now)
+        (K.seen keeper.old).state }
+    ensures served { Went (sinks (as_sink (N.seen link.old)) (as_sink (N.seen link.new))
+        (U.seen audit.old) (U.seen audit.new))
+        (IsLinkServed (answering_of lazy (application_of service.now) sessions.now) conn first
+        (span (N.seen link.old) (N.seen link.new))
         (span (holding_of (K.seen keeper.old) splits.old) (holding_of
         (K.seen keeper.new) splits.new)) result) }
-    ensures cause { result ≡ Err Halt.Write → Rose (U.seen audit.old).faults (U.seen audit.new).faults }
-    ensures start { IsTrue (K.seen keeper.new).tells → IsStart (application_of service.now) (K.seen keeper.new).state }
+    ensures cause { result ≡ Err Halt.Write
+        → Rose (U.seen audit.old).faults (U.seen audit.new).faults }
+    ensures start { IsTrue (K.seen keeper.new).tells → IsStart (application_of service.now)
+        (K.seen keeper.new).state }
     ensures attached { (K.seen keeper.new).store ≡ (K.seen keeper.old).store }
 {
     let mut sittings = Sittings::none(alloc);

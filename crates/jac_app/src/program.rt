@@ -23,7 +23,8 @@ use std::sync::ledger::Ledger;
 
 // Puts the last line, where the command ended early.
 fn finish<O: Sink>(out: &mut O, command: &Command, ended: Result<(), Ending>) -> Status
-    ensures { Closed (span (O.seen out.old) (O.seen out.new)) (λ put. Finishes (span (O.seen out.old) (O.seen out.new)) command.now ended put result) }
+    ensures { Closed (span (O.seen out.old) (O.seen out.new))
+        (λ put. Finishes (span (O.seen out.old) (O.seen out.new)) command.now ended put result) }
 {
     match ended {
         Ok(()) => Status::Done,
@@ -38,7 +39,9 @@ const USAGE: &[u8] =
     b"usage: jac check APP, replay APP EVENTS, serve APP PORT COUNT, demo N, dump APP LABELS, upgrade OLD NEW, why APP VIEWER; options --db FILE --sessions FILE --audit FILE --lazy\n";
 
 fn refuse_words<O: Sink>(out: &mut O) -> Status
-    ensures { Closed (span (O.seen out.old) (O.seen out.new)) (λ put. Closes (span (O.seen out.old) (O.seen out.new)) usage_line Status.Usage put result) }
+    ensures { Closed (span (O.seen out.old) (O.seen out.new))
+        (λ put. Closes (span (O.seen out.old) (O.seen out.new)) usage_line Status.Usage put
+        result) }
 {
     match put(out, USAGE) {
         Ok(()) => Status::Usage,
@@ -47,7 +50,9 @@ fn refuse_words<O: Sink>(out: &mut O) -> Status
 }
 
 fn run_out<O: Sink>(out: &mut O) -> Status
-    ensures { Closed (span (O.seen out.old) (O.seen out.new)) (λ put. Closes (span (O.seen out.old) (O.seen out.new)) (codes "memory\n") Status.Memory put result) }
+    ensures { Closed (span (O.seen out.old) (O.seen out.new))
+        (λ put. Closes (span (O.seen out.old) (O.seen out.new)) (codes "memory\n") Status.Memory put
+        result) }
 {
     match put(out, b"memory\n") {
         Ok(()) => Status::Memory,
@@ -69,8 +74,11 @@ fn take_steps<F: Files, O: Sink, U: AuditSink, K: Vault, D: Door, L: Ledger, M: 
 ) -> Result<(), Ending>
     requires count { HasCount command.now }
     requires first { (K.seen vault.old).store.called ≡ false }
-    ensures ends { WentAimed (sinks (O.seen out.old) (O.seen out.new) (U.seen audit.old) (U.seen audit.new))
-        (Ends D.Line.seen (sight (F.seen files.old) (F.seen files.new) (O.seen out.old) (O.seen out.new) (U.seen audit.old) (U.seen audit.new) (K.seen vault.old) (K.seen vault.new))
+    ensures ends { WentAimed (sinks (O.seen out.old) (O.seen out.new) (U.seen audit.old)
+        (U.seen audit.new))
+        (Ends D.Line.seen (sight (F.seen files.old) (F.seen files.new) (O.seen out.old)
+        (O.seen out.new) (U.seen audit.old) (U.seen audit.new) (K.seen vault.old)
+        (K.seen vault.new))
         (span (D.seen door.old) (D.seen door.new)) (span splits.old splits.new) command.now
         result) }
     ensures lasts { DoorLasts (D.seen door.old) (D.seen door.new) }
@@ -120,8 +128,11 @@ fn run_words<F: Files, O: Sink, U: AuditSink, K: Vault, D: Door, L: Ledger, M: L
     evaluations: &mut Steps<M>,
 ) -> Status
     requires first { (K.seen vault.old).store.called ≡ false }
-    ensures ran { WentAimed (sinks (O.seen out.old) (O.seen out.new) (U.seen audit.old) (U.seen audit.new))
-        (Runs D.Line.seen (sight (F.seen files.old) (F.seen files.new) (O.seen out.old) (O.seen out.new) (U.seen audit.old) (U.seen audit.new) (K.seen vault.old) (K.seen vault.new))
+    ensures ran { WentAimed (sinks (O.seen out.old) (O.seen out.new) (U.seen audit.old)
+        (U.seen audit.new))
+        (Runs D.Line.seen (sight (F.seen files.old) (F.seen files.new) (O.seen out.old)
+        (O.seen out.new) (U.seen audit.old) (U.seen audit.new) (K.seen vault.old)
+        (K.seen vault.new))
         (span (D.seen door.old) (D.seen door.new)) (span splits.old splits.new) words.now result) }
     ensures lasts { DoorLasts (D.seen door.old) (D.seen door.new) }
 {
@@ -183,8 +194,11 @@ pub fn run<F: Files, O: Sink, U: AuditSink, K: Vault, D: Door, L: Ledger, M: Led
     // Nothing was attached yet: the run does it.
     requires first { (K.seen vault.old).store.called ≡ false }
 
-    // Every byte that is put, every page and the state at the end, by the status; each status by its cause.
-    ensures { IsRun D.Line.seen (sight (F.seen files.old) (F.seen files.new) (O.seen out.old) (O.seen out.new) (U.seen audit.old) (U.seen audit.new) (K.seen vault.old) (K.seen vault.new))
+    // Every byte that is put, every page and the state at the end, by the status; each status by
+    // its cause.
+    ensures { IsRun D.Line.seen (sight (F.seen files.old) (F.seen files.new) (O.seen out.old)
+        (O.seen out.new) (U.seen audit.old) (U.seen audit.new) (K.seen vault.old)
+        (K.seen vault.new))
         (span (D.seen door.old) (D.seen door.new)) (span splits.old splits.new) words.now result }
 {
     run_words(

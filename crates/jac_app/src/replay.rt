@@ -53,7 +53,8 @@ fn serve_attached<O: Sink, U: AuditSink, K: Vault, L: Ledger, M: Ledger>(
     requires own { schema ≡ schema_text (application_of desk.old.service.now) }
     requires schema { IsSchema schema (shapes_of (application_of desk.old.service.now)) }
     requires lazy { desk.old.lazy ≡ command.now.lazy }
-    ensures served { WentWith (sinks (O.seen out.old) (O.seen out.new) (U.seen audit.old) (U.seen audit.new))
+    ensures served { WentWith (sinks (O.seen out.old) (O.seen out.new) (U.seen audit.old)
+        (U.seen audit.new))
         (EndsAttaching (commands.Replay command.now) (application_of desk.old.service.now)
         desk.old.sessions.now (kept (desk_seen K.seen desk.old) (desk_seen K.seen desk.new))
         (script_of events.now) result) }
@@ -94,7 +95,8 @@ fn serve<O: Sink, U: AuditSink, K: Vault, L: Ledger, M: Ledger>(
     requires own { schema ≡ schema_text (application_of desk.old.service.now) }
     requires schema { IsSchema schema (shapes_of (application_of desk.old.service.now)) }
     requires lazy { desk.old.lazy ≡ command.now.lazy }
-    ensures served { WentAimed (sinks (O.seen out.old) (O.seen out.new) (U.seen audit.old) (U.seen audit.new))
+    ensures served { WentAimed (sinks (O.seen out.old) (O.seen out.new) (U.seen audit.old)
+        (U.seen audit.new))
         (EndsServing (sinks (O.seen out.old) (O.seen out.new) (U.seen audit.old) (U.seen audit.new))
         (commands.Replay command.now) (application_of desk.old.service.now) desk.old.sessions.now
         (kept (desk_seen K.seen desk.old) (desk_seen K.seen desk.new)) (script_of events.now)
@@ -128,7 +130,8 @@ fn serve_over<O: Sink, U: AuditSink, K: Vault, L: Ledger, M: Ledger>(
     requires aim { aim ≡ command.now.audit }
     requires own { schema ≡ schema_text (application_of service.now) }
     requires schema { IsSchema schema (shapes_of (application_of service.now)) }
-    ensures served { WentAimed (sinks (O.seen out.old) (O.seen out.new) (U.seen audit.old) (U.seen audit.new))
+    ensures served { WentAimed (sinks (O.seen out.old) (O.seen out.new) (U.seen audit.old)
+        (U.seen audit.new))
         (EndsServing (sinks (O.seen out.old) (O.seen out.new) (U.seen audit.old) (U.seen audit.new))
         (commands.Replay command.now) (application_of service.now) sessions.now (span (holding_of
         (K.seen vault.old) splits.old) (holding_of (K.seen vault.new) splits.new))
@@ -149,7 +152,8 @@ fn serve_over<O: Sink, U: AuditSink, K: Vault, L: Ledger, M: Ledger>(
     serve(&mut desk, command, aim, schema, events, out, audit)
 }
 
-/// The steps of a replay: the application, the sessions, the events, the audit's aim, the store, and each event.
+/// The steps of a replay: the application, the sessions, the events, the audit's aim, the store,
+/// and each event.
 pub fn replay<F: Files, O: Sink, U: AuditSink, K: Vault, L: Ledger, M: Ledger>(
     alloc: Global,
     command: &Replay,
@@ -161,8 +165,10 @@ pub fn replay<F: Files, O: Sink, U: AuditSink, K: Vault, L: Ledger, M: Ledger>(
     evaluations: &mut Steps<M>,
 ) -> Result<(), Ending>
     requires first { (K.seen vault.old).store.called ≡ false }
-    ensures { WentAimed (sinks (O.seen out.old) (O.seen out.new) (U.seen audit.old) (U.seen audit.new))
-        (EndsReplay (sight (F.seen files.old) (F.seen files.new) (O.seen out.old) (O.seen out.new) (U.seen audit.old) (U.seen audit.new) (K.seen vault.old) (K.seen vault.new))
+    ensures { WentAimed (sinks (O.seen out.old) (O.seen out.new) (U.seen audit.old)
+        (U.seen audit.new))
+        (EndsReplay (sight (F.seen files.old) (F.seen files.new) (O.seen out.old) (O.seen out.new)
+        (U.seen audit.old) (U.seen audit.new) (K.seen vault.old) (K.seen vault.new))
         (span splits.old splits.new) (commands.Replay command.now) result) }
 {
     let bytes = match read_file(alloc, files, &command.app, Role::App) {

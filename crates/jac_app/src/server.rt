@@ -68,13 +68,15 @@ fn serve_connections<O: Sink, U: AuditSink, K: Keeper, D: Door, L: Ledger, M: Le
     door: &mut D,
 ) -> Result<(), Ending>
     requires desk { MayServe answering (desk_seen K.seen desk.old) }
-    ensures served { WentWith (sinks (O.seen out.old) (O.seen out.new) (U.seen audit.old) (U.seen audit.new))
+    ensures served { WentWith (sinks (O.seen out.old) (O.seen out.new) (U.seen audit.old)
+        (U.seen audit.new))
         (EndsConnections D.Line.seen (answering_of desk.old.lazy
         (application_of desk.old.service.now) desk.old.sessions.now) serving.now.count
         (span (D.seen door.old) (D.seen door.new))
         (kept (desk_seen K.seen desk.old) (desk_seen K.seen desk.new)) result) }
     ensures lasts { DoorLasts (D.seen door.old) (D.seen door.new) }
-    ensures same_port { IsTrue (D.seen door.new).tells → (D.seen door.new).port ≡ (D.seen door.old).port }
+    ensures same_port { IsTrue (D.seen door.new).tells → (D.seen door.new).port
+        ≡ (D.seen door.old).port }
     ensures keeps { Keeps answering (desk_seen K.seen desk.old) (desk_seen K.seen desk.new) }
 {
     match serve_links(desk, serving.count, door, audit) {
@@ -96,7 +98,8 @@ fn serve_door<O: Sink, U: AuditSink, K: Keeper, D: Door, L: Ledger, M: Ledger>(
 ) -> Result<(), Ending>
     requires desk { MayServe answering (desk_seen K.seen desk.old) }
     requires lazy { desk.old.lazy ≡ serving.now.lazy }
-    ensures served { WentWith (sinks (O.seen out.old) (O.seen out.new) (U.seen audit.old) (U.seen audit.new))
+    ensures served { WentWith (sinks (O.seen out.old) (O.seen out.new) (U.seen audit.old)
+        (U.seen audit.new))
         (EndsDoor D.Line.seen (application_of desk.old.service.now) desk.old.sessions.now
         serving.now (span (D.seen door.old) (D.seen door.new))
         (kept (desk_seen K.seen desk.old) (desk_seen K.seen desk.new)) result) }
@@ -122,7 +125,8 @@ fn serve_attached<O: Sink, U: AuditSink, K: Vault, D: Door, L: Ledger, M: Ledger
     requires own { schema ≡ schema_text (application_of desk.old.service.now) }
     requires schema { IsSchema schema (shapes_of (application_of desk.old.service.now)) }
     requires lazy { desk.old.lazy ≡ serving.now.lazy }
-    ensures served { WentWith (sinks (O.seen out.old) (O.seen out.new) (U.seen audit.old) (U.seen audit.new))
+    ensures served { WentWith (sinks (O.seen out.old) (O.seen out.new) (U.seen audit.old)
+        (U.seen audit.new))
         (EndsAttached D.Line.seen (application_of desk.old.service.now) desk.old.sessions.now
         serving.now (span (D.seen door.old) (D.seen door.new))
         (kept (desk_seen K.seen desk.old) (desk_seen K.seen desk.new)) result) }
@@ -160,8 +164,10 @@ fn serve_aimed<O: Sink, U: AuditSink, K: Vault, D: Door, L: Ledger, M: Ledger>(
     requires own { schema ≡ schema_text (application_of desk.old.service.now) }
     requires schema { IsSchema schema (shapes_of (application_of desk.old.service.now)) }
     requires lazy { desk.old.lazy ≡ serving.now.lazy }
-    ensures served { WentAimed (sinks (O.seen out.old) (O.seen out.new) (U.seen audit.old) (U.seen audit.new))
-        (EndsAimed D.Line.seen (sinks (O.seen out.old) (O.seen out.new) (U.seen audit.old) (U.seen audit.new)) (application_of desk.old.service.now) desk.old.sessions.now serving.now
+    ensures served { WentAimed (sinks (O.seen out.old) (O.seen out.new) (U.seen audit.old)
+        (U.seen audit.new))
+        (EndsAimed D.Line.seen (sinks (O.seen out.old) (O.seen out.new) (U.seen audit.old)
+        (U.seen audit.new)) (application_of desk.old.service.now) desk.old.sessions.now serving.now
         (span (D.seen door.old) (D.seen door.new))
         (kept (desk_seen K.seen desk.old) (desk_seen K.seen desk.new)) result) }
     ensures lasts { DoorLasts (D.seen door.old) (D.seen door.new) }
@@ -193,8 +199,10 @@ fn serve_over<O: Sink, U: AuditSink, K: Vault, D: Door, L: Ledger, M: Ledger>(
     requires aim { aim ≡ serving.now.audit }
     requires own { schema ≡ schema_text (application_of service.now) }
     requires schema { IsSchema schema (shapes_of (application_of service.now)) }
-    ensures served { WentAimed (sinks (O.seen out.old) (O.seen out.new) (U.seen audit.old) (U.seen audit.new))
-        (EndsAimed D.Line.seen (sinks (O.seen out.old) (O.seen out.new) (U.seen audit.old) (U.seen audit.new)) (application_of service.now) sessions.now serving.now
+    ensures served { WentAimed (sinks (O.seen out.old) (O.seen out.new) (U.seen audit.old)
+        (U.seen audit.new))
+        (EndsAimed D.Line.seen (sinks (O.seen out.old) (O.seen out.new) (U.seen audit.old)
+        (U.seen audit.new)) (application_of service.now) sessions.now serving.now
         (span (D.seen door.old) (D.seen door.new)) (span (holding_of (K.seen vault.old) splits.old)
         (holding_of (K.seen vault.new) splits.new)) result) }
     ensures lasts { DoorLasts (D.seen door.old) (D.seen door.new) }
@@ -214,8 +222,8 @@ fn serve_over<O: Sink, U: AuditSink, K: Vault, D: Door, L: Ledger, M: Ledger>(
     serve_aimed(&mut desk, serving, aim, schema, out, audit, door)
 }
 
-/// The steps of `serve`: the application, the sessions, the audit's aim, the store, the door's port, each connection,
-/// and the line that tells how many there were.
+/// The steps of `serve`: the application, the sessions, the audit's aim, the store, the door's
+/// port, each connection, and the line that tells how many there were.
 pub fn serve<F: Files, O: Sink, U: AuditSink, K: Vault, D: Door, L: Ledger, M: Ledger>(
     alloc: Global,
     serving: &Serving,
@@ -228,9 +236,13 @@ pub fn serve<F: Files, O: Sink, U: AuditSink, K: Vault, D: Door, L: Ledger, M: L
     evaluations: &mut Steps<M>,
 ) -> Result<(), Ending>
     requires first { (K.seen vault.old).store.called ≡ false }
-    ensures ends { WentAimed (sinks (O.seen out.old) (O.seen out.new) (U.seen audit.old) (U.seen audit.new))
-        (EndsServer D.Line.seen (sight (F.seen files.old) (F.seen files.new) (O.seen out.old) (O.seen out.new) (U.seen audit.old) (U.seen audit.new) (K.seen vault.old) (K.seen vault.new))
-        (span (D.seen door.old) (D.seen door.new)) (span splits.old splits.new) serving.now result) }
+    ensures ends { WentAimed (sinks (O.seen out.old) (O.seen out.new) (U.seen audit.old)
+        (U.seen audit.new))
+        (EndsServer D.Line.seen (sight (F.seen files.old) (F.seen files.new) (O.seen out.old)
+        (O.seen out.new) (U.seen audit.old) (U.seen audit.new) (K.seen vault.old)
+        (K.seen vault.new))
+        (span (D.seen door.old) (D.seen door.new)) (span splits.old splits.new) serving.now
+        result) }
     ensures lasts { DoorLasts (D.seen door.old) (D.seen door.new) }
 {
     let bytes = match read_file(alloc, files, &serving.app, Role::App) {

@@ -12,8 +12,8 @@ use jac_replies::Answer;
 use jac_serving::{put, put_five};
 use jac_world::Assignment;
 
-/// A log in numbers: requests, those of POST and of GET, the bytes of all bodies, and the labels in the audit lines of
-/// GETs.
+/// A log in numbers: requests, those of POST and of GET, the bytes of all bodies, and the labels in
+/// the audit lines of GETs.
 #[derive(Clone, Copy, Debug, PartialEq, Eq)]
 pub struct Summary {
     pub asks: u64,

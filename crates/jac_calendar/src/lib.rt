@@ -1,4 +1,5 @@
-//! The laws that the calendar's text spells an application, and that each generated line is a request.
+//! The laws that the calendar's text spells an application, and that each generated line is a
+//! request.
 #![tactic(auto)]
 
 mod laws;

@@ -25,53 +25,67 @@ kind_fault ms (names.Ref m) = unknown_model ms m
 
 -- a field or a parameter: its name against those before it, then the model of its kind
 abbrev pub field_fault : List Entity → List Field → Field → Option Reason
-field_fault ms earlier f = fault_if (has_field f.name earlier) (Reason.twice f.name) before kind_fault ms f.kind
+field_fault ms earlier f = fault_if (has_field f.name earlier) (Reason.twice f.name) before
+    kind_fault ms f.kind
 
 abbrev pub fields_fault : List Entity → List Field → List Field → Option Reason
 fields_fault ms earlier [] = None
-fields_fault ms earlier (f ∷ fs) = field_fault ms earlier f before fields_fault ms (earlier ++ f ∷ []) fs
+fields_fault ms earlier (f ∷ fs) = field_fault ms earlier f before fields_fault ms
+    (earlier ++ f ∷ []) fs
 
--- a guard: its field, whether that is guarded already, and the public expression, which has the field's kind
-abbrev pub guard_fault : Application → Entity → List FieldGroup → List (List ℕ) → Assigned → Option Reason
+-- a guard: its field, whether that is guarded already, and the public expression, which has the
+-- field's kind
+abbrev pub guard_fault : Application → Entity → List FieldGroup → List (List ℕ) → Assigned
+    → Option Reason
 guard_fault app m earlier seen g =
-    unknown_field m.fields g.field before fault_if (is_guarded g.field earlier || is_one_of g.field seen) (Reason.twice g.field)
+    unknown_field m.fields g.field before fault_if (is_guarded g.field earlier || is_one_of g.field
+    seen) (Reason.twice g.field)
     before of_kind (field_kind app.models m.fields g.field) (verdict (public_scope app m) g.value)
 
-abbrev pub guards_fault : Application → Entity → List FieldGroup → List (List ℕ) → List Assigned → Option Reason
+abbrev pub guards_fault : Application → Entity → List FieldGroup → List (List ℕ) → List Assigned
+    → Option Reason
 guards_fault app m earlier seen [] = None
-guards_fault app m earlier seen (g ∷ gs) = guard_fault app m earlier seen g before guards_fault app m earlier (g.field ∷ seen) gs
+guards_fault app m earlier seen (g ∷ gs) = guard_fault app m earlier seen g before guards_fault app
+    m earlier (g.field ∷ seen) gs
 
 -- a group: whether one before it hides the record as well, its guards in order, and then the policy
 abbrev pub group_fault : Application → Entity → List FieldGroup → FieldGroup → Option Reason
 group_fault app m earlier g =
-    fault_if (g.hides && is_hiding earlier) (Reason.twice (codes "hides")) before guards_fault app m earlier [] g.guards before of_kind Kind.Bool (verdict (policy_scope app m) g.policy)
+    fault_if (g.hides && is_hiding earlier) (Reason.twice (codes "hides")) before guards_fault app m
+    earlier [] g.guards before of_kind Kind.Bool (verdict (policy_scope app m) g.policy)
 
 abbrev pub groups_fault : Application → Entity → List FieldGroup → List FieldGroup → Option Reason
 groups_fault app m earlier [] = None
-groups_fault app m earlier (g ∷ gs) = group_fault app m earlier g before groups_fault app m (earlier ++ g ∷ []) gs
+groups_fault app m earlier (g ∷ gs) = group_fault app m earlier g before groups_fault app m
+    (earlier ++ g ∷ []) gs
 
 -- a model: its name against those before it, its fields, its groups
 abbrev pub model_fault : Application → List Entity → Entity → Option Reason
 model_fault app earlier m =
-    fault_if (has_model m.name earlier) (Reason.twice m.name) before fields_fault app.models [] m.fields before groups_fault app m [] m.groups
+    fault_if (has_model m.name earlier) (Reason.twice m.name) before fields_fault app.models []
+    m.fields before groups_fault app m [] m.groups
 
 abbrev pub models_fault : Application → List Entity → List Entity → Option CheckFault
 models_fault app earlier [] = None
-models_fault app earlier (m ∷ ms) = fault_at app.models (places.Model m.name) (model_fault app earlier m) before models_fault app (earlier ++ m ∷ []) ms
+models_fault app earlier (m ∷ ms) = fault_at app.models (places.Model m.name)
+    (model_fault app earlier m) before models_fault app (earlier ++ m ∷ []) ms
 
 -- each name of a path is one of the parameters
 abbrev pub path_fault : List Field → List (List ℕ) → Option Reason
 path_fault params [] = None
-path_fault params (x ∷ xs) = fault_unless (has_field x params) (Reason.unknown x) before path_fault params xs
+path_fault params (x ∷ xs) = fault_unless (has_field x params) (Reason.unknown x) before path_fault
+    params xs
 
 -- a view: its parameters, the names of its path, its statements
 abbrev pub page_fault : Application → Page → Option Reason
-page_fault app v = fields_fault app.models [] v.params before path_fault v.params (names_in (segments v.path)) before body_fault (page_standing app v) v.body
+page_fault app v = fields_fault app.models [] v.params before path_fault v.params
+    (names_in (segments v.path)) before body_fault (page_standing app v) v.body
 
 -- views from this number on
 abbrev pub pages_fault : Application → ℕ → List Page → Option CheckFault
 pages_fault app n [] = None
-pages_fault app n (v ∷ vs) = fault_at app.models (places.View n) (page_fault app v) before pages_fault app (n + 1) vs
+pages_fault app n (v ∷ vs) = fault_at app.models (places.View n) (page_fault app v) before
+    pages_fault app (n + 1) vs
 
 abbrev pub viewers_fault : List Entity → Option (List ℕ) → Option Reason
 viewers_fault ms None = None
@@ -79,7 +93,8 @@ viewers_fault ms (Some m) = unknown_model ms m
 
 -- the first fault of an application: the viewers' model, each model, each view
 abbrev pub first_fault : Application → Option CheckFault
-first_fault app = fault_at app.models places.Viewer (viewers_fault app.models app.viewer) before models_fault app [] app.models before pages_fault app 0 app.views
+first_fault app = fault_at app.models places.Viewer (viewers_fault app.models app.viewer) before
+    models_fault app [] app.models before pages_fault app 0 app.views
 
 -- want of memory is no fault of an application
 abbrev pub is_fault : CheckCause → Bool

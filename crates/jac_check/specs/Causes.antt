@@ -34,7 +34,8 @@ wanted_of ms expected.Reference = wanted.Reference
 abbrev pub cause_of : List Entity → Reason → CheckCause
 cause_of ms (Reason.unknown x) = causes.UnknownName x
 cause_of ms (Reason.twice x) = causes.TwiceNamed x
-cause_of ms (Reason.wrong_kind want have) = causes.WrongKind (wanted_of ms want) (kind_name_of ms have)
+cause_of ms (Reason.wrong_kind want have) = causes.WrongKind (wanted_of ms want)
+    (kind_name_of ms have)
 cause_of ms Reason.write_in_get = causes.WriteInGet
 cause_of ms Reason.create_in_loop = causes.CreateInLoop
 cause_of ms (Reason.loop_wanted x) = causes.LoopWanted x

@@ -1,5 +1,5 @@
--- The kind of an expression, or its first fault: in each form the names, the operands from left to right, their
--- kinds from left to right.
+-- The kind of an expression, or its first fault: in each form the names, the operands from left to
+-- right, their kinds from left to right.
 use Rattle.std.specs.Prelude.{ℕ, Bool, not, ◌&&◌, List, Option, None, codes}
 use Rattle.jac_value.specs.declared.value.Kind.{Kind}
 use Rattle.jac_lang.specs.declared.expressions.Op.{Op}
@@ -12,14 +12,16 @@ use Rattle.jac_check.specs.Verdict.{Reason, Verdict, ◌before◌, fault_if, fau
 use Rattle.jac_check.specs.NameFaults.{unknown_model, unknown_place, query_names, order_fault, in_public, name_verdict, this_kind, viewer_verdict}
 
 abbrev pub both_are : Kind → Kind → Verdict → Verdict → Verdict
-both_are want result a b = judged (fault_in a before fault_in b before not_a want a before not_a want b) result
+both_are want result a b = judged (fault_in a before fault_in b before not_a want a before not_a
+    want b) result
 
 abbrev pub two_verdict : Op → Verdict → Verdict → Verdict
 two_verdict op.Add a b = both_are Kind.Int Kind.Int a b
 two_verdict op.Sub a b = both_are Kind.Int Kind.Int a b
 two_verdict op.Mul a b = both_are Kind.Int Kind.Int a b
 two_verdict op.Eq a b = judged (fault_in a before fault_in b before not_alike a b) Kind.Bool
-two_verdict op.Lt a b = judged (fault_in a before fault_in b before not_ordered a before not_alike a b) Kind.Bool
+two_verdict op.Lt a b = judged (fault_in a before fault_in b before not_ordered a before not_alike a
+    b) Kind.Bool
 two_verdict op.And a b = both_are Kind.Bool Kind.Bool a b
 two_verdict op.Or a b = both_are Kind.Bool Kind.Bool a b
 
@@ -33,11 +35,13 @@ none_verdict s m = judged (unknown_model s.models m) (reference_to s.models m)
 -- a field of the record that `e` refers to; a public expression reads `this` alone
 abbrev pub get_verdict : Scope → List ℕ → List ℕ → Bool → Verdict → Verdict
 get_verdict s m f of_this e =
-    judged (fault_if (s.is_public && not of_this) (Reason.not_here (codes "get")) before unknown_place s.models m f before fault_in e before not_a (reference_to s.models m) e)
+    judged (fault_if (s.is_public && not of_this) (Reason.not_here (codes "get")) before
+    unknown_place s.models m f before fault_in e before not_a (reference_to s.models m) e)
     (field_kind s.models (fields_of s.models m) f)
 
 abbrev pub live_verdict : Scope → Verdict → Verdict
-live_verdict s e = judged (in_public s (codes "live") before fault_in e before not_reference e) Kind.Bool
+live_verdict s e = judged (in_public s (codes "live") before fault_in e before not_reference e)
+    Kind.Bool
 
 abbrev pub not_verdict : Verdict → Verdict
 not_verdict e = judged (fault_in e before not_a Kind.Bool e) Kind.Bool
@@ -46,17 +50,20 @@ abbrev pub str_verdict : Verdict → Verdict
 str_verdict e = judged (fault_in e) Kind.Text
 
 abbrev pub pick_verdict : Verdict → Verdict → Verdict → Verdict
-pick_verdict c a b = judged (fault_in c before fault_in a before fault_in b before not_a Kind.Bool c before not_alike a b) (kind_or Kind.Int a)
+pick_verdict c a b = judged (fault_in c before fault_in a before fault_in b before not_a Kind.Bool c
+    before not_alike a b) (kind_or Kind.Int a)
 
 -- a query by the verdict on its condition: what is inside of it, and then the condition's kind
 abbrev pub asked_inside : Scope → List ℕ → List Binder → Order → Verdict → Option Reason
-asked_inside s word bs o c = query_names s word bs before fault_in c before order_fault s.models bs o
+asked_inside s word bs o c = query_names s word bs before fault_in c before order_fault s.models bs
+    o
 
 abbrev pub asked_fault : Scope → List ℕ → List Binder → Order → Verdict → Option Reason
 asked_fault s word bs o c = asked_inside s word bs o c before not_a Kind.Bool c
 
 abbrev pub sum_verdict : Scope → List Binder → Order → Verdict → Verdict → Verdict
-sum_verdict s bs o c e = judged (asked_inside s (codes "sum") bs o c before fault_in e before not_a Kind.Bool c before not_a Kind.Int e) Kind.Int
+sum_verdict s bs o c e = judged (asked_inside s (codes "sum") bs o c before fault_in e before not_a
+    Kind.Bool c before not_a Kind.Int e) Kind.Int
 
 abbrev mutual
   pub verdict : Scope → Expression → Verdict
@@ -74,10 +81,14 @@ abbrev mutual
   verdict s (Expression.cat es) = judged (parts_inside s es before parts_kinds s es) Kind.Text
   verdict s (Expression.str e) = str_verdict (verdict s e)
   verdict s (Expression.pick c a b) = pick_verdict (verdict s c) (verdict s a) (verdict s b)
-  verdict s (Expression.count bs c o) = judged (asked_fault s (codes "count") bs o (verdict (within bs s) c)) Kind.Int
-  verdict s (Expression.sum bs c o e) = sum_verdict s bs o (verdict (within bs s) c) (verdict (within bs s) e)
-  verdict s (Expression.any_of bs c o) = judged (asked_fault s (codes "some") bs o (verdict (within bs s) c)) Kind.Bool
-  verdict s (Expression.first bs c o) = judged (asked_fault s (codes "first") bs o (verdict (within bs s) c)) (first_kind s bs)
+  verdict s (Expression.count bs c o) =
+      judged (asked_fault s (codes "count") bs o (verdict (within bs s) c)) Kind.Int
+  verdict s (Expression.sum bs c o e) = sum_verdict s bs o (verdict (within bs s) c)
+      (verdict (within bs s) e)
+  verdict s (Expression.any_of bs c o) =
+      judged (asked_fault s (codes "some") bs o (verdict (within bs s) c)) Kind.Bool
+  verdict s (Expression.first bs c o) =
+      judged (asked_fault s (codes "first") bs o (verdict (within bs s) c)) (first_kind s bs)
 
   -- the first fault inside of a part
   pub parts_inside : Scope → Expressions → Option Reason

@@ -1,5 +1,5 @@
--- The kind of an expression. Each form has one where its names are known, it may stand where it stands, and its
--- operands have the kinds that it asks.
+-- The kind of an expression. Each form has one where its names are known, it may stand where it
+-- stands, and its operands have the kinds that it asks.
 use Rattle.std.specs.Prelude.{ℕ, Bool, true, false, not, ◌&&◌, ◌||◌, List, [], ◌∷◌, Option, Some, None, is_some, option_map, if◌then◌else◌}
 use Rattle.jac_value.specs.declared.value.Kind.{Kind}
 use Rattle.jac_value.specs.contracts.value.KindPartialEq.TheImpl.{ghosts}
@@ -60,12 +60,14 @@ is_place ms m f = is_model ms m && is_field (fields_of ms m) f
 -- each binder's model is known, and no two have one name
 abbrev pub are_binders : List Entity → List (List ℕ) → List Binder → Bool
 are_binders ms seen [] = true
-are_binders ms seen (b ∷ bs) = not (is_one_of b.name seen) && (is_model ms b.model && are_binders ms (b.name ∷ seen) bs)
+are_binders ms seen (b ∷ bs) = not (is_one_of b.name seen) && (is_model ms b.model && are_binders ms
+    (b.name ∷ seen) bs)
 
 -- a binder has this name, and its model this field
 abbrev pub is_sort_key : List Entity → List Binder → List ℕ → List ℕ → Bool
 is_sort_key ms [] x f = false
-is_sort_key ms (b ∷ bs) x f = if same_text b.name x then is_place ms b.model f else is_sort_key ms bs x f
+is_sort_key ms (b ∷ bs) x f = if same_text b.name x then is_place ms b.model f
+    else is_sort_key ms bs x f
 
 abbrev pub is_order : List Entity → List Binder → Order → Bool
 is_order ms bs orders.Key = true
@@ -74,7 +76,8 @@ is_order ms bs (orders.Down x f) = is_sort_key ms bs x f
 
 -- a query whose condition has this kind; none stands in a public expression
 abbrev pub is_query : Scope → List Binder → Order → Option Kind → Bool
-is_query s bs o c = not s.is_public && (are_binders s.models [] bs && (has Kind.Bool c && is_order s.models bs o))
+is_query s bs o c = not s.is_public && (are_binders s.models [] bs && (has Kind.Bool c && is_order
+    s.models bs o))
 
 abbrev mutual
   -- the kind of an expression; none where it is not well
@@ -83,21 +86,30 @@ abbrev mutual
   kind_of s (Expression.text t) = Some Kind.Text
   kind_of s (Expression.bool b) = Some Kind.Bool
   kind_of s (Expression.none_of m) = given (is_model s.models m) (Some (reference_to s.models m))
-  kind_of s (Expression.name x) = given (not s.is_public) (option_map (λ (m : Meaning). m.kind) (meaning_of s.names x))
+  kind_of s (Expression.name x) = given (not s.is_public) (option_map (λ (m : Meaning). m.kind)
+      (meaning_of s.names x))
   kind_of s Expression.this = s.this
-  kind_of s Expression.viewer = given (not s.is_public) (option_map (reference_to s.models) s.viewers)
+  kind_of s Expression.viewer = given (not s.is_public) (option_map (reference_to s.models)
+      s.viewers)
   kind_of s (Expression.get m f e) =
-      given ((not s.is_public || is_this e) && (is_place s.models m f && has (reference_to s.models m) (kind_of s e))) (Some (field_kind s.models (fields_of s.models m) f))
+      given ((not s.is_public || is_this e) && (is_place s.models m f && has
+      (reference_to s.models m) (kind_of s e)))
+      (Some (field_kind s.models (fields_of s.models m) f))
   kind_of s (Expression.live e) = given (not s.is_public && refers (kind_of s e)) (Some Kind.Bool)
   kind_of s (Expression.two o a b) = kind_of_two o (kind_of s a) (kind_of s b)
   kind_of s (Expression.negated e) = given (has Kind.Bool (kind_of s e)) (Some Kind.Bool)
   kind_of s (Expression.cat es) = given (are_texts s es) (Some Kind.Text)
   kind_of s (Expression.str e) = given (is_some (kind_of s e)) (Some Kind.Text)
-  kind_of s (Expression.pick c a b) = given (has Kind.Bool (kind_of s c) && are_alike (kind_of s a) (kind_of s b)) (kind_of s a)
-  kind_of s (Expression.count bs c o) = given (is_query s bs o (kind_of (within bs s) c)) (Some Kind.Int)
-  kind_of s (Expression.sum bs c o e) = given (is_query s bs o (kind_of (within bs s) c) && has Kind.Int (kind_of (within bs s) e)) (Some Kind.Int)
-  kind_of s (Expression.any_of bs c o) = given (is_query s bs o (kind_of (within bs s) c)) (Some Kind.Bool)
-  kind_of s (Expression.first bs c o) = given (is_query s bs o (kind_of (within bs s) c)) (Some (first_kind s bs))
+  kind_of s (Expression.pick c a b) = given (has Kind.Bool (kind_of s c) && are_alike (kind_of s a)
+      (kind_of s b)) (kind_of s a)
+  kind_of s (Expression.count bs c o) = given (is_query s bs o (kind_of (within bs s) c))
+      (Some Kind.Int)
+  kind_of s (Expression.sum bs c o e) = given (is_query s bs o (kind_of (within bs s) c) && has
+      Kind.Int (kind_of (within bs s) e)) (Some Kind.Int)
+  kind_of s (Expression.any_of bs c o) = given (is_query s bs o (kind_of (within bs s) c))
+      (Some Kind.Bool)
+  kind_of s (Expression.first bs c o) = given (is_query s bs o (kind_of (within bs s) c))
+      (Some (first_kind s bs))
 
   -- each part of a `cat` is a text
   pub are_texts : Scope → Expressions → Bool

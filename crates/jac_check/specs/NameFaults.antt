@@ -31,12 +31,14 @@ unknown_place ms m f = unknown_model ms m before unknown_field (fields_of ms m) 
 abbrev pub binder_fault : List Entity → List (List ℕ) → List Binder → Option Reason
 binder_fault ms seen [] = None
 binder_fault ms seen (b ∷ bs) =
-    fault_if (is_one_of b.name seen) (Reason.twice b.name) before unknown_model ms b.model before binder_fault ms (b.name ∷ seen) bs
+    fault_if (is_one_of b.name seen) (Reason.twice b.name) before unknown_model ms b.model before
+    binder_fault ms (b.name ∷ seen) bs
 
 -- answers are sorted by a field of the binder of this name
 abbrev pub sorted_fault : List Entity → List Binder → List ℕ → List ℕ → Option Reason
 sorted_fault ms [] x f = Some (Reason.unknown x)
-sorted_fault ms (b ∷ bs) x f = if same_text b.name x then unknown_place ms b.model f else sorted_fault ms bs x f
+sorted_fault ms (b ∷ bs) x f = if same_text b.name x then unknown_place ms b.model f
+    else sorted_fault ms bs x f
 
 -- the order names a binder of the query, and a field of its model
 abbrev pub order_fault : List Entity → List Binder → Order → Option Reason
@@ -50,7 +52,8 @@ named_kind (Some n) x = Verdict.kind n.kind
 
 -- a name as an expression; a public one uses none
 abbrev pub name_verdict : Scope → List ℕ → Verdict
-name_verdict s x = if s.is_public then Verdict.fault (Reason.not_here x) else named_kind (meaning_of s.names x) x
+name_verdict s x = if s.is_public then Verdict.fault (Reason.not_here x)
+    else named_kind (meaning_of s.names x) x
 
 -- the word `this`
 abbrev pub this_kind : Option Kind → Verdict
@@ -63,7 +66,8 @@ viewer_kind ms (Some m) = Verdict.kind (reference_to ms m)
 
 -- the word `viewer`
 abbrev pub viewer_verdict : Scope → Verdict
-viewer_verdict s = if s.is_public then Verdict.fault Reason.viewer_in_public else viewer_kind s.models s.viewers
+viewer_verdict s = if s.is_public then Verdict.fault Reason.viewer_in_public
+    else viewer_kind s.models s.viewers
 
 -- a form with this head stands in a public expression
 abbrev pub in_public : Scope → List ℕ → Option Reason

@@ -1,5 +1,5 @@
--- Statements that a view may run: nothing is written where it answers GET, a record is created in no loop, or in one
--- where its model is nested, and no template is left.
+-- Statements that a view may run: nothing is written where it answers GET, a record is created in
+-- no loop, or in one where its model is nested, and no template is left.
 use Rattle.std.specs.Prelude.{Bool, true, false, not, ◌&&◌, List, IsTrue}
 use Rattle.std.specs.List.{All}
 use Rattle.jac_lang.specs.Lookup.{is_nested_named}
@@ -14,9 +14,12 @@ abbrev mutual
   is_runnable get models loops (Statement.escape e) = true
   is_runnable get models loops (Statement.bind x e body) = are_runnable get models loops body
   is_runnable get models loops (Statement.assign x e) = true
-  is_runnable get models loops (Statement.branch c a b) = are_runnable get models loops a && are_runnable get models loops b
-  is_runnable get models loops (Statement.each q body) = are_runnable get models (behind_for models q.binders loops) body
-  is_runnable get models loops (Statement.create x m site cells body) = not get && (may_create (is_nested_named models m) loops && are_runnable get models loops body)
+  is_runnable get models loops (Statement.branch c a b) = are_runnable get models loops a &&
+      are_runnable get models loops b
+  is_runnable get models loops (Statement.each q body) = are_runnable get models
+      (behind_for models q.binders loops) body
+  is_runnable get models loops (Statement.create x m site cells body) =
+      not get && (may_create (is_nested_named models m) loops && are_runnable get models loops body)
   is_runnable get models loops (Statement.update m e cells) = not get
   is_runnable get models loops (Statement.delete m e) = not get
   is_runnable get models loops Statement.missing = true
@@ -26,7 +29,8 @@ abbrev mutual
 
   pub are_runnable : Bool → List Entity → Loops → Statements → Bool
   are_runnable get models loops Statements.none = true
-  are_runnable get models loops (Statements.more s ss) = is_runnable get models loops s && are_runnable get models loops ss
+  are_runnable get models loops (Statements.more s ss) = is_runnable get models loops s &&
+      are_runnable get models loops ss
 
 abbrev pub IsRunnable : List Entity → Page → Type 0
 IsRunnable models v = IsTrue (are_runnable (is_get v.method) models Loops.none v.body)

@@ -1,4 +1,5 @@
--- The schema of an application: its models, their fields, and which fields its groups guard, as a tree.
+-- The schema of an application: its models, their fields, and which fields its groups guard, as a
+-- tree.
 use Rattle.std.specs.Prelude.{ℕ, Bool, true, false, if◌then◌else◌, List, [], ◌∷◌, codes}
 use Rattle.jac_lang.specs.declared.field_kinds.Field.{Field}
 use Rattle.jac_lang.specs.declared.field_kinds.KindName.{KindName}
@@ -15,7 +16,8 @@ abbrev pub kind_tree : KindName → PlainTree
 kind_tree kinds.Int = PlainTree.atom (codes "int")
 kind_tree kinds.Text = PlainTree.atom (codes "text")
 kind_tree kinds.Bool = PlainTree.atom (codes "bool")
-kind_tree (kinds.Ref model) = headed (codes "ref") (PlainTrees.more (PlainTree.atom model) PlainTrees.none)
+kind_tree (kinds.Ref model) = headed (codes "ref") (PlainTrees.more (PlainTree.atom model)
+    PlainTrees.none)
 
 -- `(NAME KIND)`
 abbrev pub field_tree : Field → PlainTree
@@ -32,7 +34,8 @@ guard_trees (g ∷ guards) = PlainTrees.more (PlainTree.atom g.field) (guard_tre
 
 -- `hides`, or the list of them
 abbrev pub group_tree : FieldGroup → PlainTree
-group_tree g = if g.hides then PlainTree.atom (codes "hides") else PlainTree.list (guard_trees g.guards)
+group_tree g = if g.hides then PlainTree.atom (codes "hides")
+    else PlainTree.list (guard_trees g.guards)
 
 abbrev pub group_trees : List FieldGroup → PlainTrees
 group_trees [] = PlainTrees.none
@@ -53,11 +56,13 @@ nested_before false ts = ts
 
 -- `(fields ..) (groups ..)`
 abbrev pub list_trees : Entity → PlainTrees
-list_trees m = PlainTrees.more (fields_tree m.fields) (PlainTrees.more (groups_tree m.groups) PlainTrees.none)
+list_trees m = PlainTrees.more (fields_tree m.fields) (PlainTrees.more (groups_tree m.groups)
+    PlainTrees.none)
 
 -- `(model NAME nested? (fields ..) (groups ..))`
 abbrev pub model_tree : Entity → PlainTree
-model_tree m = headed (codes "model") (PlainTrees.more (PlainTree.atom m.name) (nested_before m.nested (list_trees m)))
+model_tree m = headed (codes "model") (PlainTrees.more (PlainTree.atom m.name)
+    (nested_before m.nested (list_trees m)))
 
 abbrev pub model_trees : List Entity → PlainTrees
 model_trees [] = PlainTrees.none

@@ -16,8 +16,9 @@ pub record Named : Type 0 where
   pub name : List ℕ
   pub meaning : Meaning
 
--- where an expression stands: the models; the model of viewers; the kind of `this`, none where the word may not
--- stand; the names that are bound, the innermost last; and whether the expression is public
+-- where an expression stands: the models; the model of viewers; the kind of `this`, none where the
+-- word may not stand; the names that are bound, the innermost last; and whether the expression is
+-- public
 pub record Scope : Type 0 where
   pub models : List Entity
   pub viewers : Option (List ℕ)
@@ -25,8 +26,8 @@ pub record Scope : Type 0 where
   pub names : List Named
   pub is_public : Bool
 
--- where a statement stands: the models, the model of viewers, the names that are bound, whether its view answers
--- GET, and the loops around it
+-- where a statement stands: the models, the model of viewers, the names that are bound, whether its
+-- view answers GET, and the loops around it
 pub record Standing : Type 0 where
   pub models : List Entity
   pub viewers : Option (List ℕ)
@@ -89,18 +90,33 @@ is_this e = false
 
 -- the scope of the expressions of a statement: no record is `this`, and nothing is public
 abbrev pub scope_at : Standing → Scope
-scope_at st = record { models = st.models; viewers = st.viewers; this = None; names = st.names; is_public = false }
+scope_at st = record {
+  models = st.models;
+  viewers = st.viewers;
+  this = None;
+  names = st.names;
+  is_public = false;
+}
 
 -- where the statements stand in which a name is bound, and those of a `for`
 abbrev pub bind : Standing → List ℕ → Kind → Bool → Standing
 bind st x k by_let = record st { names = st.names ++ named x k by_let ∷ [] }
 
 abbrev pub loop_within : List Binder → Standing → Standing
-loop_within bs st = record st { names = st.names ++ named_binders st.models bs; loops = behind_for st.models bs st.loops }
+loop_within bs st = record st {
+  names = st.names ++ named_binders st.models bs;
+  loops = behind_for st.models bs st.loops;
+}
 
 -- the scopes of a model's policies and of its public expressions
 abbrev pub policy_scope : Application → Entity → Scope
-policy_scope app m = record { models = app.models; viewers = app.viewer; this = Some (reference_to app.models m.name); names = []; is_public = false }
+policy_scope app m = record {
+  models = app.models;
+  viewers = app.viewer;
+  this = Some (reference_to app.models m.name);
+  names = [];
+  is_public = false;
+}
 
 abbrev pub public_scope : Application → Entity → Scope
 public_scope app m = record (policy_scope app m) { is_public = true }
@@ -111,7 +127,13 @@ is_get verbs.Post = false
 
 -- where the statements of a view stand: its parameters are bound
 abbrev pub page_standing : Application → Page → Standing
-page_standing app v = record { models = app.models; viewers = app.viewer; names = named_fields app.models v.params; is_get = is_get v.method; loops = Loops.none }
+page_standing app v = record {
+  models = app.models;
+  viewers = app.viewer;
+  names = named_fields app.models v.params;
+  is_get = is_get v.method;
+  loops = Loops.none;
+}
 
 abbrev pub is_one_of : List ℕ → List (List ℕ) → Bool
 is_one_of x [] = false

@@ -1,5 +1,5 @@
--- The first fault of a statement: what may not stand here, the names, the operands, their kinds, and last the
--- statements inside.
+-- The first fault of a statement: what may not stand here, the names, the operands, their kinds,
+-- and last the statements inside.
 use Rattle.std.specs.Prelude.{ℕ, Bool, true, false, List, [], ◌∷◌, Option, Some, None, codes}
 use Rattle.jac_value.specs.declared.value.Kind.{Kind}
 use Rattle.jac_lang.specs.declared.field_kinds.Field.{Field}
@@ -26,13 +26,15 @@ loop_reason false m = Reason.create_in_loop
 
 -- the form creates a record where its model may not have one made
 abbrev pub loop_fault : Standing → List ℕ → Option Reason
-loop_fault st m = fault_unless (may_create (is_nested_named st.models m) st.loops) (loop_reason (is_nested_named st.models m) m)
+loop_fault st m = fault_unless (may_create (is_nested_named st.models m) st.loops)
+    (loop_reason (is_nested_named st.models m) m)
 
 -- each cell's field is known, and none is named twice
 abbrev pub cells_names : List Field → List (List ℕ) → List Assigned → Option Reason
 cells_names fs seen [] = None
 cells_names fs seen (g ∷ gs) =
-    unknown_field fs g.field before fault_if (is_one_of g.field seen) (Reason.twice g.field) before cells_names fs (g.field ∷ seen) gs
+    unknown_field fs g.field before fault_if (is_one_of g.field seen) (Reason.twice g.field) before
+    cells_names fs (g.field ∷ seen) gs
 
 abbrev pub cells_inside : Scope → List Assigned → Option Reason
 cells_inside s [] = None
@@ -41,39 +43,52 @@ cells_inside s (g ∷ gs) = fault_in (verdict s g.value) before cells_inside s g
 -- each cell has its field's kind
 abbrev pub cells_kinds : Scope → List Field → List Assigned → Option Reason
 cells_kinds s fs [] = None
-cells_kinds s fs (g ∷ gs) = not_a (field_kind s.models fs g.field) (verdict s g.value) before cells_kinds s fs gs
+cells_kinds s fs (g ∷ gs) = not_a (field_kind s.models fs g.field) (verdict s g.value) before
+    cells_kinds s fs gs
 
 -- only a name that a `let` binds is assigned to
 abbrev pub assigned_fault : Option Meaning → Verdict → Option Reason
 assigned_fault None v = Some (Reason.not_here (codes "assign"))
-assigned_fault (Some m) v = fault_unless m.by_let (Reason.not_here (codes "assign")) before of_kind m.kind v
+assigned_fault (Some m) v = fault_unless m.by_let (Reason.not_here (codes "assign")) before of_kind
+    m.kind v
 
 abbrev pub create_fault : Standing → List ℕ → List Assigned → Option Reason
 create_fault st m cells =
-    write_fault st before unknown_model st.models m before cells_names (fields_of st.models m) [] cells before loop_fault st m
-    before cells_inside (scope_at st) cells before cells_kinds (scope_at st) (fields_of st.models m) cells
+    write_fault st before unknown_model st.models m before cells_names (fields_of st.models m) []
+    cells before loop_fault st m
+    before cells_inside (scope_at st) cells before cells_kinds (scope_at st) (fields_of st.models m)
+    cells
 
 abbrev pub update_fault : Standing → List ℕ → Verdict → List Assigned → Option Reason
 update_fault st m v cells =
-    write_fault st before unknown_model st.models m before cells_names (fields_of st.models m) [] cells
+    write_fault st before unknown_model st.models m before cells_names (fields_of st.models m) []
+    cells
     before fault_in v before cells_inside (scope_at st) cells
-    before not_a (reference_to st.models m) v before cells_kinds (scope_at st) (fields_of st.models m) cells
+    before not_a (reference_to st.models m) v before cells_kinds (scope_at st)
+    (fields_of st.models m) cells
 
 abbrev pub delete_fault : Standing → List ℕ → Verdict → Option Reason
-delete_fault st m v = write_fault st before unknown_model st.models m before of_kind (reference_to st.models m) v
+delete_fault st m v = write_fault st before unknown_model st.models m before of_kind
+    (reference_to st.models m) v
 
 abbrev pub query_fault : Standing → Question → Option Reason
-query_fault st q = asked_fault (scope_at st) (codes "for") q.binders q.order (cond_verdict (scope_at st) q)
+query_fault st q = asked_fault (scope_at st) (codes "for") q.binders q.order
+    (cond_verdict (scope_at st) q)
 
 abbrev mutual
   pub statement_fault : Standing → Statement → Option Reason
   statement_fault st (Statement.put e) = fault_in (verdict_at st e)
   statement_fault st (Statement.escape e) = fault_in (verdict_at st e)
-  statement_fault st (Statement.bind x e body) = fault_in (verdict_at st e) before body_fault (bind st x (kind_or Kind.Int (verdict_at st e)) true) body
-  statement_fault st (Statement.assign x e) = assigned_fault (meaning_of st.names x) (verdict_at st e)
-  statement_fault st (Statement.branch c a b) = of_kind Kind.Bool (verdict_at st c) before body_fault st a before body_fault st b
-  statement_fault st (Statement.each q body) = query_fault st q before body_fault (loop_within q.binders st) body
-  statement_fault st (Statement.create x m site cells body) = create_fault st m cells before body_fault (bind st x (reference_to st.models m) false) body
+  statement_fault st (Statement.bind x e body) = fault_in (verdict_at st e) before body_fault
+      (bind st x (kind_or Kind.Int (verdict_at st e)) true) body
+  statement_fault st (Statement.assign x e) = assigned_fault (meaning_of st.names x)
+      (verdict_at st e)
+  statement_fault st (Statement.branch c a b) = of_kind Kind.Bool (verdict_at st c) before
+      body_fault st a before body_fault st b
+  statement_fault st (Statement.each q body) = query_fault st q before body_fault
+      (loop_within q.binders st) body
+  statement_fault st (Statement.create x m site cells body) = create_fault st m cells before
+      body_fault (bind st x (reference_to st.models m) false) body
   statement_fault st (Statement.update m e cells) = update_fault st m (verdict_at st e) cells
   statement_fault st (Statement.delete m e) = delete_fault st m (verdict_at st e)
   statement_fault st Statement.missing = None

@@ -44,7 +44,8 @@ judged None k = Verdict.kind k
 judged (Some reason) k = Verdict.fault reason
 
 abbrev pub kind_wanted : Kind → Kind → Option Reason
-kind_wanted want have = fault_unless (ghosts.eq have want) (Reason.wrong_kind (expected.One want) have)
+kind_wanted want have = fault_unless (ghosts.eq have want) (Reason.wrong_kind (expected.One want)
+    have)
 
 abbrev pub is_ordered : Kind → Bool
 is_ordered kinds.Int = true
@@ -74,5 +75,6 @@ not_ordered (Verdict.kind k) = fault_unless (is_ordered k) (Reason.wrong_kind ex
 not_ordered (Verdict.fault reason) = None
 
 abbrev pub not_reference : Verdict → Option Reason
-not_reference (Verdict.kind k) = fault_unless (is_reference k) (Reason.wrong_kind expected.Reference k)
+not_reference (Verdict.kind k) = fault_unless (is_reference k) (Reason.wrong_kind expected.Reference
+    k)
 not_reference (Verdict.fault reason) = None

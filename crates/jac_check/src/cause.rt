@@ -8,7 +8,8 @@ pub(crate) enum Expected {
     Reference,
 }
 
-// Why a part is not well, with the names where they stand in the application: the tests take no memory.
+// Why a part is not well, with the names where they stand in the application: the tests take no
+// memory.
 #[derive(Clone, Copy)]
 pub(crate) enum Cause<'a> {
     UnknownName(&'a str),

@@ -14,14 +14,16 @@ use crate::scope::Scope;
 use jac_lang::{App, Publics};
 use jac_value::Txt;
 
-// Each cell's field is known, and none is named twice. A model has at most 32 fields, so this goes no deeper.
+// Each cell's field is known, and none is named twice. A model has at most 32 fields, so this goes
+// no deeper.
 pub(crate) fn cells_names<'a>(
     app: &App,
     model: &Txt,
     seen: &Seen<'_>,
     cells: &'a Publics,
 ) -> Result<(), Cause<'a>>
-    ensures { fault_of result ≡ cells_names (fields_of (application_of app.now).models model.now) (seen_of seen.now) (assigned_of cells.now) }
+    ensures { fault_of result ≡ cells_names (fields_of (application_of app.now).models model.now)
+        (seen_of seen.now) (assigned_of cells.now) }
 {
     let Publics::More(cell, rest) = cells else {
         return Ok(());
@@ -51,7 +53,8 @@ pub(crate) fn cells_kinds<'a>(
     cells: &'a Publics,
     scope: &Scope<'_>,
 ) -> Result<(), Cause<'a>>
-    ensures { fault_of result ≡ cells_kinds (scope_of scope.now) (fields_of (application_of scope.now.app.now).models model.now) (assigned_of cells.now) }
+    ensures { fault_of result ≡ cells_kinds (scope_of scope.now)
+        (fields_of (application_of scope.now.app.now).models model.now) (assigned_of cells.now) }
 {
     let mut left = cells;
     'cells: while let Publics::More(cell, rest) = left {

@@ -53,19 +53,22 @@ impl Checked {
 
     /// The schema text of the application.
     pub fn schema(&self, alloc: Global) -> Result<Txt, Memory>
-        ensures { IfOk result (λ text. text ≡ printed (schema_tree (application_of self.now).models)) }
+        ensures { IfOk result
+            (λ text. text ≡ printed (schema_tree (application_of self.now).models)) }
     {
         let schema = schema_of(alloc, self.app.models.as_slice())?;
         Ok(schema)
     }
 }
 
-/// The application where it is well, else its first fault: at the viewers' model, then in each model, then
-/// in each view, in the order of the text. One of 2^32 views or more is answered as want of memory.
+/// The application where it is well, else its first fault: at the viewers' model, then in each
+/// model, then in each view, in the order of the text. One of 2^32 views or more is answered as
+/// want of memory.
 pub fn check(alloc: Global, app: App) -> Result<Checked, CheckFault>
     ensures well { IfOk result (λ c. (c ≡ app) × IsTrue (is_well (application_of c))) }
     ensures faultless { IfOk result (λ c. first_fault (application_of c) ≡ None) }
-    ensures fault { IfErr result (λ f. IsTrue (is_fault f.cause) → first_fault (application_of app) ≡ Some f) }
+    ensures fault { IfErr result (λ f. IsTrue (is_fault f.cause) → first_fault (application_of app)
+        ≡ Some f) }
 {
     match owned_fault(alloc, &app) {
         None => Ok(Checked { app }),
@@ -75,7 +78,8 @@ pub fn check(alloc: Global, app: App) -> Result<Checked, CheckFault>
 
 fn owned_fault(alloc: Global, app: &App) -> Option<CheckFault>
     ensures none { IsNone result → first_fault (application_of app.now) ≡ None }
-    ensures some { IfSome result (λ f. IsTrue (is_fault f.cause) → first_fault (application_of app.now) ≡ Some f) }
+    ensures some { IfSome result (λ f. IsTrue (is_fault f.cause)
+        → first_fault (application_of app.now) ≡ Some f) }
 {
     if app.views.as_slice().len() > u32::MAX as usize {
         return Some(CheckFault {
@@ -108,7 +112,8 @@ fn viewers_fault(app: &App) -> Result<(), Cause<'_>>
 }
 
 fn models_fault<'a>(app: &App, models: &'a [ModelDef]) -> Result<(), Found<'a>>
-    ensures { let a = application_of app.now in first_of a.models result ≡ models_fault a [] (entities_of models.now) }
+    ensures { let a = application_of app.now in first_of a.models result ≡ models_fault a []
+        (entities_of models.now) }
 {
     for i in 0..models.len() {
         let model = &models[i];
@@ -123,7 +128,8 @@ fn models_fault<'a>(app: &App, models: &'a [ModelDef]) -> Result<(), Found<'a>>
 
 fn pages_fault<'a>(app: &App, views: &'a [View]) -> Result<(), Found<'a>>
     requires few { length views.now < 2 ^ 32 }
-    ensures { let a = application_of app.now in first_of a.models result ≡ pages_fault a 0 (pages_of views.now) }
+    ensures { let a = application_of app.now in first_of a.models result ≡ pages_fault a 0
+        (pages_of views.now) }
 {
     let mut number: u32 = 0;
     for view in views {

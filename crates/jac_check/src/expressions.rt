@@ -1,5 +1,5 @@
-//! The kind of an expression. `judge` only looks at the form; what is judged of its operands is put together in
-//! `forms`.
+//! The kind of an expression. `judge` only looks at the form; what is judged of its operands is put
+//! together in `forms`.
 ghost use Rattle.std.specs.Prelude.{◌≡◌, None, codes};
 ghost use Rattle.jac_lang.specs.Mirror.{expression_of, expressions_of, binders_of};
 ghost use Rattle.jac_value.specs.declared.value.Kind.{Kind};
@@ -67,7 +67,8 @@ pub(crate) fn judge_within<'a>(
     scope: &Scope<'_>,
     binders: &Binders,
 ) -> Result<Kind, Cause<'a>>
-    ensures { verdict_of result ≡ verdict (within (binders_of binders.now) (scope_of scope.now)) (expression_of e.now) }
+    ensures { verdict_of result ≡ verdict (within (binders_of binders.now) (scope_of scope.now))
+        (expression_of e.now) }
 {
     let names = Names::Binders {
         binders,
@@ -85,7 +86,9 @@ pub(crate) fn judge_within<'a>(
 // The parts of a `cat`: a fault inside of one of them comes before a kind that is wrong.
 #[cycle(judge)]
 fn judge_cat<'a>(parts: &'a Exprs, scope: &Scope<'_>) -> Result<Kind, Cause<'a>>
-    ensures { let es = expressions_of parts.now in verdict_of result ≡ judged (parts_inside (scope_of scope.now) es before parts_kinds (scope_of scope.now) es) Kind.Text }
+    ensures { let es = expressions_of parts.now in verdict_of result
+        ≡ judged (parts_inside (scope_of scope.now) es before parts_kinds (scope_of scope.now) es)
+        Kind.Text }
 {
     let mut texts = Ok(());
     let mut left = parts;

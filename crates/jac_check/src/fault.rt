@@ -31,7 +31,8 @@ pub enum CheckCause {
     WrongKind { want: Wanted, have: KindName },
     WriteInGet,
     CreateInLoop,
-    /// A record of this nested model is created in one loop alone, over one binder of a model that is not nested.
+    /// A record of this nested model is created in one loop alone, over one binder of a model that
+    /// is not nested.
     LoopWanted(Txt),
     ViewerInPublic,
     /// The form that begins with this word, or this name, may not stand here.

@@ -64,7 +64,8 @@ pub(crate) fn get_verdict<'a>(
     of_this: bool,
     reference: Result<Kind, Cause<'a>>,
 ) -> Result<Kind, Cause<'a>>
-    ensures { verdict_of result ≡ get_verdict (scope_of scope.now) model.now field.now of_this (verdict_of reference.entry) }
+    ensures { verdict_of result ≡ get_verdict (scope_of scope.now) model.now field.now of_this
+        (verdict_of reference.entry) }
 {
     if scope.is_public && !of_this {
         return Err(Cause::NotHere("get"));
@@ -139,7 +140,8 @@ pub(crate) fn pick_verdict<'a>(
     a: Result<Kind, Cause<'a>>,
     b: Result<Kind, Cause<'a>>,
 ) -> Result<Kind, Cause<'a>>
-    ensures { verdict_of result ≡ pick_verdict (verdict_of c.entry) (verdict_of a.entry) (verdict_of b.entry) }
+    ensures { verdict_of result ≡ pick_verdict (verdict_of c.entry) (verdict_of a.entry)
+        (verdict_of b.entry) }
 {
     let c = c?;
     let a = a?;
@@ -156,7 +158,8 @@ fn asked_inside<'a>(
     query: &'a Query,
     cond: Result<Kind, Cause<'a>>,
 ) -> Result<Kind, Cause<'a>>
-    ensures fault { let q = question_of query.now in fault_of result ≡ asked_inside (scope_of scope.now) word.now q.binders q.order (verdict_of cond.entry) }
+    ensures fault { let q = question_of query.now in fault_of result ≡ asked_inside
+        (scope_of scope.now) word.now q.binders q.order (verdict_of cond.entry) }
     ensures kind { IfOk result (λ k. verdict_of cond.entry ≡ Verdict.kind k) }
 {
     query_names(scope, word, &query.binders)?;
@@ -171,7 +174,8 @@ pub(crate) fn asked_fault<'a>(
     query: &'a Query,
     cond: Result<Kind, Cause<'a>>,
 ) -> Result<(), Cause<'a>>
-    ensures { let q = question_of query.now in fault_of result ≡ asked_fault (scope_of scope.now) word.now q.binders q.order (verdict_of cond.entry) }
+    ensures { let q = question_of query.now in fault_of result ≡ asked_fault (scope_of scope.now)
+        word.now q.binders q.order (verdict_of cond.entry) }
 {
     let cond = asked_inside(scope, word, query, cond)?;
     want(Kind::Bool, cond)
@@ -184,7 +188,9 @@ pub(crate) fn asked_verdict<'a>(
     cond: Result<Kind, Cause<'a>>,
     kind: Kind,
 ) -> Result<Kind, Cause<'a>>
-    ensures { let q = question_of query.now in verdict_of result ≡ judged (asked_fault (scope_of scope.now) word.now q.binders q.order (verdict_of cond.entry)) kind }
+    ensures { let q = question_of query.now in verdict_of result
+        ≡ judged (asked_fault (scope_of scope.now) word.now q.binders q.order
+        (verdict_of cond.entry)) kind }
 {
     asked_fault(scope, word, query, cond)?;
     Ok(kind)
@@ -196,7 +202,8 @@ pub(crate) fn sum_verdict<'a>(
     cond: Result<Kind, Cause<'a>>,
     each: Result<Kind, Cause<'a>>,
 ) -> Result<Kind, Cause<'a>>
-    ensures { let q = question_of query.now in verdict_of result ≡ sum_verdict (scope_of scope.now) q.binders q.order (verdict_of cond.entry) (verdict_of each.entry) }
+    ensures { let q = question_of query.now in verdict_of result ≡ sum_verdict (scope_of scope.now)
+        q.binders q.order (verdict_of cond.entry) (verdict_of each.entry) }
 {
     let cond = asked_inside(scope, "sum", query, cond)?;
     let each = each?;

@@ -31,7 +31,8 @@ pub(crate) fn fault_at<'a>(
     place: Spot<'a>,
     cause: Result<(), Cause<'a>>,
 ) -> Result<(), Found<'a>>
-    ensures { let models = (application_of app.now).models in first_of models result ≡ fault_at models (place_of place.entry) (fault_of cause.entry) }
+    ensures { let models = (application_of app.now).models in first_of models result ≡ fault_at
+        models (place_of place.entry) (fault_of cause.entry) }
 {
     match cause {
         Ok(()) => Ok(()),
@@ -41,7 +42,8 @@ pub(crate) fn fault_at<'a>(
 
 /// The fault with names of its own; where memory is wanting, that is the cause.
 pub(crate) fn own(alloc: Global, app: &App, found: &Found<'_>) -> CheckFault
-    ensures { IsTrue (is_fault result.cause) → result ≡ found_of (application_of app.now).models found.now }
+    ensures { IsTrue (is_fault result.cause) → result ≡ found_of (application_of app.now).models
+        found.now }
 {
     match own_place(alloc, &found.place) {
         Ok(place) => own_at(alloc, app, place, &found.cause),
@@ -53,7 +55,8 @@ pub(crate) fn own(alloc: Global, app: &App, found: &Found<'_>) -> CheckFault
 }
 
 fn own_at(alloc: Global, app: &App, place: Place, cause: &Cause<'_>) -> CheckFault
-    ensures { IsTrue (is_fault result.cause) → result ≡ located (application_of app.now).models place (reason_of cause.now) }
+    ensures { IsTrue (is_fault result.cause) → result ≡ located (application_of app.now).models
+        place (reason_of cause.now) }
 {
     match own_cause(alloc, app, cause) {
         Ok(cause) => CheckFault { place, cause },
@@ -78,7 +81,8 @@ fn own_place(alloc: Global, place: &Spot<'_>) -> Result<Place, Memory>
 }
 
 fn own_cause(alloc: Global, app: &App, cause: &Cause<'_>) -> Result<CheckCause, Memory>
-    ensures { IfOk result (λ c. c ≡ cause_of (application_of app.now).models (reason_of cause.now)) }
+    ensures { IfOk result (λ c. c ≡ cause_of (application_of app.now).models
+        (reason_of cause.now)) }
 {
     match cause {
         Cause::UnknownName(name) => {

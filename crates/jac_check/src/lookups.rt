@@ -10,8 +10,8 @@ use crate::cause::Cause;
 use jac_lang::{App, Field, KindName, field_of, kind_of, model_of};
 use jac_value::{Kind, Txt};
 
-/// The kind of this name, where a reference has the number of its model. A model's name that no model has
-/// counts as the number of the models.
+/// The kind of this name, where a reference has the number of its model. A model's name that no
+/// model has counts as the number of the models.
 pub(crate) fn kind_by_name(app: &App, kind: &KindName) -> Kind
     ensures { result ≡ kind_named (application_of app.now).models kind.now }
 {
@@ -60,7 +60,8 @@ pub(crate) fn known_place<'a>(app: &App, model: &'a Txt, field: &'a Txt) -> Resu
 
 pub(crate) fn known_field<'a>(app: &App, model: u8, field: &'a Txt) -> Result<(), Cause<'a>>
     requires { model < length app.now.models }
-    ensures { fault_of result ≡ unknown_field (fields_at (application_of app.now).models model) field.now }
+    ensures { fault_of result ≡ unknown_field (fields_at (application_of app.now).models model)
+        field.now }
 {
     match field_of(app, model, field) {
         Some(_) => Ok(()),
@@ -70,7 +71,8 @@ pub(crate) fn known_field<'a>(app: &App, model: u8, field: &'a Txt) -> Result<()
 
 /// The model has this field; a model that is not known has none.
 pub(crate) fn known_field_of<'a>(app: &App, model: &Txt, field: &'a Txt) -> Result<(), Cause<'a>>
-    ensures { let models = (application_of app.now).models in fault_of result ≡ unknown_field (fields_of models model.now) field.now }
+    ensures { let models = (application_of app.now).models in fault_of result ≡ unknown_field
+        (fields_of models model.now) field.now }
 {
     match model_of(app, model) {
         Some(place) => known_field(app, place, field),
@@ -80,7 +82,8 @@ pub(crate) fn known_field_of<'a>(app: &App, model: &Txt, field: &'a Txt) -> Resu
 
 /// The kind of a field of a model, by their names.
 pub(crate) fn kind_by_place(app: &App, model: &Txt, field: &Txt) -> Kind
-    ensures { let models = (application_of app.now).models in result ≡ field_kind models (fields_of models model.now) field.now }
+    ensures { let models = (application_of app.now).models
+        in result ≡ field_kind models (fields_of models model.now) field.now }
 {
     match model_of(app, model) {
         Some(place) => kind_in(app, place, field),
@@ -90,7 +93,8 @@ pub(crate) fn kind_by_place(app: &App, model: &Txt, field: &Txt) -> Kind
 
 pub(crate) fn kind_in(app: &App, model: u8, field: &Txt) -> Kind
     requires { model < length app.now.models }
-    ensures { let models = (application_of app.now).models in result ≡ field_kind models (fields_at models model) field.now }
+    ensures { let models = (application_of app.now).models
+        in result ≡ field_kind models (fields_at models model) field.now }
 {
     match field_of(app, model, field) {
         Some(place) => kind_of(app, model, place),

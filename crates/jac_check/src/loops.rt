@@ -6,7 +6,8 @@ ghost use Rattle.jac_check.specs.Mirror.{loops_of};
 
 use jac_lang::{App, Binders, is_nested};
 
-// The loops around a statement. Of one alone: whether it goes over one binder, of a model that is not nested.
+// The loops around a statement. Of one alone: whether it goes over one binder, of a model that is
+// not nested.
 #[derive(Clone, Copy)]
 pub(crate) enum Around {
     Nowhere,
@@ -15,7 +16,8 @@ pub(crate) enum Around {
 }
 
 pub(crate) fn behind_for(app: &App, binders: &Binders, around: Around) -> Around
-    ensures { loops_of result ≡ behind_for (application_of app.now).models (binders_of binders.now) (loops_of around) }
+    ensures { loops_of result ≡ behind_for (application_of app.now).models (binders_of binders.now)
+        (loops_of around) }
 {
     match around {
         Around::Nowhere => Around::Single(is_flat(app, binders)),

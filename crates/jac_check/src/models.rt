@@ -104,7 +104,8 @@ pub(crate) fn model_fault<'a>(
     earlier: &[ModelDef],
     model: &'a ModelDef,
 ) -> Result<(), Cause<'a>>
-    ensures { fault_of result ≡ model_fault (application_of app.now) (entities_of earlier.now) (entity_of model.now) }
+    ensures { fault_of result ≡ model_fault (application_of app.now) (entities_of earlier.now)
+        (entity_of model.now) }
 {
     if has_model(earlier, &model.name) {
         return Err(Cause::TwiceNamed(model.name.as_str()));
@@ -114,7 +115,8 @@ pub(crate) fn model_fault<'a>(
 }
 
 fn groups_fault<'a>(app: &App, model: &ModelDef, groups: &'a [Group]) -> Result<(), Cause<'a>>
-    ensures { fault_of result ≡ groups_fault (application_of app.now) (entity_of model.now) [] (groups_of groups.now) }
+    ensures { fault_of result ≡ groups_fault (application_of app.now) (entity_of model.now) []
+        (groups_of groups.now) }
 {
     for i in 0..groups.len() {
         match group_fault(app, model, &groups[..i], &groups[i]) {
@@ -131,7 +133,8 @@ fn group_fault<'a>(
     earlier: &[Group],
     group: &'a Group,
 ) -> Result<(), Cause<'a>>
-    ensures { fault_of result ≡ group_fault (application_of app.now) (entity_of model.now) (groups_of earlier.now) (field_group_of group.now) }
+    ensures { fault_of result ≡ group_fault (application_of app.now) (entity_of model.now)
+        (groups_of earlier.now) (field_group_of group.now) }
 {
     if group.hides && is_hiding(earlier) {
         return Err(Cause::TwiceNamed("hides"));
@@ -155,7 +158,8 @@ fn guards_fault<'a>(
     seen: &Seen<'_>,
     guards: &'a Publics,
 ) -> Result<(), Cause<'a>>
-    ensures { fault_of result ≡ guards_fault (application_of app.now) (entity_of model.now) (groups_of earlier.now) (seen_of seen.now) (assigned_of guards.now) }
+    ensures { fault_of result ≡ guards_fault (application_of app.now) (entity_of model.now)
+        (groups_of earlier.now) (seen_of seen.now) (assigned_of guards.now) }
 {
     let Publics::More(guard, rest) = guards else {
         return Ok(());
@@ -171,7 +175,8 @@ fn guard_fault<'a>(
     seen: &Seen<'_>,
     guard: &'a Public,
 ) -> Result<(), Cause<'a>>
-    ensures { fault_of result ≡ guard_fault (application_of app.now) (entity_of model.now) (groups_of earlier.now) (seen_of seen.now) (one_assigned_of guard.now) }
+    ensures { fault_of result ≡ guard_fault (application_of app.now) (entity_of model.now)
+        (groups_of earlier.now) (seen_of seen.now) (one_assigned_of guard.now) }
 {
     known_field_among(model.fields.as_slice(), &guard.field)?;
     if is_guarded(earlier, &guard.field) || seen.has(&guard.field) {

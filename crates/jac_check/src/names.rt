@@ -65,7 +65,8 @@ pub(crate) fn look_up(app: &App, names: &Names<'_>, name: &Txt) -> Option<Meanin
 }
 
 fn of_fields(app: &App, fields: &[Field], name: &Txt) -> Option<Meaning>
-    ensures { result ≡ meaning_of (named_fields (application_of app.now).models fields.now) name.now }
+    ensures { result ≡ meaning_of (named_fields (application_of app.now).models fields.now)
+        name.now }
 {
     let mut found = None;
     'fields: for field in fields {
@@ -81,7 +82,8 @@ fn of_fields(app: &App, fields: &[Field], name: &Txt) -> Option<Meaning>
 }
 
 fn of_binders(app: &App, binders: &Binders, name: &Txt) -> Option<Meaning>
-    ensures { result ≡ meaning_of (named_binders (application_of app.now).models (binders_of binders.now)) name.now }
+    ensures { result ≡ meaning_of (named_binders (application_of app.now).models
+        (binders_of binders.now)) name.now }
 {
     let mut found = None;
     let mut left = binders;

@@ -56,7 +56,8 @@ pub(crate) fn in_public<'a>(scope: &Scope<'_>, word: &'a str) -> Result<(), Caus
 }
 
 fn binder_fault<'a>(app: &App, seen: &Seen<'_>, binders: &'a Binders) -> Result<(), Cause<'a>>
-    ensures { fault_of result ≡ binder_fault (application_of app.now).models (seen_of seen.now) (binders_of binders.now) }
+    ensures { fault_of result ≡ binder_fault (application_of app.now).models (seen_of seen.now)
+        (binders_of binders.now) }
 {
     let Binders::More(binder, rest) = binders else {
         return Ok(());
@@ -73,7 +74,8 @@ pub(crate) fn order_fault<'a>(
     binders: &'a Binders,
     order: &'a Order,
 ) -> Result<(), Cause<'a>>
-    ensures { fault_of result ≡ order_fault (application_of app.now).models (binders_of binders.now) order.now }
+    ensures { fault_of result ≡ order_fault (application_of app.now).models (binders_of binders.now)
+        order.now }
 {
     match order {
         Order::Key => Ok(()),
@@ -88,7 +90,8 @@ fn sorted_fault<'a>(
     name: &'a Txt,
     field: &'a Txt,
 ) -> Result<(), Cause<'a>>
-    ensures { fault_of result ≡ sorted_fault (application_of app.now).models (binders_of binders.now) name.now field.now }
+    ensures { fault_of result ≡ sorted_fault (application_of app.now).models
+        (binders_of binders.now) name.now field.now }
 {
     let mut left = binders;
     'binders: while let Binders::More(binder, rest) = left {

@@ -19,7 +19,8 @@ pub fn schema_of(alloc: Global, models: &[ModelDef]) -> Result<Txt, Memory>
 }
 
 fn put_schema(models: &[ModelDef], to: &mut String) -> Result<(), Memory>
-    ensures { OnOk result (string_bytes to.new ≡ string_bytes to.old ++ printed (schema_tree (entities_of models.now))) }
+    ensures { OnOk result (string_bytes to.new ≡ string_bytes to.old ++ printed
+        (schema_tree (entities_of models.now))) }
 {
     to.push_str("(schema")?;
     put_models(models, to)?;
@@ -28,7 +29,8 @@ fn put_schema(models: &[ModelDef], to: &mut String) -> Result<(), Memory>
 }
 
 fn put_models(models: &[ModelDef], to: &mut String) -> Result<(), Memory>
-    ensures { OnOk result (string_bytes to.new ≡ string_bytes to.old ++ printed_after (model_trees (entities_of models.now))) }
+    ensures { OnOk result (string_bytes to.new ≡ string_bytes to.old ++ printed_after
+        (model_trees (entities_of models.now))) }
 {
     'models: for model in models {
         to.push(' ')?;
@@ -38,7 +40,8 @@ fn put_models(models: &[ModelDef], to: &mut String) -> Result<(), Memory>
 }
 
 fn put_model(model: &ModelDef, to: &mut String) -> Result<(), Memory>
-    ensures { OnOk result (string_bytes to.new ≡ string_bytes to.old ++ printed (model_tree (entity_of model.now))) }
+    ensures { OnOk result (string_bytes to.new ≡ string_bytes to.old ++ printed
+        (model_tree (entity_of model.now))) }
 {
     to.push_str("(model ")?;
     to.push_str(model.name.as_str())?;
@@ -49,7 +52,8 @@ fn put_model(model: &ModelDef, to: &mut String) -> Result<(), Memory>
 
 // What follows a model's name.
 fn put_parts(model: &ModelDef, to: &mut String) -> Result<(), Memory>
-    ensures { OnOk result (string_bytes to.new ≡ string_bytes to.old ++ printed_after (nested_before model.now.nested (list_trees (entity_of model.now)))) }
+    ensures { OnOk result (string_bytes to.new ≡ string_bytes to.old ++ printed_after
+        (nested_before model.now.nested (list_trees (entity_of model.now)))) }
 {
     if model.nested {
         to.push_str(" nested")?;
@@ -60,7 +64,8 @@ fn put_parts(model: &ModelDef, to: &mut String) -> Result<(), Memory>
 }
 
 fn put_lists(model: &ModelDef, to: &mut String) -> Result<(), Memory>
-    ensures { OnOk result (string_bytes to.new ≡ string_bytes to.old ++ printed_after (list_trees (entity_of model.now))) }
+    ensures { OnOk result (string_bytes to.new ≡ string_bytes to.old ++ printed_after
+        (list_trees (entity_of model.now))) }
 {
     to.push(' ')?;
     put_fields(model.fields.as_slice(), to)?;
@@ -70,7 +75,8 @@ fn put_lists(model: &ModelDef, to: &mut String) -> Result<(), Memory>
 }
 
 fn put_fields(fields: &[Field], to: &mut String) -> Result<(), Memory>
-    ensures { OnOk result (string_bytes to.new ≡ string_bytes to.old ++ printed (fields_tree fields.now)) }
+    ensures { OnOk result (string_bytes to.new ≡ string_bytes to.old ++ printed
+        (fields_tree fields.now)) }
 {
     to.push_str("(fields")?;
     put_each_field(fields, to)?;
@@ -79,7 +85,8 @@ fn put_fields(fields: &[Field], to: &mut String) -> Result<(), Memory>
 }
 
 fn put_each_field(fields: &[Field], to: &mut String) -> Result<(), Memory>
-    ensures { OnOk result (string_bytes to.new ≡ string_bytes to.old ++ printed_after (field_trees fields.now)) }
+    ensures { OnOk result (string_bytes to.new ≡ string_bytes to.old ++ printed_after
+        (field_trees fields.now)) }
 {
     'fields: for field in fields {
         to.push(' ')?;
@@ -89,7 +96,8 @@ fn put_each_field(fields: &[Field], to: &mut String) -> Result<(), Memory>
 }
 
 fn put_field(field: &Field, to: &mut String) -> Result<(), Memory>
-    ensures { OnOk result (string_bytes to.new ≡ string_bytes to.old ++ printed (field_tree field.now)) }
+    ensures { OnOk result (string_bytes to.new ≡ string_bytes to.old ++ printed
+        (field_tree field.now)) }
 {
     to.push('(')?;
     to.push_str(field.name.as_str())?;
@@ -100,7 +108,8 @@ fn put_field(field: &Field, to: &mut String) -> Result<(), Memory>
 }
 
 fn put_kind(kind: &KindName, to: &mut String) -> Result<(), Memory>
-    ensures { OnOk result (string_bytes to.new ≡ string_bytes to.old ++ printed (kind_tree kind.now)) }
+    ensures { OnOk result (string_bytes to.new ≡ string_bytes to.old ++ printed
+        (kind_tree kind.now)) }
 {
     match kind {
         KindName::Int => to.push_str("int")?,
@@ -112,7 +121,8 @@ fn put_kind(kind: &KindName, to: &mut String) -> Result<(), Memory>
 }
 
 fn put_reference(model: &Txt, to: &mut String) -> Result<(), Memory>
-    ensures { OnOk result (string_bytes to.new ≡ string_bytes to.old ++ printed (kind_tree (KindName.Ref model.now))) }
+    ensures { OnOk result (string_bytes to.new ≡ string_bytes to.old ++ printed
+        (kind_tree (KindName.Ref model.now))) }
 {
     to.push_str("(ref ")?;
     to.push_str(model.as_str())?;
@@ -121,7 +131,8 @@ fn put_reference(model: &Txt, to: &mut String) -> Result<(), Memory>
 }
 
 fn put_groups(groups: &[Group], to: &mut String) -> Result<(), Memory>
-    ensures { OnOk result (string_bytes to.new ≡ string_bytes to.old ++ printed (groups_tree (groups_of groups.now))) }
+    ensures { OnOk result (string_bytes to.new ≡ string_bytes to.old ++ printed
+        (groups_tree (groups_of groups.now))) }
 {
     to.push_str("(groups")?;
     put_each_group(groups, to)?;
@@ -130,7 +141,8 @@ fn put_groups(groups: &[Group], to: &mut String) -> Result<(), Memory>
 }
 
 fn put_each_group(groups: &[Group], to: &mut String) -> Result<(), Memory>
-    ensures { OnOk result (string_bytes to.new ≡ string_bytes to.old ++ printed_after (group_trees (groups_of groups.now))) }
+    ensures { OnOk result (string_bytes to.new ≡ string_bytes to.old ++ printed_after
+        (group_trees (groups_of groups.now))) }
 {
     'groups: for group in groups {
         to.push(' ')?;
@@ -140,7 +152,8 @@ fn put_each_group(groups: &[Group], to: &mut String) -> Result<(), Memory>
 }
 
 fn put_group(group: &Group, to: &mut String) -> Result<(), Memory>
-    ensures { OnOk result (string_bytes to.new ≡ string_bytes to.old ++ printed (group_tree (field_group_of group.now))) }
+    ensures { OnOk result (string_bytes to.new ≡ string_bytes to.old ++ printed
+        (group_tree (field_group_of group.now))) }
 {
     if group.hides {
         to.push_str("hides")?;
@@ -152,7 +165,8 @@ fn put_group(group: &Group, to: &mut String) -> Result<(), Memory>
 
 // The fields that a group guards.
 fn put_guarded(guards: &Publics, to: &mut String) -> Result<(), Memory>
-    ensures { OnOk result (string_bytes to.new ≡ string_bytes to.old ++ printed (PlainTree.list (guard_trees (assigned_of guards.now)))) }
+    ensures { OnOk result (string_bytes to.new ≡ string_bytes to.old ++ printed
+        (PlainTree.list (guard_trees (assigned_of guards.now)))) }
 {
     to.push('(')?;
     if let Publics::More(first, rest) = guards {
@@ -165,7 +179,8 @@ fn put_guarded(guards: &Publics, to: &mut String) -> Result<(), Memory>
 
 // The guards that stand behind another one.
 fn put_guards(guards: &Publics, to: &mut String) -> Result<(), Memory>
-    ensures { OnOk result (string_bytes to.new ≡ string_bytes to.old ++ printed_after (guard_trees (assigned_of guards.now))) }
+    ensures { OnOk result (string_bytes to.new ≡ string_bytes to.old ++ printed_after
+        (guard_trees (assigned_of guards.now))) }
 {
     let mut left = guards;
     'guards: while let Publics::More(first, rest) = left {

@@ -1,5 +1,5 @@
-//! The first fault of a statement. `statement_fault` only looks at the form; the forms without statements inside
-//! are functions of their own, outside of the recursion.
+//! The first fault of a statement. `statement_fault` only looks at the form; the forms without
+//! statements inside are functions of their own, outside of the recursion.
 ghost use Rattle.std.specs.Prelude.{◌≡◌, true, false};
 ghost use Rattle.jac_value.specs.declared.value.Kind.{Kind};
 ghost use Rattle.jac_lang.specs.Mirror.{assigned_of, binders_of, expression_of, question_of, statement_of, statements_of};
@@ -80,7 +80,9 @@ fn let_fault<'a>(
     body: &'a Stmts,
     at: &Standing<'_>,
 ) -> Result<(), Cause<'a>>
-    ensures { let v = verdict_at (standing_of at.now) (expression_of e.now) in fault_of result ≡ (fault_in v before body_fault (bind (standing_of at.now) name.now (kind_or Kind.Int v) true) (statements_of body.now)) }
+    ensures { let v = verdict_at (standing_of at.now) (expression_of e.now)
+        in fault_of result ≡ (fault_in v before body_fault (bind (standing_of at.now) name.now
+        (kind_or Kind.Int v) true) (statements_of body.now)) }
 {
     match judge_at(e, at) {
         Ok(kind) => bound_fault(name, kind, true, body, at),
@@ -95,7 +97,9 @@ fn if_fault<'a>(
     other: &'a Stmts,
     at: &Standing<'_>,
 ) -> Result<(), Cause<'a>>
-    ensures { let s = standing_of at.now in fault_of result ≡ (of_kind Kind.Bool (verdict_at s (expression_of c.now)) before body_fault s (statements_of then.now) before body_fault s (statements_of other.now)) }
+    ensures { let s = standing_of at.now
+        in fault_of result ≡ (of_kind Kind.Bool (verdict_at s (expression_of c.now)) before
+        body_fault s (statements_of then.now) before body_fault s (statements_of other.now)) }
 {
     kind_fault(Kind::Bool, c, at)?;
     body_fault(then, at)?;
@@ -104,7 +108,9 @@ fn if_fault<'a>(
 
 #[cycle(statements)]
 fn for_fault<'a>(query: &'a Query, body: &'a Stmts, at: &Standing<'_>) -> Result<(), Cause<'a>>
-    ensures { let s = standing_of at.now in fault_of result ≡ (query_fault s (question_of query.now) before body_fault (loop_within (question_of query.now).binders s) (statements_of body.now)) }
+    ensures { let s = standing_of at.now in fault_of result ≡ (query_fault s (question_of query.now)
+        before body_fault (loop_within (question_of query.now).binders s)
+        (statements_of body.now)) }
 {
     query_fault(query, at)?;
     let names = Names::Binders {
@@ -128,7 +134,9 @@ fn create_and_body_fault<'a>(
     body: &'a Stmts,
     at: &Standing<'_>,
 ) -> Result<(), Cause<'a>>
-    ensures { let s = standing_of at.now in fault_of result ≡ (create_fault s model.now (assigned_of cells.now) before body_fault (bind s name.now (reference_to s.models model.now) false) (statements_of body.now)) }
+    ensures { let s = standing_of at.now
+        in fault_of result ≡ (create_fault s model.now (assigned_of cells.now) before body_fault
+        (bind s name.now (reference_to s.models model.now) false) (statements_of body.now)) }
 {
     create_fault(model, cells, at)?;
     bound_fault(name, reference_to(at.app, model), false, body, at)
@@ -143,7 +151,8 @@ fn bound_fault<'a>(
     body: &'a Stmts,
     at: &Standing<'_>,
 ) -> Result<(), Cause<'a>>
-    ensures { fault_of result ≡ body_fault (bind (standing_of at.now) name.now kind by_let) (statements_of body.now) }
+    ensures { fault_of result ≡ body_fault (bind (standing_of at.now) name.now kind by_let)
+        (statements_of body.now) }
 {
     let names = Names::Bound {
         name,
@@ -186,14 +195,16 @@ fn expression_fault<'a>(e: &'a Expr, at: &Standing<'_>) -> Result<(), Cause<'a>>
 
 // An expression of this kind.
 fn kind_fault<'a>(kind: Kind, e: &'a Expr, at: &Standing<'_>) -> Result<(), Cause<'a>>
-    ensures { fault_of result ≡ of_kind kind (verdict_at (standing_of at.now) (expression_of e.now)) }
+    ensures { fault_of result ≡ of_kind kind (verdict_at (standing_of at.now)
+        (expression_of e.now)) }
 {
     let have = judge_at(e, at)?;
     want(kind, have)
 }
 
 fn assign_fault<'a>(name: &Txt, e: &'a Expr, at: &Standing<'_>) -> Result<(), Cause<'a>>
-    ensures { let s = standing_of at.now in fault_of result ≡ assigned_fault (meaning_of s.names name.now) (verdict_at s (expression_of e.now)) }
+    ensures { let s = standing_of at.now in fault_of result ≡ assigned_fault
+        (meaning_of s.names name.now) (verdict_at s (expression_of e.now)) }
 {
     match look_up(at.app, at.names, name) {
         Some(meaning) => {
@@ -247,7 +258,8 @@ fn loop_cause<'a>(nested: bool, model: &'a Txt) -> Cause<'a>
 }
 
 fn create_fault<'a>(model: &'a Txt, cells: &'a Publics, at: &Standing<'_>) -> Result<(), Cause<'a>>
-    ensures { fault_of result ≡ create_fault (standing_of at.now) model.now (assigned_of cells.now) }
+    ensures { fault_of result ≡ create_fault (standing_of at.now) model.now
+        (assigned_of cells.now) }
 {
     write_fault(at)?;
     known_model(at.app, model)?;
@@ -264,7 +276,8 @@ fn update_fault<'a>(
     cells: &'a Publics,
     at: &Standing<'_>,
 ) -> Result<(), Cause<'a>>
-    ensures { let s = standing_of at.now in fault_of result ≡ update_fault s model.now (verdict_at s (expression_of target.now)) (assigned_of cells.now) }
+    ensures { let s = standing_of at.now in fault_of result ≡ update_fault s model.now
+        (verdict_at s (expression_of target.now)) (assigned_of cells.now) }
 {
     write_fault(at)?;
     known_model(at.app, model)?;
@@ -277,7 +290,8 @@ fn update_fault<'a>(
 }
 
 fn delete_fault<'a>(model: &'a Txt, target: &'a Expr, at: &Standing<'_>) -> Result<(), Cause<'a>>
-    ensures { let s = standing_of at.now in fault_of result ≡ delete_fault s model.now (verdict_at s (expression_of target.now)) }
+    ensures { let s = standing_of at.now in fault_of result ≡ delete_fault s model.now
+        (verdict_at s (expression_of target.now)) }
 {
     write_fault(at)?;
     known_model(at.app, model)?;

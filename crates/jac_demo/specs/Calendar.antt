@@ -1,7 +1,8 @@
 -- The text of the calendar that is shown to try the program.
 use Rattle.std.specs.Prelude.{ℕ, List, ◌++◌, codes}
 
--- users, and events whose titles only their hosts see unless they are open; three views, which join, add and list
+-- users, and events whose titles only their hosts see unless they are open; three views, which
+-- join, add and list
 unfoldable pub calendar_text : List ℕ
 calendar_text =
     codes "(app (viewer User)\n"

@@ -6,8 +6,9 @@ use jac_value::{Bytes, Memory};
 use std::alloc::Global;
 use std::fmt::Write;
 
-/// The first `count` requests to the calendar of `demo_app`, as lines of an events file, each ended by a line feed.
-/// Three users join first; then each fourth request lists the events, and the others add one.
+/// The first `count` requests to the calendar of `demo_app`, as lines of an events file, each ended
+/// by a line feed. Three users join first; then each fourth request lists the events, and the
+/// others add one.
 pub fn demo_events(alloc: Global, count: u64) -> Result<Bytes, Memory>
     requires some { 1 ≤ count }
     requires few { count ≤ 2000 }
@@ -26,7 +27,8 @@ pub fn demo_events(alloc: Global, count: u64) -> Result<Bytes, Memory>
 
 #[tactic(auto, unfolding(crate::specs::Requests::demo_line))]
 fn push_line(text: &mut String, number: u64) -> Result<(), Memory>
-    ensures { IfOk result (λ done. string_bytes text.new ≡ string_bytes text.old ++ demo_line number) }
+    ensures { IfOk result (λ done. string_bytes text.new ≡ string_bytes text.old ++ demo_line
+        number) }
 {
     if number <= 3 {
         push_join(text, number)
@@ -38,14 +40,16 @@ fn push_line(text: &mut String, number: u64) -> Result<(), Memory>
 }
 
 fn push_join(text: &mut String, number: u64) -> Result<(), Memory>
-    ensures { IfOk result (λ done. string_bytes text.new ≡ string_bytes text.old ++ join_line number) }
+    ensures { IfOk result (λ done. string_bytes text.new ≡ string_bytes text.old ++ join_line
+        number) }
 {
     write!(text, "ask - POST \"/join\" \"name=u{number}\"\n")?;
     Ok(())
 }
 
 fn push_add(text: &mut String, number: u64) -> Result<(), Memory>
-    ensures { IfOk result (λ done. string_bytes text.new ≡ string_bytes text.old ++ add_line number) }
+    ensures { IfOk result (λ done. string_bytes text.new ≡ string_bytes text.old ++ add_line
+        number) }
 {
     let viewer = viewer_number(number);
     let open = open_digit(number);
@@ -57,7 +61,8 @@ fn push_add(text: &mut String, number: u64) -> Result<(), Memory>
 }
 
 fn push_list(text: &mut String, number: u64) -> Result<(), Memory>
-    ensures { IfOk result (λ done. string_bytes text.new ≡ string_bytes text.old ++ list_line number) }
+    ensures { IfOk result (λ done. string_bytes text.new ≡ string_bytes text.old ++ list_line
+        number) }
 {
     let viewer = viewer_number(number);
     write!(text, "ask {viewer} GET \"/list\" \"\"\n")?;

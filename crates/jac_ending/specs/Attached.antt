@@ -11,8 +11,10 @@ use Rattle.jac_ending.specs.declared.ending.Ending.TheVariants as endings
 use Rattle.jac_opening.specs.Application.{schema_text}
 use Rattle.jac_serving.specs.Outside.{Span}
 
--- a store of this name was attached for the application, of whose kinds its cells are, and no other since
-pub record IsAttached (db : Option (List ℕ)) (app : Application) (k : Span KeeperSeen) (opened : KeeperSeen) : Type 0 where
+-- a store of this name was attached for the application, of whose kinds its cells are, and no other
+-- since
+pub record IsAttached (db : Option (List ℕ)) (app : Application) (k : Span KeeperSeen)
+    (opened : KeeperSeen) : Type 0 where
   pub attaches : Attaches k.before opened db (schema_text app) (Ok tt)
   pub fit : IsTrue opened.tells → IsFit (shapes_of app) opened.state
   pub stays : k.after.store ≡ opened.store
@@ -31,9 +33,13 @@ pub record IsOther (k : Span KeeperSeen) (stored wanted : List ℕ) : Type 0 whe
   pub told : IsTrue k.after.tells → k.before.store.schema ≡ Some stored
 
 -- how attaching a store for the application ends
-abbrev pub AttachesAs : Option (List ℕ) → Application → Span KeeperSeen → Result (Unit {0}) Ending → Type 0
-AttachesAs db app k (Ok done) = Attaches k.before k.after db (schema_text app) (Ok tt) × (IsTrue k.after.tells → IsFit (shapes_of app) k.after.state)
-AttachesAs db app k (Err endings.StoreFault) = Rose k.before.faults k.after.faults × IsUnattached k [] []
-AttachesAs db app k (Err (endings.OtherStore stored wanted)) = (wanted ≡ schema_text app) × IsOther k stored wanted × IsUnattached k [] []
+abbrev pub AttachesAs : Option (List ℕ) → Application → Span KeeperSeen → Result (Unit {0}) Ending
+    → Type 0
+AttachesAs db app k (Ok done) = Attaches k.before k.after db (schema_text app) (Ok tt)
+    × (IsTrue k.after.tells → IsFit (shapes_of app) k.after.state)
+AttachesAs db app k (Err endings.StoreFault) = Rose k.before.faults k.after.faults
+    × IsUnattached k [] []
+AttachesAs db app k (Err (endings.OtherStore stored wanted)) = (wanted ≡ schema_text app)
+    × IsOther k stored wanted × IsUnattached k [] []
 AttachesAs db app k (Err endings.Memory) = IsUnattached k [] []
 AttachesAs db app k (Err ending) = ⊥

@@ -12,16 +12,22 @@ use Rattle.jac_ending.specs.Files.{Sight, IsRead, IsLong, HasApplication, HasBad
 
 -- how the steps before end: nothing was put
 abbrev pub EndsOpening : Sight → Command → Ending → Type 0
-EndsOpening seen command (endings.AppRefused line) = (bytes : List ℕ) × IsRead seen command roles.App bytes × IsRefusedBy bytes line
+EndsOpening seen command (endings.AppRefused line) = (bytes : List ℕ)
+    × IsRead seen command roles.App bytes × IsRefusedBy bytes line
 EndsOpening seen command (endings.NewRefused line) =
-    IsReached seen command roles.New × ((bytes : List ℕ) × IsRead seen command roles.New bytes × IsRefusedBy bytes line)
-EndsOpening seen command (endings.SessionsRefused line) = ((app : Application) × HasApplication seen command app) × HasBadLine seen.files (file_of command roles.Sessions) line
-EndsOpening seen command (endings.ReadFault role) = IsReached seen command role × Rose seen.files.before.faults seen.files.after.faults
-EndsOpening seen command (endings.TooLong role) = IsReached seen command role × IsLong seen command role
+    IsReached seen command roles.New × ((bytes : List ℕ) × IsRead seen command roles.New bytes
+    × IsRefusedBy bytes line)
+EndsOpening seen command (endings.SessionsRefused line) = ((app : Application)
+    × HasApplication seen command app) × HasBadLine seen.files (file_of command roles.Sessions) line
+EndsOpening seen command (endings.ReadFault role) = IsReached seen command role
+    × Rose seen.files.before.faults seen.files.after.faults
+EndsOpening seen command (endings.TooLong role) = IsReached seen command role
+    × IsLong seen command role
 EndsOpening seen command endings.Memory = ⊤
 EndsOpening seen command ending = ⊥
 
 -- it ended before the audit was aimed
 abbrev pub IsEndedEarly : Sight → Command → Result (Unit {0}) Ending → List ℕ → List ℕ → Type 0
 IsEndedEarly seen command (Ok done) out audit = ⊥
-IsEndedEarly seen command (Err ending) out audit = EndsOpening seen command ending × IsIdle seen.audit seen.keeper out audit
+IsEndedEarly seen command (Err ending) out audit = EndsOpening seen command ending
+    × IsIdle seen.audit seen.keeper out audit

@@ -24,13 +24,15 @@ pub record Sight : Type 0 where
   pub audit : Span SinkSeen
   pub keeper : Span KeeperSeen
 
-abbrev pub sight : FilesSeen → FilesSeen → SinkSeen → SinkSeen → SinkSeen → SinkSeen → KeeperSeen → KeeperSeen → Sight
-sight files_before files_after out_before out_after audit_before audit_after keeper_before keeper_after = record {
-  files = span files_before files_after;
-  out = span out_before out_after;
-  audit = span audit_before audit_after;
-  keeper = span keeper_before keeper_after;
-}
+abbrev pub sight : FilesSeen → FilesSeen → SinkSeen → SinkSeen → SinkSeen → SinkSeen → KeeperSeen
+    → KeeperSeen → Sight
+sight files_before files_after out_before out_after audit_before audit_after keeper_before
+    keeper_after = record {
+      files = span files_before files_after;
+      out = span out_before out_after;
+      audit = span audit_before audit_after;
+      keeper = span keeper_before keeper_after;
+    }
 
 -- the same, until out stood so
 abbrev pub standing_at : Sight → SinkSeen → Sight
@@ -40,16 +42,19 @@ abbrev pub sinks_of : Sight → Sinks
 sinks_of seen = record { out = seen.out; audit = seen.audit }
 
 -- the file of this name and role was read whole
-pub record IsReadAs (files : Span FilesSeen) (name : List ℕ) (role : Role) (bytes : List ℕ) : Type 0 where
-  pub short : length bytes ≤ limit_of role
-  pub told : IsTrue files.after.tells → files.before.file name ≡ Some bytes
+pub record IsReadAs (files : Span FilesSeen) (name : List ℕ) (role : Role) (bytes : List ℕ) : Type 0
+  where
+    pub short : length bytes ≤ limit_of role
+    pub told : IsTrue files.after.tells → files.before.file name ≡ Some bytes
 
 abbrev pub IsRead : Sight → Command → Role → List ℕ → Type 0
 IsRead seen command role = IsReadAs seen.files (name_of command role) role
 
 -- it holds more than its limit
 abbrev pub IsLong : Sight → Command → Role → Type 0
-IsLong seen command role = IsTrue seen.files.after.tells → IsSomeAnd (seen.files.before.file (name_of command role)) (λ bytes. limit_of role < length bytes)
+IsLong seen command role = IsTrue seen.files.after.tells
+    → IsSomeAnd (seen.files.before.file (name_of command role)) (λ bytes. limit_of role
+    < length bytes)
 
 -- the application's file was read, and spells this application
 pub record HasApplication (seen : Sight) (command : Command) (app : Application) : Type 0 where
@@ -66,15 +71,18 @@ pub record HasNext (seen : Sight) (command : Command) (app : Application) : Type
 -- the sessions of the file of this name, which was read; without a name there are none
 abbrev pub HasSessions : Span FilesSeen → Option (List ℕ) → List Session → Type 0
 HasSessions files None sessions = sessions ≡ []
-HasSessions files (Some name) sessions = (bytes : List ℕ) × IsReadAs files name roles.Sessions bytes × (sessions_in bytes ≡ Ok sessions)
+HasSessions files (Some name) sessions = (bytes : List ℕ) × IsReadAs files name roles.Sessions bytes
+    × (sessions_in bytes ≡ Ok sessions)
 
 -- the file of this name was read, and the line of this number is no session's
 abbrev pub HasBadLine : Span FilesSeen → Option (List ℕ) → ℕ → Type 0
 HasBadLine files None n = ⊥
-HasBadLine files (Some name) n = (bytes : List ℕ) × IsReadAs files name roles.Sessions bytes × (sessions_in bytes ≡ Err n)
+HasBadLine files (Some name) n = (bytes : List ℕ) × IsReadAs files name roles.Sessions bytes
+    × (sessions_in bytes ≡ Err n)
 
 -- and the sessions were had, and the events' file was read
-pub record IsOpened (seen : Sight) (command : Command) (app : Application) (sessions : List Session) (events : List ℕ) : Type 0 where
+pub record IsOpened (seen : Sight) (command : Command) (app : Application) (sessions : List Session)
+    (events : List ℕ) : Type 0 where
   pub application : HasApplication seen command app
   pub sessions_had : HasSessions seen.files (file_of command roles.Sessions) sessions
   pub events_read : IsRead seen command roles.Events events
@@ -82,18 +90,23 @@ pub record IsOpened (seen : Sight) (command : Command) (app : Application) (sess
 -- the steps before the file of this role is read
 abbrev pub IsReached : Sight → Command → Role → Type 0
 IsReached seen command roles.App = ⊤
-IsReached seen command roles.New = ((app : Application) × HasApplication seen command app) × IsTrue (is_some (file_of command roles.New))
-IsReached seen command roles.Sessions = ((app : Application) × HasApplication seen command app) × IsTrue (is_some (file_of command roles.Sessions))
+IsReached seen command roles.New = ((app : Application) × HasApplication seen command app)
+    × IsTrue (is_some (file_of command roles.New))
+IsReached seen command roles.Sessions = ((app : Application) × HasApplication seen command app)
+    × IsTrue (is_some (file_of command roles.Sessions))
 IsReached seen command roles.Events =
-    ((app : Application) × HasApplication seen command app) × ((sessions : List Session) × HasSessions seen.files (file_of command roles.Sessions) sessions)
+    ((app : Application) × HasApplication seen command app) × ((sessions : List Session)
+    × HasSessions seen.files (file_of command roles.Sessions) sessions)
     × IsTrue (is_some (file_of command roles.Events))
 
 -- the audit was aimed once, at this file or at none, before anything was put on it
 abbrev pub IsAimed : Option (List ℕ) → Span SinkSeen → Type 0
-IsAimed name audit = IsTrue audit.after.tells → audit.after.aims ≡ audit.before.aims ++ (name, length audit.before.held) ∷ []
+IsAimed name audit = IsTrue audit.after.tells → audit.after.aims ≡ audit.before.aims
+    ++ (name, length audit.before.held) ∷ []
 
 -- nothing was put, the audit was not aimed, and the keeper was not called
-pub record IsIdle (audit : Span SinkSeen) (keeper : Span KeeperSeen) (out_bytes audit_bytes : List ℕ) : Type 0 where
+pub record IsIdle (audit : Span SinkSeen) (keeper : Span KeeperSeen) (out_bytes audit_bytes : List
+    ℕ) : Type 0 where
   pub no_out : out_bytes ≡ []
   pub no_audit : audit_bytes ≡ []
   pub unaimed : IsTrue audit.after.tells → audit.after.aims ≡ audit.before.aims
@@ -101,9 +114,11 @@ pub record IsIdle (audit : Span SinkSeen) (keeper : Span KeeperSeen) (out_bytes 
 
 -- why the file of this role, with this name, wasn't read
 abbrev pub IsUnread : Span FilesSeen → List ℕ → Role → Ending → Type 0
-IsUnread files name role (endings.ReadFault r) = (r ≡ role) × Rose files.before.faults files.after.faults
+IsUnread files name role (endings.ReadFault r) = (r ≡ role)
+    × Rose files.before.faults files.after.faults
 IsUnread files name role (endings.TooLong r) =
-    (r ≡ role) × (IsTrue files.after.tells → IsSomeAnd (files.before.file name) (λ bytes. limit_of role < length bytes))
+    (r ≡ role) × (IsTrue files.after.tells → IsSomeAnd (files.before.file name)
+    (λ bytes. limit_of role < length bytes))
 IsUnread files name role endings.Memory = ⊤
 IsUnread files name role (endings.AppRefused line) = ⊥
 IsUnread files name role (endings.NewRefused line) = ⊥
@@ -118,7 +133,8 @@ IsUnread files name role (endings.OtherStore stored wanted) = ⊥
 -- why bytes gave no application
 abbrev pub IsUnopened : List ℕ → Ending → Type 0
 IsUnopened bytes ending =
-    ((line : List ℕ) × (ending ≡ endings.AppRefused line) × IsRefusedBy bytes line) ⊎ (ending ≡ endings.Memory)
+    ((line : List ℕ) × (ending ≡ endings.AppRefused line) × IsRefusedBy bytes line)
+    ⊎ (ending ≡ endings.Memory)
 
 -- an ending of the opening, where it is that of the application that a store is brought to
 abbrev pub of_next : Ending → Ending
@@ -128,14 +144,17 @@ of_next ending = ending
 -- why bytes gave none
 abbrev pub IsNextUnopened : List ℕ → Ending → Type 0
 IsNextUnopened bytes ending =
-    ((line : List ℕ) × (ending ≡ endings.NewRefused line) × IsRefusedBy bytes line) ⊎ (ending ≡ endings.Memory)
+    ((line : List ℕ) × (ending ≡ endings.NewRefused line) × IsRefusedBy bytes line)
+    ⊎ (ending ≡ endings.Memory)
 
 -- why bytes gave no sessions
 abbrev pub IsUnlisted : List ℕ → Ending → Type 0
-IsUnlisted bytes ending = ((line : ℕ) × (ending ≡ endings.SessionsRefused line) × (sessions_in bytes ≡ Err line)) ⊎ (ending ≡ endings.Memory)
+IsUnlisted bytes ending = ((line : ℕ) × (ending ≡ endings.SessionsRefused line)
+    × (sessions_in bytes ≡ Err line)) ⊎ (ending ≡ endings.Memory)
 
 -- why a file of this name, where there is one, gave no sessions
 abbrev pub IsSessionless : Span FilesSeen → Option (List ℕ) → Ending → Type 0
 IsSessionless files None ending = ⊥
 IsSessionless files (Some name) ending =
-    IsUnread files name roles.Sessions ending ⊎ ((line : ℕ) × (ending ≡ endings.SessionsRefused line) × HasBadLine files (Some name) line)
+    IsUnread files name roles.Sessions ending
+    ⊎ ((line : ℕ) × (ending ≡ endings.SessionsRefused line) × HasBadLine files (Some name) line)

@@ -24,7 +24,8 @@ pub fn attach<K: Vault>(
     requires first { (K.seen vault.old).store.called ≡ false }
     requires own { schema ≡ schema_text (application_of service.now) }
     requires schema { IsSchema schema (shapes_of (application_of service.now)) }
-    ensures attaches { AttachesAs (option_copied db.entry) (application_of service.now) (span (K.seen vault.old) (K.seen vault.new)) result }
+    ensures attaches { AttachesAs (option_copied db.entry) (application_of service.now)
+        (span (K.seen vault.old) (K.seen vault.new)) result }
     ensures attached { OnOk result (IsTrue (K.seen vault.new).store.attached) }
 {
     match vault.attach(alloc, db, &schema) {

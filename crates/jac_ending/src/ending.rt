@@ -125,7 +125,8 @@ fn limit_bytes(role: Role) -> &'static [u8]
 
 /// Puts the line that tells why a command ended; it takes no memory.
 pub fn put_fault<O: Sink>(out: &mut O, command: &Command, ending: &Ending) -> Result<(), Failed>
-    ensures { IsPut (span (O.seen out.old) (O.seen out.new)) (fault_line command.now ending.now) result }
+    ensures { IsPut (span (O.seen out.old) (O.seen out.new)) (fault_line command.now ending.now)
+        result }
 {
     match ending {
         Ending::ReadFault(role) => put_three(
@@ -168,7 +169,8 @@ fn behind_role(line: &[u8]) -> &[u8]
 }
 
 fn put_bad_line<O: Sink>(out: &mut O, line: u64) -> Result<(), Failed>
-    ensures { IsPut (span (O.seen out.old) (O.seen out.new)) (codes "sessions: line " ++ decimal line ++ codes "\n") result }
+    ensures { IsPut (span (O.seen out.old) (O.seen out.new)) (codes "sessions: line " ++ decimal
+        line ++ codes "\n") result }
 {
     let mut buffer = Buffer::new();
     let digits = buffer.format(line);
@@ -186,7 +188,8 @@ fn put_lapse<O: Sink>(out: &mut O, lapse: Lapse) -> Result<(), Failed>
 }
 
 fn put_formless<O: Sink>(out: &mut O, line: u64) -> Result<(), Failed>
-    ensures { IsPut (span (O.seen out.old) (O.seen out.new)) (codes "events: line " ++ decimal line ++ codes ": no form\n") result }
+    ensures { IsPut (span (O.seen out.old) (O.seen out.new)) (codes "events: line " ++ decimal line
+        ++ codes ": no form\n") result }
 {
     let mut buffer = Buffer::new();
     let digits = buffer.format(line);
@@ -194,7 +197,8 @@ fn put_formless<O: Sink>(out: &mut O, line: u64) -> Result<(), Failed>
 }
 
 fn put_conn_fault<O: Sink>(out: &mut O, line: u64, conn: u32, fault: &[u8]) -> Result<(), Failed>
-    ensures { IsPut (span (O.seen out.old) (O.seen out.new)) (codes "events: line " ++ decimal line ++ codes ": connection " ++ decimal conn ++ fault.now) result }
+    ensures { IsPut (span (O.seen out.old) (O.seen out.new)) (codes "events: line " ++ decimal line
+        ++ codes ": connection " ++ decimal conn ++ fault.now) result }
 {
     let mut line_buffer = Buffer::new();
     let mut conn_buffer = Buffer::new();

@@ -25,8 +25,10 @@ pub fn read_file<F: Files>(
 ) -> Result<Bytes, Ending>
     ensures lasts { FilesLast (F.seen files.old) (F.seen files.new) }
     ensures short { IfOk result (λ bytes. length bytes ≤ limit_of role) }
-    ensures told { IsTrue (F.seen files.new).tells → IfOk result (λ bytes. (F.seen files.old).file name.now ≡ Some bytes) }
-    ensures unread { IfErr result (IsUnread (span (F.seen files.old) (F.seen files.new)) name.now role) }
+    ensures told { IsTrue (F.seen files.new).tells
+        → IfOk result (λ bytes. (F.seen files.old).file name.now ≡ Some bytes) }
+    ensures unread { IfErr result (IsUnread (span (F.seen files.old) (F.seen files.new)) name.now
+        role) }
 {
     match files.read_all(alloc, name, limit(role)) {
         Ok(bytes) => Ok(bytes),
@@ -74,7 +76,8 @@ fn of_next(ending: Ending) -> Ending
 }
 
 fn refused(alloc: Global, refusal: &Refusal) -> Ending
-    ensures { ((¬ (refusal.now ≡ Refusal.Memory)) × (result ≡ Ending.AppRefused (refusal_text refusal.now))) ⊎ (result ≡ Ending.Memory) }
+    ensures { ((¬ (refusal.now ≡ Refusal.Memory))
+        × (result ≡ Ending.AppRefused (refusal_text refusal.now))) ⊎ (result ≡ Ending.Memory) }
 {
     match refusal_line(alloc, refusal) {
         Ok(line) => Ending::AppRefused(line),
@@ -89,8 +92,10 @@ pub fn read_sessions<F: Files>(
     name: Option<&Txt>,
 ) -> Result<Sessions, Ending>
     ensures lasts { FilesLast (F.seen files.old) (F.seen files.new) }
-    ensures had { IfOk result (HasSessions (span (F.seen files.old) (F.seen files.new)) (option_copied name.entry)) }
-    ensures sessionless { IfErr result (IsSessionless (span (F.seen files.old) (F.seen files.new)) (option_copied name.entry)) }
+    ensures had { IfOk result (HasSessions (span (F.seen files.old) (F.seen files.new))
+        (option_copied name.entry)) }
+    ensures sessionless { IfErr result (IsSessionless (span (F.seen files.old) (F.seen files.new))
+        (option_copied name.entry)) }
 {
     let name = match name {
         None => return Ok(Sessions::empty(alloc)),

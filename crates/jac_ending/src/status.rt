@@ -10,8 +10,8 @@ pub enum Status {
     Usage,
     /// The application's bytes spell no application.
     AppRefused,
-    /// A line of the sessions or events has no form, or names a connection in the wrong state; the events before it
-    /// were served.
+    /// A line of the sessions or events has no form, or names a connection in the wrong state; the
+    /// events before it were served.
     LineRefused,
     /// A file wasn't read.
     ReadFault,

@@ -12,12 +12,14 @@ use Rattle.jac_events.specs.declared.event.Event.TheVariants.{Ask, Begin, Piece,
 -- a number below the limit, of 1 to `most` decimal digits
 abbrev pub number_of : ℕ → ℕ → List ℕ → Option ℕ
 number_of most limit word =
-    if nat_lt 0 (length word) && nat_le (length word) most && list_all is_ascii_digit word && nat_lt (digits_value 10 word) limit
+    if nat_lt 0 (length word) && nat_le (length word) most && list_all is_ascii_digit word && nat_lt
+    (digits_value 10 word) limit
     then Some (digits_value 10 word) else None
 
 -- a viewer's number, or `-` for nobody
 abbrev pub viewer_of : List ℕ → Option (Option ℕ)
-viewer_of word = if bytes_eq word (codes "-") then Some None else option_map (λ n. Some n) (number_of 39 (2 ^ 128) word)
+viewer_of word = if bytes_eq word (codes "-") then Some None
+    else option_map (λ n. Some n) (number_of 39 (2 ^ 128) word)
 
 -- the number of a connection
 abbrev pub conn_of : List ℕ → Option ℕ
@@ -25,7 +27,8 @@ conn_of word = number_of 10 (2 ^ 32) word
 
 -- 1 to 15 upper-case letters
 abbrev pub is_method : List ℕ → Bool
-is_method word = nat_lt 0 (length word) && nat_le (length word) 15 && list_all is_ascii_uppercase word
+is_method word = nat_lt 0 (length word) && nat_le (length word) 15 && list_all is_ascii_uppercase
+    word
 
 -- a text that begins with `/`
 abbrev pub is_target : List ℕ → Bool
@@ -35,9 +38,11 @@ abbrev pub is_nil : List ℕ → Bool
 is_nil [] = true
 is_nil (b ∷ bytes) = false
 
--- the request of these parts: the path is what stands before the target's first `?`, the query what follows it
+-- the request of these parts: the path is what stands before the target's first `?`, the query what
+-- follows it
 abbrev pub asked : Option ℕ → List ℕ → List ℕ → List ℕ → Event
-asked viewer method target body = Ask viewer method (before_first (λ b. b == 63) target) (after_first (λ b. b == 63) target) body
+asked viewer method target body = Ask viewer method (before_first (λ b. b == 63) target)
+    (after_first (λ b. b == 63) target) body
 
 -- behind `ask`: `VIEWER METHOD "TARGET" "BODY"`
 abbrev pub ask_of : List ℕ → Option Event
@@ -48,7 +53,8 @@ ask_of rest =
     option_and_then (λ rest.
     option_and_then (λ body.
     option_and_then (λ number.
-    if is_method method.0 && is_target target.0 && is_nil body.1 then Some (asked number method.0 target.0 body.0) else None)
+    if is_method method.0 && is_target target.0 && is_nil body.1
+    then Some (asked number method.0 target.0 body.0) else None)
     (viewer_of viewer.0))
     (quoted_at rest))
     (after_byte 32 target.1))

@@ -49,7 +49,8 @@ abbrev mutual
   unhexed [] = None
   unhexed (h ∷ []) = None
   unhexed (h ∷ (l ∷ bytes)) =
-      option_and_then (λ high. option_and_then (λ low. with_byte (16 * high + low) (unquoted bytes)) (hex_value l)) (hex_value h)
+      option_and_then (λ high. option_and_then (λ low. with_byte (16 * high + low) (unquoted bytes))
+      (hex_value l)) (hex_value h)
 
 -- the content of a quoted text that stands first, and what follows it
 abbrev pub quoted_at : List ℕ → Option (List ℕ × List ℕ)

@@ -16,7 +16,12 @@ use Rattle.jac_plain.specs.World.{World}
 -- the world that an assignment shows
 abbrev pub world_at : App → Ctx → State → (ℕ → Bool) → World
 world_at app ctx s w =
-    record { models = (application_of app).models; this = ctx.this; viewer = ctx.viewer; tables = (project_at w s).tables }
+    record {
+      models = (application_of app).models;
+      this = ctx.this;
+      viewer = ctx.viewer;
+      tables = (project_at w s).tables;
+    }
 
 -- the bindings that an assignment shows
 abbrev pub env_at : (ℕ → Bool) → List (List ℕ × Shape Value) → List Binding
@@ -24,5 +29,7 @@ env_at w [] = []
 env_at w (b ∷ bs) = binding b.0 (at w b.1) ∷ env_at w bs
 
 -- wherever the path condition holds the facet shows the value of the expression
-abbrev pub Means : App → Ctx → State → List (List ℕ × Shape Value) → List (ℕ × Bool) → Expression → Shape Value → Type 0
-Means app ctx s env pc e f = (w : ℕ → Bool) → holds w pc ≡ true → at w f ≡ mean (world_at app ctx s w) e (env_at w env)
+abbrev pub Means : App → Ctx → State → List (List ℕ × Shape Value) → List (ℕ × Bool) → Expression
+    → Shape Value → Type 0
+Means app ctx s env pc e f = (w : ℕ → Bool) → holds w pc ≡ true
+    → at w f ≡ mean (world_at app ctx s w) e (env_at w env)

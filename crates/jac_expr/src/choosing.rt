@@ -21,7 +21,8 @@ pub(crate) fn choose<L: Ledger>(
     second: &Facet<Value>,
     splits: &mut Steps<L>,
 ) -> Result<Facet<Value>, Memory>
-    ensures { IfOk result (λ f. (w : ℕ → Bool) → holds w pc.now ≡ true → at w f ≡ pick (is_true (at w condition.now)) (at w first.now) (at w second.now)) }
+    ensures { IfOk result (λ f. (w : ℕ → Bool) → holds w pc.now ≡ true
+        → at w f ≡ pick (is_true (at w condition.now)) (at w first.now) (at w second.now)) }
 {
     let leaves = condition.leaves_under(alloc, pc)?;
     let chosen = choose_by(alloc, leaves.as_slice(), first, second, splits)?;
@@ -35,7 +36,9 @@ fn choose_by<L: Ledger>(
     second: &Facet<Value>,
     splits: &mut Steps<L>,
 ) -> Result<Facet<Value>, Memory>
-    ensures { IfOk result (λ f. (w : ℕ → Bool) → at w f ≡ last_by (λ v. pick (is_true v) (at w first.now) (at w second.now)) (at w second.now) (seen w leaves.now)) }
+    ensures { IfOk result (λ f. (w : ℕ → Bool)
+        → at w f ≡ last_by (λ v. pick (is_true v) (at w first.now) (at w second.now))
+        (at w second.now) (seen w leaves.now)) }
 {
     let mut chosen = second.copy(alloc)?;
     'leaves: for leaf in leaves {
@@ -50,7 +53,8 @@ fn side_of<'f>(
     first: &'f Facet<Value>,
     second: &'f Facet<Value>,
 ) -> &'f Facet<Value>
-    ensures { (w : ℕ → Bool) → at w result.now ≡ pick (is_true condition.now) (at w first.now) (at w second.now) }
+    ensures { (w : ℕ → Bool) → at w result.now ≡ pick (is_true condition.now) (at w first.now)
+        (at w second.now) }
 {
     if is_true(condition) { first } else { second }
 }

@@ -1,4 +1,5 @@
-//! The values of expressions and the answers of queries over faceted rows, for all assignments at once.
+//! The values of expressions and the answers of queries over faceted rows, for all assignments at
+//! once.
 #![tactic(auto)]
 
 mod binding;

@@ -28,7 +28,8 @@ pub(crate) fn innermost<'e>(
     bindings: &'e [(Txt, Facet<Value>)],
     name: &Txt,
 ) -> Option<&'e Facet<Value>>
-    ensures { (w : ℕ → Bool) → shown_or_zero w (option_copied result) ≡ look (env_at w bindings.now) name.now }
+    ensures { (w : ℕ → Bool) → shown_or_zero w (option_copied result) ≡ look (env_at w bindings.now)
+        name.now }
 {
     let mut rest = bindings;
     'bindings: while let Some((binding, outer)) = rest.split_last() {

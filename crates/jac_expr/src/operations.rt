@@ -18,7 +18,8 @@ pub(crate) fn combine_two<L: Ledger>(
     second: &Facet<Value>,
     splits: &mut Steps<L>,
 ) -> Result<Facet<Value>, Memory>
-    ensures { IfOk result (λ f. (w : ℕ → Bool) → at w f ≡ two op (at w first.now) (at w second.now)) }
+    ensures { IfOk result (λ f. (w : ℕ → Bool) → at w f ≡ two op (at w first.now)
+        (at w second.now)) }
 {
     let both = first.combine(alloc, second, |x, y| Ok(two_values(op, x, y)), splits)?;
     Ok(both)

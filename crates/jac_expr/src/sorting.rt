@@ -37,8 +37,11 @@ pub(crate) fn sort<K: Keeper, L: Ledger>(
     splits: &mut Steps<L>,
 ) -> Result<Tuples, Stop>
     requires { IsTrue (K.seen work.old.keeper.now).store.attached }
-    ensures sorted { IsTold K.seen work.new → IfOk result (λ ts. (ctx : Context) (w : ℕ → Bool) → live w ts ≡ ordered (world_at app.now ctx (state_of K.seen work.old) w) (binders_of binders.now) by.now (live w tuples)) }
-    ensures ids { IfOk result (λ ts. (p : List ℕ → Bool) → all_ids p tuples ≡ true → all_ids p ts ≡ true) }
+    ensures sorted { IsTold K.seen work.new → IfOk result (λ ts. (ctx : Context) (w : ℕ → Bool)
+        → live w ts ≡ ordered (world_at app.now ctx (state_of K.seen work.old) w)
+        (binders_of binders.now) by.now (live w tuples)) }
+    ensures ids { IfOk result (λ ts. (p : List ℕ → Bool) → all_ids p tuples ≡ true
+        → all_ids p ts ≡ true) }
     ensures reads { ReadsWork K.seen work.old work.new result }
 {
     match by {
@@ -69,8 +72,12 @@ fn sort_by<K: Keeper, L: Ledger>(
     splits: &mut Steps<L>,
 ) -> Result<Tuples, Stop>
     requires { IsTrue (K.seen work.old.keeper.now).store.attached }
-    ensures sorted { IsTold K.seen work.new → IfOk result (λ ts. (ctx : Context) (w : ℕ → Bool) → live w ts ≡ sorted (value_less down) (key_of (world_at app.now ctx (state_of K.seen work.old) w) (binders_of binders.now) name.now field.now) (live w tuples.now)) }
-    ensures ids { IfOk result (λ ts. (p : List ℕ → Bool) → all_ids p tuples.now ≡ true → all_ids p ts ≡ true) }
+    ensures sorted { IsTold K.seen work.new → IfOk result (λ ts. (ctx : Context) (w : ℕ → Bool)
+        → live w ts ≡ sorted (value_less down)
+        (key_of (world_at app.now ctx (state_of K.seen work.old) w) (binders_of binders.now)
+        name.now field.now) (live w tuples.now)) }
+    ensures ids { IfOk result (λ ts. (p : List ℕ → Bool) → all_ids p tuples.now ≡ true
+        → all_ids p ts ≡ true) }
     ensures reads { ReadsWork K.seen work.old work.new result }
 {
     let all = tuples.as_slice();
@@ -91,7 +98,10 @@ fn keys_of<K: Keeper, L: Ledger>(
     splits: &mut Steps<L>,
 ) -> Result<Facets<Value>, Stop>
     requires { IsTrue (K.seen work.old.keeper.now).store.attached }
-    ensures keys { IsTold K.seen work.new → IfOk result (λ ks. (ctx : Context) (w : ℕ → Bool) → marked w tuples.now ks ≡ each_with (key_of (world_at app.now ctx (state_of K.seen work.old) w) (binders_of binders.now) name.now field.now) (live w tuples.now)) }
+    ensures keys { IsTold K.seen work.new → IfOk result (λ ks. (ctx : Context) (w : ℕ → Bool)
+        → marked w tuples.now ks ≡ each_with
+        (key_of (world_at app.now ctx (state_of K.seen work.old) w) (binders_of binders.now)
+        name.now field.now) (live w tuples.now)) }
     ensures length { IfOk result (λ ks. length tuples.now ≡ length ks) }
     ensures reads { ReadsWork K.seen work.old work.new result }
 {
@@ -119,7 +129,10 @@ fn key_at<K: Keeper, L: Ledger>(
     splits: &mut Steps<L>,
 ) -> Result<Facet<Value>, Stop>
     requires { IsTrue (K.seen work.old.keeper.now).store.attached }
-    ensures key { IsTold K.seen work.new → IfOk result (λ f. (ctx : Context) (w : ℕ → Bool) → holds w tuple.now.guard ≡ true → at w f ≡ got (world_at app.now ctx (state_of K.seen work.old) w) model.now field.now (look (bound (binders_of binders.now) tuple.now.ids []) name.now)) }
+    ensures key { IsTold K.seen work.new → IfOk result (λ f. (ctx : Context) (w : ℕ → Bool)
+        → holds w tuple.now.guard ≡ true
+        → at w f ≡ got (world_at app.now ctx (state_of K.seen work.old) w) model.now field.now
+        (look (bound (binders_of binders.now) tuple.now.ids []) name.now)) }
     ensures reads { ReadsWork K.seen work.old work.new result }
 {
     let record = bound_name(alloc, binders, tuple, name)?;
@@ -143,7 +156,8 @@ fn bound_name(
     tuple: &Tuple,
     name: &Txt,
 ) -> Result<Facet<Value>, Memory>
-    ensures { IfOk result (λ f. (w : ℕ → Bool) → at w f ≡ look (bound (binders_of binders.now) tuple.now.ids []) name.now) }
+    ensures { IfOk result (λ f. (w : ℕ → Bool)
+        → at w f ≡ look (bound (binders_of binders.now) tuple.now.ids []) name.now) }
 {
     let mut env = Env::empty(alloc);
     bind_tuple(alloc, &mut env, binders, &tuple.ids)?;

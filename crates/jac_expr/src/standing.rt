@@ -29,7 +29,10 @@ pub(crate) fn stand<K: Keeper, L: Ledger>(
     splits: &mut Steps<L>,
 ) -> Result<Facet<Value>, Stop>
     requires { IsTrue (K.seen work.old.keeper.now).store.attached }
-    ensures value { IsTold K.seen work.new → IfOk result (λ f. (app : App) (ctx : Context) (w : ℕ → Bool) → holds w pc.now ≡ true → at w f ≡ Truth (is_live (world_at app ctx (state_of K.seen work.old) w) (at w value.now))) }
+    ensures value { IsTold K.seen work.new → IfOk result (λ f. (app : App) (ctx : Context) (w : ℕ
+        → Bool) → holds w pc.now ≡ true
+        → at w f ≡ Truth (is_live (world_at app ctx (state_of K.seen work.old) w)
+        (at w value.now))) }
     ensures reads { ReadsWork K.seen work.old work.new result }
 {
     let leaves = value.leaves_under(alloc, pc)?;
@@ -44,7 +47,9 @@ fn leaves_stand<K: Keeper, L: Ledger>(
     splits: &mut Steps<L>,
 ) -> Result<Facet<Value>, Stop>
     requires { IsTrue (K.seen work.old.keeper.now).store.attached }
-    ensures value { IsTold K.seen work.new → IfOk result (λ f. (w : ℕ → Bool) → at w f ≡ last_by (λ v. Truth (stands_in (project_at w (state_of K.seen work.old)).tables v)) (Truth false) (seen w leaves.now)) }
+    ensures value { IsTold K.seen work.new → IfOk result (λ f. (w : ℕ → Bool)
+        → at w f ≡ last_by (λ v. Truth (stands_in (project_at w (state_of K.seen work.old)).tables
+        v)) (Truth false) (seen w leaves.now)) }
     ensures reads { ReadsWork K.seen work.old work.new result }
 {
     let mut found = Facet::leaf(Value::Bool(false));
@@ -62,7 +67,8 @@ fn one_stands<K: Keeper, L: Ledger>(
     splits: &mut Steps<L>,
 ) -> Result<Facet<Value>, Stop>
     requires { IsTrue (K.seen work.old.keeper.now).store.attached }
-    ensures value { IsTold K.seen work.new → IfOk result (λ f. (w : ℕ → Bool) → at w f ≡ Truth (stands_in (project_at w (state_of K.seen work.old)).tables value.now)) }
+    ensures value { IsTold K.seen work.new → IfOk result (λ f. (w : ℕ → Bool)
+        → at w f ≡ Truth (stands_in (project_at w (state_of K.seen work.old)).tables value.now)) }
     ensures reads { ReadsWork K.seen work.old work.new result }
 {
     match value {
@@ -81,7 +87,8 @@ fn any_row<L: Ledger>(
     rows: &[Row],
     splits: &mut Steps<L>,
 ) -> Result<Facet<Value>, Memory>
-    ensures { IfOk result (λ f. (w : ℕ → Bool) → at w f ≡ stood_by (Truth false) (rows_at w rows.now)) }
+    ensures { IfOk result (λ f. (w : ℕ → Bool)
+        → at w f ≡ stood_by (Truth false) (rows_at w rows.now)) }
 {
     let yes = Facet::leaf(Value::Bool(true));
     let mut found = Facet::leaf(Value::Bool(false));

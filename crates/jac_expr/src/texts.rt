@@ -37,7 +37,8 @@ pub(crate) fn join<L: Ledger>(
     second: &Facet<Value>,
     splits: &mut Steps<L>,
 ) -> Result<Facet<Value>, Memory>
-    ensures { IfOk result (λ f. (w : ℕ → Bool) → at w f ≡ Text (bytes_of (at w first.now) ++ bytes_of (at w second.now))) }
+    ensures { IfOk result (λ f. (w : ℕ → Bool)
+        → at w f ≡ Text (bytes_of (at w first.now) ++ bytes_of (at w second.now))) }
 {
     let both = first.combine(alloc, second, |x, y| join_values(alloc, x, y), splits)?;
     Ok(both)

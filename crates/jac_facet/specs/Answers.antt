@@ -3,7 +3,8 @@ use denote.Param.Members.{Shared}
 use denote.Ref.{Bor}
 
 -- a function of two references may give r at x and y
-pub record Answers {F X Y R : Type 0} (g : Shared F (Bor X × (Bor Y × Unit {0})) R) (f : F) (x : X) (y : Y) (r : R) : Type 0 where
+pub record Answers {F X Y R : Type 0} (g : Shared F (Bor X × (Bor Y × Unit {0})) R) (f : F) (x : X)
+    (y : Y) (r : R) : Type 0 where
   pub first : Bor X
   pub second : Bor Y
   pub shows : (first.now ≡ x) × (second.now ≡ y)

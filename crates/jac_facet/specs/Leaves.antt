@@ -21,9 +21,11 @@ module _ {T : Type 0} where
   -- the first guard that holds under v stands before the first that holds under w
   abbrev pub before : (ℕ → Bool) → (ℕ → Bool) → List (List (ℕ × Bool) × T) → Bool
   before v w [] = false
-  before v w (p ∷ ps) = if holds v p.0 then not (holds w p.0) else (if holds w p.0 then false else before v w ps)
+  before v w (p ∷ ps) = if holds v p.0 then not (holds w p.0) else (if holds w p.0 then false
+      else before v w ps)
 
--- whether v's guard stands before w's once more guards were added: as before where an old guard holds under
--- either; else by the new guards, where they hold under both
+-- whether v's guard stands before w's once more guards were added: as before where an old guard
+-- holds under either; else by the new guards, where they hold under both
 abbrev pub order_after : Bool → Bool → Bool → Bool → Bool → Bool → Bool
-order_after old_v old_w v w old new = if old_v || old_w then old else (if v then (if w then new else true) else false)
+order_after old_v old_w v w old new = if old_v || old_w then old
+    else (if v then (if w then new else true) else false)

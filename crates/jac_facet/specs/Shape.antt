@@ -2,7 +2,8 @@ use Rattle.std.specs.Prelude.{◌≡◌, ◌≢◌, ℕ, ◌+◌, ◌<◌, max, 
 use Rattle.std.specs.Coded.{Coded, code_by, coded×, coded⊎, coded_list, coded_ℕ}
 use Rattle.std.proofs.Common.{refl, ap, sym, ◌∙◌, append_assoc, append-nil, inl, inr}
 
--- a faceted value: one value, or a label with the value where it is shown and the value where it is hidden
+-- a faceted value: one value, or a label with the value where it is shown and the value where it is
+-- hidden
 pub data Shape (T : Type 0) : Type 0 where
   one : T → Shape T
   fork : ℕ → Shape T → Shape T → Shape T
@@ -38,7 +39,8 @@ module _ {T : Type 0} where
   -- v takes the high side at the first split where the two assignments part
   abbrev pub higher : (ℕ → Bool) → (ℕ → Bool) → Shape T → Bool
   higher v w (one x) = false
-  higher v w (fork k h l) = if v k then (if w k then higher v w h else true) else (if w k then false else higher v w l)
+  higher v w (fork k h l) = if v k then (if w k then higher v w h else true)
+      else (if w k then false else higher v w l)
 
   -- a shape is stored as its leftmost value and its nodes from the top down
   abbrev first_of : Shape T → T
@@ -70,8 +72,10 @@ module _ {T : Type 0} where
       ∙ ap (joined k) (read-nodes h (nodes l ++ ns) ∙ ap (λ z. h ∷ z) (read-nodes l ns))
 
   pub read_back : (s : Shape T) → head_or (first_of s) (read (nodes s)) ≡ s
-  read_back s = ap (λ z. head_or (first_of s) (read z)) (sym (append-nil (nodes s))) ∙ ap (head_or (first_of s)) (read-nodes s [])
+  read_back s = ap (λ z. head_or (first_of s) (read z)) (sym (append-nil (nodes s))) ∙ ap
+      (head_or (first_of s)) (read-nodes s [])
 
   abbrev pub shape_code : Coded T → Coded (Shape T)
   shape_code c =
-      code_by (T × List (T ⊎ ℕ)) (coded× c (coded_list (coded⊎ c coded_ℕ))) (λ s. (first_of s, nodes s)) (λ p. head_or p.0 (read p.1)) read_back
+      code_by (T × List (T ⊎ ℕ)) (coded× c (coded_list (coded⊎ c coded_ℕ)))
+      (λ s. (first_of s, nodes s)) (λ p. head_or p.0 (read p.1)) read_back

@@ -19,7 +19,8 @@ impl<T: Leaf> Facet<T> {
         splits: &mut Steps<L>,
     ) -> Result<Facet<U>, Memory>
         requires { F.IsAlwaysCallable f }
-        ensures { IfOk result (λ r. (w : ℕ → Bool) → FnReturnsAt F.Fn f (at w self.now) (Ok (at w r))) }
+        ensures { IfOk result (λ r. (w : ℕ → Bool) → FnReturnsAt F.Fn f (at w self.now)
+            (Ok (at w r))) }
     {
         let mapped = self.map_by(alloc, &f, splits)?;
         Ok(mapped)
@@ -34,7 +35,8 @@ impl<T: Leaf> Facet<T> {
         splits: &mut Steps<L>,
     ) -> Result<Facet<V>, Memory>
         requires { F.IsAlwaysCallable f }
-        ensures { IfOk result (λ r. (w : ℕ → Bool) → Answers F.Fn f (at w self.now) (at w other.now) (Ok (at w r))) }
+        ensures { IfOk result (λ r. (w : ℕ → Bool) → Answers F.Fn f (at w self.now) (at w other.now)
+            (Ok (at w r))) }
     {
         let combined = self.combine_by(alloc, other, &f, splits)?;
         Ok(combined)
@@ -47,7 +49,8 @@ impl<T: Leaf> Facet<T> {
         splits: &mut Steps<L>,
     ) -> Result<Facet<U>, Memory>
         requires { F.IsAlwaysCallable f.now }
-        ensures at { IfOk result (λ r. (w : ℕ → Bool) → FnReturnsAt F.Fn f.now (at w self.now) (Ok (at w r))) }
+        ensures at { IfOk result (λ r. (w : ℕ → Bool) → FnReturnsAt F.Fn f.now (at w self.now)
+            (Ok (at w r))) }
         ensures above { IfOk result (λ r. (k : ℕ) → Above k self.now → Above k r) }
     {
         match self.top() {
@@ -72,8 +75,10 @@ impl<T: Leaf> Facet<T> {
         splits: &mut Steps<L>,
     ) -> Result<Facet<V>, Memory>
         requires { F.IsAlwaysCallable f.now }
-        ensures at { IfOk result (λ r. (w : ℕ → Bool) → Answers F.Fn f.now (at w self.now) (at w other.now) (Ok (at w r))) }
-        ensures above { IfOk result (λ r. (k : ℕ) → Above k self.now → Above k other.now → Above k r) }
+        ensures at { IfOk result (λ r. (w : ℕ → Bool) → Answers F.Fn f.now (at w self.now)
+            (at w other.now) (Ok (at w r))) }
+        ensures above { IfOk result (λ r. (k : ℕ) → Above k self.now → Above k other.now
+            → Above k r) }
     {
         match first_label(self, other) {
             None => {

@@ -10,13 +10,13 @@ use std::alloc::Global;
 use std::marker::Model;
 use std::sync::ledger::Ledger;
 
-/// How many labels may stand one behind the other in a facet. What works on a facet, and its drop, recurses once
-/// for each of them, and the stack must not decide whether that ends: a facet that would have more is refused as
-/// want of memory.
+/// How many labels may stand one behind the other in a facet. What works on a facet, and its drop,
+/// recurses once for each of them, and the stack must not decide whether that ends: a facet that
+/// would have more is refused as want of memory.
 pub(crate) const MOST_LABELS: u32 = 1024;
 
-/// A faceted value (Austin and Flanagan, POPL 2012): one value, or a label with the value where it is shown
-/// and the value where it is hidden.
+/// A faceted value (Austin and Flanagan, POPL 2012): one value, or a label with the value where it
+/// is shown and the value where it is hidden.
 #[cycle(facet)]
 #[derive(Drop)]
 pub struct Facet<T> {
@@ -62,8 +62,8 @@ impl<T: Leaf> Facet<T> {
         }
     }
 
-    /// High where the label is shown, else low. Equal sides give that side. A facet may have 1,024 labels one
-    /// behind the other; beyond that it wants memory.
+    /// High where the label is shown, else low. Equal sides give that side. A facet may have 1,024
+    /// labels one behind the other; beyond that it wants memory.
     pub fn split<L: Ledger>(
         alloc: Global,
         label: Label,
@@ -73,9 +73,11 @@ impl<T: Leaf> Facet<T> {
     ) -> Result<Facet<T>, Memory>
         requires high { Above label high }
         requires low { Above label low }
-        ensures at { IfOk result (λ f. (w : ℕ → Bool) → at w f ≡ (if w label then at w high else at w low)) }
+        ensures at { IfOk result (λ f. (w : ℕ → Bool) → at w f ≡ (if w label then at w high
+            else at w low)) }
         ensures above { IfOk result (λ f. (k : ℕ) → k < label → Above k f) }
-        ensures labels { IfOk result (λ f. (k : ℕ) → k ≢ label → has_label k high ≡ false → has_label k low ≡ false → has_label k f ≡ false) }
+        ensures labels { IfOk result (λ f. (k : ℕ) → k ≢ label → has_label k high ≡ false
+            → has_label k low ≡ false → has_label k f ≡ false) }
         ensures ticks { splits.new ≡ splits.old + 1 }
     {
         splits.tick();

@@ -12,11 +12,13 @@ use jac_world::{Guard, Label};
 use std::alloc::Global;
 
 impl<T: Leaf> Facet<T> {
-    /// The values that the facet can have where the guard holds, each with the guard under which it has it:
-    /// under each assignment at most one. High sides come first.
+    /// The values that the facet can have where the guard holds, each with the guard under which it
+    /// has it: under each assignment at most one. High sides come first.
     pub fn leaves_under(&self, alloc: Global, guard: &Guard) -> Result<Leaves<T>, Memory>
-        ensures seen { IfOk result (λ ps. (w : ℕ → Bool) → seen w ps ≡ (if holds w guard.now then at w self.now ∷ [] else [])) }
-        ensures order { IfOk result (λ ps. (v w : ℕ → Bool) → holds v guard.now ≡ true → holds w guard.now ≡ true → before v w ps ≡ higher v w self.now) }
+        ensures seen { IfOk result (λ ps. (w : ℕ → Bool) → seen w ps ≡ (if holds w guard.now
+            then at w self.now ∷ [] else [])) }
+        ensures order { IfOk result (λ ps. (v w : ℕ → Bool) → holds v guard.now ≡ true
+            → holds w guard.now ≡ true → before v w ps ≡ higher v w self.now) }
     {
         let mut out = Vec::new(alloc);
         self.add_leaves(alloc, guard, &mut out)?;
@@ -30,9 +32,13 @@ impl<T: Leaf> Facet<T> {
         guard: &Guard,
         out: &mut Vec<(Guard, T)>,
     ) -> Result<(), Memory>
-        ensures seen { OnOk result ((w : ℕ → Bool) → seen w out.new.items ≡ seen w out.old.items ++ (if holds w guard.now then at w self.now ∷ [] else [])) }
-        ensures meets { OnOk result ((w : ℕ → Bool) → meets w out.new.items ≡ (meets w out.old.items || holds w guard.now)) }
-        ensures order { OnOk result ((v w : ℕ → Bool) → before v w out.new.items ≡ order_after (meets v out.old.items) (meets w out.old.items) (holds v guard.now) (holds w guard.now) (before v w out.old.items) (higher v w self.now)) }
+        ensures seen { OnOk result ((w : ℕ → Bool) → seen w out.new.items ≡ seen w out.old.items
+            ++ (if holds w guard.now then at w self.now ∷ [] else [])) }
+        ensures meets { OnOk result ((w : ℕ → Bool)
+            → meets w out.new.items ≡ (meets w out.old.items || holds w guard.now)) }
+        ensures order { OnOk result ((v w : ℕ → Bool) → before v w out.new.items ≡ order_after
+            (meets v out.old.items) (meets w out.old.items) (holds v guard.now) (holds w guard.now)
+            (before v w out.old.items) (higher v w self.now)) }
     {
         match &self.node {
             Node::Leaf(value) => {
@@ -57,9 +63,15 @@ impl<T: Leaf> Facet<T> {
         sign: bool,
         out: &mut Vec<(Guard, T)>,
     ) -> Result<(), Memory>
-        ensures seen { OnOk result ((w : ℕ → Bool) → seen w out.new.items ≡ seen w out.old.items ++ (if holds w guard.now && beq sign (w label) then at w self.now ∷ [] else [])) }
-        ensures meets { OnOk result ((w : ℕ → Bool) → meets w out.new.items ≡ (meets w out.old.items || (holds w guard.now && beq sign (w label)))) }
-        ensures order { OnOk result ((v w : ℕ → Bool) → before v w out.new.items ≡ order_after (meets v out.old.items) (meets w out.old.items) (holds v guard.now && beq sign (v label)) (holds w guard.now && beq sign (w label)) (before v w out.old.items) (higher v w self.now)) }
+        ensures seen { OnOk result ((w : ℕ → Bool) → seen w out.new.items ≡ seen w out.old.items
+            ++ (if holds w guard.now && beq sign (w label) then at w self.now ∷ [] else [])) }
+        ensures meets { OnOk result ((w : ℕ → Bool)
+            → meets w out.new.items
+            ≡ (meets w out.old.items || (holds w guard.now && beq sign (w label)))) }
+        ensures order { OnOk result ((v w : ℕ → Bool) → before v w out.new.items ≡ order_after
+            (meets v out.old.items) (meets w out.old.items) (holds v guard.now && beq sign
+            (v label)) (holds w guard.now && beq sign (w label)) (before v w out.old.items)
+            (higher v w self.now)) }
     {
         match guard_where(alloc, guard, label, sign)? {
             Some(both) => {

@@ -13,8 +13,8 @@ use std::alloc::Global;
 use std::sync::ledger::Ledger;
 
 impl<T: Leaf> Facet<T> {
-    /// The new facet where the guard holds, else the old one. A guard of more labels than a facet may have one
-    /// behind the other wants memory.
+    /// The new facet where the guard holds, else the old one. A guard of more labels than a facet
+    /// may have one behind the other wants memory.
     pub fn under<L: Ledger>(
         alloc: Global,
         guard: &Guard,
@@ -22,7 +22,8 @@ impl<T: Leaf> Facet<T> {
         old: &Facet<T>,
         splits: &mut Steps<L>,
     ) -> Result<Facet<T>, Memory>
-        ensures { IfOk result (λ r. (w : ℕ → Bool) → at w r ≡ (if holds w guard.now then at w new.now else at w old.now)) }
+        ensures { IfOk result (λ r. (w : ℕ → Bool) → at w r ≡ (if holds w guard.now
+            then at w new.now else at w old.now)) }
     {
         let pairs = guard.pairs();
         if pairs.len() > MOST_LABELS as usize {
@@ -39,8 +40,10 @@ impl<T: Leaf> Facet<T> {
         cut: &Guard,
         splits: &mut Steps<L>,
     ) -> Result<Facet<T>, Memory>
-        ensures at { IfOk result (λ r. (w : ℕ → Bool) → holds w cut.now ≡ true → at w r ≡ at w self.now) }
-        ensures pruned { IfOk result (λ r. (k : ℕ) (b : Bool) → has_pair cut.now k b ≡ true → has_label k r ≡ false) }
+        ensures at { IfOk result (λ r. (w : ℕ → Bool) → holds w cut.now ≡ true
+            → at w r ≡ at w self.now) }
+        ensures pruned { IfOk result (λ r. (k : ℕ) (b : Bool) → has_pair cut.now k b ≡ true
+            → has_label k r ≡ false) }
     {
         let facet = self.prune_pairs(alloc, cut.pairs(), splits)?;
         Ok(facet)
@@ -54,8 +57,10 @@ impl<T: Leaf> Facet<T> {
         splits: &mut Steps<L>,
     ) -> Result<Facet<T>, Memory>
         requires { IsRising pairs.now }
-        ensures at { IfOk result (λ r. (w : ℕ → Bool) → at w r ≡ (if holds w pairs.now then at w new.now else at w old.now)) }
-        ensures above { IfOk result (λ r. (k : ℕ) → StartsAbove k pairs.now → Above k new.now → Above k old.now → Above k r) }
+        ensures at { IfOk result (λ r. (w : ℕ → Bool) → at w r ≡ (if holds w pairs.now
+            then at w new.now else at w old.now)) }
+        ensures above { IfOk result (λ r. (k : ℕ) → StartsAbove k pairs.now → Above k new.now
+            → Above k old.now → Above k r) }
     {
         match pairs.split_first() {
             None => {
@@ -108,7 +113,8 @@ impl<T: Leaf> Facet<T> {
     ) -> Result<Facet<T>, Memory>
         requires met { Above label met }
         requires unmet { Above label unmet }
-        ensures at { IfOk result (λ f. (w : ℕ → Bool) → at w f ≡ (if beq sign (w label) then at w met else at w unmet)) }
+        ensures at { IfOk result (λ f. (w : ℕ → Bool) → at w f ≡ (if beq sign (w label)
+            then at w met else at w unmet)) }
         ensures above { IfOk result (λ f. (k : ℕ) → k < label → Above k f) }
     {
         if sign {
@@ -127,10 +133,13 @@ impl<T: Leaf> Facet<T> {
         splits: &mut Steps<L>,
     ) -> Result<Facet<T>, Memory>
         requires { IsRising pairs.now }
-        ensures at { IfOk result (λ r. (w : ℕ → Bool) → holds w pairs.now ≡ true → at w r ≡ at w self.now) }
-        ensures pruned { IfOk result (λ r. (k : ℕ) (b : Bool) → has_pair pairs.now k b ≡ true → has_label k r ≡ false) }
+        ensures at { IfOk result (λ r. (w : ℕ → Bool) → holds w pairs.now ≡ true
+            → at w r ≡ at w self.now) }
+        ensures pruned { IfOk result (λ r. (k : ℕ) (b : Bool) → has_pair pairs.now k b ≡ true
+            → has_label k r ≡ false) }
         ensures above { IfOk result (λ r. (k : ℕ) → Above k self.now → Above k r) }
-        ensures labels { IfOk result (λ r. (k : ℕ) → has_label k self.now ≡ false → has_label k r ≡ false) }
+        ensures labels { IfOk result (λ r. (k : ℕ) → has_label k self.now ≡ false
+            → has_label k r ≡ false) }
     {
         match pairs.split_first() {
             None => {

@@ -33,7 +33,8 @@ one_name_in_trees want at ts = wrong want at
 -- a kind: one of those words, or `(ref NAME)`
 abbrev pub kind_in_tree : List ℕ → PlainTree → Read KindName
 kind_in_tree at (PlainTree.atom a) = got_where wants.Kind at (plain_kind_of a)
-kind_in_tree at t = read_map kinds.Ref (behind wants.Kind at (one_name_in_trees wants.Kind at) (tail_of (codes "ref") t))
+kind_in_tree at t = read_map kinds.Ref (behind wants.Kind at (one_name_in_trees wants.Kind at)
+    (tail_of (codes "ref") t))
 
 abbrev pub field : List ℕ → KindName → Field
 field name kind = record { name = name; kind = kind }
@@ -41,23 +42,27 @@ field name kind = record { name = name; kind = kind }
 -- `(NAME kind)`; what is none is a fault of `want`
 abbrev pub field_in_tree : Want → List ℕ → PlainTree → Read Field
 field_in_tree want at (PlainTree.list (PlainTrees.more x (PlainTrees.more k PlainTrees.none))) =
-    read_and_then (λ name. read_map (field name) (kind_in_tree (child at 1) k)) (name_in_tree (child at 0) x)
+    read_and_then (λ name. read_map (field name) (kind_in_tree (child at 1) k))
+    (name_in_tree (child at 0) x)
 field_in_tree want at t = wrong want at
 
 -- `(fields field ..)`, at most 32
 abbrev pub few_fields : List ℕ → PlainTrees → Read (List Field)
-few_fields at ts = up_to whats.Fields at 32 (count ts) (each_in_trees (field_in_tree wants.Field) at 1 ts)
+few_fields at ts = up_to whats.Fields at 32 (count ts) (each_in_trees (field_in_tree wants.Field) at
+    1 ts)
 
 abbrev pub fields_in_tree : List ℕ → PlainTree → Read (List Field)
 fields_in_tree at t = behind wants.Fields at (few_fields at) (tail_of (codes "fields") t)
 
 -- `(params field ..)`
 abbrev pub params_in_tree : List ℕ → PlainTree → Read (List Field)
-params_in_tree at t = behind wants.Params at (each_in_trees (field_in_tree wants.Param) at 1) (tail_of (codes "params") t)
+params_in_tree at t = behind wants.Params at (each_in_trees (field_in_tree wants.Param) at 1)
+    (tail_of (codes "params") t)
 
 -- one or more guards
 abbrev pub some_guards : List ℕ → PlainTrees → Read (List Assigned)
-some_guards at ts = if nat_le (count ts) 0 then wrong wants.Guard at else each_in_trees (assigned_in_tree wants.Guard) at 1 ts
+some_guards at ts = if nat_le (count ts) 0 then wrong wants.Guard at
+    else each_in_trees (assigned_in_tree wants.Guard) at 1 ts
 
 -- `(guards (NAME expression)+)`
 abbrev pub guards_in_tree : List ℕ → PlainTree → Read (List Assigned)
@@ -65,7 +70,8 @@ guards_in_tree at t = behind wants.Guard at (some_guards at) (tail_of (codes "gu
 
 -- `(policy expression)`
 abbrev pub policy_in_tree : List ℕ → PlainTree → Read Expression
-policy_in_tree at t = behind wants.Policy at (one_in_trees wants.Policy at) (tail_of (codes "policy") t)
+policy_in_tree at t = behind wants.Policy at (one_in_trees wants.Policy at)
+    (tail_of (codes "policy") t)
 
 -- what a group guards: fields, each with its public value, or the whole record
 pub record Guarding : Type 0 where
@@ -78,7 +84,8 @@ guarding hides guards = record { guards = guards; hides = hides }
 -- `hides`, or `(guards (NAME expression)+)`
 abbrev pub guarding_in_tree : List ℕ → PlainTree → Read Guarding
 guarding_in_tree at t =
-    if is_word (codes "hides") t then got (guarding true []) else read_map (guarding false) (guards_in_tree at t)
+    if is_word (codes "hides") t then got (guarding true []) else read_map (guarding false)
+    (guards_in_tree at t)
 
 abbrev pub group : Guarding → Expression → FieldGroup
 group g policy = record { guards = g.guards; hides = g.hides; policy = policy }
@@ -86,25 +93,35 @@ group g policy = record { guards = g.guards; hides = g.hides; policy = policy }
 -- `(group hides policy)` or `(group guards policy)`
 abbrev pub group_in_trees : List ℕ → PlainTrees → Read FieldGroup
 group_in_trees at (PlainTrees.more gs (PlainTrees.more p PlainTrees.none)) =
-    read_and_then (λ g. read_map (group g) (policy_in_tree (child at 2) p)) (guarding_in_tree (child at 1) gs)
+    read_and_then (λ g. read_map (group g) (policy_in_tree (child at 2) p))
+    (guarding_in_tree (child at 1) gs)
 group_in_trees at ts = wrong wants.Group at
 
 abbrev pub group_in_tree : List ℕ → PlainTree → Read FieldGroup
 group_in_tree at t = behind wants.Group at (group_in_trees at) (tail_of (codes "group") t)
 
 abbrev pub entity : List ℕ → Bool → List Field → List FieldGroup → Entity
-entity name nested fields groups = record { name = name; nested = nested; fields = fields; groups = groups }
+entity name nested fields groups = record {
+  name = name;
+  nested = nested;
+  fields = fields;
+  groups = groups;
+}
 
 -- a model whose fields stand as child k, and behind them its groups, at most 8
 abbrev pub entity_behind : List ℕ → Bool → ℕ → PlainTree → PlainTrees → Read Entity
 entity_behind at nested k x (PlainTrees.more fs gs) =
-    up_to whats.Groups at 8 (count gs) (read_and_then (λ name. read_and_then (λ fields. read_map (entity name nested fields) (each_in_trees group_in_tree at (k + 1) gs)) (fields_in_tree (child at k) fs)) (name_in_tree (child at 1) x))
+    up_to whats.Groups at 8 (count gs)
+    (read_and_then (λ name. read_and_then (λ fields. read_map (entity name nested fields)
+    (each_in_trees group_in_tree at (k + 1) gs)) (fields_in_tree (child at k) fs))
+    (name_in_tree (child at 1) x))
 entity_behind at nested k x PlainTrees.none = wrong wants.Item at
 
 -- `(model NAME fields group ..)` or `(model NAME nested fields group ..)`
 abbrev pub entity_in_trees : List ℕ → PlainTrees → Read Entity
 entity_in_trees at (PlainTrees.more x (PlainTrees.more n ts)) =
-    if is_word (codes "nested") n then entity_behind at true 3 x ts else entity_behind at false 2 x (PlainTrees.more n ts)
+    if is_word (codes "nested") n then entity_behind at true 3 x ts else entity_behind at false 2 x
+    (PlainTrees.more n ts)
 entity_in_trees at ts = wrong wants.Item at
 
 abbrev pub entity_in_tree : List ℕ → PlainTree → Read Entity
@@ -112,7 +129,8 @@ entity_in_tree at t = behind wants.Item at (entity_in_trees at) (tail_of (codes 
 
 -- `get` or `post`
 abbrev pub method_in_tree : List ℕ → PlainTree → Read Verb
-method_in_tree at t = if is_word (codes "get") t then got verbs.Get else if is_word (codes "post") t then got verbs.Post else wrong wants.Method at
+method_in_tree at t = if is_word (codes "get") t then got verbs.Get else if is_word (codes "post") t
+    then got verbs.Post else wrong wants.Method at
 
 -- a text that is a path
 abbrev pub path_in_tree : List ℕ → PlainTree → Read (List ℕ)
@@ -122,12 +140,20 @@ path_in_tree at t = wrong wants.Path at
 -- a view of at most 64 sites
 abbrev pub page : List ℕ → Verb → List ℕ → List Field → Body → Read Page
 page at method path params body =
-    if nat_le body.next 64 then got (record { method = method; path = path; params = params; body = body.statements }) else many whats.Sites at (creates body.statements)
+    if nat_le body.next 64 then got (record {
+      method = method;
+      path = path;
+      params = params;
+      body = body.statements;
+    }) else many whats.Sites at (creates body.statements)
 
 -- `(view method "path" params statement ..)`
 abbrev pub page_in_trees : List ℕ → PlainTrees → Read Page
 page_in_trees at (PlainTrees.more m (PlainTrees.more p (PlainTrees.more ps ss))) =
-    read_and_then (λ method. read_and_then (λ path. read_and_then (λ params. read_and_then (page at method path params) (statements_in_trees at 4 ss 0)) (params_in_tree (child at 3) ps)) (path_in_tree (child at 2) p)) (method_in_tree (child at 1) m)
+    read_and_then (λ method. read_and_then
+    (λ path. read_and_then (λ params. read_and_then (page at method path params)
+    (statements_in_trees at 4 ss 0)) (params_in_tree (child at 3) ps))
+    (path_in_tree (child at 2) p)) (method_in_tree (child at 1) m)
 page_in_trees at ts = wrong wants.Item at
 
 abbrev pub page_in_tree : List ℕ → PlainTree → Read Page
@@ -159,7 +185,8 @@ abbrev pub items_in_trees : List ℕ → ℕ → PlainTrees → Read Items
 items_in_trees at k PlainTrees.none = got (items [] [])
 items_in_trees at k (PlainTrees.more t ts) =
     if is_headed (codes "model") t
-    then read_and_then (λ m. read_map (after_model m) (items_in_trees at (k + 1) ts)) (entity_in_tree (child at k) t)
+    then read_and_then (λ m. read_map (after_model m) (items_in_trees at (k + 1) ts))
+    (entity_in_tree (child at k) t)
     else read_map (items []) (each_in_trees page_in_tree at k (PlainTrees.more t ts))
 
 abbrev pub application : Option (List ℕ) → Items → Application
@@ -167,14 +194,16 @@ application viewer is = record { viewer = viewer; models = is.models; views = is
 
 -- `(viewer NAME)`
 abbrev pub viewer_in_tree : List ℕ → PlainTree → Read (List ℕ)
-viewer_in_tree at t = behind wants.Item at (one_name_in_trees wants.Item at) (tail_of (codes "viewer") t)
+viewer_in_tree at t = behind wants.Item at (one_name_in_trees wants.Item at)
+    (tail_of (codes "viewer") t)
 
 abbrev pub with_viewer : List ℕ → PlainTrees → List ℕ → Read Application
 with_viewer at ts name = read_map (application (Some name)) (items_in_trees at 2 ts)
 
 -- the viewer's model, where it is named, and the items
 abbrev pub application_of_items : List ℕ → PlainTrees → Read Application
-application_of_items at PlainTrees.none = read_map (application None) (items_in_trees at 1 PlainTrees.none)
+application_of_items at PlainTrees.none = read_map (application None)
+    (items_in_trees at 1 PlainTrees.none)
 application_of_items at (PlainTrees.more t ts) =
     if is_headed (codes "viewer") t
     then read_and_then (with_viewer at ts) (viewer_in_tree (child at 1) t)
@@ -182,7 +211,8 @@ application_of_items at (PlainTrees.more t ts) =
 
 -- at most 64 models
 abbrev pub application_in_trees : List ℕ → PlainTrees → Read Application
-application_in_trees at ts = up_to whats.Models at 64 (headed (codes "model") ts) (application_of_items at ts)
+application_in_trees at ts = up_to whats.Models at 64 (headed (codes "model") ts)
+    (application_of_items at ts)
 
 -- `(app (viewer NAME)? model .. view ..)`
 abbrev pub application_in_tree : List ℕ → PlainTree → Read Application

@@ -73,7 +73,8 @@ atom_expression at a =
     if bytes_eq a (codes "true") then got (Expression.bool true) else
     if bytes_eq a (codes "false") then got (Expression.bool false) else
     if bytes_eq a (codes "this") then got Expression.this else
-    if bytes_eq a (codes "viewer") then got Expression.viewer else number_or_name at a (integer_of a)
+    if bytes_eq a (codes "viewer") then got Expression.viewer
+    else number_or_name at a (integer_of a)
 
 abbrev pub binder : List ℕ → List ℕ → Binder
 binder name model = record { name = name; model = model }
@@ -81,13 +82,15 @@ binder name model = record { name = name; model = model }
 -- `(NAME NAME)`
 abbrev pub binder_in_tree : List ℕ → PlainTree → Read Binder
 binder_in_tree at (PlainTree.list (PlainTrees.more x (PlainTrees.more m PlainTrees.none))) =
-    read_and_then (λ name. read_map (binder name) (name_in_tree (child at 1) m)) (name_in_tree (child at 0) x)
+    read_and_then (λ name. read_map (binder name) (name_in_tree (child at 1) m))
+    (name_in_tree (child at 0) x)
 binder_in_tree at t = wrong wants.Binder at
 
 abbrev pub binders_in_trees : List ℕ → ℕ → PlainTrees → Read (List Binder)
 binders_in_trees at k PlainTrees.none = got []
 binders_in_trees at k (PlainTrees.more t ts) =
-    read_and_then (λ b. read_map (λ bs. b ∷ bs) (binders_in_trees at (k + 1) ts)) (binder_in_tree (child at k) t)
+    read_and_then (λ b. read_map (λ bs. b ∷ bs) (binders_in_trees at (k + 1) ts))
+    (binder_in_tree (child at k) t)
 
 -- how many binders a query may have
 abbrev pub most_binders : Most → ℕ
@@ -97,7 +100,8 @@ most_binders mosts.Three = 3
 -- one or more binders, up to `most`
 abbrev pub some_binders : ℕ → List ℕ → PlainTrees → Read (List Binder)
 some_binders most at ts =
-    if nat_le (count ts) 0 then wrong wants.Binder at else up_to whats.Binders at most (count ts) (binders_in_trees at 0 ts)
+    if nat_le (count ts) 0 then wrong wants.Binder at else up_to whats.Binders at most (count ts)
+    (binders_in_trees at 0 ts)
 
 abbrev pub binders_in_tree : ℕ → List ℕ → PlainTree → Read (List Binder)
 binders_in_tree most at (PlainTree.list ts) = some_binders most at ts
@@ -117,7 +121,8 @@ abbrev pub sort_key : List ℕ → List ℕ → SortKey
 sort_key x f = record { binder = x; field = f }
 
 abbrev pub key_of : List ℕ → PlainTree → PlainTree → Read SortKey
-key_of at x f = read_and_then (λ name. read_map (sort_key name) (name_in_tree (child at 2) f)) (name_in_tree (child at 1) x)
+key_of at x f = read_and_then (λ name. read_map (sort_key name) (name_in_tree (child at 2) f))
+    (name_in_tree (child at 1) x)
 
 abbrev pub rising : SortKey → Order
 rising key = orders.Up key.binder key.field
@@ -128,12 +133,14 @@ falling key = orders.Down key.binder key.field
 -- `(up NAME NAME)` or `(down NAME NAME)`
 abbrev pub sorting_in_trees : List ℕ → PlainTrees → Read Order
 sorting_in_trees at (PlainTrees.more w (PlainTrees.more x (PlainTrees.more f PlainTrees.none))) =
-    if is_word (codes "up") w then read_map rising (key_of at x f) else if is_word (codes "down") w then read_map falling (key_of at x f) else wrong wants.Order at
+    if is_word (codes "up") w then read_map rising (key_of at x f) else if is_word (codes "down") w
+    then read_map falling (key_of at x f) else wrong wants.Order at
 sorting_in_trees at ts = wrong wants.Order at
 
 -- `key`, or a field of a binder, rising or falling
 abbrev pub order_in_tree : List ℕ → PlainTree → Read Order
-order_in_tree at (PlainTree.atom a) = if bytes_eq a (codes "key") then got orders.Key else wrong wants.Order at
+order_in_tree at (PlainTree.atom a) = if bytes_eq a (codes "key") then got orders.Key
+    else wrong wants.Order at
 order_in_tree at (PlainTree.text x) = wrong wants.Order at
 order_in_tree at (PlainTree.list ts) = sorting_in_trees at ts
 
@@ -142,7 +149,8 @@ question bs c o = record { binders = bs; cond = c; order = o }
 
 -- the first fault of the three, from the left
 abbrev pub question_if : Read (List Binder) → Read Expression → Read Order → Read Question
-question_if bs c o = read_and_then (λ binders. read_and_then (λ cond. read_map (question binders cond) o) c) bs
+question_if bs c o =
+    read_and_then (λ binders. read_and_then (λ cond. read_map (question binders cond) o) c) bs
 
 -- the forms with a query
 abbrev pub counted : Question → Expression
@@ -159,7 +167,8 @@ first_of q = Expression.first q.binders q.cond q.order
 
 -- `(none NAME)`
 abbrev pub none_in_trees : List ℕ → PlainTrees → Read Expression
-none_in_trees at (PlainTrees.more m PlainTrees.none) = read_map Expression.none_of (name_in_tree (child at 1) m)
+none_in_trees at (PlainTrees.more m PlainTrees.none) = read_map Expression.none_of
+    (name_in_tree (child at 1) m)
 none_in_trees at ts = wrong wants.Expression at
 
 -- the operands of a form, read in each way that some form takes them
@@ -189,8 +198,8 @@ expression_of_form at (Some forms.Sum) operands = operands.sum
 expression_of_form at (Some forms.AnyOf) operands = read_map asked (operands.asked 3)
 expression_of_form at (Some forms.First) operands = read_map first_of (operands.asked 3)
 
--- Each definition takes the path of its tree; one of operands takes the path of the list that they stand in,
--- where they are the children from 1 on.
+-- Each definition takes the path of its tree; one of operands takes the path of the list that they
+-- stand in, where they are the children from 1 on.
 abbrev mutual
   -- an expression
   pub expression_in_tree : List ℕ → PlainTree → Read Expression
@@ -221,26 +230,32 @@ abbrev mutual
   -- two
   pub two_in_trees : List ℕ → PlainTrees → Op → Read Expression
   two_in_trees at (PlainTrees.more a (PlainTrees.more b PlainTrees.none)) op =
-      read_and_then (λ x. read_map (Expression.two op x) (expression_in_tree (child at 2) b)) (expression_in_tree (child at 1) a)
+      read_and_then (λ x. read_map (Expression.two op x) (expression_in_tree (child at 2) b))
+      (expression_in_tree (child at 1) a)
   two_in_trees at ts op = wrong wants.Expression at
 
   -- a condition and two choices
   pub pick_in_trees : List ℕ → PlainTrees → Read Expression
   pick_in_trees at (PlainTrees.more c (PlainTrees.more a (PlainTrees.more b PlainTrees.none))) =
-      read_and_then (λ x. read_and_then (λ y. read_map (Expression.pick x y) (expression_in_tree (child at 3) b)) (expression_in_tree (child at 2) a)) (expression_in_tree (child at 1) c)
+      read_and_then (λ x. read_and_then (λ y. read_map (Expression.pick x y)
+      (expression_in_tree (child at 3) b)) (expression_in_tree (child at 2) a))
+      (expression_in_tree (child at 1) c)
   pick_in_trees at ts = wrong wants.Expression at
 
   -- a model, a field and the reference
   pub get_in_trees : List ℕ → PlainTrees → Read Expression
   get_in_trees at (PlainTrees.more m (PlainTrees.more f (PlainTrees.more e PlainTrees.none))) =
-      read_and_then (λ model. read_and_then (λ field. read_map (Expression.get model field) (expression_in_tree (child at 3) e)) (name_in_tree (child at 2) f)) (name_in_tree (child at 1) m)
+      read_and_then (λ model. read_and_then (λ field. read_map (Expression.get model field)
+      (expression_in_tree (child at 3) e)) (name_in_tree (child at 2) f))
+      (name_in_tree (child at 1) m)
   get_in_trees at ts = wrong wants.Expression at
 
   -- any number, of which the first is child k
   pub expressions_in_trees : List ℕ → ℕ → PlainTrees → Read Expressions
   expressions_in_trees at k PlainTrees.none = got Expressions.none
   expressions_in_trees at k (PlainTrees.more t ts) =
-      read_and_then (λ e. read_map (Expressions.more e) (expressions_in_trees at (k + 1) ts)) (expression_in_tree (child at k) t)
+      read_and_then (λ e. read_map (Expressions.more e) (expressions_in_trees at (k + 1) ts))
+      (expression_in_tree (child at k) t)
 
   -- one query, of up to `most` binders
   pub query_in_trees : List ℕ → PlainTrees → ℕ → Read Question
@@ -250,15 +265,20 @@ abbrev mutual
   -- a query of one binder and an expression
   pub sum_in_trees : List ℕ → PlainTrees → Read Expression
   sum_in_trees at (PlainTrees.more q (PlainTrees.more e PlainTrees.none)) =
-      read_and_then (λ asked. read_map (summed asked) (expression_in_tree (child at 2) e)) (question_in_tree 1 (child at 1) q)
+      read_and_then (λ asked. read_map (summed asked) (expression_in_tree (child at 2) e))
+      (question_in_tree 1 (child at 1) q)
   sum_in_trees at ts = wrong wants.Expression at
 
   -- `(from ((NAME NAME)+) expression order)` of up to `most` binders
   pub question_in_tree : ℕ → List ℕ → PlainTree → Read Question
-  question_in_tree most at (PlainTree.list (PlainTrees.more w (PlainTrees.more bs (PlainTrees.more c (PlainTrees.more o PlainTrees.none))))) =
+  question_in_tree most at
+      (PlainTree.list
+      (PlainTrees.more w
+      (PlainTrees.more bs (PlainTrees.more c (PlainTrees.more o PlainTrees.none))))) =
       if is_word (codes "from") w
       then if has_few most bs
-      then question_if (binders_in_tree most (child at 1) bs) (expression_in_tree (child at 2) c) (order_in_tree (child at 3) o)
+      then question_if (binders_in_tree most (child at 1) bs) (expression_in_tree (child at 2) c)
+      (order_in_tree (child at 3) o)
       else wrong wants.Query at
       else wrong wants.Query at
   question_in_tree most at t = wrong wants.Query at

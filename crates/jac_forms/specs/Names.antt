@@ -27,9 +27,12 @@ tail_of word (PlainTree.list PlainTrees.none) = None
 tail_of word (PlainTree.list (PlainTrees.more w ts)) = if is_word word w then Some ts else None
 
 -- what is read of each tree, of which the first is child k of the list at this path
-abbrev pub each_in_trees : {A : Type 0} → (List ℕ → PlainTree → Read A) → List ℕ → ℕ → PlainTrees → Read (List A)
+abbrev pub each_in_trees : {A : Type 0} → (List ℕ → PlainTree → Read A) → List ℕ → ℕ → PlainTrees
+    → Read (List A)
 each_in_trees read at k PlainTrees.none = got []
-each_in_trees read at k (PlainTrees.more t ts) = read_and_then (λ first. read_map (λ rest. first ∷ rest) (each_in_trees read at (k + 1) ts)) (read (child at k) t)
+each_in_trees read at k (PlainTrees.more t ts) =
+    read_and_then (λ first. read_map (λ rest. first ∷ rest) (each_in_trees read at (k + 1) ts))
+    (read (child at k) t)
 
 -- the bytes, where they are a name
 abbrev pub named : Want → List ℕ → List ℕ → Read (List ℕ)

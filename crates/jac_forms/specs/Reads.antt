@@ -36,7 +36,8 @@ got_where want at (Some x) = got x
 got_where want at None = wrong want at
 
 -- what is read of the trees behind a head, where it is there
-abbrev pub behind : {A : Type 0} → Want → List ℕ → (PlainTrees → Read A) → Option PlainTrees → Read A
+abbrev pub behind : {A : Type 0} → Want → List ℕ → (PlainTrees → Read A) → Option PlainTrees
+    → Read A
 behind want at read (Some ts) = read ts
 behind want at read None = wrong want at
 

@@ -52,29 +52,35 @@ assigned field value = record { field = field; value = value }
 -- `(NAME expression)`; what is none is a fault of `want`
 abbrev pub assigned_in_tree : Want → List ℕ → PlainTree → Read Assigned
 assigned_in_tree want at (PlainTree.list (PlainTrees.more f (PlainTrees.more e PlainTrees.none))) =
-    read_and_then (λ field. read_map (assigned field) (expression_in_tree (child at 1) e)) (name_in_tree (child at 0) f)
+    read_and_then (λ field. read_map (assigned field) (expression_in_tree (child at 1) e))
+    (name_in_tree (child at 0) f)
 assigned_in_tree want at t = wrong want at
 
 -- `(set (NAME expression) ..)`
 abbrev pub set_in_tree : List ℕ → PlainTree → Read (List Assigned)
-set_in_tree at t = behind wants.Set at (each_in_trees (assigned_in_tree wants.Cell) at 1) (tail_of (codes "set") t)
+set_in_tree at t = behind wants.Set at (each_in_trees (assigned_in_tree wants.Cell) at 1)
+    (tail_of (codes "set") t)
 
 -- a name and an expression
 abbrev pub assign_in_trees : List ℕ → PlainTrees → Read Statement
 assign_in_trees at (PlainTrees.more x (PlainTrees.more e PlainTrees.none)) =
-    read_and_then (λ name. read_map (Statement.assign name) (expression_in_tree (child at 2) e)) (name_in_tree (child at 1) x)
+    read_and_then (λ name. read_map (Statement.assign name) (expression_in_tree (child at 2) e))
+    (name_in_tree (child at 1) x)
 assign_in_trees at ts = wrong wants.Statement at
 
 -- a model, a reference and a set
 abbrev pub update_in_trees : List ℕ → PlainTrees → Read Statement
 update_in_trees at (PlainTrees.more m (PlainTrees.more e (PlainTrees.more s PlainTrees.none))) =
-    read_and_then (λ model. read_and_then (λ target. read_map (Statement.update model target) (set_in_tree (child at 3) s)) (expression_in_tree (child at 2) e)) (name_in_tree (child at 1) m)
+    read_and_then (λ model. read_and_then (λ target. read_map (Statement.update model target)
+    (set_in_tree (child at 3) s)) (expression_in_tree (child at 2) e))
+    (name_in_tree (child at 1) m)
 update_in_trees at ts = wrong wants.Statement at
 
 -- a model and a reference
 abbrev pub delete_in_trees : List ℕ → PlainTrees → Read Statement
 delete_in_trees at (PlainTrees.more m (PlainTrees.more e PlainTrees.none)) =
-    read_and_then (λ model. read_map (Statement.delete model) (expression_in_tree (child at 2) e)) (name_in_tree (child at 1) m)
+    read_and_then (λ model. read_map (Statement.delete model) (expression_in_tree (child at 2) e))
+    (name_in_tree (child at 1) m)
 delete_in_trees at ts = wrong wants.Statement at
 
 abbrev pub missing_in_trees : List ℕ → PlainTrees → Read Statement
@@ -83,7 +89,8 @@ missing_in_trees at ts = wrong wants.Statement at
 
 -- a text
 abbrev pub template_in_trees : List ℕ → PlainTrees → Read Statement
-template_in_trees at (PlainTrees.more (PlainTree.text x) PlainTrees.none) = got (Statement.template x)
+template_in_trees at (PlainTrees.more (PlainTree.text x) PlainTrees.none) =
+    got (Statement.template x)
 template_in_trees at ts = wrong wants.Statement at
 
 abbrev pub single_in_trees : List ℕ → PlainTrees → Single → Read Statement
@@ -93,7 +100,8 @@ single_in_trees at ts singles.Assign = assign_in_trees at ts
 single_in_trees at ts singles.Update = update_in_trees at ts
 single_in_trees at ts singles.Delete = delete_in_trees at ts
 single_in_trees at ts singles.Missing = missing_in_trees at ts
-single_in_trees at ts singles.Redirect = read_map Statement.redirect (one_in_trees wants.Statement at ts)
+single_in_trees at ts singles.Redirect = read_map Statement.redirect (one_in_trees wants.Statement
+    at ts)
 single_in_trees at ts singles.Template = template_in_trees at ts
 
 -- a statement, and the site that comes after those of its `create` statements
@@ -142,7 +150,8 @@ pub record Operands : Type 0 where
 -- a statement whose first site would be n
 abbrev pub statement_of_step : List ℕ → Option Step → Operands → ℕ → Read Numbered
 statement_of_step at None operands n = wrong wants.Statement at
-statement_of_step at (Some (steps.Single single)) operands n = read_map (numbered n) (operands.single single)
+statement_of_step at (Some (steps.Single single)) operands n = read_map (numbered n)
+    (operands.single single)
 statement_of_step at (Some steps.Let) operands n = operands.bind n
 statement_of_step at (Some steps.If) operands n = operands.branch n
 statement_of_step at (Some steps.For) operands n = operands.each n
@@ -170,24 +179,33 @@ abbrev mutual
   -- a name, an expression and statements
   pub bind_in_trees : List ℕ → PlainTrees → ℕ → Read Numbered
   bind_in_trees at (PlainTrees.more x (PlainTrees.more e ss)) n =
-      read_and_then (λ name. read_and_then (λ value. read_map (bind name value) (statements_in_trees at 3 ss n)) (expression_in_tree (child at 2) e)) (name_in_tree (child at 1) x)
+      read_and_then (λ name. read_and_then (λ value. read_map (bind name value)
+      (statements_in_trees at 3 ss n)) (expression_in_tree (child at 2) e))
+      (name_in_tree (child at 1) x)
   bind_in_trees at ts n = wrong wants.Statement at
 
   -- a condition and two lists of statements
   pub branch_in_trees : List ℕ → PlainTrees → ℕ → Read Numbered
   branch_in_trees at (PlainTrees.more c (PlainTrees.more a (PlainTrees.more b PlainTrees.none))) n =
-      read_and_then (λ cond. read_and_then (λ first. read_map (branch cond first) (body_in_tree (child at 3) b first.next)) (body_in_tree (child at 2) a n)) (expression_in_tree (child at 1) c)
+      read_and_then (λ cond. read_and_then (λ first. read_map (branch cond first)
+      (body_in_tree (child at 3) b first.next)) (body_in_tree (child at 2) a n))
+      (expression_in_tree (child at 1) c)
   branch_in_trees at ts n = wrong wants.Statement at
 
   -- a query and statements
   pub each_of_query : List ℕ → PlainTrees → ℕ → Read Numbered
-  each_of_query at (PlainTrees.more q ss) n = read_and_then (λ asked. read_map (each asked) (statements_in_trees at 2 ss n)) (question_in_tree 3 (child at 1) q)
+  each_of_query at (PlainTrees.more q ss) n =
+      read_and_then (λ asked. read_map (each asked) (statements_in_trees at 2 ss n))
+      (question_in_tree 3 (child at 1) q)
   each_of_query at PlainTrees.none n = wrong wants.Statement at
 
   -- a name, a model, a set and statements; its own site comes before theirs
   pub create_in_trees : List ℕ → PlainTrees → ℕ → Read Numbered
   create_in_trees at (PlainTrees.more x (PlainTrees.more m (PlainTrees.more s ss))) n =
-      read_and_then (λ name. read_and_then (λ model. read_and_then (λ cells. read_map (create name model n cells) (statements_in_trees at 4 ss (next_site n))) (set_in_tree (child at 3) s)) (name_in_tree (child at 2) m)) (name_in_tree (child at 1) x)
+      read_and_then (λ name. read_and_then
+      (λ model. read_and_then (λ cells. read_map (create name model n cells)
+      (statements_in_trees at 4 ss (next_site n))) (set_in_tree (child at 3) s))
+      (name_in_tree (child at 2) m)) (name_in_tree (child at 1) x)
   create_in_trees at ts n = wrong wants.Statement at
 
   -- a list of statements
@@ -200,7 +218,8 @@ abbrev mutual
   pub statements_in_trees : List ℕ → ℕ → PlainTrees → ℕ → Read Body
   statements_in_trees at k PlainTrees.none n = got (body n Statements.none)
   statements_in_trees at k (PlainTrees.more t ts) n =
-      read_and_then (λ first. read_map (before_body first.statement) (statements_in_trees at (k + 1) ts first.next)) (statement_in_tree (child at k) t n)
+      read_and_then (λ first. read_map (before_body first.statement) (statements_in_trees at (k + 1)
+      ts first.next)) (statement_in_tree (child at k) t n)
 
 abbrev pub operands_of : List ℕ → PlainTrees → Operands
 operands_of at ts = record {

@@ -27,13 +27,16 @@ struct Items {
     views: Views,
 }
 
-/// The application that a tree writes, or the tree's first fault. A list of 2^32 trees or more, and so an
-/// application of as many views, is answered as want of memory.
+/// The application that a tree writes, or the tree's first fault. A list of 2^32 trees or more, and
+/// so an application of as many views, is answered as want of memory.
 pub fn app_of(alloc: Global, tree: &Tree) -> Result<App, FormFault>
-    ensures value { IfOk result (λ a. application_of_tree (plain tree.now) ≡ Some (application_of a)) }
+    ensures value { IfOk result (λ a. application_of_tree (plain tree.now)
+        ≡ Some (application_of a)) }
     ensures written { IfOk result (λ a. IsWritten (application_of a)) }
-    ensures none { IfErr result (λ f. IsTrue (refuses f) → application_of_tree (plain tree.now) ≡ None) }
-    ensures fault { IfErr result (λ f. IsTrue (refuses f) → application_in_tree [] (plain tree.now) ≡ refused f) }
+    ensures none { IfErr result (λ f. IsTrue (refuses f) → application_of_tree (plain tree.now)
+        ≡ None) }
+    ensures fault { IfErr result (λ f. IsTrue (refuses f) → application_in_tree [] (plain tree.now)
+        ≡ refused f) }
 {
     match tail_of(tree, b"app") {
         Some(trees) => {
@@ -45,9 +48,11 @@ pub fn app_of(alloc: Global, tree: &Tree) -> Result<App, FormFault>
 }
 
 fn read_app(alloc: Global, place: &Place<'_>, trees: &Trees) -> Result<App, FormFault>
-    ensures value { IfOk result (λ a. application_in_trees (path_of place.now) (plain_all trees.now) ≡ got (application_of a)) }
+    ensures value { IfOk result (λ a. application_in_trees (path_of place.now) (plain_all trees.now)
+        ≡ got (application_of a)) }
     ensures few { IfOk result (λ a. length a.views < 2 ^ 32) }
-    ensures fault { IfErr result (λ f. IsTrue (refuses f) → application_in_trees (path_of place.now) (plain_all trees.now) ≡ refused f) }
+    ensures fault { IfErr result (λ f. IsTrue (refuses f) → application_in_trees (path_of place.now)
+        (plain_all trees.now) ≡ refused f) }
 {
     let models = count_models(trees)?;
     if models > 64 {
@@ -83,9 +88,11 @@ fn is_headed(tree: &Tree, word: &[u8]) -> bool
 
 fn read_viewer_and_items(alloc: Global, place: &Place<'_>, trees: &Trees) -> Result<App, FormFault>
     requires { headed (codes "model") (plain_all trees.now) ≤ 64 }
-    ensures value { IfOk result (λ a. application_of_items (path_of place.now) (plain_all trees.now) ≡ got (application_of a)) }
+    ensures value { IfOk result (λ a. application_of_items (path_of place.now) (plain_all trees.now)
+        ≡ got (application_of a)) }
     ensures few { IfOk result (λ a. length a.views < 2 ^ 32) }
-    ensures fault { IfErr result (λ f. IsTrue (refuses f) → application_of_items (path_of place.now) (plain_all trees.now) ≡ refused f) }
+    ensures fault { IfErr result (λ f. IsTrue (refuses f) → application_of_items (path_of place.now)
+        (plain_all trees.now) ≡ refused f) }
 {
     if let Trees::More(first, rest) = trees {
         if is_headed(first, b"viewer") {
@@ -107,8 +114,10 @@ fn read_viewer_and_items(alloc: Global, place: &Place<'_>, trees: &Trees) -> Res
 }
 
 fn read_viewer(alloc: Global, place: &Place<'_>, tree: &Tree) -> Result<Txt, FormFault>
-    ensures value { IfOk result (λ name. viewer_in_tree (path_of place.now) (plain tree.now) ≡ got name) }
-    ensures fault { IfErr result (λ f. IsTrue (refuses f) → viewer_in_tree (path_of place.now) (plain tree.now) ≡ refused f) }
+    ensures value { IfOk result (λ name. viewer_in_tree (path_of place.now) (plain tree.now)
+        ≡ got name) }
+    ensures fault { IfErr result (λ f. IsTrue (refuses f) → viewer_in_tree (path_of place.now)
+        (plain tree.now) ≡ refused f) }
 {
     match tail_of(tree, b"viewer") {
         Some(trees) => {
@@ -127,9 +136,11 @@ fn read_items(
     trees: &Trees,
 ) -> Result<Items, FormFault>
     requires { headed (codes "model") (plain_all trees.now) ≤ 64 }
-    ensures value { IfOk result (λ is. items_in_trees (path_of place.now) first (plain_all trees.now) ≡ got (items (entities_of is.models) (pages_of is.views))) }
+    ensures value { IfOk result (λ is. items_in_trees (path_of place.now) first
+        (plain_all trees.now) ≡ got (items (entities_of is.models) (pages_of is.views))) }
     ensures few { IfOk result (λ is. length is.views < 2 ^ 32) }
-    ensures fault { IfErr result (λ f. IsTrue (refuses f) → items_in_trees (path_of place.now) first (plain_all trees.now) ≡ refused f) }
+    ensures fault { IfErr result (λ f. IsTrue (refuses f) → items_in_trees (path_of place.now) first
+        (plain_all trees.now) ≡ refused f) }
 {
     let mut models = Vec::new(alloc);
     let mut number = first;
@@ -159,9 +170,11 @@ fn read_views(
     first: u32,
     trees: &Trees,
 ) -> Result<Views, FormFault>
-    ensures value { IfOk result (λ vs. each_in_trees page_in_tree (path_of place.now) first (plain_all trees.now) ≡ got (pages_of vs)) }
+    ensures value { IfOk result (λ vs. each_in_trees page_in_tree (path_of place.now) first
+        (plain_all trees.now) ≡ got (pages_of vs)) }
     ensures few { IfOk result (λ vs. length vs < 2 ^ 32) }
-    ensures fault { IfErr result (λ f. IsTrue (refuses f) → each_in_trees page_in_tree (path_of place.now) first (plain_all trees.now) ≡ refused f) }
+    ensures fault { IfErr result (λ f. IsTrue (refuses f)
+        → each_in_trees page_in_tree (path_of place.now) first (plain_all trees.now) ≡ refused f) }
 {
     let mut views = Vec::new(alloc);
     let mut number = first;

@@ -17,8 +17,10 @@ use jac_tree::{Tree, Trees};
 use std::alloc::Global;
 
 pub fn read_set(alloc: Global, place: &Place<'_>, tree: &Tree) -> Result<Publics, FormFault>
-    ensures value { IfOk result (λ cells. set_in_tree (path_of place.now) (plain tree.now) ≡ got (assigned_of cells)) }
-    ensures fault { IfErr result (λ f. IsTrue (refuses f) → set_in_tree (path_of place.now) (plain tree.now) ≡ refused f) }
+    ensures value { IfOk result (λ cells. set_in_tree (path_of place.now) (plain tree.now)
+        ≡ got (assigned_of cells)) }
+    ensures fault { IfErr result (λ f. IsTrue (refuses f)
+        → set_in_tree (path_of place.now) (plain tree.now) ≡ refused f) }
 {
     match tail_of(tree, b"set") {
         Some(cells) => {
@@ -29,15 +31,18 @@ pub fn read_set(alloc: Global, place: &Place<'_>, tree: &Tree) -> Result<Publics
     }
 }
 
-/// Fields with their expressions, behind the head of their list; what is none of these is a fault of `want`.
+/// Fields with their expressions, behind the head of their list; what is none of these is a fault
+/// of `want`.
 pub fn read_assigned(
     alloc: Global,
     place: &Place<'_>,
     want: Want,
     trees: &Trees,
 ) -> Result<Publics, FormFault>
-    ensures value { IfOk result (λ ps. each_in_trees (assigned_in_tree want) (path_of place.now) 1 (plain_all trees.now) ≡ got (assigned_of ps)) }
-    ensures fault { IfErr result (λ f. IsTrue (refuses f) → each_in_trees (assigned_in_tree want) (path_of place.now) 1 (plain_all trees.now) ≡ refused f) }
+    ensures value { IfOk result (λ ps. each_in_trees (assigned_in_tree want) (path_of place.now) 1
+        (plain_all trees.now) ≡ got (assigned_of ps)) }
+    ensures fault { IfErr result (λ f. IsTrue (refuses f) → each_in_trees (assigned_in_tree want)
+        (path_of place.now) 1 (plain_all trees.now) ≡ refused f) }
 {
     let mut back = Publics::End;
     let mut number: u32 = 1;
@@ -58,8 +63,10 @@ fn read_one_assigned(
     want: Want,
     tree: &Tree,
 ) -> Result<Public, FormFault>
-    ensures value { IfOk result (λ p. assigned_in_tree want (path_of place.now) (plain tree.now) ≡ got (one_assigned_of p)) }
-    ensures fault { IfErr result (λ f. IsTrue (refuses f) → assigned_in_tree want (path_of place.now) (plain tree.now) ≡ refused f) }
+    ensures value { IfOk result (λ p. assigned_in_tree want (path_of place.now) (plain tree.now)
+        ≡ got (one_assigned_of p)) }
+    ensures fault { IfErr result (λ f. IsTrue (refuses f)
+        → assigned_in_tree want (path_of place.now) (plain tree.now) ≡ refused f) }
 {
     let Tree::List(Trees::More(field, rest)) = tree else {
         return Err(place.form(alloc, want));

@@ -19,23 +19,28 @@ use jac_tree::{Tree, Trees};
 use jac_value::{Txt, integer_of, is_name};
 use std::alloc::Global;
 
-/// The expression that a tree writes, or the tree's first fault. A list of 2^32 trees or more is answered as
-/// want of memory.
+/// The expression that a tree writes, or the tree's first fault. A list of 2^32 trees or more is
+/// answered as want of memory.
 pub fn expr_of(alloc: Global, tree: &Tree) -> Result<Expr, FormFault>
-    ensures value { IfOk result (λ e. expression_of_tree (plain tree.now) ≡ Some (expression_of e)) }
-    ensures none { IfErr result (λ f. IsTrue (refuses f) → expression_of_tree (plain tree.now) ≡ None) }
-    ensures fault { IfErr result (λ f. IsTrue (refuses f) → expression_in_tree [] (plain tree.now) ≡ refused f) }
+    ensures value { IfOk result (λ e. expression_of_tree (plain tree.now)
+        ≡ Some (expression_of e)) }
+    ensures none { IfErr result (λ f. IsTrue (refuses f) → expression_of_tree (plain tree.now)
+        ≡ None) }
+    ensures fault { IfErr result (λ f. IsTrue (refuses f) → expression_in_tree [] (plain tree.now)
+        ≡ refused f) }
 {
     let e = read_expr(alloc, &Place::Top, tree)?;
     Ok(e)
 }
 
-/// The query of one to three binders that a tree writes, or the tree's first fault. A list of 2^32 trees or
-/// more is answered as want of memory.
+/// The query of one to three binders that a tree writes, or the tree's first fault. A list of 2^32
+/// trees or more is answered as want of memory.
 pub fn query_of(alloc: Global, tree: &Tree) -> Result<Query, FormFault>
     ensures value { IfOk result (λ q. question_of_tree 3 (plain tree.now) ≡ Some (question_of q)) }
-    ensures none { IfErr result (λ f. IsTrue (refuses f) → question_of_tree 3 (plain tree.now) ≡ None) }
-    ensures fault { IfErr result (λ f. IsTrue (refuses f) → question_in_tree 3 [] (plain tree.now) ≡ refused f) }
+    ensures none { IfErr result (λ f. IsTrue (refuses f) → question_of_tree 3 (plain tree.now)
+        ≡ None) }
+    ensures fault { IfErr result (λ f. IsTrue (refuses f) → question_in_tree 3 [] (plain tree.now)
+        ≡ refused f) }
 {
     let q = read_query(alloc, &Place::Top, Most::Three, tree)?;
     Ok(q)
@@ -48,8 +53,10 @@ pub fn read_only(
     want: Want,
     trees: &Trees,
 ) -> Result<Expr, FormFault>
-    ensures value { IfOk result (λ e. one_in_trees want (path_of place.now) (plain_all trees.now) ≡ got (expression_of e)) }
-    ensures fault { IfErr result (λ f. IsTrue (refuses f) → one_in_trees want (path_of place.now) (plain_all trees.now) ≡ refused f) }
+    ensures value { IfOk result (λ e. one_in_trees want (path_of place.now) (plain_all trees.now)
+        ≡ got (expression_of e)) }
+    ensures fault { IfErr result (λ f. IsTrue (refuses f) → one_in_trees want (path_of place.now)
+        (plain_all trees.now) ≡ refused f) }
 {
     let Trees::More(only, rest) = trees else {
         return Err(place.form(alloc, want));
@@ -63,8 +70,10 @@ pub fn read_only(
 
 #[cycle(read)]
 pub fn read_expr(alloc: Global, place: &Place<'_>, tree: &Tree) -> Result<Expr, FormFault>
-    ensures value { IfOk result (λ e. expression_in_tree (path_of place.now) (plain tree.now) ≡ got (expression_of e)) }
-    ensures fault { IfErr result (λ f. IsTrue (refuses f) → expression_in_tree (path_of place.now) (plain tree.now) ≡ refused f) }
+    ensures value { IfOk result (λ e. expression_in_tree (path_of place.now) (plain tree.now)
+        ≡ got (expression_of e)) }
+    ensures fault { IfErr result (λ f. IsTrue (refuses f) → expression_in_tree (path_of place.now)
+        (plain tree.now) ≡ refused f) }
 {
     match tree {
         Tree::Atom(word) => {
@@ -85,8 +94,10 @@ pub fn read_expr(alloc: Global, place: &Place<'_>, tree: &Tree) -> Result<Expr, 
 // A list begins with the word of its form.
 #[cycle(read)]
 fn read_list(alloc: Global, place: &Place<'_>, trees: &Trees) -> Result<Expr, FormFault>
-    ensures value { IfOk result (λ e. expression_in_list (path_of place.now) (plain_all trees.now) ≡ got (expression_of e)) }
-    ensures fault { IfErr result (λ f. IsTrue (refuses f) → expression_in_list (path_of place.now) (plain_all trees.now) ≡ refused f) }
+    ensures value { IfOk result (λ e. expression_in_list (path_of place.now) (plain_all trees.now)
+        ≡ got (expression_of e)) }
+    ensures fault { IfErr result (λ f. IsTrue (refuses f) → expression_in_list (path_of place.now)
+        (plain_all trees.now) ≡ refused f) }
 {
     let Trees::More(head, operands) = trees else {
         return Err(place.form(alloc, Want::Expression));
@@ -101,8 +112,10 @@ fn read_list(alloc: Global, place: &Place<'_>, trees: &Trees) -> Result<Expr, Fo
 }
 
 fn read_atom(alloc: Global, place: &Place<'_>, word: &Txt) -> Result<Expr, FormFault>
-    ensures value { IfOk result (λ e. atom_expression (path_of place.now) word.now ≡ got (expression_of e)) }
-    ensures fault { IfErr result (λ f. IsTrue (refuses f) → atom_expression (path_of place.now) word.now ≡ refused f) }
+    ensures value { IfOk result (λ e. atom_expression (path_of place.now) word.now
+        ≡ got (expression_of e)) }
+    ensures fault { IfErr result (λ f. IsTrue (refuses f) → atom_expression (path_of place.now)
+        word.now ≡ refused f) }
 {
     let text = word.as_str();
     if text == "true" {
@@ -120,8 +133,10 @@ fn read_atom(alloc: Global, place: &Place<'_>, word: &Txt) -> Result<Expr, FormF
 }
 
 fn read_number_or_name(alloc: Global, place: &Place<'_>, word: &Txt) -> Result<Expr, FormFault>
-    ensures value { IfOk result (λ e. number_or_name (path_of place.now) word.now (integer_of word.now) ≡ got (expression_of e)) }
-    ensures fault { IfErr result (λ f. IsTrue (refuses f) → number_or_name (path_of place.now) word.now (integer_of word.now) ≡ refused f) }
+    ensures value { IfOk result (λ e. number_or_name (path_of place.now) word.now
+        (integer_of word.now) ≡ got (expression_of e)) }
+    ensures fault { IfErr result (λ f. IsTrue (refuses f) → number_or_name (path_of place.now)
+        word.now (integer_of word.now) ≡ refused f) }
 {
     match integer_of(word) {
         Some(number) => Ok(Expr::Int(number)),
@@ -143,8 +158,10 @@ fn read_form(
     form: Form,
     operands: &Trees,
 ) -> Result<Expr, FormFault>
-    ensures value { IfOk result (λ e. expression_of_form (path_of place.now) (Some form) (operands_of (path_of place.now) (plain_all operands.now)) ≡ got (expression_of e)) }
-    ensures fault { IfErr result (λ f. IsTrue (refuses f) → expression_of_form (path_of place.now) (Some form) (operands_of (path_of place.now) (plain_all operands.now)) ≡ refused f) }
+    ensures value { IfOk result (λ e. expression_of_form (path_of place.now) (Some form)
+        (operands_of (path_of place.now) (plain_all operands.now)) ≡ got (expression_of e)) }
+    ensures fault { IfErr result (λ f. IsTrue (refuses f) → expression_of_form (path_of place.now)
+        (Some form) (operands_of (path_of place.now) (plain_all operands.now)) ≡ refused f) }
 {
     match form {
         Form::NoneOf => {
@@ -199,8 +216,10 @@ fn read_form(
 }
 
 fn read_none(alloc: Global, place: &Place<'_>, operands: &Trees) -> Result<Expr, FormFault>
-    ensures value { IfOk result (λ e. none_in_trees (path_of place.now) (plain_all operands.now) ≡ got (expression_of e)) }
-    ensures fault { IfErr result (λ f. IsTrue (refuses f) → none_in_trees (path_of place.now) (plain_all operands.now) ≡ refused f) }
+    ensures value { IfOk result (λ e. none_in_trees (path_of place.now) (plain_all operands.now)
+        ≡ got (expression_of e)) }
+    ensures fault { IfErr result (λ f. IsTrue (refuses f) → none_in_trees (path_of place.now)
+        (plain_all operands.now) ≡ refused f) }
 {
     let Trees::More(model, rest) = operands else {
         return Err(place.form(alloc, Want::Expression));
@@ -214,8 +233,10 @@ fn read_none(alloc: Global, place: &Place<'_>, operands: &Trees) -> Result<Expr,
 
 #[cycle(read)]
 fn read_one(alloc: Global, place: &Place<'_>, operands: &Trees) -> Result<Expr, FormFault>
-    ensures value { IfOk result (λ e. one_in_trees wants.Expression (path_of place.now) (plain_all operands.now) ≡ got (expression_of e)) }
-    ensures fault { IfErr result (λ f. IsTrue (refuses f) → one_in_trees wants.Expression (path_of place.now) (plain_all operands.now) ≡ refused f) }
+    ensures value { IfOk result (λ e. one_in_trees wants.Expression (path_of place.now)
+        (plain_all operands.now) ≡ got (expression_of e)) }
+    ensures fault { IfErr result (λ f. IsTrue (refuses f)
+        → one_in_trees wants.Expression (path_of place.now) (plain_all operands.now) ≡ refused f) }
 {
     let Trees::More(only, rest) = operands else {
         return Err(place.form(alloc, Want::Expression));
@@ -229,8 +250,10 @@ fn read_one(alloc: Global, place: &Place<'_>, operands: &Trees) -> Result<Expr, 
 
 #[cycle(read)]
 fn read_two(alloc: Global, place: &Place<'_>, op: Op, operands: &Trees) -> Result<Expr, FormFault>
-    ensures value { IfOk result (λ e. two_in_trees (path_of place.now) (plain_all operands.now) op ≡ got (expression_of e)) }
-    ensures fault { IfErr result (λ f. IsTrue (refuses f) → two_in_trees (path_of place.now) (plain_all operands.now) op ≡ refused f) }
+    ensures value { IfOk result (λ e. two_in_trees (path_of place.now) (plain_all operands.now) op
+        ≡ got (expression_of e)) }
+    ensures fault { IfErr result (λ f. IsTrue (refuses f) → two_in_trees (path_of place.now)
+        (plain_all operands.now) op ≡ refused f) }
 {
     let Trees::More(left, rest) = operands else {
         return Err(place.form(alloc, Want::Expression));
@@ -248,8 +271,10 @@ fn read_two(alloc: Global, place: &Place<'_>, op: Op, operands: &Trees) -> Resul
 
 #[cycle(read)]
 fn read_pick(alloc: Global, place: &Place<'_>, operands: &Trees) -> Result<Expr, FormFault>
-    ensures value { IfOk result (λ e. pick_in_trees (path_of place.now) (plain_all operands.now) ≡ got (expression_of e)) }
-    ensures fault { IfErr result (λ f. IsTrue (refuses f) → pick_in_trees (path_of place.now) (plain_all operands.now) ≡ refused f) }
+    ensures value { IfOk result (λ e. pick_in_trees (path_of place.now) (plain_all operands.now)
+        ≡ got (expression_of e)) }
+    ensures fault { IfErr result (λ f. IsTrue (refuses f) → pick_in_trees (path_of place.now)
+        (plain_all operands.now) ≡ refused f) }
 {
     let Trees::More(cond, rest) = operands else {
         return Err(place.form(alloc, Want::Expression));
@@ -271,8 +296,10 @@ fn read_pick(alloc: Global, place: &Place<'_>, operands: &Trees) -> Result<Expr,
 
 #[cycle(read)]
 fn read_get(alloc: Global, place: &Place<'_>, operands: &Trees) -> Result<Expr, FormFault>
-    ensures value { IfOk result (λ e. get_in_trees (path_of place.now) (plain_all operands.now) ≡ got (expression_of e)) }
-    ensures fault { IfErr result (λ f. IsTrue (refuses f) → get_in_trees (path_of place.now) (plain_all operands.now) ≡ refused f) }
+    ensures value { IfOk result (λ e. get_in_trees (path_of place.now) (plain_all operands.now)
+        ≡ got (expression_of e)) }
+    ensures fault { IfErr result (λ f. IsTrue (refuses f) → get_in_trees (path_of place.now)
+        (plain_all operands.now) ≡ refused f) }
 {
     let Trees::More(model, rest) = operands else {
         return Err(place.form(alloc, Want::Expression));
@@ -294,8 +321,10 @@ fn read_get(alloc: Global, place: &Place<'_>, operands: &Trees) -> Result<Expr, 
 
 #[cycle(read)]
 fn read_parts(alloc: Global, place: &Place<'_>, operands: &Trees) -> Result<Exprs, FormFault>
-    ensures value { IfOk result (λ es. expressions_in_trees (path_of place.now) 1 (plain_all operands.now) ≡ got (expressions_of es)) }
-    ensures fault { IfErr result (λ f. IsTrue (refuses f) → expressions_in_trees (path_of place.now) 1 (plain_all operands.now) ≡ refused f) }
+    ensures value { IfOk result (λ es. expressions_in_trees (path_of place.now) 1
+        (plain_all operands.now) ≡ got (expressions_of es)) }
+    ensures fault { IfErr result (λ f. IsTrue (refuses f) → expressions_in_trees (path_of place.now)
+        1 (plain_all operands.now) ≡ refused f) }
 {
     let mut back = Exprs::End;
     let mut number: u32 = 1;
@@ -317,8 +346,10 @@ fn read_asked(
     most: Most,
     operands: &Trees,
 ) -> Result<Query, FormFault>
-    ensures value { IfOk result (λ q. query_in_trees (path_of place.now) (plain_all operands.now) (most_binders most) ≡ got (question_of q)) }
-    ensures fault { IfErr result (λ f. IsTrue (refuses f) → query_in_trees (path_of place.now) (plain_all operands.now) (most_binders most) ≡ refused f) }
+    ensures value { IfOk result (λ q. query_in_trees (path_of place.now) (plain_all operands.now)
+        (most_binders most) ≡ got (question_of q)) }
+    ensures fault { IfErr result (λ f. IsTrue (refuses f) → query_in_trees (path_of place.now)
+        (plain_all operands.now) (most_binders most) ≡ refused f) }
 {
     let Trees::More(query, rest) = operands else {
         return Err(place.form(alloc, Want::Expression));
@@ -332,8 +363,10 @@ fn read_asked(
 
 #[cycle(read)]
 fn read_sum(alloc: Global, place: &Place<'_>, operands: &Trees) -> Result<Expr, FormFault>
-    ensures value { IfOk result (λ e. sum_in_trees (path_of place.now) (plain_all operands.now) ≡ got (expression_of e)) }
-    ensures fault { IfErr result (λ f. IsTrue (refuses f) → sum_in_trees (path_of place.now) (plain_all operands.now) ≡ refused f) }
+    ensures value { IfOk result (λ e. sum_in_trees (path_of place.now) (plain_all operands.now)
+        ≡ got (expression_of e)) }
+    ensures fault { IfErr result (λ f. IsTrue (refuses f) → sum_in_trees (path_of place.now)
+        (plain_all operands.now) ≡ refused f) }
 {
     let Trees::More(query, rest) = operands else {
         return Err(place.form(alloc, Want::Expression));
@@ -356,8 +389,10 @@ pub fn read_query(
     most: Most,
     tree: &Tree,
 ) -> Result<Query, FormFault>
-    ensures value { IfOk result (λ q. question_in_tree (most_binders most) (path_of place.now) (plain tree.now) ≡ got (question_of q)) }
-    ensures fault { IfErr result (λ f. IsTrue (refuses f) → question_in_tree (most_binders most) (path_of place.now) (plain tree.now) ≡ refused f) }
+    ensures value { IfOk result (λ q. question_in_tree (most_binders most) (path_of place.now)
+        (plain tree.now) ≡ got (question_of q)) }
+    ensures fault { IfErr result (λ f. IsTrue (refuses f) → question_in_tree (most_binders most)
+        (path_of place.now) (plain tree.now) ≡ refused f) }
 {
     let Tree::List(trees) = tree else {
         return Err(place.form(alloc, Want::Query));

@@ -5,8 +5,8 @@ use jac_value::Memory;
 use std::alloc::{AllocError, AllocFailed, Global};
 use std::marker::Model;
 
-/// The place of a tree within another: child numbers from the root, where the head of a list is child 0.
-/// The root itself has the empty path.
+/// The place of a tree within another: child numbers from the root, where the head of a list is
+/// child 0. The root itself has the empty path.
 #[derive(Debug, Drop)]
 pub struct Path {
     numbers: Vec<u32>,
@@ -74,8 +74,8 @@ pub enum Want {
     Expression,
 }
 
-/// What there is too much of: more than 64 models, 32 fields of a model, 8 groups of a model, 64 `create`
-/// statements of a view, or 3 binders of a query.
+/// What there is too much of: more than 64 models, 32 fields of a model, 8 groups of a model, 64
+/// `create` statements of a view, or 3 binders of a query.
 #[derive(Clone, Copy, Debug, PartialEq, Eq)]
 pub enum What {
     Models,
@@ -85,8 +85,8 @@ pub enum What {
     Binders,
 }
 
-/// Why a tree is no such form: its first fault in reading order, where the head and the number of the
-/// trees of a list come first, then how many there may be, then each of them from the left.
+/// Why a tree is no such form: its first fault in reading order, where the head and the number of
+/// the trees of a list come first, then how many there may be, then each of them from the left.
 #[derive(Debug, Drop)]
 pub enum FormFault {
     /// The tree at this path isn't what should stand there.

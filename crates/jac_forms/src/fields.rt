@@ -17,9 +17,11 @@ use std::alloc::Global;
 
 /// The fields of a model, at most 32.
 pub fn read_fields(alloc: Global, place: &Place<'_>, tree: &Tree) -> Result<Fields, FormFault>
-    ensures value { IfOk result (λ fs. fields_in_tree (path_of place.now) (plain tree.now) ≡ got fs) }
+    ensures value { IfOk result (λ fs. fields_in_tree (path_of place.now) (plain tree.now)
+        ≡ got fs) }
     ensures few { IfOk result (λ fs. length fs ≤ 32) }
-    ensures fault { IfErr result (λ f. IsTrue (refuses f) → fields_in_tree (path_of place.now) (plain tree.now) ≡ refused f) }
+    ensures fault { IfErr result (λ f. IsTrue (refuses f) → fields_in_tree (path_of place.now)
+        (plain tree.now) ≡ refused f) }
 {
     match tail_of(tree, b"fields") {
         Some(trees) => {
@@ -32,8 +34,10 @@ pub fn read_fields(alloc: Global, place: &Place<'_>, tree: &Tree) -> Result<Fiel
 
 /// The parameters of a view.
 pub fn read_params(alloc: Global, place: &Place<'_>, tree: &Tree) -> Result<Fields, FormFault>
-    ensures value { IfOk result (λ fs. params_in_tree (path_of place.now) (plain tree.now) ≡ got fs) }
-    ensures fault { IfErr result (λ f. IsTrue (refuses f) → params_in_tree (path_of place.now) (plain tree.now) ≡ refused f) }
+    ensures value { IfOk result (λ fs. params_in_tree (path_of place.now) (plain tree.now)
+        ≡ got fs) }
+    ensures fault { IfErr result (λ f. IsTrue (refuses f) → params_in_tree (path_of place.now)
+        (plain tree.now) ≡ refused f) }
 {
     match tail_of(tree, b"params") {
         Some(trees) => {
@@ -45,9 +49,11 @@ pub fn read_params(alloc: Global, place: &Place<'_>, tree: &Tree) -> Result<Fiel
 }
 
 fn read_few(alloc: Global, place: &Place<'_>, trees: &Trees) -> Result<Fields, FormFault>
-    ensures value { IfOk result (λ fs. few_fields (path_of place.now) (plain_all trees.now) ≡ got fs) }
+    ensures value { IfOk result (λ fs. few_fields (path_of place.now) (plain_all trees.now)
+        ≡ got fs) }
     ensures few { IfOk result (λ fs. length fs ≤ 32) }
-    ensures fault { IfErr result (λ f. IsTrue (refuses f) → few_fields (path_of place.now) (plain_all trees.now) ≡ refused f) }
+    ensures fault { IfErr result (λ f. IsTrue (refuses f)
+        → few_fields (path_of place.now) (plain_all trees.now) ≡ refused f) }
 {
     if is_up_to(trees, 32) {
         let fields = read_each(alloc, place, Want::Field, trees)?;
@@ -63,9 +69,11 @@ fn read_each(
     want: Want,
     trees: &Trees,
 ) -> Result<Fields, FormFault>
-    ensures value { IfOk result (λ fs. each_in_trees (field_in_tree want) (path_of place.now) 1 (plain_all trees.now) ≡ got fs) }
+    ensures value { IfOk result (λ fs. each_in_trees (field_in_tree want) (path_of place.now) 1
+        (plain_all trees.now) ≡ got fs) }
     ensures count { IfOk result (λ fs. length fs ≡ count (plain_all trees.now)) }
-    ensures fault { IfErr result (λ f. IsTrue (refuses f) → each_in_trees (field_in_tree want) (path_of place.now) 1 (plain_all trees.now) ≡ refused f) }
+    ensures fault { IfErr result (λ f. IsTrue (refuses f) → each_in_trees (field_in_tree want)
+        (path_of place.now) 1 (plain_all trees.now) ≡ refused f) }
 {
     let mut fields = Vec::new(alloc);
     let mut number: u32 = 1;
@@ -80,8 +88,10 @@ fn read_each(
 }
 
 fn read_field(alloc: Global, place: &Place<'_>, want: Want, tree: &Tree) -> Result<Field, FormFault>
-    ensures value { IfOk result (λ f. field_in_tree want (path_of place.now) (plain tree.now) ≡ got f) }
-    ensures fault { IfErr result (λ f. IsTrue (refuses f) → field_in_tree want (path_of place.now) (plain tree.now) ≡ refused f) }
+    ensures value { IfOk result (λ f. field_in_tree want (path_of place.now) (plain tree.now)
+        ≡ got f) }
+    ensures fault { IfErr result (λ f. IsTrue (refuses f) → field_in_tree want (path_of place.now)
+        (plain tree.now) ≡ refused f) }
 {
     let Tree::List(Trees::More(name, rest)) = tree else {
         return Err(place.form(alloc, want));
@@ -99,7 +109,8 @@ fn read_field(alloc: Global, place: &Place<'_>, want: Want, tree: &Tree) -> Resu
 
 fn read_kind(alloc: Global, place: &Place<'_>, tree: &Tree) -> Result<KindName, FormFault>
     ensures value { IfOk result (λ k. kind_in_tree (path_of place.now) (plain tree.now) ≡ got k) }
-    ensures fault { IfErr result (λ f. IsTrue (refuses f) → kind_in_tree (path_of place.now) (plain tree.now) ≡ refused f) }
+    ensures fault { IfErr result (λ f. IsTrue (refuses f) → kind_in_tree (path_of place.now)
+        (plain tree.now) ≡ refused f) }
 {
     match tree {
         Tree::Atom(word) => match plain_kind_of(word.as_str()) {
@@ -137,8 +148,10 @@ pub fn read_only_name(
     want: Want,
     trees: &Trees,
 ) -> Result<Txt, FormFault>
-    ensures value { IfOk result (λ name. one_name_in_trees want (path_of place.now) (plain_all trees.now) ≡ got name) }
-    ensures fault { IfErr result (λ f. IsTrue (refuses f) → one_name_in_trees want (path_of place.now) (plain_all trees.now) ≡ refused f) }
+    ensures value { IfOk result (λ name. one_name_in_trees want (path_of place.now)
+        (plain_all trees.now) ≡ got name) }
+    ensures fault { IfErr result (λ f. IsTrue (refuses f)
+        → one_name_in_trees want (path_of place.now) (plain_all trees.now) ≡ refused f) }
 {
     let Trees::More(name, rest) = trees else {
         return Err(place.form(alloc, want));

@@ -1,5 +1,5 @@
-//! From trees to applications, expressions and queries: the forms that they are written in, and the first
-//! fault of a tree that is none.
+//! From trees to applications, expressions and queries: the forms that they are written in, and the
+//! first fault of a tree that is none.
 #![tactic(auto)]
 
 mod applications;

@@ -19,8 +19,10 @@ use jac_tree::{Tree, Trees};
 use std::alloc::Global;
 
 pub fn read_model(alloc: Global, place: &Place<'_>, tree: &Tree) -> Result<ModelDef, FormFault>
-    ensures value { IfOk result (λ m. entity_in_tree (path_of place.now) (plain tree.now) ≡ got (entity_of m)) }
-    ensures fault { IfErr result (λ f. IsTrue (refuses f) → entity_in_tree (path_of place.now) (plain tree.now) ≡ refused f) }
+    ensures value { IfOk result (λ m. entity_in_tree (path_of place.now) (plain tree.now)
+        ≡ got (entity_of m)) }
+    ensures fault { IfErr result (λ f. IsTrue (refuses f) → entity_in_tree (path_of place.now)
+        (plain tree.now) ≡ refused f) }
 {
     match tail_of(tree, b"model") {
         Some(parts) => {
@@ -32,8 +34,10 @@ pub fn read_model(alloc: Global, place: &Place<'_>, tree: &Tree) -> Result<Model
 }
 
 fn read_parts(alloc: Global, place: &Place<'_>, parts: &Trees) -> Result<ModelDef, FormFault>
-    ensures value { IfOk result (λ m. entity_in_trees (path_of place.now) (plain_all parts.now) ≡ got (entity_of m)) }
-    ensures fault { IfErr result (λ f. IsTrue (refuses f) → entity_in_trees (path_of place.now) (plain_all parts.now) ≡ refused f) }
+    ensures value { IfOk result (λ m. entity_in_trees (path_of place.now) (plain_all parts.now)
+        ≡ got (entity_of m)) }
+    ensures fault { IfErr result (λ f. IsTrue (refuses f) → entity_in_trees (path_of place.now)
+        (plain_all parts.now) ≡ refused f) }
 {
     let Trees::More(name, rest) = parts else {
         return Err(place.form(alloc, Want::Item));
@@ -58,8 +62,10 @@ fn read_behind(
     name: &Tree,
     parts: &Trees,
 ) -> Result<ModelDef, FormFault>
-    ensures value { IfOk result (λ m. entity_behind (path_of place.now) nested first (plain name.now) (plain_all parts.now) ≡ got (entity_of m)) }
-    ensures fault { IfErr result (λ f. IsTrue (refuses f) → entity_behind (path_of place.now) nested first (plain name.now) (plain_all parts.now) ≡ refused f) }
+    ensures value { IfOk result (λ m. entity_behind (path_of place.now) nested first
+        (plain name.now) (plain_all parts.now) ≡ got (entity_of m)) }
+    ensures fault { IfErr result (λ f. IsTrue (refuses f) → entity_behind (path_of place.now) nested
+        first (plain name.now) (plain_all parts.now) ≡ refused f) }
 {
     let Trees::More(fields, groups) = parts else {
         return Err(place.form(alloc, Want::Item));
@@ -86,8 +92,10 @@ fn read_groups(
     trees: &Trees,
 ) -> Result<Groups, FormFault>
     requires { IsTrue (nat_le (count (plain_all trees.now)) 8) }
-    ensures value { IfOk result (λ gs. each_in_trees group_in_tree (path_of place.now) first (plain_all trees.now) ≡ got (groups_of gs)) }
-    ensures fault { IfErr result (λ f. IsTrue (refuses f) → each_in_trees group_in_tree (path_of place.now) first (plain_all trees.now) ≡ refused f) }
+    ensures value { IfOk result (λ gs. each_in_trees group_in_tree (path_of place.now) first
+        (plain_all trees.now) ≡ got (groups_of gs)) }
+    ensures fault { IfErr result (λ f. IsTrue (refuses f)
+        → each_in_trees group_in_tree (path_of place.now) first (plain_all trees.now) ≡ refused f) }
 {
     let mut groups = Vec::new(alloc);
     let mut number = first;
@@ -102,8 +110,10 @@ fn read_groups(
 }
 
 fn read_group(alloc: Global, place: &Place<'_>, tree: &Tree) -> Result<Group, FormFault>
-    ensures value { IfOk result (λ g. group_in_tree (path_of place.now) (plain tree.now) ≡ got (field_group_of g)) }
-    ensures fault { IfErr result (λ f. IsTrue (refuses f) → group_in_tree (path_of place.now) (plain tree.now) ≡ refused f) }
+    ensures value { IfOk result (λ g. group_in_tree (path_of place.now) (plain tree.now)
+        ≡ got (field_group_of g)) }
+    ensures fault { IfErr result (λ f. IsTrue (refuses f) → group_in_tree (path_of place.now)
+        (plain tree.now) ≡ refused f) }
 {
     match tail_of(tree, b"group") {
         Some(parts) => {
@@ -115,8 +125,10 @@ fn read_group(alloc: Global, place: &Place<'_>, tree: &Tree) -> Result<Group, Fo
 }
 
 fn read_group_parts(alloc: Global, place: &Place<'_>, parts: &Trees) -> Result<Group, FormFault>
-    ensures value { IfOk result (λ g. group_in_trees (path_of place.now) (plain_all parts.now) ≡ got (field_group_of g)) }
-    ensures fault { IfErr result (λ f. IsTrue (refuses f) → group_in_trees (path_of place.now) (plain_all parts.now) ≡ refused f) }
+    ensures value { IfOk result (λ g. group_in_trees (path_of place.now) (plain_all parts.now)
+        ≡ got (field_group_of g)) }
+    ensures fault { IfErr result (λ f. IsTrue (refuses f) → group_in_trees (path_of place.now)
+        (plain_all parts.now) ≡ refused f) }
 {
     let Trees::More(guards, rest) = parts else {
         return Err(place.form(alloc, Want::Group));
@@ -142,8 +154,10 @@ fn read_guarding(
     place: &Place<'_>,
     tree: &Tree,
 ) -> Result<(Publics, bool), FormFault>
-    ensures value { IfOk result (λ g. guarding_in_tree (path_of place.now) (plain tree.now) ≡ got (guarding g.1 (assigned_of g.0))) }
-    ensures fault { IfErr result (λ f. IsTrue (refuses f) → guarding_in_tree (path_of place.now) (plain tree.now) ≡ refused f) }
+    ensures value { IfOk result (λ g. guarding_in_tree (path_of place.now) (plain tree.now)
+        ≡ got (guarding g.1 (assigned_of g.0))) }
+    ensures fault { IfErr result (λ f. IsTrue (refuses f) → guarding_in_tree (path_of place.now)
+        (plain tree.now) ≡ refused f) }
 {
     if is_word(tree, b"hides") {
         return Ok((Publics::End, true));
@@ -153,8 +167,10 @@ fn read_guarding(
 }
 
 fn read_guards(alloc: Global, place: &Place<'_>, tree: &Tree) -> Result<Publics, FormFault>
-    ensures value { IfOk result (λ ps. guards_in_tree (path_of place.now) (plain tree.now) ≡ got (assigned_of ps)) }
-    ensures fault { IfErr result (λ f. IsTrue (refuses f) → guards_in_tree (path_of place.now) (plain tree.now) ≡ refused f) }
+    ensures value { IfOk result (λ ps. guards_in_tree (path_of place.now) (plain tree.now)
+        ≡ got (assigned_of ps)) }
+    ensures fault { IfErr result (λ f. IsTrue (refuses f) → guards_in_tree (path_of place.now)
+        (plain tree.now) ≡ refused f) }
 {
     match tail_of(tree, b"guards") {
         Some(trees) => {
@@ -166,8 +182,10 @@ fn read_guards(alloc: Global, place: &Place<'_>, tree: &Tree) -> Result<Publics,
 }
 
 fn read_some_guards(alloc: Global, place: &Place<'_>, trees: &Trees) -> Result<Publics, FormFault>
-    ensures value { IfOk result (λ ps. some_guards (path_of place.now) (plain_all trees.now) ≡ got (assigned_of ps)) }
-    ensures fault { IfErr result (λ f. IsTrue (refuses f) → some_guards (path_of place.now) (plain_all trees.now) ≡ refused f) }
+    ensures value { IfOk result (λ ps. some_guards (path_of place.now) (plain_all trees.now)
+        ≡ got (assigned_of ps)) }
+    ensures fault { IfErr result (λ f. IsTrue (refuses f)
+        → some_guards (path_of place.now) (plain_all trees.now) ≡ refused f) }
 {
     if is_up_to(trees, 0) {
         return Err(place.form(alloc, Want::Guard));
@@ -177,8 +195,10 @@ fn read_some_guards(alloc: Global, place: &Place<'_>, trees: &Trees) -> Result<P
 }
 
 fn read_policy(alloc: Global, place: &Place<'_>, tree: &Tree) -> Result<Expr, FormFault>
-    ensures value { IfOk result (λ e. policy_in_tree (path_of place.now) (plain tree.now) ≡ got (expression_of e)) }
-    ensures fault { IfErr result (λ f. IsTrue (refuses f) → policy_in_tree (path_of place.now) (plain tree.now) ≡ refused f) }
+    ensures value { IfOk result (λ e. policy_in_tree (path_of place.now) (plain tree.now)
+        ≡ got (expression_of e)) }
+    ensures fault { IfErr result (λ f. IsTrue (refuses f) → policy_in_tree (path_of place.now)
+        (plain tree.now) ≡ refused f) }
 {
     match tail_of(tree, b"policy") {
         Some(trees) => {

@@ -61,8 +61,10 @@ pub fn next_count(number: u64) -> Result<u64, Memory>
 }
 
 pub fn read_name(alloc: Global, place: &Place<'_>, tree: &Tree) -> Result<Txt, FormFault>
-    ensures value { IfOk result (λ name. name_in_tree (path_of place.now) (plain tree.now) ≡ got name) }
-    ensures fault { IfErr result (λ f. IsTrue (refuses f) → name_in_tree (path_of place.now) (plain tree.now) ≡ refused f) }
+    ensures value { IfOk result (λ name. name_in_tree (path_of place.now) (plain tree.now)
+        ≡ got name) }
+    ensures fault { IfErr result (λ f. IsTrue (refuses f) → name_in_tree (path_of place.now)
+        (plain tree.now) ≡ refused f) }
 {
     match tree {
         Tree::Atom(word) => {

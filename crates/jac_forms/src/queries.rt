@@ -33,7 +33,8 @@ impl Most {
     }
 }
 
-/// Whether there are as few binders as are asked where only one may be. What is no list is told later.
+/// Whether there are as few binders as are asked where only one may be. What is no list is told
+/// later.
 pub fn has_few(most: Most, tree: &Tree) -> bool
     ensures { result ≡ has_few (most_binders most) (plain tree.now) }
 {
@@ -49,8 +50,10 @@ pub fn read_binders(
     most: Most,
     tree: &Tree,
 ) -> Result<Binders, FormFault>
-    ensures value { IfOk result (λ bs. binders_in_tree (most_binders most) (path_of place.now) (plain tree.now) ≡ got (binders_of bs)) }
-    ensures fault { IfErr result (λ f. IsTrue (refuses f) → binders_in_tree (most_binders most) (path_of place.now) (plain tree.now) ≡ refused f) }
+    ensures value { IfOk result (λ bs. binders_in_tree (most_binders most) (path_of place.now)
+        (plain tree.now) ≡ got (binders_of bs)) }
+    ensures fault { IfErr result (λ f. IsTrue (refuses f) → binders_in_tree (most_binders most)
+        (path_of place.now) (plain tree.now) ≡ refused f) }
 {
     match tree {
         Tree::List(trees) => {
@@ -67,8 +70,10 @@ fn read_some(
     most: Most,
     trees: &Trees,
 ) -> Result<Binders, FormFault>
-    ensures value { IfOk result (λ bs. some_binders (most_binders most) (path_of place.now) (plain_all trees.now) ≡ got (binders_of bs)) }
-    ensures fault { IfErr result (λ f. IsTrue (refuses f) → some_binders (most_binders most) (path_of place.now) (plain_all trees.now) ≡ refused f) }
+    ensures value { IfOk result (λ bs. some_binders (most_binders most) (path_of place.now)
+        (plain_all trees.now) ≡ got (binders_of bs)) }
+    ensures fault { IfErr result (λ f. IsTrue (refuses f) → some_binders (most_binders most)
+        (path_of place.now) (plain_all trees.now) ≡ refused f) }
 {
     if is_up_to(trees, 0) {
         return Err(place.form(alloc, Want::Binder));
@@ -82,8 +87,10 @@ fn read_some(
 }
 
 fn read_each(alloc: Global, place: &Place<'_>, trees: &Trees) -> Result<Binders, FormFault>
-    ensures value { IfOk result (λ bs. binders_in_trees (path_of place.now) 0 (plain_all trees.now) ≡ got (binders_of bs)) }
-    ensures fault { IfErr result (λ f. IsTrue (refuses f) → binders_in_trees (path_of place.now) 0 (plain_all trees.now) ≡ refused f) }
+    ensures value { IfOk result (λ bs. binders_in_trees (path_of place.now) 0 (plain_all trees.now)
+        ≡ got (binders_of bs)) }
+    ensures fault { IfErr result (λ f. IsTrue (refuses f) → binders_in_trees (path_of place.now) 0
+        (plain_all trees.now) ≡ refused f) }
 {
     let mut back = Binders::End;
     let mut number: u32 = 0;
@@ -100,7 +107,8 @@ fn read_each(alloc: Global, place: &Place<'_>, trees: &Trees) -> Result<Binders,
 
 fn read_binder(alloc: Global, place: &Place<'_>, tree: &Tree) -> Result<Binder, FormFault>
     ensures value { IfOk result (λ b. binder_in_tree (path_of place.now) (plain tree.now) ≡ got b) }
-    ensures fault { IfErr result (λ f. IsTrue (refuses f) → binder_in_tree (path_of place.now) (plain tree.now) ≡ refused f) }
+    ensures fault { IfErr result (λ f. IsTrue (refuses f) → binder_in_tree (path_of place.now)
+        (plain tree.now) ≡ refused f) }
 {
     let Tree::List(Trees::More(name, rest)) = tree else {
         return Err(place.form(alloc, Want::Binder));
@@ -118,7 +126,8 @@ fn read_binder(alloc: Global, place: &Place<'_>, tree: &Tree) -> Result<Binder, 
 
 pub fn read_order(alloc: Global, place: &Place<'_>, tree: &Tree) -> Result<Order, FormFault>
     ensures value { IfOk result (λ o. order_in_tree (path_of place.now) (plain tree.now) ≡ got o) }
-    ensures fault { IfErr result (λ f. IsTrue (refuses f) → order_in_tree (path_of place.now) (plain tree.now) ≡ refused f) }
+    ensures fault { IfErr result (λ f. IsTrue (refuses f) → order_in_tree (path_of place.now)
+        (plain tree.now) ≡ refused f) }
 {
     match tree {
         Tree::Atom(word) => {
@@ -137,8 +146,10 @@ pub fn read_order(alloc: Global, place: &Place<'_>, tree: &Tree) -> Result<Order
 }
 
 fn read_sorting(alloc: Global, place: &Place<'_>, trees: &Trees) -> Result<Order, FormFault>
-    ensures value { IfOk result (λ o. sorting_in_trees (path_of place.now) (plain_all trees.now) ≡ got o) }
-    ensures fault { IfErr result (λ f. IsTrue (refuses f) → sorting_in_trees (path_of place.now) (plain_all trees.now) ≡ refused f) }
+    ensures value { IfOk result (λ o. sorting_in_trees (path_of place.now) (plain_all trees.now)
+        ≡ got o) }
+    ensures fault { IfErr result (λ f. IsTrue (refuses f) → sorting_in_trees (path_of place.now)
+        (plain_all trees.now) ≡ refused f) }
 {
     let Trees::More(word, rest) = trees else {
         return Err(place.form(alloc, Want::Order));
@@ -169,8 +180,10 @@ fn read_key(
     binder: &Tree,
     field: &Tree,
 ) -> Result<(Txt, Txt), FormFault>
-    ensures value { IfOk result (λ key. key_of (path_of place.now) (plain binder.now) (plain field.now) ≡ got (sort_key key.0 key.1)) }
-    ensures fault { IfErr result (λ f. IsTrue (refuses f) → key_of (path_of place.now) (plain binder.now) (plain field.now) ≡ refused f) }
+    ensures value { IfOk result (λ key. key_of (path_of place.now) (plain binder.now)
+        (plain field.now) ≡ got (sort_key key.0 key.1)) }
+    ensures fault { IfErr result (λ f. IsTrue (refuses f)
+        → key_of (path_of place.now) (plain binder.now) (plain field.now) ≡ refused f) }
 {
     let binder = read_name(alloc, &place.child(1), binder)?;
     let field = read_name(alloc, &place.child(2), field)?;

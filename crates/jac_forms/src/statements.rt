@@ -17,8 +17,8 @@ use jac_lang::{Stmt, Stmts};
 use jac_tree::{Tree, Trees};
 use std::alloc::Global;
 
-/// Statements from the child `first` of a list on. Their sites are counted from `sites`, which is the
-/// next site after them.
+/// Statements from the child `first` of a list on. Their sites are counted from `sites`, which is
+/// the next site after them.
 #[cycle(read)]
 pub fn read_stmts(
     alloc: Global,
@@ -27,8 +27,10 @@ pub fn read_stmts(
     sites: &mut u8,
     trees: &Trees,
 ) -> Result<Stmts, FormFault>
-    ensures value { IfOk result (λ ss. statements_in_trees (path_of place.now) first (plain_all trees.now) sites.old ≡ got (body sites.new (statements_of ss))) }
-    ensures fault { IfErr result (λ f. IsTrue (refuses f) → statements_in_trees (path_of place.now) first (plain_all trees.now) sites.old ≡ refused f) }
+    ensures value { IfOk result (λ ss. statements_in_trees (path_of place.now) first
+        (plain_all trees.now) sites.old ≡ got (body sites.new (statements_of ss))) }
+    ensures fault { IfErr result (λ f. IsTrue (refuses f) → statements_in_trees (path_of place.now)
+        first (plain_all trees.now) sites.old ≡ refused f) }
 {
     let mut back = Stmts::End;
     let mut number = first;
@@ -50,8 +52,10 @@ fn read_stmt(
     sites: &mut u8,
     tree: &Tree,
 ) -> Result<Stmt, FormFault>
-    ensures value { IfOk result (λ s. statement_in_tree (path_of place.now) (plain tree.now) sites.old ≡ got (numbered sites.new (statement_of s))) }
-    ensures fault { IfErr result (λ f. IsTrue (refuses f) → statement_in_tree (path_of place.now) (plain tree.now) sites.old ≡ refused f) }
+    ensures value { IfOk result (λ s. statement_in_tree (path_of place.now) (plain tree.now)
+        sites.old ≡ got (numbered sites.new (statement_of s))) }
+    ensures fault { IfErr result (λ f. IsTrue (refuses f) → statement_in_tree (path_of place.now)
+        (plain tree.now) sites.old ≡ refused f) }
 {
     match tree {
         Tree::List(trees) => {
@@ -70,8 +74,10 @@ fn read_list(
     sites: &mut u8,
     trees: &Trees,
 ) -> Result<Stmt, FormFault>
-    ensures value { IfOk result (λ s. statement_in_list (path_of place.now) (plain_all trees.now) sites.old ≡ got (numbered sites.new (statement_of s))) }
-    ensures fault { IfErr result (λ f. IsTrue (refuses f) → statement_in_list (path_of place.now) (plain_all trees.now) sites.old ≡ refused f) }
+    ensures value { IfOk result (λ s. statement_in_list (path_of place.now) (plain_all trees.now)
+        sites.old ≡ got (numbered sites.new (statement_of s))) }
+    ensures fault { IfErr result (λ f. IsTrue (refuses f) → statement_in_list (path_of place.now)
+        (plain_all trees.now) sites.old ≡ refused f) }
 {
     let Trees::More(head, operands) = trees else {
         return Err(place.form(alloc, Want::Statement));
@@ -93,8 +99,12 @@ fn read_step(
     step: Step,
     operands: &Trees,
 ) -> Result<Stmt, FormFault>
-    ensures value { IfOk result (λ s. statement_of_step (path_of place.now) (Some step) (operands_of (path_of place.now) (plain_all operands.now)) sites.old ≡ got (numbered sites.new (statement_of s))) }
-    ensures fault { IfErr result (λ f. IsTrue (refuses f) → statement_of_step (path_of place.now) (Some step) (operands_of (path_of place.now) (plain_all operands.now)) sites.old ≡ refused f) }
+    ensures value { IfOk result (λ s. statement_of_step (path_of place.now) (Some step)
+        (operands_of (path_of place.now) (plain_all operands.now)) sites.old
+        ≡ got (numbered sites.new (statement_of s))) }
+    ensures fault { IfErr result (λ f. IsTrue (refuses f) → statement_of_step (path_of place.now)
+        (Some step) (operands_of (path_of place.now) (plain_all operands.now)) sites.old
+        ≡ refused f) }
 {
     match step {
         Step::Single(single) => {
@@ -127,8 +137,10 @@ fn read_let(
     sites: &mut u8,
     operands: &Trees,
 ) -> Result<Stmt, FormFault>
-    ensures value { IfOk result (λ s. bind_in_trees (path_of place.now) (plain_all operands.now) sites.old ≡ got (numbered sites.new (statement_of s))) }
-    ensures fault { IfErr result (λ f. IsTrue (refuses f) → bind_in_trees (path_of place.now) (plain_all operands.now) sites.old ≡ refused f) }
+    ensures value { IfOk result (λ s. bind_in_trees (path_of place.now) (plain_all operands.now)
+        sites.old ≡ got (numbered sites.new (statement_of s))) }
+    ensures fault { IfErr result (λ f. IsTrue (refuses f) → bind_in_trees (path_of place.now)
+        (plain_all operands.now) sites.old ≡ refused f) }
 {
     let Trees::More(name, rest) = operands else {
         return Err(place.form(alloc, Want::Statement));
@@ -149,8 +161,10 @@ fn read_if(
     sites: &mut u8,
     operands: &Trees,
 ) -> Result<Stmt, FormFault>
-    ensures value { IfOk result (λ s. branch_in_trees (path_of place.now) (plain_all operands.now) sites.old ≡ got (numbered sites.new (statement_of s))) }
-    ensures fault { IfErr result (λ f. IsTrue (refuses f) → branch_in_trees (path_of place.now) (plain_all operands.now) sites.old ≡ refused f) }
+    ensures value { IfOk result (λ s. branch_in_trees (path_of place.now) (plain_all operands.now)
+        sites.old ≡ got (numbered sites.new (statement_of s))) }
+    ensures fault { IfErr result (λ f. IsTrue (refuses f) → branch_in_trees (path_of place.now)
+        (plain_all operands.now) sites.old ≡ refused f) }
 {
     let Trees::More(cond, rest) = operands else {
         return Err(place.form(alloc, Want::Statement));
@@ -177,8 +191,10 @@ fn read_for(
     sites: &mut u8,
     operands: &Trees,
 ) -> Result<Stmt, FormFault>
-    ensures value { IfOk result (λ s. each_of_query (path_of place.now) (plain_all operands.now) sites.old ≡ got (numbered sites.new (statement_of s))) }
-    ensures fault { IfErr result (λ f. IsTrue (refuses f) → each_of_query (path_of place.now) (plain_all operands.now) sites.old ≡ refused f) }
+    ensures value { IfOk result (λ s. each_of_query (path_of place.now) (plain_all operands.now)
+        sites.old ≡ got (numbered sites.new (statement_of s))) }
+    ensures fault { IfErr result (λ f. IsTrue (refuses f) → each_of_query (path_of place.now)
+        (plain_all operands.now) sites.old ≡ refused f) }
 {
     let Trees::More(query, rest) = operands else {
         return Err(place.form(alloc, Want::Statement));
@@ -195,8 +211,10 @@ fn read_create(
     sites: &mut u8,
     operands: &Trees,
 ) -> Result<Stmt, FormFault>
-    ensures value { IfOk result (λ s. create_in_trees (path_of place.now) (plain_all operands.now) sites.old ≡ got (numbered sites.new (statement_of s))) }
-    ensures fault { IfErr result (λ f. IsTrue (refuses f) → create_in_trees (path_of place.now) (plain_all operands.now) sites.old ≡ refused f) }
+    ensures value { IfOk result (λ s. create_in_trees (path_of place.now) (plain_all operands.now)
+        sites.old ≡ got (numbered sites.new (statement_of s))) }
+    ensures fault { IfErr result (λ f. IsTrue (refuses f) → create_in_trees (path_of place.now)
+        (plain_all operands.now) sites.old ≡ refused f) }
 {
     let Trees::More(name, rest) = operands else {
         return Err(place.form(alloc, Want::Statement));
@@ -229,8 +247,10 @@ fn read_body(
     sites: &mut u8,
     tree: &Tree,
 ) -> Result<Stmts, FormFault>
-    ensures value { IfOk result (λ ss. body_in_tree (path_of place.now) (plain tree.now) sites.old ≡ got (body sites.new (statements_of ss))) }
-    ensures fault { IfErr result (λ f. IsTrue (refuses f) → body_in_tree (path_of place.now) (plain tree.now) sites.old ≡ refused f) }
+    ensures value { IfOk result (λ ss. body_in_tree (path_of place.now) (plain tree.now) sites.old
+        ≡ got (body sites.new (statements_of ss))) }
+    ensures fault { IfErr result (λ f. IsTrue (refuses f) → body_in_tree (path_of place.now)
+        (plain tree.now) sites.old ≡ refused f) }
 {
     match tree {
         Tree::List(trees) => {
@@ -255,8 +275,10 @@ fn read_single(
     single: Single,
     operands: &Trees,
 ) -> Result<Stmt, FormFault>
-    ensures value { IfOk result (λ s. single_in_trees (path_of place.now) (plain_all operands.now) single ≡ got (statement_of s)) }
-    ensures fault { IfErr result (λ f. IsTrue (refuses f) → single_in_trees (path_of place.now) (plain_all operands.now) single ≡ refused f) }
+    ensures value { IfOk result (λ s. single_in_trees (path_of place.now) (plain_all operands.now)
+        single ≡ got (statement_of s)) }
+    ensures fault { IfErr result (λ f. IsTrue (refuses f) → single_in_trees (path_of place.now)
+        (plain_all operands.now) single ≡ refused f) }
 {
     match single {
         Single::Put => {
@@ -295,8 +317,10 @@ fn read_single(
 }
 
 fn read_assign(alloc: Global, place: &Place<'_>, operands: &Trees) -> Result<Stmt, FormFault>
-    ensures value { IfOk result (λ s. assign_in_trees (path_of place.now) (plain_all operands.now) ≡ got (statement_of s)) }
-    ensures fault { IfErr result (λ f. IsTrue (refuses f) → assign_in_trees (path_of place.now) (plain_all operands.now) ≡ refused f) }
+    ensures value { IfOk result (λ s. assign_in_trees (path_of place.now) (plain_all operands.now)
+        ≡ got (statement_of s)) }
+    ensures fault { IfErr result (λ f. IsTrue (refuses f) → assign_in_trees (path_of place.now)
+        (plain_all operands.now) ≡ refused f) }
 {
     let Trees::More(name, rest) = operands else {
         return Err(place.form(alloc, Want::Statement));
@@ -313,8 +337,10 @@ fn read_assign(alloc: Global, place: &Place<'_>, operands: &Trees) -> Result<Stm
 }
 
 fn read_update(alloc: Global, place: &Place<'_>, operands: &Trees) -> Result<Stmt, FormFault>
-    ensures value { IfOk result (λ s. update_in_trees (path_of place.now) (plain_all operands.now) ≡ got (statement_of s)) }
-    ensures fault { IfErr result (λ f. IsTrue (refuses f) → update_in_trees (path_of place.now) (plain_all operands.now) ≡ refused f) }
+    ensures value { IfOk result (λ s. update_in_trees (path_of place.now) (plain_all operands.now)
+        ≡ got (statement_of s)) }
+    ensures fault { IfErr result (λ f. IsTrue (refuses f) → update_in_trees (path_of place.now)
+        (plain_all operands.now) ≡ refused f) }
 {
     let Trees::More(model, rest) = operands else {
         return Err(place.form(alloc, Want::Statement));
@@ -335,8 +361,10 @@ fn read_update(alloc: Global, place: &Place<'_>, operands: &Trees) -> Result<Stm
 }
 
 fn read_delete(alloc: Global, place: &Place<'_>, operands: &Trees) -> Result<Stmt, FormFault>
-    ensures value { IfOk result (λ s. delete_in_trees (path_of place.now) (plain_all operands.now) ≡ got (statement_of s)) }
-    ensures fault { IfErr result (λ f. IsTrue (refuses f) → delete_in_trees (path_of place.now) (plain_all operands.now) ≡ refused f) }
+    ensures value { IfOk result (λ s. delete_in_trees (path_of place.now) (plain_all operands.now)
+        ≡ got (statement_of s)) }
+    ensures fault { IfErr result (λ f. IsTrue (refuses f) → delete_in_trees (path_of place.now)
+        (plain_all operands.now) ≡ refused f) }
 {
     let Trees::More(model, rest) = operands else {
         return Err(place.form(alloc, Want::Statement));
@@ -353,8 +381,10 @@ fn read_delete(alloc: Global, place: &Place<'_>, operands: &Trees) -> Result<Stm
 }
 
 fn read_missing(alloc: Global, place: &Place<'_>, operands: &Trees) -> Result<Stmt, FormFault>
-    ensures value { IfOk result (λ s. missing_in_trees (path_of place.now) (plain_all operands.now) ≡ got (statement_of s)) }
-    ensures fault { IfErr result (λ f. IsTrue (refuses f) → missing_in_trees (path_of place.now) (plain_all operands.now) ≡ refused f) }
+    ensures value { IfOk result (λ s. missing_in_trees (path_of place.now) (plain_all operands.now)
+        ≡ got (statement_of s)) }
+    ensures fault { IfErr result (λ f. IsTrue (refuses f) → missing_in_trees (path_of place.now)
+        (plain_all operands.now) ≡ refused f) }
 {
     match operands {
         Trees::End => Ok(Stmt::Missing),
@@ -363,8 +393,10 @@ fn read_missing(alloc: Global, place: &Place<'_>, operands: &Trees) -> Result<St
 }
 
 fn read_template(alloc: Global, place: &Place<'_>, operands: &Trees) -> Result<Stmt, FormFault>
-    ensures value { IfOk result (λ s. template_in_trees (path_of place.now) (plain_all operands.now) ≡ got (statement_of s)) }
-    ensures fault { IfErr result (λ f. IsTrue (refuses f) → template_in_trees (path_of place.now) (plain_all operands.now) ≡ refused f) }
+    ensures value { IfOk result (λ s. template_in_trees (path_of place.now) (plain_all operands.now)
+        ≡ got (statement_of s)) }
+    ensures fault { IfErr result (λ f. IsTrue (refuses f) → template_in_trees (path_of place.now)
+        (plain_all operands.now) ≡ refused f) }
 {
     let Trees::More(text, rest) = operands else {
         return Err(place.form(alloc, Want::Statement));

@@ -18,8 +18,10 @@ use jac_value::{Txt, is_path};
 use std::alloc::Global;
 
 pub fn read_view(alloc: Global, place: &Place<'_>, tree: &Tree) -> Result<View, FormFault>
-    ensures value { IfOk result (λ v. page_in_tree (path_of place.now) (plain tree.now) ≡ got (page_of v)) }
-    ensures fault { IfErr result (λ f. IsTrue (refuses f) → page_in_tree (path_of place.now) (plain tree.now) ≡ refused f) }
+    ensures value { IfOk result (λ v. page_in_tree (path_of place.now) (plain tree.now)
+        ≡ got (page_of v)) }
+    ensures fault { IfErr result (λ f. IsTrue (refuses f) → page_in_tree (path_of place.now)
+        (plain tree.now) ≡ refused f) }
 {
     match tail_of(tree, b"view") {
         Some(parts) => {
@@ -32,8 +34,10 @@ pub fn read_view(alloc: Global, place: &Place<'_>, tree: &Tree) -> Result<View, 
 
 // The sites are counted behind the statements, so a fault inside of them comes first.
 fn read_parts(alloc: Global, place: &Place<'_>, parts: &Trees) -> Result<View, FormFault>
-    ensures value { IfOk result (λ v. page_in_trees (path_of place.now) (plain_all parts.now) ≡ got (page_of v)) }
-    ensures fault { IfErr result (λ f. IsTrue (refuses f) → page_in_trees (path_of place.now) (plain_all parts.now) ≡ refused f) }
+    ensures value { IfOk result (λ v. page_in_trees (path_of place.now) (plain_all parts.now)
+        ≡ got (page_of v)) }
+    ensures fault { IfErr result (λ f. IsTrue (refuses f) → page_in_trees (path_of place.now)
+        (plain_all parts.now) ≡ refused f) }
 {
     let Trees::More(method, rest) = parts else {
         return Err(place.form(alloc, Want::Item));
@@ -62,7 +66,8 @@ fn read_parts(alloc: Global, place: &Place<'_>, parts: &Trees) -> Result<View, F
 
 fn read_method(alloc: Global, place: &Place<'_>, tree: &Tree) -> Result<Verb, FormFault>
     ensures value { IfOk result (λ v. method_in_tree (path_of place.now) (plain tree.now) ≡ got v) }
-    ensures fault { IfErr result (λ f. IsTrue (refuses f) → method_in_tree (path_of place.now) (plain tree.now) ≡ refused f) }
+    ensures fault { IfErr result (λ f. IsTrue (refuses f) → method_in_tree (path_of place.now)
+        (plain tree.now) ≡ refused f) }
 {
     if is_word(tree, b"get") {
         Ok(Verb::Get)
@@ -74,8 +79,10 @@ fn read_method(alloc: Global, place: &Place<'_>, tree: &Tree) -> Result<Verb, Fo
 }
 
 fn read_path(alloc: Global, place: &Place<'_>, tree: &Tree) -> Result<Txt, FormFault>
-    ensures value { IfOk result (λ path. path_in_tree (path_of place.now) (plain tree.now) ≡ got path) }
-    ensures fault { IfErr result (λ f. IsTrue (refuses f) → path_in_tree (path_of place.now) (plain tree.now) ≡ refused f) }
+    ensures value { IfOk result (λ path. path_in_tree (path_of place.now) (plain tree.now)
+        ≡ got path) }
+    ensures fault { IfErr result (λ f. IsTrue (refuses f) → path_in_tree (path_of place.now)
+        (plain tree.now) ≡ refused f) }
 {
     match tree {
         Tree::Text(text) => {

@@ -1,5 +1,5 @@
-//! Where the bytes of a connection stand, between two requests or within one (RFC 9112, section 6). What it tells
-//! decides only how long the host waits for more: requests are read above.
+//! Where the bytes of a connection stand, between two requests or within one (RFC 9112, section 6).
+//! What it tells decides only how long the host waits for more: requests are read above.
 
 // The field that tells how long a body is, with its colon.
 const LENGTH: [u8; 15] = *b"content-length:";
@@ -9,7 +9,8 @@ const LENGTH: [u8; 15] = *b"content-length:";
 pub(crate) enum Spot {
     /// Behind a whole request, or ahead of the first.
     Between,
-    /// In a line of a head, whose first bytes so far are so many of those that tell the body's length.
+    /// In a line of a head, whose first bytes so far are so many of those that tell the body's
+    /// length.
     Name { matched: usize, body: u64 },
     /// In the line of a head that tells the body's length.
     Length { body: u64 },

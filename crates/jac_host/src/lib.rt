@@ -1,5 +1,5 @@
-//! The host's files, audit, standard output, connections and their door. Each tells nothing of what it holds, and
-//! counts its own failures, and says on standard error what the host said of them.
+//! The host's files, audit, standard output, connections and their door. Each tells nothing of what
+//! it holds, and counts its own failures, and says on standard error what the host said of them.
 #![tactic(auto)]
 
 mod faults;

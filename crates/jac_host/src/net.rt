@@ -15,9 +15,9 @@ const PUT_MILLIS: u64 = 3_000;
 // How many times what has arrived is read away as a connection ends.
 const LAST_READS: u32 = 64;
 
-/// A connection of the host. It tells nothing. Each put is written through at once. Its input is at its end where
-/// the peer ended it, and where what is waited for didn't come in time: its first byte, the rest of a request, or one
-/// more request behind a reply.
+/// A connection of the host. It tells nothing. Each put is written through at once. Its input is at
+/// its end where the peer ended it, and where what is waited for didn't come in time: its first
+/// byte, the rest of a request, or one more request behind a reply.
 #[derive(Drop)]
 pub struct HostLink {
     rt: HostRuntime,
@@ -125,7 +125,8 @@ fn write_some(stream: &mut TcpStream, bytes: &[u8]) -> io::Result<usize>
     }
 }
 
-/// A port of the host, for connections from the host itself. It tells nothing, and always waits for one more.
+/// A port of the host, for connections from the host itself. It tells nothing, and always waits for
+/// one more.
 #[derive(Drop)]
 pub struct HostDoor<'r> {
     rt: &'r HostRuntime,
@@ -152,7 +153,13 @@ impl<'r> HostDoor<'r> {
 impl Door for HostDoor<'_> {
     type Line = HostLink;
 
-    ghost seen = { λ d. record { tells = false; coming = []; port = None; returned = []; faults = d.faults } };
+    ghost seen = { λ d. record {
+      tells = false;
+      coming = [];
+      port = None;
+      returned = [];
+      faults = d.faults;
+    } };
 
     fn listen(&mut self, port: u16) -> Result<(), Failed> {
         let address = SocketAddr::from((Ipv4Addr::LOCALHOST, port));
@@ -193,8 +200,8 @@ fn tell_listening(rt: &HostRuntime, listener: &TcpListener) {
     }
 }
 
-// The next connection, whose time begins. A reply is one write, so it needn't wait for more to be sent with it; where
-// the host refuses that, it is done without.
+// The next connection, whose time begins. A reply is one write, so it needn't wait for more to be
+// sent with it; where the host refuses that, it is done without.
 fn next_link(rt: &HostRuntime, listener: &Option<TcpListener>) -> io::Result<HostLink> {
     let stream = accept_one(listener)?;
     let _ = stream.set_nodelay(true);
@@ -223,8 +230,8 @@ fn accept_one(listener: &Option<TcpListener>) -> io::Result<TcpStream> {
     Err(io::Error::from(ErrorKind::ConnectionAborted))
 }
 
-// Reads away what has arrived, without waiting for more: a connection that ends with input unread is reset, and
-// its peer may lose the last reply (RFC 9112, section 9.6).
+// Reads away what has arrived, without waiting for more: a connection that ends with input unread
+// is reset, and its peer may lose the last reply (RFC 9112, section 9.6).
 fn read_away(stream: &mut TcpStream) {
     let mut rest = [0u8; 4096];
     if stream.set_nonblocking(true).is_err() {

@@ -1,5 +1,5 @@
-//! How long the host waits for what a connection brings next. Connections are served one after another, so whoever
-//! brings nothing holds up all later ones.
+//! How long the host waits for what a connection brings next. Connections are served one after
+//! another, so whoever brings nothing holds up all later ones.
 ghost use Rattle.std.specs.Prelude.{◌≡◌, ◌-◌};
 ghost use Rattle.std.specs.Time.{instant_nanos};
 ghost use Rattle.std.specs.Duration.{as_nanos};
@@ -8,10 +8,12 @@ ghost use Rattle.jac_host.specs.Pace.{allowed, begun_by, phase_behind};
 use crate::framing::{Spot, spot_behind};
 use std::time::{Duration, Instant};
 
-// How long a new connection may bring nothing. A browser opens some ahead, and sends its request a moment later.
+// How long a new connection may bring nothing. A browser opens some ahead, and sends its request a
+// moment later.
 const FRESH_MILLIS: u64 = 100;
 
-// How long a connection may bring nothing behind a reply: the next request of one that is kept may be under way.
+// How long a connection may bring nothing behind a reply: the next request of one that is kept may
+// be under way.
 const KEPT_MILLIS: u64 = 20;
 
 // How long a request may take from its first byte to its last, however its bytes come.
@@ -62,7 +64,8 @@ impl Pace {
         self.spot = spot_behind(self.spot, bytes);
     }
 
-    /// A reply was put. Where the bytes so far go on behind its request, they are a front of the next one.
+    /// A reply was put. Where the bytes so far go on behind its request, they are a front of the
+    /// next one.
     pub(crate) fn put(&mut self, now: Instant)
         ensures phase { self.new.phase ≡ phase_behind self.old.spot }
         ensures since { self.new.since ≡ now }
@@ -74,7 +77,8 @@ impl Pace {
 
     /// How long it is waited for from now on.
     pub(crate) fn left(&self, now: Instant) -> Duration
-        ensures { as_nanos result ≡ allowed self.now.phase - (instant_nanos now - instant_nanos self.now.since) }
+        ensures { as_nanos result ≡ allowed self.now.phase - (instant_nanos now - instant_nanos
+            self.now.since) }
     {
         let allowed = match self.phase {
             Phase::Fresh => Duration::from_millis(FRESH_MILLIS),

@@ -1,4 +1,5 @@
-//! What the host said of what failed, on standard error. Where standard error takes nothing the run goes on without.
+//! What the host said of what failed, on standard error. Where standard error takes nothing the run
+//! goes on without.
 
 use std::fmt::Display;
 use std::io;

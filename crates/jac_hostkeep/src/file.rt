@@ -9,8 +9,8 @@ use std::alloc::Global;
 use std::fs::{File, remove_file};
 use std::marker::Model;
 
-/// A keeper in a file. It tells its state from when it is attached: what the file holds was then read and tested. As it
-/// is dropped, the file is closed.
+/// A keeper in a file. It tells its state from when it is attached: what the file holds was then
+/// read and tested. As it is dropped, the file is closed.
 pub struct FileKeeper {
     rt: HostRuntime,
     keeper: SqlKeeper<FileOpener>,
@@ -25,9 +25,9 @@ impl Model for FileKeeper {
     ghost view = { λ k. k.keeper };
 }
 
-// It is written out, so that a caller does not prove again how each part is dropped. What can't be copied from the log
-// into the file stays in the log beside it, where the next opening finds it. A log that a refused opening left beside a
-// file that had none holds nothing, and goes.
+// It is written out, so that a caller does not prove again how each part is dropped. What can't be
+// copied from the log into the file stays in the log beside it, where the next opening finds it. A
+// log that a refused opening left beside a file that had none holds nothing, and goes.
 impl Drop for FileKeeper {
     fn drop(self) {
         let FileKeeper { rt, keeper, log } = self;
@@ -43,7 +43,8 @@ impl Drop for FileKeeper {
 impl FileKeeper {
     ghost use Rattle.jac_sqlkeep.specs.Kept.{untouched};
 
-    /// A keeper that wasn't attached yet. Where it makes no files it opens those alone that are there.
+    /// A keeper that wasn't attached yet. Where it makes no files it opens those alone that are
+    /// there.
     pub fn new(rt: HostRuntime, makes: bool) -> FileKeeper
         ensures { result ≡ untouched }
     {

@@ -1,5 +1,5 @@
-//! The program's stores: in memory, or in a database file. They stand in a crate of their own, so that whoever uses
-//! them doesn't prove again how a connection to a file is dropped.
+//! The program's stores: in memory, or in a database file. They stand in a crate of their own, so
+//! that whoever uses them doesn't prove again how a connection to a file is dropped.
 #![tactic(auto)]
 
 mod file;

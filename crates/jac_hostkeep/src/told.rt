@@ -1,9 +1,11 @@
-//! Why a file isn't attached, on standard error. Where standard error takes nothing the run goes on without.
+//! Why a file isn't attached, on standard error. Where standard error takes nothing the run goes on
+//! without.
 
 use jac_sqlkeep::{FileOpener, OpenFault, SqlKeeper, Unfit};
 use jac_value::Txt;
 
-/// Tells why the file of this name wasn't attached; what is told elsewhere, as another schema, isn't told here.
+/// Tells why the file of this name wasn't attached; what is told elsewhere, as another schema,
+/// isn't told here.
 pub(crate) fn tell(rt: &HostRuntime, name: &Txt, keeper: &SqlKeeper<FileOpener>) {
     if let Some(fault) = keeper.opener().fault() {
         say(rt, name, words_of_fault(fault));

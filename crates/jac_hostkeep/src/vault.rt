@@ -31,11 +31,22 @@ impl Model for HostVault {
 }
 
 impl HostVault {
-    /// A vault that wasn't attached yet, whose state in memory is this one, and which makes the files that aren't there
-    /// or refuses them.
+    /// A vault that wasn't attached yet, whose state in memory is this one, and which makes the
+    /// files that aren't there or refuses them.
     pub fn new(alloc: Global, state: State, rt: HostRuntime, makes: bool) -> HostVault
         requires { IsStored None state }
-        ensures { result ≡ record { memory = record { state = state; store = unopened None; fail_reads = []; fail_applies = []; reads = 0; applies = 0; faults = 0 }; file = None } }
+        ensures { result ≡ record {
+          memory = record {
+            state = state;
+            store = unopened None;
+            fail_reads = [];
+            fail_applies = [];
+            reads = 0;
+            applies = 0;
+            faults = 0;
+          };
+          file = None;
+        } }
     {
         HostVault {
             rt,

@@ -10,12 +10,14 @@ is_written b = not (b == 13 || b == 10)
 
 -- LF stands behind LF, or behind CR behind LF, and something is written before
 abbrev pub ends_blank : List ℕ → Bool
-ends_blank front = list_any is_written front && (ends_with ◌==◌ front (codes "\n\n") || ends_with ◌==◌ front (codes "\n\r\n"))
+ends_blank front = list_any is_written front && (ends_with ◌==◌ front (codes "\n\n") || ends_with
+    ◌==◌ front (codes "\n\r\n"))
 
 -- the first part of front ++ rest, longer than front, that ends in a blank line
 abbrev pub head_from : List ℕ → List ℕ → Option (List ℕ)
 head_from front [] = None
-head_from front (b ∷ rest) = if ends_blank (front ++ b ∷ []) then Some (front ++ b ∷ []) else head_from (front ++ b ∷ []) rest
+head_from front (b ∷ rest) = if ends_blank (front ++ b ∷ []) then Some (front ++ b ∷ [])
+    else head_from (front ++ b ∷ []) rest
 
 -- the bytes up to their first blank line, with it
 abbrev pub head_in : List ℕ → Option (List ℕ)
@@ -29,4 +31,9 @@ pub record HeadParts : Type 0 where
   pub headers : List (List ℕ × List ℕ)
 
 abbrev pub parts_of : RequestHead → HeadParts
-parts_of head = record { method = head.method; target = head.target; minor = head.minor; headers = map name_and_value head.fields }
+parts_of head = record {
+  method = head.method;
+  target = head.target;
+  minor = head.minor;
+  headers = map name_and_value head.fields;
+}

@@ -1,4 +1,5 @@
--- What the target and the headers of a request say (RFC 9112, sections 3 and 6; RFC 6265, section 4.2).
+-- What the target and the headers of a request say (RFC 9112, sections 3 and 6; RFC 6265, section
+-- 4.2).
 use Rattle.std.specs.Prelude.{ℕ, Bool, false, ◌==◌, ◌&&◌, ◌||◌, not, nat_lt, nat_le, if◌then◌else◌, Option, Some, None, List, [], ◌∷◌, reverse, length, take, drop, position, codes, ◌+◌}
 use Rattle.std.specs.Char.{is_ascii_digit, is_ascii_alphanumeric}
 use Rattle.std.specs.List.{list_any, list_all, starts_with, slice_split, before_first, after_first, position_or_len}
@@ -10,7 +11,8 @@ use Rattle.std.specs.Str.Parse.{digits_value}
 abbrev pub values_of : List ℕ → List (List ℕ × List ℕ) → List (List ℕ)
 values_of name [] = []
 values_of name (header ∷ headers) =
-    if str_eq_ignore_ascii_case header.0 name then header.1 ∷ values_of name headers else values_of name headers
+    if str_eq_ignore_ascii_case header.0 name then header.1 ∷ values_of name headers
+    else values_of name headers
 
 -- a space or a tab
 abbrev pub is_blank : ℕ → Bool
@@ -33,8 +35,8 @@ first_some f (x ∷ xs) = option_or (f x) (first_some f xs)
 abbrev pub is_number : List ℕ → Bool
 is_number value = nat_lt 0 (length value) && list_all is_ascii_digit value
 
--- the length that the Content-Length headers state: 0 where there is none, and none where there are two or
--- the one is no number
+-- the length that the Content-Length headers state: 0 where there is none, and none where there are
+-- two or the one is no number
 abbrev pub stated_length : List (List ℕ) → Option ℕ
 stated_length [] = Some 0
 stated_length (value ∷ []) = if is_number value then Some (digits_value 10 value) else None
@@ -42,7 +44,8 @@ stated_length (value ∷ second ∷ more) = None
 
 -- a media type, without its parameters, is another than that of a form
 abbrev pub is_no_form : List ℕ → Bool
-is_no_form value = not (str_eq_ignore_ascii_case (trimmed (before_first (λ b. b == 59) value)) (codes "application/x-www-form-urlencoded"))
+is_no_form value = not (str_eq_ignore_ascii_case (trimmed (before_first (λ b. b == 59) value))
+    (codes "application/x-www-form-urlencoded"))
 
 -- the first Content-Type is another than that of a form
 abbrev pub has_no_form : List (List ℕ) → Bool
@@ -51,11 +54,13 @@ has_no_form (value ∷ more) = is_no_form value
 
 -- an item of the list is `close`
 abbrev pub is_closing : List ℕ → Bool
-is_closing value = list_any (λ item. str_eq_ignore_ascii_case (trimmed item) (codes "close")) (slice_split (λ b. b == 44) value)
+is_closing value = list_any (λ item. str_eq_ignore_ascii_case (trimmed item) (codes "close"))
+    (slice_split (λ b. b == 44) value)
 
 -- a path, or an address that begins with http://
 abbrev pub is_target : List ℕ → Bool
-is_target target = starts_with ◌==◌ target (codes "/") || str_eq_ignore_ascii_case (take 7 target) (codes "http://")
+is_target target = starts_with ◌==◌ target (codes "/") || str_eq_ignore_ascii_case (take 7 target)
+    (codes "http://")
 
 -- `/` or `?`
 abbrev pub ends_authority : ℕ → Bool
@@ -64,7 +69,8 @@ ends_authority b = b == 47 || b == 63
 -- the target from its path on
 abbrev pub behind_authority : List ℕ → List ℕ
 behind_authority target =
-    if starts_with ◌==◌ target (codes "/") then target else drop (position_or_len ends_authority (drop 7 target)) (drop 7 target)
+    if starts_with ◌==◌ target (codes "/") then target
+    else drop (position_or_len ends_authority (drop 7 target)) (drop 7 target)
 
 abbrev pub path_or_root : List ℕ → List ℕ
 path_or_root [] = codes "/"
@@ -79,19 +85,23 @@ query_of target = after_first (λ b. b == 63) (behind_authority target)
 -- the value of a pair `session=VALUE`, split at its first `=`
 abbrev pub session_value : List ℕ → Option (List ℕ)
 session_value piece =
-    option_and_then (λ at. if bytes_eq (take at piece) (codes "session") then Some (drop (at + 1) piece) else None) (position (λ b. b == 61) piece)
+    option_and_then (λ at. if bytes_eq (take at piece) (codes "session")
+    then Some (drop (at + 1) piece) else None) (position (λ b. b == 61) piece)
 
 -- the first pair of a Cookie header that is so
 abbrev pub session_in : List ℕ → Option (List ℕ)
-session_in value = first_some (λ piece. session_value (trimmed piece)) (slice_split (λ b. b == 59) value)
+session_in value = first_some (λ piece. session_value (trimmed piece)) (slice_split (λ b. b == 59)
+    value)
 
 abbrev pub is_token_byte : ℕ → Bool
 is_token_byte b = is_ascii_alphanumeric b || b == 45 || b == 95
 
 -- 1 to 128 letters, digits, `-` and `_`
 abbrev pub is_token : List ℕ → Bool
-is_token value = nat_lt 0 (length value) && nat_le (length value) 128 && list_all is_token_byte value
+is_token value = nat_lt 0 (length value) && nat_le (length value) 128 && list_all is_token_byte
+    value
 
 -- the token of the Cookie headers
 abbrev pub token_of : List (List ℕ) → Option (List ℕ)
-token_of cookies = option_and_then (λ value. if is_token value then Some value else None) (first_some session_in cookies)
+token_of cookies = option_and_then (λ value. if is_token value then Some value else None)
+    (first_some session_in cookies)

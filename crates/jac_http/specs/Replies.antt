@@ -6,9 +6,12 @@ use Rattle.jac_http.specs.declared.reply.Fixed.TheVariants.{Memory500, Keeper503
 -- the statuses that a reply may have, with their phrases
 abbrev pub statuses : List (ℕ × List ℕ)
 statuses =
-    (200, codes "OK") ∷ (303, codes "See Other") ∷ (400, codes "Bad Request") ∷ (404, codes "Not Found")
-    ∷ (405, codes "Method Not Allowed") ∷ (413, codes "Content Too Large") ∷ (415, codes "Unsupported Media Type")
-    ∷ (431, codes "Request Header Fields Too Large") ∷ (500, codes "Internal Server Error") ∷ (501, codes "Not Implemented")
+    (200, codes "OK") ∷ (303, codes "See Other") ∷ (400, codes "Bad Request")
+    ∷ (404, codes "Not Found")
+    ∷ (405, codes "Method Not Allowed") ∷ (413, codes "Content Too Large")
+    ∷ (415, codes "Unsupported Media Type")
+    ∷ (431, codes "Request Header Fields Too Large") ∷ (500, codes "Internal Server Error")
+    ∷ (501, codes "Not Implemented")
     ∷ (503, codes "Service Unavailable") ∷ (507, codes "Insufficient Storage") ∷ []
 
 abbrev pub phrase_in : List (ℕ × List ℕ) → ℕ → Option (List ℕ)
@@ -30,7 +33,8 @@ field_line_if name None = []
 field_line_if name (Some value) = field_line name value
 
 abbrev pub media_type : Bool → List ℕ
-media_type page = if page then codes "text/html; charset=utf-8" else codes "text/plain; charset=utf-8"
+media_type page = if page then codes "text/html; charset=utf-8"
+    else codes "text/plain; charset=utf-8"
 
 -- without a page the status is the body
 abbrev pub body_of : ℕ → List ℕ → Bool → List ℕ
@@ -40,7 +44,8 @@ unfoldable pub status_line : ℕ → List ℕ
 status_line status = codes "HTTP/1.1 " ++ status_text status ++ codes "\r\n"
 
 unfoldable pub content_lines : Bool → ℕ → List ℕ
-content_lines page length = field_line (codes "Content-Type") (media_type page) ++ field_line (codes "Content-Length") (decimal length)
+content_lines page length = field_line (codes "Content-Type") (media_type page) ++ field_line
+    (codes "Content-Length") (decimal length)
 
 -- what doesn't apply has no line
 unfoldable pub further_lines : Option (List ℕ) → Option (List ℕ) → Bool → List ℕ
@@ -48,10 +53,12 @@ further_lines location allow close =
     field_line_if (codes "Location") location ++ field_line_if (codes "Allow") allow
     ++ (if close then field_line (codes "Connection") (codes "close") else [])
 
-abbrev pub reply_bytes : ℕ → Option (List ℕ) → Option (List ℕ) → List ℕ → Bool → Bool → Bool → List ℕ
+abbrev pub reply_bytes : ℕ → Option (List ℕ) → Option (List ℕ) → List ℕ → Bool → Bool → Bool
+    → List ℕ
 reply_bytes status location allow body page head close =
     let content = body_of status body page in
-    status_line status ++ content_lines page (length content) ++ further_lines location allow close ++ codes "\r\n"
+    status_line status ++ content_lines page (length content) ++ further_lines location allow close
+    ++ codes "\r\n"
     ++ (if head then [] else content)
 
 abbrev pub status_of_fixed : Fixed → ℕ

@@ -25,7 +25,8 @@ has_coding head = nat_lt 0 (length (values_of (codes "transfer-encoding") head.h
 -- a body that is posted is a form
 abbrev pub posts_no_form : HeadParts → Bool
 posts_no_form head =
-    bytes_eq head.method (codes "POST") && nat_lt 0 (body_length head) && has_no_form (values_of (codes "content-type") head.headers)
+    bytes_eq head.method (codes "POST") && nat_lt 0 (body_length head) && has_no_form
+    (values_of (codes "content-type") head.headers)
 
 -- the status of the first row whose test holds
 abbrev pub first_row : List (Bool × ℕ) → Option ℕ
@@ -60,7 +61,8 @@ request_of head body = record {
 -- where the head isn't refused, its body stands in `rest`, or more of it is to come
 abbrev pub with_body : HeadParts → ℕ → List ℕ → Taken
 with_body head used rest =
-    if nat_lt (length rest) (body_length head) then More else Whole (request_of head (take (body_length head) rest)) (used + body_length head)
+    if nat_lt (length rest) (body_length head) then More
+    else Whole (request_of head (take (body_length head) rest)) (used + body_length head)
 
 abbrev pub answer_by : Option ℕ → HeadParts → ℕ → List ℕ → Taken
 answer_by (Some status) head used rest = Refused status
@@ -77,7 +79,8 @@ IsHead bytes head = ReadsRequest bytes head []
 -- the answer where the head ends: these are its bytes, and those that follow it
 abbrev pub IsAnswered : List ℕ → List ℕ → Taken → Type 0
 IsAnswered front rest answer =
-    ((head : RequestHead) × IsHead front head × (answer ≡ answer_to (parts_of head) (length front) rest))
+    ((head : RequestHead) × IsHead front head
+    × (answer ≡ answer_to (parts_of head) (length front) rest))
     ⊎ (((head : RequestHead) → IsHead front head → ⊥) × (answer ≡ Refused 400))
 
 abbrev pub without_head : ℕ → Taken

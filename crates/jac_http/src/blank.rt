@@ -26,7 +26,8 @@ fn is_written(byte: u8) -> bool
 }
 
 fn has_blank_end(front: &[u8]) -> bool
-    ensures { result ≡ (ends_with ◌==◌ front.now (codes "\n\n") || ends_with ◌==◌ front.now (codes "\n\r\n")) }
+    ensures { result ≡ (ends_with ◌==◌ front.now (codes "\n\n") || ends_with ◌==◌ front.now
+        (codes "\n\r\n")) }
 {
     front.ends_with(b"\n\n") || front.ends_with(b"\n\r\n")
 }

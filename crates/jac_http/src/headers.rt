@@ -15,7 +15,8 @@ use std::str::from_utf8;
 
 /// The head that the bytes are. There is room for all headers, since each takes two bytes and more.
 pub(crate) fn read_head(alloc: Global, bytes: &[u8]) -> Result<Option<Head<'_>>, AllocError>
-    ensures some { IfOk result (λ o. IfSome o (λ h. (k : RequestHead) × IsHead bytes.now k × (parts_shown h ≡ parts_of k))) }
+    ensures some { IfOk result (λ o. IfSome o (λ h. (k : RequestHead) × IsHead bytes.now k
+        × (parts_shown h ≡ parts_of k))) }
     ensures none { IfOk result (λ o. IfNone o ((k : RequestHead) → IsHead bytes.now k → ⊥)) }
 {
     let mut headers = vec![in alloc; EMPTY_HEADER_SPAN; bytes.len() / 2]?;
@@ -28,8 +29,10 @@ pub(crate) fn read_head(alloc: Global, bytes: &[u8]) -> Result<Option<Head<'_>>,
 fn whole_head(bytes: &[u8], headers: &mut [HeaderSpan]) -> Option<RequestSpans>
     requires room { length bytes.now ≤ 2 * length headers.old + 1 }
     ensures within { IfSome result (IsRequestWithin bytes.now headers.new) }
-    ensures texts { IfSome result (λ r. IsUtf8 (span_bytes bytes.now r.method) × IsUtf8 (span_bytes bytes.now r.path)) }
-    ensures some { IfSome result (λ r. (k : RequestHead) × IsHead bytes.now k × IsRequestAt bytes.now headers.new r k) }
+    ensures texts { IfSome result (λ r. IsUtf8 (span_bytes bytes.now r.method)
+        × IsUtf8 (span_bytes bytes.now r.path)) }
+    ensures some { IfSome result (λ r. (k : RequestHead) × IsHead bytes.now k
+        × IsRequestAt bytes.now headers.new r k) }
     ensures none { IfNone result ((k : RequestHead) → IsHead bytes.now k → ⊥) }
 {
     match parse_request(bytes, headers) {
@@ -46,7 +49,8 @@ fn head_at<'b>(bytes: &'b [u8], spans: &RequestSpans, headers: Vec<HeaderSpan>) 
     requires within { IsRequestWithin bytes.now headers.items spans.now }
     requires method { IsUtf8 (span_bytes bytes.now spans.now.method) }
     requires target { IsUtf8 (span_bytes bytes.now spans.now.path) }
-    ensures { (k : RequestHead) → IsRequestAt bytes.now headers.items spans.now k → parts_shown result ≡ parts_of k }
+    ensures { (k : RequestHead) → IsRequestAt bytes.now headers.items spans.now k
+        → parts_shown result ≡ parts_of k }
 {
     let method = from_utf8(spans.method.of(bytes)).unwrap();
     let target = from_utf8(spans.path.of(bytes)).unwrap();
@@ -67,7 +71,8 @@ pub(crate) fn values_of<'b>(
     head: &Head<'b>,
     name: &[u8],
 ) -> Result<Vec<&'b [u8]>, AllocError>
-    ensures { IfOk result (λ vs. map (λ v. v.now) vs.items ≡ values_of name.now (parts_shown head.now).headers) }
+    ensures { IfOk result (λ vs. map (λ v. v.now) vs.items ≡ values_of name.now
+        (parts_shown head.now).headers) }
 {
     values_in(alloc, head.bytes, head.headers.as_slice(), name)
 }
@@ -79,7 +84,8 @@ fn values_in<'b>(
     name: &[u8],
 ) -> Result<Vec<&'b [u8]>, AllocError>
     requires { All (IsHeaderWithin (length bytes.now)) headers.now }
-    ensures { IfOk result (λ vs. map (λ v. v.now) vs.items ≡ values_of name.now (map (header_bytes bytes.now) headers.now)) }
+    ensures { IfOk result (λ vs. map (λ v. v.now) vs.items ≡ values_of name.now
+        (map (header_bytes bytes.now) headers.now)) }
 {
     let mut values = Vec::new(alloc);
     'headers: for header in headers {

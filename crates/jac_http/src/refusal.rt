@@ -53,7 +53,8 @@ fn has_coding(alloc: Global, head: &Head) -> Result<bool, Memory>
 
 /// The length that the head states, or 65,537 where it is more.
 pub(crate) fn stated_length_of(alloc: Global, head: &Head) -> Result<Option<usize>, Memory>
-    ensures { IfOk result (λ r. r ≡ option_map (min 65537) (stated_length_of (parts_shown head.now))) }
+    ensures { IfOk result (λ r. r ≡ option_map (min 65537)
+        (stated_length_of (parts_shown head.now))) }
 {
     let lengths = values_of(alloc, head, b"content-length")?;
     Ok(stated_length(lengths.as_slice()))
@@ -61,7 +62,9 @@ pub(crate) fn stated_length_of(alloc: Global, head: &Head) -> Result<Option<usiz
 
 fn body_refusal(alloc: Global, head: &Head, length: usize) -> Result<Option<u16>, Memory>
     requires { option_map (min 65537) (stated_length_of (parts_shown head.now)) ≡ Some length }
-    ensures { IfOk result (λ r. r ≡ first_row ((nat_lt 65536 (body_length (parts_shown head.now)), 413) ∷ (posts_no_form (parts_shown head.now), 415) ∷ [])) }
+    ensures { IfOk result
+        (λ r. r ≡ first_row ((nat_lt 65536 (body_length (parts_shown head.now)), 413)
+        ∷ (posts_no_form (parts_shown head.now), 415) ∷ [])) }
 {
     if length > 65_536 {
         return Ok(Some(413));

@@ -16,8 +16,8 @@ pub enum Fixed {
     Keeper503,
 }
 
-/// The bytes of a reply. Without a page the body is the status and its phrase, whatever `body` is. The reply
-/// to a request of the method HEAD has no body, and its length all the same.
+/// The bytes of a reply. Without a page the body is the status and its phrase, whatever `body` is.
+/// The reply to a request of the method HEAD has no body, and its length all the same.
 pub fn write_reply(
     alloc: Global,
     status: u16,
@@ -29,7 +29,8 @@ pub fn write_reply(
     close: bool,
 ) -> Result<Bytes, Memory>
     requires { IsSome (phrase_of status) }
-    ensures { IfOk result (λ b. b ≡ reply_bytes status (option_copied location.entry) (option_copied allow.entry) body.now page head close) }
+    ensures { IfOk result (λ b. b ≡ reply_bytes status (option_copied location.entry)
+        (option_copied allow.entry) body.now page head close) }
 {
     let fixed = fixed_body(alloc, status)?;
     let body = chosen(page, body.as_slice(), fixed.as_slice());
@@ -60,7 +61,8 @@ fn put_further(
     close: bool,
     to: &mut Vec<u8>,
 ) -> Result<(), Memory>
-    ensures { OnOk result (to.new.items ≡ to.old.items ++ further_lines (option_copied location.entry) (option_copied allow.entry) close) }
+    ensures { OnOk result (to.new.items ≡ to.old.items ++ further_lines
+        (option_copied location.entry) (option_copied allow.entry) close) }
 {
     put_field_if(b"Location", location, to)?;
     put_field_if(b"Allow", allow, to)?;
@@ -75,7 +77,8 @@ fn chosen<'b>(page: bool, body: &'b [u8], fixed: &'b [u8]) -> &'b [u8]
 }
 
 fn put_close(close: bool, to: &mut Vec<u8>) -> Result<(), Memory>
-    ensures { OnOk result (to.new.items ≡ to.old.items ++ (if close then field_line (codes "Connection") (codes "close") else [])) }
+    ensures { OnOk result (to.new.items ≡ to.old.items ++ (if close
+        then field_line (codes "Connection") (codes "close") else [])) }
 {
     if close {
         put_field(b"Connection", b"close", to)
@@ -168,7 +171,8 @@ fn media_type(page: bool) -> &'static [u8]
 }
 
 fn put_field_if(name: &[u8], value: Option<&Txt>, to: &mut Vec<u8>) -> Result<(), Memory>
-    ensures { OnOk result (to.new.items ≡ to.old.items ++ field_line_if name.now (option_copied value.entry)) }
+    ensures { OnOk result (to.new.items ≡ to.old.items ++ field_line_if name.now
+        (option_copied value.entry)) }
 {
     match value {
         None => Ok(()),
@@ -186,7 +190,8 @@ fn put_field(name: &[u8], value: &[u8], to: &mut Vec<u8>) -> Result<(), Memory>
     Ok(())
 }
 
-/// A whole reply that closes its connection. Where it answers a request of the method HEAD it has no body.
+/// A whole reply that closes its connection. Where it answers a request of the method HEAD it has
+/// no body.
 pub fn fixed_reply(status: Fixed, head: bool) -> &'static [u8]
     ensures { result.now ≡ reply_bytes (status_of_fixed status) None None [] false head true }
 {

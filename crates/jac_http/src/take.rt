@@ -14,8 +14,8 @@ use jac_value::{Bytes, Memory, Txt};
 use std::alloc::Global;
 use std::str::from_utf8;
 
-/// What stands at the front of a connection's bytes. A head ends with its first blank line, and is refused
-/// where that isn't among the first 8,192 bytes.
+/// What stands at the front of a connection's bytes. A head ends with its first blank line, and is
+/// refused where that isn't among the first 8,192 bytes.
 pub fn take_request(alloc: Global, bytes: &[u8]) -> Result<Taken, Memory>
     ensures { IfOk result (λ taken. IsTaken bytes.now taken) }
 {
@@ -116,7 +116,8 @@ fn request_of(alloc: Global, head: &Head, body: &[u8]) -> Result<Request, Memory
 }
 
 fn token_in(alloc: Global, head: &Head) -> Result<Option<Txt>, Memory>
-    ensures { IfOk result (λ t. t ≡ token_of (values_of (codes "cookie") (parts_shown head.now).headers)) }
+    ensures { IfOk result
+        (λ t. t ≡ token_of (values_of (codes "cookie") (parts_shown head.now).headers)) }
 {
     let cookies = values_of(alloc, head, b"cookie")?;
     match token_of(alloc, cookies.as_slice())? {

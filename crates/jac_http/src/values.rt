@@ -10,7 +10,8 @@ use crate::words::{is_same_word, parts, place_of, trimmed};
 use jac_value::Memory;
 use std::alloc::Global;
 
-/// The length that the Content-Length headers state, or 65,537 where it is more; none where they state none.
+/// The length that the Content-Length headers state, or 65,537 where it is more; none where they
+/// state none.
 pub(crate) fn stated_length(values: &[&[u8]]) -> Option<usize>
     ensures { result ≡ option_map (min 65537) (stated_length (map (λ v. v.now) values.now)) }
 {
@@ -106,7 +107,8 @@ fn is_closing(alloc: Global, value: &[u8]) -> Result<bool, Memory>
 }
 
 fn has_close(items: &[&[u8]]) -> bool
-    ensures { result ≡ list_any (λ item. str_eq_ignore_ascii_case (trimmed item) (codes "close")) (map (λ v. v.now) items.now) }
+    ensures { result ≡ list_any (λ item. str_eq_ignore_ascii_case (trimmed item) (codes "close"))
+        (map (λ v. v.now) items.now) }
 {
     'items: for item in items {
         if is_same_word(trimmed(item), b"close") {
@@ -133,7 +135,8 @@ fn token_in(value: &[u8]) -> Option<&[u8]>
 }
 
 fn first_session<'v>(alloc: Global, cookies: &[&'v [u8]]) -> Result<Option<&'v [u8]>, Memory>
-    ensures { IfOk result (λ o. option_copied o ≡ first_some session_in (map (λ v. v.now) cookies.now)) }
+    ensures { IfOk result (λ o. option_copied o ≡ first_some session_in
+        (map (λ v. v.now) cookies.now)) }
 {
     'cookies: for cookie in cookies {
         let session = session_in(alloc, cookie)?;
@@ -152,7 +155,8 @@ fn session_in(alloc: Global, cookie: &[u8]) -> Result<Option<&[u8]>, Memory>
 }
 
 fn session_among<'v>(pieces: &[&'v [u8]]) -> Option<&'v [u8]>
-    ensures { option_copied result ≡ first_some (λ piece. session_value (trimmed piece)) (map (λ v. v.now) pieces.now) }
+    ensures { option_copied result ≡ first_some (λ piece. session_value (trimmed piece))
+        (map (λ v. v.now) pieces.now) }
 {
     'pieces: for piece in pieces {
         let session = session_value(trimmed(piece));

@@ -53,7 +53,8 @@ fn is_blank(byte: u8) -> bool
 
 /// The parts that a byte separates.
 pub(crate) fn parts(alloc: Global, bytes: &[u8], separator: u8) -> Result<Vec<&[u8]>, AllocError>
-    ensures { IfOk result (λ ps. map (λ p. p.now) ps.items ≡ slice_split (λ b. b == separator) bytes.now) }
+    ensures { IfOk result (λ ps. map (λ p. p.now) ps.items ≡ slice_split (λ b. b == separator)
+        bytes.now) }
 {
     bytes.split(|byte| *byte == separator).collect(alloc)
 }

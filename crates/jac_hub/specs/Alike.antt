@@ -9,7 +9,8 @@ abbrev pub content : {I A : Type 0} → Entry I A → Source × Subject I × A
 content entry = (entry.source, entry.subject, entry.answer)
 
 -- the events bring a log of the same sources, subjects and answers
-pub record IsHeardAlike {I A : Type 0} (h : Hearing I A) (known : Connections I) (n : ℕ) (events : List Event) (log : List (Entry I A)) : Type 0 where
+pub record IsHeardAlike {I A : Type 0} (h : Hearing I A) (known : Connections I) (n : ℕ)
+    (events : List Event) (log : List (Entry I A)) : Type 0 where
   pub other : List (Entry I A)
   pub heard : IsHeardFrom h known n events other
   pub alike : map content other ≡ map content log

@@ -14,7 +14,8 @@ use Rattle.jac_hub.specs.declared.channel.Given.TheVariants.{Reply, Closed}
 unfoldable pub LIMIT : ℕ
 LIMIT = 16777216
 
--- the bytes that no answered request used, how many were taken, and whether the connection is closed
+-- the bytes that no answered request used, how many were taken, and whether the connection is
+-- closed
 pub record ChannelSeen : Type 0 where
   pub unused : List ℕ
   pub taken : ℕ
@@ -42,30 +43,42 @@ abbrev pub sent_closes : Sent → Bool
 sent_closes (Made line audit close) = close
 sent_closes (Still status head viewer) = true
 
--- at the beginning of a request: a connection whose bytes are all taken is closed, and another waits
+-- at the beginning of a request: a connection whose bytes are all taken is closed, and another
+-- waits
 abbrev pub Waits : ChannelSeen → Option Given → ChannelSeen → Type 0
 Waits channel result new =
     ((nat_le LIMIT channel.taken ≡ true) × (result ≡ Some Closed) × (new ≡ shut channel))
     ⊎ ((nat_le LIMIT channel.taken ≡ false) × (result ≡ None) × (new ≡ channel))
 
--- a request, or what is refused, is answered by one call of the handler, whose relation is `handles`
-abbrev pub AnswersFront : {H : Type 0} → (H → ℕ → Heard → Sent → H → Type 0) → ℕ → ChannelSeen → Taken → Option Given → ChannelSeen → H → H → Type 0
-AnswersFront handles c channel More result new before after = (after ≡ before) × Waits channel result new
+-- a request, or what is refused, is answered by one call of the handler, whose relation is
+-- `handles`
+abbrev pub AnswersFront : {H : Type 0} → (H → ℕ → Heard → Sent → H → Type 0) → ℕ → ChannelSeen
+    → Taken → Option Given → ChannelSeen → H → H → Type 0
+AnswersFront handles c channel More result new before after = (after ≡ before)
+    × Waits channel result new
 AnswersFront handles c channel (Whole request used) result new before after =
     (sent : Sent) × handles before c (HeardWhole request) sent after × (result ≡ Some (Reply sent))
-    × (new ≡ record channel { unused = drop used channel.unused; closed = request.close || sent_closes sent })
+    × (new ≡ record channel {
+      unused = drop used channel.unused;
+      closed = request.close ||
+          sent_closes sent;
+    })
 AnswersFront handles c channel (Refused status) result new before after =
-    (sent : Sent) × handles before c (HeardRefused status) sent after × (result ≡ Some (Reply sent)) × (new ≡ shut channel)
+    (sent : Sent) × handles before c (HeardRefused status) sent after × (result ≡ Some (Reply sent))
+    × (new ≡ shut channel)
 
 -- want of memory
 abbrev pub Fails : {H : Type 0} → ChannelSeen → Option Given → ChannelSeen → H → H → Type 0
-Fails channel result new before after = (after ≡ before) × (result ≡ Some (Reply fixed_500)) × (new ≡ shut channel)
+Fails channel result new before after = (after ≡ before) × (result ≡ Some (Reply fixed_500))
+    × (new ≡ shut channel)
 
 -- the next thing that connection c gives
-abbrev pub NextOfChannel : {H : Type 0} → (List ℕ → Taken → Type 0) → (H → ℕ → Heard → Sent → H → Type 0) → ℕ → ChannelSeen → Option Given → ChannelSeen → H → H → Type 0
+abbrev pub NextOfChannel : {H : Type 0} → (List ℕ → Taken → Type 0) → (H → ℕ → Heard → Sent → H
+    → Type 0) → ℕ → ChannelSeen → Option Given → ChannelSeen → H → H → Type 0
 NextOfChannel reads handles c channel result new before after =
     Fails channel result new before after
-    ⊎ ((taken : Taken) × reads channel.unused taken × AnswersFront handles c channel taken result new before after)
+    ⊎ ((taken : Taken) × reads channel.unused taken × AnswersFront handles c channel taken result
+    new before after)
 
 -- behind a reply the connection is closed, or less of it is unused
 abbrev pub IsNearer : ChannelSeen → Option Given → ChannelSeen → Type 0

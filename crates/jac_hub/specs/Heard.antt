@@ -1,4 +1,5 @@
--- What events bring: the subjects of a log, in order. It speaks of the joined bytes of each connection.
+-- What events bring: the subjects of a log, in order. It speaks of the joined bytes of each
+-- connection.
 use Rattle.std.specs.Prelude.{◌≡◌, ℕ, ◌+◌, ◌==◌, ◌||◌, ◌⊎◌, nat_le, Bool, true, false, if◌then◌else◌, Option, Some, None, List, [], ◌∷◌, ◌++◌, length, take, drop}
 use Rattle.std.specs.Option.{option_map}
 use Rattle.jac_events.specs.declared.event.Event.{Event}
@@ -12,8 +13,8 @@ use Rattle.jac_hub.specs.Hearing.{Source, asked, connection, Subject, whole, ref
 abbrev pub set_at : {X : Type 0} → ℕ → Option X → (ℕ → Option X) → ℕ → Option X
 set_at c x xs = λ d. if d == c then x else xs d
 
--- a connection since it began: the bytes that it brought, joined; the subjects that were heard of it; and
--- whether one of their entries closed it
+-- a connection since it began: the bytes that it brought, joined; the subjects that were heard of
+-- it; and whether one of their entries closed it
 pub record Connection (I : Type 0) : Type 0 where
   pub bytes : List ℕ
   pub heard : List (Subject I)
@@ -54,22 +55,29 @@ abbrev pub is_closing : {I A : Type 0} → Hearing I A → Entry I A → Bool
 is_closing h entry = closes entry.subject || h.ends entry.answer
 
 abbrev pub with_entry : {I A : Type 0} → Hearing I A → Entry I A → Connection I → Connection I
-with_entry h entry known = record known { heard = known.heard ++ entry.subject ∷ []; ended = known.ended || is_closing h entry }
+with_entry h entry known = record known {
+  heard = known.heard ++ entry.subject ∷ [];
+  ended = known.ended || is_closing h entry;
+}
 
-abbrev pub after_entry : {I A : Type 0} → Hearing I A → Source → Entry I A → Connections I → Connections I
+abbrev pub after_entry : {I A : Type 0} → Hearing I A → Source → Entry I A → Connections I
+    → Connections I
 after_entry h asked entry known = known
-after_entry h (connection c) entry known = set_at c (option_map (with_entry h entry) (known c)) known
+after_entry h (connection c) entry known = set_at c (option_map (with_entry h entry) (known c))
+    known
 
-abbrev pub after_entries : {I A : Type 0} → Hearing I A → List (Entry I A) → Connections I → Connections I
+abbrev pub after_entries : {I A : Type 0} → Hearing I A → List (Entry I A) → Connections I
+    → Connections I
 after_entries h [] known = known
 after_entries h (entry ∷ log) known = after_entries h log (after_entry h entry.source entry known)
 
 -- how the connections stand behind an event and its entries
-abbrev pub after_both : {I A : Type 0} → Hearing I A → Event → List (Entry I A) → Connections I → Connections I
+abbrev pub after_both : {I A : Type 0} → Hearing I A → Event → List (Entry I A) → Connections I
+    → Connections I
 after_both h event mine known = after_entries h mine (after_event event known)
 
--- behind an event's entries nothing is left to be answered; so a connection is closed where an entry closed it,
--- and where all bytes that count were brought
+-- behind an event's entries nothing is left to be answered; so a connection is closed where an
+-- entry closed it, and where all bytes that count were brought
 abbrev pub is_closed : {I : Type 0} → Connection I → Bool
 is_closed known = known.ended || nat_le LIMIT (length known.bytes)
 
@@ -88,76 +96,99 @@ StandsAt h broken from to = to ≡ from
 -- the subjects stand one behind the other, and `to` follows them
 abbrev pub StandAt : {I A : Type 0} → Hearing I A → List (Subject I) → List ℕ → List ℕ → Type 0
 StandAt h [] from to = to ≡ from
-StandAt h (subject ∷ subjects) from to = (rest : List ℕ) × StandsAt h subject from rest × StandAt h subjects rest to
+StandAt h (subject ∷ subjects) from to = (rest : List ℕ) × StandsAt h subject from rest
+    × StandAt h subjects rest to
 
 -- the subject stands behind those that were heard
 abbrev pub IsNextIn : {I A : Type 0} → Hearing I A → Connection I → Subject I → Type 0
-IsNextIn h known subject = (from : List ℕ) × (to : List ℕ) × StandAt h known.heard (counted known) from × StandsAt h subject from to
+IsNextIn h known subject = (from : List ℕ) × (to : List ℕ) × StandAt h known.heard (counted known)
+    from × StandsAt h subject from to
 
 -- nothing stands behind them but the beginning of a request
 abbrev pub IsRead : {I A : Type 0} → Hearing I A → Connection I → Type 0
 IsRead h known = (from : List ℕ) × StandAt h known.heard (counted known) from × h.reads from More
 
 -- the entry is the next one of connection c, in the n-th event
-pub record IsNext {I A : Type 0} (h : Hearing I A) (n c : ℕ) (known : Connection I) (entry : Entry I A) : Type 0 where
+pub record IsNext {I A : Type 0} (h : Hearing I A) (n c : ℕ) (known : Connection I)
+    (entry : Entry I A) : Type 0 where
   pub place : entry.place ≡ n
   pub source : entry.source ≡ connection c
   pub open_still : known.ended ≡ false
   pub subject : IsNextIn h known entry.subject
 
 -- the entries of a connection in the n-th event, until it is closed or all is read
-abbrev pub AreBrought : {I A : Type 0} → Hearing I A → ℕ → ℕ → Connection I → List (Entry I A) → Type 0
+abbrev pub AreBrought : {I A : Type 0} → Hearing I A → ℕ → ℕ → Connection I → List (Entry I A)
+    → Type 0
 AreBrought h n c known [] = (known.ended ≡ true) ⊎ IsRead h known
-AreBrought h n c known (entry ∷ log) = IsNext h n c known entry × AreBrought h n c (with_entry h entry known) log
+AreBrought h n c known (entry ∷ log) = IsNext h n c known entry
+    × AreBrought h n c (with_entry h entry known) log
 
 -- some of them, from the first on
-abbrev pub AreBegun : {I A : Type 0} → Hearing I A → ℕ → ℕ → Connection I → List (Entry I A) → Type 0
+abbrev pub AreBegun : {I A : Type 0} → Hearing I A → ℕ → ℕ → Connection I → List (Entry I A)
+    → Type 0
 AreBegun h n c known [] = Unit {0}
-AreBegun h n c known (entry ∷ log) = IsNext h n c known entry × AreBegun h n c (with_entry h entry known) log
+AreBegun h n c known (entry ∷ log) = IsNext h n c known entry
+    × AreBegun h n c (with_entry h entry known) log
 
 -- what a piece brings, by the connection before it: nothing, where it hasn't begun or is closed
-abbrev pub PieceBrings : {I A : Type 0} → Hearing I A → ℕ → ℕ → List ℕ → Option (Connection I) → List (Entry I A) → Type 0
+abbrev pub PieceBrings : {I A : Type 0} → Hearing I A → ℕ → ℕ → List ℕ → Option (Connection I)
+    → List (Entry I A) → Type 0
 PieceBrings h n c bytes None log = log ≡ []
 PieceBrings h n c bytes (Some known) log =
-    ((is_closed known ≡ true) × (log ≡ [])) ⊎ ((is_closed known ≡ false) × AreBrought h n c (with_bytes bytes known) log)
+    ((is_closed known ≡ true) × (log ≡ [])) ⊎ ((is_closed known ≡ false)
+    × AreBrought h n c (with_bytes bytes known) log)
 
 -- some of that, from the first on
-abbrev pub PieceBegins : {I A : Type 0} → Hearing I A → ℕ → ℕ → List ℕ → Option (Connection I) → List (Entry I A) → Type 0
+abbrev pub PieceBegins : {I A : Type 0} → Hearing I A → ℕ → ℕ → List ℕ → Option (Connection I)
+    → List (Entry I A) → Type 0
 PieceBegins h n c bytes None log = log ≡ []
 PieceBegins h n c bytes (Some known) log =
-    ((is_closed known ≡ true) × (log ≡ [])) ⊎ ((is_closed known ≡ false) × AreBegun h n c (with_bytes bytes known) log)
+    ((is_closed known ≡ true) × (log ≡ [])) ⊎ ((is_closed known ≡ false)
+    × AreBegun h n c (with_bytes bytes known) log)
 
 -- the entries of the n-th event, before which the connections stand so
-abbrev pub IsBroughtBy : {I A : Type 0} → Hearing I A → ℕ → Event → Connections I → List (Entry I A) → Type 0
+abbrev pub IsBroughtBy : {I A : Type 0} → Hearing I A → ℕ → Event → Connections I → List (Entry I A)
+    → Type 0
 IsBroughtBy {A = A} h n (Ask viewer method path query body) known log =
-    (answer : A) × (log ≡ record { place = n; source = asked; subject = whole (h.asks viewer method path query body) false; answer = answer } ∷ [])
+    (answer : A) × (log ≡ record {
+      place = n;
+      source = asked;
+      subject = whole (h.asks viewer method path query body) false;
+      answer = answer;
+    } ∷ [])
 IsBroughtBy h n (Begin c) known log = log ≡ []
 IsBroughtBy h n (Piece c bytes) known log = PieceBrings h n c bytes (known c) log
 IsBroughtBy h n (Finish c) known log = log ≡ []
 
 -- some of them, from the first on
-abbrev pub IsBegunBy : {I A : Type 0} → Hearing I A → ℕ → Event → Connections I → List (Entry I A) → Type 0
-IsBegunBy h n (Ask viewer method path query body) known log = (log ≡ []) ⊎ IsBroughtBy h n (Ask viewer method path query body) known log
+abbrev pub IsBegunBy : {I A : Type 0} → Hearing I A → ℕ → Event → Connections I → List (Entry I A)
+    → Type 0
+IsBegunBy h n (Ask viewer method path query body) known log = (log ≡ [])
+    ⊎ IsBroughtBy h n (Ask viewer method path query body) known log
 IsBegunBy h n (Begin c) known log = log ≡ []
 IsBegunBy h n (Piece c bytes) known log = PieceBegins h n c bytes (known c) log
 IsBegunBy h n (Finish c) known log = log ≡ []
 
 -- the events, of which the first is the n-th, bring the log
-abbrev pub IsHeardFrom : {I A : Type 0} → Hearing I A → Connections I → ℕ → List Event → List (Entry I A) → Type 0
+abbrev pub IsHeardFrom : {I A : Type 0} → Hearing I A → Connections I → ℕ → List Event
+    → List (Entry I A) → Type 0
 IsHeardFrom h known n [] log = log ≡ []
 IsHeardFrom {I = I} {A = A} h known n (event ∷ events) log =
-    (mine : List (Entry I A)) × (rest : List (Entry I A)) × (log ≡ mine ++ rest) × IsBroughtBy h n event known mine
+    (mine : List (Entry I A)) × (rest : List (Entry I A)) × (log ≡ mine ++ rest)
+    × IsBroughtBy h n event known mine
     × IsHeardFrom h (after_both h event mine known) (n + 1) events rest
 
 abbrev pub IsHeard : {I A : Type 0} → Hearing I A → List Event → List (Entry I A) → Type 0
 IsHeard h events log = IsHeardFrom h no_connections 0 events log
 
 -- the log is the beginning of what the events bring
-abbrev pub IsHeardInPartFrom : {I A : Type 0} → Hearing I A → Connections I → ℕ → List Event → List (Entry I A) → Type 0
+abbrev pub IsHeardInPartFrom : {I A : Type 0} → Hearing I A → Connections I → ℕ → List Event
+    → List (Entry I A) → Type 0
 IsHeardInPartFrom h known n [] log = log ≡ []
 IsHeardInPartFrom {I = I} {A = A} h known n (event ∷ events) log =
     IsBegunBy h n event known log
-    ⊎ ((mine : List (Entry I A)) × (rest : List (Entry I A)) × (log ≡ mine ++ rest) × IsBroughtBy h n event known mine
+    ⊎ ((mine : List (Entry I A)) × (rest : List (Entry I A)) × (log ≡ mine ++ rest)
+    × IsBroughtBy h n event known mine
     × IsHeardInPartFrom h (after_both h event mine known) (n + 1) events rest)
 
 abbrev pub IsHeardInPart : {I A : Type 0} → Hearing I A → List Event → List (Entry I A) → Type 0

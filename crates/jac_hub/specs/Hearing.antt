@@ -8,8 +8,8 @@ pub data Source : Type 0 where
   asked : Source
   connection : ℕ → Source
 
--- what is answered: a request, which is understood as an I, and whether it closes its connection; what is
--- refused; or that memory ran out
+-- what is answered: a request, which is understood as an I, and whether it closes its connection;
+-- what is refused; or that memory ran out
 pub data Subject (I : Type 0) : Type 0 where
   whole : I → Bool → Subject I
   refused : ℕ → Subject I

@@ -41,22 +41,28 @@ IsOfConnection (Begin c) = Unit {0}
 IsOfConnection (Piece c bytes) = Unit {0}
 IsOfConnection (Finish c) = Unit {0}
 
-abbrev pub StepsBegin : HubSeen → ℕ → Option ChannelSeen → Result (Unit {0}) HubFault → HubSeen → Type 0
+abbrev pub StepsBegin : HubSeen → ℕ → Option ChannelSeen → Result (Unit {0}) HubFault → HubSeen
+    → Type 0
 StepsBegin old c None result new =
-    ((result ≡ Ok tt) × (new ≡ with_channel c (Some new_channel) Done old)) ⊎ ((result ≡ Err Memory) × (new ≡ old))
+    ((result ≡ Ok tt) × (new ≡ with_channel c (Some new_channel) Done old))
+    ⊎ ((result ≡ Err Memory) × (new ≡ old))
 StepsBegin old c (Some channel) result new = (result ≡ Err (AlreadyOpen c)) × (new ≡ old)
 
 -- a piece of a closed connection changes nothing; for want of memory nothing of it is taken
-abbrev pub StepsPiece : HubSeen → ℕ → List ℕ → Option ChannelSeen → Result (Unit {0}) HubFault → HubSeen → Type 0
+abbrev pub StepsPiece : HubSeen → ℕ → List ℕ → Option ChannelSeen → Result (Unit {0}) HubFault
+    → HubSeen → Type 0
 StepsPiece old c bytes None result new = (result ≡ Err (NotOpen c)) × (new ≡ old)
 StepsPiece old c bytes (Some channel) result new =
     ((channel.closed ≡ true) × (result ≡ Ok tt) × (new ≡ record old { turn = Done }))
-    ⊎ ((channel.closed ≡ false) × (result ≡ Ok tt) × (new ≡ with_channel c (Some (grown bytes channel)) (Serving c) old))
+    ⊎ ((channel.closed ≡ false) × (result ≡ Ok tt)
+    × (new ≡ with_channel c (Some (grown bytes channel)) (Serving c) old))
     ⊎ ((channel.closed ≡ false) × (result ≡ Err Memory) × (new ≡ record old { turn = Breaking c }))
 
-abbrev pub StepsFinish : HubSeen → ℕ → Option ChannelSeen → Result (Unit {0}) HubFault → HubSeen → Type 0
+abbrev pub StepsFinish : HubSeen → ℕ → Option ChannelSeen → Result (Unit {0}) HubFault → HubSeen
+    → Type 0
 StepsFinish old c None result new = (result ≡ Err (NotOpen c)) × (new ≡ old)
-StepsFinish old c (Some channel) result new = (result ≡ Ok tt) × (new ≡ with_channel c None Done old)
+StepsFinish old c (Some channel) result new = (result ≡ Ok tt)
+    × (new ≡ with_channel c None Done old)
 
 -- `step`, of an idle hub
 abbrev pub Steps : HubSeen → Event → Result (Unit {0}) HubFault → HubSeen → Type 0
@@ -77,26 +83,37 @@ turn_behind c None closed = Idle
 turn_behind c (Some (GivenReply sent)) closed = if closed then Closing c else Serving c
 turn_behind c (Some GivenClosed) closed = Done
 
-abbrev pub NextServing : {H : Type 0} → (List ℕ → Taken → Type 0) → (H → ℕ → Heard → Sent → H → Type 0)
+abbrev pub NextServing : {H : Type 0} → (List ℕ → Taken → Type 0) → (H → ℕ → Heard → Sent → H
+    → Type 0)
     → HubSeen → ℕ → Option ChannelSeen → Option HubOut → HubSeen → H → H → Type 0
-NextServing reads handles old c None result new before after = (after ≡ before) × (result ≡ None) × (new ≡ record old { turn = Idle })
+NextServing reads handles old c None result new before after = (after ≡ before) × (result ≡ None)
+    × (new ≡ record old { turn = Idle })
 NextServing reads handles old c (Some channel) result new before after =
-    (given : Option Given) × (later : ChannelSeen) × NextOfChannel reads handles c channel given later before after
-    × (result ≡ out_of c given) × (new ≡ with_channel c (Some later) (turn_behind c given later.closed) old)
+    (given : Option Given) × (later : ChannelSeen) × NextOfChannel reads handles c channel given
+    later before after
+    × (result ≡ out_of c given)
+    × (new ≡ with_channel c (Some later) (turn_behind c given later.closed) old)
 
 -- a connection for which memory ran out
 abbrev pub NextBreaking : HubSeen → ℕ → Option ChannelSeen → Option HubOut → HubSeen → Type 0
-NextBreaking old c None result new = (result ≡ Some (Reply c fixed_500)) × (new ≡ record old { turn = Closing c })
-NextBreaking old c (Some channel) result new = (result ≡ Some (Reply c fixed_500)) × (new ≡ with_channel c (Some (shut channel)) (Closing c) old)
+NextBreaking old c None result new = (result ≡ Some (Reply c fixed_500))
+    × (new ≡ record old { turn = Closing c })
+NextBreaking old c (Some channel) result new = (result ≡ Some (Reply c fixed_500))
+    × (new ≡ with_channel c (Some (shut channel)) (Closing c) old)
 
 -- `next`, by what is to come
 abbrev pub Nexts : {H : Type 0} → (List ℕ → Taken → Type 0) → (H → ℕ → Heard → Sent → H → Type 0)
     → HubSeen → Turn → Option HubOut → HubSeen → H → H → Type 0
-Nexts reads handles old Idle result new before after = (after ≡ before) × (result ≡ None) × (new ≡ old)
-Nexts reads handles old (Serving c) result new before after = NextServing reads handles old c (old.channels c) result new before after
-Nexts reads handles old (Breaking c) result new before after = (after ≡ before) × NextBreaking old c (old.channels c) result new
-Nexts reads handles old (Closing c) result new before after = (after ≡ before) × (result ≡ Some (Closed c)) × (new ≡ record old { turn = Done })
-Nexts reads handles old Done result new before after = (after ≡ before) × (result ≡ None) × (new ≡ record old { turn = Idle })
+Nexts reads handles old Idle result new before after = (after ≡ before) × (result ≡ None)
+    × (new ≡ old)
+Nexts reads handles old (Serving c) result new before after = NextServing reads handles old c
+    (old.channels c) result new before after
+Nexts reads handles old (Breaking c) result new before after = (after ≡ before)
+    × NextBreaking old c (old.channels c) result new
+Nexts reads handles old (Closing c) result new before after = (after ≡ before)
+    × (result ≡ Some (Closed c)) × (new ≡ record old { turn = Done })
+Nexts reads handles old Done result new before after = (after ≡ before) × (result ≡ None)
+    × (new ≡ record old { turn = Idle })
 
 abbrev pub unused_in : Option ChannelSeen → ℕ
 unused_in None = 0

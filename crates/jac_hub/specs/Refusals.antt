@@ -7,7 +7,8 @@ use Rattle.jac_hub.specs.declared.handler.Heard.TheVariants.{Whole as HeardWhole
 
 -- the statuses of what is refused
 abbrev pub is_refusal : ℕ → Bool
-is_refusal status = status == 400 || status == 413 || status == 415 || status == 431 || status == 501
+is_refusal status = status == 400 || status == 413 || status == 415 || status == 431 || status ==
+    501
 
 -- what is refused has one of them
 abbrev pub MayBeHeard : Heard → Type 0

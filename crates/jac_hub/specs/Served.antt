@@ -18,39 +18,49 @@ use Rattle.jac_hub.specs.Heard.{Connection, Connections, counted, is_closed, aft
 use Rattle.jac_hub.specs.Channel.{LIMIT, ChannelSeen, sent_closes, fixed_500}
 use Rattle.jac_hub.specs.Hub.{HubSeen, Steps, Nexts}
 
--- a hub's connection beside that of the definition, while an event's entries are brought: what is unused stands
--- behind what was heard
-pub record IsLike {I A : Type 0} (h : Hearing I A) (channel : ChannelSeen) (known : Connection I) : Type 0 where
+-- a hub's connection beside that of the definition, while an event's entries are brought: what is
+-- unused stands behind what was heard
+pub record IsLike {I A : Type 0} (h : Hearing I A) (channel : ChannelSeen) (known : Connection I) :
+    Type 0 where
   pub taken : channel.taken ≡ min LIMIT (length known.bytes)
   pub unused : StandAt h known.heard (counted known) channel.unused
   pub closed : channel.closed ≡ known.ended
 
 -- between events; of a closed connection only that matters
 abbrev pub IsLikeAfter : {I A : Type 0} → Hearing I A → ChannelSeen → Connection I → Type 0
-IsLikeAfter h channel known = (channel.closed ≡ is_closed known) × ((is_closed known ≡ false) → IsLike h channel known)
+IsLikeAfter h channel known = (channel.closed ≡ is_closed known) × ((is_closed known ≡ false)
+    → IsLike h channel known)
 
-abbrev pub AreLikeAt : {I A : Type 0} → Hearing I A → Option ChannelSeen → Option (Connection I) → Type 0
+abbrev pub AreLikeAt : {I A : Type 0} → Hearing I A → Option ChannelSeen → Option (Connection I)
+    → Type 0
 AreLikeAt h None None = Unit {0}
 AreLikeAt h None (Some known) = ⊥
 AreLikeAt h (Some channel) None = ⊥
 AreLikeAt h (Some channel) (Some known) = IsLikeAfter h channel known
 
 -- an idle hub beside the connections of the definition
-abbrev pub AreLike : {I A : Type 0} → Hearing I A → (ℕ → Option ChannelSeen) → Connections I → Type 0
+abbrev pub AreLike : {I A : Type 0} → Hearing I A → (ℕ → Option ChannelSeen) → Connections I
+    → Type 0
 AreLike h channels known = (c : ℕ) → AreLikeAt h (channels c) (known c)
 
--- the calls of `next` put out these, and then nothing more; `before` and `after` are the handler's states
-abbrev pub IsEmptied : {H : Type 0} → (List ℕ → Taken → Type 0) → (H → ℕ → Heard → Sent → H → Type 0) → HubSeen → List HubOut → HubSeen → H → H → Type 0
-IsEmptied reads handles hub [] new before after = Nexts reads handles hub hub.turn None new before after
+-- the calls of `next` put out these, and then nothing more; `before` and `after` are the handler's
+-- states
+abbrev pub IsEmptied : {H : Type 0} → (List ℕ → Taken → Type 0) → (H → ℕ → Heard → Sent → H
+    → Type 0) → HubSeen → List HubOut → HubSeen → H → H → Type 0
+IsEmptied reads handles hub [] new before after = Nexts reads handles hub hub.turn None new before
+    after
 IsEmptied {H = H} reads handles hub (out ∷ outs) new before after =
-    (later : HubSeen) × (between : H) × Nexts reads handles hub hub.turn (Some out) later before between
+    (later : HubSeen) × (between : H) × Nexts reads handles hub hub.turn (Some out) later before
+    between
     × IsEmptied reads handles later outs new between after
 
 -- some calls of `next`, each of which put something out
-abbrev pub IsGiven : {H : Type 0} → (List ℕ → Taken → Type 0) → (H → ℕ → Heard → Sent → H → Type 0) → HubSeen → List HubOut → HubSeen → H → H → Type 0
+abbrev pub IsGiven : {H : Type 0} → (List ℕ → Taken → Type 0) → (H → ℕ → Heard → Sent → H → Type 0)
+    → HubSeen → List HubOut → HubSeen → H → H → Type 0
 IsGiven reads handles hub [] new before after = (new ≡ hub) × (after ≡ before)
 IsGiven {H = H} reads handles hub (out ∷ outs) new before after =
-    (later : HubSeen) × (between : H) × Nexts reads handles hub hub.turn (Some out) later before between
+    (later : HubSeen) × (between : H) × Nexts reads handles hub hub.turn (Some out) later before
+    between
     × IsGiven reads handles later outs new between after
 
 -- a connection that has begun and is closed
@@ -68,20 +78,28 @@ closings (Begin c) before after = []
 closings (Piece c bytes) before after = closing c (not (is_shut (before c)) && is_shut (after c))
 closings (Finish c) before after = []
 
--- an entry's answer beside what the handler was asked and sent, whose relation is `told`: it isn't asked where
--- memory ran out
-abbrev pub IsAnswered : {I A H : Type 0} → Hearing I A → (H → ℕ → Heard → Sent → H → A → Type 0) → A → ℕ → Subject I → A → Sent → H → H → Type 0
+-- an entry's answer beside what the handler was asked and sent, whose relation is `told`: it isn't
+-- asked where memory ran out
+abbrev pub IsAnswered : {I A H : Type 0} → Hearing I A → (H → ℕ → Heard → Sent → H → A → Type 0) → A
+    → ℕ → Subject I → A → Sent → H → H → Type 0
 IsAnswered h told memory c (whole inquiry close) answer sent before after =
-    (request : Request) × (inquiry ≡ h.wants request) × (close ≡ request.close) × told before c (HeardWhole request) sent after answer
-IsAnswered h told memory c (refused status) answer sent before after = told before c (HeardRefused status) sent after answer
-IsAnswered h told memory c broken answer sent before after = (after ≡ before) × (answer ≡ memory) × (sent ≡ fixed_500)
+    (request : Request) × (inquiry ≡ h.wants request) × (close ≡ request.close)
+    × told before c (HeardWhole request) sent after answer
+IsAnswered h told memory c (refused status) answer sent before after =
+    told before c (HeardRefused status) sent after answer
+IsAnswered h told memory c broken answer sent before after = (after ≡ before) × (answer ≡ memory)
+    × (sent ≡ fixed_500)
 
--- the entries beside the replies that were put out: one for each, in their order, under its connection's number
-abbrev pub AreAnswered : {I A H : Type 0} → Hearing I A → (H → ℕ → Heard → Sent → H → A → Type 0) → A → H → List (Entry I A) → List HubOut → H → Type 0
+-- the entries beside the replies that were put out: one for each, in their order, under its
+-- connection's number
+abbrev pub AreAnswered : {I A H : Type 0} → Hearing I A → (H → ℕ → Heard → Sent → H → A → Type 0)
+    → A → H → List (Entry I A) → List HubOut → H → Type 0
 AreAnswered h told memory before [] outs after = (outs ≡ []) × (after ≡ before)
 AreAnswered {H = H} h told memory before (entry ∷ log) outs after =
-    (c : ℕ) × (sent : Sent) × (rest : List HubOut) × (between : H) × (entry.source ≡ connection c) × (outs ≡ Reply c sent ∷ rest)
-    × IsAnswered h told memory c entry.subject entry.answer sent before between × AreAnswered h told memory between log rest after
+    (c : ℕ) × (sent : Sent) × (rest : List HubOut) × (between : H) × (entry.source ≡ connection c)
+    × (outs ≡ Reply c sent ∷ rest)
+    × IsAnswered h told memory c entry.subject entry.answer sent before between
+    × AreAnswered h told memory between log rest after
 
 -- what is sent to a request agrees with the answer: it closes where that does
 abbrev pub Agrees : {I A : Type 0} → Hearing I A → Heard → Sent → A → Type 0
@@ -96,7 +114,8 @@ IsLost (Piece c bytes) result = ⊥
 IsLost (Finish c) result = ⊥
 
 -- what an event and the calls of `next` behind it gave is what the definition brings
-pub record IsServed {I A H : Type 0} (h : Hearing I A) (told : H → ℕ → Heard → Sent → H → A → Type 0) (memory : A) (n : ℕ) (event : Event)
+pub record IsServed {I A H : Type 0} (h : Hearing I A) (told : H → ℕ → Heard → Sent → H → A
+    → Type 0) (memory : A) (n : ℕ) (event : Event)
     (known : Connections I) (outs : List HubOut) (new : HubSeen) (before after : H) : Type 0 where
   pub mine : List (Entry I A)
   pub brought : IsBroughtBy h n event known mine
@@ -106,36 +125,54 @@ pub record IsServed {I A H : Type 0} (h : Hearing I A) (told : H → ℕ → Hea
   pub like : AreLike h new.channels (after_both h event mine known)
   pub idle : new.turn ≡ Idle
 
--- what an event and some calls of `next` behind it gave is the beginning of that; where a connection was told to
--- be closed, it is all
-pub record IsServedInPart {I A H : Type 0} (h : Hearing I A) (told : H → ℕ → Heard → Sent → H → A → Type 0) (memory : A) (n : ℕ) (event : Event)
+-- what an event and some calls of `next` behind it gave is the beginning of that; where a
+-- connection was told to be closed, it is all
+pub record IsServedInPart {I A H : Type 0} (h : Hearing I A) (told : H → ℕ → Heard → Sent → H → A
+    → Type 0) (memory : A) (n : ℕ) (event : Event)
     (known : Connections I) (outs : List HubOut) (before after : H) : Type 0 where
   pub mine : List (Entry I A)
   pub replies : List HubOut
   pub begun : IsBegunBy h n event known mine
   pub answered : AreAnswered h told memory before mine replies after
-  pub put : (outs ≡ replies) ⊎ (IsBroughtBy h n event known mine × (outs ≡ replies ++ closings event known (after_both h event mine known)))
+  pub put : (outs ≡ replies) ⊎ (IsBroughtBy h n event known mine
+      × (outs ≡ replies ++ closings event known (after_both h event mine known)))
 
--- events one after another, each taken by `step`, behind which `next` is called until it gives nothing
-abbrev pub Runs : {H : Type 0} → (List ℕ → Taken → Type 0) → (H → ℕ → Heard → Sent → H → Type 0) → HubSeen → List Event → List HubOut → HubSeen → H → H → Type 0
+-- events one after another, each taken by `step`, behind which `next` is called until it gives
+-- nothing
+abbrev pub Runs : {H : Type 0} → (List ℕ → Taken → Type 0) → (H → ℕ → Heard → Sent → H → Type 0)
+    → HubSeen → List Event → List HubOut → HubSeen → H → H → Type 0
 Runs reads handles hub [] outs new before after = (outs ≡ []) × (new ≡ hub) × (after ≡ before)
 Runs {H = H} reads handles hub (event ∷ events) outs new before after =
-    (result : Result (Unit {0}) HubFault) × (stepped : HubSeen) × (later : HubSeen) × (mine : List HubOut) × (rest : List HubOut) × (between : H)
-    × Steps hub event result stepped × (IsLost event result → ⊥) × IsEmptied reads handles stepped mine later before between
+    (result : Result (Unit {0}) HubFault) × (stepped : HubSeen) × (later : HubSeen)
+    × (mine : List HubOut) × (rest : List HubOut) × (between : H)
+    × Steps hub event result stepped × (IsLost event result → ⊥)
+    × IsEmptied reads handles stepped mine later before between
     × (outs ≡ mine ++ rest) × Runs reads handles later events rest new between after
 
 -- the events, of which the first is the n-th, bring the log, and this was put out for it
-abbrev pub AreServed : {I A H : Type 0} → Hearing I A → (H → ℕ → Heard → Sent → H → A → Type 0) → A → Connections I → ℕ → List Event → List (Entry I A) → List HubOut → H → H → Type 0
-AreServed h told memory known n [] log outs before after = (log ≡ []) × (outs ≡ []) × (after ≡ before)
+abbrev pub AreServed : {I A H : Type 0} → Hearing I A → (H → ℕ → Heard → Sent → H → A → Type 0) → A
+    → Connections I → ℕ → List Event → List (Entry I A) → List HubOut → H → H → Type 0
+AreServed h told memory known n [] log outs before after = (log ≡ []) × (outs ≡ [])
+    × (after ≡ before)
 AreServed {I = I} {A = A} {H = H} h told memory known n (event ∷ events) log outs before after =
-    (mine : List (Entry I A)) × (others : List (Entry I A)) × (replies : List HubOut) × (rest : List HubOut) × (between : H)
-    × (log ≡ mine ++ others) × (outs ≡ (replies ++ closings event known (after_both h event mine known)) ++ rest)
+    (mine : List (Entry I A)) × (others : List (Entry I A)) × (replies : List HubOut)
+    × (rest : List HubOut) × (between : H)
+    × (log ≡ mine ++ others)
+    × (outs ≡ (replies ++ closings event known (after_both h event mine known)) ++ rest)
     × IsBroughtBy h n event known mine × AreAnswered h told memory before mine replies between
-    × AreServed h told memory (after_both h event mine known) (n + 1) events others rest between after
+    × AreServed h told memory (after_both h event mine known) (n + 1) events others rest between
+    after
 
 -- a request that is understood as itself, and an answer that is what is sent
 abbrev pub asked_request : Option ℕ → List ℕ → List ℕ → List ℕ → List ℕ → Request
-asked_request viewer method path query body = record { method = method; path = path; query = query; body = body; token = None; close = false }
+asked_request viewer method path query body = record {
+  method = method;
+  path = path;
+  query = query;
+  body = body;
+  token = None;
+  close = false;
+}
 
 abbrev pub plain_hearing : Hearing Request Sent
 plain_hearing = record {
@@ -145,5 +182,6 @@ plain_hearing = record {
   ends = sent_closes;
 }
 
-abbrev pub sends : {H : Type 0} → (H → ℕ → Heard → Sent → H → Type 0) → H → ℕ → Heard → Sent → H → Sent → Type 0
+abbrev pub sends : {H : Type 0} → (H → ℕ → Heard → Sent → H → Type 0) → H → ℕ → Heard → Sent → H
+    → Sent → Type 0
 sends handles before c heard sent after answer = handles before c heard sent after × (answer ≡ sent)

@@ -99,7 +99,8 @@ impl Channel {
     /// The next thing that the bytes give.
     pub fn next<H: Handler>(&mut self, alloc: Global, conn: u32, handler: &mut H) -> Option<Given>
         requires { H.ready handler.old }
-        ensures next { NextOfChannel IsTaken H.handles conn self.old result self.new handler.old handler.new }
+        ensures next { NextOfChannel IsTaken H.handles conn self.old result self.new handler.old
+            handler.new }
         ensures nearer { IsNearer self.old result self.new }
         ensures ready { H.ready handler.new }
     {
@@ -121,7 +122,8 @@ impl Channel {
         requires ready { H.ready handler.old }
         requires some { 0 < used }
         requires within { used ≤ length self.old.unused }
-        ensures answered { AnswersFront H.handles conn self.old (Whole request used) (Some result) self.new handler.old handler.new }
+        ensures answered { AnswersFront H.handles conn self.old (Whole request used) (Some result)
+            self.new handler.old handler.new }
         ensures nearer { IsNearer self.old (Some result) self.new }
         ensures ready { H.ready handler.new }
     {
@@ -135,7 +137,8 @@ impl Channel {
     fn refuse<H: Handler>(&mut self, conn: u32, status: u16, handler: &mut H) -> Given
         requires ready { H.ready handler.old }
         requires refusal { is_refusal status ≡ true }
-        ensures answered { AnswersFront H.handles conn self.old (Refused status) (Some result) self.new handler.old handler.new }
+        ensures answered { AnswersFront H.handles conn self.old (Refused status) (Some result)
+            self.new handler.old handler.new }
         ensures nearer { IsNearer self.old (Some result) self.new }
         ensures ready { H.ready handler.new }
     {

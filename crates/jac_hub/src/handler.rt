@@ -19,7 +19,8 @@ pub trait Handler {
     /// What it asks of itself.
     ghost ready: { Self → Type 0 };
 
-    /// Itself before a call, the connection, what was heard, what it sent, and itself behind the call.
+    /// Itself before a call, the connection, what was heard, what it sent, and itself behind the
+    /// call.
     ghost handles: { Self → ℕ → HeardSeen → SentSeen → Self → Type 0 };
 
     /// The answer to what was heard.

@@ -76,7 +76,8 @@ impl Hub {
     }
 
     fn begin(&mut self, alloc: Global, conn: u32) -> Result<(), HubFault>
-        ensures { StepsBegin (seen self.old) conn ((seen self.old).channels conn) result (seen self.new) }
+        ensures { StepsBegin (seen self.old) conn ((seen self.old).channels conn) result
+            (seen self.new) }
     {
         if self.channels.contains_key(&conn) {
             return Err(HubFault::AlreadyOpen(conn));
@@ -91,7 +92,8 @@ impl Hub {
     }
 
     fn piece(&mut self, conn: u32, bytes: &[u8]) -> Result<(), HubFault>
-        ensures { StepsPiece (seen self.old) conn bytes.now ((seen self.old).channels conn) result (seen self.new) }
+        ensures { StepsPiece (seen self.old) conn bytes.now ((seen self.old).channels conn) result
+            (seen self.new) }
     {
         let Some(channel) = self.channels.get_mut(&conn) else {
             return Err(HubFault::NotOpen(conn));
@@ -113,7 +115,8 @@ impl Hub {
     }
 
     fn finish(&mut self, conn: u32) -> Result<(), HubFault>
-        ensures { StepsFinish (seen self.old) conn ((seen self.old).channels conn) result (seen self.new) }
+        ensures { StepsFinish (seen self.old) conn ((seen self.old).channels conn) result
+            (seen self.new) }
     {
         match self.channels.remove(&conn) {
             Some(_) => {
@@ -124,11 +127,12 @@ impl Hub {
         }
     }
 
-    /// The next thing that the last event brings: one reply for each request and for what is refused, in their
-    /// order, then that the connection is closed, then none.
+    /// The next thing that the last event brings: one reply for each request and for what is
+    /// refused, in their order, then that the connection is closed, then none.
     pub fn next<H: Handler>(&mut self, alloc: Global, handler: &mut H) -> Option<HubOut>
         requires { H.ready handler.old }
-        ensures next { Nexts IsTaken H.handles (seen self.old) (seen self.old).turn result (seen self.new) handler.old handler.new }
+        ensures next { Nexts IsTaken H.handles (seen self.old) (seen self.old).turn result
+            (seen self.new) handler.old handler.new }
         ensures idle { result ≡ None → (seen self.new).turn ≡ Idle }
         ensures nearer { IfSome result (λ out. left (seen self.new) < left (seen self.old)) }
         ensures ready { H.ready handler.new }
@@ -150,9 +154,11 @@ impl Hub {
 
     fn serve<H: Handler>(&mut self, alloc: Global, conn: u32, handler: &mut H) -> Option<HubOut>
         requires { H.ready handler.old }
-        ensures next { NextServing IsTaken H.handles (seen self.old) conn ((seen self.old).channels conn) result (seen self.new) handler.old handler.new }
+        ensures next { NextServing IsTaken H.handles (seen self.old) conn
+            ((seen self.old).channels conn) result (seen self.new) handler.old handler.new }
         ensures idle { result ≡ None → (seen self.new).turn ≡ Idle }
-        ensures nearer { IfSome result (λ out. left (seen self.new) < unused_in ((seen self.old).channels conn) + 4) }
+        ensures nearer { IfSome result (λ out. left (seen self.new) < unused_in
+            ((seen self.old).channels conn) + 4) }
         ensures ready { H.ready handler.new }
     {
         let Some(channel) = self.channels.get_mut(&conn) else {
@@ -166,7 +172,8 @@ impl Hub {
     }
 
     fn fail(&mut self, conn: u32) -> HubOut
-        ensures next { NextBreaking (seen self.old) conn ((seen self.old).channels conn) (Some result) (seen self.new) }
+        ensures next { NextBreaking (seen self.old) conn ((seen self.old).channels conn)
+            (Some result) (seen self.new) }
         ensures turn { (seen self.new).turn ≡ Closing conn }
     {
         if let Some(channel) = self.channels.get_mut(&conn) {

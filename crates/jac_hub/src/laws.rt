@@ -17,33 +17,49 @@ ghost use Rattle.jac_hub.specs.Served.{AreLike, IsEmptied, IsGiven, IsLost, IsSe
 use crate::Handler;
 use jac_http::requests_are_read;
 
-/// A law: a hub that stands where the definition of what is heard does gives for an event exactly what that
-/// brings, and stands there again behind it. Want of memory at a Begin is the one event that it may lose.
+/// A law: a hub that stands where the definition of what is heard does gives for an event exactly
+/// what that brings, and stands there again behind it. Want of memory at a Begin is the one event
+/// that it may lose.
 pub fn events_are_heard<H: Handler>()
-    ensures { (n : ℕ) (event : Event) (known : Connections Request) (result : Result (Unit {0}) HubFault) (old stepped new : HubSeen) (outs : List HubOut) (before after : H) → old.turn ≡ Idle → AreLike plain_hearing old.channels known → Steps old event result stepped → (IsLost event result → ⊥) → IsEmptied IsTaken H.handles stepped outs new before after → IsServed plain_hearing (sends H.handles) fixed_500 n event known outs new before after }
+    ensures { (n : ℕ) (event : Event) (known : Connections Request) (result : Result (Unit {0})
+        HubFault) (old stepped new : HubSeen) (outs : List HubOut) (before after : H)
+        → old.turn ≡ Idle → AreLike plain_hearing old.channels known
+        → Steps old event result stepped → (IsLost event result → ⊥)
+        → IsEmptied IsTaken H.handles stepped outs new before after
+        → IsServed plain_hearing (sends H.handles) fixed_500 n event known outs new before after }
 {
     requests_are_read();
 }
 
-/// A law: what a new hub gives for a run of events is a log that the definition brings, with one reply for each of
-/// its entries, in their order.
+/// A law: what a new hub gives for a run of events is a log that the definition brings, with one
+/// reply for each of its entries, in their order.
 pub fn runs_are_heard<H: Handler>()
-    ensures { (events : List Event) (outs : List HubOut) (new : HubSeen) (before after : H) → Runs IsTaken H.handles new_hub events outs new before after → (log : List (Entry Request Sent)) × IsHeard plain_hearing events log × AreServed plain_hearing (sends H.handles) fixed_500 no_connections 0 events log outs before after }
+    ensures { (events : List Event) (outs : List HubOut) (new : HubSeen) (before after : H)
+        → Runs IsTaken H.handles new_hub events outs new before after
+        → (log : List (Entry Request Sent)) × IsHeard plain_hearing events log
+        × AreServed plain_hearing (sends H.handles) fixed_500 no_connections 0 events log outs
+        before after }
 {
     requests_are_read();
 }
 
 /// A law: before `next` answers none, what the hub gave is the beginning of what the event brings.
 pub fn events_are_heard_in_part<H: Handler>()
-    ensures { (n : ℕ) (event : Event) (known : Connections Request) (result : Result (Unit {0}) HubFault) (old stepped new : HubSeen) (outs : List HubOut) (before after : H) → old.turn ≡ Idle → AreLike plain_hearing old.channels known → Steps old event result stepped → IsGiven IsTaken H.handles stepped outs new before after → IsServedInPart plain_hearing (sends H.handles) fixed_500 n event known outs before after }
+    ensures { (n : ℕ) (event : Event) (known : Connections Request) (result : Result (Unit {0})
+        HubFault) (old stepped new : HubSeen) (outs : List HubOut) (before after : H)
+        → old.turn ≡ Idle → AreLike plain_hearing old.channels known
+        → Steps old event result stepped → IsGiven IsTaken H.handles stepped outs new before after
+        → IsServedInPart plain_hearing (sends H.handles) fixed_500 n event known outs before after }
 {
     requests_are_read();
 }
 
-/// A law: two pieces in a row of one connection bring what the one piece of both brings, wherever they stand. So
-/// bytes may be cut anywhere.
+/// A law: two pieces in a row of one connection bring what the one piece of both brings, wherever
+/// they stand. So bytes may be cut anywhere.
 pub fn any_cutting_is_heard()
-    ensures { (c : ℕ) (xs ys : List ℕ) (front events : List Event) (log : List (Entry Request Sent)) → IsHeard plain_hearing (front ++ Piece c xs ∷ (Piece c ys ∷ events)) log → IsHeardAlike plain_hearing no_connections 0 (front ++ Piece c (xs ++ ys) ∷ events) log }
+    ensures { (c : ℕ) (xs ys : List ℕ) (front events : List Event) (log : List (Entry Request Sent))
+        → IsHeard plain_hearing (front ++ Piece c xs ∷ (Piece c ys ∷ events)) log
+        → IsHeardAlike plain_hearing no_connections 0 (front ++ Piece c (xs ++ ys) ∷ events) log }
 {
     requests_are_read();
 }

@@ -24,11 +24,13 @@ has_pair b v id = shown (ids_or_none (get order.ghosts.cmp b.ids v)) id
 
 -- all pairs and this one
 abbrev pub IsPairAdded : Value → ℕ → ByValue → ByValue → Type 0
-IsPairAdded v id old new = (u : Value) (k : ℕ) → has_pair new u k ≡ ((same_value v u && (id == k)) || has_pair old u k)
+IsPairAdded v id old new = (u : Value) (k : ℕ)
+    → has_pair new u k ≡ ((same_value v u && (id == k)) || has_pair old u k)
 
 -- all pairs but this one
 abbrev pub IsPairRemoved : Value → ℕ → ByValue → ByValue → Type 0
-IsPairRemoved v id old new = (u : Value) (k : ℕ) → has_pair new u k ≡ (not (same_value v u && (id == k)) && has_pair old u k)
+IsPairRemoved v id old new = (u : Value) (k : ℕ)
+    → has_pair new u k ≡ (not (same_value v u && (id == k)) && has_pair old u k)
 
 abbrev pub has_pair_in : Option ByValue → Value → ℕ → Bool
 has_pair_in None v id = false
@@ -46,8 +48,11 @@ AreSame old new = (g : ℕ) (u : Value) (k : ℕ) → has_triple new g u k ≡ h
 
 -- all triples and this one
 abbrev pub IsAdded : ℕ → Value → ℕ → Index → Index → Type 0
-IsAdded f v id old new = (g : ℕ) (u : Value) (k : ℕ) → has_triple new g u k ≡ (((f == g) && (same_value v u && (id == k))) || has_triple old g u k)
+IsAdded f v id old new = (g : ℕ) (u : Value) (k : ℕ)
+    → has_triple new g u k ≡ (((f == g) && (same_value v u && (id == k))) || has_triple old g u k)
 
 -- all triples but this one
 abbrev pub IsRemoved : ℕ → Value → ℕ → Index → Index → Type 0
-IsRemoved f v id old new = (g : ℕ) (u : Value) (k : ℕ) → has_triple new g u k ≡ (not ((f == g) && (same_value v u && (id == k))) && has_triple old g u k)
+IsRemoved f v id old new = (g : ℕ) (u : Value) (k : ℕ)
+    → has_triple new g u k ≡ (not ((f == g) && (same_value v u && (id == k))) && has_triple old g u
+    k)

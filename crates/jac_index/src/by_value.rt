@@ -26,7 +26,8 @@ impl ByValue {
     /// The same pairs and this one.
     pub fn add(&mut self, alloc: Global, value: &Value, id: Id) -> Result<(), Memory>
         ensures added { OnOk result (IsPairAdded value.now id self.old self.new) }
-        ensures kept { OnErr result ((v : Cell) (k : ℕ) → has_pair self.new v k ≡ has_pair self.old v k) }
+        ensures kept { OnErr result ((v : Cell) (k : ℕ) → has_pair self.new v k ≡ has_pair self.old
+            v k) }
     {
         if self.ids.contains_key(value) {
             self.add_more(value, id)
@@ -37,7 +38,8 @@ impl ByValue {
 
     fn add_more(&mut self, value: &Value, id: Id) -> Result<(), Memory>
         ensures added { OnOk result (IsPairAdded value.now id self.old self.new) }
-        ensures kept { OnErr result ((v : Cell) (k : ℕ) → has_pair self.new v k ≡ has_pair self.old v k) }
+        ensures kept { OnErr result ((v : Cell) (k : ℕ) → has_pair self.new v k ≡ has_pair self.old
+            v k) }
     {
         match self.ids.get_mut(value) {
             Some(ids) => ids.add(id),
@@ -48,7 +50,8 @@ impl ByValue {
     fn add_first(&mut self, alloc: Global, value: &Value, id: Id) -> Result<(), Memory>
         requires { (k : ℕ) → has_pair self.old value.now k ≡ false }
         ensures added { OnOk result (IsPairAdded value.now id self.old self.new) }
-        ensures kept { OnErr result ((v : Cell) (k : ℕ) → has_pair self.new v k ≡ has_pair self.old v k) }
+        ensures kept { OnErr result ((v : Cell) (k : ℕ) → has_pair self.new v k ≡ has_pair self.old
+            v k) }
     {
         let mut ids = RisingIds::empty(alloc);
         ids.add(id)?;

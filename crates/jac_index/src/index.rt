@@ -66,7 +66,8 @@ impl Index {
 
     /// The records that have the value at the field, by rising id, each once.
     pub fn find(&self, alloc: Global, field: u8, value: &Value) -> Result<Ids, Memory>
-        ensures found { IfOk result (λ ids. (k : ℕ) → shown ids k ≡ has_triple self.now field value.now k) }
+        ensures found { IfOk result (λ ids. (k : ℕ) → shown ids k ≡ has_triple self.now field
+            value.now k) }
         ensures ascending { IfOk result IsAscending }
     {
         match self.fields.get(&field) {

@@ -70,7 +70,8 @@ fn is_among(ids: &[Id], id: Id) -> bool
 
 fn add_id(ids: &mut Vec<Id>, id: Id) -> Result<(), Memory>
     requires { IsAscending ids.old.items }
-    ensures added { OnOk result ((k : ℕ) → shown ids.new.items k ≡ (id == k || shown ids.old.items k)) }
+    ensures added { OnOk result ((k : ℕ)
+        → shown ids.new.items k ≡ (id == k || shown ids.old.items k)) }
     ensures ascending { IsAscending ids.new.items }
     ensures kept { OnErr result (ids.new.items ≡ ids.old.items) }
 {

@@ -5,8 +5,9 @@ use Rattle.jac_io.specs.Calls.{listed}
 use Rattle.jac_io.specs.Linked.{DoorSeen}
 use Rattle.jac_io.specs.LinkState.{LinkState}
 
--- the links that are still to come, the port of the last listen that was answered, the links that were handed
--- back and the room for them, the calls that are to fail, and how many calls there were and how many failed
+-- the links that are still to come, the port of the last listen that was answered, the links that
+-- were handed back and the room for them, the calls that are to fail, and how many calls there were
+-- and how many failed
 pub record DoorState : Type 0 where
   pub coming : List LinkState
   pub port : Option ℕ
@@ -30,17 +31,33 @@ failed_door s = record s { calls = risen s.calls; faults = risen s.faults }
 
 -- what the next listen leaves
 abbrev pub after_listen : DoorState → ℕ → DoorState
-after_listen s port = if call_fails s then failed_door s else record s { calls = risen s.calls; port = Some port }
+after_listen s port = if call_fails s then failed_door s else record s {
+  calls = risen s.calls;
+  port = Some port;
+}
 
 -- what asking for the next link leaves
 abbrev pub after_next : DoorState → DoorState
-after_next s = if call_fails s then failed_door s else record s { calls = risen s.calls; coming = drop 1 s.coming }
+after_next s = if call_fails s then failed_door s else record s {
+  calls = risen s.calls;
+  coming = drop 1 s.coming;
+}
 
 -- what handing a link back leaves
 abbrev pub after_close : DoorState → LinkState → DoorState
 after_close s line =
-    if close_fails s then failed_door s else record s { calls = risen s.calls; returned = s.returned ++ line ∷ [] }
+    if close_fails s then failed_door s else record s {
+      calls = risen s.calls;
+      returned = s.returned
+          ++ line ∷ [];
+    }
 
 -- it tells what it holds
 abbrev pub seen_door : DoorState → DoorSeen LinkState
-seen_door s = record { tells = true; coming = s.coming; port = s.port; returned = s.returned; faults = s.faults }
+seen_door s = record {
+  tells = true;
+  coming = s.coming;
+  port = s.port;
+  returned = s.returned;
+  faults = s.faults;
+}

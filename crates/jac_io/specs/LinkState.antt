@@ -5,8 +5,8 @@ use Rattle.jac_io.specs.Faults.{risen}
 use Rattle.jac_io.specs.Calls.{listed}
 use Rattle.jac_io.specs.Linked.{LinkSeen}
 
--- the pieces of the input that weren't taken yet, the bytes that were put, the room for these, the calls that
--- are to fail, and how many calls there were and how many failed
+-- the pieces of the input that weren't taken yet, the bytes that were put, the room for these, the
+-- calls that are to fail, and how many calls there were and how many failed
 pub record LinkState : Type 0 where
   pub pieces : List (List ℕ)
   pub held : List ℕ
@@ -21,7 +21,8 @@ take_fails s = listed (risen s.calls) s.fails
 
 -- whether the next put fails: it is a listed call, or the bytes are more than the rest of the room
 abbrev pub put_on_fails : LinkState → List ℕ → Bool
-put_on_fails s bytes = listed (risen s.calls) s.fails || nat_lt s.room (length s.held + length bytes)
+put_on_fails s bytes = listed (risen s.calls) s.fails || nat_lt s.room
+    (length s.held + length bytes)
 
 -- the pieces from the first on that isn't empty
 abbrev pub from_next : List (List ℕ) → List (List ℕ)
@@ -56,12 +57,18 @@ failed_link s = record s { calls = risen s.calls; faults = risen s.faults }
 -- what the next take into so much room leaves
 abbrev pub after_take : LinkState → ℕ → LinkState
 after_take s room =
-    if take_fails s then failed_link s else record s { calls = risen s.calls; pieces = cut room (from_next s.pieces) }
+    if take_fails s then failed_link s else record s {
+      calls = risen s.calls;
+      pieces = cut room (from_next s.pieces);
+    }
 
 -- what the next put leaves
 abbrev pub after_put_on : LinkState → List ℕ → LinkState
 after_put_on s bytes =
-    if put_on_fails s bytes then failed_link s else record s { calls = risen s.calls; held = s.held ++ bytes }
+    if put_on_fails s bytes then failed_link s else record s {
+      calls = risen s.calls;
+      held = s.held ++ bytes;
+    }
 
 -- it tells what it holds
 abbrev pub seen_link : LinkState → LinkSeen

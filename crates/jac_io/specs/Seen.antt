@@ -19,36 +19,42 @@ pub record FilesLast (old new : FilesSeen) : Type 0 where
   pub same_file : IsTrue new.tells → new.file ≡ old.file
 
 -- what a read of a whole file leaves
-pub record ReadsFile (old new : FilesSeen) (name : List ℕ) (limit : ℕ) (result : Result (List ℕ) FileFault) : Type 0 where
+pub record ReadsFile (old new : FilesSeen) (name : List ℕ) (limit : ℕ)
+    (result : Result (List ℕ) FileFault) : Type 0 where
   pub lasts : FilesLast old new
   pub within : IfOk result (λ bytes. length bytes ≤ limit)
   pub exact : IsTrue new.tells → IfOk result (λ bytes. old.file name ≡ Some bytes)
-  pub too_long : IsTrue new.tells → result ≡ Err TooLong → IsSomeAnd (old.file name) (λ bytes. limit < length bytes)
+  pub too_long : IsTrue new.tells → result ≡ Err TooLong
+      → IsSomeAnd (old.file name) (λ bytes. limit < length bytes)
   pub rose : result ≡ Err Failed → Rose old.faults new.faults
 
--- of a sink: whether it tells what was put, the bytes, each aim with how much was held by then, and how often
--- it failed
+-- of a sink: whether it tells what was put, the bytes, each aim with how much was held by then, and
+-- how often it failed
 pub record SinkSeen : Type 0 where
   pub tells : Bool
   pub held : List ℕ
   pub aims : List (Option (List ℕ) × ℕ)
   pub faults : ℕ
 
--- a sink after calls that aim it nowhere: where it tells afterwards it told before, and its aims are as they were
+-- a sink after calls that aim it nowhere: where it tells afterwards it told before, and its aims
+-- are as they were
 pub record Lasts (old new : SinkSeen) : Type 0 where
   pub later : old.faults ≤ new.faults
   pub told : IsTrue new.tells → IsTrue old.tells
   pub same_aims : IsTrue new.tells → new.aims ≡ old.aims
 
 -- what a put leaves: all the bytes more, or the front of them
-pub record Puts (old new : SinkSeen) (bytes : List ℕ) (result : Result (Unit {0}) Refused) : Type 0 where
-  pub lasts : Lasts old new
-  pub ok : IsTrue new.tells → OnOk result (new.held ≡ old.held ++ bytes)
-  pub err : IsTrue new.tells → OnErr result (AddsPrefix old.held new.held bytes)
-  pub rose : OnErr result (Rose old.faults new.faults)
+pub record Puts (old new : SinkSeen) (bytes : List ℕ) (result : Result (Unit {0}) Refused) : Type 0
+  where
+    pub lasts : Lasts old new
+    pub ok : IsTrue new.tells → OnOk result (new.held ≡ old.held ++ bytes)
+    pub err : IsTrue new.tells → OnErr result (AddsPrefix old.held new.held bytes)
+    pub rose : OnErr result (Rose old.faults new.faults)
 
--- what an aim leaves: an Ok is the last of the aims, with what was held by then; a refused one leaves them
-pub record Aims (old new : SinkSeen) (name : Option (List ℕ)) (result : Result (Unit {0}) Refused) : Type 0 where
+-- what an aim leaves: an Ok is the last of the aims, with what was held by then; a refused one
+-- leaves them
+pub record Aims (old new : SinkSeen) (name : Option (List ℕ)) (result : Result (Unit {0}) Refused) :
+    Type 0 where
   pub later : old.faults ≤ new.faults
   pub told : IsTrue new.tells → IsTrue old.tells
   pub same_held : IsTrue new.tells → new.held ≡ old.held

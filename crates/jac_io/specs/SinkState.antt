@@ -4,8 +4,8 @@ use Rattle.jac_io.specs.Faults.{risen}
 use Rattle.jac_io.specs.Calls.{listed}
 use Rattle.jac_io.specs.Seen.{SinkSeen}
 
--- the bytes that were put, each aim with how much was held by then, the room for all bytes and for aims, the
--- calls that are to fail, and how many calls there were and how many failed
+-- the bytes that were put, each aim with how much was held by then, the room for all bytes and for
+-- aims, the calls that are to fail, and how many calls there were and how many failed
 pub record SinkState : Type 0 where
   pub held : List ℕ
   pub aims : List (Option (List ℕ) × ℕ)
@@ -29,7 +29,10 @@ failed s = record s { calls = risen s.calls; faults = risen s.faults }
 -- what the next put leaves
 abbrev pub after_put : SinkState → List ℕ → SinkState
 after_put s bytes =
-    if put_fails s bytes then failed s else record s { calls = risen s.calls; held = s.held ++ bytes }
+    if put_fails s bytes then failed s else record s {
+      calls = risen s.calls;
+      held = s.held ++ bytes;
+    }
 
 -- how many aims a sink has room for
 abbrev pub aims_room : ℕ
@@ -42,7 +45,10 @@ aim_fails s = is_to_fail s || nat_le aims_room (length s.aims)
 -- what the next aim leaves
 abbrev pub after_aim : SinkState → Option (List ℕ) → SinkState
 after_aim s name =
-    if aim_fails s then failed s else record s { calls = risen s.calls; aims = s.aims ++ (name, length s.held) ∷ [] }
+    if aim_fails s then failed s else record s {
+      calls = risen s.calls;
+      aims = s.aims ++ (name, length s.held) ∷ [];
+    }
 
 -- it tells what it holds
 abbrev pub seen_sink : SinkState → SinkSeen

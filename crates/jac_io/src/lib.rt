@@ -1,4 +1,5 @@
-//! The outside: files, sinks and the audit's sink, links and their door, and versions of them in memory.
+//! The outside: files, sinks and the audit's sink, links and their door, and versions of them in
+//! memory.
 #![tactic(auto)]
 
 mod calls;

@@ -8,8 +8,8 @@ pub trait Link {
     /// What contracts see of it. Its count of faults never falls, and stands still at 2^64 - 1.
     ghost seen: { Self → LinkSeen };
 
-    /// Writes the next bytes of the input to the front of `into`, and gives their number: 0 only at its end.
-    /// `Failed` takes none of them.
+    /// Writes the next bytes of the input to the front of `into`, and gives their number: 0 only at
+    /// its end. `Failed` takes none of them.
     fn take(&mut self, into: &mut [u8]) -> Result<usize, Failed>
         requires { 0 < length into.old }
         ensures takes { Takes (seen self.old) (seen self.new) into.new result }

@@ -36,8 +36,9 @@ impl Links {
     }
 }
 
-/// A door in memory. A call fails where it is a listed one, and a close also where as many links were handed back
-/// as the door began with. Calls of `listen`, `next` and `close` are counted together.
+/// A door in memory. A call fails where it is a listed one, and a close also where as many links
+/// were handed back as the door began with. Calls of `listen`, `next` and `close` are counted
+/// together.
 #[derive(Debug, Drop)]
 pub struct MemoryDoor {
     coming: VecDeque<MemoryLink>,
@@ -61,9 +62,18 @@ impl Model for MemoryDoor {
 }
 
 impl MemoryDoor {
-    /// Takes the room for the links that are handed back at once, so that no later call takes memory.
+    /// Takes the room for the links that are handed back at once, so that no later call takes
+    /// memory.
     pub fn new(alloc: Global, links: Links, fails: Calls) -> Result<MemoryDoor, Memory>
-        ensures { IfOk result (λ d. d ≡ record { coming = links; port = None; returned = []; room = length links; fails = fails; calls = 0; faults = 0 }) }
+        ensures { IfOk result (λ d. d ≡ record {
+          coming = links;
+          port = None;
+          returned = [];
+          room = length links;
+          fails = fails;
+          calls = 0;
+          faults = 0;
+        }) }
     {
         let links = links.into_vec();
         let room = links.len();

@@ -44,7 +44,8 @@ impl Files for MemoryFiles {
     fn read_all(&mut self, alloc: Global, name: &Txt, limit: usize) -> Result<Bytes, FileFault>
         ensures left { self.new ≡ after_read self.old name.now }
         ensures failed { IsErrOf result FileFault.Failed ↔ IsTrue (read_fails self.old name.now) }
-        ensures reads { ReadsFile (seen_files self.old) (seen_files self.new) name.now limit result }
+        ensures reads { ReadsFile (seen_files self.old) (seen_files self.new) name.now limit
+            result }
     {
         self.calls = self.calls.saturating_add(1);
         let listed = self.fails.lists(self.calls);

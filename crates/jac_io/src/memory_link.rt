@@ -7,9 +7,9 @@ use jac_value::Memory;
 use std::alloc::Global;
 use std::marker::Model;
 
-/// A link in memory. A call fails where it is a listed one, and a put fails also where its bytes are more than
-/// the rest of the room. A take gives one piece, passing over empty ones, and of a piece that is longer than its
-/// slice the front. Calls of `take` and `put` are counted together.
+/// A link in memory. A call fails where it is a listed one, and a put fails also where its bytes
+/// are more than the rest of the room. A take gives one piece, passing over empty ones, and of a
+/// piece that is longer than its slice the front. Calls of `take` and `put` are counted together.
 #[derive(Debug, Drop)]
 pub struct MemoryLink {
     input: Input,
@@ -39,7 +39,14 @@ impl MemoryLink {
         room: usize,
         fails: Calls,
     ) -> Result<MemoryLink, Memory>
-        ensures { IfOk result (λ l. l ≡ record { pieces = pieces; held = []; room = room; fails = fails; calls = 0; faults = 0 }) }
+        ensures { IfOk result (λ l. l ≡ record {
+          pieces = pieces;
+          held = [];
+          room = room;
+          fails = fails;
+          calls = 0;
+          faults = 0;
+        }) }
     {
         let taken = Vec::with_capacity(alloc, room)?;
         Ok(MemoryLink {
@@ -70,7 +77,8 @@ impl Link for MemoryLink {
         requires { 0 < length into.old }
         ensures left { self.new ≡ after_take self.old (length into.old) }
         ensures failed { IsErr result ↔ IsTrue (take_fails self.old) }
-        ensures given { IfOk result (λ count. take count into.new ≡ taken_now self.old (length into.old)) }
+        ensures given { IfOk result (λ count. take count into.new ≡ taken_now self.old
+            (length into.old)) }
         ensures takes { Takes (seen_link self.old) (seen_link self.new) into.new result }
         ensures same_length { length into.new ≡ length into.old }
     {

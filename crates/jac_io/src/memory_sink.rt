@@ -8,9 +8,9 @@ use std::marker::Model;
 
 const AIMS: usize = 8;
 
-/// A sink in memory. A call fails where it is a listed one; a put fails also where its bytes are more than
-/// the rest of the room, and an aim where there were eight already. Calls of `put` and `aim` are counted
-/// together.
+/// A sink in memory. A call fails where it is a listed one; a put fails also where its bytes are
+/// more than the rest of the room, and an aim where there were eight already. Calls of `put` and
+/// `aim` are counted together.
 #[derive(Debug, Drop)]
 pub struct MemorySink {
     taken: Vec<u8>,
@@ -35,7 +35,14 @@ impl Model for MemorySink {
 impl MemorySink {
     /// Takes the room at once, so that no later call takes memory.
     pub fn new(alloc: Global, room: usize, fails: Calls) -> Result<MemorySink, Memory>
-        ensures { IfOk result (λ s. s ≡ record { held = []; aims = []; room = room; fails = fails; calls = 0; faults = 0 }) }
+        ensures { IfOk result (λ s. s ≡ record {
+          held = [];
+          aims = [];
+          room = room;
+          fails = fails;
+          calls = 0;
+          faults = 0;
+        }) }
     {
         let taken = Vec::with_capacity(alloc, room)?;
         let aims = Vec::with_capacity(alloc, AIMS)?;

@@ -96,12 +96,14 @@ impl Input {
         }
     }
 
-    // Gives the front of the first piece that isn't empty, and how many bytes that is: none only at the end.
+    // Gives the front of the first piece that isn't empty, and how many bytes that is: none only at
+    // the end.
     #[tactic(auto, using(crate::proofs::PieceLaws::cut_again))]
     pub(crate) fn take(&mut self, into: &mut [u8]) -> usize
         ensures left { self.new ≡ cut (length into.old) (from_next self.old) }
         ensures within { result ≤ length into.new }
-        ensures taken { take result into.new ≡ take (length into.old) (first_piece (from_next self.old)) }
+        ensures taken { take result into.new ≡ take (length into.old)
+            (first_piece (from_next self.old)) }
         ensures same_length { length into.new ≡ length into.old }
     {
         self.pass_empty();

@@ -27,7 +27,8 @@ renamed id rows [] = record { id = id; rows = rows } ∷ []
 renamed id rows (a ∷ rest) =
     if nat_lt a.id id
     then a ∷ renamed id rows rest
-    else (if a.id == id then record { id = id; rows = rows } ∷ rest else record { id = id; rows = rows } ∷ a ∷ rest)
+    else (if a.id == id then record { id = id; rows = rows } ∷ rest
+    else record { id = id; rows = rows } ∷ a ∷ rest)
 
 -- the rows of one model after the alterations of its records
 abbrev pub altered : ℕ → List Alteration → List Row → List Row
@@ -43,7 +44,8 @@ alters model (a ∷ rest) = model_of_id a.id == model || alters model rest
 -- the alterations of a model's records
 abbrev pub of_model : ℕ → List Alteration → List Alteration
 of_model model [] = []
-of_model model (a ∷ rest) = if model_of_id a.id == model then a ∷ of_model model rest else of_model model rest
+of_model model (a ∷ rest) = if model_of_id a.id == model then a ∷ of_model model rest
+    else of_model model rest
 
 -- rows after alterations of them
 abbrev pub placed_each : List Alteration → List Row → List Row

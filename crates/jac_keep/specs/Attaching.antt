@@ -13,15 +13,20 @@ pub record IsNew (before : State) (shapes : List ModelShape) (state : State) : T
   pub tables : state.tables ≡ empties (length shapes)
   pub number : state.number ≡ before.number
 
--- it is attached under this name, with this schema: what was stored under it stands, and else the store was new
+-- it is attached under this name, with this schema: what was stored under it stands, and else the
+-- store was new
 pub record Opens (old new : KeeperSeen) (name : Option (List ℕ)) (schema : List ℕ) : Type 0 where
   pub attached : IsTrue new.store.attached
   pub named : new.store.name ≡ name
   pub stored : new.store.schema ≡ Some schema
-  pub fit : IsTrue new.tells → (shapes : List ModelShape) → IsSchema schema shapes → IsFit shapes new.state
-  pub known : IsTrue new.tells → IsTrue old.tells → (old.store.schema ≡ None) ⊎ (old.store.schema ≡ Some schema)
-  pub kept : IsTrue new.tells → IsTrue old.tells → old.store.schema ≡ Some schema → new.state ≡ old.state
-  pub made : IsTrue new.tells → IsTrue old.tells → old.store.schema ≡ None → (shapes : List ModelShape) → IsSchema schema shapes → IsNew old.state shapes new.state
+  pub fit : IsTrue new.tells → (shapes : List ModelShape) → IsSchema schema shapes
+      → IsFit shapes new.state
+  pub known : IsTrue new.tells → IsTrue old.tells → (old.store.schema ≡ None)
+      ⊎ (old.store.schema ≡ Some schema)
+  pub kept : IsTrue new.tells → IsTrue old.tells → old.store.schema ≡ Some schema
+      → new.state ≡ old.state
+  pub made : IsTrue new.tells → IsTrue old.tells → old.store.schema ≡ None
+      → (shapes : List ModelShape) → IsSchema schema shapes → IsNew old.state shapes new.state
 
 -- nothing is changed
 pub record IsRefused (old new : KeeperSeen) : Type 0 where
@@ -29,9 +34,10 @@ pub record IsRefused (old new : KeeperSeen) : Type 0 where
   pub same_state : new.state ≡ old.state
   pub same_schema : new.store.schema ≡ old.store.schema
 
--- what attaching leaves: it fails only where the count of faults rose, and another schema is told where the one that
--- is stored differs; a refused store isn't attached
-pub record Attaches (old new : KeeperSeen) (name : Option (List ℕ)) (schema : List ℕ) (result : Result (Unit {0}) AttachFault) : Type 0 where
+-- what attaching leaves: it fails only where the count of faults rose, and another schema is told
+-- where the one that is stored differs; a refused store isn't attached
+pub record Attaches (old new : KeeperSeen) (name : Option (List ℕ)) (schema : List ℕ)
+    (result : Result (Unit {0}) AttachFault) : Type 0 where
   pub later : old.faults ≤ new.faults
   pub called : IsTrue new.store.called
   pub ok : OnOk result (Opens old new name schema)

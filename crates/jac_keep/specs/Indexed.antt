@@ -29,7 +29,8 @@ index_at m t = get nat_cmp t.models m
 
 -- where there is an index of a model it is one of its table
 abbrev pub AreIndexesOf : List (List Row) → TableIndexes → Type 0
-AreIndexesOf tables t = (m : ℕ) (x : TableIndex) → index_at m t ≡ Some x → IsIndexOf (rows_of tables m) x
+AreIndexesOf tables t = (m : ℕ) (x : TableIndex) → index_at m t ≡ Some x
+    → IsIndexOf (rows_of tables m) x
 
 -- the same of indexes that may not have been made yet
 abbrev pub AreIndexesIfMade : List (List Row) → Option TableIndexes → Type 0

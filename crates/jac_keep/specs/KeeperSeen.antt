@@ -7,8 +7,8 @@ use Rattle.jac_rows.specs.Good.{IsSound}
 use Rattle.jac_keep.specs.declared.stop.Stop.{Stop}
 use Rattle.jac_keep.specs.declared.stop.Stop.TheVariants.{Keeper}
 
--- a store as its keeper has it: whether it was asked to attach, whether it is attached and may be called, the schema of
--- what is stored, where there is one, and the name that it was attached under
+-- a store as its keeper has it: whether it was asked to attach, whether it is attached and may be
+-- called, the schema of what is stored, where there is one, and the name that it was attached under
 pub record Store : Type 0 where
   pub called : Bool
   pub attached : Bool

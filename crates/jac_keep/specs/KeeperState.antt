@@ -13,8 +13,8 @@ use Rattle.jac_keep.specs.Schema.{IsSchema, IsFit, empties}
 use Rattle.jac_keep.specs.declared.alteration.Change.{Change}
 use Rattle.jac_keep.specs.declared.table_indexes.TableIndexes.{TableIndexes}
 
--- the state, its store, the reads and the applies that are to fail, and how many of each there were and how many
--- calls failed
+-- the state, its store, the reads and the applies that are to fail, and how many of each there were
+-- and how many calls failed
 pub record KeeperState : Type 0 where
   pub state : State
   pub store : Store
@@ -52,7 +52,8 @@ seen_keeper k = record { tells = true; state = k.state; faults = k.faults; store
 -- what is stored may be attached: it fits its schema, or there is none and no table
 abbrev pub IsStored : Option (List ℕ) → State → Type 0
 IsStored None s = (s.tables ≡ []) × IsNext s.number
-IsStored (Some schema) s = ((shapes : List ModelShape) × IsSchema schema shapes) × ((shapes : List ModelShape) → IsSchema schema shapes → IsFit shapes s)
+IsStored (Some schema) s = ((shapes : List ModelShape) × IsSchema schema shapes)
+    × ((shapes : List ModelShape) → IsSchema schema shapes → IsFit shapes s)
 
 -- its state is sound, and may be attached as long as nobody tried to; its indexes are of its tables
 pub record IsKeeping (state : State) (store : Store) (indexes : Option TableIndexes) : Type 0 where

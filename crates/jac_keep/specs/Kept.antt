@@ -7,7 +7,10 @@ use Rattle.jac_keep.specs.Alterations.{overlaid}
 
 -- the state with these rows in place of a record's alternatives
 abbrev pub state_with : ℕ → List Row → State → State
-state_with id rows s = record s { tables = overlaid (record { id = id; rows = rows } ∷ []) s.tables }
+state_with id rows s = record s {
+  tables = overlaid (record { id = id; rows = rows } ∷ [])
+      s.tables;
+}
 
 -- the state after a change: the named records are replaced and the number is set
 abbrev pub applied : Change → State → State

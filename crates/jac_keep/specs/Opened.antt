@@ -13,7 +13,8 @@ rows_in (o ∷ rest) = o.rows.items ∷ rows_in rest
 
 abbrev pub rows_after : Bool → List Opened → List (List Row)
 rows_after ready [] = []
-rows_after ready (o ∷ rest) = (if ready then placed_each o.news.items o.rows.items else o.rows.items) ∷ rows_after ready rest
+rows_after ready (o ∷ rest) = (if ready then placed_each o.news.items o.rows.items
+    else o.rows.items) ∷ rows_after ready rest
 
 -- the alterations of the model are at hand, and there is room for their rows
 pub record IsReady (model : ℕ) (changed : List Alteration) (o : Opened) : Type 0 where

@@ -16,7 +16,8 @@ widened models s = record s { tables = s.tables ++ empties (models - length s.ta
 -- the change is applied, the schema stored, and each model that it adds has an empty table
 pub record IsReshaped (old new : KeeperSeen) (change : Change) (schema : List ℕ) : Type 0 where
   pub store : new.store ≡ record old.store { schema = Some schema }
-  pub state : IsTrue new.tells → (shapes : List ModelShape) → IsSchema schema shapes → new.state ≡ widened (length shapes) (applied change old.state)
+  pub state : IsTrue new.tells → (shapes : List ModelShape) → IsSchema schema shapes
+      → new.state ≡ widened (length shapes) (applied change old.state)
 
 -- the state and the schema are as they were
 pub record IsUnshaped (old new : KeeperSeen) : Type 0 where
@@ -24,7 +25,8 @@ pub record IsUnshaped (old new : KeeperSeen) : Type 0 where
   pub same_state : IsTrue new.tells → new.state ≡ old.state
 
 -- it is all or nothing, and fails only where the count of faults rose
-pub record Reshapes (old new : KeeperSeen) (change : Change) (schema : List ℕ) (result : Result (Unit {0}) Stop) : Type 0 where
+pub record Reshapes (old new : KeeperSeen) (change : Change) (schema : List ℕ)
+    (result : Result (Unit {0}) Stop) : Type 0 where
   pub cause : HasCause old.faults new.faults result
   pub told : IsTrue new.tells → IsTrue old.tells
   pub ok : OnOk result (IsReshaped old new change schema)

@@ -19,7 +19,8 @@ count (PlainTrees.more t ts) = count ts + 1
 -- what each tree is read as, where all can be read
 abbrev pub each_of : {A : Type 0} → (PlainTree → Option A) → PlainTrees → Option (List A)
 each_of read PlainTrees.none = Some []
-each_of read (PlainTrees.more t ts) = option_and_then (λ first. option_map (λ rest. first ∷ rest) (each_of read ts)) (read t)
+each_of read (PlainTrees.more t ts) = option_and_then (λ first. option_map (λ rest. first ∷ rest)
+    (each_of read ts)) (read t)
 
 -- the tree is this word, as an atom
 abbrev pub is_word : List ℕ → PlainTree → Bool
@@ -53,7 +54,8 @@ begins_with name (Some (PlainTrees.more x parts)) = is_word name x
 -- the place of the first model of this name, where the first of these trees has the place k
 abbrev pub place_from : ℕ → List ℕ → PlainTrees → Option ℕ
 place_from k name PlainTrees.none = None
-place_from k name (PlainTrees.more t ts) = if begins_with name (behind (codes "model") t) then Some k else place_from (k + 1) name ts
+place_from k name (PlainTrees.more t ts) = if begins_with name (behind (codes "model") t)
+    then Some k else place_from (k + 1) name ts
 
 -- the place of the model that a tree names
 abbrev pub place_named : PlainTrees → PlainTree → Option ℕ
@@ -80,12 +82,14 @@ kind_of models t = option_and_then (reference models) (behind (codes "ref") t)
 
 -- `(NAME KIND)`
 abbrev pub kind_of_field : PlainTrees → PlainTree → Option Kind
-kind_of_field models (PlainTree.list (PlainTrees.more x (PlainTrees.more k PlainTrees.none))) = if is_named x then kind_of models k else None
+kind_of_field models (PlainTree.list (PlainTrees.more x (PlainTrees.more k PlainTrees.none))) =
+    if is_named x then kind_of models k else None
 kind_of_field models t = None
 
 -- `(fields (NAME KIND) ..)`
 abbrev pub kinds_of_fields : PlainTrees → PlainTree → Option (List Kind)
-kinds_of_fields models t = option_and_then (each_of (kind_of_field models)) (behind (codes "fields") t)
+kinds_of_fields models t = option_and_then (each_of (kind_of_field models))
+    (behind (codes "fields") t)
 
 -- `hides`, or `(FIELD ..)`: the fields that a group guards
 abbrev pub is_group : PlainTree → Bool
@@ -110,7 +114,8 @@ starts_nested (PlainTrees.more n ts) = is_word (codes "nested") n
 -- the trees, without the atom `nested` in front
 abbrev pub behind_nested : PlainTrees → PlainTrees
 behind_nested PlainTrees.none = PlainTrees.none
-behind_nested (PlainTrees.more n ts) = if is_word (codes "nested") n then ts else PlainTrees.more n ts
+behind_nested (PlainTrees.more n ts) = if is_word (codes "nested") n then ts
+    else PlainTrees.more n ts
 
 -- `(fields ..) (groups ..)`
 abbrev pub kinds_of_lists : PlainTrees → PlainTrees → Option (List Kind)
@@ -121,7 +126,8 @@ kinds_of_lists models ts = None
 -- `NAME nested? (fields ..) (groups ..)`
 abbrev pub kinds_of_parts : PlainTrees → PlainTrees → Option (List Kind)
 kinds_of_parts models PlainTrees.none = None
-kinds_of_parts models (PlainTrees.more x ts) = if is_named x then kinds_of_lists models (behind_nested ts) else None
+kinds_of_parts models (PlainTrees.more x ts) = if is_named x
+    then kinds_of_lists models (behind_nested ts) else None
 
 -- whether a model's parts, behind the word `model`, have the atom `nested` behind the name
 abbrev pub is_nested_in : Option PlainTrees → Bool
@@ -131,7 +137,8 @@ is_nested_in (Some (PlainTrees.more x ts)) = starts_nested ts
 
 abbrev pub nested_of_models : PlainTrees → List Bool
 nested_of_models PlainTrees.none = []
-nested_of_models (PlainTrees.more t ts) = is_nested_in (behind (codes "model") t) ∷ nested_of_models ts
+nested_of_models (PlainTrees.more t ts) = is_nested_in (behind (codes "model") t) ∷ nested_of_models
+    ts
 
 -- `(model NAME nested? (fields ..) (groups ..))`
 abbrev pub kinds_of_model : PlainTrees → PlainTree → Option (List Kind)
@@ -139,9 +146,11 @@ kinds_of_model models t = option_and_then (kinds_of_parts models) (behind (codes
 
 -- at most 64 models
 abbrev pub kinds_of_models : PlainTrees → Option (List (List Kind))
-kinds_of_models models = if nat_le (count models) 64 then each_of (kinds_of_model models) models else None
+kinds_of_models models = if nat_le (count models) 64 then each_of (kinds_of_model models) models
+    else None
 
--- the kinds of the fields of each model of `(schema (model NAME nested? (fields (NAME KIND) ..) (groups GROUP ..)) ..)`
+-- the kinds of the fields of each model of `(schema (model NAME nested? (fields (NAME KIND) ..)
+-- (groups GROUP ..)) ..)`
 abbrev pub kinds_of_schema : PlainTree → Option (List (List Kind))
 kinds_of_schema t = option_and_then kinds_of_models (behind (codes "schema") t)
 

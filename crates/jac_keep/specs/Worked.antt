@@ -11,7 +11,10 @@ use Rattle.jac_keep.specs.KeeperSeen.{KeeperSeen, IsLeft}
 
 -- the state of a work: the keeper's, with the replaced records
 abbrev pub state_of : {K : Type 0} → (K → KeeperSeen) → WorkOver K Alterations → State
-state_of seen w = record (seen w.keeper.now).state { tables = overlaid w.over (seen w.keeper.now).state.tables }
+state_of seen w = record (seen w.keeper.now).state {
+  tables = overlaid w.over
+      (seen w.keeper.now).state.tables;
+}
 
 -- the keeper tells its state, and each replaced record has a table there
 pub record IsTold {K : Type 0} (seen : K → KeeperSeen) (w : WorkOver K Alterations) : Type 0 where
@@ -19,12 +22,14 @@ pub record IsTold {K : Type 0} (seen : K → KeeperSeen) (w : WorkOver K Alterat
   pub placed : ArePlaced w.over (length (seen w.keeper.now).state.tables)
 
 -- a call that writes leaves the keeper as it was to contracts
-pub record LeavesKeeper {K : Type 0} (seen : K → KeeperSeen) (old new : WorkOver K Alterations) : Type 0 where
+pub record LeavesKeeper {K : Type 0} (seen : K → KeeperSeen) (old new : WorkOver K Alterations) :
+    Type 0 where
   pub same_reference : new.keeper.ghost_name ≡ old.keeper.ghost_name
   pub same_seen : seen new.keeper.now ≡ seen old.keeper.now
 
 -- a call that reads leaves the replaced records too, and the state that it tells afterwards
-pub record IsUntouched {K : Type 0} (seen : K → KeeperSeen) (old new : WorkOver K Alterations) : Type 0 where
+pub record IsUntouched {K : Type 0} (seen : K → KeeperSeen) (old new : WorkOver K Alterations) :
+    Type 0 where
   pub same_reference : new.keeper.ghost_name ≡ old.keeper.ghost_name
   pub same_over : new.over ≡ old.over
   pub keeper : IsLeft (seen old.keeper.now) (seen new.keeper.now)
@@ -32,12 +37,14 @@ pub record IsUntouched {K : Type 0} (seen : K → KeeperSeen) (old new : WorkOve
   pub same_state : IsTold seen new → state_of seen new ≡ state_of seen old
 
 -- and the count of faults rose where the keeper stopped it
-pub record ReadsWork {T K : Type 0} (seen : K → KeeperSeen) (old new : WorkOver K Alterations) (result : Result T Stop) : Type 0 where
+pub record ReadsWork {T K : Type 0} (seen : K → KeeperSeen) (old new : WorkOver K Alterations)
+    (result : Result T Stop) : Type 0 where
   pub same : IsUntouched seen old new
   pub rose : IsErrOf result Keeper → Rose (seen old.keeper.now).faults (seen new.keeper.now).faults
 
 -- what a call that also writes keeps: the keeper as a reading call leaves it
-pub record WritesWork {T K : Type 0} (seen : K → KeeperSeen) (old new : WorkOver K Alterations) (result : Result T Stop) : Type 0 where
+pub record WritesWork {T K : Type 0} (seen : K → KeeperSeen) (old new : WorkOver K Alterations)
+    (result : Result T Stop) : Type 0 where
   pub same_reference : new.keeper.ghost_name ≡ old.keeper.ghost_name
   pub keeper : IsLeft (seen old.keeper.now) (seen new.keeper.now)
   pub rose : IsErrOf result Keeper → Rose (seen old.keeper.now).faults (seen new.keeper.now).faults

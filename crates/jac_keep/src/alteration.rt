@@ -139,9 +139,13 @@ fn put_in(changed: &mut Vec<Alteration>, id: Id, rows: Rows) -> Result<(), Memor
 // Where the record's alteration stands, or where it would.
 fn place_of(items: &[Alteration], id: Id) -> Result<usize, usize>
     requires { IsRisingBy (λ (a : Named). a.id) items.now }
-    ensures within { MatchResult result (λ at. at < length items.now) (λ at. at ≤ length items.now) }
-    ensures place { MatchResult result (λ at. (rows : List Seen) → renamed id rows items.now ≡ slice_set items.now at (record { id = id; rows = rows })) (λ at. (rows : List Seen) → renamed id rows items.now ≡ insert items.now at (record { id = id; rows = rows })) }
-    ensures named { MatchResult result (λ at. HoldsAt (λ (a : Named). named id items.now ≡ Some a.rows) items.now at) (λ _. named id items.now ≡ None) }
+    ensures within { MatchResult result (λ at. at < length items.now)
+        (λ at. at ≤ length items.now) }
+    ensures place { MatchResult result (λ at. (rows : List Seen) → renamed id rows items.now
+        ≡ slice_set items.now at (record { id = id; rows = rows })) (λ at. (rows : List Seen)
+        → renamed id rows items.now ≡ insert items.now at (record { id = id; rows = rows })) }
+    ensures named { MatchResult result (λ at. HoldsAt (λ (a : Named). named id items.now
+        ≡ Some a.rows) items.now at) (λ _. named id items.now ≡ None) }
 {
     let at = count_below(items, id);
     if at == items.len() {
@@ -154,7 +158,8 @@ fn place_of(items: &[Alteration], id: Id) -> Result<usize, usize>
 fn count_below(items: &[Alteration], id: Id) -> usize
     requires { IsRisingBy (λ (a : Named). a.id) items.now }
     ensures within { result ≤ length items.now }
-    ensures point { IsPartitionPoint (λ (a : Named). nat_lt a.id id ≡ true) (λ a. nat_lt a.id id ≡ false) items.now result }
+    ensures point { IsPartitionPoint (λ (a : Named). nat_lt a.id id ≡ true) (λ a. nat_lt a.id id
+        ≡ false) items.now result }
 {
     items.partition_point(|alteration| alteration.id < id)
 }

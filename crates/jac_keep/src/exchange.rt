@@ -18,13 +18,14 @@ pub fn place(rows: &mut Vec<Row>, id: Id, new: Vec<Row>)
     exchange(rows, start, start + count, new);
 }
 
-// Puts these rows in place of those from `start` to `end`. As many as these are overwritten, so that rows that
-// stand behind them move only where the numbers differ.
+// Puts these rows in place of those from `start` to `end`. As many as these are overwritten, so
+// that rows that stand behind them move only where the numbers differ.
 fn exchange(rows: &mut Vec<Row>, start: usize, end: usize, new: Vec<Row>)
     requires order { start ≤ end }
     requires within { end ≤ vec_len rows.old }
     requires room { vec_len rows.old + vec_len new ≤ vec_capacity rows.old }
-    ensures exchanged { rows.new.items ≡ take start rows.old.items ++ new.items ++ drop end rows.old.items }
+    ensures exchanged { rows.new.items ≡ take start rows.old.items ++ new.items ++ drop end
+        rows.old.items }
     ensures grown { vec_len rows.new ≤ vec_len rows.old + vec_len new }
     ensures capacity { vec_capacity rows.new ≡ vec_capacity rows.old }
 {
@@ -37,8 +38,8 @@ fn exchange(rows: &mut Vec<Row>, start: usize, end: usize, new: Vec<Row>)
     drop(rows.drain(at..end));
 }
 
-// Puts the row at `at`: over the one that stands there, or before `end` where `at` is all that is left. It
-// gives where the rows behind stand then.
+// Puts the row at `at`: over the one that stands there, or before `end` where `at` is all that is
+// left. It gives where the rows behind stand then.
 fn put_row(rows: &mut Vec<Row>, at: usize, end: usize, row: Row) -> usize
     requires order { at ≤ end }
     requires within { end ≤ vec_len rows.old }

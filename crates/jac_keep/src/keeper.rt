@@ -15,27 +15,31 @@ use std::alloc::Global;
 
 /// What keeps a faceted state.
 pub trait Keeper {
-    /// What contracts see of it. Its state says nothing where it isn't told, and its count of faults never
-    /// falls, and stands still at 2^64 - 1.
+    /// What contracts see of it. Its state says nothing where it isn't told, and its count of
+    /// faults never falls, and stands still at 2^64 - 1.
     ghost seen: { Self → KeeperSeen };
 
     /// The number of the next accepted request.
     fn number(&mut self) -> Result<u64, Stop>
         requires { IsTrue (seen self.old).store.attached }
-        ensures exact { IsTrue (seen self.new).tells → IfOk result (λ n. n ≡ (seen self.old).state.number) }
+        ensures exact { IsTrue (seen self.new).tells
+            → IfOk result (λ n. n ≡ (seen self.old).state.number) }
         ensures in_range { IfOk result (λ n. (1 ≤ n) × (n ≤ 2 ^ 40)) }
         ensures reads { Reads (seen self.old) (seen self.new) result };
 
     /// All rows of the model, by rising id.
     fn rows(&mut self, alloc: Global, model: u8) -> Result<Rows, Stop>
         requires { IsTrue (seen self.old).store.attached }
-        ensures exact { IsTrue (seen self.new).tells → IfOk result (λ rows. rows ≡ rows_of (seen self.old).state.tables model) }
+        ensures exact { IsTrue (seen self.new).tells
+            → IfOk result (λ rows. rows ≡ rows_of (seen self.old).state.tables model) }
         ensures reads { Reads (seen self.old) (seen self.new) result };
 
     /// The alternatives of one record.
     fn one(&mut self, alloc: Global, id: Id) -> Result<Rows, Stop>
         requires { IsTrue (seen self.old).store.attached }
-        ensures exact { IsTrue (seen self.new).tells → IfOk result (λ rows. rows ≡ alternatives id (rows_of (seen self.old).state.tables (model_of_id id))) }
+        ensures exact { IsTrue (seen self.new).tells
+            → IfOk result (λ rows. rows ≡ alternatives id (rows_of (seen self.old).state.tables
+            (model_of_id id))) }
         ensures reads { Reads (seen self.old) (seen self.new) result };
 
     /// All alternatives of each record of the model of which one has the value at the field.
@@ -47,14 +51,19 @@ pub trait Keeper {
         value: &Value,
     ) -> Result<Rows, Stop>
         requires { IsTrue (seen self.old).store.attached }
-        ensures exact { IsTrue (seen self.new).tells → IfOk result (λ rows. rows ≡ holders field value.now (rows_of (seen self.old).state.tables model)) }
+        ensures exact { IsTrue (seen self.new).tells
+            → IfOk result (λ rows. rows ≡ holders field value.now
+            (rows_of (seen self.old).state.tables model)) }
         ensures reads { Reads (seen self.old) (seen self.new) result };
 
     /// Replaces the named records and sets the number, all or nothing.
     fn apply(&mut self, alloc: Global, change: &Change) -> Result<(), Stop>
         requires attached { IsTrue (seen self.old).store.attached }
-        requires good { IsTrue (seen self.old).tells → IsSound (applied change.now (seen self.old).state) }
-        ensures exact { IsTrue (seen self.new).tells → OnOk result ((seen self.new).state ≡ applied change.now (seen self.old).state) }
-        ensures refused { IsTrue (seen self.new).tells → OnErr result ((seen self.new).state ≡ (seen self.old).state) }
+        requires good { IsTrue (seen self.old).tells
+            → IsSound (applied change.now (seen self.old).state) }
+        ensures exact { IsTrue (seen self.new).tells
+            → OnOk result ((seen self.new).state ≡ applied change.now (seen self.old).state) }
+        ensures refused { IsTrue (seen self.new).tells
+            → OnErr result ((seen self.new).state ≡ (seen self.old).state) }
         ensures kept { Keeps (seen self.old) (seen self.new) result };
 }

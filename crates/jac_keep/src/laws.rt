@@ -14,12 +14,18 @@ pub fn sound_if_good()
     ensures { (shapes : List ModelShape) (s : State) → IsGoodByGuards shapes s → IsSound s }
 {}
 
-/// A law: a change leaves a sound state where its alternatives may stand and the number doesn't fall.
+/// A law: a change leaves a sound state where its alternatives may stand and the number doesn't
+/// fall.
 pub fn sound_after_change()
-    ensures { (c : Changed) (s : State) → IsSound s → s.number ≤ c.number → c.number ≤ 2 ^ 40 → AllStand c.number c.changed → IsSound (applied c s) }
+    ensures { (c : Changed) (s : State) → IsSound s → s.number ≤ c.number → c.number ≤ 2 ^ 40
+        → AllStand c.number c.changed → IsSound (applied c s) }
 {}
 
-/// A law: after a change a record has its new alternatives if it is named, and else those that it had.
+/// A law: after a change a record has its new alternatives if it is named, and else those that it
+/// had.
 pub fn record_after_change()
-    ensures { (c : Changed) (s : State) (id : ℕ) → AreApart c.changed → ArePlaced c.changed (length s.tables) → alternatives id (rows_of (applied c s).tables (model_of_id id)) ≡ unwrap_or (named id c.changed) (alternatives id (rows_of s.tables (model_of_id id))) }
+    ensures { (c : Changed) (s : State) (id : ℕ) → AreApart c.changed
+        → ArePlaced c.changed (length s.tables)
+        → alternatives id (rows_of (applied c s).tables (model_of_id id)) ≡ unwrap_or
+        (named id c.changed) (alternatives id (rows_of s.tables (model_of_id id))) }
 {}

@@ -47,7 +47,8 @@ fn add_masked(
     field: u8,
     value: &Value,
 ) -> Result<(), Memory>
-    ensures { OnOk result (out.new.items ≡ out.old.items ++ masked field value.now (alteration.now ∷ [])) }
+    ensures { OnOk result (out.new.items ≡ out.old.items ++ masked field value.now
+        (alteration.now ∷ [])) }
 {
     let rows = masked_rows(alloc, &alteration.rows, field, value)?;
     out.push(Alteration {

@@ -26,8 +26,9 @@ use jac_value::{Id, Memory, Txt, Value, id_model};
 use std::alloc::Global;
 use std::marker::Model;
 
-/// A keeper in memory, which tells its state. A call fails where it is a listed one. Reads are the calls of
-/// `number`, `rows`, `rows_with` and `one`; they are counted apart from the applies, a reshape among these, from 1.
+/// A keeper in memory, which tells its state. A call fails where it is a listed one. Reads are the
+/// calls of `number`, `rows`, `rows_with` and `one`; they are counted apart from the applies, a
+/// reshape among these, from 1.
 #[derive(Debug, Drop)]
 pub struct MemoryKeeper {
     called: bool,
@@ -57,7 +58,8 @@ impl Model for MemoryKeeper {
 impl MemoryKeeper {
     ghost use Rattle.jac_keep.specs.KeeperState.{IsStored, opened, unopened};
 
-    /// A keeper that wasn't attached yet: it has what is stored under the schema, and without one a new store.
+    /// A keeper that wasn't attached yet: it has what is stored under the schema, and without one a
+    /// new store.
     pub fn new(
         state: State,
         schema: Option<Txt>,
@@ -65,7 +67,15 @@ impl MemoryKeeper {
         fail_applies: Calls,
     ) -> MemoryKeeper
         requires { IsStored schema state }
-        ensures { result ≡ record { state = state; store = unopened schema; fail_reads = fail_reads; fail_applies = fail_applies; reads = 0; applies = 0; faults = 0 } }
+        ensures { result ≡ record {
+          state = state;
+          store = unopened schema;
+          fail_reads = fail_reads;
+          fail_applies = fail_applies;
+          reads = 0;
+          applies = 0;
+          faults = 0;
+        } }
     {
         MemoryKeeper {
             called: false,
@@ -85,7 +95,15 @@ impl MemoryKeeper {
     /// A keeper that may be called at once, without a schema.
     pub fn attached(state: State, fail_reads: Calls, fail_applies: Calls) -> MemoryKeeper
         requires { IsSound state }
-        ensures { result ≡ record { state = state; store = opened; fail_reads = fail_reads; fail_applies = fail_applies; reads = 0; applies = 0; faults = 0 } }
+        ensures { result ≡ record {
+          state = state;
+          store = opened;
+          fail_reads = fail_reads;
+          fail_applies = fail_applies;
+          reads = 0;
+          applies = 0;
+          faults = 0;
+        } }
     {
         MemoryKeeper {
             called: true,
@@ -177,7 +195,8 @@ impl Keeper for MemoryKeeper {
     fn one(&mut self, alloc: Global, id: Id) -> Result<Rows, Stop>
         ensures left { self.new ≡ after_read self.old }
         ensures stopped { IsErrOf result Stop.Keeper ↔ IsTrue (read_fails self.old) }
-        ensures exact { IfOk result (λ rows. rows ≡ alternatives id (rows_of self.old.state.tables (model_of_id id))) }
+        ensures exact { IfOk result (λ rows. rows ≡ alternatives id (rows_of self.old.state.tables
+            (model_of_id id))) }
         ensures reads { Reads (seen_keeper self.old) (seen_keeper self.new) result }
     {
         self.count_read()?;
@@ -194,7 +213,8 @@ impl Keeper for MemoryKeeper {
     ) -> Result<Rows, Stop>
         ensures left { self.new ≡ after_read self.old }
         ensures stopped { IsErrOf result Stop.Keeper ↔ IsTrue (read_fails self.old) }
-        ensures exact { IfOk result (λ rows. rows ≡ holders field value.now (rows_of self.old.state.tables model)) }
+        ensures exact { IfOk result (λ rows. rows ≡ holders field value.now
+            (rows_of self.old.state.tables model)) }
         ensures reads { Reads (seen_keeper self.old) (seen_keeper self.new) result }
     {
         self.count_read()?;
@@ -205,7 +225,8 @@ impl Keeper for MemoryKeeper {
     fn apply(&mut self, alloc: Global, change: &Change) -> Result<(), Stop>
         requires attached { IsTrue self.old.store.attached }
         requires good { IsSound (applied change.now self.old.state) }
-        ensures ok { OnOk result (self.new ≡ record (after_apply self.old) { state = applied change.now self.old.state }) }
+        ensures ok { OnOk result (self.new ≡ record (after_apply self.old)
+            { state = applied change.now self.old.state }) }
         ensures err { OnErr result (self.new ≡ after_apply self.old) }
         ensures stopped { IsErrOf result Stop.Keeper ↔ IsTrue (apply_fails self.old) }
         ensures kept { Keeps (seen_keeper self.old) (seen_keeper self.new) result }
@@ -225,11 +246,15 @@ impl Vault for MemoryKeeper {
     fn attach(&mut self, alloc: Global, name: Option<&Txt>, schema: &Txt) -> Result<(), AttachFault>
         requires first { self.old.store.called ≡ false }
         requires schema { (shapes : List ModelShape) × IsSchema schema.now shapes }
-        ensures ok { OnOk result ((shapes : List ModelShape) → IsSchema schema.now shapes → self.new ≡ after_attach (option_copied name.entry) schema.now (length shapes) self.old) }
+        ensures ok { OnOk result ((shapes : List ModelShape) → IsSchema schema.now shapes
+            → self.new ≡ after_attach (option_copied name.entry) schema.now (length shapes)
+            self.old) }
         ensures err { OnErr result (self.new ≡ after_refusal self.old) }
         ensures never_failed { ¬ (result ≡ Err Failed) }
-        ensures other { (stored : List ℕ) → result ≡ Err (Other stored) → (self.old.store.schema ≡ Some stored) × ¬ (stored ≡ schema.now) }
-        ensures attaches { Attaches (seen_keeper self.old) (seen_keeper self.new) (option_copied name.entry) schema.now result }
+        ensures other { (stored : List ℕ) → result ≡ Err (Other stored)
+            → (self.old.store.schema ≡ Some stored) × ¬ (stored ≡ schema.now) }
+        ensures attaches { Attaches (seen_keeper self.old) (seen_keeper self.new)
+            (option_copied name.entry) schema.now result }
     {
         self.called = true;
         let name = copy_name(alloc, name)?;
@@ -249,11 +274,15 @@ impl Vault for MemoryKeeper {
     fn reshape(&mut self, alloc: Global, change: &Change, schema: &Txt) -> Result<(), Stop>
         requires attached { IsTrue self.old.store.attached }
         requires schema { (shapes : List ModelShape) × IsSchema schema.now shapes
-            × (IsTrue (seen_keeper self.old).tells → IsFit shapes (widened (length shapes) (applied change.now (seen_keeper self.old).state))) }
-        ensures ok { OnOk result ((shapes : List ModelShape) → IsSchema schema.now shapes → self.new ≡ after_reshape change.now schema.now (length shapes) self.old) }
+            × (IsTrue (seen_keeper self.old).tells
+            → IsFit shapes
+            (widened (length shapes) (applied change.now (seen_keeper self.old).state))) }
+        ensures ok { OnOk result ((shapes : List ModelShape) → IsSchema schema.now shapes
+            → self.new ≡ after_reshape change.now schema.now (length shapes) self.old) }
         ensures err { OnErr result (self.new ≡ after_apply self.old) }
         ensures stopped { IsErrOf result Stop.Keeper ↔ IsTrue (apply_fails self.old) }
-        ensures reshapes { Reshapes (seen_keeper self.old) (seen_keeper self.new) change.now schema.now result }
+        ensures reshapes { Reshapes (seen_keeper self.old) (seen_keeper self.new) change.now
+            schema.now result }
     {
         self.count_apply()?;
         let models = count_models(alloc, schema)?;
@@ -270,7 +299,16 @@ impl MemoryKeeper {
     // A new store begins with what was made for it.
     fn begin(&mut self, name: Option<Txt>, made: Made)
         requires { IsSound (record self.old.state { tables = made.tables }) }
-        ensures { self.new ≡ record self.old { state = record self.old.state { tables = made.tables }; store = record { called = true; attached = true; schema = Some made.schema; name = name } } }
+        ensures { self.new ≡ record self.old {
+          state = record self.old.state
+              { tables = made.tables };
+          store = record {
+            called = true;
+            attached = true;
+            schema = Some made.schema;
+            name = name;
+          };
+        } }
     {
         self.state.tables = made.tables;
         self.indexes = None;
@@ -282,7 +320,14 @@ impl MemoryKeeper {
 
     // What is stored stays.
     fn reopen(&mut self, name: Option<Txt>)
-        ensures { self.new ≡ record self.old { store = record { called = true; attached = true; schema = self.old.store.schema; name = name } } }
+        ensures { self.new ≡ record self.old {
+          store = record {
+            called = true;
+            attached = true;
+            schema = self.old.store.schema;
+            name = name;
+          };
+        } }
     {
         self.name = name;
         self.called = true;
@@ -301,10 +346,13 @@ struct Made {
 fn made_for(alloc: Global, stored: &Option<Txt>, schema: &Txt) -> Result<Option<Made>, AttachFault>
     requires { (shapes : List ModelShape) × IsSchema schema.now shapes }
     ensures known { IfOk result (λ made. made ≡ None → stored.now ≡ Some schema.now) }
-    ensures new { IfOk result (λ made. IfSome made (λ m. (stored.now ≡ None) × (m.schema ≡ schema.now))) }
-    ensures tables { IfOk result (λ made. IfSome made (λ m. (shapes : List ModelShape) → IsSchema schema.now shapes → m.tables ≡ empties (length shapes))) }
+    ensures new { IfOk result (λ made. IfSome made (λ m. (stored.now ≡ None)
+        × (m.schema ≡ schema.now))) }
+    ensures tables { IfOk result (λ made. IfSome made (λ m. (shapes : List ModelShape)
+        → IsSchema schema.now shapes → m.tables ≡ empties (length shapes))) }
     ensures never_failed { ¬ (result ≡ Err Failed) }
-    ensures other { (text : List ℕ) → result ≡ Err (Other text) → (stored.now ≡ Some text) × ¬ (text ≡ schema.now) }
+    ensures other { (text : List ℕ) → result ≡ Err (Other text) → (stored.now ≡ Some text)
+        × ¬ (text ≡ schema.now) }
 {
     match stored {
         Some(stored) => {
@@ -326,7 +374,8 @@ fn made_for(alloc: Global, stored: &Option<Txt>, schema: &Txt) -> Result<Option<
 // An empty table for each model of the schema.
 fn new_tables(alloc: Global, schema: &Txt) -> Result<Tables, Memory>
     requires { (shapes : List ModelShape) × IsSchema schema.now shapes }
-    ensures { IfOk result (λ tables. (shapes : List ModelShape) → IsSchema schema.now shapes → tables ≡ empties (length shapes)) }
+    ensures { IfOk result (λ tables. (shapes : List ModelShape) → IsSchema schema.now shapes
+        → tables ≡ empties (length shapes)) }
 {
     let models = count_models(alloc, schema)?;
     let room = Vec::with_capacity(alloc, models)?;
@@ -336,7 +385,8 @@ fn new_tables(alloc: Global, schema: &Txt) -> Result<Tables, Memory>
 // How many models the schema has.
 fn count_models(alloc: Global, schema: &Txt) -> Result<usize, Memory>
     requires { (shapes : List ModelShape) × IsSchema schema.now shapes }
-    ensures { IfOk result (λ models. (shapes : List ModelShape) → IsSchema schema.now shapes → models ≡ length shapes) }
+    ensures { IfOk result (λ models. (shapes : List ModelShape) → IsSchema schema.now shapes
+        → models ≡ length shapes) }
 {
     match shape_of(alloc, schema)? {
         Some(shape) => Ok(shape.kinds.as_slice().len()),
@@ -356,8 +406,8 @@ fn copy_name(alloc: Global, name: Option<&Txt>) -> Result<Option<Txt>, Memory>
     }
 }
 
-// All alternatives of each record of which one has the value at the field. The first question for a field makes its
-// index.
+// All alternatives of each record of which one has the value at the field. The first question for a
+// field makes its index.
 fn find(
     alloc: Global,
     state: &State,
@@ -368,7 +418,8 @@ fn find(
 ) -> Result<Rows, Memory>
     requires sound { IsSound state.now }
     requires indexed { AreIndexesIfMade state.now.tables indexes.old }
-    ensures found { IfOk result (λ rows. rows ≡ holders field value.now (rows_of state.now.tables model)) }
+    ensures found { IfOk result (λ rows. rows ≡ holders field value.now
+        (rows_of state.now.tables model)) }
     ensures indexed { AreIndexesIfMade state.now.tables indexes.new }
 {
     let rows = state.tables.rows(model);
@@ -380,7 +431,8 @@ fn find(
 
 // The indexes, or none yet.
 fn take_indexes(alloc: Global, indexes: &mut Option<TableIndexes>) -> TableIndexes
-    ensures { (tables : List (List Seen)) → AreIndexesIfMade tables indexes.old → AreIndexesOf tables result }
+    ensures { (tables : List (List Seen)) → AreIndexesIfMade tables indexes.old
+        → AreIndexesOf tables result }
 {
     match indexes.take() {
         Some(made) => made,
@@ -390,7 +442,8 @@ fn take_indexes(alloc: Global, indexes: &mut Option<TableIndexes>) -> TableIndex
 
 // The indexes of the altered records' tables are gone.
 fn forget(indexes: &mut Option<TableIndexes>, changed: &[Alteration])
-    ensures { (tables : List (List Seen)) → AreIndexesIfMade tables indexes.old → AreIndexesIfMade (overlaid changed.now tables) indexes.new }
+    ensures { (tables : List (List Seen)) → AreIndexesIfMade tables indexes.old
+        → AreIndexesIfMade (overlaid changed.now tables) indexes.new }
 {
     match indexes {
         Some(made) => made.forget(changed),

@@ -22,8 +22,8 @@ pub struct Opened {
     pub news: Vec<Alteration>,
 }
 
-/// Alters the tables, all or none of them. All memory is taken before the first row moves, and no row is copied
-/// but those that are new.
+/// Alters the tables, all or none of them. All memory is taken before the first row moves, and no
+/// row is copied but those that are new.
 pub fn alter_tables(alloc: Global, tables: &mut Tables, changed: &Alterations) -> Result<(), Memory>
     requires rising { AreTables tables.old }
     requires stay { AreTables (overlaid changed.now tables.old) }
@@ -42,7 +42,8 @@ pub fn reshape_tables(
 ) -> Result<(), Memory>
     requires rising { AreTables tables.old }
     requires stay { AreTables (overlaid changed.now tables.old) }
-    ensures ok { OnOk result (tables.new ≡ overlaid changed.now tables.old ++ empties (models - length (overlaid changed.now tables.old))) }
+    ensures ok { OnOk result (tables.new ≡ overlaid changed.now tables.old ++ empties
+        (models - length (overlaid changed.now tables.old))) }
     ensures err { OnErr result (tables.new ≡ tables.old) }
 {
     let count = tables.as_slice().len();
@@ -128,8 +129,10 @@ fn close_all(opened: Vec<Opened>, ready: bool, closed: Vec<Table>) -> Vec<Table>
 // The table after its alterations if these are ready, else as it was.
 fn close(opened: Opened, ready: bool) -> Table
     requires can { IsTrue ready → CanPlace opened }
-    requires rising { AreRising (if ready then placed_each opened.news.items opened.rows.items else opened.rows.items) }
-    ensures { result ≡ (if ready then placed_each opened.news.items opened.rows.items else opened.rows.items) }
+    requires rising { AreRising (if ready then placed_each opened.news.items opened.rows.items
+        else opened.rows.items) }
+    ensures { result ≡ (if ready then placed_each opened.news.items opened.rows.items
+        else opened.rows.items) }
 {
     let Opened { rows, news } = opened;
     if ready {

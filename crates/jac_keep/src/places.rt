@@ -5,7 +5,8 @@ ghost use Rattle.jac_keep.specs.Records.{AreOrdered, with_id, alternatives, befo
 use jac_rows::Row;
 use jac_value::Id;
 
-/// Where a record's rows stand, or where they would: how many rows stand before them, and how many they are.
+/// Where a record's rows stand, or where they would: how many rows stand before them, and how many
+/// they are.
 #[derive(Clone, Copy)]
 pub struct Place {
     pub start: usize,

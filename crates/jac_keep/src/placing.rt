@@ -92,7 +92,8 @@ fn add_if_of(
     model: usize,
     alteration: &Alteration,
 ) -> Result<(), Memory>
-    ensures { OnOk result (copies.new.items ≡ copies.old.items ++ of_model model (alteration.now ∷ [])) }
+    ensures { OnOk result (copies.new.items ≡ copies.old.items ++ of_model model
+        (alteration.now ∷ [])) }
 {
     if usize::from(id_model(alteration.id)) == model {
         let copy = alteration.copy(alloc)?;

@@ -31,7 +31,9 @@ fn holding(alloc: Global, rows: &[Row], field: u8, value: &Value) -> Result<Risi
 
 // Adds the row's id if it has the value.
 fn add_if(ids: &mut RisingIds, row: &Row, field: u8, value: &Value) -> Result<(), Memory>
-    ensures { OnOk result ((k : ℕ) → shown ids.new k ≡ ((row.now.id == k && has_cell field value.now row.now) || shown ids.old k)) }
+    ensures { OnOk result ((k : ℕ)
+        → shown ids.new k ≡ ((row.now.id == k && has_cell field value.now row.now) || shown ids.old
+        k)) }
 {
     if has_cell(row, field, value) {
         ids.add(row.id)
@@ -68,7 +70,8 @@ fn add_if_among(
     row: &Row,
     ids: &RisingIds,
 ) -> Result<(), Memory>
-    ensures { OnOk result (found.new.items ≡ found.old.items ++ with_id (shown ids.now) (row.now ∷ [])) }
+    ensures { OnOk result (found.new.items ≡ found.old.items ++ with_id (shown ids.now)
+        (row.now ∷ [])) }
 {
     if ids.has(row.id) {
         let copy = row.copy(alloc)?;

@@ -15,12 +15,15 @@ use std::alloc::Global;
 // The most models that a schema has.
 const MODEL_LIMIT: u8 = 64;
 
-/// The shape of the stores that have this schema, where the text is one: a printed tree
-/// `(schema (model NAME nested? (fields (NAME KIND) ..) (groups GROUP ..)) ..)` of at most 64 models, in which a KIND is
-/// `int`, `text`, `bool` or `(ref NAME)`, and a GROUP is `hides` or the list of the fields that it guards.
+/// The shape of the stores that have this schema, where the text is one: a printed tree `(schema
+/// (model NAME nested? (fields (NAME KIND) ..) (groups GROUP ..)) ..)` of at most 64 models, in
+/// which a KIND is `int`, `text`, `bool` or `(ref NAME)`, and a GROUP is `hides` or the list of the
+/// fields that it guards.
 pub fn shape_of(alloc: Global, schema: &Txt) -> Result<Option<Shape>, Memory>
-    ensures shape { IfOk result (λ found. IfSome found (λ shape. IsSchema schema.now (shapes_by shape.kinds shape.nested))) }
-    ensures none { IfOk result (λ found. found ≡ None → (shapes : List ModelShape) → ¬ (IsSchema schema.now shapes)) }
+    ensures shape { IfOk result (λ found. IfSome found (λ shape. IsSchema schema.now
+        (shapes_by shape.kinds shape.nested))) }
+    ensures none { IfOk result (λ found. found ≡ None → (shapes : List ModelShape)
+        → ¬ (IsSchema schema.now shapes)) }
 {
     match read_text(alloc, schema) {
         Ok(tree) => {
@@ -33,7 +36,8 @@ pub fn shape_of(alloc: Global, schema: &Txt) -> Result<Option<Shape>, Memory>
 
 /// A law, with nothing to run: a text is the schema of one list of shapes at most.
 pub fn one_schema()
-    ensures { (text : List ℕ) (shapes others : List ModelShape) → IsSchema text shapes → IsSchema text others → shapes ≡ others }
+    ensures { (text : List ℕ) (shapes others : List ModelShape) → IsSchema text shapes
+        → IsSchema text others → shapes ≡ others }
 {}
 
 // A text that spells no tree of at most 64 levels is no schema.
@@ -53,7 +57,9 @@ fn without_tree(fault: TreeFault) -> Result<Option<Shape>, Memory>
 
 // The shape that a tree gives, where the text is what it is printed as.
 fn shape_of_printed(alloc: Global, text: &Txt, tree: &Tree) -> Result<Option<Shape>, Memory>
-    ensures { IfOk result (λ found. option_map (λ s. shapes_by s.kinds s.nested) found ≡ (if bytes_eq text.now (printed (plain tree.now)) then shapes_of_schema (plain tree.now) else None)) }
+    ensures { IfOk result (λ found. option_map (λ s. shapes_by s.kinds s.nested) found
+        ≡ (if bytes_eq text.now (printed (plain tree.now)) then shapes_of_schema (plain tree.now)
+        else None)) }
 {
     let printed = print_tree(alloc, tree)?;
     if text.as_bytes() == printed.as_slice() {
@@ -65,7 +71,8 @@ fn shape_of_printed(alloc: Global, text: &Txt, tree: &Tree) -> Result<Option<Sha
 }
 
 fn shape_of_schema(alloc: Global, tree: &Tree) -> Result<Option<Shape>, Memory>
-    ensures { IfOk result (λ found. option_map (λ s. shapes_by s.kinds s.nested) found ≡ shapes_of_schema (plain tree.now)) }
+    ensures { IfOk result (λ found. option_map (λ s. shapes_by s.kinds s.nested) found
+        ≡ shapes_of_schema (plain tree.now)) }
 {
     match kinds_of_schema(alloc, tree)? {
         Some(kinds) => {
@@ -173,7 +180,8 @@ fn is_up_to(trees: &Trees, most: u8) -> bool
 
 fn kinds_of_each(alloc: Global, models: &Trees) -> Result<Option<KindLists>, Memory>
     requires { count (plain_all models.now) ≤ 64 }
-    ensures { IfOk result (λ kinds. kinds ≡ each_of (kinds_of_model (plain_all models.now)) (plain_all models.now)) }
+    ensures { IfOk result (λ kinds. kinds ≡ each_of (kinds_of_model (plain_all models.now))
+        (plain_all models.now)) }
 {
     let mut lists = Vec::new(alloc);
     let mut left = models;
@@ -189,7 +197,8 @@ fn kinds_of_each(alloc: Global, models: &Trees) -> Result<Option<KindLists>, Mem
 
 fn kinds_of_model(alloc: Global, models: &Trees, tree: &Tree) -> Result<Option<Kinds>, Memory>
     requires { count (plain_all models.now) ≤ 64 }
-    ensures { IfOk result (λ kinds. kinds ≡ kinds_of_model (plain_all models.now) (plain tree.now)) }
+    ensures { IfOk result (λ kinds. kinds ≡ kinds_of_model (plain_all models.now)
+        (plain tree.now)) }
 {
     match behind(tree, b"model") {
         Some(parts) => {
@@ -202,7 +211,8 @@ fn kinds_of_model(alloc: Global, models: &Trees, tree: &Tree) -> Result<Option<K
 
 fn kinds_of_parts(alloc: Global, models: &Trees, parts: &Trees) -> Result<Option<Kinds>, Memory>
     requires { count (plain_all models.now) ≤ 64 }
-    ensures { IfOk result (λ kinds. kinds ≡ kinds_of_parts (plain_all models.now) (plain_all parts.now)) }
+    ensures { IfOk result (λ kinds. kinds ≡ kinds_of_parts (plain_all models.now)
+        (plain_all parts.now)) }
 {
     let Trees::More(name, rest) = parts else {
         return Ok(None);
@@ -217,7 +227,8 @@ fn kinds_of_parts(alloc: Global, models: &Trees, parts: &Trees) -> Result<Option
 
 fn kinds_of_lists(alloc: Global, models: &Trees, lists: &Trees) -> Result<Option<Kinds>, Memory>
     requires { count (plain_all models.now) ≤ 64 }
-    ensures { IfOk result (λ kinds. kinds ≡ kinds_of_lists (plain_all models.now) (plain_all lists.now)) }
+    ensures { IfOk result (λ kinds. kinds ≡ kinds_of_lists (plain_all models.now)
+        (plain_all lists.now)) }
 {
     let Trees::More(fields, rest) = lists else {
         return Ok(None);
@@ -238,7 +249,8 @@ fn kinds_of_lists(alloc: Global, models: &Trees, lists: &Trees) -> Result<Option
 
 fn kinds_of_fields(alloc: Global, models: &Trees, tree: &Tree) -> Result<Option<Kinds>, Memory>
     requires { count (plain_all models.now) ≤ 64 }
-    ensures { IfOk result (λ kinds. kinds ≡ kinds_of_fields (plain_all models.now) (plain tree.now)) }
+    ensures { IfOk result (λ kinds. kinds ≡ kinds_of_fields (plain_all models.now)
+        (plain tree.now)) }
 {
     match behind(tree, b"fields") {
         Some(fields) => {
@@ -251,7 +263,8 @@ fn kinds_of_fields(alloc: Global, models: &Trees, tree: &Tree) -> Result<Option<
 
 fn kind_of_each(alloc: Global, models: &Trees, fields: &Trees) -> Result<Option<Kinds>, Memory>
     requires { count (plain_all models.now) ≤ 64 }
-    ensures { IfOk result (λ kinds. kinds ≡ each_of (kind_of_field (plain_all models.now)) (plain_all fields.now)) }
+    ensures { IfOk result (λ kinds. kinds ≡ each_of (kind_of_field (plain_all models.now))
+        (plain_all fields.now)) }
 {
     let mut kinds = Vec::new(alloc);
     let mut left = fields;

@@ -33,7 +33,8 @@ fn alter_if(
     model: usize,
     rows: Vec<Row>,
 ) -> Result<Vec<Row>, Memory>
-    ensures { IfOk result (λ v. v.items ≡ (if model_of_id alteration.now.id == model then placed alteration.now.id alteration.now.rows rows.items else rows.items)) }
+    ensures { IfOk result (λ v. v.items ≡ (if model_of_id alteration.now.id == model
+        then placed alteration.now.id alteration.now.rows rows.items else rows.items)) }
 {
     if usize::from(id_model(alteration.id)) == model {
         let rows = place_rows(alloc, alteration.id, alteration.rows.as_slice(), rows)?;

@@ -31,8 +31,8 @@ impl TableIndex {
         }
     }
 
-    /// All alternatives of each record of which one has the value at the field. The first question for a field goes
-    /// through the table.
+    /// All alternatives of each record of which one has the value at the field. The first question
+    /// for a field goes through the table.
     pub fn find(
         &mut self,
         alloc: Global,
@@ -68,7 +68,8 @@ impl TableIndex {
     fn ids(&self, alloc: Global, rows: &[Row], field: u8, value: &Value) -> Result<Ids, Memory>
         requires right { IsIndexOf rows.now self.now }
         requires opened { IndexesField field self.now }
-        ensures held { IfOk result (λ ids. (k : ℕ) → shown ids k ≡ holds_cell field value.now rows.now k) }
+        ensures held { IfOk result (λ ids. (k : ℕ) → shown ids k ≡ holds_cell field value.now
+            rows.now k) }
         ensures ascending { IfOk result IsAscending }
     {
         let _ = rows;
@@ -91,7 +92,8 @@ fn index_of(alloc: Global, rows: &[Row], field: u8) -> Result<ByValue, Memory>
 }
 
 fn add_row(alloc: Global, values: &mut ByValue, row: &Row, field: u8) -> Result<(), Memory>
-    ensures { OnOk result ((v : Cell) (k : ℕ) → has_pair values.new v k ≡ (((row.now.id == k) && has_cell field v row.now) || has_pair values.old v k)) }
+    ensures { OnOk result ((v : Cell) (k : ℕ) → has_pair values.new v k
+        ≡ (((row.now.id == k) && has_cell field v row.now) || has_pair values.old v k)) }
 {
     match cell_at(row, field) {
         Some(cell) => values.add(alloc, cell, row.id),

@@ -39,16 +39,19 @@ impl TableIndexes {
         value: &Value,
     ) -> Result<Rows, Memory>
         requires ordered { AreOrdered rows.now }
-        requires right { (tables : List (List Seen)) × (AreIndexesOf tables self.old × (rows_of tables model ≡ rows.now)) }
+        requires right { (tables : List (List Seen)) × (AreIndexesOf tables self.old
+            × (rows_of tables model ≡ rows.now)) }
         ensures found { IfOk result (λ found. found ≡ holders field value.now rows.now) }
-        ensures right { (tables : List (List Seen)) → rows_of tables model ≡ rows.now → AreIndexesOf tables self.old → AreIndexesOf tables self.new }
+        ensures right { (tables : List (List Seen)) → rows_of tables model ≡ rows.now
+            → AreIndexesOf tables self.old → AreIndexesOf tables self.new }
     {
         self.open(alloc, model)?;
         self.find_in(alloc, rows, model, field, value)
     }
 
     fn open(&mut self, alloc: Global, model: u8) -> Result<(), Memory>
-        ensures right { (tables : List (List Seen)) → AreIndexesOf tables self.old → AreIndexesOf tables self.new }
+        ensures right { (tables : List (List Seen)) → AreIndexesOf tables self.old
+            → AreIndexesOf tables self.new }
         ensures opened { OnOk result (IndexesModel model self.new) }
     {
         if self.models.contains_key(&model) {
@@ -67,10 +70,12 @@ impl TableIndexes {
         value: &Value,
     ) -> Result<Rows, Memory>
         requires ordered { AreOrdered rows.now }
-        requires right { (tables : List (List Seen)) × (AreIndexesOf tables self.old × (rows_of tables model ≡ rows.now)) }
+        requires right { (tables : List (List Seen)) × (AreIndexesOf tables self.old
+            × (rows_of tables model ≡ rows.now)) }
         requires opened { IndexesModel model self.old }
         ensures found { IfOk result (λ found. found ≡ holders field value.now rows.now) }
-        ensures right { (tables : List (List Seen)) → rows_of tables model ≡ rows.now → AreIndexesOf tables self.old → AreIndexesOf tables self.new }
+        ensures right { (tables : List (List Seen)) → rows_of tables model ≡ rows.now
+            → AreIndexesOf tables self.old → AreIndexesOf tables self.new }
     {
         match self.models.get_mut(&model) {
             Some(index) => index.find(alloc, rows, field, value),
@@ -80,8 +85,10 @@ impl TableIndexes {
 
     /// The indexes of the tables of altered records are gone. It takes no memory.
     pub fn forget(&mut self, changed: &[Alteration])
-        ensures left { (m : ℕ) → index_at m self.new ≡ (if alters m changed.now then None else index_at m self.old) }
-        ensures right { (tables : List (List Seen)) → AreIndexesOf tables self.old → AreIndexesOf (overlaid changed.now tables) self.new }
+        ensures left { (m : ℕ) → index_at m self.new ≡ (if alters m changed.now then None
+            else index_at m self.old) }
+        ensures right { (tables : List (List Seen)) → AreIndexesOf tables self.old
+            → AreIndexesOf (overlaid changed.now tables) self.new }
     {
         'changed: for alteration in changed {
             self.forget_one(id_model(alteration.id));
@@ -90,7 +97,8 @@ impl TableIndexes {
 
     /// The index of the model is gone. It takes no memory.
     pub fn forget_one(&mut self, model: u8)
-        ensures { (m : ℕ) → index_at m self.new ≡ (if model == m then None else index_at m self.old) }
+        ensures { (m : ℕ) → index_at m self.new ≡ (if model == m then None
+            else index_at m self.old) }
     {
         let _ = self.models.remove(&model);
     }

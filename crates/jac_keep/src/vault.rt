@@ -31,18 +31,23 @@ impl From<Memory> for AttachFault {
 
 /// A keeper over a store, which is attached before it is called.
 pub trait Vault: Keeper {
-    /// Opens the store of this name for states of this schema; without a name a store that lasts as long as the
-    /// program. A new store keeps the schema, and has one empty table for each of its models.
+    /// Opens the store of this name for states of this schema; without a name a store that lasts as
+    /// long as the program. A new store keeps the schema, and has one empty table for each of its
+    /// models.
     fn attach(&mut self, alloc: Global, name: Option<&Txt>, schema: &Txt) -> Result<(), AttachFault>
         requires first { (Self.seen self.old).store.called ≡ false }
         requires schema { (shapes : List ModelShape) × IsSchema schema.now shapes }
-        ensures { Attaches (Self.seen self.old) (Self.seen self.new) (option_copied name.entry) schema.now result };
+        ensures { Attaches (Self.seen self.old) (Self.seen self.new) (option_copied name.entry)
+            schema.now result };
 
-    /// Applies the change, keeps this schema from now on, and gives each model that it adds an empty table, all or
-    /// nothing. The change names records of the models that the store has; the schema begins with these models.
+    /// Applies the change, keeps this schema from now on, and gives each model that it adds an
+    /// empty table, all or nothing. The change names records of the models that the store has; the
+    /// schema begins with these models.
     fn reshape(&mut self, alloc: Global, change: &Change, schema: &Txt) -> Result<(), Stop>
         requires attached { IsTrue (Self.seen self.old).store.attached }
         requires schema { (shapes : List ModelShape) × IsSchema schema.now shapes
-            × (IsTrue (Self.seen self.old).tells → IsFit shapes (widened (length shapes) (applied change.now (Self.seen self.old).state))) }
+            × (IsTrue (Self.seen self.old).tells
+            → IsFit shapes
+            (widened (length shapes) (applied change.now (Self.seen self.old).state))) }
         ensures { Reshapes (Self.seen self.old) (Self.seen self.new) change.now schema.now result };
 }

@@ -18,8 +18,8 @@ use std::alloc::Global;
 /// The records that a request replaced so far, each with all its alternatives.
 pub type Overlay = Alterations;
 
-/// A keeper with replaced records over it. It has a type parameter for these, so that whoever let it go
-/// knows the keeper afterwards; `Work` is the form to use.
+/// A keeper with replaced records over it. It has a type parameter for these, so that whoever let
+/// it go knows the keeper afterwards; `Work` is the form to use.
 pub struct WorkOver<'k, K: Keeper, O> {
     pub keeper: &'k mut K,
     pub over: O,
@@ -54,7 +54,8 @@ impl<'k, K: Keeper> WorkOver<'k, K, Overlay> {
     /// All rows of the model.
     pub fn rows(&mut self, alloc: Global, model: u8) -> Result<Rows, Stop>
         requires { IsTrue (K.seen self.old.keeper.now).store.attached }
-        ensures exact { IsTold K.seen self.new → IfOk result (λ rows. rows ≡ rows_of (state_of K.seen self.old).tables model) }
+        ensures exact { IsTold K.seen self.new
+            → IfOk result (λ rows. rows ≡ rows_of (state_of K.seen self.old).tables model) }
         ensures reads { ReadsWork K.seen self.old self.new result }
     {
         let rows = self.keeper.rows(alloc, model)?;
@@ -71,7 +72,9 @@ impl<'k, K: Keeper> WorkOver<'k, K, Overlay> {
         value: &Value,
     ) -> Result<Rows, Stop>
         requires { IsTrue (K.seen self.old.keeper.now).store.attached }
-        ensures exact { IsTold K.seen self.new → IfOk result (λ rows. rows ≡ holders field value.now (rows_of (state_of K.seen self.old).tables model)) }
+        ensures exact { IsTold K.seen self.new
+            → IfOk result (λ rows. rows ≡ holders field value.now
+            (rows_of (state_of K.seen self.old).tables model)) }
         ensures reads { ReadsWork K.seen self.old self.new result }
     {
         let rows = self.keeper.rows_with(alloc, model, field, value)?;
@@ -83,7 +86,9 @@ impl<'k, K: Keeper> WorkOver<'k, K, Overlay> {
     /// The alternatives of one record.
     pub fn one(&mut self, alloc: Global, id: Id) -> Result<Rows, Stop>
         requires { IsTrue (K.seen self.old.keeper.now).store.attached }
-        ensures exact { IsTold K.seen self.new → IfOk result (λ rows. rows ≡ alternatives id (rows_of (state_of K.seen self.old).tables (model_of_id id))) }
+        ensures exact { IsTold K.seen self.new
+            → IfOk result (λ rows. rows ≡ alternatives id (rows_of (state_of K.seen self.old).tables
+            (model_of_id id))) }
         ensures reads { ReadsWork K.seen self.old self.new result }
     {
         match self.over.find(id) {
@@ -101,11 +106,14 @@ impl<'k, K: Keeper> WorkOver<'k, K, Overlay> {
     /// Puts these rows in place of the record's alternatives. With no rows the record is gone.
     pub fn replace(&mut self, id: Id, rows: Rows) -> Result<(), Stop>
         requires own { All (λ (r : Seen). r.id ≡ id) rows }
-        requires a_table { IsTrue (K.seen self.old.keeper.now).tells → model_of_id id < length (K.seen self.old.keeper.now).state.tables }
-        ensures exact { OnOk result (state_of K.seen self.new ≡ state_with id rows (state_of K.seen self.old)) }
+        requires a_table { IsTrue (K.seen self.old.keeper.now).tells
+            → model_of_id id < length (K.seen self.old.keeper.now).state.tables }
+        ensures exact { OnOk result (state_of K.seen self.new ≡ state_with id rows
+            (state_of K.seen self.old)) }
         ensures told { IsTold K.seen self.old → OnOk result (IsTold K.seen self.new) }
         ensures back { OnOk result (IsTold K.seen self.new → IsTold K.seen self.old) }
-        ensures cause { HasCause (K.seen self.old.keeper.now).faults (K.seen self.new.keeper.now).faults result }
+        ensures cause { HasCause (K.seen self.old.keeper.now).faults
+            (K.seen self.new.keeper.now).faults result }
         ensures same { LeavesKeeper K.seen self.old self.new }
     {
         self.over.put(id, rows)?;
@@ -114,8 +122,10 @@ impl<'k, K: Keeper> WorkOver<'k, K, Overlay> {
 
     /// The replaced records, as a change that sets the number. It takes no memory.
     pub fn into_change(self, number: u64) -> Result<Change, Memory>
-        ensures changed { IsOkAnd result (λ c. (c.changed ≡ self.entry.over) × (c.number ≡ number)) }
-        ensures applied { IsOkAnd result (λ c. applied c (K.seen self.entry.keeper.now).state ≡ record (state_of K.seen self.entry) { number = number }) }
+        ensures changed { IsOkAnd result (λ c. (c.changed ≡ self.entry.over)
+            × (c.number ≡ number)) }
+        ensures applied { IsOkAnd result (λ c. applied c (K.seen self.entry.keeper.now).state
+            ≡ record (state_of K.seen self.entry) { number = number }) }
         ensures keeper { self.exit.0.now ≡ self.entry.keeper.now }
     {
         let WorkOver { keeper: _, over } = self;

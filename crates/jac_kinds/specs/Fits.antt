@@ -35,7 +35,8 @@ IsViewer ms viewers id = Refers (option_map (reference_to ms) viewers) id
 -- the tables are good, for some next number
 pub record AreGood (models : List Entity) (tables : List (List PlainRow)) : Type 0 where
   pub next : ℕ
-  pub good : IsGoodPlain (shapes_of_models models models) (record { tables = tables; number = next })
+  pub good : IsGoodPlain (shapes_of_models models models)
+      (record { tables = tables; number = next })
 
 -- the world and the bindings are as the scope says, over good tables
 pub record IsIn (s : Scope) (w : World) (env : List Binding) : Type 0 where

@@ -46,12 +46,16 @@ AtEach bs env P tuples = AllByRecursion (λ ids. P (bound bs ids env)) tuples
 -- what answers are sorted by is read of a record of the binder's model
 abbrev pub SortFits : World → List Binder → Order → List ℕ → Type 0
 SortFits w bs orders.Key ids = ⊤
-SortFits w bs (orders.Up x f) ids = Has (reference_to w.models (model_of_binder bs x)) (look (bound bs ids []) x)
-SortFits w bs (orders.Down x f) ids = Has (reference_to w.models (model_of_binder bs x)) (look (bound bs ids []) x)
+SortFits w bs (orders.Up x f) ids = Has (reference_to w.models (model_of_binder bs x))
+    (look (bound bs ids []) x)
+SortFits w bs (orders.Down x f) ids = Has (reference_to w.models (model_of_binder bs x))
+    (look (bound bs ids []) x)
 
--- a query, by the value of its condition and by what its condition's operands are asked: at each tuple of records the
--- condition is a truth value and its operands fit, and what answers are sorted by can be read
-abbrev pub AskedFits : World → List Binder → Order → (List Binding → Value) → (List Binding → Type 0) → List Binding → Type 0
+-- a query, by the value of its condition and by what its condition's operands are asked: at each
+-- tuple of records the condition is a truth value and its operands fit, and what answers are sorted
+-- by can be read
+abbrev pub AskedFits : World → List Binder → Order → (List Binding → Value)
+    → (List Binding → Type 0) → List Binding → Type 0
 AskedFits w bs o cond Fit env =
     AtEach bs env (λ inner. Has Kind.Bool (cond inner) × Fit inner) (tuples_from w bs ([] ∷ []))
     × AllByRecursion (SortFits w bs o) (tuples_from w bs ([] ∷ []))
@@ -66,25 +70,30 @@ abbrev mutual
   OperandsFit w (Expression.name x) env = ⊤
   OperandsFit w Expression.this env = ⊤
   OperandsFit w Expression.viewer env = ⊤
-  OperandsFit w (Expression.get m f e) env = Has (reference_to w.models m) (mean w e env) × OperandsFit w e env
+  OperandsFit w (Expression.get m f e) env = Has (reference_to w.models m) (mean w e env)
+      × OperandsFit w e env
   OperandsFit w (Expression.live e) env = IsReference (mean w e env) × OperandsFit w e env
-  OperandsFit w (Expression.two o a b) env = TwoFit o (mean w a env) (mean w b env) × OperandsFit w a env × OperandsFit w b env
+  OperandsFit w (Expression.two o a b) env = TwoFit o (mean w a env) (mean w b env)
+      × OperandsFit w a env × OperandsFit w b env
   OperandsFit w (Expression.negated e) env = Has Kind.Bool (mean w e env) × OperandsFit w e env
   OperandsFit w (Expression.cat es) env = TextsFit w es env
   OperandsFit w (Expression.str e) env = OperandsFit w e env
   OperandsFit w (Expression.pick c a b) env =
-      Has Kind.Bool (mean w c env) × AreAlike (mean w a env) (mean w b env) × OperandsFit w c env × OperandsFit w a env × OperandsFit w b env
+      Has Kind.Bool (mean w c env) × AreAlike (mean w a env) (mean w b env) × OperandsFit w c env
+      × OperandsFit w a env × OperandsFit w b env
   OperandsFit w (Expression.count bs c o) env = AskedFits w bs o (mean w c) (OperandsFit w c) env
   OperandsFit w (Expression.sum bs c o e) env =
       AskedFits w bs o (mean w c) (OperandsFit w c) env
-      × AtEach bs env (λ inner. Has Kind.Int (mean w e inner) × OperandsFit w e inner) (answers_by w bs o (mean w c) env)
+      × AtEach bs env (λ inner. Has Kind.Int (mean w e inner) × OperandsFit w e inner)
+      (answers_by w bs o (mean w c) env)
   OperandsFit w (Expression.any_of bs c o) env = AskedFits w bs o (mean w c) (OperandsFit w c) env
   OperandsFit w (Expression.first bs c o) env = AskedFits w bs o (mean w c) (OperandsFit w c) env
 
   -- each part of a `cat` is a text
   pub TextsFit : World → Expressions → List Binding → Type 0
   TextsFit w Expressions.none env = ⊤
-  TextsFit w (Expressions.more e es) env = Has Kind.Text (mean w e env) × OperandsFit w e env × TextsFit w es env
+  TextsFit w (Expressions.more e es) env = Has Kind.Text (mean w e env) × OperandsFit w e env
+      × TextsFit w es env
 
 -- the value of the expression has the kind, and so has each operand the one that its form wants
 abbrev pub IsOfKind : World → List Binding → Kind → Expression → Type 0

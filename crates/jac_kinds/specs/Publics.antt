@@ -1,4 +1,5 @@
--- Public values that fit: what a guarded field of a record shows where it is hidden has the field's kind.
+-- Public values that fit: what a guarded field of a record shows where it is hidden has the field's
+-- kind.
 use Rattle.std.specs.Prelude.{ℕ, List, [], Option, Some, None, ⊤}
 use Rattle.jac_value.specs.declared.value.Kind.{Kind}
 use Rattle.jac_value.specs.declared.value.Value.{Value}
@@ -10,12 +11,19 @@ use Rattle.jac_kinds.specs.Operands.{IsOfKind}
 
 -- what a public expression is read in: the record alone, with nobody who asks
 abbrev pub world_over : List Entity → ℕ → ℕ → List Value → World
-world_over models m id cells = record { models = models; this = Some id; viewer = None; tables = alone m (plain_row id cells) }
+world_over models m id cells = record {
+  models = models;
+  this = Some id;
+  viewer = None;
+  tables = alone m (plain_row id cells);
+}
 
 abbrev pub PublicFits : World → Kind → Option Expression → Type 0
 PublicFits w k None = ⊤
 PublicFits w k (Some e) = IsOfKind w [] k e
 
--- over these cells of a record, each public expression of its model has its field's kind, and operands that fit
+-- over these cells of a record, each public expression of its model has its field's kind, and
+-- operands that fit
 abbrev pub PublicsFit : List Entity → ℕ → ℕ → List Value → Type 0
-PublicsFit models m id cells = (f : ℕ) → PublicFits (world_over models m id cells) (kind_at models (fields_at models m) f) (public_expression models m f)
+PublicsFit models m id cells = (f : ℕ) → PublicFits (world_over models m id cells)
+    (kind_at models (fields_at models m) f) (public_expression models m f)

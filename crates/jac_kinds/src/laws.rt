@@ -23,8 +23,9 @@ ghost use Rattle.jac_kinds.specs.Operands.{IsOfKind};
 ghost use Rattle.jac_kinds.specs.Publics.{PublicsFit};
 ghost use Rattle.jac_kinds.specs.Runs.{StatementsFit, IsVisit, begun};
 
-/// A law: over good tables, with bindings, `this` and `viewer` of the kinds that the scope gives them, the value of
-/// an expression has the kind that the checker finds, and each operand has the kind that its form wants.
+/// A law: over good tables, with bindings, `this` and `viewer` of the kinds that the scope gives
+/// them, the value of an expression has the kind that the checker finds, and each operand has the
+/// kind that its form wants.
 pub fn kinds_hold()
     ensures { (s : Scope) (w : World) (env : List Binding) (e : Expression) (k : Kind) →
         IsIn s w env → kind_of s e ≡ Some k → IsOfKind w env k e }
@@ -37,29 +38,33 @@ pub fn get_leaves_tables()
         (run_of w app t visit).tables ≡ t.tables }
 {}
 
-/// A law: no statement that a visit of a view of a well application comes to meets a wrong kind, under any
-/// assignment.
+/// A law: no statement that a visit of a view of a well application comes to meets a wrong kind,
+/// under any assignment.
 pub fn visits_fit()
     ensures { (w : ℕ → Bool) (app : Application) (t : PlainState) (visit : Visit) (v : Page) →
         IsTrue (is_well app) → IsVisit app t visit v →
         StatementsFit (setting_of w app t visit) v.body (begun t visit) }
 {}
 
-/// A law: the policy of a label of a well application, asked over a good state that has the label's record, is a
-/// truth value, and each of its operands has the kind that its form wants.
+/// A law: the policy of a label of a well application, asked over a good state that has the label's
+/// record, is a truth value, and each of its operands has the kind that its form wants.
 pub fn policies_fit()
-    ensures { (app : Application) (t : PlainState) (viewer : Option ℕ) (label : ℕ) (g : FieldGroup) →
-        IsTrue (is_well app) → IsGoodPlain (shapes_of app) t → IsViewer app.models app.viewer viewer →
+    ensures { (app : Application) (t : PlainState) (viewer : Option ℕ) (label : ℕ) (g : FieldGroup)
+        →
+        IsTrue (is_well app) → IsGoodPlain (shapes_of app) t → IsViewer app.models app.viewer viewer
+        →
         has_record t label ≡ true → labelled_group app label ≡ Some g →
         IsOfKind (policy_world app t viewer (record_of_label label)) [] Kind.Bool g.policy }
 {}
 
-/// A law: over a record of a model of a well application, whose cells have the kinds of the model's fields, each
-/// public expression of the model has its field's kind, and each of its operands the kind that its form wants.
+/// A law: over a record of a model of a well application, whose cells have the kinds of the model's
+/// fields, each public expression of the model has its field's kind, and each of its operands the
+/// kind that its form wants.
 pub fn publics_fit()
     ensures { (app : Application) (m id : ℕ) (cells : List Value) →
         IsTrue (is_well app) → is_id_of id m ≡ true →
-        have_kinds (kinds_of_fields app.models (fields_at app.models m)) cells ≡ true → PublicsFit app.models m id cells }
+        have_kinds (kinds_of_fields app.models (fields_at app.models m)) cells ≡ true
+        → PublicsFit app.models m id cells }
 {}
 
 /// A law: a request binds each parameter of a view to a value of its kind.
@@ -70,5 +75,6 @@ pub fn parameters_fit()
 
 /// A law: the viewer of a number is a record of the model of viewers, or nobody.
 pub fn viewers_fit()
-    ensures { (app : Application) (number : ℕ) → IsViewer app.models app.viewer (viewer_of app number) }
+    ensures { (app : Application) (number : ℕ)
+        → IsViewer app.models app.viewer (viewer_of app number) }
 {}

@@ -1,4 +1,5 @@
-//! The laws that no wrong kind is met in a well application, and that a view which answers GET leaves the tables.
+//! The laws that no wrong kind is met in a well application, and that a view which answers GET
+//! leaves the tables.
 #![tactic(auto)]
 
 mod laws;

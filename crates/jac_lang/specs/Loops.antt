@@ -4,7 +4,8 @@ use Rattle.jac_lang.specs.declared.queries.Binder.{Binder}
 use Rattle.jac_lang.specs.Lookup.{is_nested_named}
 use Rattle.jac_lang.specs.Syntax.{Entity, Statement, Statements}
 
--- the loops around a statement; of one alone whether a nested record may be made around each of its answers
+-- the loops around a statement; of one alone whether a nested record may be made around each of its
+-- answers
 pub data Loops : Type 0 where
   none : Loops
   one : Bool → Loops
@@ -38,9 +39,12 @@ abbrev mutual
   is_placed models loops (Statement.escape e) = true
   is_placed models loops (Statement.bind x e body) = are_placed models loops body
   is_placed models loops (Statement.assign x e) = true
-  is_placed models loops (Statement.branch c first second) = are_placed models loops first && are_placed models loops second
-  is_placed models loops (Statement.each q body) = are_placed models (behind_for models q.binders loops) body
-  is_placed models loops (Statement.create x m site cells body) = may_create (is_nested_named models m) loops && are_placed models loops body
+  is_placed models loops (Statement.branch c first second) = are_placed models loops first &&
+      are_placed models loops second
+  is_placed models loops (Statement.each q body) = are_placed models (behind_for models q.binders
+      loops) body
+  is_placed models loops (Statement.create x m site cells body) =
+      may_create (is_nested_named models m) loops && are_placed models loops body
   is_placed models loops (Statement.update m e cells) = true
   is_placed models loops (Statement.delete m e) = true
   is_placed models loops Statement.missing = true
@@ -50,4 +54,5 @@ abbrev mutual
 
   pub are_placed : List Entity → Loops → Statements → Bool
   are_placed models loops Statements.none = true
-  are_placed models loops (Statements.more s rest) = is_placed models loops s && are_placed models loops rest
+  are_placed models loops (Statements.more s rest) = is_placed models loops s && are_placed models
+      loops rest

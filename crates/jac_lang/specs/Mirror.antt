@@ -40,9 +40,11 @@ abbrev mutual
   expression_of (expr.Not' p e) = Expression.negated (expression_of e)
   expression_of (expr.Cat es) = Expression.cat (expressions_of es)
   expression_of (expr.Str' p e) = Expression.str (expression_of e)
-  expression_of (expr.Pick' p c q a r b) = Expression.pick (expression_of c) (expression_of a) (expression_of b)
+  expression_of (expr.Pick' p c q a r b) = Expression.pick (expression_of c) (expression_of a)
+      (expression_of b)
   expression_of (expr.Count' p bs c o) = Expression.count (binders_of bs) (expression_of c) o
-  expression_of (expr.Sum' p bs c o q e) = Expression.sum (binders_of bs) (expression_of c) o (expression_of e)
+  expression_of (expr.Sum' p bs c o q e) = Expression.sum (binders_of bs) (expression_of c) o
+      (expression_of e)
   expression_of (expr.AnyOf' p bs c o) = Expression.any_of (binders_of bs) (expression_of c) o
   expression_of (expr.First' p bs c o) = Expression.first (binders_of bs) (expression_of c) o
 
@@ -51,7 +53,11 @@ abbrev mutual
   expressions_of (exprs.More' p e q es) = Expressions.more (expression_of e) (expressions_of es)
 
 abbrev pub question_of : Query → Question
-question_of q = record { binders = binders_of q.binders; cond = expression_of q.cond; order = q.order }
+question_of q = record {
+  binders = binders_of q.binders;
+  cond = expression_of q.cond;
+  order = q.order;
+}
 
 abbrev pub one_assigned_of : Public → Assigned
 one_assigned_of p = record { field = p.field; value = expression_of p.value }
@@ -66,9 +72,11 @@ abbrev mutual
   statement_of (stmt.Esc e) = Statement.escape (expression_of e)
   statement_of (stmt.Let x e body) = Statement.bind x (expression_of e) (statements_of body)
   statement_of (stmt.Assign x e) = Statement.assign x (expression_of e)
-  statement_of (stmt.If c a b) = Statement.branch (expression_of c) (statements_of a) (statements_of b)
+  statement_of (stmt.If c a b) = Statement.branch (expression_of c) (statements_of a)
+      (statements_of b)
   statement_of (stmt.For q body) = Statement.each (question_of q) (statements_of body)
-  statement_of (stmt.Create x m s cells body) = Statement.create x m s (assigned_of cells) (statements_of body)
+  statement_of (stmt.Create x m s cells body) = Statement.create x m s (assigned_of cells)
+      (statements_of body)
   statement_of (stmt.Update m e cells) = Statement.update m (expression_of e) (assigned_of cells)
   statement_of (stmt.Delete m e) = Statement.delete m (expression_of e)
   statement_of stmt.Missing = Statement.missing
@@ -81,25 +89,43 @@ abbrev mutual
   statements_of (stmts.More' p s q ss) = Statements.more (statement_of s) (statements_of ss)
 
 abbrev pub field_group_of : Group → FieldGroup
-field_group_of g = record { guards = assigned_of g.guards; hides = g.hides; policy = expression_of g.policy }
+field_group_of g = record {
+  guards = assigned_of g.guards;
+  hides = g.hides;
+  policy = expression_of g.policy;
+}
 
 abbrev pub groups_of : List Group → List FieldGroup
 groups_of [] = []
 groups_of (g ∷ gs) = field_group_of g ∷ groups_of gs
 
 abbrev pub entity_of : ModelDef → Entity
-entity_of m = record { name = m.name; nested = m.nested; fields = m.fields; groups = groups_of m.groups }
+entity_of m = record {
+  name = m.name;
+  nested = m.nested;
+  fields = m.fields;
+  groups = groups_of m.groups;
+}
 
 abbrev pub entities_of : List ModelDef → List Entity
 entities_of [] = []
 entities_of (m ∷ ms) = entity_of m ∷ entities_of ms
 
 abbrev pub page_of : View → Page
-page_of v = record { method = v.method; path = v.path; params = v.params; body = statements_of v.body }
+page_of v = record {
+  method = v.method;
+  path = v.path;
+  params = v.params;
+  body = statements_of v.body;
+}
 
 abbrev pub pages_of : List View → List Page
 pages_of [] = []
 pages_of (v ∷ vs) = page_of v ∷ pages_of vs
 
 abbrev pub application_of : App → Application
-application_of a = record { viewer = a.viewer; models = entities_of a.models; views = pages_of a.views }
+application_of a = record {
+  viewer = a.viewer;
+  models = entities_of a.models;
+  views = pages_of a.views;
+}

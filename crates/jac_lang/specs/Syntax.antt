@@ -1,4 +1,5 @@
--- The language as plain data: what the types of the program are to a reader, with no pointers in them.
+-- The language as plain data: what the types of the program are to a reader, with no pointers in
+-- them.
 use Rattle.std.specs.Prelude.{ℕ, ℤ, Bool, List, [], ◌∷◌, Option}
 use Rattle.jac_lang.specs.declared.expressions.Op.{Op}
 use Rattle.jac_lang.specs.declared.field_kinds.Field.{Field}

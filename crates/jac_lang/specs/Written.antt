@@ -1,5 +1,6 @@
--- What an application keeps that was read from its text, beside its shape: its names are names, its paths are
--- paths, its lists keep to their limits, and the sites of a view's `create` statements are their places.
+-- What an application keeps that was read from its text, beside its shape: its names are names, its
+-- paths are paths, its lists keep to their limits, and the sites of a view's `create` statements
+-- are their places.
 use Rattle.std.specs.Prelude.{◌≡◌, ℕ, ◌<◌, ◌≤◌, ◌^◌, List, [], ◌∷◌, ◌++◌, length, IfSome, IsTrue, nat_lt, not}
 use Rattle.std.specs.List.{All, range_with_len}
 use Rattle.jac_value.specs.Names.{is_name}
@@ -43,18 +44,24 @@ abbrev mutual
   IsWrittenExpression (Expression.negated e) = IsWrittenExpression e
   IsWrittenExpression (Expression.cat es) = AreWrittenExpressions es
   IsWrittenExpression (Expression.str e) = IsWrittenExpression e
-  IsWrittenExpression (Expression.pick c a b) = IsWrittenExpression c × IsWrittenExpression a × IsWrittenExpression b
-  IsWrittenExpression (Expression.count bs c o) = AreBinders 1 bs × IsWrittenExpression c × IsWrittenOrder o
-  IsWrittenExpression (Expression.sum bs c o e) = AreBinders 1 bs × IsWrittenExpression c × IsWrittenOrder o × IsWrittenExpression e
-  IsWrittenExpression (Expression.any_of bs c o) = AreBinders 3 bs × IsWrittenExpression c × IsWrittenOrder o
-  IsWrittenExpression (Expression.first bs c o) = AreBinders 3 bs × IsWrittenExpression c × IsWrittenOrder o
+  IsWrittenExpression (Expression.pick c a b) = IsWrittenExpression c × IsWrittenExpression a
+      × IsWrittenExpression b
+  IsWrittenExpression (Expression.count bs c o) = AreBinders 1 bs × IsWrittenExpression c
+      × IsWrittenOrder o
+  IsWrittenExpression (Expression.sum bs c o e) = AreBinders 1 bs × IsWrittenExpression c
+      × IsWrittenOrder o × IsWrittenExpression e
+  IsWrittenExpression (Expression.any_of bs c o) = AreBinders 3 bs × IsWrittenExpression c
+      × IsWrittenOrder o
+  IsWrittenExpression (Expression.first bs c o) = AreBinders 3 bs × IsWrittenExpression c
+      × IsWrittenOrder o
 
   pub AreWrittenExpressions : Expressions → Type 0
   AreWrittenExpressions Expressions.none = Unit {0}
   AreWrittenExpressions (Expressions.more e es) = IsWrittenExpression e × AreWrittenExpressions es
 
 abbrev pub IsWrittenQuestion : ℕ → Question → Type 0
-IsWrittenQuestion most q = AreBinders most q.binders × IsWrittenExpression q.cond × IsWrittenOrder q.order
+IsWrittenQuestion most q = AreBinders most q.binders × IsWrittenExpression q.cond
+    × IsWrittenOrder q.order
 
 abbrev pub IsWrittenAssigned : Assigned → Type 0
 IsWrittenAssigned a = IsName a.field × IsWrittenExpression a.value
@@ -63,12 +70,16 @@ abbrev mutual
   pub IsWrittenStatement : Statement → Type 0
   IsWrittenStatement (Statement.put e) = IsWrittenExpression e
   IsWrittenStatement (Statement.escape e) = IsWrittenExpression e
-  IsWrittenStatement (Statement.bind x e body) = IsName x × IsWrittenExpression e × AreWrittenStatements body
+  IsWrittenStatement (Statement.bind x e body) = IsName x × IsWrittenExpression e
+      × AreWrittenStatements body
   IsWrittenStatement (Statement.assign x e) = IsName x × IsWrittenExpression e
-  IsWrittenStatement (Statement.branch c a b) = IsWrittenExpression c × AreWrittenStatements a × AreWrittenStatements b
+  IsWrittenStatement (Statement.branch c a b) = IsWrittenExpression c × AreWrittenStatements a
+      × AreWrittenStatements b
   IsWrittenStatement (Statement.each q body) = IsWrittenQuestion 3 q × AreWrittenStatements body
-  IsWrittenStatement (Statement.create x m site cells body) = IsName x × IsName m × All IsWrittenAssigned cells × AreWrittenStatements body
-  IsWrittenStatement (Statement.update m e cells) = IsName m × IsWrittenExpression e × All IsWrittenAssigned cells
+  IsWrittenStatement (Statement.create x m site cells body) = IsName x × IsName m
+      × All IsWrittenAssigned cells × AreWrittenStatements body
+  IsWrittenStatement (Statement.update m e cells) = IsName m × IsWrittenExpression e
+      × All IsWrittenAssigned cells
   IsWrittenStatement (Statement.delete m e) = IsName m × IsWrittenExpression e
   IsWrittenStatement Statement.missing = Unit {0}
   IsWrittenStatement (Statement.redirect e) = IsWrittenExpression e

@@ -18,8 +18,8 @@ pub enum Op {
     Or,
 }
 
-/// An expression. `Get` has the model and then the field; `Sum` adds the expression over the answers of
-/// the query; `AnyOf` tells whether there is an answer.
+/// An expression. `Get` has the model and then the field; `Sum` adds the expression over the
+/// answers of the query; `AnyOf` tells whether there is an answer.
 #[cycle(expr)]
 #[derive(Drop)]
 pub enum Expr {

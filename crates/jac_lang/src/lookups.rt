@@ -16,8 +16,10 @@ pub fn model_of(app: &App, name: &Txt) -> Option<u8>
 /// The number of the field of this name in the model.
 pub fn field_of(app: &App, model: u8, name: &Txt) -> Option<u8>
     requires { model < length app.now.models }
-    ensures place { result ≡ field_place (fields_at (application_of app.now).models model) name.now }
-    ensures within { IfSome result (λ f. f < length (fields_at (application_of app.now).models model)) }
+    ensures place { result ≡ field_place (fields_at (application_of app.now).models model)
+        name.now }
+    ensures within { IfSome result (λ f. f < length (fields_at (application_of app.now).models
+        model)) }
 {
     let fields = fields_of(&app.models, model);
     match field_index(fields, name) {
@@ -26,12 +28,13 @@ pub fn field_of(app: &App, model: u8, name: &Txt) -> Option<u8>
     }
 }
 
-/// The kind of a field, where a reference has the number of its model. A model's name that no model has
-/// counts as the number of the models.
+/// The kind of a field, where a reference has the number of its model. A model's name that no model
+/// has counts as the number of the models.
 pub fn kind_of(app: &App, model: u8, field: u8) -> Kind
     requires model { model < length app.now.models }
     requires field { field < length (fields_at (application_of app.now).models model) }
-    ensures { let models = (application_of app.now).models in result ≡ kind_at models (fields_at models model) field }
+    ensures { let models = (application_of app.now).models
+        in result ≡ kind_at models (fields_at models model) field }
 {
     let field = field_at(&app.models, model, field);
     kind_by_name(&app.models, &field.kind)
@@ -41,7 +44,8 @@ pub fn kind_of(app: &App, model: u8, field: u8) -> Kind
 pub fn group_of(app: &App, model: u8, field: u8) -> Option<u8>
     requires model { model < length app.now.models }
     requires field { field < length (fields_at (application_of app.now).models model) }
-    ensures { let models = (application_of app.now).models in result ≡ group_in (groups_at models model) (fields_at models model) field }
+    ensures { let models = (application_of app.now).models
+        in result ≡ group_in (groups_at models model) (fields_at models model) field }
 {
     let field = field_at(&app.models, model, field);
     group_for_name(&app.models, model, &field.name)
@@ -154,7 +158,8 @@ fn kind_by_name(models: &Models, kind: &KindName) -> Kind
 }
 
 fn place_or_count(models: &Models, name: &Txt) -> u8
-    ensures { result ≡ unwrap_or (model_place (entities_of models.now) name.now) (length (entities_of models.now)) }
+    ensures { result ≡ unwrap_or (model_place (entities_of models.now) name.now)
+        (length (entities_of models.now)) }
 {
     match place_of(models, name) {
         Some(place) => place,
@@ -177,7 +182,8 @@ fn field_index(fields: &[Field], name: &Txt) -> Option<usize>
 }
 
 fn group_index(groups: &[Group], name: &Txt) -> Option<usize>
-    ensures place { result ≡ position (λ g. names_field name.now (assigned_of g.guards)) groups.now }
+    ensures place { result ≡ position (λ g. names_field name.now (assigned_of g.guards))
+        groups.now }
     ensures within { IfSome result (λ p. p < length groups.now) }
 {
     groups.iter().position(|group| guards(&group.guards, name))

@@ -5,8 +5,8 @@ use jac_value::Txt;
 use std::alloc::Global;
 use std::marker::Model;
 
-/// Fields that one policy guards, each with what the public sees of it; or the whole record, which stands
-/// only where the policy's label is shown.
+/// Fields that one policy guards, each with what the public sees of it; or the whole record, which
+/// stands only where the policy's label is shown.
 #[derive(Drop)]
 pub struct Group {
     pub guards: Publics,
@@ -31,7 +31,8 @@ pub struct ModelDef {
     ghost few_fields: { length fields ≤ 32 },
 }
 
-/// The models of an application in the order of the text, at most 64. The place of a model is its number.
+/// The models of an application in the order of the text, at most 64. The place of a model is its
+/// number.
 #[derive(Drop)]
 pub struct Models {
     models: Vec<ModelDef>,

@@ -7,8 +7,8 @@ use jac_value::Txt;
 use std::mem;
 
 /// A statement. `Put` adds a text to the page as it is, and `Esc` its HTML escape; the site of a
-/// `Create` is its place among those of its view. A `Template` is not expanded yet; a `Block` is what it
-/// expands to.
+/// `Create` is its place among those of its view. A `Template` is not expanded yet; a `Block` is
+/// what it expands to.
 #[cycle(stmt)]
 #[derive(Drop)]
 pub enum Stmt {

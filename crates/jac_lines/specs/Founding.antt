@@ -34,13 +34,15 @@ pub record IsAsked {S : Type 0} (g : Ghosts S) (old new : Held S) (number : ℕ)
   pub has : HasNumber row number
 
 -- so was the row
-pub record Finds {S : Type 0} (g : Ghosts S) (schema : List ℕ) (old new : Held S) (result : Result (Option (List ℕ)) Error) : Type 0 where
+pub record Finds {S : Type 0} (g : Ghosts S) (schema : List ℕ) (old new : Held S)
+    (result : Result (Option (List ℕ)) Error) : Type 0 where
   pub row : Values
   pub asked : QueriesRow reading [] (state g old) (state g new) (Ok row)
   pub tells : Tells schema row result
 
 -- the database had no table, and a new store was made, or given up
-pub record Founds {S : Type 0} (g : Ghosts S) (schema : List ℕ) (old new : Held S) (result : Result (Unit {0}) Error) : Type 0 where
+pub record Founds {S : Type 0} (g : Ghosts S) (schema : List ℕ) (old new : Held S)
+    (result : Result (Unit {0}) Error) : Type 0 where
   pub none : (state g old).now.schema ≡ nothing
   pub made : Transacts g (founding schema) old new result
 
@@ -49,8 +51,10 @@ pub record Asks {S : Type 0} (g : Ghosts S) (old new : Held S) : Type 0 where
   pub answer : Result Values Error
   pub asked : QueriesRow reading [] (state g old) (state g new) answer
 
--- What keeping a schema found or made: a new store where there was no table at all, and else what is stored. Where
--- another schema is found nothing is made; a fault leaves what the question left, or comes from a store that was given up.
-abbrev pub FindsSchema : {S : Type 0} → Ghosts S → List ℕ → Held S → Held S → Result (Option (List ℕ)) Error → Type 0
+-- What keeping a schema found or made: a new store where there was no table at all, and else what
+-- is stored. Where another schema is found nothing is made; a fault leaves what the question left,
+-- or comes from a store that was given up.
+abbrev pub FindsSchema : {S : Type 0} → Ghosts S → List ℕ → Held S → Held S
+    → Result (Option (List ℕ)) Error → Type 0
 FindsSchema g schema old new (Ok found) = Finds g schema old new (Ok found)
 FindsSchema g schema old new (Err e) = Asks g old new

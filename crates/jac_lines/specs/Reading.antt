@@ -12,7 +12,8 @@ use Rattle.jac_lines.specs.Facts.{Fact}
 use Rattle.jac_lines.specs.Statements.{Statement, model_reading, record_reading}
 
 -- the row of this id that a guard and cells in these columns spell
-pub record IsRowIn (guard cells : ℕ) (kinds : List Kind) (values : Values) (id : ℕ) (row : Row) : Type 0 where
+pub record IsRowIn (guard cells : ℕ) (kinds : List Kind) (values : Values) (id : ℕ) (row : Row) :
+    Type 0 where
   pub jvars : List ℕ
   pub body : List ℕ
   pub guard_stored : column values guard ≡ Blob jvars
@@ -45,16 +46,21 @@ abbrev pub record_shows : Fact → Values
 record_shows f = Blob f.jvars ∷ Blob f.body ∷ []
 
 -- all that the question shows, and nothing else
-pub record AreShown {S : Type 0} (g : Ghosts S) (question : Statement) (Is : Values → Row → Type 0) (old new : Held S) (rows : List Row) : Type 0 where
+pub record AreShown {S : Type 0} (g : Ghosts S) (question : Statement) (Is : Values → Row → Type 0)
+    (old new : Held S) (rows : List Row) : Type 0 where
   pub found : List Values
   pub shown : Shown question.text question.params (state g old) (state g new) found
   pub each : Each Is found rows
 
 -- the rows of a model, and of a record; a model that the schema doesn't have has none
-abbrev pub ReadsModel : {S : Type 0} → Ghosts S → ℕ → Option (List Kind) → Held S → Held S → List Row → Type 0
-ReadsModel g model (Some kinds) old new rows = AreShown g (model_reading model) (IsModelRow model kinds) old new rows
+abbrev pub ReadsModel : {S : Type 0} → Ghosts S → ℕ → Option (List Kind) → Held S → Held S
+    → List Row → Type 0
+ReadsModel g model (Some kinds) old new rows = AreShown g (model_reading model)
+    (IsModelRow model kinds) old new rows
 ReadsModel g model None old new rows = rows ≡ []
 
-abbrev pub ReadsRecord : {S : Type 0} → Ghosts S → ℕ → Option (List Kind) → Held S → Held S → List Row → Type 0
-ReadsRecord g id (Some kinds) old new rows = AreShown g (record_reading id) (IsRecordRow id kinds) old new rows
+abbrev pub ReadsRecord : {S : Type 0} → Ghosts S → ℕ → Option (List Kind) → Held S → Held S
+    → List Row → Type 0
+ReadsRecord g id (Some kinds) old new rows = AreShown g (record_reading id) (IsRecordRow id kinds)
+    old new rows
 ReadsRecord g id None old new rows = rows ≡ []

@@ -17,9 +17,20 @@ pub record Statement : Type 0 where
 -- the table of the number and the schema, that of the rows, and the first number
 unfoldable pub founding : List ℕ → List Statement
 founding schema =
-    record { text = codes "CREATE TABLE meta(k INTEGER PRIMARY KEY, number INTEGER NOT NULL, schema TEXT NOT NULL) STRICT"; params = [] }
-    ∷ record { text = codes "CREATE TABLE rec(model INTEGER NOT NULL, jid BLOB NOT NULL, alt INTEGER NOT NULL, jvars BLOB NOT NULL, body BLOB NOT NULL, PRIMARY KEY(model, jid, alt)) STRICT"; params = [] }
-    ∷ record { text = codes "INSERT INTO meta(k, number, schema) VALUES(0, 1, ?1)"; params = Text schema ∷ [] }
+    record {
+      text = codes
+          "CREATE TABLE meta(k INTEGER PRIMARY KEY, number INTEGER NOT NULL, schema TEXT NOT NULL) STRICT";
+      params = [];
+    }
+    ∷ record {
+      text = codes
+          "CREATE TABLE rec(model INTEGER NOT NULL, jid BLOB NOT NULL, alt INTEGER NOT NULL, jvars BLOB NOT NULL, body BLOB NOT NULL, PRIMARY KEY(model, jid, alt)) STRICT";
+      params = [];
+    }
+    ∷ record {
+      text = codes "INSERT INTO meta(k, number, schema) VALUES(0, 1, ?1)";
+      params = Text schema ∷ [];
+    }
     ∷ []
 
 -- what is asked for the number and the schema
@@ -59,7 +70,8 @@ removal id = record {
 unfoldable pub addition : ℕ → Row → Statement
 addition alt row = record {
   text = codes "INSERT INTO rec(model, jid, alt, jvars, body) VALUES(?1, ?2, ?3, ?4, ?5)";
-  params = Int (pos (model_of_id row.id)) ∷ Blob (to_be_bytes w128 row.id) ∷ Int (pos alt) ∷ Blob (guard_bytes row.guard) ∷ Blob (cells_bytes row.cells) ∷ [];
+  params = Int (pos (model_of_id row.id)) ∷ Blob (to_be_bytes w128 row.id) ∷ Int (pos alt)
+      ∷ Blob (guard_bytes row.guard) ∷ Blob (cells_bytes row.cells) ∷ [];
 }
 
 unfoldable pub numbering : ℕ → Statement

@@ -20,14 +20,28 @@ nothing = record { tables = []; indexes = []; views = [] }
 
 -- a column that takes values of its type alone, and no NULL
 abbrev pub strict : List ℕ → Kind → Column
-strict name kind = record { name = name; kind = kind; is_strict = true; not_null = true; default = Null; collation = Binary }
+strict name kind = record {
+  name = name;
+  kind = kind;
+  is_strict = true;
+  not_null = true;
+  default = Null;
+  collation = Binary;
+}
 
 -- the table of the number and the schema, in this tree
 abbrev pub meta : ℕ → Table
 meta m = record {
   name = codes "meta";
   tree = m;
-  columns = (record { name = codes "k"; kind = Integer; is_strict = true; not_null = false; default = Null; collation = Binary })
+  columns = (record {
+    name = codes "k";
+    kind = Integer;
+    is_strict = true;
+    not_null = false;
+    default = Null;
+    collation = Binary;
+  })
       ∷ strict (codes "number") Integer ∷ strict (codes "schema") Text ∷ [];
   key = Some 0;
   primary = 0 ∷ [];
@@ -45,7 +59,8 @@ abbrev pub rec : ℕ → Table
 rec r = record {
   name = codes "rec";
   tree = r;
-  columns = strict (codes "model") Integer ∷ strict (codes "jid") Blob ∷ strict (codes "alt") Integer ∷ strict (codes "jvars") Blob ∷ strict (codes "body") Blob ∷ [];
+  columns = strict (codes "model") Integer ∷ strict (codes "jid") Blob ∷ strict (codes "alt")
+      Integer ∷ strict (codes "jvars") Blob ∷ strict (codes "body") Blob ∷ [];
   key = None;
   primary = 1 ∷ 2 ∷ 3 ∷ [];
   uniques = (1 ∷ 2 ∷ 3 ∷ []) ∷ [];
@@ -59,7 +74,15 @@ rec r = record {
 
 -- the index of its key
 abbrev pub only_key : ℕ → ℕ → Index
-only_key r i = record { name = codes "sqlite_autoindex_rec_1"; tree = i; table = r; columns = 1 ∷ 2 ∷ 3 ∷ []; order = plain; is_unique = true }
+only_key r i = record {
+  name = codes "sqlite_autoindex_rec_1";
+  tree = i;
+  table = r;
+  columns = 1 ∷ 2
+      ∷ 3 ∷ [];
+  order = plain;
+  is_unique = true;
+}
 
 -- what a keeper's database has, its tables and the index in these trees
 abbrev pub two_tables : ℕ → ℕ → ℕ → Schema

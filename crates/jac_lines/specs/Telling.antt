@@ -41,7 +41,8 @@ pub record StaysTold (models : ℕ) (old new : Sql) : Type 0 where
   pub same : IsTrue new.is_open → told models new.now ≡ told models old.now
 
 -- what was read is what the state has, and nothing was changed
-pub record ReadsTold {S T : Type 0} (g : Ghosts S) (Is : State → T → Type 0) (models : ℕ) (old new : Held S) (result : Result T Error) : Type 0 where
+pub record ReadsTold {S T : Type 0} (g : Ghosts S) (Is : State → T → Type 0) (models : ℕ)
+    (old new : Held S) (result : Result T Error) : Type 0 where
   pub kept : IsKept models (state g new)
   pub left : StaysTold models (state g old) (state g new)
   pub exact : IsTrue (state g new).is_open → IfOk result (Is (told models (state g old).now))
@@ -58,17 +59,25 @@ pub record CanBeStored (models : ℕ) (xs : List Alteration) : Type 0 where
   pub spelled : CanAllBeSpelled xs
 
 -- the change was applied where it was told that it was, and else nothing was changed
-pub record AppliesTold {S : Type 0} (g : Ghosts S) (models : ℕ) (change : Change) (old new : Held S) (result : Result (Unit {0}) Error) : Type 0 where
+pub record AppliesTold {S : Type 0} (g : Ghosts S) (models : ℕ) (change : Change) (old new : Held S)
+    (result : Result (Unit {0}) Error) : Type 0 where
   pub kept : IsKept models (state g new)
   pub told_before : IsTrue (state g new).is_open → IsTrue (state g old).is_open
-  pub exact : IsTrue (state g new).is_open → OnOk result (told models (state g new).now ≡ applied change (told models (state g old).now))
-  pub refused : IsTrue (state g new).is_open → OnErr result (told models (state g new).now ≡ told models (state g old).now)
+  pub exact : IsTrue (state g new).is_open
+      → OnOk result (told models (state g new).now ≡ applied change (told models (state g old).now))
+  pub refused : IsTrue (state g new).is_open
+      → OnErr result (told models (state g new).now ≡ told models (state g old).now)
 
--- the change was applied and the store brought to so many models where it was told that it was, and else nothing was changed
-pub record ReshapesTold {S : Type 0} (g : Ghosts S) (models more : ℕ) (change : Change) (schema : List ℕ) (old new : Held S) (result : Result (Unit {0}) Error) : Type 0 where
+-- the change was applied and the store brought to so many models where it was told that it was, and
+-- else nothing was changed
+pub record ReshapesTold {S : Type 0} (g : Ghosts S) (models more : ℕ) (change : Change)
+    (schema : List ℕ) (old new : Held S) (result : Result (Unit {0}) Error) : Type 0 where
   pub told_before : IsTrue (state g new).is_open → IsTrue (state g old).is_open
   pub kept : OnOk result (IsKept more (state g new))
   pub same : OnErr result (IsKept models (state g new))
-  pub exact : IsTrue (state g new).is_open → OnOk result (told more (state g new).now ≡ widened more (applied change (told models (state g old).now)))
-  pub refused : IsTrue (state g new).is_open → OnErr result (told models (state g new).now ≡ told models (state g old).now)
+  pub exact : IsTrue (state g new).is_open
+      → OnOk result (told more (state g new).now ≡ widened more
+      (applied change (told models (state g old).now)))
+  pub refused : IsTrue (state g new).is_open
+      → OnErr result (told models (state g new).now ≡ told models (state g old).now)
   pub stored : IsTrue (state g new).is_open → OnOk result (schema_in (state g new).now ≡ schema)

@@ -18,7 +18,13 @@ use Rattle.jac_lines.specs.Told.{natural_in, bytes_in, AreSpelled}
 
 -- the fact of a row that the question for all rows shows
 abbrev pub fact_shown : Values → Fact
-fact_shown v = record { model = natural_in (column v 0); jid = bytes_in (column v 1); alt = natural_in (column v 2); jvars = bytes_in (column v 3); body = bytes_in (column v 4) }
+fact_shown v = record {
+  model = natural_in (column v 0);
+  jid = bytes_in (column v 1);
+  alt = natural_in (column v 2);
+  jvars = bytes_in (column v 3);
+  body = bytes_in (column v 4);
+}
 
 -- such a row shows this fact
 pub record IsLineShown (v : Values) (f : Fact) : Type 0 where
@@ -52,14 +58,18 @@ AreRowidsAbove last (v ∷ vs) = (at : ℤ) × IsRowidAbove last v at × AreRowi
 
 -- ---- rows
 
--- From the record whose alternatives were read last, with their guards, to that of the next row, with those of its
--- alternatives before it: it is the same one, or it comes behind all that were read.
+-- From the record whose alternatives were read last, with their guards, to that of the next row,
+-- with those of its alternatives before it: it is the same one, or it comes behind all that were
+-- read.
 abbrev pub MovesOn : ℕ → ℕ → List (List (ℕ × Bool)) → ℕ → ℕ → List (List (ℕ × Bool)) → Type 0
 MovesOn model id guards next_model next_id before =
-    ((model ≡ next_model) × (id ≡ next_id) × (before ≡ guards)) ⊎ ((before ≡ []) × ((model < next_model) ⊎ ((model ≡ next_model) × (id < next_id))))
+    ((model ≡ next_model) × (id ≡ next_id) × (before ≡ guards))
+    ⊎ ((before ≡ []) × ((model < next_model) ⊎ ((model ≡ next_model) × (id < next_id))))
 
--- the next alternative of a record that has alternatives of these guards, for a store of these shapes
-pub record IsNextLine (shapes : List ModelShape) (number model id : ℕ) (before guards : List (List (ℕ × Bool))) (v : Values) : Type 0 where
+-- the next alternative of a record that has alternatives of these guards, for a store of these
+-- shapes
+pub record IsNextLine (shapes : List ModelShape) (number model id : ℕ)
+    (before guards : List (List (ℕ × Bool))) (v : Values) : Type 0 where
   pub row : Row
   pub same_id : row.id ≡ id
   pub shown : IsLineShown v (fact_of model (length before) row)
@@ -69,7 +79,8 @@ pub record IsNextLine (shapes : List ModelShape) (number model id : ℕ) (before
   pub guards_are : guards ≡ before ++ row.guard ∷ []
 
 -- a row of a model, but for the number of the alternative
-pub record IsStoredRow (shapes : List ModelShape) (number model : ℕ) (v : Values) (row : Row) : Type 0 where
+pub record IsStoredRow (shapes : List ModelShape) (number model : ℕ) (v : Values) (row : Row) : Type
+    0 where
   pub jid : column v 1 ≡ Blob (id_bytes row.id)
   pub jvars : column v 3 ≡ Blob (guard_bytes row.guard)
   pub body : column v 4 ≡ Blob (cells_bytes row.cells)
@@ -77,7 +88,9 @@ pub record IsStoredRow (shapes : List ModelShape) (number model : ℕ) (v : Valu
   pub spelled : IsSpelled row
 
 -- a row is read behind the others
-pub record ReadsOn (shapes : List ModelShape) (number model id : ℕ) (guards : List (List (ℕ × Bool))) (v : Values) (next_model next_id : ℕ) (next_guards : List (List (ℕ × Bool))) : Type 0 where
+pub record ReadsOn (shapes : List ModelShape) (number model id : ℕ)
+    (guards : List (List (ℕ × Bool))) (v : Values) (next_model next_id : ℕ)
+    (next_guards : List (List (ℕ × Bool))) : Type 0 where
   pub before : List (List (ℕ × Bool))
   pub moved : MovesOn model id guards next_model next_id before
   pub line : IsNextLine shapes number next_model next_id before next_guards v
@@ -103,13 +116,15 @@ pub record ShowsRowids {S : Type 0} (g : Ghosts S) (old new : Held S) : Type 0 w
   pub shown : Shown rowid_reading [] (state g old) (state g new) found
   pub are : AreRowidsAbove None found
 
-pub record ShowsLines {S : Type 0} (g : Ghosts S) (shapes : List ModelShape) (number : ℕ) (old new : Held S) : Type 0 where
+pub record ShowsLines {S : Type 0} (g : Ghosts S) (shapes : List ModelShape) (number : ℕ)
+    (old new : Held S) : Type 0 where
   pub found : List Values
   pub shown : Shown all_reading [] (state g old) (state g new) found
   pub are : AreLinesOf shapes number found
 
 -- the number, and then the rowids and the rows, which are those of tables of these shapes
-pub record ShowsStored {S : Type 0} (g : Ghosts S) (shapes : List ModelShape) (old new : Held S) : Type 0 where
+pub record ShowsStored {S : Type 0} (g : Ghosts S) (shapes : List ModelShape) (old new : Held S) :
+    Type 0 where
   pub number : ℕ
   pub first : Held S
   pub second : Held S

@@ -35,7 +35,13 @@ chars_in (Blob b) = []
 
 -- the fact of a row of rec
 abbrev pub fact_in : Values → Fact
-fact_in r = record { model = natural_in (column r 1); jid = bytes_in (column r 2); alt = natural_in (column r 3); jvars = bytes_in (column r 4); body = bytes_in (column r 5) }
+fact_in r = record {
+  model = natural_in (column r 1);
+  jid = bytes_in (column r 2);
+  alt = natural_in (column r 3);
+  jvars = bytes_in (column r 4);
+  body = bytes_in (column r 5);
+}
 
 abbrev pub row_in : Fact → Row
 row_in f = record { id = number_in f.jid; guard = guard_in f.jvars; cells = cells_in f.body }
@@ -43,7 +49,8 @@ row_in f = record { id = number_in f.jid; guard = guard_in f.jvars; cells = cell
 -- the tables of so many models, from one on
 abbrev pub tables_in : ℕ → ℕ → List Fact → List (List Row)
 tables_in first zero all = []
-tables_in first (suc n) all = map row_in (filter (is_fact_in first) all) ∷ tables_in (first + 1) n all
+tables_in first (suc n) all = map row_in (filter (is_fact_in first) all) ∷ tables_in (first + 1) n
+    all
 
 abbrev pub told : ℕ → Database → State
 told models db = record {

@@ -11,25 +11,33 @@ use Rattle.jac_lines.specs.Statements.{Statement}
 abbrev pub Ran : {S : Type 0} → Ghosts S → List Statement → Held S → Held S → Type 0
 Ran g [] old new = new ≡ old
 Ran {S} g (x ∷ xs) old new =
-    (mid : Held S) × (count : ℕ) × ExecutesInside 0 x.text x.params (state g old) (state g mid) (Ok count) × Ran g xs mid new
+    (mid : Held S) × (count : ℕ) × ExecutesInside 0 x.text x.params (state g old) (state g mid)
+    (Ok count) × Ran g xs mid new
 
 -- inside of a transaction: nothing is committed, and where all went well each of them ran
-pub record Inside {S T : Type 0} (g : Ghosts S) (xs : List Statement) (old new : Held S) (result : Result T Error) : Type 0 where
-  pub ran : HasCleanDisk (state g new) → IsTrue (state g old).in_transaction → OnOk result (Ran g xs old new)
+pub record Inside {S T : Type 0} (g : Ghosts S) (xs : List Statement) (old new : Held S)
+    (result : Result T Error) : Type 0 where
+  pub ran : HasCleanDisk (state g new) → IsTrue (state g old).in_transaction
+      → OnOk result (Ran g xs old new)
   pub kept : HasCleanDisk (state g new) → KeepsCommit (state g old) (state g new)
   pub survives : Survives (state g old) (state g new) (λ _. ⊥)
 
 -- the database that they leave
-pub record Leaves {S : Type 0} (g : Ghosts S) (xs : List Statement) (old : Held S) (db : Database) : Type 0 where
+pub record Leaves {S : Type 0} (g : Ghosts S) (xs : List Statement) (old : Held S) (db : Database) :
+    Type 0 where
   pub last : Held S
   pub ran : Ran g xs (record old { in_transaction = true }) last
   pub left : db ≡ (state g last).now
 
 -- one transaction of them: all or none, also where a crash cuts it off
-pub record Transacts {S T : Type 0} (g : Ghosts S) (xs : List Statement) (old new : Held S) (result : Result T Error) : Type 0 where
+pub record Transacts {S T : Type 0} (g : Ghosts S) (xs : List Statement) (old new : Held S)
+    (result : Result T Error) : Type 0 where
   pub all : HasCleanDisk (state g new) → OnOk result (Leaves g xs old (state g new).committed)
-  pub none : HasCleanDisk (state g new) → IsTrue (state g new).is_open → OnErr result (((state g new).now ≡ (state g old).now) × ((state g new).committed ≡ (state g old).committed))
-  pub crash : Survives (state g old) (state g new) (λ trees. (db : Database) × Leaves g xs old db × (trees ≡ db.trees))
+  pub none : HasCleanDisk (state g new) → IsTrue (state g new).is_open
+      → OnErr result (((state g new).now ≡ (state g old).now)
+      × ((state g new).committed ≡ (state g old).committed))
+  pub crash : Survives (state g old) (state g new) (λ trees. (db : Database) × Leaves g xs old db
+      × (trees ≡ db.trees))
 
 -- a call outside of a transaction ends outside of one: what is seen then is what is committed
 pub record Ends (old new : State) : Type 0 where

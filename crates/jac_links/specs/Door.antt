@@ -19,19 +19,26 @@ pub record Visit (L : Type 0) : Type 0 where
   pub gone : L
   pub result : Result ℕ Halt
 
--- connection c was served: its link holds these bytes more, these are its entries, and these its lines on the audit
-pub record IsVisited {L : Type 0} (seen : L → LinkSeen) (app : Answering) (c first : ℕ) (k : Span Holding) (visit : Visit L) (mine : List Entry) (lines : List ℕ) : Type 0 where
+-- connection c was served: its link holds these bytes more, these are its entries, and these its
+-- lines on the audit
+pub record IsVisited {L : Type 0} (seen : L → LinkSeen) (app : Answering) (c first : ℕ)
+    (k : Span Holding) (visit : Visit L) (mine : List Entry) (lines : List ℕ) : Type 0 where
   pub out : List ℕ
   pub took : Took (span (as_sink (seen visit.came)) (as_sink (seen visit.gone))) out
-  pub served : IsLinkServed app c first (span (seen visit.came) (seen visit.gone)) k visit.result out lines
+  pub served : IsLinkServed app c first (span (seen visit.came) (seen visit.gone)) k visit.result
+      out lines
   pub entries : served.log ≡ mine
 
--- connections were served one after another, of which the first is the c-th, before which there were `first` replies
-abbrev pub AreVisited : {L : Type 0} → (L → LinkSeen) → Answering → ℕ → ℕ → Holding → List (Visit L) → List Entry → List ℕ → Holding → Type 0
+-- connections were served one after another, of which the first is the c-th, before which there
+-- were `first` replies
+abbrev pub AreVisited : {L : Type 0} → (L → LinkSeen) → Answering → ℕ → ℕ → Holding → List (Visit L)
+    → List Entry → List ℕ → Holding → Type 0
 AreVisited seen app c first before [] log audit after = (log ≡ []) × (audit ≡ []) × (after ≡ before)
 AreVisited seen app c first before (visit ∷ visits) log audit after =
-    (between : Holding) × (mine : List Entry) × (lines : List ℕ) × (others : List Entry) × (more : List ℕ)
-    × IsVisited seen app c first (span before between) visit mine lines × (log ≡ mine ++ others) × (audit ≡ lines ++ more)
+    (between : Holding) × (mine : List Entry) × (lines : List ℕ) × (others : List Entry)
+    × (more : List ℕ)
+    × IsVisited seen app c first (span before between) visit mine lines × (log ≡ mine ++ others)
+    × (audit ≡ lines ++ more)
     × AreVisited seen app (c + 1) (first + length mine) between visits others more after
 
 -- the one that wasn't handed back
@@ -56,25 +63,34 @@ abbrev pub IsPart : Bool → List ℕ → List ℕ → Type 0
 IsPart false bytes all = bytes ≡ all
 IsPart true bytes all = IsFront bytes all
 
--- why serving ended, of at most so many connections: that many came, or a door that tells had no more; or the call
--- that was served last says why
-abbrev pub IsEnding : {L : Type 0} → ℕ → Span (DoorSeen L) → List (Visit L) → Option (Visit L) → List Entry → Result Tally DoorHalt → Type 0
+-- why serving ended, of at most so many connections: that many came, or a door that tells had no
+-- more; or the call that was served last says why
+abbrev pub IsEnding : {L : Type 0} → ℕ → Span (DoorSeen L) → List (Visit L) → Option (Visit L)
+    → List Entry → Result Tally DoorHalt → Type 0
 IsEnding most door visits last log (Ok tally) =
-    (last ≡ None) × (tally.connections ≡ length visits) × (tally.replies ≡ length log) × (length visits ≤ most)
+    (last ≡ None) × (tally.connections ≡ length visits) × (tally.replies ≡ length log)
+    × (length visits ≤ most)
     × ((length visits ≡ most) ⊎ (IsTrue door.after.tells → door.after.coming ≡ []))
-IsEnding most door visits last log (Err halts.Door) = AreWhole (unreturned last) × Rose door.before.faults door.after.faults
-IsEnding {L = L} most door visits last log (Err halts.Write) = (visit : Visit L) × (last ≡ Some visit) × (visit.result ≡ Err ways.Write)
-IsEnding {L = L} most door visits last log (Err halts.Memory) = (visit : Visit L) × (last ≡ Some visit) × (visit.result ≡ Err ways.Memory)
+IsEnding most door visits last log (Err halts.Door) = AreWhole (unreturned last)
+    × Rose door.before.faults door.after.faults
+IsEnding {L = L} most door visits last log (Err halts.Write) = (visit : Visit L)
+    × (last ≡ Some visit) × (visit.result ≡ Err ways.Write)
+IsEnding {L = L} most door visits last log (Err halts.Memory) = (visit : Visit L)
+    × (last ≡ Some visit) × (visit.result ≡ Err ways.Memory)
 
--- at most so many connections of a door were served, numbered from 1, and their replies counted from 1: each that was
--- served whole was handed back, in order, and the one log of all shows what they leave
-pub record AreLinksServed {L : Type 0} (seen : L → LinkSeen) (app : Answering) (most : ℕ) (door : Span (DoorSeen L)) (k : Span Holding)
+-- at most so many connections of a door were served, numbered from 1, and their replies counted
+-- from 1: each that was served whole was handed back, in order, and the one log of all shows what
+-- they leave
+pub record AreLinksServed {L : Type 0} (seen : L → LinkSeen) (app : Answering) (most : ℕ)
+    (door : Span (DoorSeen L)) (k : Span Holding)
     (result : Result Tally DoorHalt) (audit : List ℕ) : Type 0 where
   pub visits : List (Visit L)
   pub last : Option (Visit L)
   pub log : List Entry
-  pub came : IsTrue door.after.tells → door.before.coming ≡ map (λ visit. visit.came) (visits ++ unreturned last) ++ door.after.coming
-  pub returned : IsTrue door.after.tells → door.after.returned ≡ door.before.returned ++ map (λ visit. visit.gone) visits
+  pub came : IsTrue door.after.tells → door.before.coming ≡ map (λ visit. visit.came)
+      (visits ++ unreturned last) ++ door.after.coming
+  pub returned : IsTrue door.after.tells → door.after.returned ≡ door.before.returned
+      ++ map (λ visit. visit.gone) visits
   pub visited : AreVisited seen app 1 0 k.before (visits ++ unreturned last) log audit k.after
   pub whole : AreWhole visits
   pub entries : app.entries k log

@@ -1,4 +1,5 @@
--- Serving a link: its input is the pieces of one connection, and the replies go back on it as they are.
+-- Serving a link: its input is the pieces of one connection, and the replies go back on it as they
+-- are.
 use Rattle.std.specs.Prelude.{◌≡◌, ◌≤◌, ◌||◌, ◌⊎◌, ℕ, ◌+◌, Bool, true, false, IsTrue, IfOk, IsErr, nat_le, Result, Ok, Err, List, [], ◌∷◌, ◌++◌, length}
 use Rattle.std.specs.List.{concat}
 use Rattle.jac_io.specs.Faults.{Rose}
@@ -37,7 +38,8 @@ abbrev pub closes_in : Answering → List Entry → Bool
 closes_in app [] = false
 closes_in app (entry ∷ log) = is_closing (hearing app) entry || closes_in app log
 
--- the connection of these pieces and this log is closed: by an entry, or as all bytes that count were brought
+-- the connection of these pieces and this log is closed: by an entry, or as all bytes that count
+-- were brought
 abbrev pub is_over : Answering → List (List ℕ) → List Entry → Bool
 is_over app pieces log = closes_in app log || nat_le LIMIT (length (concat pieces))
 
@@ -65,8 +67,8 @@ pub record IsLastLost (lost : Lost) (first : ℕ) (log : List Entry) (out audit 
   pub out_text : out ≡ replies_on spellings.Raw whole_ones ++ out_torn
   pub audit_text : audit ≡ audited_from (first + 1) whole_ones ++ audit_torn
 
--- what was put of these entries, by how serving their link ended: where a put on the link failed the
--- connection ended, one on the audit is a write's refusal, and where memory ran out all was put
+-- what was put of these entries, by how serving their link ended: where a put on the link failed
+-- the connection ended, one on the audit is a write's refusal, and where memory ran out all was put
 abbrev pub PutsLog : ℕ → Span LinkSeen → List Entry → Result ℕ Halt → List ℕ → List ℕ → Type 0
 PutsLog first link log (Ok count) out audit =
     ArePut first log out audit
@@ -84,7 +86,8 @@ pub record IsLinkServed (app : Answering) (c first : ℕ) (link : Span LinkSeen)
   pub part : Bool
   -- what was taken of the input: where it was heard whole, all of it, or up to the closing
   pub taken : IsTrue link.after.tells → link.before.left ≡ concat pieces ++ link.after.left
-  pub ended : part ≡ false → (IsTrue link.after.tells → link.after.left ≡ []) ⊎ (is_over app pieces log ≡ true)
+  pub ended : part ≡ false → (IsTrue link.after.tells → link.after.left ≡ [])
+      ⊎ (is_over app pieces log ≡ true)
   pub cause : part ≡ true → Rose link.before.faults link.after.faults ⊎ IsErr result
   pub served : IsServed part app k (events_of c pieces) log
   pub few : length log ≤ 16777217

@@ -36,9 +36,12 @@ use Rattle.jac_serving.specs.Serve.{handled, sent_on, sent_audit, out_on, outs_o
 
 -- a link's next piece: none at the end of its input
 abbrev pub TakesPiece : Span LinkSeen → Result (Option (List ℕ)) Missed → Type 0
-TakesPiece link (Ok None) = IsTrue link.after.tells → (link.before.left ≡ []) × (link.after.left ≡ [])
-TakesPiece link (Ok (Some bytes)) = (0 < length bytes) × (IsTrue link.after.tells → link.before.left ≡ bytes ++ link.after.left)
-TakesPiece link (Err misses.Link) = (IsTrue link.after.tells → link.after.left ≡ link.before.left) × Rose link.before.faults link.after.faults
+TakesPiece link (Ok None) = IsTrue link.after.tells → (link.before.left ≡ [])
+    × (link.after.left ≡ [])
+TakesPiece link (Ok (Some bytes)) = (0 < length bytes) × (IsTrue link.after.tells
+    → link.before.left ≡ bytes ++ link.after.left)
+TakesPiece link (Err misses.Link) = (IsTrue link.after.tells → link.after.left ≡ link.before.left)
+    × Rose link.before.faults link.after.faults
 TakesPiece link (Err misses.Memory) = IsTrue link.after.tells → link.after.left ≡ link.before.left
 
 -- a reply goes to the link, after its audit line has gone to the audit
@@ -64,7 +67,8 @@ IsOutLost k lost (Closed c) out audit = ⊥
 -- what a hub gives is put on the link
 abbrev pub PutsOutOn : Brought → HubOut → Result Brought Cut → List ℕ → List ℕ → Type 0
 PutsOutOn so_far given (Ok more) out audit =
-    (more.count ≡ so_far.count + replies_in (given ∷ [])) × (more.closed ≡ (so_far.closed || is_closed_out given))
+    (more.count ≡ so_far.count + replies_in (given ∷ []))
+    × (more.closed ≡ (so_far.closed || is_closed_out given))
     × (out ≡ out_on spellings.Raw given) × (audit ≡ outs_audited (so_far.count + 1) (given ∷ []))
 PutsOutOn so_far given (Err (cuts.Link count)) out audit =
     (count ≡ so_far.count + 1) × IsOutLost (so_far.count + 1) losses.Link given out audit
@@ -72,7 +76,8 @@ PutsOutOn so_far given (Err cuts.Audit) out audit =
     IsOutLost (so_far.count + 1) losses.Audit given out audit
 
 -- what a hub gave so far was put
-pub record PutsSoFarOn (app : Answering) (hub now : HubSeen) (k : Span Holding) (served : ℕ) (so_far : Brought) (out audit : List ℕ) : Type 0 where
+pub record PutsSoFarOn (app : Answering) (hub now : HubSeen) (k : Span Holding) (served : ℕ)
+    (so_far : Brought) (out audit : List ℕ) : Type 0 where
   pub outs : List HubOut
   pub given : IsGiven IsTaken (handled spellings.Raw app) hub outs now k.before k.after
   pub count_is : so_far.count ≡ served + replies_in outs
@@ -81,7 +86,8 @@ pub record PutsSoFarOn (app : Answering) (hub now : HubSeen) (k : Span Holding) 
   pub audit_text : audit ≡ outs_audited (served + 1) outs
 
 -- all that a hub gave was put
-pub record PutsAllOn (app : Answering) (hub new : HubSeen) (k : Span Holding) (served : ℕ) (brought : Brought) (out audit : List ℕ) : Type 0 where
+pub record PutsAllOn (app : Answering) (hub new : HubSeen) (k : Span Holding) (served : ℕ)
+    (brought : Brought) (out audit : List ℕ) : Type 0 where
   pub outs : List HubOut
   pub emptied : IsEmptied IsTaken (handled spellings.Raw app) hub outs new k.before k.after
   pub count_is : brought.count ≡ served + replies_in outs
@@ -103,8 +109,10 @@ pub record PutsSomeOn (lost : Lost) (app : Answering) (hub : HubSeen) (k : Span 
   pub out_text : out ≡ outs_on spellings.Raw outs ++ out_torn
   pub audit_text : audit ≡ outs_audited (served + 1) outs ++ audit_torn
 
-abbrev pub PutsOutsOn : Answering → HubSeen → HubSeen → Span Holding → ℕ → Result Brought Cut → List ℕ → List ℕ → Type 0
-PutsOutsOn app hub new k served (Ok brought) out audit = PutsAllOn app hub new k served brought out audit
+abbrev pub PutsOutsOn : Answering → HubSeen → HubSeen → Span Holding → ℕ → Result Brought Cut
+    → List ℕ → List ℕ → Type 0
+PutsOutsOn app hub new k served (Ok brought) out audit = PutsAllOn app hub new k served brought out
+    audit
 PutsOutsOn app hub new k served (Err (cuts.Link count)) out audit =
     (some : PutsSomeOn losses.Link app hub k served out audit)
     × (count ≡ served + replies_in some.outs + 1)
@@ -120,20 +128,23 @@ MayTake hub (Finish c) = ⊥
 
 -- a hub took the event, as far as memory allowed
 abbrev pub TakesIn : HubSeen → Event → HubSeen → Type 0
-TakesIn hub event new = (taken : Result (Unit {0}) HubFault) × Steps hub event taken new × ((taken ≡ Ok tt) ⊎ (taken ≡ Err faults.Memory))
+TakesIn hub event new = (taken : Result (Unit {0}) HubFault) × Steps hub event taken new
+    × ((taken ≡ Ok tt) ⊎ (taken ≡ Err faults.Memory))
 
 -- a hub with one connection, of which nothing came yet
 abbrev pub begun_hub : ℕ → HubSeen
 begun_hub c = record { channels = set_at c (Some new_channel) (λ d. None); turn = Idle }
 
 -- the n-th event was served whole, of which the connections stood so before
-pub record IsHeardOn (app : Answering) (new : HubSeen) (k : Span Holding) (served : ℕ) (brought : Brought) (n : ℕ) (event : Event)
+pub record IsHeardOn (app : Answering) (new : HubSeen) (k : Span Holding) (served : ℕ)
+    (brought : Brought) (n : ℕ) (event : Event)
     (known : Connections Ask) (out audit : List ℕ) : Type 0 where
   pub mine : List Entry
   pub brought_by : IsBroughtBy (hearing app) n event known mine
   pub entries : app.entries k mine
   pub count_is : brought.count ≡ served + length mine
-  pub closed_is : brought.closed ≡ has_closed (closings event known (after_both (hearing app) event mine known))
+  pub closed_is : brought.closed ≡ has_closed (closings event known (after_both (hearing app) event
+      mine known))
   pub like : AreLike (hearing app) new.channels (after_both (hearing app) event mine known)
   pub idle : new.turn ≡ Idle
   pub out_text : out ≡ replies_on spellings.Raw mine
@@ -146,9 +157,11 @@ pub record AreBegunOn (app : Answering) (k : Span Holding) (n : ℕ) (event : Ev
   pub entries : app.entries k mine
 
 -- an event is served, whichever connections the hub may stand for
-abbrev pub AnswersOn : Answering → HubSeen → HubSeen → Span Holding → ℕ → Event → Result Brought Cut → List ℕ → List ℕ → Type 0
+abbrev pub AnswersOn : Answering → HubSeen → HubSeen → Span Holding → ℕ → Event → Result Brought Cut
+    → List ℕ → List ℕ → Type 0
 AnswersOn app hub new k served event (Ok brought) out audit =
-    (n : ℕ) (known : Connections Ask) → AreLike (hearing app) hub.channels known → IsHeardOn app new k served brought n event known out audit
+    (n : ℕ) (known : Connections Ask) → AreLike (hearing app) hub.channels known
+    → IsHeardOn app new k served brought n event known out audit
 AnswersOn app hub new k served event (Err (cuts.Link count)) out audit =
     (n : ℕ) (known : Connections Ask) → AreLike (hearing app) hub.channels known
     → (mine : List Entry) × AreBegunOn app k n event known mine
@@ -160,14 +173,16 @@ AnswersOn app hub new k served event (Err cuts.Audit) out audit =
 
 -- how a connection stands behind what its piece brought
 abbrev pub standing_of : Brought → Standing
-standing_of brought = if brought.closed then standings.Over brought.count else standings.Open brought.count
+standing_of brought = if brought.closed then standings.Over brought.count
+    else standings.Open brought.count
 
 -- the link gave these bytes of its input
 abbrev pub Gave : Span LinkSeen → List ℕ → Type 0
 Gave link bytes = IsTrue link.after.tells → link.before.left ≡ bytes ++ link.after.left
 
 -- a link gave its next piece, and that was served whole
-pub record IsPieceOn (app : Answering) (c : ℕ) (new : HubSeen) (link : Span LinkSeen) (k : Span Holding) (served : ℕ) (brought : Brought) (n : ℕ)
+pub record IsPieceOn (app : Answering) (c : ℕ) (new : HubSeen) (link : Span LinkSeen)
+    (k : Span Holding) (served : ℕ) (brought : Brought) (n : ℕ)
     (known : Connections Ask) (out audit : List ℕ) : Type 0 where
   pub bytes : List ℕ
   pub some : 0 < length bytes
@@ -196,13 +211,16 @@ pub record IsQuiet (link : Span LinkSeen) (k : Span Holding) (out audit : List �
   pub no_audit : audit ≡ []
 
 -- the input has ended, or the link failed
-pub record IsLast (link : Span LinkSeen) (k : Span Holding) (served count : ℕ) (out audit : List ℕ) : Type 0 where
+pub record IsLast (link : Span LinkSeen) (k : Span Holding) (served count : ℕ)
+    (out audit : List ℕ) : Type 0 where
   pub quiet : IsQuiet link k out audit
   pub same_count : count ≡ served
-  pub cause : (IsTrue link.after.tells → link.after.left ≡ []) ⊎ Rose link.before.faults link.after.faults
+  pub cause : (IsTrue link.after.tells → link.after.left ≡ [])
+      ⊎ Rose link.before.faults link.after.faults
 
 -- the next piece of connection c is taken and served, whichever connections the hub may stand for
-abbrev pub ServesPiece : Answering → ℕ → HubSeen → HubSeen → Span LinkSeen → Span Holding → ℕ → Result Standing Halt → List ℕ → List ℕ → Type 0
+abbrev pub ServesPiece : Answering → ℕ → HubSeen → HubSeen → Span LinkSeen → Span Holding → ℕ
+    → Result Standing Halt → List ℕ → List ℕ → Type 0
 ServesPiece app c hub new link k served (Ok (standings.Open count)) out audit =
     (n : ℕ) (known : Connections Ask) → AreLike (hearing app) hub.channels known
     → IsPieceOn app c new link k served (record { count = count; closed = false }) n known out audit

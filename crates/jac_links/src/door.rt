@@ -40,12 +40,17 @@ fn serve_line<K: Desk, D: Door, U: AuditSink>(
     requires few_replies { tally.replies ≤ tally.connections * 2 ^ 25 }
     requires desk { MayServe K.answering (K.seen desk.old) }
     ensures served { WentTo (span (U.seen audit.old) (U.seen audit.new))
-        (VisitsLine D.Line.seen (K.answering (K.seen desk.old).of) tally line (span (D.seen door.old) (D.seen door.new)) (kept (K.seen desk.old) (K.seen desk.new)) result) }
+        (VisitsLine D.Line.seen (K.answering (K.seen desk.old).of) tally line
+        (span (D.seen door.old) (D.seen door.new)) (kept (K.seen desk.old) (K.seen desk.new))
+        result) }
     ensures lasts { DoorLasts (D.seen door.old) (D.seen door.new) }
-    ensures same_port { IsTrue (D.seen door.new).tells → (D.seen door.new).port ≡ (D.seen door.old).port }
-    ensures same_coming { IsTrue (D.seen door.new).tells → (D.seen door.new).coming ≡ (D.seen door.old).coming }
+    ensures same_port { IsTrue (D.seen door.new).tells → (D.seen door.new).port
+        ≡ (D.seen door.old).port }
+    ensures same_coming { IsTrue (D.seen door.new).tells → (D.seen door.new).coming
+        ≡ (D.seen door.old).coming }
     ensures few_replies { IfOk result (λ more. more.replies ≤ more.connections * 2 ^ 25) }
-    ensures cause { result ≡ Err DoorHalt.Write → Rose (U.seen audit.old).faults (U.seen audit.new).faults }
+    ensures cause { result ≡ Err DoorHalt.Write
+        → Rose (U.seen audit.old).faults (U.seen audit.new).faults }
     ensures keeps { Keeps K.answering (K.seen desk.old) (K.seen desk.new) }
 {
     let mut line = line;
@@ -74,11 +79,16 @@ fn serve_next<K: Desk, D: Door, U: AuditSink>(
     requires few_replies { tally.replies ≤ tally.connections * 2 ^ 25 }
     requires desk { MayServe K.answering (K.seen desk.old) }
     ensures served { WentTo (span (U.seen audit.old) (U.seen audit.new))
-        (ServesNext D.Line.seen (K.answering (K.seen desk.old).of) tally (span (D.seen door.old) (D.seen door.new)) (kept (K.seen desk.old) (K.seen desk.new)) result) }
+        (ServesNext D.Line.seen (K.answering (K.seen desk.old).of) tally
+        (span (D.seen door.old) (D.seen door.new)) (kept (K.seen desk.old) (K.seen desk.new))
+        result) }
     ensures lasts { DoorLasts (D.seen door.old) (D.seen door.new) }
-    ensures same_port { IsTrue (D.seen door.new).tells → (D.seen door.new).port ≡ (D.seen door.old).port }
-    ensures few_replies { IfOk result (λ next. IfSome next (λ more. more.replies ≤ more.connections * 2 ^ 25)) }
-    ensures cause { result ≡ Err DoorHalt.Write → Rose (U.seen audit.old).faults (U.seen audit.new).faults }
+    ensures same_port { IsTrue (D.seen door.new).tells → (D.seen door.new).port
+        ≡ (D.seen door.old).port }
+    ensures few_replies { IfOk result (λ next. IfSome next (λ more. more.replies ≤ more.connections
+        * 2 ^ 25)) }
+    ensures cause { result ≡ Err DoorHalt.Write
+        → Rose (U.seen audit.old).faults (U.seen audit.new).faults }
     ensures keeps { Keeps K.answering (K.seen desk.old) (K.seen desk.new) }
 {
     match door.next() {
@@ -91,8 +101,8 @@ fn serve_next<K: Desk, D: Door, U: AuditSink>(
     }
 }
 
-/// Serves so many of the door's links at most, as connections that are numbered from 1, and hands each back. A
-/// connection within which serving ends isn't handed back.
+/// Serves so many of the door's links at most, as connections that are numbered from 1, and hands
+/// each back. A connection within which serving ends isn't handed back.
 pub fn serve_links<K: Desk, D: Door, U: AuditSink>(
     desk: &mut K,
     most: u32,
@@ -101,10 +111,14 @@ pub fn serve_links<K: Desk, D: Door, U: AuditSink>(
 ) -> Result<Tally, DoorHalt>
     requires desk { MayServe K.answering (K.seen desk.old) }
     ensures served { WentTo (span (U.seen audit.old) (U.seen audit.new))
-        (AreLinksServed D.Line.seen (K.answering (K.seen desk.old).of) most (span (D.seen door.old) (D.seen door.new)) (kept (K.seen desk.old) (K.seen desk.new)) result) }
+        (AreLinksServed D.Line.seen (K.answering (K.seen desk.old).of) most
+        (span (D.seen door.old) (D.seen door.new)) (kept (K.seen desk.old) (K.seen desk.new))
+        result) }
     ensures lasts { DoorLasts (D.seen door.old) (D.seen door.new) }
-    ensures same_port { IsTrue (D.seen door.new).tells → (D.seen door.new).port ≡ (D.seen door.old).port }
-    ensures cause { result ≡ Err DoorHalt.Write → Rose (U.seen audit.old).faults (U.seen audit.new).faults }
+    ensures same_port { IsTrue (D.seen door.new).tells → (D.seen door.new).port
+        ≡ (D.seen door.old).port }
+    ensures cause { result ≡ Err DoorHalt.Write
+        → Rose (U.seen audit.old).faults (U.seen audit.new).faults }
     ensures keeps { Keeps K.answering (K.seen desk.old) (K.seen desk.new) }
 {
     desk.lawful();

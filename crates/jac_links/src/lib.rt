@@ -1,5 +1,5 @@
-//! A link is served as a text of its pieces would be, and each link of a door one after another, over any desk that
-//! answers requests.
+//! A link is served as a text of its pieces would be, and each link of a door one after another,
+//! over any desk that answers requests.
 #![tactic(auto)]
 
 mod door;

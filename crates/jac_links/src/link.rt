@@ -1,4 +1,5 @@
-//! A link is served: its input is the pieces of one connection, and the replies go back on it as they are.
+//! A link is served: its input is the pieces of one connection, and the replies go back on it as
+//! they are.
 ghost use Rattle.std.specs.Prelude.{◌≡◌, ◌<◌, ◌+◌, ◌-◌, ◌^◌, ℕ, IsSome, IsTrue, OnOk, Err};
 ghost use Rattle.jac_io.specs.Faults.{Rose};
 ghost use Rattle.jac_serving.specs.Desk.{MayServe, Keeps, kept};
@@ -27,7 +28,8 @@ pub enum Halt {
     Memory,
 }
 
-/// What an event brought so far: the count of replies by then, and whether its connection was closed.
+/// What an event brought so far: the count of replies by then, and whether its connection was
+/// closed.
 #[derive(Clone, Copy, Debug, PartialEq, Eq)]
 struct Brought {
     count: u64,
@@ -57,10 +59,14 @@ fn put_out<N: Link, U: AuditSink>(
     given: &HubOut,
 ) -> Result<Brought, Cut>
     requires few { so_far.count < 2 ^ 64 - 1 }
-    ensures put { Went (sinks (as_sink (N.seen link.old)) (as_sink (N.seen link.new)) (U.seen audit.old) (U.seen audit.new)) (PutsOutOn so_far given.now result) }
-    ensures left { IsTrue (N.seen link.new).tells → (N.seen link.new).left ≡ (N.seen link.old).left }
-    ensures link { (count : ℕ) → result ≡ Err (Cut.Link count) → Rose (N.seen link.old).faults (N.seen link.new).faults }
-    ensures audit { result ≡ Err Cut.Audit → Rose (U.seen audit.old).faults (U.seen audit.new).faults }
+    ensures put { Went (sinks (as_sink (N.seen link.old)) (as_sink (N.seen link.new))
+        (U.seen audit.old) (U.seen audit.new)) (PutsOutOn so_far given.now result) }
+    ensures left { IsTrue (N.seen link.new).tells → (N.seen link.new).left
+        ≡ (N.seen link.old).left }
+    ensures link { (count : ℕ) → result ≡ Err (Cut.Link count)
+        → Rose (N.seen link.old).faults (N.seen link.new).faults }
+    ensures audit { result ≡ Err Cut.Audit
+        → Rose (U.seen audit.old).faults (U.seen audit.new).faults }
 {
     match given {
         HubOut::Reply { conn, sent } => {
@@ -91,11 +97,16 @@ fn put_outs<D: Desk, N: Link, U: AuditSink>(
 ) -> Result<Brought, Cut>
     requires few { served + left (seen hub.old) < 2 ^ 64 - 1 }
     requires desk { MayServe D.answering (D.seen desk.old) }
-    ensures put { Went (sinks (as_sink (N.seen link.old)) (as_sink (N.seen link.new)) (U.seen audit.old) (U.seen audit.new))
-        (PutsOutsOn (D.answering (D.seen desk.old).of) (seen hub.old) (seen hub.new) (kept (D.seen desk.old) (D.seen desk.new)) served result) }
-    ensures left { IsTrue (N.seen link.new).tells → (N.seen link.new).left ≡ (N.seen link.old).left }
-    ensures link { (count : ℕ) → result ≡ Err (Cut.Link count) → Rose (N.seen link.old).faults (N.seen link.new).faults }
-    ensures audit { result ≡ Err Cut.Audit → Rose (U.seen audit.old).faults (U.seen audit.new).faults }
+    ensures put { Went (sinks (as_sink (N.seen link.old)) (as_sink (N.seen link.new))
+        (U.seen audit.old) (U.seen audit.new))
+        (PutsOutsOn (D.answering (D.seen desk.old).of) (seen hub.old) (seen hub.new)
+        (kept (D.seen desk.old) (D.seen desk.new)) served result) }
+    ensures left { IsTrue (N.seen link.new).tells → (N.seen link.new).left
+        ≡ (N.seen link.old).left }
+    ensures link { (count : ℕ) → result ≡ Err (Cut.Link count)
+        → Rose (N.seen link.old).faults (N.seen link.new).faults }
+    ensures audit { result ≡ Err Cut.Audit
+        → Rose (U.seen audit.old).faults (U.seen audit.new).faults }
     ensures keeps { Keeps D.answering (D.seen desk.old) (D.seen desk.new) }
 {
     let mut so_far = Brought {
@@ -138,11 +149,16 @@ fn serve_event<D: Desk, N: Link, U: AuditSink>(
     requires following { IsFollowing (D.answering (D.seen desk.old).of) (seen hub.old) }
     requires piece { MayTake (seen hub.old) event.now }
     requires desk { MayServe D.answering (D.seen desk.old) }
-    ensures answered { Went (sinks (as_sink (N.seen link.old)) (as_sink (N.seen link.new)) (U.seen audit.old) (U.seen audit.new))
-        (AnswersOn (D.answering (D.seen desk.old).of) (seen hub.old) (seen hub.new) (kept (D.seen desk.old) (D.seen desk.new)) served event.now result) }
-    ensures left { IsTrue (N.seen link.new).tells → (N.seen link.new).left ≡ (N.seen link.old).left }
-    ensures link { (count : ℕ) → result ≡ Err (Cut.Link count) → Rose (N.seen link.old).faults (N.seen link.new).faults }
-    ensures audit { result ≡ Err Cut.Audit → Rose (U.seen audit.old).faults (U.seen audit.new).faults }
+    ensures answered { Went (sinks (as_sink (N.seen link.old)) (as_sink (N.seen link.new))
+        (U.seen audit.old) (U.seen audit.new))
+        (AnswersOn (D.answering (D.seen desk.old).of) (seen hub.old) (seen hub.new)
+        (kept (D.seen desk.old) (D.seen desk.new)) served event.now result) }
+    ensures left { IsTrue (N.seen link.new).tells → (N.seen link.new).left
+        ≡ (N.seen link.old).left }
+    ensures link { (count : ℕ) → result ≡ Err (Cut.Link count)
+        → Rose (N.seen link.old).faults (N.seen link.new).faults }
+    ensures audit { result ≡ Err Cut.Audit
+        → Rose (U.seen audit.old).faults (U.seen audit.new).faults }
     ensures keeps { Keeps D.answering (D.seen desk.old) (D.seen desk.new) }
 {
     requests_are_read();
@@ -180,9 +196,13 @@ fn serve_piece<D: Desk, N: Link, U: AuditSink>(
     requires following { IsFollowing (D.answering (D.seen desk.old).of) (seen hub.old) }
     requires begun { IsSome ((seen hub.old).channels conn) }
     requires desk { MayServe D.answering (D.seen desk.old) }
-    ensures served { Went (sinks (as_sink (N.seen link.old)) (as_sink (N.seen link.new)) (U.seen audit.old) (U.seen audit.new))
-        (ServesPiece (D.answering (D.seen desk.old).of) conn (seen hub.old) (seen hub.new) (span (N.seen link.old) (N.seen link.new)) (kept (D.seen desk.old) (D.seen desk.new)) served result) }
-    ensures cause { result ≡ Err Halt.Write → Rose (U.seen audit.old).faults (U.seen audit.new).faults }
+    ensures served { Went (sinks (as_sink (N.seen link.old)) (as_sink (N.seen link.new))
+        (U.seen audit.old) (U.seen audit.new))
+        (ServesPiece (D.answering (D.seen desk.old).of) conn (seen hub.old) (seen hub.new)
+        (span (N.seen link.old) (N.seen link.new)) (kept (D.seen desk.old) (D.seen desk.new)) served
+        result) }
+    ensures cause { result ≡ Err Halt.Write
+        → Rose (U.seen audit.old).faults (U.seen audit.new).faults }
     ensures keeps { Keeps D.answering (D.seen desk.old) (D.seen desk.new) }
 {
     match take_piece(desk.alloc(), link) {
@@ -229,9 +249,13 @@ fn serve_pieces<D: Desk, N: Link, U: AuditSink>(
     requires few { first < 2 ^ 63 }
     requires begun { seen hub.old ≡ begun_hub conn }
     requires desk { MayServe D.answering (D.seen desk.old) }
-    ensures served { Went (sinks (as_sink (N.seen link.old)) (as_sink (N.seen link.new)) (U.seen audit.old) (U.seen audit.new))
-        (IsLinkServed (D.answering (D.seen desk.old).of) conn first (span (N.seen link.old) (N.seen link.new)) (kept (D.seen desk.old) (D.seen desk.new)) result) }
-    ensures cause { result ≡ Err Halt.Write → Rose (U.seen audit.old).faults (U.seen audit.new).faults }
+    ensures served { Went (sinks (as_sink (N.seen link.old)) (as_sink (N.seen link.new))
+        (U.seen audit.old) (U.seen audit.new))
+        (IsLinkServed (D.answering (D.seen desk.old).of) conn first
+        (span (N.seen link.old) (N.seen link.new)) (kept (D.seen desk.old) (D.seen desk.new))
+        result) }
+    ensures cause { result ≡ Err Halt.Write
+        → Rose (U.seen audit.old).faults (U.seen audit.new).faults }
     ensures keeps { Keeps D.answering (D.seen desk.old) (D.seen desk.new) }
 {
     requests_are_read();
@@ -246,8 +270,8 @@ fn serve_pieces<D: Desk, N: Link, U: AuditSink>(
     }
 }
 
-/// Serves the connection of this number, behind so many replies: the count of its own. What fails of the link ends
-/// this connection alone.
+/// Serves the connection of this number, behind so many replies: the count of its own. What fails
+/// of the link ends this connection alone.
 pub fn serve_link<D: Desk, N: Link, U: AuditSink>(
     desk: &mut D,
     conn: u32,
@@ -257,9 +281,13 @@ pub fn serve_link<D: Desk, N: Link, U: AuditSink>(
 ) -> Result<u64, Halt>
     requires few { first < 2 ^ 63 }
     requires desk { MayServe D.answering (D.seen desk.old) }
-    ensures served { Went (sinks (as_sink (N.seen link.old)) (as_sink (N.seen link.new)) (U.seen audit.old) (U.seen audit.new))
-        (IsLinkServed (D.answering (D.seen desk.old).of) conn first (span (N.seen link.old) (N.seen link.new)) (kept (D.seen desk.old) (D.seen desk.new)) result) }
-    ensures cause { result ≡ Err Halt.Write → Rose (U.seen audit.old).faults (U.seen audit.new).faults }
+    ensures served { Went (sinks (as_sink (N.seen link.old)) (as_sink (N.seen link.new))
+        (U.seen audit.old) (U.seen audit.new))
+        (IsLinkServed (D.answering (D.seen desk.old).of) conn first
+        (span (N.seen link.old) (N.seen link.new)) (kept (D.seen desk.old) (D.seen desk.new))
+        result) }
+    ensures cause { result ≡ Err Halt.Write
+        → Rose (U.seen audit.old).faults (U.seen audit.new).faults }
     ensures keeps { Keeps D.answering (D.seen desk.old) (D.seen desk.new) }
 {
     desk.lawful();

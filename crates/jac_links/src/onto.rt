@@ -57,8 +57,10 @@ pub fn take_piece<N: Link>(alloc: Global, link: &mut N) -> Result<Option<Bytes>,
 
 // One put, whose bytes are named also where the link tells nothing.
 fn put_onto<N: Link>(link: &mut N, bytes: &[u8]) -> Result<(), Failed>
-    ensures put { IsPut (span (as_sink (N.seen link.old)) (as_sink (N.seen link.new))) bytes.now result }
-    ensures left { IsTrue (N.seen link.new).tells → (N.seen link.new).left ≡ (N.seen link.old).left }
+    ensures put { IsPut (span (as_sink (N.seen link.old)) (as_sink (N.seen link.new))) bytes.now
+        result }
+    ensures left { IsTrue (N.seen link.new).tells → (N.seen link.new).left
+        ≡ (N.seen link.old).left }
 {
     match link.put(bytes) {
         Ok(()) => Ok(()),
@@ -66,7 +68,8 @@ fn put_onto<N: Link>(link: &mut N, bytes: &[u8]) -> Result<(), Failed>
     }
 }
 
-/// The k-th reply, on the link that it was sent on as connection `conn`, and before it its line on the audit.
+/// The k-th reply, on the link that it was sent on as connection `conn`, and before it its line on
+/// the audit.
 pub fn put_reply<N: Link, U: AuditSink>(
     link: &mut N,
     audit: &mut U,
@@ -74,11 +77,14 @@ pub fn put_reply<N: Link, U: AuditSink>(
     conn: u32,
     sent: &Sent,
 ) -> Result<(), Lost>
-    ensures put { Went (sinks (as_sink (N.seen link.old)) (as_sink (N.seen link.new)) (U.seen audit.old) (U.seen audit.new))
+    ensures put { Went (sinks (as_sink (N.seen link.old)) (as_sink (N.seen link.new))
+        (U.seen audit.old) (U.seen audit.new))
         (PutsReply (sent_on spellings.Raw conn sent.now) (sent_audit k sent.now) result) }
-    ensures left { IsTrue (N.seen link.new).tells → (N.seen link.new).left ≡ (N.seen link.old).left }
+    ensures left { IsTrue (N.seen link.new).tells → (N.seen link.new).left
+        ≡ (N.seen link.old).left }
     ensures link { result ≡ Err Lost.Link → Rose (N.seen link.old).faults (N.seen link.new).faults }
-    ensures audit { result ≡ Err Lost.Audit → Rose (U.seen audit.old).faults (U.seen audit.new).faults }
+    ensures audit { result ≡ Err Lost.Audit
+        → Rose (U.seen audit.old).faults (U.seen audit.new).faults }
 {
     match sent {
         Sent::Made {
@@ -101,11 +107,14 @@ fn put_made<N: Link, U: AuditSink>(
     reply: &[u8],
     rest: &[u8],
 ) -> Result<(), Lost>
-    ensures put { Went (sinks (as_sink (N.seen link.old)) (as_sink (N.seen link.new)) (U.seen audit.old) (U.seen audit.new))
+    ensures put { Went (sinks (as_sink (N.seen link.old)) (as_sink (N.seen link.new))
+        (U.seen audit.old) (U.seen audit.new))
         (PutsReply reply.now (decimal k ++ rest.now) result) }
-    ensures left { IsTrue (N.seen link.new).tells → (N.seen link.new).left ≡ (N.seen link.old).left }
+    ensures left { IsTrue (N.seen link.new).tells → (N.seen link.new).left
+        ≡ (N.seen link.old).left }
     ensures link { result ≡ Err Lost.Link → Rose (N.seen link.old).faults (N.seen link.new).faults }
-    ensures audit { result ≡ Err Lost.Audit → Rose (U.seen audit.old).faults (U.seen audit.new).faults }
+    ensures audit { result ≡ Err Lost.Audit
+        → Rose (U.seen audit.old).faults (U.seen audit.new).faults }
 {
     match put_numbered(audit, k, rest) {
         Ok(()) => match put_onto(link, reply) {
@@ -124,11 +133,15 @@ fn put_still<N: Link, U: AuditSink>(
     head: bool,
     viewer: Option<Id>,
 ) -> Result<(), Lost>
-    ensures put { Went (sinks (as_sink (N.seen link.old)) (as_sink (N.seen link.new)) (U.seen audit.old) (U.seen audit.new))
-        (PutsReply (reply_bytes (status_of_fixed status) None None [] false head true) (audit_text k (status_of_fixed status) viewer None None) result) }
-    ensures left { IsTrue (N.seen link.new).tells → (N.seen link.new).left ≡ (N.seen link.old).left }
+    ensures put { Went (sinks (as_sink (N.seen link.old)) (as_sink (N.seen link.new))
+        (U.seen audit.old) (U.seen audit.new))
+        (PutsReply (reply_bytes (status_of_fixed status) None None [] false head true)
+        (audit_text k (status_of_fixed status) viewer None None) result) }
+    ensures left { IsTrue (N.seen link.new).tells → (N.seen link.new).left
+        ≡ (N.seen link.old).left }
     ensures link { result ≡ Err Lost.Link → Rose (N.seen link.old).faults (N.seen link.new).faults }
-    ensures audit { result ≡ Err Lost.Audit → Rose (U.seen audit.old).faults (U.seen audit.new).faults }
+    ensures audit { result ≡ Err Lost.Audit
+        → Rose (U.seen audit.old).faults (U.seen audit.new).faults }
 {
     match put_failed_audit(audit, k, status, viewer) {
         Ok(()) => match put_onto(link, fixed_reply(status, head)) {

@@ -79,7 +79,8 @@ fn run_words<L: Ledger, M: Ledger>(
     Ok(status)
 }
 
-// Whether the command makes a store that isn't there: a dump, an upgrade and a why take one that is.
+// Whether the command makes a store that isn't there: a dump, an upgrade and a why take one that
+// is.
 fn makes_files(words: &[Txt]) -> bool {
     match words.first() {
         Some(command) => {
@@ -90,7 +91,8 @@ fn makes_files(words: &[Txt]) -> bool {
     }
 }
 
-// The words after the program's name. Words that aren't UTF-8 are no command, so they count as none.
+// The words after the program's name. Words that aren't UTF-8 are no command, so they count as
+// none.
 fn words_of(rt: &HostRuntime) -> Result<Vec<Txt>, Memory> {
     let mut words = Vec::new(rt.alloc());
     match env::args(rt) {

@@ -30,7 +30,8 @@ same_pairs (p ∷ ps) (q ∷ qs) = same_pair p q && same_pairs ps qs
 abbrev pub differ_once : List (ℕ × Bool) → List (ℕ × Bool) → Bool
 differ_once [] hs = false
 differ_once (p ∷ ps) [] = false
-differ_once (p ∷ ps) (q ∷ qs) = (turned_pair p q && same_pairs ps qs) || (same_pair p q && differ_once ps qs)
+differ_once (p ∷ ps) (q ∷ qs) = (turned_pair p q && same_pairs ps qs) ||
+    (same_pair p q && differ_once ps qs)
 
 abbrev pub same_cells : List Value → List Value → Bool
 same_cells xs ys = pointwise equality.ghosts.eq xs ys

@@ -39,7 +39,8 @@ pub fn differ_once(one: &[(Label, bool)], other: &[(Label, bool)]) -> bool
 // The place of the one label whose sign is another.
 fn turned_place(one: &[(Label, bool)], other: &[(Label, bool)]) -> Option<usize>
     ensures within { IfSome result (λ place. place < length one.now) }
-    ensures joined { IfSome result (λ place. IsJoined one.now other.now (take place one.now ++ drop (place + 1) one.now)) }
+    ensures joined { IfSome result (λ place. IsJoined one.now other.now (take place one.now
+        ++ drop (place + 1) one.now)) }
     ensures found { is_some result ≡ differ_once one.now other.now }
 {
     let mut place = 0;
@@ -87,7 +88,8 @@ fn are_same(one: &[(Label, bool)], other: &[(Label, bool)]) -> bool
     left.is_empty() && right.is_empty()
 }
 
-/// Whether the first comes before the second: compared as lists, a lesser label first, and hidden before shown.
+/// Whether the first comes before the second: compared as lists, a lesser label first, and hidden
+/// before shown.
 pub fn comes_before(one: &[(Label, bool)], other: &[(Label, bool)]) -> bool
     ensures { result ≡ guard_before one.now other.now }
 {

@@ -1,4 +1,5 @@
-//! Alternatives of a record, joined where their cells are equal and their guards differ in one label's sign alone.
+//! Alternatives of a record, joined where their cells are equal and their guards differ in one
+//! label's sign alone.
 #![tactic(auto)]
 
 mod guards;

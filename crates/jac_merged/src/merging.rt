@@ -8,8 +8,8 @@ use jac_rows::{Row, Rows};
 use jac_value::{Memory, Value};
 use std::alloc::Global;
 
-/// The rows with alternatives joined that have equal cells and guards that differ in one label's sign alone, by
-/// their guards. Where no two of them hold together, they show the same.
+/// The rows with alternatives joined that have equal cells and guards that differ in one label's
+/// sign alone, by their guards. Where no two of them hold together, they show the same.
 pub fn merge_rows(alloc: Global, rows: Rows) -> Result<Rows, Memory>
     ensures shown { IfOk result (λ merged. Shows rows merged) }
     ensures own { IfOk result (λ merged. (id : ℕ) → AreOwn id rows → AreOwn id merged) }
@@ -28,7 +28,8 @@ fn put(alloc: Global, merged: &mut Vec<Row>, row: Row) -> Result<(), Memory>
     requires merged { AreMerged merged.old.items }
     requires order { AreInOrder merged.old.items }
     ensures shown { OnOk result (Shows (merged.old.items ++ row ∷ []) merged.new.items) }
-    ensures own { OnOk result ((id : ℕ) → AreOwn id (merged.old.items ++ row ∷ []) → AreOwn id merged.new.items) }
+    ensures own { OnOk result ((id : ℕ) → AreOwn id (merged.old.items ++ row ∷ [])
+        → AreOwn id merged.new.items) }
     ensures merged { OnOk result (AreMerged merged.new.items) }
     ensures order { OnOk result (AreInOrder merged.new.items) }
 {

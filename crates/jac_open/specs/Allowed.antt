@@ -9,7 +9,8 @@ use Rattle.jac_plain.specs.Policies.{is_allowed}
 -- a rising list with one more number, once
 abbrev pub inserted : ℕ → List ℕ → List ℕ
 inserted k [] = k ∷ []
-inserted k (x ∷ xs) = if nat_lt x k then x ∷ inserted k xs else (if x == k then x ∷ xs else k ∷ (x ∷ xs))
+inserted k (x ∷ xs) = if nat_lt x k then x ∷ inserted k xs else (if x == k then x ∷ xs
+    else k ∷ (x ∷ xs))
 
 -- the numbers that pass the test, in rising order, each once
 abbrev pub picked : (ℕ → Bool) → List ℕ → List ℕ

@@ -1,5 +1,5 @@
--- Open applications, which hide no record and whose policies read no field that a group guards, and the states between
--- which they can't tell.
+-- Open applications, which hide no record and whose policies read no field that a group guards, and
+-- the states between which they can't tell.
 use Rattle.std.specs.Prelude.{◌≡◌, ℕ, ◌+◌, ◌&&◌, not, Bool, true, false, if◌then◌else◌, List, [], ◌∷◌, Option, Some, None, is_some}
 use Rattle.jac_value.specs.declared.value.Value.{Value}
 use Rattle.jac_value.specs.declared.value.Value.TheVariants as value
@@ -77,7 +77,8 @@ are_open_models models [] = true
 are_open_models models (m ∷ more) =
     are_open_groups models m.groups && are_open_models models more
 
--- an application is open where no group hides a record, and no policy reads a field that a group guards
+-- an application is open where no group hides a record, and no policy reads a field that a group
+-- guards
 abbrev pub is_open_app : Application → Bool
 is_open_app app = are_open_models app.models app.models
 
@@ -106,8 +107,8 @@ masked app t = record { tables = masked_tables app.models 0 t.tables; number = t
 abbrev pub AreAlike : Application → PlainState → PlainState → Type 0
 AreAlike app t u = masked app t ≡ masked app u
 
--- any two assignments show states that are alike: which records there are, and what their other fields hold, hangs on
--- no label
+-- any two assignments show states that are alike: which records there are, and what their other
+-- fields hold, hangs on no label
 abbrev pub AreEven : Application → Worlds → Type 0
 AreEven app worlds = (v w : ℕ → Bool) → AreAlike app (worlds v) (worlds w)
 
@@ -125,6 +126,7 @@ is_policy_true app t viewer k =
     policy_is_true (labelled_group app k) (policy_world app t viewer (record_of_label k))
 
 -- a label is granted where it is live and its policy is true where nothing is shown
-pub record IsGranted (app : Application) (worlds : Worlds) (viewer : Option ℕ) (k : ℕ) : Type 0 where
-  pub live : IsLiveLabel app worlds k
-  pub policy : is_policy_true app (worlds nothing) viewer k ≡ true
+pub record IsGranted (app : Application) (worlds : Worlds) (viewer : Option ℕ) (k : ℕ) : Type 0
+  where
+    pub live : IsLiveLabel app worlds k
+    pub policy : is_policy_true app (worlds nothing) viewer k ≡ true

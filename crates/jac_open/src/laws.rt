@@ -12,8 +12,8 @@ ghost use Rattle.jac_open.specs.Open.{is_open, is_open_app, AreAlike, AreEven, I
 ghost use Rattle.jac_open.specs.Allowed.{allowed_labels};
 ghost use Rattle.jac_open.specs.Owned.{HangOnOwn, HideNothing, is_stored_openly};
 
-/// A law: an expression that reads no guarded field means the same in two states that are equal but for the cells of
-/// guarded fields.
+/// A law: an expression that reads no guarded field means the same in two states that are equal but
+/// for the cells of guarded fields.
 pub fn alike_meanings()
     ensures { (app : Application) (t u : PlainState) (this viewer : Option ℕ) (e : Expression) →
         (env : List Binding) → is_open app.models e ≡ true → AreAlike app t u →
@@ -22,23 +22,24 @@ pub fn alike_meanings()
         e env }
 {}
 
-/// A law: in an open application the same labels are allowed in states that are equal but for the cells of guarded
-/// fields.
+/// A law: in an open application the same labels are allowed in states that are equal but for the
+/// cells of guarded fields.
 pub fn alike_policies()
     ensures { (app : Application) (t u : PlainState) (viewer : Option ℕ) (k : ℕ) →
         is_open_app app ≡ true → AreAlike app t u →
         is_allowed app t viewer k ≡ is_allowed app u viewer k }
 {}
 
-/// A law: in an open application, over an even state, whether a label is allowed doesn't hang on what is shown.
+/// A law: in an open application, over an even state, whether a label is allowed doesn't hang on
+/// what is shown.
 pub fn even_policies()
     ensures { (app : Application) (s : State) (viewer : Option ℕ) (k : ℕ) (v w : ℕ → Bool) →
         is_open_app app ≡ true → IsEven app s →
         is_allowed app (project_at v s) viewer k ≡ is_allowed app (project_at w s) viewer k }
 {}
 
-/// A law: in an open application, over even worlds, the labels that are settled for a viewer are the live ones whose
-/// policies are true.
+/// A law: in an open application, over even worlds, the labels that are settled for a viewer are
+/// the live ones whose policies are true.
 pub fn open_settled()
     ensures { (app : Application) (worlds : Worlds) (viewer : Option ℕ) (labels : List ℕ) →
         is_open_app app ≡ true → AreEven app worlds → IsAscending labels →
@@ -46,8 +47,8 @@ pub fn open_settled()
         ↔ ((k : ℕ) → (shown labels k ≡ true ↔ IsGranted app worlds viewer k))) }
 {}
 
-/// A law: over even worlds of an open application exactly one list of labels is settled for a viewer, those that are
-/// allowed where nothing is shown.
+/// A law: over even worlds of an open application exactly one list of labels is settled for a
+/// viewer, those that are allowed where nothing is shown.
 pub fn one_is_settled()
     ensures { (app : Application) (worlds : Worlds) (viewer : Option ℕ) (labels : List ℕ) →
         is_open_app app ≡ true → AreEven app worlds →
@@ -55,8 +56,8 @@ pub fn one_is_settled()
         ↔ (labels ≡ allowed_labels app (worlds nothing) viewer)) }
 {}
 
-/// A law: over two families of even worlds that are alike where nothing is shown, the same labels are settled for a
-/// viewer.
+/// A law: over two families of even worlds that are alike where nothing is shown, the same labels
+/// are settled for a viewer.
 pub fn same_settled()
     ensures { (app : Application) (worlds others : Worlds) (viewer : Option ℕ) (labels : List ℕ) →
         is_open_app app ≡ true → AreEven app worlds → AreEven app others →
@@ -64,8 +65,8 @@ pub fn same_settled()
         (IsSettled app worlds viewer labels ↔ IsSettled app others viewer labels) }
 {}
 
-/// A law: of two even states of an open application that are alike where nothing is shown, what is settled for a viewer
-/// in the one is what is settled in the other.
+/// A law: of two even states of an open application that are alike where nothing is shown, what is
+/// settled for a viewer in the one is what is settled in the other.
 pub fn same_shown()
     ensures { (app : Application) (s t : State) (viewer : Option ℕ) (labels others : List ℕ) →
         is_open_app app ≡ true → IsEven app s → IsEven app t →

@@ -1,5 +1,5 @@
-//! The laws of open applications, whose policies read nothing that a group guards: what a viewer is shown hangs on
-//! nothing that is hidden.
+//! The laws of open applications, whose policies read nothing that a group guards: what a viewer is
+//! shown hangs on nothing that is hidden.
 #![tactic(auto)]
 
 mod laws;

@@ -135,13 +135,19 @@ limit_word whats.Sites = codes "64"
 limit_word whats.Binders = codes "3"
 
 abbrev pub form_fault : FormFault → List ℕ
-form_fault (misshapen.Form path want) = codes "app: form at " ++ (path_text path ++ (codes ": expected " ++ (want_word want ++ 10 ∷ [])))
+form_fault (misshapen.Form path want) = codes "app: form at "
+    ++ (path_text path ++ (codes ": expected " ++ (want_word want ++ 10 ∷ [])))
 form_fault (misshapen.TooMany path what have) =
-    codes "app: too many " ++ (what_word what ++ (codes " at " ++ (path_text path ++ (codes ": " ++ (decimal have ++ (codes ", limit " ++ (limit_word what ++ 10 ∷ [])))))))
+    codes "app: too many "
+    ++ (what_word what
+    ++ (codes " at "
+    ++ (path_text path
+    ++ (codes ": " ++ (decimal have ++ (codes ", limit " ++ (limit_word what ++ 10 ∷ [])))))))
 form_fault misshapen.Memory = []
 
 abbrev pub template_line : ℕ → List ℕ → ℕ → List ℕ
-template_line view what at = codes "app: template in view " ++ (decimal view ++ (codes ": " ++ (what ++ (codes " at " ++ (decimal at ++ 10 ∷ [])))))
+template_line view what at = codes "app: template in view "
+    ++ (decimal view ++ (codes ": " ++ (what ++ (codes " at " ++ (decimal at ++ 10 ∷ [])))))
 
 -- the place is that of the first byte of a tag, in the bytes of the template
 abbrev pub template_fault : ℕ → TemplateFault → List ℕ
@@ -166,7 +172,8 @@ wanted_text wanted.Reference = codes "ref"
 abbrev pub cause_text : CheckCause → List ℕ
 cause_text (causes.UnknownName name) = codes "unknown name " ++ name
 cause_text (causes.TwiceNamed name) = name ++ codes " named twice"
-cause_text (causes.WrongKind want have) = codes "wrong kind: want " ++ (wanted_text want ++ (codes ", have " ++ kind_text have))
+cause_text (causes.WrongKind want have) = codes "wrong kind: want "
+    ++ (wanted_text want ++ (codes ", have " ++ kind_text have))
 cause_text causes.WriteInGet = codes "write in a get view"
 cause_text causes.CreateInLoop = codes "create in a loop"
 cause_text (causes.LoopWanted name) = name ++ codes " is created in a loop alone"
@@ -177,8 +184,10 @@ cause_text causes.Memory = []
 -- a cause behind its place
 abbrev pub placed_fault : Place → List ℕ → List ℕ
 placed_fault places.Viewer cause = codes "app: viewer: " ++ (cause ++ 10 ∷ [])
-placed_fault (places.Model name) cause = codes "app: model " ++ (name ++ (codes ": " ++ (cause ++ 10 ∷ [])))
-placed_fault (places.View view) cause = codes "app: view " ++ (decimal view ++ (codes ": " ++ (cause ++ 10 ∷ [])))
+placed_fault (places.Model name) cause = codes "app: model "
+    ++ (name ++ (codes ": " ++ (cause ++ 10 ∷ [])))
+placed_fault (places.View view) cause = codes "app: view "
+    ++ (decimal view ++ (codes ": " ++ (cause ++ 10 ∷ [])))
 
 abbrev pub check_fault : CheckFault → List ℕ
 check_fault fault = placed_fault fault.place (cause_text fault.cause)

@@ -26,12 +26,14 @@ abbrev mutual
 -- the number behind the last site, where the sites rise from this one on and are below 64
 abbrev pub behind_sites : ℕ → List ℕ → Option ℕ
 behind_sites next [] = Some next
-behind_sites next (site ∷ rest) = if nat_le next site && nat_lt site 64 then behind_sites (site + 1) rest else None
+behind_sites next (site ∷ rest) = if nat_le next site && nat_lt site 64
+    then behind_sites (site + 1) rest else None
 
--- each create has a site of its own, one of 64, and stands where it may: that of a nested model in one loop over
--- one binder, any other outside of loops
+-- each create has a site of its own, one of 64, and stands where it may: that of a nested model in
+-- one loop over one binder, any other outside of loops
 abbrev pub have_own_sites : List Entity → Statements → Bool
-have_own_sites models body = is_some (behind_sites 0 (sites body)) && are_placed models Loops.none body
+have_own_sites models body = is_some (behind_sites 0 (sites body)) && are_placed models Loops.none
+    body
 
 -- a GET writes nothing
 abbrev pub is_served_body : List Entity → Verb → Statements → Bool

@@ -23,13 +23,14 @@ use jac_template::{TemplateFault, ViewFault, expand_app, expands_to_one};
 use jac_tree::{Tree, TreeFault, read_tree};
 use std::alloc::Global;
 
-/// The application that the bytes spell, or the first step that they don't pass: the tree, its form, its templates,
-/// its names and kinds, its paths.
+/// The application that the bytes spell, or the first step that they don't pass: the tree, its
+/// form, its templates, its names and kinds, its paths.
 pub fn read_application(alloc: Global, bytes: &[u8]) -> Result<Service, Refusal>
     requires short { length bytes.now ≤ 1048576 }
     ensures app { IfOk result (λ s. IsApplication bytes.now (application_of s)) }
     ensures refused { IfErr result (λ r. (r ≡ Refusal.Memory) ⊎ HasRefusal bytes.now r) }
-    ensures none { IfErr result (λ r. (r ≡ Refusal.Memory) ⊎ ((app : Application) → IsApplication bytes.now app → ⊥)) }
+    ensures none { IfErr result (λ r. (r ≡ Refusal.Memory)
+        ⊎ ((app : Application) → IsApplication bytes.now app → ⊥)) }
 {
     expands_to_one();
     match read_tree(alloc, bytes) {
@@ -87,7 +88,8 @@ fn template_refusal(fault: ViewFault) -> Refusal
 fn open_expanded(alloc: Global, app: App) -> Result<Service, Refusal>
     requires sited { All IsSited (application_of app).views }
     requires models { All IsWrittenModel (application_of app).models }
-    ensures { IsOpening (λ o. o ≡ opened_checked (first_fault (application_of app)) (application_of app)) result }
+    ensures { IsOpening (λ o. o ≡ opened_checked (first_fault (application_of app))
+        (application_of app)) result }
 {
     match check(alloc, app) {
         Ok(checked) => open_checked(alloc, checked),
@@ -107,7 +109,8 @@ fn check_refusal(fault: CheckFault) -> Refusal
 fn open_checked(alloc: Global, checked: Checked) -> Result<Service, Refusal>
     requires sited { All IsSited (application_of checked).views }
     requires models { All IsWrittenModel (application_of checked).models }
-    ensures { IsOpening (λ o. o ≡ opened_routed (table_of (application_of checked)) (application_of checked)) result }
+    ensures { IsOpening (λ o. o ≡ opened_routed (table_of (application_of checked))
+        (application_of checked)) result }
 {
     match routes_of(alloc, checked.app()) {
         Ok(routes) => Ok(open_routed(checked, routes)),

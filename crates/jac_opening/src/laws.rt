@@ -11,10 +11,14 @@ ghost use Rattle.jac_opening.specs.Served.{IsSited, are_served};
 
 /// A law: a well application whose sites are their places in the text is served.
 pub fn well_is_served()
-    ensures { (app : Application) → All IsSited app.views → IsTrue (is_well app) → are_served app ≡ true }
+    ensures { (app : Application) → All IsSited app.views → IsTrue (is_well app)
+        → are_served app ≡ true }
 {}
 
-/// A law: the schema text of a well application whose models were read has the shapes of its models.
+/// A law: the schema text of a well application whose models were read has the shapes of its
+/// models.
 pub fn schema_of_well()
-    ensures { (app : Application) → IsTrue (is_well app) → length app.models ≤ 64 → All IsWrittenModel app.models → IsSchema (printed (schema_tree app.models)) (shapes_of app) }
+    ensures { (app : Application) → IsTrue (is_well app) → length app.models ≤ 64
+        → All IsWrittenModel app.models → IsSchema (printed (schema_tree app.models))
+        (shapes_of app) }
 {}

@@ -65,7 +65,8 @@ fn text_line(alloc: Global, fault: TreeFault) -> Result<Txt, Memory>
 }
 
 fn placed_line(alloc: Global, what: &str, at: u64) -> Result<Txt, Memory>
-    ensures { IfOk result (λ line. line ≡ codes "app: " ++ (what.now ++ (codes " at " ++ (decimal at ++ 10 ∷ [])))) }
+    ensures { IfOk result (λ line. line ≡ codes "app: "
+        ++ (what.now ++ (codes " at " ++ (decimal at ++ 10 ∷ [])))) }
 {
     let line = format!(in alloc; "app: {what} at {at}\n")?;
     Ok(Txt::from_string(line))
@@ -94,7 +95,8 @@ fn form_line(alloc: Global, fault: &FormFault) -> Result<Txt, Memory>
 }
 
 fn wanted_line(alloc: Global, place: &str, want: &str) -> Result<Txt, Memory>
-    ensures { IfOk result (λ line. line ≡ codes "app: form at " ++ (place.now ++ (codes ": expected " ++ (want.now ++ 10 ∷ [])))) }
+    ensures { IfOk result (λ line. line ≡ codes "app: form at "
+        ++ (place.now ++ (codes ": expected " ++ (want.now ++ 10 ∷ [])))) }
 {
     let line = format!(in alloc; "app: form at {place}: expected {want}\n")?;
     Ok(Txt::from_string(line))
@@ -107,7 +109,11 @@ fn counted_line(
     have: u64,
     limit: &str,
 ) -> Result<Txt, Memory>
-    ensures { IfOk result (λ line. line ≡ codes "app: too many " ++ (what.now ++ (codes " at " ++ (place.now ++ (codes ": " ++ (decimal have ++ (codes ", limit " ++ (limit.now ++ 10 ∷ [])))))))) }
+    ensures { IfOk result (λ line. line ≡ codes "app: too many "
+        ++ (what.now
+        ++ (codes " at "
+        ++ (place.now
+        ++ (codes ": " ++ (decimal have ++ (codes ", limit " ++ (limit.now ++ 10 ∷ [])))))))) }
 {
     let line = format!(in alloc; "app: too many {what} at {place}: {have}, limit {limit}\n")?;
     Ok(Txt::from_string(line))
@@ -277,7 +283,8 @@ fn wrong_kind(alloc: Global, want: &Wanted, have: &KindName) -> Result<Txt, Memo
 }
 
 fn kinds_text(alloc: Global, want: &str, have: &str) -> Result<Txt, Memory>
-    ensures { IfOk result (λ t. t ≡ codes "wrong kind: want " ++ (want.now ++ (codes ", have " ++ have.now))) }
+    ensures { IfOk result (λ t. t ≡ codes "wrong kind: want "
+        ++ (want.now ++ (codes ", have " ++ have.now))) }
 {
     let text = format!(in alloc; "wrong kind: want {want}, have {have}")?;
     Ok(Txt::from_string(text))

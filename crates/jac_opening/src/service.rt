@@ -45,7 +45,8 @@ impl Service {
     pub fn new(checked: Checked, routes: Routes) -> Service
         requires served { are_served (application_of checked) ≡ true }
         requires routes { AreRoutes (application_of checked) routes }
-        requires schema { IsSchema (schema_text (application_of checked)) (shapes_of (application_of checked)) }
+        requires schema { IsSchema (schema_text (application_of checked))
+            (shapes_of (application_of checked)) }
         ensures { result ≡ checked }
     {
         Service { checked, routes }
@@ -71,7 +72,8 @@ impl Service {
     /// The schema that the application's records are stored under.
     pub fn schema(&self, alloc: Global) -> Result<Txt, Memory>
         ensures text { IfOk result (λ t. t ≡ schema_text (application_of self.now)) }
-        ensures schema { IsSchema (schema_text (application_of self.now)) (shapes_of (application_of self.now)) }
+        ensures schema { IsSchema (schema_text (application_of self.now))
+            (shapes_of (application_of self.now)) }
     {
         self.checked.schema(alloc)
     }

@@ -13,7 +13,8 @@ use Rattle.jac_plain.specs.Expressions.{answers, bound, binding, is_true, stands
 use Rattle.jac_plain.specs.Statements.{Setting, Run, world_of, value_in, scoped, loop_of, around_id, id_made, is_kept, with_made, plain_row, created_cells, leaves, leaves_all}
 use Rattle.jac_plain.specs.World.{record_with}
 
--- a record of this request: the request comes before the next number, and no record of the id stands
+-- a record of this request: the request comes before the next number, and no record of the id
+-- stands
 pub record IsNew (next number id : ℕ) (rows : List PlainRow) : Type 0 where
   pub numbered : number < next
   pub absent : stands (record_with id rows) ≡ false
@@ -27,30 +28,39 @@ MayChoose true First Second r = First r
 MayChoose false First Second r = Second r
 
 -- for each tuple, in the run that the ones before it leave
-abbrev pub MayEach : List Binder → (List ℕ → Run → Run) → (List ℕ → Run → Type 0) → List (List ℕ) → Run → Type 0
+abbrev pub MayEach : List Binder → (List ℕ → Run → Run) → (List ℕ → Run → Type 0) → List (List ℕ)
+    → Run → Type 0
 MayEach bs body May [] r = ⊤
-MayEach bs body May (ids ∷ tuples) r = May ids (with_env (bound bs ids r.env) r) × MayEach bs body May tuples (scoped (bound bs ids r.env) (body ids) r)
+MayEach bs body May (ids ∷ tuples) r = May ids (with_env (bound bs ids r.env) r)
+    × MayEach bs body May tuples (scoped (bound bs ids r.env) (body ids) r)
 
 -- the record is new, and then what the body asks with its name bound
-abbrev pub MayCreate : ℕ → Setting → List ℕ → Option ℕ → ℕ → List Assigned → (Run → Type 0) → Run → Type 0
+abbrev pub MayCreate : ℕ → Setting → List ℕ → Option ℕ → ℕ → List Assigned → (Run → Type 0) → Run
+    → Type 0
 MayCreate next k name None site cells May r = ⊤
 MayCreate next k name (Some m) site cells May r =
     let id = id_made k m site in
-    let made = with_made (is_kept k.models k.shown m id) m (plain_row id (created_cells k m id cells r)) r in
-    IsNew next k.number id (rows_of r.tables m) × May (with_env (made.env ++ binding name (value.Ref (Some id)) ∷ []) made)
+    let made = with_made (is_kept k.models k.shown m id) m
+    (plain_row id (created_cells k m id cells r)) r in
+    IsNew next k.number id (rows_of r.tables m)
+    × May (with_env (made.env ++ binding name (value.Ref (Some id)) ∷ []) made)
 
 abbrev mutual
   -- each create that the statement comes to makes a record that is new
   pub MayRun : ℕ → Setting → Statement → Run → Type 0
   MayRun next k (Statement.put e) r = ⊤
   MayRun next k (Statement.escape e) r = ⊤
-  MayRun next k (Statement.bind x e body) r = MayRunAll next k body (with_env (r.env ++ binding x (value_in k e r) ∷ []) r)
+  MayRun next k (Statement.bind x e body) r = MayRunAll next k body
+      (with_env (r.env ++ binding x (value_in k e r) ∷ []) r)
   MayRun next k (Statement.assign x e) r = ⊤
-  MayRun next k (Statement.branch c first second) r = MayChoose (is_true (value_in k c r)) (MayRunAll next k first) (MayRunAll next k second) r
+  MayRun next k (Statement.branch c first second) r = MayChoose (is_true (value_in k c r))
+      (MayRunAll next k first) (MayRunAll next k second) r
   MayRun next k (Statement.each q body) r =
-      MayEach q.binders (λ ids. leaves_all (record k { around = loop_of ids }) body) (λ ids. MayRunAll next (record k { around = loop_of ids }) body)
+      MayEach q.binders (λ ids. leaves_all (record k { around = loop_of ids }) body)
+      (λ ids. MayRunAll next (record k { around = loop_of ids }) body)
       (answers (world_of k r) q r.env) r
-  MayRun next k (Statement.create x m site cells body) r = MayCreate next k x (model_place k.models m) site cells (MayRunAll next k body) r
+  MayRun next k (Statement.create x m site cells body) r =
+      MayCreate next k x (model_place k.models m) site cells (MayRunAll next k body) r
   MayRun next k (Statement.update m e cells) r = ⊤
   MayRun next k (Statement.delete m e) r = ⊤
   MayRun next k Statement.missing r = ⊤
@@ -60,7 +70,8 @@ abbrev mutual
 
   pub MayRunAll : ℕ → Setting → Statements → Run → Type 0
   MayRunAll next k Statements.none r = ⊤
-  MayRunAll next k (Statements.more s rest) r = MayRun next k s r × MayRunAll next k rest (leaves k s r)
+  MayRunAll next k (Statements.more s rest) r = MayRun next k s r
+      × MayRunAll next k rest (leaves k s r)
 
 abbrev pub is_among : ℕ → List ℕ → Bool
 is_among site [] = false
@@ -75,12 +86,15 @@ are_apart (x ∷ xs) = not (is_among x xs) && are_apart xs
 abbrev pub IsAbsent : ℕ → List PlainRow → Type 0
 IsAbsent id rows = stands (record_with id rows) ≡ false
 
--- no record that the request of this number makes at one of the sites stands, around whatever record
+-- no record that the request of this number makes at one of the sites stands, around whatever
+-- record
 abbrev pub AreAbsent : List Entity → ℕ → List ℕ → List (List PlainRow) → Type 0
 AreAbsent models number sites tables =
     (site m : ℕ) (around : Option ℕ) → is_among site sites ≡ true → site < 64 → m < 64
-    → IsAbsent (around_id (is_nested_at models m) around (record_id number site m)) (rows_of tables m)
+    → IsAbsent (around_id (is_nested_at models m) around (record_id number site m))
+    (rows_of tables m)
 
 -- each record was made by a request before this number
 abbrev pub AreMadeBefore : ℕ → List (List PlainRow) → Type 0
-AreMadeBefore number tables = (m : ℕ) → AllByRecursion (λ (r : PlainRow). number_of_id r.id < number) (rows_of tables m)
+AreMadeBefore number tables = (m : ℕ) → AllByRecursion (λ (r : PlainRow). number_of_id r.id
+    < number) (rows_of tables m)

@@ -16,7 +16,10 @@ kinds_of_fields models (f ∷ fields) = kind_named models f.kind ∷ kinds_of_fi
 
 abbrev pub shapes_of_models : List Entity → List Entity → List ModelShape
 shapes_of_models models [] = []
-shapes_of_models models (m ∷ rest) = record { kinds = kinds_of_fields models m.fields; nested = m.nested } ∷ shapes_of_models models rest
+shapes_of_models models (m ∷ rest) = record {
+  kinds = kinds_of_fields models m.fields;
+  nested = m.nested;
+} ∷ shapes_of_models models rest
 
 -- the kinds of the cells of each model, and whether it is nested
 abbrev pub shapes_of : Application → List ModelShape
@@ -51,7 +54,9 @@ is_shaped true id = is_wide id
 is_shaped false id = is_narrow id
 
 abbrev pub AreFlat : List Entity → List (List PlainRow) → Type 0
-AreFlat models tables = (m : ℕ) → AllByRecursion (λ (r : PlainRow). is_shaped (is_nested_at models m) r.id ≡ true) (rows_of tables m)
+AreFlat models tables = (m : ℕ)
+    → AllByRecursion (λ (r : PlainRow). is_shaped (is_nested_at models m) r.id ≡ true)
+    (rows_of tables m)
 
 -- each table has each id once, in rising order
 abbrev pub AreOrdered : List (List PlainRow) → Type 0

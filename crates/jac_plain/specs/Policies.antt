@@ -20,7 +20,8 @@ has_record t k = has_id t (record_of_label k)
 
 -- the group of the label: the one at its place among those of its record's model
 abbrev pub labelled_group : Application → ℕ → Option FieldGroup
-labelled_group app k = slice_get (groups_at app.models (model_of_id (record_of_label k))) (group_of_label k)
+labelled_group app k = slice_get (groups_at app.models (model_of_id (record_of_label k)))
+    (group_of_label k)
 
 abbrev pub is_some_group : Option FieldGroup → Bool
 is_some_group None = false
@@ -32,18 +33,24 @@ has_group app k = is_some_group (labelled_group app k)
 
 -- what a policy is read in: the tables, the record whose policy it is, and who asks
 abbrev pub policy_world : Application → PlainState → Option ℕ → ℕ → World
-policy_world app t viewer id = record { models = app.models; this = Some id; viewer = viewer; tables = t.tables }
+policy_world app t viewer id = record {
+  models = app.models;
+  this = Some id;
+  viewer = viewer;
+  tables = t.tables;
+}
 
 -- the group's policy is true, with no bindings; a group that isn't there has none
 abbrev pub policy_is_true : Option FieldGroup → World → Bool
 policy_is_true None w = false
 policy_is_true (Some g) w = is_true (mean w g.policy [])
 
--- a label is allowed in a plain state where its record stands there, its group is one of its model's, and the
--- group's policy is true there of the record
+-- a label is allowed in a plain state where its record stands there, its group is one of its
+-- model's, and the group's policy is true there of the record
 abbrev pub is_allowed : Application → PlainState → Option ℕ → ℕ → Bool
 is_allowed app t viewer k =
-    has_record t k && policy_is_true (labelled_group app k) (policy_world app t viewer (record_of_label k))
+    has_record t k && policy_is_true (labelled_group app k) (policy_world app t viewer
+    (record_of_label k))
 
 -- an assignment with one label more
 abbrev pub with_label : ℕ → (ℕ → Bool) → ℕ → Bool
@@ -57,18 +64,22 @@ pub record IsLiveLabel (app : Application) (worlds : Worlds) (k : ℕ) : Type 0 
 
 -- each label that the list shows is allowed under it
 abbrev pub AreAllowed : Application → Worlds → Option ℕ → List ℕ → Type 0
-AreAllowed app worlds viewer labels = (k : ℕ) → shown labels k ≡ true → is_allowed app (worlds (shown labels)) viewer k ≡ true
+AreAllowed app worlds viewer labels = (k : ℕ) → shown labels k ≡ true
+    → is_allowed app (worlds (shown labels)) viewer k ≡ true
 
 -- some label that the assignment shows isn't allowed under it
-pub record ShowsForbidden (app : Application) (worlds : Worlds) (viewer : Option ℕ) (w : ℕ → Bool) : Type 0 where
+pub record ShowsForbidden (app : Application) (worlds : Worlds) (viewer : Option ℕ) (w : ℕ → Bool) :
+    Type 0 where
   pub label : ℕ
   pub is_shown : w label ≡ true
   pub forbidden : is_allowed app (worlds w) viewer label ≡ false
 
--- labels are settled for a viewer where they ascend, each is live and is allowed under them, and with any live label
--- that they don't show, added to them, one that is then shown isn't allowed
-pub record IsSettled (app : Application) (worlds : Worlds) (viewer : Option ℕ) (labels : List ℕ) : Type 0 where
+-- labels are settled for a viewer where they ascend, each is live and is allowed under them, and
+-- with any live label that they don't show, added to them, one that is then shown isn't allowed
+pub record IsSettled (app : Application) (worlds : Worlds) (viewer : Option ℕ) (labels : List ℕ) :
+    Type 0 where
   pub ascending : IsAscending labels
   pub live : (k : ℕ) → shown labels k ≡ true → IsLiveLabel app worlds k
   pub allowed : AreAllowed app worlds viewer labels
-  pub full : (k : ℕ) → IsLiveLabel app worlds k → shown labels k ≡ false → ShowsForbidden app worlds viewer (with_label k (shown labels))
+  pub full : (k : ℕ) → IsLiveLabel app worlds k → shown labels k ≡ false
+      → ShowsForbidden app worlds viewer (with_label k (shown labels))

@@ -21,14 +21,17 @@ cell_set models fields None v cells = cells
 cell_set models fields (Some f) v cells = slice_set cells f (fitting (kind_at models fields f) v)
 
 -- the cells with the named ones set; all expressions are read before anything changes
-abbrev pub drafted : List Entity → List Field → (Expression → Value) → List Assigned → List Value → List Value
+abbrev pub drafted : List Entity → List Field → (Expression → Value) → List Assigned → List Value
+    → List Value
 drafted models fields value_of [] cells = cells
 drafted models fields value_of (a ∷ rest) cells =
-    drafted models fields value_of rest (cell_set models fields (field_place fields a.field) (value_of a.value) cells)
+    drafted models fields value_of rest (cell_set models fields (field_place fields a.field)
+    (value_of a.value) cells)
 
 abbrev pub default_cells : List Entity → List Field → List Value
 default_cells models [] = []
-default_cells models (f ∷ fields) = default_value (kind_named models f.kind) ∷ default_cells models fields
+default_cells models (f ∷ fields) = default_value (kind_named models f.kind) ∷ default_cells models
+    fields
 
 abbrev pub plain_row : ℕ → List Value → PlainRow
 plain_row id cells = record { id = id; cells = cells }
@@ -40,12 +43,18 @@ alone (suc m) row = [] ∷ alone m row
 
 -- an expression over the cells of a record, which it reads as `this`, with nobody who asks
 abbrev pub value_over : List Entity → ℕ → ℕ → List Value → Expression → Value
-value_over models m id cells e = mean (record { models = models; this = Some id; viewer = None; tables = alone m (plain_row id cells) }) e []
+value_over models m id cells e = mean (record {
+  models = models;
+  this = Some id;
+  viewer = None;
+  tables = alone m (plain_row id cells);
+}) e []
 
 -- the expression for the field of this name
 abbrev pub expression_for : List ℕ → List Assigned → Option Expression
 expression_for name [] = None
-expression_for name (a ∷ rest) = if same_text a.field name then Some a.value else expression_for name rest
+expression_for name (a ∷ rest) = if same_text a.field name then Some a.value
+    else expression_for name rest
 
 abbrev pub name_in : Option Field → List ℕ
 name_in None = []
@@ -62,16 +71,19 @@ public_in groups (Some g) name = expression_for name (guards_in (slice_get group
 -- the public expression of the field at this place; none where no group guards it
 abbrev pub public_expression : List Entity → ℕ → ℕ → Option Expression
 public_expression models m f =
-    public_in (groups_at models m) (group_in (groups_at models m) (fields_at models m) f) (name_in (slice_get (fields_at models m) f))
+    public_in (groups_at models m) (group_in (groups_at models m) (fields_at models m) f)
+    (name_in (slice_get (fields_at models m) f))
 
 abbrev pub public_or : (Expression → Value) → Option Expression → Value → Value
 public_or value_of None cell = cell
 public_or value_of (Some e) cell = value_of e
 
--- what a field shows where its group is hidden: its public expression over the record's cells; without one, the cell
+-- what a field shows where its group is hidden: its public expression over the record's cells;
+-- without one, the cell
 abbrev pub public_cell : List Entity → ℕ → ℕ → List Value → ℕ → Value → Value
 public_cell models m id cells f cell =
-    public_or (λ e. fitting (kind_at models (fields_at models m) f) (value_over models m id cells e)) (public_expression models m f) cell
+    public_or (λ e. fitting (kind_at models (fields_at models m) f) (value_over models m id cells
+    e)) (public_expression models m f) cell
 
 abbrev pub is_hidden_by : (ℕ → Bool) → ℕ → Option ℕ → Bool
 is_hidden_by shown id None = false
@@ -79,17 +91,20 @@ is_hidden_by shown id (Some g) = not (shown (label_of id g))
 
 -- a group guards the field at this place, and its label isn't shown
 abbrev pub is_hidden : List Entity → (ℕ → Bool) → ℕ → ℕ → ℕ → Bool
-is_hidden models shown m id f = is_hidden_by shown id (group_in (groups_at models m) (fields_at models m) f)
+is_hidden models shown m id f = is_hidden_by shown id (group_in (groups_at models m)
+    (fields_at models m) f)
 
 -- each cell by its place, the first one's is this
 abbrev pub each_cell : (ℕ → Value → Value) → ℕ → List Value → List Value
 each_cell cell_of f [] = []
 each_cell cell_of f (v ∷ cells) = cell_of f v ∷ each_cell cell_of (f + 1) cells
 
--- what is stored of a draft: named fields that are hidden have their public values over it, all others its cells
+-- what is stored of a draft: named fields that are hidden have their public values over it, all
+-- others its cells
 abbrev pub shielded : List Entity → (ℕ → Bool) → ℕ → ℕ → (ℕ → Bool) → List Value → List Value
 shielded models shown m id named draft =
-    each_cell (λ f cell. if named f && is_hidden models shown m id f then public_cell models m id draft f cell else cell) 0 draft
+    each_cell (λ f cell. if named f && is_hidden models shown m id f
+    then public_cell models m id draft f cell else cell) 0 draft
 
 -- a new record names every field
 abbrev pub every_field : ℕ → Bool
@@ -102,7 +117,8 @@ is_place f (Some g) = g == f
 -- an update names the fields that it sets
 abbrev pub is_set : List Field → List Assigned → ℕ → Bool
 is_set fields [] f = false
-is_set fields (a ∷ rest) f = if is_place f (field_place fields a.field) then true else is_set fields rest f
+is_set fields (a ∷ rest) f = if is_place f (field_place fields a.field) then true
+    else is_set fields rest f
 
 -- the rows whose ids pass the test
 abbrev pub with_ids : (ℕ → Bool) → List PlainRow → List PlainRow
@@ -111,12 +127,14 @@ with_ids test (r ∷ rows) = if test r.id then r ∷ with_ids test rows else wit
 
 -- the row in its place: behind the rows of lesser ids, before those of greater ones
 abbrev pub with_row : PlainRow → List PlainRow → List PlainRow
-with_row row rows = with_ids (λ id. nat_lt id row.id) rows ++ row ∷ with_ids (λ id. nat_lt row.id id) rows
+with_row row rows = with_ids (λ id. nat_lt id row.id) rows ++ row ∷ with_ids
+    (λ id. nat_lt row.id id) rows
 
 -- the rows, with the record of this id changed
 abbrev pub changed : ℕ → (List Value → List Value) → List PlainRow → List PlainRow
 changed id change [] = []
-changed id change (r ∷ rows) = if r.id == id then plain_row r.id (change r.cells) ∷ rows else r ∷ changed id change rows
+changed id change (r ∷ rows) = if r.id == id then plain_row r.id (change r.cells) ∷ rows
+    else r ∷ changed id change rows
 
 abbrev pub without : ℕ → List PlainRow → List PlainRow
 without id [] = []
@@ -126,7 +144,9 @@ without id (r ∷ rows) = if r.id == id then rows else r ∷ without id rows
 abbrev pub tables_with : ℕ → PlainRow → List (List PlainRow) → List (List PlainRow)
 tables_with m row tables = slice_set tables m (with_row row (rows_of tables m))
 
--- the tables, after a step on the record that the value refers to; as they were where it refers to none
-abbrev pub tables_after : ℕ → Value → (ℕ → List PlainRow → List PlainRow) → List (List PlainRow) → List (List PlainRow)
+-- the tables, after a step on the record that the value refers to; as they were where it refers to
+-- none
+abbrev pub tables_after : ℕ → Value → (ℕ → List PlainRow → List PlainRow) → List (List PlainRow)
+    → List (List PlainRow)
 tables_after m (value.Ref (Some id)) step tables = slice_set tables m (step id (rows_of tables m))
 tables_after m v step tables = tables

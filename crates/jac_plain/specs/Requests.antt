@@ -14,7 +14,8 @@ use Rattle.jac_plain.specs.declared.page.Piece.TheVariants as piece
 
 -- a location, with each byte that isn't visible ASCII escaped
 abbrev pub location : List ℕ → List ℕ
-location bytes = flat_map (λ b. if nat_le 0x21 b && nat_le b 0x7E then b ∷ [] else percent_encode_byte b) bytes
+location bytes = flat_map (λ b. if nat_le 0x21 b && nat_le b 0x7E then b ∷ []
+    else percent_encode_byte b) bytes
 
 abbrev pub body_of : List Piece → List ℕ
 body_of [] = []
@@ -60,12 +61,19 @@ method_in None = verbs.Get
 method_in (Some v) = v.method
 
 abbrev pub setting_of : (ℕ → Bool) → Application → PlainState → Visit → Setting
-setting_of w app t visit = record { models = app.models; shown = w; viewer = visit.viewer; number = t.number; around = None }
+setting_of w app t visit = record {
+  models = app.models;
+  shown = w;
+  viewer = visit.viewer;
+  number = t.number;
+  around = None;
+}
 
 -- what the view's statements leave of a state, under the labels that are shown
 abbrev pub run_of : (ℕ → Bool) → Application → PlainState → Visit → Run
 run_of w app t visit =
-    leaves_all (setting_of w app t visit) (body_in (slice_get app.views visit.view)) (record { tables = t.tables; env = visit.env; pieces = [] })
+    leaves_all (setting_of w app t visit) (body_in (slice_get app.views visit.view))
+    (record { tables = t.tables; env = visit.env; pieces = [] })
 
 -- the page of a request on a state
 abbrev pub page : (ℕ → Bool) → Application → PlainState → Visit → Page
@@ -73,7 +81,10 @@ page w app t visit = page_of (run_of w app t visit).pieces
 
 abbrev pub after_by : Verb → (ℕ → Bool) → Application → PlainState → Visit → PlainState
 after_by verbs.Get w app t visit = t
-after_by verbs.Post w app t visit = record { tables = (run_of w app t visit).tables; number = t.number + 1 }
+after_by verbs.Post w app t visit = record {
+  tables = (run_of w app t visit).tables;
+  number = t.number + 1;
+}
 
 -- the state after a request that has a page: a GET leaves it, an accepted POST takes its number
 abbrev pub after : (ℕ → Bool) → Application → PlainState → Visit → PlainState

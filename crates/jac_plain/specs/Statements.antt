@@ -16,8 +16,8 @@ use Rattle.jac_plain.specs.declared.page.Piece.TheVariants as piece
 use Rattle.jac_plain.specs.Expressions.{mean, answers, bound, binding, bytes_of, is_true}
 pub use Rattle.jac_plain.specs.Records.{drafted, default_cells, plain_row, shielded, is_hidden_by, every_field, is_set, changed, without, tables_with, tables_after}
 
--- what stays the same through a run: the models, the labels that are shown, which only a create and an update
--- look at, the viewer, the number of the request, and the record of the loop
+-- what stays the same through a run: the models, the labels that are shown, which only a create and
+-- an update look at, the viewer, the number of the request, and the record of the loop
 pub record Setting : Type 0 where
   pub models : List Entity
   pub shown : ℕ → Bool
@@ -82,7 +82,8 @@ choose false first second r = second r
 -- the body for each tuple
 abbrev pub for_each : List Binder → (List ℕ → Run → Run) → List (List ℕ) → Run → Run
 for_each bs body [] r = r
-for_each bs body (ids ∷ tuples) r = for_each bs body tuples (scoped (bound bs ids r.env) (body ids) r)
+for_each bs body (ids ∷ tuples) r = for_each bs body tuples (scoped (bound bs ids r.env) (body ids)
+    r)
 
 -- the record of a loop's answer: that of its one binder
 abbrev pub loop_of : List ℕ → Option ℕ
@@ -90,7 +91,8 @@ loop_of [] = None
 loop_of (id ∷ []) = Some id
 loop_of (id ∷ (other ∷ ids)) = None
 
--- the id of a nested model's record is made around the loop's record, where that one was made outside of loops
+-- the id of a nested model's record is made around the loop's record, where that one was made
+-- outside of loops
 abbrev pub around_id : Bool → Option ℕ → ℕ → ℕ
 around_id false around base = base
 around_id true None base = base
@@ -116,25 +118,32 @@ with_made kept m row r = record r { tables = tables_made kept m row r.tables }
 abbrev pub created_cells : Setting → ℕ → ℕ → List Assigned → Run → List Value
 created_cells k m id cells r =
     let fields = fields_at k.models m in
-    shielded k.models k.shown m id every_field (drafted k.models fields (λ e. value_in k e r) cells (default_cells k.models fields))
+    shielded k.models k.shown m id every_field (drafted k.models fields (λ e. value_in k e r) cells
+    (default_cells k.models fields))
 
--- a new record of the model at this place, and then the body with its name bound; nothing where no model has the name
+-- a new record of the model at this place, and then the body with its name bound; nothing where no
+-- model has the name
 abbrev pub created : Setting → List ℕ → Option ℕ → ℕ → List Assigned → (Run → Run) → Run → Run
 created k name None site cells body r = r
 created k name (Some m) site cells body r =
     let id = id_made k m site in
-    with_binding name (value.Ref (Some id)) body (with_made (is_kept k.models k.shown m id) m (plain_row id (created_cells k m id cells r)) r)
+    with_binding name (value.Ref (Some id)) body (with_made (is_kept k.models k.shown m id) m
+    (plain_row id (created_cells k m id cells r)) r)
 
 -- the cells of a record that stands, as they are stored by an update
 abbrev pub updated_cells : Setting → ℕ → ℕ → List Assigned → Run → List Value → List Value
 updated_cells k m id cells r old =
     let fields = fields_at k.models m in
-    shielded k.models k.shown m id (is_set fields cells) (drafted k.models fields (λ e. value_in k e r) cells old)
+    shielded k.models k.shown m id (is_set fields cells)
+    (drafted k.models fields (λ e. value_in k e r) cells old)
 
 abbrev pub updated : Setting → Option ℕ → Value → List Assigned → Run → Run
 updated k None target cells r = r
 updated k (Some m) target cells r =
-    record r { tables = tables_after m target (λ id rows. changed id (updated_cells k m id cells r) rows) r.tables }
+    record r {
+      tables = tables_after m target (λ id rows. changed id (updated_cells k m id cells r)
+          rows) r.tables;
+    }
 
 abbrev pub deleted : Option ℕ → Value → Run → Run
 deleted None target r = r
@@ -147,10 +156,15 @@ abbrev mutual
   leaves k (Statement.escape e) r = with_piece (piece.Added (html (value_text (value_in k e r)))) r
   leaves k (Statement.bind x e body) r = with_binding x (value_in k e r) (leaves_all k body) r
   leaves k (Statement.assign x e) r = record r { env = assigned x (value_in k e r) r.env }
-  leaves k (Statement.branch c first second) r = choose (is_true (value_in k c r)) (leaves_all k first) (leaves_all k second) r
-  leaves k (Statement.each q body) r = for_each q.binders (λ ids. leaves_all (record k { around = loop_of ids }) body) (answers (world_of k r) q r.env) r
-  leaves k (Statement.create x m site cells body) r = created k x (model_place k.models m) site cells (leaves_all k body) r
-  leaves k (Statement.update m e cells) r = updated k (model_place k.models m) (value_in k e r) cells r
+  leaves k (Statement.branch c first second) r = choose (is_true (value_in k c r))
+      (leaves_all k first) (leaves_all k second) r
+  leaves k (Statement.each q body) r =
+      for_each q.binders (λ ids. leaves_all (record k { around = loop_of ids }) body)
+      (answers (world_of k r) q r.env) r
+  leaves k (Statement.create x m site cells body) r = created k x (model_place k.models m) site
+      cells (leaves_all k body) r
+  leaves k (Statement.update m e cells) r = updated k (model_place k.models m) (value_in k e r)
+      cells r
   leaves k (Statement.delete m e) r = deleted (model_place k.models m) (value_in k e r) r
   leaves k Statement.missing r = with_piece piece.Missing r
   leaves k (Statement.redirect e) r = with_piece (piece.Redirect (bytes_of (value_in k e r))) r

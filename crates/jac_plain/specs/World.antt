@@ -8,7 +8,8 @@ use Rattle.jac_lang.specs.Syntax.{Entity}
 use Rattle.jac_rows.specs.declared.plain.PlainRow.{PlainRow}
 use Rattle.jac_rows.specs.Tables.{rows_of}
 
--- what an expression is read in: the models, the record whose policy is asked, the viewer, and the tables
+-- what an expression is read in: the models, the record whose policy is asked, the viewer, and the
+-- tables
 pub record World : Type 0 where
   pub models : List Entity
   pub this : Option ℕ
@@ -45,7 +46,8 @@ cell_named w m (Some f) r = cell_of r f (default_value (kind_at w.models (fields
 
 abbrev pub got_of : World → Option ℕ → List ℕ → Value → Value
 got_of w None field v = value.Int (pos 0)
-got_of w (Some m) field v = cell_named w m (field_place (fields_at w.models m) field) (referred v (rows_of w.tables m))
+got_of w (Some m) field v = cell_named w m (field_place (fields_at w.models m) field)
+    (referred v (rows_of w.tables m))
 
 -- the field of the record that the value refers to
 abbrev pub got : World → List ℕ → List ℕ → Value → Value

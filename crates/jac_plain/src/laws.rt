@@ -13,34 +13,52 @@ ghost use Rattle.jac_rows.specs.declared.plain.PlainState.{PlainState};
 
 /// A law: statements without a create, an update or a delete leave the tables.
 pub fn reading_leaves_tables()
-    ensures { (k : Setting) (s : Statements) (r : Run) → are_reading s ≡ true → (leaves_all k s r).tables ≡ r.tables }
+    ensures { (k : Setting) (s : Statements) (r : Run) → are_reading s ≡ true
+        → (leaves_all k s r).tables ≡ r.tables }
 {}
 
 /// A law: where no field is guarded, a run is the same under all assignments.
 pub fn same_run_without_groups()
-    ensures { (app : Application) (t : PlainState) (visit : Visit) (w v : ℕ → Bool) → are_without_groups app.models ≡ true → run_of w app t visit ≡ run_of v app t visit }
+    ensures { (app : Application) (t : PlainState) (visit : Visit) (w v : ℕ → Bool)
+        → are_without_groups app.models ≡ true → run_of w app t visit ≡ run_of v app t visit }
 {}
 
-/// A law: a request leaves a good state good, where its number has ids, there are at most 64 models, and the
-/// creates of its view stand at sites below 64, those of nested models in one loop over one binder.
+/// A law: a request leaves a good state good, where its number has ids, there are at most 64
+/// models, and the creates of its view stand at sites below 64, those of nested models in one loop
+/// over one binder.
 pub fn good_after_request()
-    ensures { (w : ℕ → Bool) (app : Application) (t : PlainState) (visit : Visit) → IsGoodPlain (shapes_of app) t → t.number < 2 ^ 40 → length app.models ≤ 64 → are_sited (body_in (slice_get app.views visit.view)) ≡ true → are_placed app.models Loops.none (body_in (slice_get app.views visit.view)) ≡ true → IsGoodPlain (shapes_of app) (after w app t visit) }
+    ensures { (w : ℕ → Bool) (app : Application) (t : PlainState) (visit : Visit)
+        → IsGoodPlain (shapes_of app) t → t.number < 2 ^ 40 → length app.models ≤ 64
+        → are_sited (body_in (slice_get app.views visit.view)) ≡ true
+        → are_placed app.models Loops.none (body_in (slice_get app.views visit.view)) ≡ true
+        → IsGoodPlain (shapes_of app) (after w app t visit) }
 {}
 
-/// A law: a request leaves a state whose ids are wide just in nested models such a state, under the same
-/// premises, whatever the kinds of its cells.
+/// A law: a request leaves a state whose ids are wide just in nested models such a state, under the
+/// same premises, whatever the kinds of its cells.
 pub fn flat_after_request()
-    ensures { (w : ℕ → Bool) (app : Application) (t : PlainState) (visit : Visit) → 0 < t.number → t.number < 2 ^ 40 → length app.models ≤ 64 → are_sited (body_in (slice_get app.views visit.view)) ≡ true → are_placed app.models Loops.none (body_in (slice_get app.views visit.view)) ≡ true → AreOrdered t.tables → AreFlat app.models t.tables → AreFlat app.models (after w app t visit).tables }
+    ensures { (w : ℕ → Bool) (app : Application) (t : PlainState) (visit : Visit) → 0 < t.number
+        → t.number < 2 ^ 40 → length app.models ≤ 64
+        → are_sited (body_in (slice_get app.views visit.view)) ≡ true
+        → are_placed app.models Loops.none (body_in (slice_get app.views visit.view)) ≡ true
+        → AreOrdered t.tables → AreFlat app.models t.tables
+        → AreFlat app.models (after w app t visit).tables }
 {}
 
-/// A law: what statements create is new where their sites are pairwise different and below 64, nested models
-/// are created in one loop over one binder and no other one in a loop, the tables are in order and their ids wide
-/// just in nested models, and no record that this request makes at one of the sites stands where the run begins.
+/// A law: what statements create is new where their sites are pairwise different and below 64,
+/// nested models are created in one loop over one binder and no other one in a loop, the tables are
+/// in order and their ids wide just in nested models, and no record that this request makes at one
+/// of the sites stands where the run begins.
 pub fn creates_are_new()
-    ensures { (next : ℕ) (k : Setting) (s : Statements) (r : Run) → 0 < k.number → k.number < 2 ^ 40 → k.number < next → length k.models ≤ 64 → are_sited s ≡ true → are_apart (sites s) ≡ true → are_placed k.models Loops.none s ≡ true → AreOrdered r.tables → AreFlat k.models r.tables → AreAbsent k.models k.number (sites s) r.tables → MayRunAll next k s r }
+    ensures { (next : ℕ) (k : Setting) (s : Statements) (r : Run) → 0 < k.number → k.number < 2 ^ 40
+        → k.number < next → length k.models ≤ 64 → are_sited s ≡ true → are_apart (sites s) ≡ true
+        → are_placed k.models Loops.none s ≡ true → AreOrdered r.tables → AreFlat k.models r.tables
+        → AreAbsent k.models k.number (sites s) r.tables → MayRunAll next k s r }
 {}
 
 /// A law: no record that a request makes stands where all that stand were made before it.
 pub fn made_before_are_absent()
-    ensures { (models : List Entity) (number : ℕ) (sites : List ℕ) (tables : List (List PlainRow)) → 0 < number → number < 2 ^ 40 → AreMadeBefore number tables → AreAbsent models number sites tables }
+    ensures { (models : List Entity) (number : ℕ) (sites : List ℕ) (tables : List (List PlainRow))
+        → 0 < number → number < 2 ^ 40 → AreMadeBefore number tables
+        → AreAbsent models number sites tables }
 {}

@@ -1,5 +1,6 @@
-//! The ordinary interpreter: what an application means in one world of plain lists, under the labels that are
-//! shown. It is definitions and laws, and the types that they share with the program, which runs none of them.
+//! The ordinary interpreter: what an application means in one world of plain lists, under the
+//! labels that are shown. It is definitions and laws, and the types that they share with the
+//! program, which runs none of them.
 #![tactic(auto)]
 
 mod context;

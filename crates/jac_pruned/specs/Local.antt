@@ -1,5 +1,5 @@
--- Local applications, in which what a policy reads of guarded records is its own record, and local states, in which a
--- record's rows hang on its own labels.
+-- Local applications, in which what a policy reads of guarded records is its own record, and local
+-- states, in which a record's rows hang on its own labels.
 use Rattle.std.specs.Prelude.{◌≡◌, ℕ, ◌&&◌, ◌||◌, Bool, true, false, List, [], ◌∷◌, Option, Some, None, ⊤}
 use Rattle.std.specs.List.{AllByRecursion}
 use Rattle.jac_value.specs.declared.value.Kind.{Kind}
@@ -45,7 +45,8 @@ is_free_field_at models m (Some f) = is_free_kind models (kind_at models (fields
 
 abbrev pub is_free_field_in : List Entity → Option ℕ → List ℕ → Bool
 is_free_field_in models None field = true
-is_free_field_in models (Some m) field = is_free_field_at models m (field_place (fields_at models m) field)
+is_free_field_in models (Some m) field = is_free_field_at models m (field_place (fields_at models m)
+    field)
 
 -- the field of the model refers to no record of a model that has groups
 abbrev pub is_free_field : List Entity → List ℕ → List ℕ → Bool
@@ -74,8 +75,8 @@ is_free_order models bs (orders.Down name field) = is_free_model models (model_o
 abbrev pub is_free_query : List Entity → List Binder → Order → Bool
 is_free_query models bs o = are_free models bs && is_free_order models bs o
 
--- what the expression is of, by its form, is no record of a model that has groups; the test says so of the viewer. A
--- name in a policy is a binder's
+-- what the expression is of, by its form, is no record of a model that has groups; the test says so
+-- of the viewer. A name in a policy is a binder's
 abbrev pub refers_free : List Entity → Bool → Expression → Bool
 refers_free models v Expression.this = false
 refers_free models v Expression.viewer = v
@@ -89,18 +90,22 @@ is_this Expression.this = true
 is_this e = false
 
 abbrev mutual
-  -- each query ranges over models that have no group, each `get` reads `this` or one of these, and each `live` is of
-  -- `this` or of a record of one of these
+  -- each query ranges over models that have no group, each `get` reads `this` or one of these, and
+  -- each `live` is of `this` or of a record of one of these
   pub is_local : List Entity → Bool → Expression → Bool
-  is_local models v (Expression.get m f e) = (is_this e || is_free_model models m) && is_local models v e
-  is_local models v (Expression.live e) = (is_this e || refers_free models v e) && is_local models v e
+  is_local models v (Expression.get m f e) = (is_this e || is_free_model models m) && is_local
+      models v e
+  is_local models v (Expression.live e) = (is_this e || refers_free models v e) && is_local models v
+      e
   is_local models v (Expression.two o a b) = is_local models v a && is_local models v b
   is_local models v (Expression.negated e) = is_local models v e
   is_local models v (Expression.cat es) = are_local models v es
   is_local models v (Expression.str e) = is_local models v e
-  is_local models v (Expression.pick c a b) = is_local models v c && (is_local models v a && is_local models v b)
+  is_local models v (Expression.pick c a b) = is_local models v c &&
+      (is_local models v a && is_local models v b)
   is_local models v (Expression.count bs c o) = is_free_query models bs o && is_local models v c
-  is_local models v (Expression.sum bs c o e) = is_free_query models bs o && (is_local models v c && is_local models v e)
+  is_local models v (Expression.sum bs c o e) = is_free_query models bs o &&
+      (is_local models v c && is_local models v e)
   is_local models v (Expression.any_of bs c o) = is_free_query models bs o && is_local models v c
   is_local models v (Expression.first bs c o) = is_free_query models bs o && is_local models v c
   is_local models v e = true
@@ -115,7 +120,8 @@ are_local_groups models v (g ∷ gs) = is_local models v g.policy && are_local_g
 
 abbrev pub are_local_models : List Entity → Bool → List Entity → Bool
 are_local_models models v [] = true
-are_local_models models v (m ∷ ms) = are_local_groups models v m.groups && are_local_models models v ms
+are_local_models models v (m ∷ ms) = are_local_groups models v m.groups && are_local_models models v
+    ms
 
 -- each policy is local
 abbrev pub is_local_app : Application → Bool
@@ -128,13 +134,16 @@ pub record IsOwnLabel (app : Application) (id k : ℕ) : Type 0 where
 
 -- each row's guard names labels of its own record alone
 abbrev pub IsLocalState : Application → State → Type 0
-IsLocalState app s = (m : ℕ) → AllByRecursion (λ (r : Row). (k : ℕ) → names r.guard k ≡ true → IsOwnLabel app r.id k) (rows_of s.tables m)
+IsLocalState app s = (m : ℕ) → AllByRecursion (λ (r : Row). (k : ℕ) → names r.guard k ≡ true
+    → IsOwnLabel app r.id k) (rows_of s.tables m)
 
 abbrev pub IsOfViewers : List Entity → Option (List ℕ) → Option ℕ → Type 0
 IsOfViewers models None viewer = ⊤
-IsOfViewers models (Some name) viewer = has_kind (kind_named models (named.Ref name)) (value.Ref viewer) ≡ true
+IsOfViewers models (Some name) viewer = has_kind (kind_named models (named.Ref name))
+    (value.Ref viewer) ≡ true
 
--- a local application over a local state that is good but for its next number, asked by one of its viewers or by nobody
+-- a local application over a local state that is good but for its next number, asked by one of its
+-- viewers or by nobody
 pub record IsLocalCase (app : Application) (s : State) (viewer : Option ℕ) : Type 0 where
   pub policies : is_local_app app ≡ true
   pub state : IsLocalState app s

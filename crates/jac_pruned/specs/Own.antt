@@ -1,4 +1,5 @@
--- Supports that hold labels of the record alone whose policy is asked, and what such supports hang on.
+-- Supports that hold labels of the record alone whose policy is asked, and what such supports hang
+-- on.
 use Rattle.std.specs.Prelude.{◌≡◌, ◌==◌, ◌&&◌, ◌||◌, not, ℕ, Bool, true, false, List, [], ◌∷◌, Option, Some, None}
 use Rattle.std.specs.List.{list_all}
 use Rattle.jac_value.specs.Ids.{model_of_id, record_of_label}
@@ -58,7 +59,8 @@ reads_own this v rows = true
 
 -- the same, in the table of the model of what it refers to
 abbrev pub stands_own : Option ℕ → Value → List (List Row) → Bool
-stands_own this (value.Ref (Some id)) tables = are_own_rows this id (rows_of tables (model_of_id id))
+stands_own this (value.Ref (Some id)) tables = are_own_rows this id
+    (rows_of tables (model_of_id id))
 stands_own this v tables = true
 
 -- the rows of the model at this place, if there is one
@@ -73,13 +75,16 @@ table_named app s name = table_at s.tables (model_place app.models name)
 -- all rows over which the binders range have such guards
 abbrev pub are_own_tables : Option ℕ → Application → State → List Binder → Bool
 are_own_tables this app s [] = true
-are_own_tables this app s (b ∷ bs) = is_own_table this (table_named app s b.model) && are_own_tables this app s bs
+are_own_tables this app s (b ∷ bs) = is_own_table this (table_named app s b.model) && are_own_tables
+    this app s bs
 
 -- so have those that the order reads
 abbrev pub is_own_order : Option ℕ → Application → State → List Binder → Order → Bool
 is_own_order this app s bs orders.Key = true
-is_own_order this app s bs (orders.Up name field) = is_own_table this (table_named app s (model_of_binder bs name))
-is_own_order this app s bs (orders.Down name field) = is_own_table this (table_named app s (model_of_binder bs name))
+is_own_order this app s bs (orders.Up name field) =
+    is_own_table this (table_named app s (model_of_binder bs name))
+is_own_order this app s bs (orders.Down name field) =
+    is_own_table this (table_named app s (model_of_binder bs name))
 
 -- the value refers to no record of a model that has groups
 abbrev pub is_free_value : Application → Value → Bool
@@ -90,16 +95,18 @@ is_free_value app v = true
 abbrev pub is_free_env : Application → List Binding → Bool
 is_free_env app env = list_all (λ b. is_free_value app b.bound_to) env
 
--- what the tuples that one begins bind with the last ids refers to records of free models; without last ids, what it
--- binds itself does, and each binder ranges over such a model
+-- what the tuples that one begins bind with the last ids refers to records of free models; without
+-- last ids, what it binds itself does, and each binder ranges over such a model
 abbrev pub begins_free : Application → List Binder → List Binding → Option (List ℕ) → List ℕ → Bool
-begins_free app bs env (Some js) ids = list_all (λ t. is_free_env app (bound bs t env)) (lengthened ids js)
+begins_free app bs env (Some js) ids = list_all (λ t. is_free_env app (bound bs t env))
+    (lengthened ids js)
 begins_free app bs env None ids = is_free_env app (bound bs ids env) && are_free app.models bs
 
 -- a local case, and a test that is true
-pub record IsLocally (app : Application) (s : State) (viewer : Option ℕ) (test : Bool) : Type 0 where
-  pub case : IsLocalCase app s viewer
-  pub passed : test ≡ true
+pub record IsLocally (app : Application) (s : State) (viewer : Option ℕ) (test : Bool) : Type 0
+  where
+    pub case : IsLocalCase app s viewer
+    pub passed : test ≡ true
 
 -- the expression is local, and the names are bound to records of free models, as the test says
 abbrev pub reads_locally : Application → Bool → Expression → Bool
@@ -110,4 +117,5 @@ read_locally app free es = free && are_local app.models (is_free_viewer app) es
 
 -- the same of a query
 abbrev pub asks_locally : Application → Bool → Question → Bool
-asks_locally app free q = free && (is_free_query app.models q.binders q.order && is_local app.models (is_free_viewer app) q.cond)
+asks_locally app free q = free && (is_free_query app.models q.binders q.order && is_local app.models
+    (is_free_viewer app) q.cond)

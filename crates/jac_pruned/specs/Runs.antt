@@ -16,7 +16,13 @@ use Rattle.jac_pruned.specs.Consulted.{Agrees}
 
 -- what stays the same through a run, under an assignment
 abbrev pub setting_at : App → Ctx → (ℕ → Bool) → Setting
-setting_at app ctx w = record { models = (application_of app).models; shown = w; viewer = ctx.viewer; number = ctx.number; around = ctx.around }
+setting_at app ctx w = record {
+  models = (application_of app).models;
+  shown = w;
+  viewer = ctx.viewer;
+  number = ctx.number;
+  around = ctx.around;
+}
 
 -- the same for the body of a loop at one of its answers
 abbrev pub setting_around : App → Ctx → List ℕ → (ℕ → Bool) → Setting
@@ -28,16 +34,19 @@ run_in w s env pieces = record { tables = (project_at w s).tables; env = env; pi
 
 -- the page of the statements, run from these bindings
 abbrev pub page_ran : App → Ctx → (ℕ → Bool) → State → List Binding → Statements → Page
-page_ran app ctx w s env body = page_of (leaves_all (setting_at app ctx w) body (run_in w s env [])).pieces
+page_ran app ctx w s env body = page_of (leaves_all (setting_at app ctx w) body
+    (run_in w s env [])).pieces
 
 -- the page of some pieces
 abbrev pub IsMade : Page → Type 0
 IsMade p = (pieces : List Piece) × (p ≡ page_of pieces)
 
 -- under each assignment that agrees on the labels of the support, the run is what the step leaves
-abbrev pub Runs : List ℕ → List ℕ → ((ℕ → Bool) → Run → Run) → State → List Binding → List Piece → List Binding → List Piece → Type 0
+abbrev pub Runs : List ℕ → List ℕ → ((ℕ → Bool) → Run → Run) → State → List Binding → List Piece
+    → List Binding → List Piece → Type 0
 Runs support a step s env pieces env_left pieces_left =
-    (w : ℕ → Bool) → Agrees support (shown a) w → run_in w s env_left pieces_left ≡ step w (run_in w s env pieces)
+    (w : ℕ → Bool) → Agrees support (shown a) w → run_in w s env_left pieces_left
+    ≡ step w (run_in w s env pieces)
 
 abbrev mutual
   -- the statement writes nothing

@@ -12,7 +12,12 @@ use Rattle.jac_plain.specs.World.{World}
 -- what an expression is read in under an assignment
 abbrev pub world_at : App → Ctx → State → (ℕ → Bool) → World
 world_at app ctx s w =
-    record { models = (application_of app).models; this = ctx.this; viewer = ctx.viewer; tables = (project_at w s).tables }
+    record {
+      models = (application_of app).models;
+      this = ctx.this;
+      viewer = ctx.viewer;
+      tables = (project_at w s).tables;
+    }
 
 -- a row that an assignment shows, without its guard
 abbrev pub seen_row : Row → PlainRow

@@ -1,5 +1,5 @@
-//! Expressions, queries and statements that write nothing, in the world that one assignment shows: early
-//! pruning, in which no faceted value is made.
+//! Expressions, queries and statements that write nothing, in the world that one assignment shows:
+//! early pruning, in which no faceted value is made.
 #![tactic(auto, using(crate::proofs::Growing::grows_same, crate::proofs::Growing::grows_then, crate::proofs::Growing::agrees_less, crate::proofs::Growing::holds_alike))]
 
 mod alike;

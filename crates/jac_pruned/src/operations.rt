@@ -20,8 +20,8 @@ pub(crate) fn two_values(op: Op, first: &Value, second: &Value) -> Value
     }
 }
 
-/// The result where the first operand decides it: a false one of `and`, a true one of `or`. The other operand is then
-/// not asked for, and what it would consult isn't.
+/// The result where the first operand decides it: a false one of `and`, a true one of `or`. The
+/// other operand is then not asked for, and what it would consult isn't.
 pub(crate) fn decided(op: Op, first: &Value) -> Option<Value>
     ensures { IfSome result (λ v. (second : Seen) → v ≡ two op first.now second) }
 {

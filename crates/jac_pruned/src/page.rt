@@ -28,7 +28,8 @@ pub(crate) fn page_of(alloc: Global, pieces: &[Piece]) -> Result<Page, Memory>
 }
 
 fn found(alloc: Global, to: Option<&Txt>, body: Bytes) -> Result<Page, Memory>
-    ensures { IfOk result (λ p. p ≡ found_page (option_map location (option_copied to.entry)) body) }
+    ensures { IfOk result (λ p. p ≡ found_page (option_map location (option_copied to.entry))
+        body) }
 {
     match to {
         None => Ok(Page {
@@ -95,7 +96,8 @@ fn last_redirect(pieces: &[Piece]) -> Option<&Txt>
 
 // The redirect of this piece, or the one before.
 fn redirect_after<'p>(last: Option<&'p Txt>, piece: &'p Piece) -> Option<&'p Txt>
-    ensures { option_map location (option_copied result) ≡ redirect_of (option_map location (option_copied last.entry)) (piece.now ∷ []) }
+    ensures { option_map location (option_copied result) ≡ redirect_of
+        (option_map location (option_copied last.entry)) (piece.now ∷ []) }
 {
     match piece {
         Piece::Redirect(to) => Some(to),

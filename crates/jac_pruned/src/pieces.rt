@@ -11,7 +11,8 @@ use std::alloc::Global;
 
 /// Adds the text of the value.
 pub(crate) fn add_text(alloc: Global, pieces: &mut Vec<Piece>, value: &Value) -> Result<(), Memory>
-    ensures { OnOk result (pieces.new.items ≡ pieces.old.items ++ piece.Added (value_text value.now) ∷ []) }
+    ensures { OnOk result (pieces.new.items ≡ pieces.old.items ++ piece.Added (value_text value.now)
+        ∷ []) }
 {
     let text = text_of(alloc, value)?;
     let bytes = Bytes::from_slice(alloc, text.as_bytes())?;
@@ -25,7 +26,8 @@ pub(crate) fn add_escaped(
     pieces: &mut Vec<Piece>,
     value: &Value,
 ) -> Result<(), Memory>
-    ensures { OnOk result (pieces.new.items ≡ pieces.old.items ++ piece.Added (html (value_text value.now)) ∷ []) }
+    ensures { OnOk result (pieces.new.items ≡ pieces.old.items ++ piece.Added
+        (html (value_text value.now)) ∷ []) }
 {
     let text = text_of(alloc, value)?;
     let bytes = escape(alloc, text.as_bytes())?;
@@ -39,7 +41,8 @@ pub(crate) fn add_redirect(
     pieces: &mut Vec<Piece>,
     value: &Value,
 ) -> Result<(), Memory>
-    ensures { OnOk result (pieces.new.items ≡ pieces.old.items ++ piece.Redirect (bytes_of value.now) ∷ []) }
+    ensures { OnOk result (pieces.new.items ≡ pieces.old.items ++ piece.Redirect
+        (bytes_of value.now) ∷ []) }
 {
     let to = location_of(alloc, value)?;
     pieces.push(Piece::Redirect(to))?;

@@ -1,5 +1,5 @@
-//! The run of statements that write nothing, in the world that an assignment shows, and its page. `execute`
-//! only looks at the form; each form is a function of its own.
+//! The run of statements that write nothing, in the world that an assignment shows, and its page.
+//! `execute` only looks at the form; each form is a function of its own.
 ghost use Rattle.std.specs.Prelude.{◌≡◌, ◌∷◌, [], ◌++◌, ℕ, Bool, true, None, IfOk, OnOk, IsTrue};
 ghost use Rattle.jac_world.specs.World.{shown};
 ghost use Rattle.jac_keep.specs.Worked.{state_of, IsTold, ReadsWork};
@@ -26,9 +26,10 @@ use jac_value::{Ids, Txt, Value};
 use jac_world::Assignment;
 use std::alloc::Global;
 
-/// The page of statements that write nothing, run from these bindings in the world that the assignment shows. The
-/// labels that were consulted are added to the support: under each assignment that shows the same of the support, the
-/// page is the same. `this` of the context isn't asked: a statement has none.
+/// The page of statements that write nothing, run from these bindings in the world that the
+/// assignment shows. The labels that were consulted are added to the support: under each assignment
+/// that shows the same of the support, the page is the same. `this` of the context isn't asked: a
+/// statement has none.
 pub fn run_body_at<K: Keeper>(
     alloc: Global,
     work: &mut Work<'_, K>,
@@ -41,7 +42,9 @@ pub fn run_body_at<K: Keeper>(
 ) -> Result<Page, Stop>
     requires attached { IsTrue (K.seen work.old.keeper.now).store.attached }
     requires reading { are_reading (statements_of body.now) ≡ true }
-    ensures page { IsTold K.seen work.new → IfOk result (λ p. (w : ℕ → Bool) → Agrees support.new (shown a.now) w → p ≡ page_ran app.now ctx.now w (state_of K.seen work.old) env (statements_of body.now)) }
+    ensures page { IsTold K.seen work.new → IfOk result (λ p. (w : ℕ → Bool)
+        → Agrees support.new (shown a.now) w
+        → p ≡ page_ran app.now ctx.now w (state_of K.seen work.old) env (statements_of body.now)) }
     ensures made { IfOk result IsMade }
     ensures reads { ReadsWork K.seen work.old work.new result }
     ensures grows { Grows support.old support.new }
@@ -81,7 +84,10 @@ fn execute_all<K: Keeper>(
     requires attached { IsTrue (K.seen work.old.keeper.now).store.attached }
     requires no_record { ctx.now.this ≡ None }
     requires reading { AreReading (statements_of stmts.now) }
-    ensures left { IsTold K.seen work.new → OnOk result (Runs support.new a.now (λ w. leaves_all (setting_at app.now ctx.now w) (statements_of stmts.now)) (state_of K.seen work.old) env.old.items pieces.old.items env.new.items pieces.new.items) }
+    ensures left { IsTold K.seen work.new
+        → OnOk result (Runs support.new a.now (λ w. leaves_all (setting_at app.now ctx.now w)
+        (statements_of stmts.now)) (state_of K.seen work.old) env.old.items pieces.old.items
+        env.new.items pieces.new.items) }
     ensures reads { ReadsWork K.seen work.old work.new result }
     ensures grows { Grows support.old support.new }
 {
@@ -109,7 +115,10 @@ fn execute<K: Keeper>(
     requires attached { IsTrue (K.seen work.old.keeper.now).store.attached }
     requires no_record { ctx.now.this ≡ None }
     requires reading { IsReading (statement_of stmt.now) }
-    ensures left { IsTold K.seen work.new → OnOk result (Runs support.new a.now (λ w. leaves (setting_at app.now ctx.now w) (statement_of stmt.now)) (state_of K.seen work.old) env.old.items pieces.old.items env.new.items pieces.new.items) }
+    ensures left { IsTold K.seen work.new
+        → OnOk result (Runs support.new a.now (λ w. leaves (setting_at app.now ctx.now w)
+        (statement_of stmt.now)) (state_of K.seen work.old) env.old.items pieces.old.items
+        env.new.items pieces.new.items) }
     ensures reads { ReadsWork K.seen work.old work.new result }
     ensures grows { Grows support.old support.new }
 {
@@ -174,7 +183,10 @@ fn execute_put<K: Keeper>(
 ) -> Result<(), Stop>
     requires attached { IsTrue (K.seen work.old.keeper.now).store.attached }
     requires no_record { ctx.now.this ≡ None }
-    ensures left { IsTold K.seen work.new → OnOk result (Runs support.new a.now (λ w. leaves (setting_at app.now ctx.now w) (Statement.put (expression_of e.now))) (state_of K.seen work.old) env.now pieces.old.items env.now pieces.new.items) }
+    ensures left { IsTold K.seen work.new
+        → OnOk result (Runs support.new a.now (λ w. leaves (setting_at app.now ctx.now w)
+        (Statement.put (expression_of e.now))) (state_of K.seen work.old) env.now pieces.old.items
+        env.now pieces.new.items) }
     ensures reads { ReadsWork K.seen work.old work.new result }
     ensures grows { Grows support.old support.new }
 {
@@ -197,7 +209,10 @@ fn execute_escape<K: Keeper>(
 ) -> Result<(), Stop>
     requires attached { IsTrue (K.seen work.old.keeper.now).store.attached }
     requires no_record { ctx.now.this ≡ None }
-    ensures left { IsTold K.seen work.new → OnOk result (Runs support.new a.now (λ w. leaves (setting_at app.now ctx.now w) (Statement.escape (expression_of e.now))) (state_of K.seen work.old) env.now pieces.old.items env.now pieces.new.items) }
+    ensures left { IsTold K.seen work.new
+        → OnOk result (Runs support.new a.now (λ w. leaves (setting_at app.now ctx.now w)
+        (Statement.escape (expression_of e.now))) (state_of K.seen work.old) env.now
+        pieces.old.items env.now pieces.new.items) }
     ensures reads { ReadsWork K.seen work.old work.new result }
     ensures grows { Grows support.old support.new }
 {
@@ -220,7 +235,10 @@ fn execute_redirect<K: Keeper>(
 ) -> Result<(), Stop>
     requires attached { IsTrue (K.seen work.old.keeper.now).store.attached }
     requires no_record { ctx.now.this ≡ None }
-    ensures left { IsTold K.seen work.new → OnOk result (Runs support.new a.now (λ w. leaves (setting_at app.now ctx.now w) (Statement.redirect (expression_of e.now))) (state_of K.seen work.old) env.now pieces.old.items env.now pieces.new.items) }
+    ensures left { IsTold K.seen work.new
+        → OnOk result (Runs support.new a.now (λ w. leaves (setting_at app.now ctx.now w)
+        (Statement.redirect (expression_of e.now))) (state_of K.seen work.old) env.now
+        pieces.old.items env.now pieces.new.items) }
     ensures reads { ReadsWork K.seen work.old work.new result }
     ensures grows { Grows support.old support.new }
 {
@@ -242,7 +260,10 @@ fn execute_assign<K: Keeper>(
     support: &mut Support,
 ) -> Result<(), Stop>
     requires attached { IsTrue (K.seen work.old.keeper.now).store.attached }
-    ensures left { IsTold K.seen work.new → OnOk result ((w : ℕ → Bool) → Agrees support.new (shown a.now) w → env.new.items ≡ assigned name.now (mean (world_at app.now ctx.now (state_of K.seen work.old) w) (expression_of e.now) env.old.items) env.old.items) }
+    ensures left { IsTold K.seen work.new → OnOk result ((w : ℕ → Bool)
+        → Agrees support.new (shown a.now) w → env.new.items ≡ assigned name.now
+        (mean (world_at app.now ctx.now (state_of K.seen work.old) w) (expression_of e.now)
+        env.old.items) env.old.items) }
     ensures reads { ReadsWork K.seen work.old work.new result }
     ensures grows { Grows support.old support.new }
 {
@@ -269,7 +290,10 @@ fn execute_let<K: Keeper>(
     requires attached { IsTrue (K.seen work.old.keeper.now).store.attached }
     requires no_record { ctx.now.this ≡ None }
     requires reading { AreReading (statements_of body.now) }
-    ensures left { IsTold K.seen work.new → OnOk result (Runs support.new a.now (λ w. leaves (setting_at app.now ctx.now w) (Statement.bind name.now (expression_of e.now) (statements_of body.now))) (state_of K.seen work.old) env.old.items pieces.old.items env.new.items pieces.new.items) }
+    ensures left { IsTold K.seen work.new
+        → OnOk result (Runs support.new a.now (λ w. leaves (setting_at app.now ctx.now w)
+        (Statement.bind name.now (expression_of e.now) (statements_of body.now)))
+        (state_of K.seen work.old) env.old.items pieces.old.items env.new.items pieces.new.items) }
     ensures reads { ReadsWork K.seen work.old work.new result }
     ensures grows { Grows support.old support.new }
 {
@@ -298,7 +322,10 @@ fn execute_named<K: Keeper>(
     requires attached { IsTrue (K.seen work.old.keeper.now).store.attached }
     requires no_record { ctx.now.this ≡ None }
     requires reading { AreReading (statements_of body.now) }
-    ensures left { IsTold K.seen work.new → OnOk result (Runs support.new a.now (λ w. with_binding name.now value (leaves_all (setting_at app.now ctx.now w) (statements_of body.now))) (state_of K.seen work.old) env.old.items pieces.old.items env.new.items pieces.new.items) }
+    ensures left { IsTold K.seen work.new
+        → OnOk result (Runs support.new a.now (λ w. with_binding name.now value
+        (leaves_all (setting_at app.now ctx.now w) (statements_of body.now)))
+        (state_of K.seen work.old) env.old.items pieces.old.items env.new.items pieces.new.items) }
     ensures reads { ReadsWork K.seen work.old work.new result }
     ensures grows { Grows support.old support.new }
 {
@@ -328,7 +355,11 @@ fn execute_if<K: Keeper>(
     requires no_record { ctx.now.this ≡ None }
     requires first { AreReading (statements_of first.now) }
     requires second { AreReading (statements_of second.now) }
-    ensures left { IsTold K.seen work.new → OnOk result (Runs support.new a.now (λ w. leaves (setting_at app.now ctx.now w) (Statement.branch (expression_of c.now) (statements_of first.now) (statements_of second.now))) (state_of K.seen work.old) env.old.items pieces.old.items env.new.items pieces.new.items) }
+    ensures left { IsTold K.seen work.new
+        → OnOk result (Runs support.new a.now (λ w. leaves (setting_at app.now ctx.now w)
+        (Statement.branch (expression_of c.now) (statements_of first.now)
+        (statements_of second.now))) (state_of K.seen work.old) env.old.items pieces.old.items
+        env.new.items pieces.new.items) }
     ensures reads { ReadsWork K.seen work.old work.new result }
     ensures grows { Grows support.old support.new }
 {
@@ -358,7 +389,10 @@ fn execute_for<K: Keeper>(
     requires attached { IsTrue (K.seen work.old.keeper.now).store.attached }
     requires no_record { ctx.now.this ≡ None }
     requires reading { AreReading (statements_of body.now) }
-    ensures left { IsTold K.seen work.new → OnOk result (Runs support.new a.now (λ w. leaves (setting_at app.now ctx.now w) (Statement.each (question_of query.now) (statements_of body.now))) (state_of K.seen work.old) env.old.items pieces.old.items env.new.items pieces.new.items) }
+    ensures left { IsTold K.seen work.new
+        → OnOk result (Runs support.new a.now (λ w. leaves (setting_at app.now ctx.now w)
+        (Statement.each (question_of query.now) (statements_of body.now)))
+        (state_of K.seen work.old) env.old.items pieces.old.items env.new.items pieces.new.items) }
     ensures reads { ReadsWork K.seen work.old work.new result }
     ensures grows { Grows support.old support.new }
 {
@@ -389,7 +423,11 @@ fn execute_tuples<K: Keeper>(
     requires attached { IsTrue (K.seen work.old.keeper.now).store.attached }
     requires no_record { ctx.now.this ≡ None }
     requires reading { AreReading (statements_of body.now) }
-    ensures left { IsTold K.seen work.new → OnOk result (Runs support.new a.now (λ w. for_each (binders_of binders.now) (λ ids. leaves_all (setting_around app.now ctx.now ids w) (statements_of body.now)) tuples.now) (state_of K.seen work.old) env.old.items pieces.old.items env.new.items pieces.new.items) }
+    ensures left { IsTold K.seen work.new
+        → OnOk result (Runs support.new a.now (λ w. for_each (binders_of binders.now)
+        (λ ids. leaves_all (setting_around app.now ctx.now ids w) (statements_of body.now))
+        tuples.now) (state_of K.seen work.old) env.old.items pieces.old.items env.new.items
+        pieces.new.items) }
     ensures reads { ReadsWork K.seen work.old work.new result }
     ensures grows { Grows support.old support.new }
 {
@@ -419,7 +457,10 @@ fn execute_bound<K: Keeper>(
     requires attached { IsTrue (K.seen work.old.keeper.now).store.attached }
     requires no_record { ctx.now.this ≡ None }
     requires reading { AreReading (statements_of body.now) }
-    ensures left { IsTold K.seen work.new → OnOk result (Runs support.new a.now (λ w r. scoped (bound (binders_of binders.now) ids.now r.env) (leaves_all (setting_around app.now ctx.now ids.now w) (statements_of body.now)) r) (state_of K.seen work.old) env.old.items pieces.old.items env.new.items pieces.new.items) }
+    ensures left { IsTold K.seen work.new
+        → OnOk result (Runs support.new a.now (λ w r. scoped (bound (binders_of binders.now) ids.now
+        r.env) (leaves_all (setting_around app.now ctx.now ids.now w) (statements_of body.now)) r)
+        (state_of K.seen work.old) env.old.items pieces.old.items env.new.items pieces.new.items) }
     ensures reads { ReadsWork K.seen work.old work.new result }
     ensures grows { Grows support.old support.new }
 {

@@ -31,10 +31,14 @@ pub(crate) fn stand<K: Keeper>(
     support: &mut Support,
 ) -> Result<bool, Stop>
     requires { IsTrue (K.seen work.old.keeper.now).store.attached }
-    ensures value { IsTold K.seen work.new → IfOk result (λ b. (app : App) (ctx : Context) (w : ℕ → Bool) → Agrees support.new (shown a.now) w → b ≡ is_live (world_at app ctx (state_of K.seen work.old) w) value.now) }
+    ensures value { IsTold K.seen work.new → IfOk result (λ b. (app : App) (ctx : Context) (w : ℕ
+        → Bool) → Agrees support.new (shown a.now) w
+        → b ≡ is_live (world_at app ctx (state_of K.seen work.old) w) value.now) }
     ensures reads { ReadsWork K.seen work.old work.new result }
     ensures grows { Grows support.old support.new }
-    ensures own { IsTold K.seen work.new → (this : Option ℕ) → stands_own this value.now (state_of K.seen work.old).tables ≡ true → IsOwn this support.old → OnOk result (IsOwn this support.new) }
+    ensures own { IsTold K.seen work.new → (this : Option ℕ)
+        → stands_own this value.now (state_of K.seen work.old).tables ≡ true
+        → IsOwn this support.old → OnOk result (IsOwn this support.new) }
 {
     match value {
         Value::Ref(Some(id)) => {
@@ -45,8 +49,8 @@ pub(crate) fn stand<K: Keeper>(
     }
 }
 
-/// Whether the assignment shows the record. The labels that were consulted are added to the support: under
-/// each assignment that shows the same of the support, the answer is the same.
+/// Whether the assignment shows the record. The labels that were consulted are added to the
+/// support: under each assignment that shows the same of the support, the answer is the same.
 pub fn record_stands<K: Keeper>(
     alloc: Global,
     work: &mut Work<'_, K>,
@@ -55,10 +59,14 @@ pub fn record_stands<K: Keeper>(
     support: &mut Support,
 ) -> Result<bool, Stop>
     requires attached { IsTrue (K.seen work.old.keeper.now).store.attached }
-    ensures value { IsTold K.seen work.new → IfOk result (λ b. (w : ℕ → Bool) → Agrees support.new (shown a.now) w → b ≡ has_id (project_at w (state_of K.seen work.old)) id) }
+    ensures value { IsTold K.seen work.new → IfOk result (λ b. (w : ℕ → Bool)
+        → Agrees support.new (shown a.now) w → b ≡ has_id (project_at w (state_of K.seen work.old))
+        id) }
     ensures reads { ReadsWork K.seen work.old work.new result }
     ensures grows { Grows support.old support.new }
-    ensures own { IsTold K.seen work.new → (this : Option ℕ) → are_own_rows this id (rows_of (state_of K.seen work.old).tables (model_of_id id)) ≡ true → IsOwn this support.old → OnOk result (IsOwn this support.new) }
+    ensures own { IsTold K.seen work.new → (this : Option ℕ)
+        → are_own_rows this id (rows_of (state_of K.seen work.old).tables (model_of_id id)) ≡ true
+        → IsOwn this support.old → OnOk result (IsOwn this support.new) }
 {
     let rows = work.one(alloc, id)?;
     let found = has_row(alloc, rows.as_slice(), a, id, support)?;
@@ -72,9 +80,11 @@ fn has_row(
     id: Id,
     support: &mut Support,
 ) -> Result<bool, Memory>
-    ensures value { IfOk result (λ b. (w : ℕ → Bool) → Agrees support.new (shown a.now) w → b ≡ stands (record_with id (rows_at w rows.now))) }
+    ensures value { IfOk result (λ b. (w : ℕ → Bool) → Agrees support.new (shown a.now) w
+        → b ≡ stands (record_with id (rows_at w rows.now))) }
     ensures grows { Grows support.old support.new }
-    ensures own { (this : Option ℕ) → are_own_rows this id rows.now ≡ true → IsOwn this support.old → OnOk result (IsOwn this support.new) }
+    ensures own { (this : Option ℕ) → are_own_rows this id rows.now ≡ true → IsOwn this support.old
+        → OnOk result (IsOwn this support.new) }
 {
     let row = shown_row(alloc, rows, a, id, None, support)?;
     Ok(row.is_some())

@@ -9,8 +9,8 @@ use jac_world::{Assignment, Label, add_among, is_among};
 use std::alloc::Global;
 use std::marker::Model;
 
-/// The labels that were consulted, by rising number. None is taken away. What was found stays right under
-/// each assignment that shows the same of them.
+/// The labels that were consulted, by rising number. None is taken away. What was found stays right
+/// under each assignment that shows the same of them.
 #[derive(Debug, Drop)]
 pub struct Support {
     labels: Vec<Label>,
@@ -52,7 +52,8 @@ impl Support {
 
     /// The same labels and this one.
     pub fn add(&mut self, label: Label) -> Result<(), Memory>
-        ensures added { OnOk result ((k : ℕ) → shown self.new k ≡ (label == k || shown self.old k)) }
+        ensures added { OnOk result ((k : ℕ)
+            → shown self.new k ≡ (label == k || shown self.old k)) }
         ensures grows { Grows self.old self.new }
     {
         add_label(&mut self.labels, label)
@@ -61,7 +62,8 @@ impl Support {
 
 fn add_label(labels: &mut Vec<Label>, label: Label) -> Result<(), Memory>
     requires { IsAscending labels.old.items }
-    ensures added { OnOk result ((k : ℕ) → shown labels.new.items k ≡ (label == k || shown labels.old.items k)) }
+    ensures added { OnOk result ((k : ℕ) → shown labels.new.items k
+        ≡ (label == k || shown labels.old.items k)) }
     ensures ascending { IsAscending labels.new.items }
     ensures grows { Grows labels.old.items labels.new.items }
 {
@@ -71,17 +73,20 @@ fn add_label(labels: &mut Vec<Label>, label: Label) -> Result<(), Memory>
     }
 }
 
-/// Whether the guard of these pairs holds. All its labels are consulted: under each assignment that shows the
-/// same of the support, the answer is the same.
+/// Whether the guard of these pairs holds. All its labels are consulted: under each assignment that
+/// shows the same of the support, the answer is the same.
 pub(crate) fn consult(
     pairs: &[(Label, bool)],
     assignment: &Assignment,
     support: &mut Support,
 ) -> Result<bool, Memory>
-    ensures value { IfOk result (λ b. (w : ℕ → Bool) → Agrees support.new (shown assignment.now) w → b ≡ holds w pairs.now) }
-    ensures consulted { OnOk result ((k : ℕ) → names pairs.now k ≡ true → shown support.new k ≡ true) }
+    ensures value { IfOk result (λ b. (w : ℕ → Bool) → Agrees support.new (shown assignment.now) w
+        → b ≡ holds w pairs.now) }
+    ensures consulted { OnOk result ((k : ℕ) → names pairs.now k ≡ true
+        → shown support.new k ≡ true) }
     ensures grows { Grows support.old support.new }
-    ensures own { (this : Option ℕ) → names_own this pairs.now ≡ true → IsOwn this support.old → OnOk result (IsOwn this support.new) }
+    ensures own { (this : Option ℕ) → names_own this pairs.now ≡ true → IsOwn this support.old
+        → OnOk result (IsOwn this support.new) }
 {
     add_labels(pairs, support)?;
     Ok(are_met(pairs, assignment))
@@ -94,9 +99,11 @@ fn are_met(pairs: &[(Label, bool)], assignment: &Assignment) -> bool
 }
 
 fn add_labels(pairs: &[(Label, bool)], support: &mut Support) -> Result<(), Memory>
-    ensures consulted { OnOk result ((k : ℕ) → names pairs.now k ≡ true → shown support.new k ≡ true) }
+    ensures consulted { OnOk result ((k : ℕ) → names pairs.now k ≡ true
+        → shown support.new k ≡ true) }
     ensures grows { Grows support.old support.new }
-    ensures own { (this : Option ℕ) → names_own this pairs.now ≡ true → IsOwn this support.old → OnOk result (IsOwn this support.new) }
+    ensures own { (this : Option ℕ) → names_own this pairs.now ≡ true → IsOwn this support.old
+        → OnOk result (IsOwn this support.new) }
 {
     'pairs: for pair in pairs {
         support.add(pair.0)?;

@@ -30,8 +30,11 @@ pub(crate) fn spell(alloc: Global, value: &Value) -> Result<Value, Memory>
 
 // The first part and those behind it, where there are any.
 pub(crate) fn split_first(parts: &Exprs) -> Option<(&Expr, &Exprs)>
-    ensures cases { MatchOption result (expressions_of parts.now ≡ Expressions.none) (λ p. expressions_of parts.now ≡ Expressions.more (expression_of p.0.now) (expressions_of p.1.now)) }
-    ensures smaller { IfSome result (λ p. (size-Expr p.0.now < size-Exprs parts.now) × (size-Exprs p.1.now < size-Exprs parts.now)) }
+    ensures cases { MatchOption result (expressions_of parts.now ≡ Expressions.none)
+        (λ p. expressions_of parts.now ≡ Expressions.more (expression_of p.0.now)
+        (expressions_of p.1.now)) }
+    ensures smaller { IfSome result (λ p. (size-Expr p.0.now < size-Exprs parts.now)
+        × (size-Exprs p.1.now < size-Exprs parts.now)) }
 {
     match parts {
         Exprs::End => None,
@@ -41,7 +44,8 @@ pub(crate) fn split_first(parts: &Exprs) -> Option<(&Expr, &Exprs)>
 
 // Adds the text behind those before it.
 pub(crate) fn push_text(joined: &mut String, value: &Value) -> Result<(), Memory>
-    ensures { OnOk result (string_bytes joined.new ≡ string_bytes joined.old ++ bytes_of value.now) }
+    ensures { OnOk result (string_bytes joined.new ≡ string_bytes joined.old ++ bytes_of
+        value.now) }
 {
     joined.push_str(str_of(value))?;
     Ok(())

@@ -49,4 +49,5 @@ tuples_of (k ∷ ks) = record { guard = k.guard; ids = k.ids } ∷ tuples_of ks
 -- these ids with each key that is seen
 abbrev pub key_leaves : (ℕ → Bool) → List ℕ → List (List (ℕ × Bool) × Value) → List (List ℕ × Value)
 key_leaves w ids [] = []
-key_leaves w ids (p ∷ ps) = if holds w p.0 then (ids, p.1) ∷ key_leaves w ids ps else key_leaves w ids ps
+key_leaves w ids (p ∷ ps) = if holds w p.0 then (ids, p.1) ∷ key_leaves w ids ps
+    else key_leaves w ids ps

@@ -10,8 +10,8 @@ use jac_world::Steps;
 use std::alloc::Global;
 use std::sync::ledger::Ledger;
 
-/// The cell of the first row that holds, under each assignment, or the absent value where none does or it
-/// has no such cell. Of the alternatives of one record at most one holds.
+/// The cell of the first row that holds, under each assignment, or the absent value where none does
+/// or it has no such cell. Of the alternatives of one record at most one holds.
 pub fn read_field<L: Ledger>(
     alloc: Global,
     rows: &[Row],
@@ -19,7 +19,8 @@ pub fn read_field<L: Ledger>(
     absent: &Value,
     splits: &mut Steps<L>,
 ) -> Result<Facet<Value>, Memory>
-    ensures { IfOk result (λ f. (w : ℕ → Bool) → at w f ≡ field_of field absent.now (rows_at w rows.now)) }
+    ensures { IfOk result (λ f. (w : ℕ → Bool) → at w f ≡ field_of field absent.now
+        (rows_at w rows.now)) }
 {
     let mut rest = rows;
     let value = absent.copy(alloc)?;

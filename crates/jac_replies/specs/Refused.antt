@@ -18,4 +18,11 @@ fixed_body status = decimal status ++ codes " " ++ reason status ++ 10 ∷ []
 -- an answer without a page
 abbrev pub refusal : ℕ → Option (List ℕ) → Answer
 refusal status allow =
-    record { status = status; location = None; allow = allow; body = fixed_body status; shown = None; consulted = None }
+    record {
+      status = status;
+      location = None;
+      allow = allow;
+      body = fixed_body status;
+      shown = None;
+      consulted = None;
+    }

@@ -4,8 +4,8 @@ use jac_route::Pairs;
 use jac_value::{Bytes, Id, Txt};
 use jac_world::Assignment;
 
-/// A request: who looks, and what is asked. The pairs are those of the query and, for a POST, then those of
-/// the form body.
+/// A request: who looks, and what is asked. The pairs are those of the query and, for a POST, then
+/// those of the form body.
 #[derive(Debug, Drop)]
 pub struct Ask {
     pub viewer: Option<Id>,
@@ -14,8 +14,8 @@ pub struct Ask {
     pub pairs: Pairs,
 }
 
-/// What answers a request: a page and the labels that it was made under, or a refusal without labels. Where the labels
-/// alone were resolved that the page consulted, it has these too.
+/// What answers a request: a page and the labels that it was made under, or a refusal without
+/// labels. Where the labels alone were resolved that the page consulted, it has these too.
 #[derive(Debug, Drop)]
 pub struct Answer {
     pub status: u16,

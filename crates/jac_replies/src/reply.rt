@@ -22,7 +22,8 @@ pub enum Spelling {
 
 /// The line of a reply: `reply STATUS "LOCATION" "BODY"`. A reply to HEAD has no body.
 pub fn reply_line(alloc: Global, method: &[u8], answer: &Answer) -> Result<Txt, Memory>
-    ensures { IfOk result (λ line. line ≡ reply_text method.now answer.now.status answer.now.location answer.now.body) }
+    ensures { IfOk result (λ line. line ≡ reply_text method.now answer.now.status
+        answer.now.location answer.now.body) }
 {
     let location = escape_line(alloc, location_bytes(answer))?;
     let body = escape_line(alloc, printed_body(method, answer))?;
@@ -31,7 +32,8 @@ pub fn reply_line(alloc: Global, method: &[u8], answer: &Answer) -> Result<Txt, 
 }
 
 fn reply_parts(alloc: Global, status: u16, location: &str, body: &str) -> Result<Txt, Memory>
-    ensures { IfOk result (λ line. line ≡ codes "reply " ++ decimal status ++ codes " " ++ location.now ++ codes " " ++ body.now ++ 10 ∷ []) }
+    ensures { IfOk result (λ line. line ≡ codes "reply " ++ decimal status ++ codes " "
+        ++ location.now ++ codes " " ++ body.now ++ 10 ∷ []) }
 {
     let line = format!(in alloc; "reply {status} {location} {body}\n")?;
     Ok(Txt::from_string(line))
@@ -73,7 +75,9 @@ pub fn sent_reply(
     close: bool,
 ) -> Result<Bytes, Memory>
     requires { IsSome (phrase_of answer.now.status) }
-    ensures { IfOk result (λ reply. reply ≡ spelled spelling conn (reply_bytes answer.now.status answer.now.location answer.now.allow answer.now.body (is_some answer.now.shown) head close)) }
+    ensures { IfOk result (λ reply. reply ≡ spelled spelling conn (reply_bytes answer.now.status
+        answer.now.location answer.now.allow answer.now.body (is_some answer.now.shown) head
+        close)) }
 {
     let bytes = write_reply(
         alloc,
@@ -96,7 +100,8 @@ pub fn refusal_reply(
     status: u16,
 ) -> Result<Bytes, Memory>
     requires { IsSome (phrase_of status) }
-    ensures { IfOk result (λ reply. reply ≡ spelled spelling conn (reply_bytes status None None [] false false true)) }
+    ensures { IfOk result (λ reply. reply ≡ spelled spelling conn (reply_bytes status None None []
+        false false true)) }
 {
     let empty = Bytes::empty(alloc);
     let bytes = write_reply(alloc, status, None, None, &empty, false, false, true)?;
@@ -131,14 +136,15 @@ fn sent_bytes(alloc: Global, conn: u32, bytes: &Bytes) -> Result<Txt, Memory>
 }
 
 fn sent_parts(alloc: Global, conn: u32, quoted: &str) -> Result<Txt, Memory>
-    ensures { IfOk result (λ line. line ≡ codes "sent " ++ decimal conn ++ codes " " ++ quoted.now ++ 10 ∷ []) }
+    ensures { IfOk result (λ line. line ≡ codes "sent " ++ decimal conn ++ codes " " ++ quoted.now
+        ++ 10 ∷ []) }
 {
     let line = format!(in alloc; "sent {conn} {quoted}\n")?;
     Ok(Txt::from_string(line))
 }
 
-/// What follows the number in the audit's line of a reply: ` STATUS VIEWER SHOWN`, or ` STATUS VIEWER SHOWN of
-/// CONSULTED`.
+/// What follows the number in the audit's line of a reply: ` STATUS VIEWER SHOWN`, or ` STATUS
+/// VIEWER SHOWN of CONSULTED`.
 pub fn audit_rest(
     alloc: Global,
     status: u16,

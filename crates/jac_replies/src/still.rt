@@ -14,7 +14,8 @@ use jac_value::Id;
 
 /// The line of the reply to an `ask` line.
 pub fn failed_reply(stop: Stop, method: &[u8]) -> &'static [u8]
-    ensures { result.now ≡ reply_text method.now (status_of_stop stop) None (refusal (status_of_stop stop) None).body }
+    ensures { result.now ≡ reply_text method.now (status_of_stop stop) None
+        (refusal (status_of_stop stop) None).body }
 {
     match stop {
         Stop::Keeper => {
@@ -36,7 +37,8 @@ pub fn failed_reply(stop: Stop, method: &[u8]) -> &'static [u8]
 
 /// What follows the number of a connection in the line of such a reply.
 pub fn still_text(status: Fixed, head: bool) -> &'static [u8]
-    ensures { result.now ≡ codes " " ++ quoted (reply_bytes (status_of_fixed status) None None [] false head true) ++ 10 ∷ [] }
+    ensures { result.now ≡ codes " " ++ quoted (reply_bytes (status_of_fixed status) None None []
+        false head true) ++ 10 ∷ [] }
 {
     match (status, head) {
         (Fixed::Memory500, true) => MEMORY_HEAD,

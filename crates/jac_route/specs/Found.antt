@@ -26,7 +26,10 @@ view_for route (Some verbs.Post) = route.post
 
 abbrev pub found_by : Option ℕ → Route → List ℕ → Found
 found_by (Some n) route path = outcome.View n (path_pairs route.pattern path)
-found_by None route path = outcome.WrongMethod (record { get = is_some route.get; post = is_some route.post })
+found_by None route path = outcome.WrongMethod (record {
+  get = is_some route.get;
+  post = is_some route.post;
+})
 
 abbrev pub found_at : Option (RouteOf Route) → List ℕ → List ℕ → Found
 found_at None method path = outcome.NoRoute

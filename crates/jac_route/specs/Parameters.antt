@@ -17,12 +17,17 @@ parameter_read kind None = default_value kind
 parameter_read kind (Some text) = value_read kind text
 
 abbrev pub parameter : List Entity → List Pair → Field → Binding
-parameter models pairs field = record { name = field.name; bound_to = parameter_read (kind_named models field.kind) (value_of_name field.name pairs) }
+parameter models pairs field = record {
+  name = field.name;
+  bound_to = parameter_read
+      (kind_named models field.kind) (value_of_name field.name pairs);
+}
 
 -- each parameter with the value of the first pair of its name
 abbrev pub parameters : List Entity → List Field → List Pair → List Binding
 parameters models [] pairs = []
-parameters models (field ∷ fields) pairs = parameter models pairs field ∷ parameters models fields pairs
+parameters models (field ∷ fields) pairs = parameter models pairs field ∷ parameters models fields
+    pairs
 
 abbrev pub id_if : ℕ → Option ℕ → Option ℕ
 id_if number None = None

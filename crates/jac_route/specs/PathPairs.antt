@@ -18,8 +18,10 @@ pair_at (Some name) part = record { name = name; value = part_text part } ∷ []
 abbrev pub pairs_at : List (List ℕ) → List (List ℕ) → List Pair
 pairs_at [] parts = []
 pairs_at (segment ∷ segments) [] = []
-pairs_at (segment ∷ segments) (part ∷ parts) = pair_at (segment_name segment) part ++ pairs_at segments parts
+pairs_at (segment ∷ segments) (part ∷ parts) = pair_at (segment_name segment) part ++ pairs_at
+    segments parts
 
--- the pairs of a path that fits the pattern; a path is cut at its slashes before anything is decoded
+-- the pairs of a path that fits the pattern; a path is cut at its slashes before anything is
+-- decoded
 abbrev pub path_pairs : List ℕ → List ℕ → List Pair
 path_pairs pattern path = pairs_at (segments pattern) (segments path)

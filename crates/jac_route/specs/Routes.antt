@@ -38,18 +38,25 @@ view_place views verb pattern = position (is_at verb pattern) views
 
 -- the pattern and its views
 abbrev pub route_of : List Page → List ℕ → Route
-route_of views pattern = record { pattern = pattern; get = view_place views verbs.Get pattern; post = view_place views verbs.Post pattern }
+route_of views pattern = record {
+  pattern = pattern;
+  get = view_place views verbs.Get pattern;
+  post = view_place views verbs.Post pattern;
+}
 
 abbrev pub is_place : ℕ → Option ℕ → Bool
 is_place n None = false
 is_place n (Some place) = place == n
 
--- the table with one pattern more, or the number of the view where `matchit` refuses its pattern beside the others
+-- the table with one pattern more, or the number of the view where `matchit` refuses its pattern
+-- beside the others
 abbrev pub with_pattern : ℕ → Result Scan InsertError → Route → Table → Result Table ℕ
 with_pattern n (Err e) route rows = Err n
-with_pattern n (Ok scan) route rows = if is_some (nearest scan.pattern rows) then Err n else Ok (placed (scan.pattern, route_from scan route) rows)
+with_pattern n (Ok scan) route rows = if is_some (nearest scan.pattern rows) then Err n
+    else Ok (placed (scan.pattern, route_from scan route) rows)
 
--- the table with the n-th view: refused where an earlier view has its method and pattern, unchanged where one has its pattern alone
+-- the table with the n-th view: refused where an earlier view has its method and pattern, unchanged
+-- where one has its pattern alone
 abbrev pub with_view : List Page → ℕ → Page → Table → Result Table ℕ
 with_view views n v rows =
     if not (is_place n (view_place views v.method v.path)) then Err n else
@@ -63,7 +70,8 @@ go_on (Err n) next = Err n
 -- the table with each of the views from the n-th on, or the number of the first that clashes
 abbrev pub table_from : List Page → ℕ → List Page → Table → Result Table ℕ
 table_from views n [] rows = Ok rows
-table_from views n (v ∷ rest) rows = go_on (with_view views n v rows) (table_from views (n + 1) rest)
+table_from views n (v ∷ rest) rows = go_on (with_view views n v rows)
+    (table_from views (n + 1) rest)
 
 abbrev pub table_of : Application → Result Table ℕ
 table_of app = table_from app.views 0 app.views []

@@ -41,7 +41,8 @@ abbrev pub before : List Session → Result (List Session) ℕ → Result (List 
 before sessions (Ok rest) = Ok (sessions ++ rest)
 before sessions (Err n) = Err n
 
-abbrev pub before_rest : Result (Option Session) ℕ → Result (List Session) ℕ → Result (List Session) ℕ
+abbrev pub before_rest : Result (Option Session) ℕ → Result (List Session) ℕ
+    → Result (List Session) ℕ
 before_rest (Ok session) rest = before (listed session) rest
 before_rest (Err n) rest = Err n
 
@@ -64,7 +65,9 @@ abbrev pub session_named : List ℕ → List Session → Option Session
 session_named token [] = None
 session_named token (s ∷ rest) = if bytes_eq s.token token then Some s else session_named token rest
 
--- who looks by a token: nobody without a session, by a session of nobody, or where the number is no id of the viewer's model
+-- who looks by a token: nobody without a session, by a session of nobody, or where the number is no
+-- id of the viewer's model
 abbrev pub session_viewer : List Session → Option (List ℕ) → Application → Option ℕ
 session_viewer sessions token app =
-    option_and_then (λ name. option_and_then (λ session. option_and_then (viewer_of app) session.viewer) (session_named name sessions)) token
+    option_and_then (λ name. option_and_then (λ session. option_and_then (viewer_of app)
+    session.viewer) (session_named name sessions)) token

@@ -13,9 +13,11 @@ first_word line = option_map (λ i. (take i line, drop (i + 1) line)) (position 
 -- a number below 2^128, of 1 to 39 decimal digits
 abbrev pub number_read : List ℕ → Option ℕ
 number_read word =
-    if nat_lt 0 (length word) && nat_le (length word) 39 && list_all is_ascii_digit word && nat_lt (digits_value 10 word) (2 ^ 128)
+    if nat_lt 0 (length word) && nat_le (length word) 39 && list_all is_ascii_digit word && nat_lt
+    (digits_value 10 word) (2 ^ 128)
     then Some (digits_value 10 word) else None
 
 -- a viewer's number, or `-` for nobody
 abbrev pub viewer_read : List ℕ → Option (Option ℕ)
-viewer_read word = if bytes_eq word (codes "-") then Some None else option_map (λ n. Some n) (number_read word)
+viewer_read word = if bytes_eq word (codes "-") then Some None
+    else option_map (λ n. Some n) (number_read word)

@@ -27,12 +27,14 @@ pub enum Found {
     WrongMethod(Allow),
 }
 
-/// The view of a method and a path. HEAD counts as GET. Parts of the path are percent-decoded, and what isn't
-/// UTF-8 in them becomes U+FFFD.
+/// The view of a method and a path. HEAD counts as GET. Parts of the path are percent-decoded, and
+/// what isn't UTF-8 in them becomes U+FFFD.
 pub fn find(alloc: Global, routes: &Routes, method: &Txt, path: &Txt) -> Result<Found, Memory>
     ensures among { IfOk result (λ f. f ≡ found_among routes.now method.now path.now) }
-    ensures found { (app : Application) → AreRoutes app routes.now → IfOk result (λ f. f ≡ found app method.now path.now) }
-    ensures within { (app : Application) → AreRoutes app routes.now → IfOk result (λ f. IsWithin (length app.views) f) }
+    ensures found { (app : Application) → AreRoutes app routes.now
+        → IfOk result (λ f. f ≡ found app method.now path.now) }
+    ensures within { (app : Application) → AreRoutes app routes.now
+        → IfOk result (λ f. IsWithin (length app.views) f) }
 {
     find_among(alloc, routes, method, path)
 }
@@ -48,7 +50,8 @@ fn find_among(alloc: Global, routes: &Routes, method: &Txt, path: &Txt) -> Resul
 
 // What the method finds at the route of the path.
 fn find_at(alloc: Global, route: &Route, method: &Txt, path: &Txt) -> Result<Found, Memory>
-    ensures { IfOk result (λ f. f ≡ found_by (view_for route.now (verb_of method.now)) route.now path.now) }
+    ensures { IfOk result (λ f. f ≡ found_by (view_for route.now (verb_of method.now)) route.now
+        path.now) }
 {
     match view_for(route, verb_named(method)) {
         Some(view) => {

@@ -12,8 +12,8 @@ use jac_lang::{App, Binding, Field, Fields, KindName, Models, PlainEnv, model_of
 use jac_value::{Id, Kind, Memory, Txt, Value, default_of, is_id, value_of};
 use std::alloc::Global;
 
-/// Each parameter of a view, bound to what the first pair of its name reads as, among those of the path and
-/// then the others. What is missing or doesn't read is the default of the kind.
+/// Each parameter of a view, bound to what the first pair of its name reads as, among those of the
+/// path and then the others. What is missing or doesn't read is the default of the kind.
 pub fn bind(
     alloc: Global,
     params: &Fields,
@@ -21,7 +21,8 @@ pub fn bind(
     path: &Pairs,
     rest: &Pairs,
 ) -> Result<PlainEnv, Memory>
-    ensures { IfOk result (λ env. env ≡ parameters (application_of app.now).models params.now (path.now ++ rest.now)) }
+    ensures { IfOk result (λ env. env ≡ parameters (application_of app.now).models params.now
+        (path.now ++ rest.now)) }
 {
     let fields = params.as_slice();
     let mut bindings = Vec::new(alloc);
@@ -39,7 +40,8 @@ fn bind_one(
     path: &Pairs,
     rest: &Pairs,
 ) -> Result<Binding, Memory>
-    ensures { IfOk result (λ b. b ≡ parameter (application_of app.now).models (path.now ++ rest.now) field.now) }
+    ensures { IfOk result (λ b. b ≡ parameter (application_of app.now).models (path.now ++ rest.now)
+        field.now) }
 {
     let kind = kind_by_name(app, &field.kind);
     let text = value_in(path, rest, &field.name);
@@ -83,8 +85,8 @@ fn read_text(alloc: Global, kind: &Kind, text: &Txt) -> Result<Value, Memory>
     }
 }
 
-/// The kind of this name, where a reference has the number of its model. A model's name that no model has
-/// counts as the number of the models.
+/// The kind of this name, where a reference has the number of its model. A model's name that no
+/// model has counts as the number of the models.
 pub fn kind_by_name(app: &App, kind: &KindName) -> Kind
     ensures { result ≡ kind_named (application_of app.now).models kind.now }
 {
@@ -97,7 +99,8 @@ pub fn kind_by_name(app: &App, kind: &KindName) -> Kind
 }
 
 fn place_or_count(app: &App, name: &Txt) -> u8
-    ensures { result ≡ unwrap_or (model_place (application_of app.now).models name.now) (length (application_of app.now).models) }
+    ensures { result ≡ unwrap_or (model_place (application_of app.now).models name.now)
+        (length (application_of app.now).models) }
 {
     match model_of(app, name) {
         Some(place) => place,

@@ -36,7 +36,8 @@ fn push_pair(
     part: &[u8],
     pairs: &mut Vec<Pair>,
 ) -> Result<(), Memory>
-    ensures { OnOk result (pairs.new.items ≡ pairs.old.items ++ pair_at (segment_name segment.now) part.now) }
+    ensures { OnOk result (pairs.new.items ≡ pairs.old.items ++ pair_at (segment_name segment.now)
+        part.now) }
 {
     let Some(name) = segment_name(segment) else {
         return Ok(());

@@ -28,8 +28,8 @@ pub struct Routes {
 /// Why an application has no routes.
 #[derive(Clone, Copy, Debug, PartialEq, Eq)]
 pub enum RouteFault {
-    /// The view of this number has the method and pattern of an earlier one, or a pattern that can't stand
-    /// beside the earlier ones.
+    /// The view of this number has the method and pattern of an earlier one, or a pattern that
+    /// can't stand beside the earlier ones.
     Clash(u32),
     /// A growth was refused, or there are more views than numbers.
     Memory,
@@ -46,7 +46,8 @@ impl Model for Routes {
 impl Routes {
     /// The views of the pattern that the path finds.
     pub(crate) fn route_at(&self, path: &Txt) -> Option<&Route>
-        ensures { option_map (λ r. r.now) result ≡ option_map (λ row. row.value) (first self.now path.now) }
+        ensures { option_map (λ r. r.now) result ≡ option_map (λ row. row.value)
+            (first self.now path.now) }
     {
         match self.router.at(path.as_str()) {
             Ok(found) => Some(found.value),
@@ -72,8 +73,10 @@ pub fn routes_of(alloc: Global, app: &App) -> Result<Routes, RouteFault>
 
 fn router_of(alloc: Global, views: &[View]) -> Result<Router<Route>, RouteFault>
     requires few { length views.now < 2 ^ 32 }
-    ensures ok { IfOk result (λ rows. table_from (pages_of views.now) 0 (pages_of views.now) [] ≡ Ok rows) }
-    ensures clash { IfErr result (λ e. Clashes e (table_from (pages_of views.now) 0 (pages_of views.now) [])) }
+    ensures ok { IfOk result (λ rows. table_from (pages_of views.now) 0 (pages_of views.now) []
+        ≡ Ok rows) }
+    ensures clash { IfErr result
+        (λ e. Clashes e (table_from (pages_of views.now) 0 (pages_of views.now) [])) }
 {
     let mut router = Router::new(alloc);
     let mut number: u32 = 0;
@@ -95,8 +98,10 @@ fn add_view(
     router: &mut Router<Route>,
 ) -> Result<(), RouteFault>
     requires few { length views.now < 2 ^ 32 }
-    ensures ok { OnOk result (with_view (pages_of views.now) number (page_of view.now) router.old ≡ Ok router.new) }
-    ensures clash { IfErr result (λ e. Clashes e (with_view (pages_of views.now) number (page_of view.now) router.old)) }
+    ensures ok { OnOk result (with_view (pages_of views.now) number (page_of view.now) router.old
+        ≡ Ok router.new) }
+    ensures clash { IfErr result (λ e. Clashes e (with_view (pages_of views.now) number
+        (page_of view.now) router.old)) }
 {
     if !is_place(number, view_place(views, view.method, &view.path)) {
         return Err(RouteFault::Clash(number));
@@ -116,8 +121,10 @@ fn add_route(
     route: Route,
     router: &mut Router<Route>,
 ) -> Result<(), RouteFault>
-    ensures ok { OnOk result (with_pattern number (parse_route pattern.now) route router.old ≡ Ok router.new) }
-    ensures clash { IfErr result (λ e. Clashes e (with_pattern number (parse_route pattern.now) route router.old)) }
+    ensures ok { OnOk result (with_pattern number (parse_route pattern.now) route router.old
+        ≡ Ok router.new) }
+    ensures clash { IfErr result (λ e. Clashes e (with_pattern number (parse_route pattern.now)
+        route router.old)) }
 {
     match router.insert(pattern.as_str(), route) {
         Ok(()) => Ok(()),

@@ -139,7 +139,8 @@ fn push_listed(session: Option<Session>, sessions: &mut Vec<Session>) -> Result<
 
 /// The record that looks by a token.
 pub fn viewer_of(sessions: &Sessions, token: Option<&Txt>, app: &App) -> Option<Id>
-    ensures { result ≡ session_viewer sessions.now (option_copied token.entry) (application_of app.now) }
+    ensures { result ≡ session_viewer sessions.now (option_copied token.entry)
+        (application_of app.now) }
 {
     match token {
         Some(token) => match find_session(sessions.as_slice(), token) {

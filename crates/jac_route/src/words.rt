@@ -40,7 +40,8 @@ fn are_digits(word: &[u8]) -> bool
 fn decimal(word: &[u8]) -> Option<u128>
     requires some { 0 < length word.now }
     requires digits { list_all is_ascii_digit word.now ≡ true }
-    ensures { result ≡ (if nat_lt (digits_value 10 word.now) (2 ^ 128) then Some (digits_value 10 word.now) else None) }
+    ensures { result ≡ (if nat_lt (digits_value 10 word.now) (2 ^ 128)
+        then Some (digits_value 10 word.now) else None) }
 {
     match str::from_utf8(word) {
         Ok(text) => match text.parse::<u128>() {

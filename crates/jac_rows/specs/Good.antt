@@ -1,4 +1,5 @@
--- Good states, as what every assignment shows and by guards; and sound ones, whose cells may be of any kind.
+-- Good states, as what every assignment shows and by guards; and sound ones, whose cells may be of
+-- any kind.
 use Rattle.std.specs.Prelude.{◌≡◌, ℕ, ◌+◌, ◌<◌, ◌≤◌, ◌^◌, Bool, true, false, ◌&&◌, List, [], ◌∷◌, IsSomeAnd, slice_get, ⊤}
 use Rattle.std.specs.List.{AllByRecursion}
 use Rattle.jac_value.specs.Ids.{model_of_id, number_of_id, is_wide, is_id_of}
@@ -20,7 +21,8 @@ have_kinds (k ∷ ks) (v ∷ vs) = has_kind k v && have_kinds ks vs
 have_kinds [] (v ∷ vs) = false
 have_kinds (k ∷ ks) [] = false
 
--- what a state is to know of a model: the kinds of its fields, and whether its records are made in loops
+-- what a state is to know of a model: the kinds of its fields, and whether its records are made in
+-- loops
 pub record ModelShape : Type 0 where
   pub kinds : List Kind
   pub nested : Bool
@@ -38,15 +40,17 @@ pub record IsShaped (shape : ModelShape) (id : ℕ) (cells : List Value) : Type 
   pub wide : is_wide id ≡ shape.nested
 
 -- a record of the model with cells and an id of its shape; a model beyond the shapes has no records
-pub record IsRecord (shapes : List ModelShape) (model next id : ℕ) (cells : List Value) : Type 0 where
-  pub made : IsMade model next id
-  pub fit : IsSomeAnd (slice_get shapes model) (λ s. IsShaped s id cells)
+pub record IsRecord (shapes : List ModelShape) (model next id : ℕ) (cells : List Value) : Type 0
+  where
+    pub made : IsMade model next id
+    pub fit : IsSomeAnd (slice_get shapes model) (λ s. IsShaped s id cells)
 
 module _ {X : Type 0} (IsRows : List X → Type 0) (IsRow : ℕ → X → Type 0) where
   -- the tables of the models from one on: their rows as a table has them, each a row of its model
   abbrev pub AreTablesOf : ℕ → List (List X) → Type 0
   AreTablesOf model [] = ⊤
-  AreTablesOf model (t ∷ ts) = IsRows t × AllByRecursion (IsRow model) t × AreTablesOf (model + 1) ts
+  AreTablesOf model (t ∷ ts) = IsRows t × AllByRecursion (IsRow model) t
+      × AreTablesOf (model + 1) ts
 
 -- each id once, in rising order
 abbrev pub ArePlainRows : List PlainRow → Type 0
@@ -61,7 +65,8 @@ abbrev pub IsNext : ℕ → Type 0
 IsNext n = (1 ≤ n) × (n ≤ 2 ^ 40)
 
 abbrev pub ArePlain : List ModelShape → ℕ → ℕ → List (List PlainRow) → Type 0
-ArePlain shapes next = AreTablesOf ArePlainRows (λ model (r : PlainRow). IsRecord shapes model next r.id r.cells)
+ArePlain shapes next = AreTablesOf ArePlainRows (λ model (r : PlainRow). IsRecord shapes model next
+    r.id r.cells)
 
 abbrev pub IsGoodPlain : List ModelShape → PlainState → Type 0
 IsGoodPlain shapes t = IsNext t.number × ArePlain shapes t.number 0 t.tables
@@ -71,7 +76,8 @@ abbrev pub IsGood : List ModelShape → State → Type 0
 IsGood shapes s = (w : ℕ → Bool) → IsGoodPlain shapes (project_at w s)
 
 abbrev pub AreGuarded : List ModelShape → ℕ → ℕ → List (List Row) → Type 0
-AreGuarded shapes next = AreTablesOf AreRising (λ model (r : Row). IsRecord shapes model next r.id r.cells)
+AreGuarded shapes next = AreTablesOf AreRising (λ model (r : Row). IsRecord shapes model next r.id
+    r.cells)
 
 -- the same said by guards
 abbrev pub IsGoodByGuards : List ModelShape → State → Type 0

@@ -13,7 +13,8 @@ use Rattle.jac_serving.specs.Keeping.{Holding}
 use Rattle.jac_serving.specs.Outside.{Span, span}
 use Rattle.jac_sittings.specs.declared.sittings.Sitting.{Sitting}
 
--- what was answered: a request, and whether it closes its connection; what is refused; or that memory ran out
+-- what was answered: a request, and whether it closes its connection; what is refused; or that
+-- memory ran out
 abbrev pub Subject : Type 0
 Subject = SubjectOf Ask
 
@@ -26,7 +27,8 @@ abbrev pub is_failure : Answer → Bool
 is_failure answer = answer.status == 500 || answer.status == 503
 
 -- how requests are understood: those of a connection, and those of an `ask` line
-abbrev pub hearing_by : (Request → Ask) → (Option ℕ → List ℕ → List ℕ → List ℕ → List ℕ → Ask) → Hearing Ask Answer
+abbrev pub hearing_by : (Request → Ask) → (Option ℕ → List ℕ → List ℕ → List ℕ → List ℕ → Ask)
+    → Hearing Ask Answer
 hearing_by wants asks = record {
   reads = IsTaken;
   wants = wants;
@@ -52,18 +54,23 @@ pub record Answering : Type 1 where
 abbrev pub hearing : Answering → Hearing Ask Answer
 hearing x = hearing_by x.wants x.asks
 
--- the log has the subjects that the events bring, in order; where it may stop early, the first of them
+-- the log has the subjects that the events bring, in order; where it may stop early, the first of
+-- them
 abbrev pub IsHeardBy : Bool → Hearing Ask Answer → List Event → List Entry → Type 0
 IsHeardBy false h events log = IsHeard h events log
 IsHeardBy true h events log = IsHeardInPart h events log
 
--- what serves an application rests on: a request of an `ask` line has its method; entries are answered one after
--- another as each of them is, and behind each what is kept may be answered on; and where memory ran out for what was
--- heard, that is answered without the keeper
+-- what serves an application rests on: a request of an `ask` line has its method; entries are
+-- answered one after another as each of them is, and behind each what is kept may be answered on;
+-- and where memory ran out for what was heard, that is answered without the keeper
 pub record IsAnswering (x : Answering) : Type 0 where
-  pub same_method : (viewer : Option ℕ) (method path query body : List ℕ) → (x.asks viewer method path query body).method ≡ method
+  pub same_method : (viewer : Option ℕ) (method path query body : List ℕ)
+      → (x.asks viewer method path query body).method ≡ method
   pub none : (k : Holding) → x.ready k → x.entries (span k k) []
-  pub one : (a b : Holding) (entry : Entry) → x.entry (span a b) entry.subject entry.answer → x.entries (span a b) (entry ∷ [])
-  pub joined : (a b c : Holding) (xs ys : List Entry) → x.entries (span a b) xs → x.entries (span b c) ys → x.entries (span a c) (xs ++ ys)
-  pub goes_on : (a b : Holding) (subject : Subject) (answer : Answer) → x.entry (span a b) subject answer → x.ready b
+  pub one : (a b : Holding) (entry : Entry) → x.entry (span a b) entry.subject entry.answer
+      → x.entries (span a b) (entry ∷ [])
+  pub joined : (a b c : Holding) (xs ys : List Entry) → x.entries (span a b) xs
+      → x.entries (span b c) ys → x.entries (span a c) (xs ++ ys)
+  pub goes_on : (a b : Holding) (subject : Subject) (answer : Answer)
+      → x.entry (span a b) subject answer → x.ready b
   pub wanting : (k : Holding) → x.ready k → x.entry (span k k) broken (refusal 500 None)

@@ -5,8 +5,8 @@ use Rattle.jac_serving.specs.Answering.{Answering}
 use Rattle.jac_serving.specs.Keeping.{Holding}
 use Rattle.jac_serving.specs.Outside.{Span, span}
 
--- what contracts see of a desk: whose it is, its keeper and the facets that were split, and what was
--- settled for those who looked
+-- what contracts see of a desk: whose it is, its keeper and the facets that were split, and what
+-- was settled for those who looked
 pub record DeskSeen (O : Type 0) : Type 0 where
   pub of : O
   pub holding : Holding

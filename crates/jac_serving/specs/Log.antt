@@ -68,8 +68,8 @@ abbrev pub event_text : Answering → Event → Connections Ask → List Entry �
 event_text x event known mine =
     replies_text mine ++ closing_text event known (after_both (hearing x) event mine known)
 
--- the events, of which the first is the n-th, bring the log, this is their text, and behind them the connections
--- stand so
+-- the events, of which the first is the n-th, bring the log, this is their text, and behind them
+-- the connections stand so
 abbrev pub Brings : Answering → Connections Ask → ℕ → List Event → List Entry → List ℕ
     → Connections Ask → Type 0
 Brings x known n [] log text later = (log ≡ []) × (text ≡ []) × (later ≡ known)

@@ -25,7 +25,8 @@ Put bytes put (Ok done) = put ≡ bytes
 Put bytes put (Err failed) = IsFront put bytes
 
 -- bytes that were to be put, whether or not the sink tells; a put fails only where the count rose
-pub record IsPut {E : Type 0} (sink : Span SinkSeen) (bytes : List ℕ) (result : Result (Unit {0}) E) : Type 0 where
+pub record IsPut {E : Type 0} (sink : Span SinkSeen) (bytes : List ℕ) (result : Result (Unit {0})
+    E) : Type 0 where
   pub put : List ℕ
   pub lasts : Lasts sink.before sink.after
   pub took : Took sink put
@@ -38,7 +39,10 @@ pub record Sinks : Type 0 where
   pub audit : Span SinkSeen
 
 abbrev pub sinks : SinkSeen → SinkSeen → SinkSeen → SinkSeen → Sinks
-sinks out_before out_after audit_before audit_after = record { out = span out_before out_after; audit = span audit_before audit_after }
+sinks out_before out_after audit_before audit_after = record {
+  out = span out_before out_after;
+  audit = span audit_before audit_after;
+}
 
 -- a call of a sink failed: its count rose
 abbrev pub HasFaulted : Span SinkSeen → Type 0
@@ -47,7 +51,8 @@ HasFaulted sink = Rose sink.before.faults sink.after.faults
 abbrev pub AWriteFailed : Sinks → Type 0
 AWriteFailed s = HasFaulted s.out ⊎ HasFaulted s.audit
 
--- some bytes went to the one sink and some to the other, and of these it holds; neither is aimed anew
+-- some bytes went to the one sink and some to the other, and of these it holds; neither is aimed
+-- anew
 pub record Went (s : Sinks) (Holds : List ℕ → List ℕ → Type 0) : Type 0 where
   pub out : List ℕ
   pub audit : List ℕ
@@ -81,7 +86,8 @@ abbrev pub PutBoth : {E : Type 0} → List ℕ → List ℕ → Result (Unit {0}
 PutBoth reply line (Ok done) s out audit = (out ≡ reply) × (audit ≡ line)
 PutBoth reply line (Err failed) s out audit = IsTorn reply line s out audit
 
--- some bytes went to the one sink and some to the other, and of these it holds; the audit may have been aimed
+-- some bytes went to the one sink and some to the other, and of these it holds; the audit may have
+-- been aimed
 pub record WentAimed (s : Sinks) (Holds : List ℕ → List ℕ → Type 0) : Type 0 where
   pub out : List ℕ
   pub audit : List ℕ

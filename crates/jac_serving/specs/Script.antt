@@ -41,12 +41,14 @@ script_event None event rest = with_event event rest
 abbrev pub script_step : ℕ → Option (Option Event) → (ℕ → Bool) → ((ℕ → Bool) → Script) → Script
 script_step n None opened rest = stopped_at (lapses.NoForm n)
 script_step n (Some None) opened rest = rest opened
-script_step n (Some (Some event)) opened rest = script_event (lapse_of n opened event) event (rest (opened_by event opened))
+script_step n (Some (Some event)) opened rest = script_event (lapse_of n opened event) event
+    (rest (opened_by event opened))
 
 -- the lines from the n-th on, before which these connections are open
 abbrev pub script_from : List (List ℕ) → ℕ → (ℕ → Bool) → Script
 script_from [] n opened = record { events = []; refused = None }
-script_from (line ∷ lines) n opened = script_step n (line_of line) opened (script_from lines (n + 1))
+script_from (line ∷ lines) n opened = script_step n (line_of line) opened
+    (script_from lines (n + 1))
 
 -- lines are numbered from 1, and no connection is open before them
 abbrev pub script_of : List ℕ → Script

@@ -37,17 +37,21 @@ use Rattle.jac_serving.specs.Log.{Brings, reply_on, reply_to, reply_line, closin
 use Rattle.jac_serving.specs.Outside.{Span, span, Sinks, PutBoth, IsTorn, IsFront, HasFaulted}
 use Rattle.jac_serving.specs.Script.{Script, script_of, lapse_of}
 
--- the request of an `ask` line was answered: its reply, and what follows the number of its audit line; or it wasn't, and
--- this says why
+-- the request of an `ask` line was answered: its reply, and what follows the number of its audit
+-- line; or it wasn't, and this says why
 abbrev pub IsAsked : Answering → Span Holding → Ask → Asked → Type 0
 IsAsked x k ask (Answered reply audit) =
-    (answer : Answer) × x.entry k (whole ask false) answer × (reply ≡ reply_to asked (whole ask false) answer) × (audit ≡ audit_rest answer.status ask.viewer answer.shown answer.consulted)
-IsAsked x k ask (Unanswered stop viewer) = x.entry k (whole ask false) (refusal (status_of_stop stop) None) × (viewer ≡ ask.viewer)
+    (answer : Answer) × x.entry k (whole ask false) answer
+    × (reply ≡ reply_to asked (whole ask false) answer)
+    × (audit ≡ audit_rest answer.status ask.viewer answer.shown answer.consulted)
+IsAsked x k ask (Unanswered stop viewer) = x.entry k (whole ask false)
+    (refusal (status_of_stop stop) None) × (viewer ≡ ask.viewer)
 
 -- what is put for it, as the k-th reply
 abbrev pub asked_line : List ℕ → Asked → List ℕ
 asked_line method (Answered reply audit) = reply
-asked_line method (Unanswered stop viewer) = reply_text method (status_of_stop stop) None (refusal (status_of_stop stop) None).body
+asked_line method (Unanswered stop viewer) = reply_text method (status_of_stop stop) None
+    (refusal (status_of_stop stop) None).body
 
 abbrev pub asked_audit : ℕ → Asked → List ℕ
 asked_audit k (Answered reply audit) = decimal k ++ audit
@@ -60,7 +64,8 @@ subject_of x (Refused status) = refused status
 -- what is put for what was sent on a connection
 abbrev pub sent_on : Spelling → ℕ → Sent → List ℕ
 sent_on spelling c (Made line audit close) = line
-sent_on spelling c (Still status head viewer) = spelled spelling c (reply_bytes (status_of_fixed status) None None [] false head true)
+sent_on spelling c (Still status head viewer) =
+    spelled spelling c (reply_bytes (status_of_fixed status) None None [] false head true)
 
 -- the line for it in a text
 abbrev pub sent_line : ℕ → Sent → List ℕ
@@ -72,14 +77,17 @@ sent_audit k (Made line audit close) = decimal k ++ audit
 sent_audit k (Still status head viewer) = audit_text k (status_of_fixed status) viewer None None
 
 -- what was heard of a connection has this answer, and what was sent is its reply
-pub record IsHandled (spelling : Spelling) (x : Answering) (before : Holding) (c : ℕ) (heard : Heard) (sent : Sent) (after : Holding) (answer : Answer) : Type 0 where
+pub record IsHandled (spelling : Spelling) (x : Answering) (before : Holding) (c : ℕ)
+    (heard : Heard) (sent : Sent) (after : Holding) (answer : Answer) : Type 0 where
   pub line : sent_on spelling c sent ≡ reply_on spelling (connection c) (subject_of x heard) answer
-  pub audit : (k : ℕ) → sent_audit k sent ≡ audit_text k answer.status (viewer_of (subject_of x heard)) answer.shown answer.consulted
+  pub audit : (k : ℕ) → sent_audit k sent ≡ audit_text k answer.status
+      (viewer_of (subject_of x heard)) answer.shown answer.consulted
   pub closing : sent_closes sent ≡ is_failure answer
   pub entry : x.entry (span before after) (subject_of x heard) answer
 
 abbrev pub handled : Spelling → Answering → Holding → ℕ → Heard → Sent → Holding → Type 0
-handled spelling x before c heard sent after = (answer : Answer) × IsHandled spelling x before c heard sent after answer
+handled spelling x before c heard sent after = (answer : Answer)
+    × IsHandled spelling x before c heard sent after answer
 
 -- that a connection was closed is told in a text alone
 abbrev pub closed_on : Spelling → ℕ → List ℕ
@@ -121,11 +129,13 @@ IsOutTorn k (Closed c) s out audit =
 -- one of them is put, behind so many replies
 abbrev pub PutsOut : {E : Type 0} → ℕ → HubOut → Result ℕ E → Sinks → List ℕ → List ℕ → Type 0
 PutsOut served given (Ok count) s out audit =
-    (count ≡ served + replies_in (given ∷ [])) × (out ≡ out_text given) × (audit ≡ outs_audited (served + 1) (given ∷ []))
+    (count ≡ served + replies_in (given ∷ [])) × (out ≡ out_text given)
+    × (audit ≡ outs_audited (served + 1) (given ∷ []))
 PutsOut served given (Err failed) s out audit = IsOutTorn (served + 1) given s out audit
 
 -- what a hub gave so far was put
-pub record PutsSoFar (x : Answering) (hub now : HubSeen) (k : Span Holding) (served count : ℕ) (out audit : List ℕ) : Type 0 where
+pub record PutsSoFar (x : Answering) (hub now : HubSeen) (k : Span Holding) (served count : ℕ)
+    (out audit : List ℕ) : Type 0 where
   pub outs : List HubOut
   pub given : IsGiven IsTaken (handled spellings.Quoted x) hub outs now k.before k.after
   pub count_is : count ≡ served + replies_in outs
@@ -140,13 +150,15 @@ pub record PutsSome (x : Answering) (hub : HubSeen) (k : Span Holding) (served :
   pub left : HubSeen
   pub out_torn : List ℕ
   pub audit_torn : List ℕ
-  pub given : IsGiven IsTaken (handled spellings.Quoted x) hub (outs ++ last ∷ []) left k.before k.after
+  pub given : IsGiven IsTaken (handled spellings.Quoted x) hub (outs ++ last ∷ []) left k.before
+      k.after
   pub torn : IsOutTorn (served + replies_in outs + 1) last s out_torn audit_torn
   pub out_text : out ≡ outs_text outs ++ out_torn
   pub audit_text : audit ≡ outs_audited (served + 1) outs ++ audit_torn
 
 -- all that a hub gave was put
-pub record PutsAll (x : Answering) (hub new : HubSeen) (k : Span Holding) (served count : ℕ) (out audit : List ℕ) : Type 0 where
+pub record PutsAll (x : Answering) (hub new : HubSeen) (k : Span Holding) (served count : ℕ)
+    (out audit : List ℕ) : Type 0 where
   pub outs : List HubOut
   pub emptied : IsEmptied IsTaken (handled spellings.Quoted x) hub outs new k.before k.after
   pub count_is : count ≡ served + replies_in outs
@@ -166,8 +178,10 @@ lapse_by line faults.Memory = None
 -- a hub took the event of this line, or why it didn't
 abbrev pub TakesEvent : ℕ → HubSeen → Event → Result (Unit {0}) Stopped → HubSeen → Type 0
 TakesEvent line hub event (Ok done) new =
-    (taken : Result (Unit {0}) HubFault) × Steps hub event taken new × (IsLost event taken → ⊥) × ((taken ≡ Ok tt) ⊎ (taken ≡ Err faults.Memory))
-TakesEvent line hub event (Err (stops.Refused lapse)) new = (fault : HubFault) × Steps hub event (Err fault) new × (lapse_by line fault ≡ Some lapse)
+    (taken : Result (Unit {0}) HubFault) × Steps hub event taken new × (IsLost event taken → ⊥)
+    × ((taken ≡ Ok tt) ⊎ (taken ≡ Err faults.Memory))
+TakesEvent line hub event (Err (stops.Refused lapse)) new = (fault : HubFault)
+    × Steps hub event (Err fault) new × (lapse_by line fault ≡ Some lapse)
 TakesEvent line hub event (Err stops.Memory) new = ⊤
 TakesEvent line hub event (Err stops.Write) new = ⊥
 
@@ -181,7 +195,8 @@ pub record IsFollowing (x : Answering) (hub : HubSeen) : Type 0 where
   pub like : AreLike (hearing x) hub.channels known
 
 -- the n-th event was served whole, of which the connections stood so before
-pub record IsEventServed (x : Answering) (new : HubSeen) (k : Span Holding) (served count n : ℕ) (event : Event) (known : Connections Ask) (out audit : List ℕ) : Type 0 where
+pub record IsEventServed (x : Answering) (new : HubSeen) (k : Span Holding) (served count n : ℕ)
+    (event : Event) (known : Connections Ask) (out audit : List ℕ) : Type 0 where
   pub mine : List Entry
   pub brought : IsBroughtBy (hearing x) n event known mine
   pub entries : x.entries k mine
@@ -204,8 +219,8 @@ pub record IsEntryTorn (served : ℕ) (mine : List Entry) (s : Sinks) (out audit
   pub out_text : out ≡ replies_text whole_ones ++ out_torn
   pub audit_text : audit ≡ audited_from (served + 1) whole_ones ++ audit_torn
 
--- the line was torn that tells that a connection was closed, where the event has one, and the sink of
--- replies failed
+-- the line was torn that tells that a connection was closed, where the event has one, and the sink
+-- of replies failed
 pub record IsClosingTorn (x : Answering) (served n : ℕ) (event : Event) (known : Connections Ask)
     (mine : List Entry) (s : Sinks) (out audit : List ℕ) : Type 0 where
   pub out_torn : List ℕ
@@ -230,9 +245,11 @@ abbrev pub AnswersEvent : Answering → HubSeen → HubSeen → Span Holding →
     → Result ℕ Stopped → Sinks → List ℕ → List ℕ → Type 0
 AnswersEvent x hub new k served line event (Ok count) s out audit =
     (n : ℕ) (known : Connections Ask) → AreLike (hearing x) hub.channels known
-    → (lapse_of line (is_open known) event ≡ None) × IsEventServed x new k served count n event known out audit
+    → (lapse_of line (is_open known) event ≡ None) × IsEventServed x new k served count n event
+    known out audit
 AnswersEvent x hub new k served line event (Err (stops.Refused lapse)) s out audit =
-    ((known : Connections Ask) → AreLike (hearing x) hub.channels known → lapse_of line (is_open known) event ≡ Some lapse)
+    ((known : Connections Ask) → AreLike (hearing x) hub.channels known
+    → lapse_of line (is_open known) event ≡ Some lapse)
     × (out ≡ []) × (audit ≡ []) × IsStill k
 AnswersEvent x hub new k served line event (Err stops.Memory) s out audit =
     (out ≡ []) × (audit ≡ []) × IsStill k
@@ -253,14 +270,16 @@ AnswersLine x hub new k served line (Some None) result s out audit =
 AnswersLine x hub new k served line (Some (Some event)) result s out audit =
     AnswersEvent x hub new k served line event result s out audit
 
--- these events were served, or, where it may stop early, the first of them: the log has what they bring, and its
--- entries were answered
-pub record IsServed (early : Bool) (x : Answering) (k : Span Holding) (events : List Event) (log : List Entry) : Type 0 where
+-- these events were served, or, where it may stop early, the first of them: the log has what they
+-- bring, and its entries were answered
+pub record IsServed (early : Bool) (x : Answering) (k : Span Holding) (events : List Event)
+    (log : List Entry) : Type 0 where
   pub subjects : IsHeardBy early (hearing x) events log
   pub entries : x.entries k log
 
 -- and their lines were put whole: the text is that of the events that were served
-pub record PutsServed (early : Bool) (x : Answering) (k : Span Holding) (script : Script) (out audit : List ℕ) : Type 0 where
+pub record PutsServed (early : Bool) (x : Answering) (k : Span Holding) (script : Script)
+    (out audit : List ℕ) : Type 0 where
   pub events : List Event
   pub unserved : List Event
   pub log : List Entry

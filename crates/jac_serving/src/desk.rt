@@ -36,7 +36,9 @@ pub trait Desk {
     /// The next thing that a hub gives, whose replies are spelled so.
     fn next_out(&mut self, spelling: Spelling, hub: &mut Hub) -> Option<HubOut>
         requires { MayServe answering (seen self.old) }
-        ensures next { Nexts IsTaken (handled spelling (answering (seen self.old).of)) (hub_seen hub.old) (hub_seen hub.old).turn result (hub_seen hub.new) (seen self.old).holding (seen self.new).holding }
+        ensures next { Nexts IsTaken (handled spelling (answering (seen self.old).of))
+            (hub_seen hub.old) (hub_seen hub.old).turn result (hub_seen hub.new)
+            (seen self.old).holding (seen self.new).holding }
         ensures idle { result ≡ None → (hub_seen hub.new).turn ≡ Idle }
         ensures nearer { IfSome result (λ out. left (hub_seen hub.new) < left (hub_seen hub.old)) }
         ensures keeps { Keeps answering (seen self.old) (seen self.new) };
@@ -51,7 +53,9 @@ pub trait Desk {
         body: &Bytes,
     ) -> Asked
         requires { MayServe answering (seen self.old) }
-        ensures asked { IsAsked (answering (seen self.old).of) (kept (seen self.old) (seen self.new)) ((answering (seen self.old).of).asks viewer method.now path.now query.now body.now) result }
+        ensures asked { IsAsked (answering (seen self.old).of)
+            (kept (seen self.old) (seen self.new)) ((answering (seen self.old).of).asks viewer
+            method.now path.now query.now body.now) result }
         ensures keeps { Keeps answering (seen self.old) (seen self.new) };
 
     /// A law: what serves a desk may rest on how its application answers.

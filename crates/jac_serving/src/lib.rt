@@ -1,5 +1,5 @@
-//! Events of a text are taken by a hub, over any desk that answers requests, and what it gives is put in order: the
-//! audit's line first, and then the reply.
+//! Events of a text are taken by a hub, over any desk that answers requests, and what it gives is
+//! put in order: the audit's line first, and then the reply.
 #![tactic(auto)]
 
 mod desk;

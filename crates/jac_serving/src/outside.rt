@@ -34,7 +34,8 @@ pub fn put_three<S: Sink>(
     second: &[u8],
     third: &[u8],
 ) -> Result<(), Failed>
-    ensures { IsPut (span (S.seen sink.old) (S.seen sink.new)) (first.now ++ second.now ++ third.now) result }
+    ensures { IsPut (span (S.seen sink.old) (S.seen sink.new)) (first.now ++ second.now
+        ++ third.now) result }
 {
     match put_two(sink, first, second) {
         Ok(()) => match put(sink, third) {
@@ -53,7 +54,8 @@ pub fn put_four<S: Sink>(
     third: &[u8],
     fourth: &[u8],
 ) -> Result<(), Failed>
-    ensures { IsPut (span (S.seen sink.old) (S.seen sink.new)) (first.now ++ second.now ++ third.now ++ fourth.now) result }
+    ensures { IsPut (span (S.seen sink.old) (S.seen sink.new)) (first.now ++ second.now ++ third.now
+        ++ fourth.now) result }
 {
     match put_three(sink, first, second, third) {
         Ok(()) => match put(sink, fourth) {
@@ -73,7 +75,8 @@ pub fn put_five<S: Sink>(
     fourth: &[u8],
     fifth: &[u8],
 ) -> Result<(), Failed>
-    ensures { IsPut (span (S.seen sink.old) (S.seen sink.new)) (first.now ++ second.now ++ third.now ++ fourth.now ++ fifth.now) result }
+    ensures { IsPut (span (S.seen sink.old) (S.seen sink.new)) (first.now ++ second.now ++ third.now
+        ++ fourth.now ++ fifth.now) result }
 {
     match put_four(sink, first, second, third, fourth) {
         Ok(()) => match put(sink, fifth) {

@@ -22,7 +22,9 @@ pub fn put_asked<O: Sink, U: AuditSink>(
     method: &[u8],
     asked: &Asked,
 ) -> Result<(), Failed>
-    ensures put { WentWith (sinks (O.seen out.old) (O.seen out.new) (U.seen audit.old) (U.seen audit.new)) (PutBoth (asked_line method.now asked.now) (asked_audit k asked.now) result) }
+    ensures put { WentWith (sinks (O.seen out.old) (O.seen out.new) (U.seen audit.old)
+        (U.seen audit.new)) (PutBoth (asked_line method.now asked.now) (asked_audit k asked.now)
+        result) }
 {
     match asked {
         Asked::Answered { reply, audit: rest } => {
@@ -47,7 +49,8 @@ fn put_lines<O: Sink, U: AuditSink>(
     reply: &[u8],
     rest: &[u8],
 ) -> Result<(), Failed>
-    ensures put { WentWith (sinks (O.seen out.old) (O.seen out.new) (U.seen audit.old) (U.seen audit.new)) (PutBoth reply.now (decimal k ++ rest.now) result) }
+    ensures put { WentWith (sinks (O.seen out.old) (O.seen out.new) (U.seen audit.old)
+        (U.seen audit.new)) (PutBoth reply.now (decimal k ++ rest.now) result) }
 {
     match put_numbered(audit, k, rest) {
         Ok(()) => match put(out, reply) {
@@ -76,7 +79,9 @@ fn put_failed<O: Sink, U: AuditSink>(
     status: Fixed,
     viewer: Option<Id>,
 ) -> Result<(), Failed>
-    ensures put { WentWith (sinks (O.seen out.old) (O.seen out.new) (U.seen audit.old) (U.seen audit.new)) (PutBoth reply.now (audit_text k (status_of_fixed status) viewer None None) result) }
+    ensures put { WentWith (sinks (O.seen out.old) (O.seen out.new) (U.seen audit.old)
+        (U.seen audit.new)) (PutBoth reply.now (audit_text k (status_of_fixed status) viewer None
+        None) result) }
 {
     match put_failed_audit(audit, k, status, viewer) {
         Ok(()) => match put(out, reply) {
@@ -94,7 +99,8 @@ pub fn put_failed_audit<U: AuditSink>(
     status: Fixed,
     viewer: Option<Id>,
 ) -> Result<(), Failed>
-    ensures { IsPut (span (U.seen audit.old) (U.seen audit.new)) (audit_text k (status_of_fixed status) viewer None None) result }
+    ensures { IsPut (span (U.seen audit.old) (U.seen audit.new))
+        (audit_text k (status_of_fixed status) viewer None None) result }
 {
     let mut number_buffer = Buffer::new();
     let mut viewer_buffer = Buffer::new();
@@ -119,7 +125,10 @@ fn put_still<O: Sink, U: AuditSink>(
     head: bool,
     viewer: Option<Id>,
 ) -> Result<(), Failed>
-    ensures put { WentWith (sinks (O.seen out.old) (O.seen out.new) (U.seen audit.old) (U.seen audit.new)) (PutBoth (sent_text conn (reply_bytes (status_of_fixed status) None None [] false head true)) (audit_text k (status_of_fixed status) viewer None None) result) }
+    ensures put { WentWith (sinks (O.seen out.old) (O.seen out.new) (U.seen audit.old)
+        (U.seen audit.new))
+        (PutBoth (sent_text conn (reply_bytes (status_of_fixed status) None None [] false head
+        true)) (audit_text k (status_of_fixed status) viewer None None) result) }
 {
     match put_failed_audit(audit, k, status, viewer) {
         Ok(()) => match put_still_line(out, conn, status, head) {
@@ -131,7 +140,9 @@ fn put_still<O: Sink, U: AuditSink>(
 }
 
 fn put_still_line<O: Sink>(out: &mut O, conn: u32, status: Fixed, head: bool) -> Result<(), Failed>
-    ensures { IsPut (span (O.seen out.old) (O.seen out.new)) (sent_text conn (reply_bytes (status_of_fixed status) None None [] false head true)) result }
+    ensures { IsPut (span (O.seen out.old) (O.seen out.new))
+        (sent_text conn (reply_bytes (status_of_fixed status) None None [] false head true))
+        result }
 {
     let mut buffer = Buffer::new();
     let number = buffer.format(conn);
@@ -154,7 +165,8 @@ fn put_sent<O: Sink, U: AuditSink>(
     conn: u32,
     sent: &Sent,
 ) -> Result<(), Failed>
-    ensures put { WentWith (sinks (O.seen out.old) (O.seen out.new) (U.seen audit.old) (U.seen audit.new)) (PutBoth (sent_line conn sent.now) (sent_audit k sent.now) result) }
+    ensures put { WentWith (sinks (O.seen out.old) (O.seen out.new) (U.seen audit.old)
+        (U.seen audit.new)) (PutBoth (sent_line conn sent.now) (sent_audit k sent.now) result) }
 {
     match sent {
         Sent::Made {
@@ -178,7 +190,8 @@ pub fn put_out<O: Sink, U: AuditSink>(
     given: &HubOut,
 ) -> Result<u64, Failed>
     requires few { served < 2 ^ 64 - 1 }
-    ensures put { WentWith (sinks (O.seen out.old) (O.seen out.new) (U.seen audit.old) (U.seen audit.new)) (PutsOut served given.now result) }
+    ensures put { WentWith (sinks (O.seen out.old) (O.seen out.new) (U.seen audit.old)
+        (U.seen audit.new)) (PutsOut served given.now result) }
 {
     match given {
         HubOut::Reply { conn, sent } => match put_sent(out, audit, served + 1, *conn, sent) {

@@ -46,8 +46,10 @@ fn put_given<D: Desk, O: Sink, U: AuditSink>(
 ) -> Result<u64, Failed>
     requires few { served + left (seen hub.old) < 2 ^ 64 - 1 }
     requires desk { MayServe D.answering (D.seen desk.old) }
-    ensures put { WentWith (sinks (O.seen out.old) (O.seen out.new) (U.seen audit.old) (U.seen audit.new))
-        (PutsOuts (D.answering (D.seen desk.old).of) (seen hub.old) (seen hub.new) (kept (D.seen desk.old) (D.seen desk.new)) served result) }
+    ensures put { WentWith (sinks (O.seen out.old) (O.seen out.new) (U.seen audit.old)
+        (U.seen audit.new))
+        (PutsOuts (D.answering (D.seen desk.old).of) (seen hub.old) (seen hub.new)
+        (kept (D.seen desk.old) (D.seen desk.new)) served result) }
     ensures count { IfOk result (λ count. count ≤ served + left (seen hub.old)) }
     ensures keeps { Keeps D.answering (D.seen desk.old) (D.seen desk.new) }
 {
@@ -95,8 +97,10 @@ fn serve_connection<D: Desk, O: Sink, U: AuditSink>(
     requires following { IsFollowing (D.answering (D.seen desk.old).of) (seen hub.old) }
     requires connection { IsOfConnection event.now }
     requires desk { MayServe D.answering (D.seen desk.old) }
-    ensures answered { WentWith (sinks (O.seen out.old) (O.seen out.new) (U.seen audit.old) (U.seen audit.new))
-        (AnswersEvent (D.answering (D.seen desk.old).of) (seen hub.old) (seen hub.new) (kept (D.seen desk.old) (D.seen desk.new)) served line event.now result) }
+    ensures answered { WentWith (sinks (O.seen out.old) (O.seen out.new) (U.seen audit.old)
+        (U.seen audit.new))
+        (AnswersEvent (D.answering (D.seen desk.old).of) (seen hub.old) (seen hub.new)
+        (kept (D.seen desk.old) (D.seen desk.new)) served line event.now result) }
     ensures count { IfOk result (λ count. count ≤ served + 2 ^ 26) }
     ensures keeps { Keeps D.answering (D.seen desk.old) (D.seen desk.new) }
 {
@@ -125,8 +129,10 @@ fn serve_event<D: Desk, O: Sink, U: AuditSink>(
     requires idle { (seen hub.old).turn ≡ Idle }
     requires following { IsFollowing (D.answering (D.seen desk.old).of) (seen hub.old) }
     requires desk { MayServe D.answering (D.seen desk.old) }
-    ensures answered { WentWith (sinks (O.seen out.old) (O.seen out.new) (U.seen audit.old) (U.seen audit.new))
-        (AnswersEvent (D.answering (D.seen desk.old).of) (seen hub.old) (seen hub.new) (kept (D.seen desk.old) (D.seen desk.new)) served line event.now result) }
+    ensures answered { WentWith (sinks (O.seen out.old) (O.seen out.new) (U.seen audit.old)
+        (U.seen audit.new))
+        (AnswersEvent (D.answering (D.seen desk.old).of) (seen hub.old) (seen hub.new)
+        (kept (D.seen desk.old) (D.seen desk.new)) served line event.now result) }
     ensures count { IfOk result (λ count. count ≤ served + 2 ^ 26) }
     ensures keeps { Keeps D.answering (D.seen desk.old) (D.seen desk.new) }
 {
@@ -163,8 +169,10 @@ fn serve_line<D: Desk, O: Sink, U: AuditSink>(
     requires idle { (seen hub.old).turn ≡ Idle }
     requires following { IsFollowing (D.answering (D.seen desk.old).of) (seen hub.old) }
     requires desk { MayServe D.answering (D.seen desk.old) }
-    ensures answered { WentWith (sinks (O.seen out.old) (O.seen out.new) (U.seen audit.old) (U.seen audit.new))
-        (AnswersLine (D.answering (D.seen desk.old).of) (seen hub.old) (seen hub.new) (kept (D.seen desk.old) (D.seen desk.new)) served number (line_of line.now) result) }
+    ensures answered { WentWith (sinks (O.seen out.old) (O.seen out.new) (U.seen audit.old)
+        (U.seen audit.new))
+        (AnswersLine (D.answering (D.seen desk.old).of) (seen hub.old) (seen hub.new)
+        (kept (D.seen desk.old) (D.seen desk.new)) served number (line_of line.now) result) }
     ensures count { IfOk result (λ count. count ≤ served + 2 ^ 26) }
     ensures keeps { Keeps D.answering (D.seen desk.old) (D.seen desk.new) }
 {
@@ -185,8 +193,10 @@ pub fn serve_events<D: Desk, O: Sink, U: AuditSink>(
 ) -> Result<(), Stopped>
     requires short { length bytes.now < 2 ^ 32 }
     requires desk { MayServe D.answering (D.seen desk.old) }
-    ensures served { WentWith (sinks (O.seen out.old) (O.seen out.new) (U.seen audit.old) (U.seen audit.new))
-        (ServesAs (D.answering (D.seen desk.old).of) (kept (D.seen desk.old) (D.seen desk.new)) bytes.now result) }
+    ensures served { WentWith (sinks (O.seen out.old) (O.seen out.new) (U.seen audit.old)
+        (U.seen audit.new))
+        (ServesAs (D.answering (D.seen desk.old).of) (kept (D.seen desk.old) (D.seen desk.new))
+        bytes.now result) }
     ensures keeps { Keeps D.answering (D.seen desk.old) (D.seen desk.new) }
 {
     desk.lawful();

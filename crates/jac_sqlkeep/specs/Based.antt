@@ -12,8 +12,8 @@ use Rattle.jac_keep.specs.Reshaping.{widened}
 use Rattle.jac_keep.specs.Schema.{IsFit, shapes_by}
 use Rattle.jac_lines.specs.Told.{told, schema_in}
 
--- the kinds of its models' fields, whether its connection is open, the schema text that it has, whether it tells its
--- state, and its state
+-- the kinds of its models' fields, whether its connection is open, the schema text that it has,
+-- whether it tells its state, and its state
 pub record Based : Type 0 where
   pub kinds : List (List Kind)
   pub is_open : Bool
@@ -31,29 +31,34 @@ based g kinds known h = record {
   state = told (length kinds) (state g h).now;
 }
 
--- what opening a database gives: one that has the schema, or another one, and whose state fits the schema where it is told
-pub record OpensBased (schema : List ℕ) (kinds : List (List Kind)) (nested : List Bool) (found : Based × Option (List ℕ)) : Type 0 where
+-- what opening a database gives: one that has the schema, or another one, and whose state fits the
+-- schema where it is told
+pub record OpensBased (schema : List ℕ) (kinds : List (List Kind)) (nested : List Bool)
+    (found : Based × Option (List ℕ)) : Type 0 where
   pub fit : IsTrue found.0.tells → IsFit (shapes_by kinds nested) found.0.state
   pub stored : IsTrue found.0.is_open → found.0.schema ≡ unwrap_or found.1 schema
   pub other : IfSome found.1 (λ stored. ¬ (stored ≡ schema))
 
 -- what was read is what the state has, and nothing was changed
-pub record ReadsBased {T : Type 0} (Is : State → T → Type 0) (old new : Based) (result : Result T Error) : Type 0 where
+pub record ReadsBased {T : Type 0} (Is : State → T → Type 0) (old new : Based)
+    (result : Result T Error) : Type 0 where
   pub told_before : IsTrue new.tells → IsTrue old.tells
   pub same_state : IsTrue new.tells → new.state ≡ old.state
   pub good : IsTrue new.tells → IsSound new.state
   pub exact : IsTrue new.tells → IfOk result (Is old.state)
 
 -- the change was applied where it was told that it was, and else nothing was changed
-pub record AppliesBased (change : Change) (old new : Based) (result : Result (Unit {0}) Error) : Type 0 where
+pub record AppliesBased (change : Change) (old new : Based) (result : Result (Unit {0}) Error) :
+    Type 0 where
   pub told_before : IsTrue new.tells → IsTrue old.tells
   pub good : IsTrue new.tells → IsSound new.state
   pub exact : IsTrue new.tells → OnOk result (new.state ≡ applied change old.state)
   pub refused : IsTrue new.tells → OnErr result (new.state ≡ old.state)
 
--- the change was applied and the store brought to so many models with this schema where it was told that it was, and else
--- nothing was changed
-pub record ReshapesBased (change : Change) (schema : List ℕ) (models : ℕ) (old new : Based) (result : Result (Unit {0}) Error) : Type 0 where
+-- the change was applied and the store brought to so many models with this schema where it was told
+-- that it was, and else nothing was changed
+pub record ReshapesBased (change : Change) (schema : List ℕ) (models : ℕ) (old new : Based)
+    (result : Result (Unit {0}) Error) : Type 0 where
   pub told_before : IsTrue new.tells → IsTrue old.tells
   pub exact : IsTrue new.tells → OnOk result (new.state ≡ widened models (applied change old.state))
   pub stored : IsTrue new.tells → OnOk result (new.schema ≡ schema)

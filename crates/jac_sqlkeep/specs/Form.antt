@@ -9,11 +9,20 @@ use Rattle.sqlite_schema.specs.declared.schema.Table.{Table}
 
 -- a column that takes values of its type alone
 abbrev pub column_of : List ℕ → Kind → Bool → Column
-column_of name kind not_null = record { name = name; kind = kind; is_strict = true; not_null = not_null; default = Null; collation = Binary }
+column_of name kind not_null = record {
+  name = name;
+  kind = kind;
+  is_strict = true;
+  not_null = not_null;
+  default = Null;
+  collation = Binary;
+}
 
 abbrev pub rec_columns : List Column
 rec_columns =
-    column_of (codes "model") Integer true ∷ column_of (codes "jid") Blob true ∷ column_of (codes "alt") Integer true ∷ column_of (codes "jvars") Blob true ∷ column_of (codes "body") Blob true ∷ []
+    column_of (codes "model") Integer true ∷ column_of (codes "jid") Blob true ∷ column_of
+    (codes "alt") Integer true ∷ column_of (codes "jvars") Blob true ∷ column_of (codes "body")
+    Blob true ∷ []
 
 -- a table of this name and tree, without anything that a keeper doesn't ask for
 pub record IsPlainTable (t : Table) (name : List ℕ) (tree : ℕ) : Type 0 where

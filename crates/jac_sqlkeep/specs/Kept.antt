@@ -6,7 +6,8 @@ use Rattle.jac_keep.specs.declared.vault.AttachFault.{AttachFault}
 use Rattle.jac_keep.specs.declared.vault.AttachFault.TheVariants.{Failed, Memory, Other}
 use Rattle.jac_sqlkeep.specs.Based.{Based}
 
--- its store, how often it failed, its database, once it has one, and the one that had another schema
+-- its store, how often it failed, its database, once it has one, and the one that had another
+-- schema
 pub record Kept : Type 0 where
   pub store : Store
   pub faults : ℕ
@@ -32,7 +33,17 @@ seen_kept k = record {
 
 -- one that nobody tried to attach
 abbrev pub untouched : Kept
-untouched = record { store = record { called = false; attached = false; schema = None; name = None }; faults = 0; database = None; refused = None }
+untouched = record {
+  store = record {
+    called = false;
+    attached = false;
+    schema = None;
+    name = None;
+  };
+  faults = 0;
+  database = None;
+  refused = None;
+}
 
 -- a store of another schema: it is told, and known from now on; nothing else changed
 abbrev pub IsRefusedAs : Kept → Kept → Based → List ℕ → Result (Unit {0}) AttachFault → Type 0
@@ -40,7 +51,10 @@ IsRefusedAs old new database stored (Ok done) = ⊥
 IsRefusedAs old new database stored (Err Failed) = ⊥
 IsRefusedAs old new database stored (Err Memory) = new ≡ old
 IsRefusedAs old new database stored (Err (Other told)) =
-    (told ≡ stored) × (new ≡ record old { store = record old.store { schema = Some stored }; refused = Some database })
+    (told ≡ stored) × (new ≡ record old {
+      store = record old.store { schema = Some stored };
+      refused = Some database;
+    })
 
 -- a database that has this schema text, as long as its connection is open
 abbrev pub HasSchema : List ℕ → Based → Type 0

@@ -10,7 +10,8 @@ pub const NO_MEMORY: Error = Error::SqliteFailure(ErrorCode::OutOfMemory);
 /// What is stored is nothing that a keeper stores.
 pub const CORRUPT: Error = Error::SqliteFailure(ErrorCode::DatabaseCorrupt);
 
-/// Why a call stops whose statement was refused: for want of memory, or for another cause, which is counted.
+/// Why a call stops whose statement was refused: for want of memory, or for another cause, which is
+/// counted.
 pub fn stop_of(error: Error, faults: &mut u64) -> Stop
     ensures later { faults.old ≤ faults.new }
     ensures rose { result ≡ Stop.Keeper → Rose faults.old faults.new }

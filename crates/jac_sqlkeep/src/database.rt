@@ -26,8 +26,8 @@ use sqlite::{Alter, Connection, Error};
 use std::alloc::Global;
 use std::marker::Model;
 
-/// A database with the tables of a keeper, and what its models are. It tells its state where its rows are known, as
-/// long as its connection is open.
+/// A database with the tables of a keeper, and what its models are. It tells its state where its
+/// rows are known, as long as its connection is open.
 #[derive(Drop)]
 pub struct Database<S: Alter> {
     conn: Connection<S>,
@@ -49,8 +49,8 @@ impl<S: Alter> Model for Database<S> {
 }
 
 impl<S: Alter + Drop> Database<S> {
-    /// Opens what is stored for this schema, or makes it where the database has nothing. Another schema that is stored
-    /// is told; of its store nothing is known.
+    /// Opens what is stored for this schema, or makes it where the database has nothing. Another
+    /// schema that is stored is told; of its store nothing is known.
     pub fn open(
         alloc: Global,
         conn: Connection<S>,
@@ -102,7 +102,8 @@ impl<S: Alter + Drop> Database<S> {
         schema: &Txt,
     ) -> Result<(Database<S>, Option<Txt>), Unfit>
         requires outside { conn.in_transaction ≡ false }
-        requires settled { IsTrue (state S.Store conn).is_open → (state S.Store conn).now ≡ (state S.Store conn).committed }
+        requires settled { IsTrue (state S.Store conn).is_open → (state S.Store conn).now
+            ≡ (state S.Store conn).committed }
         requires form { (state S.Store conn).now.schema ≡ two_tables 0 1 2 }
         requires live { IsLive (state S.Store conn) }
         ensures { IfOk result (OpensBased schema.now shape.kinds shape.nested) }
@@ -162,7 +163,8 @@ impl<S: Alter> Database<S> {
     }
 
     pub fn one(&mut self, alloc: Global, id: Id) -> Result<Rows, Error>
-        ensures { ReadsBased (λ s rows. rows ≡ alternatives id (rows_of s.tables (model_of_id id))) self.old self.new result }
+        ensures { ReadsBased (λ s rows. rows ≡ alternatives id (rows_of s.tables (model_of_id id)))
+            self.old self.new result }
     {
         match kinds_of(&self.shape, id_model(id)) {
             Some(kinds) => read_record(alloc, &mut self.conn, id, kinds),
@@ -178,7 +180,8 @@ impl<S: Alter> Database<S> {
         field: u8,
         value: &Value,
     ) -> Result<Rows, Error>
-        ensures { ReadsBased (λ s rows. rows ≡ holders field value.now (rows_of s.tables model)) self.old self.new result }
+        ensures { ReadsBased (λ s rows. rows ≡ holders field value.now (rows_of s.tables model))
+            self.old self.new result }
     {
         let rows = self.rows(alloc, model);
         found_among(alloc, rows, field, value)
@@ -200,8 +203,10 @@ impl<S: Alter> Database<S> {
         shape: Shape,
         schema: &Txt,
     ) -> Result<(), Error>
-        requires fit { IsTrue self.old.tells → IsFit (shapes_by shape.kinds shape.nested) (widened (length shape.kinds) (applied change.now self.old.state)) }
-        ensures { ReshapesBased change.now schema.now (length shape.kinds) self.old self.new result }
+        requires fit { IsTrue self.old.tells → IsFit (shapes_by shape.kinds shape.nested)
+            (widened (length shape.kinds) (applied change.now self.old.state)) }
+        ensures { ReshapesBased change.now schema.now (length shape.kinds) self.old self.new
+            result }
     {
         let models = self.shape.kinds.as_slice().len();
         match write_change(alloc, &mut self.conn, models, change, Some(schema)) {
@@ -221,7 +226,8 @@ fn found_among(
     field: u8,
     value: &Value,
 ) -> Result<Rows, Error>
-    ensures found { IfOk rows (λ rows. IfOk result (λ found. found ≡ holders field value.now rows)) }
+    ensures found { IfOk rows (λ rows. IfOk result (λ found. found ≡ holders field value.now
+        rows)) }
     ensures none { IfErr rows (λ error. result ≡ Err error) }
 {
     let rows = match rows {

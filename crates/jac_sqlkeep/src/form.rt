@@ -11,7 +11,8 @@ use sqlite_schema::schema::{Column, Index, Kind, Schema, Table};
 use sqlite_value::keys::{Collation, Order};
 use sqlite_value::value::Value;
 
-/// Whether the database has a keeper's tables, in the trees where a keeper makes them, and nothing else.
+/// Whether the database has a keeper's tables, in the trees where a keeper makes them, and nothing
+/// else.
 pub fn has_form<S: Alter>(conn: &Connection<S>) -> bool
     ensures form { result ≡ true → (state S.Store conn.now).now.schema ≡ two_tables 0 1 2 }
     ensures live { IsLive (state S.Store conn.now) }

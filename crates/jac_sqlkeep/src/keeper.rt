@@ -25,10 +25,10 @@ use sqlite::Connection;
 use std::alloc::Global;
 use std::marker::Model;
 
-/// A keeper in a database. It tells its state from when it is attached, as long as the connection is open. It counts each
-/// statement that was refused but for want of memory, each store whose tables or rows aren't those of a state that fits
-/// its schema, each stored row that is none of its model, each change of a record that is none of its models, and each
-/// opening that failed.
+/// A keeper in a database. It tells its state from when it is attached, as long as the connection
+/// is open. It counts each statement that was refused but for want of memory, each store whose
+/// tables or rows aren't those of a state that fits its schema, each stored row that is none of its
+/// model, each change of a record that is none of its models, and each opening that failed.
 #[derive(Drop)]
 pub struct SqlKeeper<O: Opener> {
     opener: O,
@@ -176,9 +176,11 @@ impl<O: Opener> Vault for SqlKeeper<O> {
     fn attach(&mut self, alloc: Global, name: Option<&Txt>, schema: &Txt) -> Result<(), AttachFault>
         requires first { self.old.store.called ≡ false }
         requires schema { (shapes : List ModelShape) × IsSchema schema.now shapes }
-        ensures attaches { Attaches (seen_kept self.old) (seen_kept self.new) (option_copied name.entry) schema.now result }
+        ensures attaches { Attaches (seen_kept self.old) (seen_kept self.new)
+            (option_copied name.entry) schema.now result }
         ensures stored { OnOk result (IsSomeAnd self.new.database (HasSchema schema.now)) }
-        ensures other_stored { (stored : List ℕ) → result ≡ Err (Other stored) → IsSomeAnd self.new.refused (HasSchema stored) }
+        ensures other_stored { (stored : List ℕ) → result ≡ Err (Other stored)
+            → IsSomeAnd self.new.refused (HasSchema stored) }
     {
         self.called = true;
         let Ok(known) = known_of(alloc, name, schema) else {
@@ -208,8 +210,11 @@ impl<O: Opener> Vault for SqlKeeper<O> {
     fn reshape(&mut self, alloc: Global, change: &Change, schema: &Txt) -> Result<(), Stop>
         requires attached { IsTrue self.old.store.attached }
         requires schema { (shapes : List ModelShape) × IsSchema schema.now shapes
-            × (IsTrue (seen_kept self.old).tells → IsFit shapes (widened (length shapes) (applied change.now (seen_kept self.old).state))) }
-        ensures reshapes { Reshapes (seen_kept self.old) (seen_kept self.new) change.now schema.now result }
+            × (IsTrue (seen_kept self.old).tells
+            → IsFit shapes
+            (widened (length shapes) (applied change.now (seen_kept self.old).state))) }
+        ensures reshapes { Reshapes (seen_kept self.old) (seen_kept self.new) change.now schema.now
+            result }
         ensures stored { OnOk result (IsSomeAnd self.new.database (TellsSchema schema.now)) }
     {
         let Ok(known) = known_of(alloc, None, schema) else {
@@ -237,7 +242,15 @@ impl<O: Opener> SqlKeeper<O> {
     // The database is that of the keeper from now on.
     fn begin(&mut self, database: Database<O::Store>, name: Option<Txt>, schema: Txt)
         requires { IsTrue self.old.store.called }
-        ensures { self.new ≡ record self.old { store = record { called = self.old.store.called; attached = true; schema = Some schema; name = name }; database = Some database } }
+        ensures { self.new ≡ record self.old {
+          store = record {
+            called = self.old.store.called;
+            attached = true;
+            schema = Some schema;
+            name = name;
+          };
+          database = Some database;
+        } }
     {
         self.name = name;
         self.schema = Some(schema);
@@ -287,7 +300,8 @@ fn known_of(alloc: Global, name: Option<&Txt>, schema: &Txt) -> Result<Known, Me
     requires { (shapes : List ModelShape) × IsSchema schema.now shapes }
     ensures name { IfOk result (λ known. known.name ≡ option_copied name.entry) }
     ensures schema { IfOk result (λ known. known.schema ≡ schema.now) }
-    ensures shape { IfOk result (λ known. IsSchema schema.now (shapes_by known.shape.kinds known.shape.nested)) }
+    ensures shape { IfOk result (λ known. IsSchema schema.now (shapes_by known.shape.kinds
+        known.shape.nested)) }
 {
     let name = copy_name(alloc, name)?;
     let shape = known_shape(alloc, schema)?;

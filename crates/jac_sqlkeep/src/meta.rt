@@ -43,8 +43,10 @@ const LAST_NUMBER: i64 = 1 << 40;
 /// The number of the next accepted request.
 pub fn read_number<S: Alter>(conn: &mut Connection<S>) -> Result<u64, Error>
     ensures in_range { IfOk result IsNext }
-    ensures stored { HasCleanDisk (state S.Store conn.new) → IfOk result (IsAsked S.Store conn.old conn.new) }
-    ensures told { (models : _) → IsKept models (state S.Store conn.old) → ReadsTold S.Store (λ s n. n ≡ s.number) models conn.old conn.new result }
+    ensures stored { HasCleanDisk (state S.Store conn.new)
+        → IfOk result (IsAsked S.Store conn.old conn.new) }
+    ensures told { (models : _) → IsKept models (state S.Store conn.old)
+        → ReadsTold S.Store (λ s n. n ≡ s.number) models conn.old conn.new result }
     ensures mode { conn.old.in_transaction ≡ false → conn.new.in_transaction ≡ false }
 {
     let row = conn.query_row(READ, &[]);
@@ -98,7 +100,8 @@ pub fn set_meta<S: Alter>(
     schema: Option<&Txt>,
 ) -> Result<(), Error>
     ensures same { tx.new.conn.ghost_name ≡ tx.old.conn.ghost_name }
-    ensures inside { Inside S.Store (settings number (option_copied schema.entry)) tx.old.conn.now tx.new.conn.now result }
+    ensures inside { Inside S.Store (settings number (option_copied schema.entry)) tx.old.conn.now
+        tx.new.conn.now result }
 {
     match schema {
         None => set_number(tx, number),
@@ -109,7 +112,8 @@ pub fn set_meta<S: Alter>(
 #[tactic(auto, unfolding(jac_lines::specs::Statements::reshaping))]
 fn set_schema<S: Alter>(tx: &mut Transaction<'_, S>, number: u64, schema: &Txt) -> Result<(), Error>
     ensures same { tx.new.conn.ghost_name ≡ tx.old.conn.ghost_name }
-    ensures inside { Inside S.Store (reshaping number schema.now ∷ []) tx.old.conn.now tx.new.conn.now result }
+    ensures inside { Inside S.Store (reshaping number schema.now ∷ []) tx.old.conn.now
+        tx.new.conn.now result }
 {
     match i64::try_from(number) {
         Ok(number) => run(tx, RESHAPE, params![number, schema.as_str()]),
@@ -137,7 +141,8 @@ fn is_nothing(schema: &Schema) -> bool
 /// Tests that the table has one row, and that its key is 0.
 #[tactic(auto, unfolding(jac_lines::specs::Statements::key_reading))]
 pub fn test_key<S: Alter>(conn: &mut Connection<S>) -> Result<(), Unfit>
-    ensures shown { HasCleanDisk (state S.Store conn.new) → OnOk result (ShowsKey S.Store conn.old conn.new) }
+    ensures shown { HasCleanDisk (state S.Store conn.new)
+        → OnOk result (ShowsKey S.Store conn.old conn.new) }
     ensures mode { conn.old.in_transaction ≡ false → conn.new.in_transaction ≡ false }
 {
     let found = conn.query_all(KEYS, &[]);
@@ -185,7 +190,8 @@ pub fn find_schema<S: Alter>(
     schema: &Txt,
 ) -> Result<Option<Txt>, Error>
     ensures other { IfOk result (λ other. IfSome other (λ stored. ¬ (stored ≡ schema.now))) }
-    ensures found { HasCleanDisk (state S.Store conn.new) → FindsSchema S.Store schema.now conn.old conn.new result }
+    ensures found { HasCleanDisk (state S.Store conn.new) → FindsSchema S.Store schema.now conn.old
+        conn.new result }
     ensures mode { conn.old.in_transaction ≡ false → conn.new.in_transaction ≡ false }
 {
     match conn.query_row(READ, &[]) {
@@ -218,7 +224,8 @@ fn other_schema(alloc: Global, row: &Row, schema: &Txt) -> Result<Option<Txt>, E
 /// Makes the tables for this schema, with the first number.
 pub fn make_tables<S: Alter>(conn: &mut Connection<S>, schema: &Txt) -> Result<(), Error>
     ensures transacts { Transacts S.Store (founding schema.now) conn.old conn.new result }
-    ensures ends { HasCleanDisk (state S.Store conn.new) → conn.old.in_transaction ≡ false → Ends (state S.Store conn.old) (state S.Store conn.new) }
+    ensures ends { HasCleanDisk (state S.Store conn.new) → conn.old.in_transaction ≡ false
+        → Ends (state S.Store conn.old) (state S.Store conn.new) }
     ensures mode { conn.old.in_transaction ≡ false → conn.new.in_transaction ≡ false }
 {
     if !conn.is_autocommit() {

@@ -46,8 +46,12 @@ pub fn read_model<S: Alter>(
     model: u8,
     kinds: &[Kind],
 ) -> Result<Rows, Error>
-    ensures shown { HasCleanDisk (state S.Store conn.new) → IfOk result (AreShown S.Store (model_reading model) (IsModelRow model kinds.now) conn.old conn.new) }
-    ensures told { (models : _) → IsKept models (state S.Store conn.old) → ReadsTold S.Store (λ s rows. rows ≡ rows_of s.tables model) models conn.old conn.new result }
+    ensures shown { HasCleanDisk (state S.Store conn.new)
+        → IfOk result (AreShown S.Store (model_reading model) (IsModelRow model kinds.now) conn.old
+        conn.new) }
+    ensures told { (models : _) → IsKept models (state S.Store conn.old)
+        → ReadsTold S.Store (λ s rows. rows ≡ rows_of s.tables model) models conn.old conn.new
+        result }
     ensures mode { conn.old.in_transaction ≡ false → conn.new.in_transaction ≡ false }
 {
     let found = conn.query_all(READ_MODEL, params![u32::from(model)]);
@@ -62,8 +66,12 @@ pub fn read_record<S: Alter>(
     id: Id,
     kinds: &[Kind],
 ) -> Result<Rows, Error>
-    ensures shown { HasCleanDisk (state S.Store conn.new) → IfOk result (AreShown S.Store (record_reading id) (IsRecordRow id kinds.now) conn.old conn.new) }
-    ensures told { (models : _) → IsKept models (state S.Store conn.old) → ReadsTold S.Store (λ s rows. rows ≡ alternatives id (rows_of s.tables (model_of_id id))) models conn.old conn.new result }
+    ensures shown { HasCleanDisk (state S.Store conn.new)
+        → IfOk result (AreShown S.Store (record_reading id) (IsRecordRow id kinds.now) conn.old
+        conn.new) }
+    ensures told { (models : _) → IsKept models (state S.Store conn.old)
+        → ReadsTold S.Store (λ s rows. rows ≡ alternatives id (rows_of s.tables (model_of_id id)))
+        models conn.old conn.new result }
     ensures mode { conn.old.in_transaction ≡ false → conn.new.in_transaction ≡ false }
 {
     let jid = encode_id(id);
@@ -78,7 +86,8 @@ fn model_found(
     model: u8,
     kinds: &[Kind],
 ) -> Result<Rows, Error>
-    ensures each { IfOk found (λ found. IfOk result (Each (IsModelRow model kinds.now) found.items)) }
+    ensures each { IfOk found (λ found. IfOk result (Each (IsModelRow model kinds.now)
+        found.items)) }
     ensures none { IfErr found (λ error. result ≡ Err error) }
 {
     match found {
@@ -165,8 +174,8 @@ pub fn blob_at(values: &Found, at: usize) -> Result<&[u8], Error>
     }
 }
 
-/// Replaces the named records, and sets the number and the schema text where there is one, all or nothing. Where a
-/// record is none of so many models, it does nothing.
+/// Replaces the named records, and sets the number and the schema text where there is one, all or
+/// nothing. Where a record is none of so many models, it does nothing.
 pub fn write_change<S: Alter>(
     alloc: Global,
     conn: &mut Connection<S>,
@@ -174,8 +183,10 @@ pub fn write_change<S: Alter>(
     change: &Change,
     schema: Option<&Txt>,
 ) -> Result<(), Error>
-    ensures transacts { Transacts S.Store (statements_with change.now (option_copied schema.entry)) conn.old conn.new result }
-    ensures ends { HasCleanDisk (state S.Store conn.new) → conn.old.in_transaction ≡ false → Ends (state S.Store conn.old) (state S.Store conn.new) }
+    ensures transacts { Transacts S.Store (statements_with change.now (option_copied schema.entry))
+        conn.old conn.new result }
+    ensures ends { HasCleanDisk (state S.Store conn.new) → conn.old.in_transaction ≡ false
+        → Ends (state S.Store conn.old) (state S.Store conn.new) }
     ensures mode { conn.old.in_transaction ≡ false → conn.new.in_transaction ≡ false }
     ensures stored { OnOk result (CanBeStored models change.now.changed) }
 {
@@ -223,7 +234,8 @@ fn write<S: Alter>(
     schema: Option<&Txt>,
 ) -> Result<(), Error>
     ensures same { tx.new.conn.ghost_name ≡ tx.old.conn.ghost_name }
-    ensures inside { Inside S.Store (statements_with change.now (option_copied schema.entry)) tx.old.conn.now tx.new.conn.now result }
+    ensures inside { Inside S.Store (statements_with change.now (option_copied schema.entry))
+        tx.old.conn.now tx.new.conn.now result }
     ensures spelled { OnOk result (CanAllBeSpelled change.now.changed) }
 {
     write_records(alloc, tx, change.changed.as_slice())?;
@@ -237,7 +249,8 @@ fn write_records<S: Alter>(
     changed: &[Alteration],
 ) -> Result<(), Error>
     ensures same { tx.new.conn.ghost_name ≡ tx.old.conn.ghost_name }
-    ensures inside { Inside S.Store (replacements changed.now) tx.old.conn.now tx.new.conn.now result }
+    ensures inside { Inside S.Store (replacements changed.now) tx.old.conn.now tx.new.conn.now
+        result }
     ensures spelled { OnOk result (CanAllBeSpelled changed.now) }
 {
     let mut rest = changed;
@@ -255,7 +268,8 @@ fn write_record<S: Alter>(
     alteration: &Alteration,
 ) -> Result<(), Error>
     ensures same { tx.new.conn.ghost_name ≡ tx.old.conn.ghost_name }
-    ensures inside { Inside S.Store (replacement alteration.now) tx.old.conn.now tx.new.conn.now result }
+    ensures inside { Inside S.Store (replacement alteration.now) tx.old.conn.now tx.new.conn.now
+        result }
     ensures spelled { OnOk result (AllByRecursion CanBeSpelled alteration.now.rows) }
 {
     remove(tx, alteration.id)?;
@@ -283,7 +297,8 @@ fn add<S: Alter>(
 ) -> Result<(), Error>
     requires { alt < 2 ^ 63 }
     ensures same { tx.new.conn.ghost_name ≡ tx.old.conn.ghost_name }
-    ensures inside { Inside S.Store (addition alt row.now ∷ []) tx.old.conn.now tx.new.conn.now result }
+    ensures inside { Inside S.Store (addition alt row.now ∷ []) tx.old.conn.now tx.new.conn.now
+        result }
     ensures spelled { OnOk result (CanBeSpelled row.now) }
 {
     match encode_row(alloc, row) {
@@ -301,7 +316,8 @@ fn add_stored<S: Alter>(
 ) -> Result<(), Error>
     requires { alt < 2 ^ 63 }
     ensures same { tx.new.conn.ghost_name ≡ tx.old.conn.ghost_name }
-    ensures inside { (row : Kept) → row.id ≡ id → stored.now.jvars ≡ guard_bytes row.guard → stored.now.body ≡ cells_bytes row.cells
+    ensures inside { (row : Kept) → row.id ≡ id → stored.now.jvars ≡ guard_bytes row.guard
+        → stored.now.body ≡ cells_bytes row.cells
         → Inside S.Store (addition alt row ∷ []) tx.old.conn.now tx.new.conn.now result }
 {
     let jid = encode_id(id);

@@ -13,7 +13,8 @@ pub fn run<S: Alter>(
     params: &[ValueRef<'_>],
 ) -> Result<(), Error>
     ensures same { tx.new.conn.ghost_name ≡ tx.old.conn.ghost_name }
-    ensures inside { Inside S.Store (record { text = text.now; params = bound params.now } ∷ []) tx.old.conn.now tx.new.conn.now result }
+    ensures inside { Inside S.Store (record { text = text.now; params = bound params.now } ∷ [])
+        tx.old.conn.now tx.new.conn.now result }
 {
     tx.execute(text, params)?;
     Ok(())

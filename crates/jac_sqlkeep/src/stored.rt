@@ -33,7 +33,9 @@ pub fn test_stored<S: Alter>(
     conn: &mut Connection<S>,
     shape: &Shape,
 ) -> Result<(), Unfit>
-    ensures shown { HasCleanDisk (state S.Store conn.new) → OnOk result (ShowsStored S.Store (shapes_by shape.now.kinds shape.now.nested) conn.old conn.new) }
+    ensures shown { HasCleanDisk (state S.Store conn.new)
+        → OnOk result (ShowsStored S.Store (shapes_by shape.now.kinds shape.now.nested) conn.old
+        conn.new) }
     ensures mode { conn.old.in_transaction ≡ false → conn.new.in_transaction ≡ false }
 {
     let number = match read_number(conn) {
@@ -47,7 +49,8 @@ pub fn test_stored<S: Alter>(
 // Tests that no rowid comes twice.
 #[tactic(auto, unfolding(jac_lines::specs::Statements::rowid_reading))]
 fn test_rowids<S: Alter>(conn: &mut Connection<S>) -> Result<(), Unfit>
-    ensures shown { HasCleanDisk (state S.Store conn.new) → OnOk result (ShowsRowids S.Store conn.old conn.new) }
+    ensures shown { HasCleanDisk (state S.Store conn.new)
+        → OnOk result (ShowsRowids S.Store conn.old conn.new) }
     ensures mode { conn.old.in_transaction ≡ false → conn.new.in_transaction ≡ false }
 {
     let found = conn.query_all(ROWIDS, &[]);
@@ -107,7 +110,9 @@ fn test_rows<S: Alter>(
     number: u64,
 ) -> Result<(), Unfit>
     requires { IsNext number }
-    ensures shown { HasCleanDisk (state S.Store conn.new) → OnOk result (ShowsLines S.Store (shapes_by shape.now.kinds shape.now.nested) number conn.old conn.new) }
+    ensures shown { HasCleanDisk (state S.Store conn.new)
+        → OnOk result (ShowsLines S.Store (shapes_by shape.now.kinds shape.now.nested) number
+        conn.old conn.new) }
     ensures mode { conn.old.in_transaction ≡ false → conn.new.in_transaction ≡ false }
 {
     let found = conn.query_all(ALL, &[]);
@@ -121,7 +126,9 @@ fn rows_found(
     number: u64,
 ) -> Result<(), Unfit>
     requires { IsNext number }
-    ensures are { IfOk found (λ found. OnOk result (AreLinesOf (shapes_by shape.now.kinds shape.now.nested) number found.items)) }
+    ensures are { IfOk found
+        (λ found. OnOk result (AreLinesOf (shapes_by shape.now.kinds shape.now.nested) number
+        found.items)) }
     ensures none { OnErr found (IsErr result) }
 {
     match found {
@@ -141,7 +148,8 @@ struct Last {
 #[tactic(auto, using(crate::proofs::Rows::read_start, crate::proofs::Rows::read_next, crate::proofs::Rows::read_end))]
 fn read_all(alloc: Global, found: &[Found], shape: &Shape, number: u64) -> Result<(), Unfit>
     requires { IsNext number }
-    ensures { OnOk result (AreLinesOf (shapes_by shape.now.kinds shape.now.nested) number found.now) }
+    ensures { OnOk result (AreLinesOf (shapes_by shape.now.kinds shape.now.nested) number
+        found.now) }
 {
     let mut last = Last {
         model: 0,
@@ -173,7 +181,8 @@ fn read_on(
     last: Last,
     values: &Found,
 ) -> Result<Last, Error>
-    ensures { IfOk result (λ next. ReadsOn (shapes_by shape.now.kinds shape.now.nested) number last.model last.id last.guards.items values.now next.model next.id next.guards.items) }
+    ensures { IfOk result (λ next. ReadsOn (shapes_by shape.now.kinds shape.now.nested) number
+        last.model last.id last.guards.items values.now next.model next.id next.guards.items) }
 {
     let model = model_at(values)?;
     let row = stored_row(alloc, shape, number, values, model)?;
@@ -208,7 +217,8 @@ fn stored_row(
     values: &Found,
     model: u8,
 ) -> Result<Row, Error>
-    ensures { IfOk result (IsStoredRow (shapes_by shape.now.kinds shape.now.nested) number model values.now) }
+    ensures { IfOk result (IsStoredRow (shapes_by shape.now.kinds shape.now.nested) number model
+        values.now) }
 {
     let jid = blob_at(values, 1)?;
     let Some(id) = decode_id(jid, model) else {
@@ -234,9 +244,11 @@ fn is_numbered(id: Id, number: u64) -> bool
     0 < request && request < u128::from(number)
 }
 
-// The record, where it is the last one or comes behind it, and the guards of its alternatives that were read.
+// The record, where it is the last one or comes behind it, and the guards of its alternatives that
+// were read.
 fn moved(alloc: Global, last: Last, model: u8, id: Id) -> Result<Last, Error>
-    ensures { IfOk result (λ before. (before.model ≡ model) × (before.id ≡ id) × MovesOn last.model last.id last.guards.items model id before.guards.items) }
+    ensures { IfOk result (λ before. (before.model ≡ model) × (before.id ≡ id)
+        × MovesOn last.model last.id last.guards.items model id before.guards.items) }
 {
     if last.model == model {
         if last.id == id {
@@ -265,8 +277,10 @@ fn new_record(alloc: Global, model: u8, id: Id) -> Last
 
 // The row is the next alternative of the record, and apart from those before it.
 fn one_more(alloc: Global, before: Last, values: &Found, row: Row) -> Result<Last, Error>
-    ensures { IfOk result (λ next. (next.model ≡ before.model) × (next.id ≡ before.id) × (column values.now 2 ≡ Int (pos (length before.guards.items)))
-        × AllByRecursion (λ g. IsApart g row.guard) before.guards.items × (next.guards.items ≡ before.guards.items ++ row.guard ∷ [])) }
+    ensures { IfOk result (λ next. (next.model ≡ before.model) × (next.id ≡ before.id)
+        × (column values.now 2 ≡ Int (pos (length before.guards.items)))
+        × AllByRecursion (λ g. IsApart g row.guard) before.guards.items
+        × (next.guards.items ≡ before.guards.items ++ row.guard ∷ [])) }
 {
     let Row {
         id: _,
@@ -287,7 +301,8 @@ fn one_more(alloc: Global, before: Last, values: &Found, row: Row) -> Result<Las
 }
 
 fn are_apart(alloc: Global, guards: &[Guard], guard: &Guard) -> Result<bool, Error>
-    ensures { IfOk result (λ apart. apart ≡ true → AllByRecursion (λ g. IsApart g guard.now) guards.now) }
+    ensures { IfOk result (λ apart. apart ≡ true → AllByRecursion (λ g. IsApart g guard.now)
+        guards.now) }
 {
     let mut rest = guards;
     'guards: while let Some((first, more)) = rest.split_first() {

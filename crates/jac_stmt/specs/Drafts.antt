@@ -12,7 +12,8 @@ placed_at (Some f) v rest = (f, v) ∷ rest
 -- each set with its field's place; one for a field that the model hasn't falls away
 abbrev pub placed_sets : List Field → (Expression → Value) → List Assigned → List (ℕ × Value)
 placed_sets fields value_of [] = []
-placed_sets fields value_of (a ∷ rest) = placed_at (field_place fields a.field) (value_of a.value) (placed_sets fields value_of rest)
+placed_sets fields value_of (a ∷ rest) = placed_at (field_place fields a.field) (value_of a.value)
+    (placed_sets fields value_of rest)
 
 -- the cells with these in their places, whatever their kinds
 abbrev pub put_raw : List (ℕ × Value) → List Value → List Value

@@ -21,7 +21,8 @@ use Rattle.jac_query.specs.declared.tuple.Tuple.{Tuple}
 use Rattle.jac_expr.specs.Seen.{env_at}
 use Rattle.jac_write.specs.Writes.{numbered}
 
--- a run under all assignments: the state of its work, the names in scope, and the pieces under their guards
+-- a run under all assignments: the state of its work, the names in scope, and the pieces under
+-- their guards
 pub record Faceted : Type 0 where
   pub state : State
   pub env : List (List ℕ × Shape Value)
@@ -32,35 +33,51 @@ faceted s env out = record { state = s; env = env; out = out }
 
 -- the run that an assignment shows
 abbrev pub run_at : (ℕ → Bool) → Faceted → Run
-run_at w f = record { tables = (project_at w f.state).tables; env = env_at w f.env; pieces = seen w f.out }
+run_at w f = record {
+  tables = (project_at w f.state).tables;
+  env = env_at w f.env;
+  pieces = seen w f.out;
+}
 
 -- what stays the same through a run, under an assignment
 abbrev pub setting_at : App → Ctx → (ℕ → Bool) → Setting
-setting_at app ctx w = record { models = (application_of app).models; shown = w; viewer = ctx.viewer; number = ctx.number; around = ctx.around }
+setting_at app ctx w = record {
+  models = (application_of app).models;
+  shown = w;
+  viewer = ctx.viewer;
+  number = ctx.number;
+  around = ctx.around;
+}
 
 -- the same for the body of a loop, at one of its answers
 abbrev pub setting_around : App → Ctx → List ℕ → (ℕ → Bool) → Setting
 setting_around app ctx ids w = record (setting_at app ctx w) { around = loop_of ids }
 
--- where the test is true the run is what the step leaves, elsewhere it is as before; and tables that are sound
--- with the next number n stay so
-pub record Ran (n : ℕ) (step : (ℕ → Bool) → Run → Run) (where_ : (ℕ → Bool) → Bool) (old new : Faceted) : Type 0 where
-  pub left : (w : ℕ → Bool) → run_at w new ≡ (if where_ w then step w (run_at w old) else run_at w old)
+-- where the test is true the run is what the step leaves, elsewhere it is as before; and tables
+-- that are sound with the next number n stay so
+pub record Ran (n : ℕ) (step : (ℕ → Bool) → Run → Run) (where_ : (ℕ → Bool)
+    → Bool) (old new : Faceted) : Type 0 where
+  pub left : (w : ℕ → Bool) → run_at w new ≡ (if where_ w then step w (run_at w old)
+      else run_at w old)
   pub sound : IsSound (numbered n new.state)
 
 -- what a step leaves of tables that are sound, where what it makes is new wherever the test is true
-abbrev pub Runs : ((ℕ → Bool) → Run → Run) → (ℕ → (ℕ → Bool) → Run → Type 0) → ((ℕ → Bool) → Bool) → Faceted → Faceted → Type 0
+abbrev pub Runs : ((ℕ → Bool) → Run → Run) → (ℕ → (ℕ → Bool) → Run → Type 0) → ((ℕ → Bool) → Bool)
+    → Faceted → Faceted → Type 0
 Runs step May where_ old new =
-    (n : ℕ) → IsSound (numbered n old.state) → ((w : ℕ → Bool) → where_ w ≡ true → May n w (run_at w old)) → Ran n step where_ old new
+    (n : ℕ) → IsSound (numbered n old.state) → ((w : ℕ → Bool) → where_ w ≡ true
+    → May n w (run_at w old)) → Ran n step where_ old new
 
 -- what the interpreter's statement leaves, wherever the path condition holds
 abbrev pub Executes : App → Ctx → Statement → List (ℕ × Bool) → Faceted → Faceted → Type 0
 Executes app ctx s pc old new =
-    Runs (λ w. leaves (setting_at app ctx w) s) (λ n w. MayRun n (setting_at app ctx w) s) (λ w. holds w pc) old new
+    Runs (λ w. leaves (setting_at app ctx w) s) (λ n w. MayRun n (setting_at app ctx w) s)
+    (λ w. holds w pc) old new
 
 abbrev pub ExecutesAll : App → Ctx → Statements → List (ℕ × Bool) → Faceted → Faceted → Type 0
 ExecutesAll app ctx ss pc old new =
-    Runs (λ w. leaves_all (setting_at app ctx w) ss) (λ n w. MayRunAll n (setting_at app ctx w) ss) (λ w. holds w pc) old new
+    Runs (λ w. leaves_all (setting_at app ctx w) ss) (λ n w. MayRunAll n (setting_at app ctx w) ss)
+    (λ w. holds w pc) old new
 
 abbrev mutual
   -- no template stands in the statement, and the ids that its creates give are ids
@@ -69,9 +86,11 @@ abbrev mutual
   IsRunnable number (Statement.escape e) = ⊤
   IsRunnable number (Statement.bind x e body) = AreRunnable number body
   IsRunnable number (Statement.assign x e) = ⊤
-  IsRunnable number (Statement.branch c first second) = AreRunnable number first × AreRunnable number second
+  IsRunnable number (Statement.branch c first second) = AreRunnable number first
+      × AreRunnable number second
   IsRunnable number (Statement.each q body) = AreRunnable number body
-  IsRunnable number (Statement.create x m site cells body) = (0 < number) × (number < 2 ^ 40) × (site < 64) × AreRunnable number body
+  IsRunnable number (Statement.create x m site cells body) = (0 < number) × (number < 2 ^ 40)
+      × (site < 64) × AreRunnable number body
   IsRunnable number (Statement.update m e cells) = ⊤
   IsRunnable number (Statement.delete m e) = ⊤
   IsRunnable number Statement.missing = ⊤
@@ -94,34 +113,46 @@ MayAll step May [] r = ⊤
 MayAll step May (x ∷ xs) r = May x r × MayAll step May xs (step x r)
 
 -- the run is what a step for each of the values leaves that an assignment shows
-pub record RanEach {X : Type 0} (n : ℕ) (step : (ℕ → Bool) → X → Run → Run) (values : (ℕ → Bool) → List X) (old new : Faceted) : Type 0 where
+pub record RanEach {X : Type 0} (n : ℕ) (step : (ℕ → Bool) → X → Run → Run) (values : (ℕ → Bool)
+    → List X) (old new : Faceted) : Type 0 where
   pub left : (w : ℕ → Bool) → run_at w new ≡ after_each (step w) (values w) (run_at w old)
   pub sound : IsSound (numbered n new.state)
 
-abbrev pub RunsEach : {X : Type 0} → ((ℕ → Bool) → X → Run → Run) → (ℕ → (ℕ → Bool) → X → Run → Type 0) → ((ℕ → Bool) → List X) → Faceted → Faceted → Type 0
+abbrev pub RunsEach : {X : Type 0} → ((ℕ → Bool) → X → Run → Run) → (ℕ → (ℕ → Bool) → X → Run
+    → Type 0) → ((ℕ → Bool) → List X) → Faceted → Faceted → Type 0
 RunsEach step May values old new =
-    (n : ℕ) → IsSound (numbered n old.state) → ((w : ℕ → Bool) → MayAll (step w) (May n w) (values w) (run_at w old)) → RanEach n step values old new
+    (n : ℕ) → IsSound (numbered n old.state)
+    → ((w : ℕ → Bool) → MayAll (step w) (May n w) (values w) (run_at w old))
+    → RanEach n step values old new
 
 -- the one body or the other, by a value
 abbrev pub chosen_at : App → Ctx → Statements → Statements → (ℕ → Bool) → Value → Run → Run
-chosen_at app ctx first second w v = choose (is_true v) (leaves_all (setting_at app ctx w) first) (leaves_all (setting_at app ctx w) second)
+chosen_at app ctx first second w v = choose (is_true v) (leaves_all (setting_at app ctx w) first)
+    (leaves_all (setting_at app ctx w) second)
 
 abbrev pub MayChooseAt : App → Ctx → Statements → Statements → ℕ → (ℕ → Bool) → Value → Run → Type 0
-MayChooseAt app ctx first second n w v = MayChoose (is_true v) (MayRunAll n (setting_at app ctx w) first) (MayRunAll n (setting_at app ctx w) second)
+MayChooseAt app ctx first second n w v = MayChoose (is_true v) (MayRunAll n (setting_at app ctx w)
+    first) (MayRunAll n (setting_at app ctx w) second)
 
 -- the body with the binders bound to a tuple, around whose record it makes records
 abbrev pub bound_at : App → Ctx → List Binder → Statements → (ℕ → Bool) → List ℕ → Run → Run
-bound_at app ctx bs body w ids r = scoped (bound bs ids r.env) (leaves_all (setting_around app ctx ids w) body) r
+bound_at app ctx bs body w ids r = scoped (bound bs ids r.env)
+    (leaves_all (setting_around app ctx ids w) body) r
 
 abbrev pub MayBindAt : App → Ctx → List Binder → Statements → ℕ → (ℕ → Bool) → List ℕ → Run → Type 0
-MayBindAt app ctx bs body n w ids r = MayRunAll n (setting_around app ctx ids w) body (with_env (bound bs ids r.env) r)
+MayBindAt app ctx bs body n w ids r = MayRunAll n (setting_around app ctx ids w) body
+    (with_env (bound bs ids r.env) r)
 
 -- the body with a name bound to a value
-abbrev pub named_at : App → Ctx → List ℕ → ((ℕ → Bool) → Value) → Statements → (ℕ → Bool) → Run → Run
-named_at app ctx name value_at body w r = with_binding name (value_at w) (leaves_all (setting_at app ctx w) body) r
+abbrev pub named_at : App → Ctx → List ℕ → ((ℕ → Bool) → Value) → Statements → (ℕ → Bool) → Run
+    → Run
+named_at app ctx name value_at body w r = with_binding name (value_at w)
+    (leaves_all (setting_at app ctx w) body) r
 
-abbrev pub MayNameAt : App → Ctx → List ℕ → ((ℕ → Bool) → Value) → Statements → ℕ → (ℕ → Bool) → Run → Type 0
-MayNameAt app ctx name value_at body n w r = MayRunAll n (setting_at app ctx w) body (with_env (r.env ++ binding name (value_at w) ∷ []) r)
+abbrev pub MayNameAt : App → Ctx → List ℕ → ((ℕ → Bool) → Value) → Statements → ℕ → (ℕ → Bool) → Run
+    → Type 0
+MayNameAt app ctx name value_at body n w r = MayRunAll n (setting_at app ctx w) body
+    (with_env (r.env ++ binding name (value_at w) ∷ []) r)
 
 -- the tuples that hold, where the path condition does
 abbrev pub live_under : List (ℕ × Bool) → List Tuple → (ℕ → Bool) → List (List ℕ)

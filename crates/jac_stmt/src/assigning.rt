@@ -14,7 +14,8 @@ use std::alloc::Global;
 use std::mem;
 use std::sync::ledger::Ledger;
 
-/// Changes the innermost binding of the name wherever the path condition holds; nothing where there is none.
+/// Changes the innermost binding of the name wherever the path condition holds; nothing where there
+/// is none.
 pub(crate) fn assign<L: Ledger>(
     alloc: Global,
     env: &mut Env,
@@ -23,7 +24,8 @@ pub(crate) fn assign<L: Ledger>(
     value: &Facet<Value>,
     splits: &mut Steps<L>,
 ) -> Result<(), Memory>
-    ensures { OnOk result ((w : ℕ → Bool) → env_at w env.new ≡ (if holds w pc.now then assigned name.now (at w value.now) (env_at w env.old) else env_at w env.old)) }
+    ensures { OnOk result ((w : ℕ → Bool) → env_at w env.new ≡ (if holds w pc.now
+        then assigned name.now (at w value.now) (env_at w env.old) else env_at w env.old)) }
 {
     let mut bindings = mem::replace(env, Env::empty(alloc)).into_vec();
     assign_in(alloc, &mut bindings, pc, name, value, splits)?;
@@ -39,7 +41,9 @@ fn assign_in<L: Ledger>(
     value: &Facet<Value>,
     splits: &mut Steps<L>,
 ) -> Result<(), Memory>
-    ensures { OnOk result ((w : ℕ → Bool) → env_at w bindings.new.items ≡ (if holds w pc.now then assigned name.now (at w value.now) (env_at w bindings.old.items) else env_at w bindings.old.items)) }
+    ensures { OnOk result ((w : ℕ → Bool) → env_at w bindings.new.items ≡ (if holds w pc.now
+        then assigned name.now (at w value.now) (env_at w bindings.old.items)
+        else env_at w bindings.old.items)) }
 {
     let Some(place) = innermost(bindings.as_slice(), name) else {
         return Ok(());

@@ -37,8 +37,13 @@ pub(crate) fn read_sets<K: Keeper, L: Ledger>(
 ) -> Result<Sets, Stop>
     requires attached { IsTrue (K.seen work.old.keeper.now).store.attached }
     requires model { model < length app.now.models }
-    ensures sets { IsTold K.seen work.new → IfOk result (λ s. (w : ℕ → Bool) → holds w pc.now ≡ true → sets_at w s ≡ placed_sets (fields_at (application_of app.now).models model) (λ e. mean (world_at app.now ctx.now (state_of K.seen work.old) w) e (env_at w env.now)) (assigned_of cells.now)) }
-    ensures fields { IfOk result (λ s. All (λ (x : ℕ × Shape Plain). x.0 < length (fields_at (application_of app.now).models model)) s) }
+    ensures sets { IsTold K.seen work.new → IfOk result (λ s. (w : ℕ → Bool) → holds w pc.now ≡ true
+        → sets_at w s ≡ placed_sets (fields_at (application_of app.now).models model)
+        (λ e. mean (world_at app.now ctx.now (state_of K.seen work.old) w) e (env_at w env.now))
+        (assigned_of cells.now)) }
+    ensures fields { IfOk result
+        (λ s. All (λ (x : ℕ × Shape Plain). x.0 < length (fields_at (application_of app.now).models
+        model)) s) }
     ensures reads { ReadsWork K.seen work.old work.new result }
 {
     let mut sets = Vec::new(alloc);
@@ -67,9 +72,16 @@ fn read_set<K: Keeper, L: Ledger>(
 ) -> Result<(), Stop>
     requires attached { IsTrue (K.seen work.old.keeper.now).store.attached }
     requires model { model < length app.now.models }
-    requires fields { All (λ (x : ℕ × Shape Plain). x.0 < length (fields_at (application_of app.now).models model)) sets.old.items }
-    ensures sets { IsTold K.seen work.new → OnOk result ((w : ℕ → Bool) → holds w pc.now ≡ true → sets_at w sets.new.items ≡ sets_at w sets.old.items ++ placed_sets (fields_at (application_of app.now).models model) (λ e. mean (world_at app.now ctx.now (state_of K.seen work.old) w) e (env_at w env.now)) (one_assigned_of set.now ∷ [])) }
-    ensures fields { OnOk result (All (λ (x : ℕ × Shape Plain). x.0 < length (fields_at (application_of app.now).models model)) sets.new.items) }
+    requires fields { All (λ (x : ℕ × Shape Plain). x.0
+        < length (fields_at (application_of app.now).models model)) sets.old.items }
+    ensures sets { IsTold K.seen work.new → OnOk result ((w : ℕ → Bool) → holds w pc.now ≡ true
+        → sets_at w sets.new.items ≡ sets_at w sets.old.items ++ placed_sets
+        (fields_at (application_of app.now).models model)
+        (λ e. mean (world_at app.now ctx.now (state_of K.seen work.old) w) e (env_at w env.now))
+        (one_assigned_of set.now ∷ [])) }
+    ensures fields { OnOk result
+        (All (λ (x : ℕ × Shape Plain). x.0 < length (fields_at (application_of app.now).models
+        model)) sets.new.items) }
     ensures reads { ReadsWork K.seen work.old work.new result }
 {
     let Some(field) = field_of(app, model, &set.field) else {
@@ -94,8 +106,14 @@ pub(crate) fn new_cells<K: Keeper, L: Ledger>(
 ) -> Result<Facets<Value>, Stop>
     requires attached { IsTrue (K.seen work.old.keeper.now).store.attached }
     requires model { model < length app.now.models }
-    ensures cells { let models = (application_of app.now).models in IsTold K.seen work.new → IfOk result (λ cs. (w : ℕ → Bool) → holds w pc.now ≡ true → fitted_from models (fields_at models model) 0 (all_at w cs) ≡ drafted models (fields_at models model) (λ e. mean (world_at app.now ctx.now (state_of K.seen work.old) w) e (env_at w env.now)) (assigned_of cells.now) (default_cells models (fields_at models model))) }
-    ensures each_field { IfOk result (λ cs. length cs ≡ length (fields_at (application_of app.now).models model)) }
+    ensures cells { let models = (application_of app.now).models in IsTold K.seen work.new
+        → IfOk result (λ cs. (w : ℕ → Bool) → holds w pc.now ≡ true
+        → fitted_from models (fields_at models model) 0 (all_at w cs) ≡ drafted models
+        (fields_at models model) (λ e. mean (world_at app.now ctx.now (state_of K.seen work.old) w)
+        e (env_at w env.now)) (assigned_of cells.now)
+        (default_cells models (fields_at models model))) }
+    ensures each_field { IfOk result (λ cs. length cs
+        ≡ length (fields_at (application_of app.now).models model)) }
     ensures reads { ReadsWork K.seen work.old work.new result }
 {
     let sets = read_sets(alloc, work, app, ctx, env, pc, model, cells, splits)?;
@@ -107,8 +125,10 @@ pub(crate) fn new_cells<K: Keeper, L: Ledger>(
 // A default for each field.
 fn defaults(alloc: Global, app: &App, model: u8) -> Result<Vec<Facet<Value>>, Memory>
     requires { model < length app.now.models }
-    ensures cells { let models = (application_of app.now).models in IfOk result (λ v. (w : ℕ → Bool) → all_at w v.items ≡ default_cells models (fields_at models model)) }
-    ensures each_field { IfOk result (λ v. length v.items ≡ length (fields_at (application_of app.now).models model)) }
+    ensures cells { let models = (application_of app.now).models in IfOk result (λ v. (w : ℕ → Bool)
+        → all_at w v.items ≡ default_cells models (fields_at models model)) }
+    ensures each_field { IfOk result (λ v. length v.items
+        ≡ length (fields_at (application_of app.now).models model)) }
 {
     let count = field_count(app, model);
     let mut made = Vec::new(alloc);
@@ -139,7 +159,8 @@ pub(crate) fn model_at(models: &[ModelDef], place: u8) -> &ModelDef
 // Puts each value in its place.
 fn put_sets(cells: &mut Vec<Facet<Value>>, sets: Vec<(u8, Facet<Value>)>)
     requires { All (λ (x : ℕ × Shape Plain). x.0 < length cells.old.items) sets.items }
-    ensures put { (w : ℕ → Bool) → all_at w cells.new.items ≡ put_raw (sets_at w sets.items) (all_at w cells.old.items) }
+    ensures put { (w : ℕ → Bool) → all_at w cells.new.items ≡ put_raw (sets_at w sets.items)
+        (all_at w cells.old.items) }
     ensures same_length { length cells.new.items ≡ length cells.old.items }
 {
     'sets: for (field, value) in sets {
@@ -150,7 +171,8 @@ fn put_sets(cells: &mut Vec<Facet<Value>>, sets: Vec<(u8, Facet<Value>)>)
 #[tactic(auto, using(crate::proofs::DraftLaws::all_at_set))]
 fn put_set(cells: &mut Vec<Facet<Value>>, field: u8, value: Facet<Value>)
     requires { field < length cells.old.items }
-    ensures put { (w : ℕ → Bool) → all_at w cells.new.items ≡ slice_set (all_at w cells.old.items) field (at w value) }
+    ensures put { (w : ℕ → Bool) → all_at w cells.new.items ≡ slice_set (all_at w cells.old.items)
+        field (at w value) }
     ensures same_length { length cells.new.items ≡ length cells.old.items }
 {
     cells[usize::from(field)] = value;

@@ -1,4 +1,5 @@
-//! Statements, run under a path condition. `execute` only looks at the form; each form is a function of its own.
+//! Statements, run under a path condition. `execute` only looks at the form; each form is a
+//! function of its own.
 ghost use Rattle.std.specs.Prelude.{◌≡◌, ◌<◌, ◌≤◌, ◌^◌, ◌&&◌, length, None, IfSome, OnOk, IsTrue, Some, ℕ, Bool, List};
 ghost use Rattle.jac_facet.specs.Leaves.{seen};
 ghost use Rattle.jac_facet.specs.Shape.{at};
@@ -30,9 +31,10 @@ use jac_write::{create, delete, update};
 use std::alloc::Global;
 use std::sync::ledger::Ledger;
 
-/// Runs the statements, one after another, wherever the path condition holds. Elsewhere all stays as it was.
-/// `this` of the context isn't asked: a statement has none. `around` is the record of the loop that the statements stand
-/// in, and none outside of loops. After a refusal the names and the pieces may hold a part of what was run.
+/// Runs the statements, one after another, wherever the path condition holds. Elsewhere all stays
+/// as it was. `this` of the context isn't asked: a statement has none. `around` is the record of
+/// the loop that the statements stand in, and none outside of loops. After a refusal the names and
+/// the pieces may hold a part of what was run.
 pub fn exec<K: Keeper, L: Ledger>(
     alloc: Global,
     work: &mut Work<'_, K>,
@@ -45,9 +47,13 @@ pub fn exec<K: Keeper, L: Ledger>(
     splits: &mut Steps<L>,
 ) -> Result<(), Stop>
     requires attached { IsTrue (K.seen work.old.keeper.now).store.attached }
-    requires tables { IsTrue (K.seen work.old.keeper.now).tells → length app.now.models ≤ length (K.seen work.old.keeper.now).state.tables }
+    requires tables { IsTrue (K.seen work.old.keeper.now).tells
+        → length app.now.models ≤ length (K.seen work.old.keeper.now).state.tables }
     requires runnable { AreRunnable ctx.now.number (statements_of stmts.now) }
-    ensures left { IsTold K.seen work.new → OnOk result (ExecutesAll app.now ctx.now (statements_of stmts.now) pc.now (faceted (state_of K.seen work.old) env.old out.old) (faceted (state_of K.seen work.new) env.new out.new)) }
+    ensures left { IsTold K.seen work.new
+        → OnOk result (ExecutesAll app.now ctx.now (statements_of stmts.now) pc.now
+        (faceted (state_of K.seen work.old) env.old out.old) (faceted (state_of K.seen work.new)
+        env.new out.new)) }
     ensures told { OnOk result (StaysTold K.seen work.old work.new) }
     ensures keeps { WritesWork K.seen work.old work.new result }
 {
@@ -71,10 +77,14 @@ fn execute_all<K: Keeper, L: Ledger>(
     splits: &mut Steps<L>,
 ) -> Result<(), Stop>
     requires attached { IsTrue (K.seen work.old.keeper.now).store.attached }
-    requires tables { IsTrue (K.seen work.old.keeper.now).tells → length app.now.models ≤ length (K.seen work.old.keeper.now).state.tables }
+    requires tables { IsTrue (K.seen work.old.keeper.now).tells
+        → length app.now.models ≤ length (K.seen work.old.keeper.now).state.tables }
     requires no_record { ctx.now.this ≡ None }
     requires runnable { AreRunnable ctx.now.number (statements_of stmts.now) }
-    ensures left { IsTold K.seen work.new → OnOk result (ExecutesAll app.now ctx.now (statements_of stmts.now) pc.now (faceted (state_of K.seen work.old) env.old out.old) (faceted (state_of K.seen work.new) env.new out.new)) }
+    ensures left { IsTold K.seen work.new
+        → OnOk result (ExecutesAll app.now ctx.now (statements_of stmts.now) pc.now
+        (faceted (state_of K.seen work.old) env.old out.old) (faceted (state_of K.seen work.new)
+        env.new out.new)) }
     ensures told { OnOk result (StaysTold K.seen work.old work.new) }
     ensures keeps { WritesWork K.seen work.old work.new result }
 {
@@ -100,10 +110,14 @@ fn execute<K: Keeper, L: Ledger>(
     splits: &mut Steps<L>,
 ) -> Result<(), Stop>
     requires attached { IsTrue (K.seen work.old.keeper.now).store.attached }
-    requires tables { IsTrue (K.seen work.old.keeper.now).tells → length app.now.models ≤ length (K.seen work.old.keeper.now).state.tables }
+    requires tables { IsTrue (K.seen work.old.keeper.now).tells
+        → length app.now.models ≤ length (K.seen work.old.keeper.now).state.tables }
     requires no_record { ctx.now.this ≡ None }
     requires runnable { IsRunnable ctx.now.number (statement_of stmt.now) }
-    ensures left { IsTold K.seen work.new → OnOk result (Executes app.now ctx.now (statement_of stmt.now) pc.now (faceted (state_of K.seen work.old) env.old out.old) (faceted (state_of K.seen work.new) env.new out.new)) }
+    ensures left { IsTold K.seen work.new
+        → OnOk result (Executes app.now ctx.now (statement_of stmt.now) pc.now
+        (faceted (state_of K.seen work.old) env.old out.old) (faceted (state_of K.seen work.new)
+        env.new out.new)) }
     ensures told { OnOk result (StaysTold K.seen work.old work.new) }
     ensures keeps { WritesWork K.seen work.old work.new result }
 {
@@ -164,7 +178,10 @@ fn execute_put<K: Keeper, L: Ledger>(
 ) -> Result<(), Stop>
     requires attached { IsTrue (K.seen work.old.keeper.now).store.attached }
     requires no_record { ctx.now.this ≡ None }
-    ensures left { IsTold K.seen work.new → OnOk result (Executes app.now ctx.now (Statement.put (expression_of e.now)) pc.now (faceted (state_of K.seen work.old) env.now out.old) (faceted (state_of K.seen work.new) env.now out.new)) }
+    ensures left { IsTold K.seen work.new
+        → OnOk result (Executes app.now ctx.now (Statement.put (expression_of e.now)) pc.now
+        (faceted (state_of K.seen work.old) env.now out.old) (faceted (state_of K.seen work.new)
+        env.now out.new)) }
     ensures told { OnOk result (StaysTold K.seen work.old work.new) }
     ensures keeps { WritesWork K.seen work.old work.new result }
 {
@@ -187,7 +204,10 @@ fn execute_escape<K: Keeper, L: Ledger>(
 ) -> Result<(), Stop>
     requires attached { IsTrue (K.seen work.old.keeper.now).store.attached }
     requires no_record { ctx.now.this ≡ None }
-    ensures left { IsTold K.seen work.new → OnOk result (Executes app.now ctx.now (Statement.escape (expression_of e.now)) pc.now (faceted (state_of K.seen work.old) env.now out.old) (faceted (state_of K.seen work.new) env.now out.new)) }
+    ensures left { IsTold K.seen work.new
+        → OnOk result (Executes app.now ctx.now (Statement.escape (expression_of e.now)) pc.now
+        (faceted (state_of K.seen work.old) env.now out.old) (faceted (state_of K.seen work.new)
+        env.now out.new)) }
     ensures told { OnOk result (StaysTold K.seen work.old work.new) }
     ensures keeps { WritesWork K.seen work.old work.new result }
 {
@@ -210,7 +230,10 @@ fn execute_redirect<K: Keeper, L: Ledger>(
 ) -> Result<(), Stop>
     requires attached { IsTrue (K.seen work.old.keeper.now).store.attached }
     requires no_record { ctx.now.this ≡ None }
-    ensures left { IsTold K.seen work.new → OnOk result (Executes app.now ctx.now (Statement.redirect (expression_of e.now)) pc.now (faceted (state_of K.seen work.old) env.now out.old) (faceted (state_of K.seen work.new) env.now out.new)) }
+    ensures left { IsTold K.seen work.new
+        → OnOk result (Executes app.now ctx.now (Statement.redirect (expression_of e.now)) pc.now
+        (faceted (state_of K.seen work.old) env.now out.old) (faceted (state_of K.seen work.new)
+        env.now out.new)) }
     ensures told { OnOk result (StaysTold K.seen work.old work.new) }
     ensures keeps { WritesWork K.seen work.old work.new result }
 {
@@ -230,7 +253,10 @@ fn execute_missing<K: Keeper, L: Ledger>(
     pc: &Guard,
     splits: &mut Steps<L>,
 ) -> Result<(), Stop>
-    ensures left { IsTold K.seen work.new → OnOk result (Executes app.now ctx.now Statement.missing pc.now (faceted (state_of K.seen work.old) env.now out.old) (faceted (state_of K.seen work.new) env.now out.new)) }
+    ensures left { IsTold K.seen work.new
+        → OnOk result (Executes app.now ctx.now Statement.missing pc.now
+        (faceted (state_of K.seen work.old) env.now out.old) (faceted (state_of K.seen work.new)
+        env.now out.new)) }
     ensures told { OnOk result (StaysTold K.seen work.old work.new) }
     ensures keeps { WritesWork K.seen work.old work.new result }
 {
@@ -254,7 +280,10 @@ fn execute_assign<K: Keeper, L: Ledger>(
 ) -> Result<(), Stop>
     requires attached { IsTrue (K.seen work.old.keeper.now).store.attached }
     requires no_record { ctx.now.this ≡ None }
-    ensures left { IsTold K.seen work.new → OnOk result (Executes app.now ctx.now (Statement.assign name.now (expression_of e.now)) pc.now (faceted (state_of K.seen work.old) env.old out.old) (faceted (state_of K.seen work.new) env.new out.new)) }
+    ensures left { IsTold K.seen work.new
+        → OnOk result (Executes app.now ctx.now (Statement.assign name.now (expression_of e.now))
+        pc.now (faceted (state_of K.seen work.old) env.old out.old)
+        (faceted (state_of K.seen work.new) env.new out.new)) }
     ensures told { OnOk result (StaysTold K.seen work.old work.new) }
     ensures keeps { WritesWork K.seen work.old work.new result }
 {
@@ -279,10 +308,14 @@ fn execute_let<K: Keeper, L: Ledger>(
     splits: &mut Steps<L>,
 ) -> Result<(), Stop>
     requires attached { IsTrue (K.seen work.old.keeper.now).store.attached }
-    requires tables { IsTrue (K.seen work.old.keeper.now).tells → length app.now.models ≤ length (K.seen work.old.keeper.now).state.tables }
+    requires tables { IsTrue (K.seen work.old.keeper.now).tells
+        → length app.now.models ≤ length (K.seen work.old.keeper.now).state.tables }
     requires no_record { ctx.now.this ≡ None }
     requires runnable { AreRunnable ctx.now.number (statements_of body.now) }
-    ensures left { IsTold K.seen work.new → OnOk result (Executes app.now ctx.now (Statement.bind name.now (expression_of e.now) (statements_of body.now)) pc.now (faceted (state_of K.seen work.old) env.old out.old) (faceted (state_of K.seen work.new) env.new out.new)) }
+    ensures left { IsTold K.seen work.new
+        → OnOk result (Executes app.now ctx.now (Statement.bind name.now (expression_of e.now)
+        (statements_of body.now)) pc.now (faceted (state_of K.seen work.old) env.old out.old)
+        (faceted (state_of K.seen work.new) env.new out.new)) }
     ensures told { OnOk result (StaysTold K.seen work.old work.new) }
     ensures keeps { WritesWork K.seen work.old work.new result }
 {
@@ -309,10 +342,15 @@ fn execute_named<K: Keeper, L: Ledger>(
     splits: &mut Steps<L>,
 ) -> Result<(), Stop>
     requires attached { IsTrue (K.seen work.old.keeper.now).store.attached }
-    requires tables { IsTrue (K.seen work.old.keeper.now).tells → length app.now.models ≤ length (K.seen work.old.keeper.now).state.tables }
+    requires tables { IsTrue (K.seen work.old.keeper.now).tells
+        → length app.now.models ≤ length (K.seen work.old.keeper.now).state.tables }
     requires no_record { ctx.now.this ≡ None }
     requires runnable { AreRunnable ctx.now.number (statements_of body.now) }
-    ensures left { IsTold K.seen work.new → OnOk result (Runs (named_at app.now ctx.now name.now (λ w. at w value) (statements_of body.now)) (MayNameAt app.now ctx.now name.now (λ w. at w value) (statements_of body.now)) (λ w. holds w pc.now) (faceted (state_of K.seen work.old) env.old out.old) (faceted (state_of K.seen work.new) env.new out.new)) }
+    ensures left { IsTold K.seen work.new
+        → OnOk result (Runs (named_at app.now ctx.now name.now (λ w. at w value)
+        (statements_of body.now)) (MayNameAt app.now ctx.now name.now (λ w. at w value)
+        (statements_of body.now)) (λ w. holds w pc.now) (faceted (state_of K.seen work.old) env.old
+        out.old) (faceted (state_of K.seen work.new) env.new out.new)) }
     ensures told { OnOk result (StaysTold K.seen work.old work.new) }
     ensures keeps { WritesWork K.seen work.old work.new result }
 {
@@ -324,7 +362,8 @@ fn execute_named<K: Keeper, L: Ledger>(
     Ok(())
 }
 
-// The one body or the other, once for each value that the condition can have, under the guard of that value.
+// The one body or the other, once for each value that the condition can have, under the guard of
+// that value.
 #[cycle(exec)]
 fn execute_if<K: Keeper, L: Ledger>(
     alloc: Global,
@@ -340,11 +379,16 @@ fn execute_if<K: Keeper, L: Ledger>(
     splits: &mut Steps<L>,
 ) -> Result<(), Stop>
     requires attached { IsTrue (K.seen work.old.keeper.now).store.attached }
-    requires tables { IsTrue (K.seen work.old.keeper.now).tells → length app.now.models ≤ length (K.seen work.old.keeper.now).state.tables }
+    requires tables { IsTrue (K.seen work.old.keeper.now).tells
+        → length app.now.models ≤ length (K.seen work.old.keeper.now).state.tables }
     requires no_record { ctx.now.this ≡ None }
     requires first { AreRunnable ctx.now.number (statements_of first.now) }
     requires second { AreRunnable ctx.now.number (statements_of second.now) }
-    ensures left { IsTold K.seen work.new → OnOk result (Executes app.now ctx.now (Statement.branch (expression_of c.now) (statements_of first.now) (statements_of second.now)) pc.now (faceted (state_of K.seen work.old) env.old out.old) (faceted (state_of K.seen work.new) env.new out.new)) }
+    ensures left { IsTold K.seen work.new
+        → OnOk result (Executes app.now ctx.now (Statement.branch (expression_of c.now)
+        (statements_of first.now) (statements_of second.now)) pc.now
+        (faceted (state_of K.seen work.old) env.old out.old) (faceted (state_of K.seen work.new)
+        env.new out.new)) }
     ensures told { OnOk result (StaysTold K.seen work.old work.new) }
     ensures keeps { WritesWork K.seen work.old work.new result }
 {
@@ -372,11 +416,16 @@ fn execute_leaves<K: Keeper, L: Ledger>(
     splits: &mut Steps<L>,
 ) -> Result<(), Stop>
     requires attached { IsTrue (K.seen work.old.keeper.now).store.attached }
-    requires tables { IsTrue (K.seen work.old.keeper.now).tells → length app.now.models ≤ length (K.seen work.old.keeper.now).state.tables }
+    requires tables { IsTrue (K.seen work.old.keeper.now).tells
+        → length app.now.models ≤ length (K.seen work.old.keeper.now).state.tables }
     requires no_record { ctx.now.this ≡ None }
     requires first { AreRunnable ctx.now.number (statements_of first.now) }
     requires second { AreRunnable ctx.now.number (statements_of second.now) }
-    ensures left { IsTold K.seen work.new → OnOk result (RunsEach (chosen_at app.now ctx.now (statements_of first.now) (statements_of second.now)) (MayChooseAt app.now ctx.now (statements_of first.now) (statements_of second.now)) (λ w. seen w leaves.now) (faceted (state_of K.seen work.old) env.old out.old) (faceted (state_of K.seen work.new) env.new out.new)) }
+    ensures left { IsTold K.seen work.new
+        → OnOk result (RunsEach (chosen_at app.now ctx.now (statements_of first.now)
+        (statements_of second.now)) (MayChooseAt app.now ctx.now (statements_of first.now)
+        (statements_of second.now)) (λ w. seen w leaves.now) (faceted (state_of K.seen work.old)
+        env.old out.old) (faceted (state_of K.seen work.new) env.new out.new)) }
     ensures told { OnOk result (StaysTold K.seen work.old work.new) }
     ensures keeps { WritesWork K.seen work.old work.new result }
 {
@@ -404,11 +453,17 @@ fn execute_leaf<K: Keeper, L: Ledger>(
     splits: &mut Steps<L>,
 ) -> Result<(), Stop>
     requires attached { IsTrue (K.seen work.old.keeper.now).store.attached }
-    requires tables { IsTrue (K.seen work.old.keeper.now).tells → length app.now.models ≤ length (K.seen work.old.keeper.now).state.tables }
+    requires tables { IsTrue (K.seen work.old.keeper.now).tells
+        → length app.now.models ≤ length (K.seen work.old.keeper.now).state.tables }
     requires no_record { ctx.now.this ≡ None }
     requires first { AreRunnable ctx.now.number (statements_of first.now) }
     requires second { AreRunnable ctx.now.number (statements_of second.now) }
-    ensures left { IsTold K.seen work.new → OnOk result (Runs (λ w. chosen_at app.now ctx.now (statements_of first.now) (statements_of second.now) w value.now) (λ n w. MayChooseAt app.now ctx.now (statements_of first.now) (statements_of second.now) n w value.now) (λ w. holds w pc.now) (faceted (state_of K.seen work.old) env.old out.old) (faceted (state_of K.seen work.new) env.new out.new)) }
+    ensures left { IsTold K.seen work.new
+        → OnOk result (Runs (λ w. chosen_at app.now ctx.now (statements_of first.now)
+        (statements_of second.now) w value.now) (λ n w. MayChooseAt app.now ctx.now
+        (statements_of first.now) (statements_of second.now) n w value.now) (λ w. holds w pc.now)
+        (faceted (state_of K.seen work.old) env.old out.old) (faceted (state_of K.seen work.new)
+        env.new out.new)) }
     ensures told { OnOk result (StaysTold K.seen work.old work.new) }
     ensures keeps { WritesWork K.seen work.old work.new result }
 {
@@ -435,10 +490,14 @@ fn execute_for<K: Keeper, L: Ledger>(
     splits: &mut Steps<L>,
 ) -> Result<(), Stop>
     requires attached { IsTrue (K.seen work.old.keeper.now).store.attached }
-    requires tables { IsTrue (K.seen work.old.keeper.now).tells → length app.now.models ≤ length (K.seen work.old.keeper.now).state.tables }
+    requires tables { IsTrue (K.seen work.old.keeper.now).tells
+        → length app.now.models ≤ length (K.seen work.old.keeper.now).state.tables }
     requires no_record { ctx.now.this ≡ None }
     requires runnable { AreRunnable ctx.now.number (statements_of body.now) }
-    ensures left { IsTold K.seen work.new → OnOk result (Executes app.now ctx.now (Statement.each (question_of query.now) (statements_of body.now)) pc.now (faceted (state_of K.seen work.old) env.old out.old) (faceted (state_of K.seen work.new) env.new out.new)) }
+    ensures left { IsTold K.seen work.new
+        → OnOk result (Executes app.now ctx.now (Statement.each (question_of query.now)
+        (statements_of body.now)) pc.now (faceted (state_of K.seen work.old) env.old out.old)
+        (faceted (state_of K.seen work.new) env.new out.new)) }
     ensures told { OnOk result (StaysTold K.seen work.old work.new) }
     ensures keeps { WritesWork K.seen work.old work.new result }
 {
@@ -467,10 +526,15 @@ fn execute_tuples<K: Keeper, L: Ledger>(
     splits: &mut Steps<L>,
 ) -> Result<(), Stop>
     requires attached { IsTrue (K.seen work.old.keeper.now).store.attached }
-    requires tables { IsTrue (K.seen work.old.keeper.now).tells → length app.now.models ≤ length (K.seen work.old.keeper.now).state.tables }
+    requires tables { IsTrue (K.seen work.old.keeper.now).tells
+        → length app.now.models ≤ length (K.seen work.old.keeper.now).state.tables }
     requires no_record { ctx.now.this ≡ None }
     requires runnable { AreRunnable ctx.now.number (statements_of body.now) }
-    ensures left { IsTold K.seen work.new → OnOk result (RunsEach (bound_at app.now ctx.now (binders_of binders.now) (statements_of body.now)) (MayBindAt app.now ctx.now (binders_of binders.now) (statements_of body.now)) (live_under pc.now tuples.now) (faceted (state_of K.seen work.old) env.old out.old) (faceted (state_of K.seen work.new) env.new out.new)) }
+    ensures left { IsTold K.seen work.new
+        → OnOk result (RunsEach (bound_at app.now ctx.now (binders_of binders.now)
+        (statements_of body.now)) (MayBindAt app.now ctx.now (binders_of binders.now)
+        (statements_of body.now)) (live_under pc.now tuples.now) (faceted (state_of K.seen work.old)
+        env.old out.old) (faceted (state_of K.seen work.new) env.new out.new)) }
     ensures told { OnOk result (StaysTold K.seen work.old work.new) }
     ensures keeps { WritesWork K.seen work.old work.new result }
 {
@@ -498,10 +562,16 @@ fn execute_tuple<K: Keeper, L: Ledger>(
     splits: &mut Steps<L>,
 ) -> Result<(), Stop>
     requires attached { IsTrue (K.seen work.old.keeper.now).store.attached }
-    requires tables { IsTrue (K.seen work.old.keeper.now).tells → length app.now.models ≤ length (K.seen work.old.keeper.now).state.tables }
+    requires tables { IsTrue (K.seen work.old.keeper.now).tells
+        → length app.now.models ≤ length (K.seen work.old.keeper.now).state.tables }
     requires no_record { ctx.now.this ≡ None }
     requires runnable { AreRunnable ctx.now.number (statements_of body.now) }
-    ensures left { IsTold K.seen work.new → OnOk result (Runs (λ w. bound_at app.now ctx.now (binders_of binders.now) (statements_of body.now) w tuple.now.ids) (λ n w. MayBindAt app.now ctx.now (binders_of binders.now) (statements_of body.now) n w tuple.now.ids) (λ w. holds w pc.now && holds w tuple.now.guard) (faceted (state_of K.seen work.old) env.old out.old) (faceted (state_of K.seen work.new) env.new out.new)) }
+    ensures left { IsTold K.seen work.new
+        → OnOk result (Runs (λ w. bound_at app.now ctx.now (binders_of binders.now)
+        (statements_of body.now) w tuple.now.ids) (λ n w. MayBindAt app.now ctx.now
+        (binders_of binders.now) (statements_of body.now) n w tuple.now.ids)
+        (λ w. holds w pc.now && holds w tuple.now.guard) (faceted (state_of K.seen work.old) env.old
+        out.old) (faceted (state_of K.seen work.new) env.new out.new)) }
     ensures told { OnOk result (StaysTold K.seen work.old work.new) }
     ensures keeps { WritesWork K.seen work.old work.new result }
 {
@@ -533,10 +603,16 @@ fn execute_bound<K: Keeper, L: Ledger>(
     splits: &mut Steps<L>,
 ) -> Result<(), Stop>
     requires attached { IsTrue (K.seen work.old.keeper.now).store.attached }
-    requires tables { IsTrue (K.seen work.old.keeper.now).tells → length app.now.models ≤ length (K.seen work.old.keeper.now).state.tables }
+    requires tables { IsTrue (K.seen work.old.keeper.now).tells
+        → length app.now.models ≤ length (K.seen work.old.keeper.now).state.tables }
     requires no_record { ctx.now.this ≡ None }
     requires runnable { AreRunnable ctx.now.number (statements_of body.now) }
-    ensures left { IsTold K.seen work.new → OnOk result (Runs (λ w. bound_at app.now ctx.now (binders_of binders.now) (statements_of body.now) w ids.now) (λ n w. MayBindAt app.now ctx.now (binders_of binders.now) (statements_of body.now) n w ids.now) (λ w. holds w pc.now) (faceted (state_of K.seen work.old) env.old out.old) (faceted (state_of K.seen work.new) env.new out.new)) }
+    ensures left { IsTold K.seen work.new
+        → OnOk result (Runs (λ w. bound_at app.now ctx.now (binders_of binders.now)
+        (statements_of body.now) w ids.now) (λ n w. MayBindAt app.now ctx.now
+        (binders_of binders.now) (statements_of body.now) n w ids.now) (λ w. holds w pc.now)
+        (faceted (state_of K.seen work.old) env.old out.old) (faceted (state_of K.seen work.new)
+        env.new out.new)) }
     ensures told { OnOk result (StaysTold K.seen work.old work.new) }
     ensures keeps { WritesWork K.seen work.old work.new result }
 {
@@ -566,13 +642,17 @@ fn execute_create<K: Keeper, L: Ledger>(
     splits: &mut Steps<L>,
 ) -> Result<(), Stop>
     requires attached { IsTrue (K.seen work.old.keeper.now).store.attached }
-    requires tables { IsTrue (K.seen work.old.keeper.now).tells → length app.now.models ≤ length (K.seen work.old.keeper.now).state.tables }
+    requires tables { IsTrue (K.seen work.old.keeper.now).tells
+        → length app.now.models ≤ length (K.seen work.old.keeper.now).state.tables }
     requires no_record { ctx.now.this ≡ None }
     requires numbered { 0 < ctx.now.number }
     requires in_range { ctx.now.number < 2 ^ 40 }
     requires site { site < 64 }
     requires runnable { AreRunnable ctx.now.number (statements_of body.now) }
-    ensures left { IsTold K.seen work.new → OnOk result (Executes app.now ctx.now (Statement.create name.now model.now site (assigned_of cells.now) (statements_of body.now)) pc.now (faceted (state_of K.seen work.old) env.old out.old) (faceted (state_of K.seen work.new) env.new out.new)) }
+    ensures left { IsTold K.seen work.new
+        → OnOk result (Executes app.now ctx.now (Statement.create name.now model.now site
+        (assigned_of cells.now) (statements_of body.now)) pc.now (faceted (state_of K.seen work.old)
+        env.old out.old) (faceted (state_of K.seen work.new) env.new out.new)) }
     ensures told { OnOk result (StaysTold K.seen work.old work.new) }
     ensures keeps { WritesWork K.seen work.old work.new result }
 {
@@ -603,7 +683,8 @@ fn execute_made<K: Keeper, L: Ledger>(
     splits: &mut Steps<L>,
 ) -> Result<(), Stop>
     requires attached { IsTrue (K.seen work.old.keeper.now).store.attached }
-    requires tables { IsTrue (K.seen work.old.keeper.now).tells → length app.now.models ≤ length (K.seen work.old.keeper.now).state.tables }
+    requires tables { IsTrue (K.seen work.old.keeper.now).tells
+        → length app.now.models ≤ length (K.seen work.old.keeper.now).state.tables }
     requires no_record { ctx.now.this ≡ None }
     requires numbered { 0 < ctx.now.number }
     requires in_range { ctx.now.number < 2 ^ 40 }
@@ -611,7 +692,13 @@ fn execute_made<K: Keeper, L: Ledger>(
     requires model { model < length app.now.models }
     requires few { model < 64 }
     requires runnable { AreRunnable ctx.now.number (statements_of body.now) }
-    ensures left { IsTold K.seen work.new → OnOk result (Runs (λ w. created (setting_at app.now ctx.now w) name.now (Some model) site (assigned_of cells.now) (leaves_all (setting_at app.now ctx.now w) (statements_of body.now))) (λ n w. MayCreate n (setting_at app.now ctx.now w) name.now (Some model) site (assigned_of cells.now) (MayRunAll n (setting_at app.now ctx.now w) (statements_of body.now))) (λ w. holds w pc.now) (faceted (state_of K.seen work.old) env.old out.old) (faceted (state_of K.seen work.new) env.new out.new)) }
+    ensures left { IsTold K.seen work.new
+        → OnOk result (Runs (λ w. created (setting_at app.now ctx.now w) name.now (Some model) site
+        (assigned_of cells.now) (leaves_all (setting_at app.now ctx.now w)
+        (statements_of body.now))) (λ n w. MayCreate n (setting_at app.now ctx.now w) name.now
+        (Some model) site (assigned_of cells.now) (MayRunAll n (setting_at app.now ctx.now w)
+        (statements_of body.now))) (λ w. holds w pc.now) (faceted (state_of K.seen work.old) env.old
+        out.old) (faceted (state_of K.seen work.new) env.new out.new)) }
     ensures told { OnOk result (StaysTold K.seen work.old work.new) }
     ensures keeps { WritesWork K.seen work.old work.new result }
 {
@@ -640,9 +727,13 @@ fn execute_update<K: Keeper, L: Ledger>(
     splits: &mut Steps<L>,
 ) -> Result<(), Stop>
     requires attached { IsTrue (K.seen work.old.keeper.now).store.attached }
-    requires tables { IsTrue (K.seen work.old.keeper.now).tells → length app.now.models ≤ length (K.seen work.old.keeper.now).state.tables }
+    requires tables { IsTrue (K.seen work.old.keeper.now).tells
+        → length app.now.models ≤ length (K.seen work.old.keeper.now).state.tables }
     requires no_record { ctx.now.this ≡ None }
-    ensures left { IsTold K.seen work.new → OnOk result ((out : List (List (ℕ × Bool) × Piece)) → Executes app.now ctx.now (Statement.update model.now (expression_of e.now) (assigned_of cells.now)) pc.now (faceted (state_of K.seen work.old) env.now out) (faceted (state_of K.seen work.new) env.now out)) }
+    ensures left { IsTold K.seen work.new → OnOk result ((out : List (List (ℕ × Bool) × Piece))
+        → Executes app.now ctx.now (Statement.update model.now (expression_of e.now)
+        (assigned_of cells.now)) pc.now (faceted (state_of K.seen work.old) env.now out)
+        (faceted (state_of K.seen work.new) env.now out)) }
     ensures told { OnOk result (StaysTold K.seen work.old work.new) }
     ensures keeps { WritesWork K.seen work.old work.new result }
 {
@@ -668,9 +759,13 @@ fn execute_delete<K: Keeper, L: Ledger>(
     splits: &mut Steps<L>,
 ) -> Result<(), Stop>
     requires attached { IsTrue (K.seen work.old.keeper.now).store.attached }
-    requires tables { IsTrue (K.seen work.old.keeper.now).tells → length app.now.models ≤ length (K.seen work.old.keeper.now).state.tables }
+    requires tables { IsTrue (K.seen work.old.keeper.now).tells
+        → length app.now.models ≤ length (K.seen work.old.keeper.now).state.tables }
     requires no_record { ctx.now.this ≡ None }
-    ensures left { IsTold K.seen work.new → OnOk result ((out : List (List (ℕ × Bool) × Piece)) → Executes app.now ctx.now (Statement.delete model.now (expression_of e.now)) pc.now (faceted (state_of K.seen work.old) env.now out) (faceted (state_of K.seen work.new) env.now out)) }
+    ensures left { IsTold K.seen work.new → OnOk result ((out : List (List (ℕ × Bool) × Piece))
+        → Executes app.now ctx.now (Statement.delete model.now (expression_of e.now)) pc.now
+        (faceted (state_of K.seen work.old) env.now out) (faceted (state_of K.seen work.new) env.now
+        out)) }
     ensures told { OnOk result (StaysTold K.seen work.old work.new) }
     ensures keeps { WritesWork K.seen work.old work.new result }
 {

@@ -1,5 +1,5 @@
-//! Statements over faceted rows, under a path condition, for all assignments at once; and the page of their
-//! pieces.
+//! Statements over faceted rows, under a path condition, for all assignments at once; and the page
+//! of their pieces.
 #![tactic(auto)]
 
 mod assigning;

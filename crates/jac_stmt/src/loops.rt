@@ -38,7 +38,8 @@ pub(crate) fn new_id(app: &App, ctx: &Ctx, model: u8, site: u8) -> Id
     requires site { site < 64 }
     requires model { model < length app.now.models }
     requires few { model < 64 }
-    ensures id { result ≡ around_id (is_nested_at (application_of app.now).models model) ctx.now.around (record_id ctx.now.number site model) }
+    ensures id { result ≡ around_id (is_nested_at (application_of app.now).models model)
+        ctx.now.around (record_id ctx.now.number site model) }
     ensures made { IsMade model (ctx.now.number + 1) result }
     ensures one { is_id_of result (model_of_id result) ≡ true }
 {

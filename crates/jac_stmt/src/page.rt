@@ -33,7 +33,8 @@ pub fn page_of(alloc: Global, out: &Out, assignment: &Assignment) -> Result<Page
 }
 
 fn found(alloc: Global, to: Option<&Txt>, body: Bytes) -> Result<Page, Memory>
-    ensures { IfOk result (λ p. p ≡ found_page (option_map location (option_copied to.entry)) body) }
+    ensures { IfOk result (λ p. p ≡ found_page (option_map location (option_copied to.entry))
+        body) }
 {
     match to {
         None => Ok(Page {
@@ -71,7 +72,8 @@ fn add_bytes(
     item: &(Guard, Piece),
     assignment: &Assignment,
 ) -> Result<(), Memory>
-    ensures { OnOk result (body.new.items ≡ body.old.items ++ body_of (seen (shown assignment.now) (item.now ∷ []))) }
+    ensures { OnOk result (body.new.items ≡ body.old.items ++ body_of (seen (shown assignment.now)
+        (item.now ∷ []))) }
 {
     if item.0.holds(assignment) {
         if let Piece::Added(bytes) = &item.1 {
@@ -102,7 +104,8 @@ fn says_missing(item: &(Guard, Piece), assignment: &Assignment) -> bool
 }
 
 fn last_redirect<'p>(pieces: &'p [(Guard, Piece)], assignment: &Assignment) -> Option<&'p Txt>
-    ensures { option_map location (option_copied result) ≡ redirect_of None (seen (shown assignment.now) pieces.now) }
+    ensures { option_map location (option_copied result) ≡ redirect_of None
+        (seen (shown assignment.now) pieces.now) }
 {
     let mut last = None;
     'pieces: for item in pieces {
@@ -117,7 +120,9 @@ fn redirect_after<'p>(
     item: &'p (Guard, Piece),
     assignment: &Assignment,
 ) -> Option<&'p Txt>
-    ensures { option_map location (option_copied result) ≡ redirect_of (option_map location (option_copied last.entry)) (seen (shown assignment.now) (item.now ∷ [])) }
+    ensures { option_map location (option_copied result) ≡ redirect_of
+        (option_map location (option_copied last.entry)) (seen (shown assignment.now)
+        (item.now ∷ [])) }
 {
     if !item.0.holds(assignment) {
         return last;

@@ -33,7 +33,8 @@ pub(crate) fn add_value(
     value: &Facet<Value>,
     form: Form,
 ) -> Result<(), Memory>
-    ensures { OnOk result ((w : ℕ → Bool) → seen w out.new ≡ seen w out.old ++ (if holds w pc.now then piece_of form (at w value.now) ∷ [] else [])) }
+    ensures { OnOk result ((w : ℕ → Bool) → seen w out.new ≡ seen w out.old ++ (if holds w pc.now
+        then piece_of form (at w value.now) ∷ [] else [])) }
 {
     let leaves = value.leaves_under(alloc, pc)?;
     add_leaves(alloc, out, leaves.into_vec(), form)?;
@@ -46,7 +47,8 @@ fn add_leaves(
     leaves: Vec<(Guard, Value)>,
     form: Form,
 ) -> Result<(), Memory>
-    ensures { OnOk result ((w : ℕ → Bool) → seen w out.new ≡ seen w out.old ++ map (piece_of form) (seen w leaves.items)) }
+    ensures { OnOk result ((w : ℕ → Bool) → seen w out.new ≡ seen w out.old ++ map (piece_of form)
+        (seen w leaves.items)) }
 {
     'leaves: for (guard, value) in leaves {
         add_leaf(alloc, out, guard, &value, form)?;
@@ -61,7 +63,8 @@ fn add_leaf(
     value: &Value,
     form: Form,
 ) -> Result<(), Memory>
-    ensures { OnOk result ((w : ℕ → Bool) → seen w out.new ≡ seen w out.old ++ (if holds w guard then piece_of form value.now ∷ [] else [])) }
+    ensures { OnOk result ((w : ℕ → Bool) → seen w out.new ≡ seen w out.old ++ (if holds w guard
+        then piece_of form value.now ∷ [] else [])) }
 {
     let piece = make_piece(alloc, value, form)?;
     out.push(guard, piece)?;
@@ -70,7 +73,8 @@ fn add_leaf(
 
 /// Adds that the page isn't there, wherever the path condition holds.
 pub(crate) fn add_missing(alloc: Global, out: &mut Out, pc: &Guard) -> Result<(), Memory>
-    ensures { OnOk result ((w : ℕ → Bool) → seen w out.new ≡ seen w out.old ++ (if holds w pc.now then piece.Missing ∷ [] else [])) }
+    ensures { OnOk result ((w : ℕ → Bool) → seen w out.new ≡ seen w out.old ++ (if holds w pc.now
+        then piece.Missing ∷ [] else [])) }
 {
     let guard = from_world(pc.copy(alloc))?;
     out.push(guard, Piece::Missing)?;

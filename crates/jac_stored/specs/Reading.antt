@@ -59,16 +59,21 @@ abbrev pub NumbersBehind : ℕ → ℕ → ℕ → ℕ → List ℕ → Type 0
 NumbersBehind low high left value = Led (IsBehind low high left value) (bytes_high_first left)
 
 -- a number in the middle of being read: what it leads to from here, the whole leads to
-pub record Halfway (low high width : ℕ) (bytes : List ℕ) (left value : ℕ) (rest : List ℕ) : Type 0 where
-  pub from : low / 256 ^ left ≤ value
-  pub to : value ≤ high / 256 ^ left
-  pub spelled : (number : ℕ) (after : List ℕ) → number / 256 ^ left ≡ value → rest ≡ bytes_high_first left number ++ after → bytes ≡ bytes_high_first width number ++ after
-  pub stops : (n : ℕ) → Stops (NumbersBehind low high left value) rest n → Stops (Numbers low high width) bytes n
+pub record Halfway (low high width : ℕ) (bytes : List ℕ) (left value : ℕ) (rest : List ℕ) : Type 0
+  where
+    pub from : low / 256 ^ left ≤ value
+    pub to : value ≤ high / 256 ^ left
+    pub spelled : (number : ℕ) (after : List ℕ) → number / 256 ^ left ≡ value
+        → rest ≡ bytes_high_first left number ++ after → bytes ≡ bytes_high_first width number
+        ++ after
+    pub stops : (n : ℕ) → Stops (NumbersBehind low high left value) rest n
+        → Stops (Numbers low high width) bytes n
 
 -- the number stands in front
-pub record IsNumber (low high width : ℕ) (bytes : List ℕ) (number : ℕ) (after : List ℕ) : Type 0 where
-  pub between : IsBetween low high number
-  pub split : bytes ≡ bytes_high_first width number ++ after
+pub record IsNumber (low high width : ℕ) (bytes : List ℕ) (number : ℕ) (after : List ℕ) : Type 0
+  where
+    pub between : IsBetween low high number
+    pub split : bytes ≡ bytes_high_first width number ++ after
 
 -- a cell of the kind
 pub record IsOf (kind : Kind) (cell : Value) : Type 0 where
@@ -141,7 +146,8 @@ most_top = 0xFF_FFFF_FFFF
 abbrev pub most_middle : ℕ → ℕ
 most_middle top = if top == 0 then 0xF_FFFF_FFFF else 0xFFFF_FFFF_FFFF
 
--- the least byte behind these fourteen: an id is 4096 or more, and so is the second part of a wide one
+-- the least byte behind these fourteen: an id is 4096 or more, and so is the second part of a wide
+-- one
 abbrev pub least_next : ℕ → ℕ
 least_next front = if front % 2 ^ 36 == 0 then 16 else 0
 
@@ -209,12 +215,15 @@ pub record IsBehindByte (u : Unread) (b : ℕ) (next : Unread) : Type 0 where
 -- a text in the middle of being read
 pub record TextSoFar (long : ℕ) (bytes : List ℕ) (u : Unread) (rest : List ℕ) : Type 0 where
   pub can_end : CanEnd u
-  pub spelled : (text after : List ℕ) → IsLeft u text → rest ≡ text ++ after → IsTextBefore long bytes after
+  pub spelled : (text after : List ℕ) → IsLeft u text → rest ≡ text ++ after
+      → IsTextBefore long bytes after
   pub stops : (n : ℕ) → Stops (LeftOf u) rest n → Stops (TextsOf long) bytes n
 
 -- the cells of these kinds in the middle of being read
-pub record CellsSoFar (kinds : List Kind) (body : List ℕ) (made : List Value) (to_come : List Kind) (rest : List ℕ) : Type 0 where
-  pub spelled : (cells : List Value) → AreCells to_come cells → rest ≡ cells_bytes cells → AreCells kinds (made ++ cells) × (body ≡ cells_bytes (made ++ cells))
+pub record CellsSoFar (kinds : List Kind) (body : List ℕ) (made : List Value) (to_come : List Kind)
+    (rest : List ℕ) : Type 0 where
+  pub spelled : (cells : List Value) → AreCells to_come cells → rest ≡ cells_bytes cells
+      → AreCells kinds (made ++ cells) × (body ≡ cells_bytes (made ++ cells))
   pub stops : (n : ℕ) → Stops (SpellsCells to_come) rest n → Stops (SpellsCells kinds) body n
 
 -- the cells, all of the bytes
@@ -249,9 +258,11 @@ next_low None = 2 ^ 128
 next_low (Some low) = low
 
 -- a guard in the middle of being read
-pub record GuardSoFar (jvars : List ℕ) (made : List (ℕ × Bool)) (low : ℕ) (rest : List ℕ) : Type 0 where
-  pub spelled : (g : List (ℕ × Bool)) → IsGuardFrom low g → rest ≡ guard_bytes g → IsGuard (made ++ g) × (jvars ≡ guard_bytes (made ++ g))
-  pub stops : (n : ℕ) → Stops (SpellsFrom low) rest n → Stops SpellsGuard jvars n
+pub record GuardSoFar (jvars : List ℕ) (made : List (ℕ × Bool)) (low : ℕ) (rest : List ℕ) : Type 0
+  where
+    pub spelled : (g : List (ℕ × Bool)) → IsGuardFrom low g → rest ≡ guard_bytes g
+        → IsGuard (made ++ g) × (jvars ≡ guard_bytes (made ++ g))
+    pub stops : (n : ℕ) → Stops (SpellsFrom low) rest n → Stops SpellsGuard jvars n
 
 -- the guard, all of the bytes
 pub record IsSpelledGuard (jvars : List ℕ) (g : List (ℕ × Bool)) : Type 0 where

@@ -9,8 +9,8 @@ use jac_value::{Id, Kind};
 use std::alloc::Global;
 use thiserror::Error;
 
-/// Why bytes are no stored row. A place is the length of the longest front that can go on to a right
-/// spelling.
+/// Why bytes are no stored row. A place is the length of the longest front that can go on to a
+/// right spelling.
 #[derive(Clone, Copy, Debug, PartialEq, Eq, Error)]
 pub enum RowFault {
     /// The place in the bytes of the guard. It comes before a fault of the cells.
@@ -33,8 +33,10 @@ pub fn decode_row(
     body: &[u8],
 ) -> Result<Row, RowFault>
     ensures row { IfOk result (IsRowOf id kinds.now jvars.now body.now) }
-    ensures guard_fault { (at : ℕ) → IsErrOf result (RowFault.Guard at) → IsGuardFault jvars.now at }
-    ensures body_fault { (at : ℕ) → IsErrOf result (RowFault.Body at) → IsFaultBehindGuard kinds.now jvars.now body.now at }
+    ensures guard_fault { (at : ℕ) → IsErrOf result (RowFault.Guard at)
+        → IsGuardFault jvars.now at }
+    ensures body_fault { (at : ℕ) → IsErrOf result (RowFault.Body at)
+        → IsFaultBehindGuard kinds.now jvars.now body.now at }
 {
     let guard = match guard(alloc, jvars) {
         Ok(guard) => guard,

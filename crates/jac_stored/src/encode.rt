@@ -28,7 +28,8 @@ pub struct Stored {
 pub fn encode_row(alloc: Global, row: &Row) -> Result<Stored, Memory>
     ensures jvars { IfOk result (λ s. s.jvars ≡ guard_bytes row.now.guard) }
     ensures body { IfOk result (λ s. s.body ≡ cells_bytes row.now.cells) }
-    ensures right { IfOk result (λ s. (kinds : List Kind) → have_kinds kinds row.now.cells ≡ true → IsRowOf row.now.id kinds s.jvars s.body row.now) }
+    ensures right { IfOk result (λ s. (kinds : List Kind) → have_kinds kinds row.now.cells ≡ true
+        → IsRowOf row.now.id kinds s.jvars s.body row.now) }
     ensures spelled { OnOk result (CanBeSpelled row.now) }
 {
     let jvars = encode_guard(alloc, row.guard.pairs())?;
@@ -50,7 +51,8 @@ fn encode_guard(alloc: Global, pairs: &[(Label, bool)]) -> Result<Bytes, Memory>
 }
 
 fn push_pair(bytes: &mut Vec<u8>, label: Label, sign: bool) -> Result<(), Memory>
-    ensures bytes { OnOk result (bytes.new.items ≡ bytes.old.items ++ (to_be_bytes w128 label ++ (sign_byte sign ∷ []))) }
+    ensures bytes { OnOk result (bytes.new.items ≡ bytes.old.items ++ (to_be_bytes w128 label
+        ++ (sign_byte sign ∷ []))) }
     ensures label { label < 2 ^ 128 }
 {
     bytes.extend_from_slice(&encode_label(label))?;
@@ -115,7 +117,8 @@ fn push_cell(bytes: &mut Vec<u8>, cell: &Value) -> Result<(), Memory>
 }
 
 fn push_id(bytes: &mut Vec<u8>, id: Id) -> Result<(), Memory>
-    ensures bytes { OnOk result (bytes.new.items ≡ bytes.old.items ++ (4 ∷ (1 ∷ to_be_bytes w128 id))) }
+    ensures bytes { OnOk result (bytes.new.items ≡ bytes.old.items
+        ++ (4 ∷ (1 ∷ to_be_bytes w128 id))) }
     ensures narrow { id < 2 ^ 128 }
 {
     bytes.extend_from_slice(&[4, 1])?;

@@ -9,19 +9,24 @@ abbrev mutual
   pub ExpandsStatement : Statement → Statement → Type 0
   ExpandsStatement (Statement.template t) s =
       (ss : Statements) × Expands t (Expansion.statements ss) × (s ≡ Statement.block ss)
-  ExpandsStatement (Statement.bind x e body) s = (out : Statements) × ExpandsBody body out × (s ≡ Statement.bind x e out)
+  ExpandsStatement (Statement.bind x e body) s = (out : Statements) × ExpandsBody body out
+      × (s ≡ Statement.bind x e out)
   ExpandsStatement (Statement.branch c body other) s =
-      (out : Statements) × (rest : Statements) × ExpandsBody body out × ExpandsBody other rest × (s ≡ Statement.branch c out rest)
-  ExpandsStatement (Statement.each q body) s = (out : Statements) × ExpandsBody body out × (s ≡ Statement.each q out)
+      (out : Statements) × (rest : Statements) × ExpandsBody body out × ExpandsBody other rest
+      × (s ≡ Statement.branch c out rest)
+  ExpandsStatement (Statement.each q body) s = (out : Statements) × ExpandsBody body out
+      × (s ≡ Statement.each q out)
   ExpandsStatement (Statement.create x m site cells body) s =
       (out : Statements) × ExpandsBody body out × (s ≡ Statement.create x m site cells out)
-  ExpandsStatement (Statement.block body) s = (out : Statements) × ExpandsBody body out × (s ≡ Statement.block out)
+  ExpandsStatement (Statement.block body) s = (out : Statements) × ExpandsBody body out
+      × (s ≡ Statement.block out)
   ExpandsStatement other s = s ≡ other
 
   pub ExpandsBody : Statements → Statements → Type 0
   ExpandsBody Statements.none ss = ss ≡ Statements.none
   ExpandsBody (Statements.more s rest) ss =
-      (out : Statement) × (more : Statements) × ExpandsStatement s out × ExpandsBody rest more × (ss ≡ Statements.more out more)
+      (out : Statement) × (more : Statements) × ExpandsStatement s out × ExpandsBody rest more
+      × (ss ≡ Statements.more out more)
 
 -- the first template with a fault, in the order of the text, has this one
 abbrev mutual
@@ -45,7 +50,8 @@ ExpandsView v out = (body : Statements) × ExpandsBody v.body body × (out ≡ r
 
 abbrev pub ExpandsViews : List Page → List Page → Type 0
 ExpandsViews [] out = out ≡ []
-ExpandsViews (v ∷ vs) out = (first : Page) × (rest : List Page) × ExpandsView v first × ExpandsViews vs rest × (out ≡ first ∷ rest)
+ExpandsViews (v ∷ vs) out = (first : Page) × (rest : List Page) × ExpandsView v first
+    × ExpandsViews vs rest × (out ≡ first ∷ rest)
 
 -- the first view with a fault has this number, where the first one's is `number`, and this fault
 abbrev pub ViewsFault : ℕ → List Page → ℕ → Fault → Type 0

@@ -9,20 +9,24 @@ use Rattle.jac_template.specs.Tags.{Mark, Meaning, Means}
 abbrev pub MarkAt : Mark → List Piece → List Piece → Type 0
 MarkAt m from to = (p : Piece) × (from ≡ p ∷ to) × Means p (Meaning.mark m)
 
--- the statement is at the front of the pieces `from`, inside of `depth` blocks, and the pieces `to` follow it
+-- the statement is at the front of the pieces `from`, inside of `depth` blocks, and the pieces `to`
+-- follow it
 abbrev mutual
   pub StatementAt : Statement → ℕ → List Piece → List Piece → Type 0
   StatementAt (Statement.put e) depth from to = MarkAt (Mark.put e) from to
   StatementAt (Statement.escape e) depth from to = MarkAt (Mark.escape e) from to
   StatementAt (Statement.bind x e body) depth from to =
       (inside : List Piece) × (rest : List Piece) × (depth < 64)
-      × MarkAt (Mark.bind x e) from inside × BodyAt body (suc depth) inside rest × MarkAt Mark.finish rest to
+      × MarkAt (Mark.bind x e) from inside × BodyAt body (suc depth) inside rest
+      × MarkAt Mark.finish rest to
   StatementAt (Statement.each q body) depth from to =
       (inside : List Piece) × (rest : List Piece) × (depth < 64)
-      × MarkAt (Mark.each q) from inside × BodyAt body (suc depth) inside rest × MarkAt Mark.finish rest to
+      × MarkAt (Mark.each q) from inside × BodyAt body (suc depth) inside rest
+      × MarkAt Mark.finish rest to
   StatementAt (Statement.branch c body other) depth from to =
       (inside : List Piece) × (rest : List Piece) × (depth < 64)
-      × MarkAt (Mark.branch c) from inside × BodyAt body (suc depth) inside rest × OtherAt other (suc depth) rest to
+      × MarkAt (Mark.branch c) from inside × BodyAt body (suc depth) inside rest
+      × OtherAt other (suc depth) rest to
   StatementAt s depth from to = ⊥
 
   -- what ends an `if`: `end`, or `else`, statements and `end`
@@ -32,12 +36,14 @@ abbrev mutual
       ⊎ ((inside : List Piece) × MarkAt Mark.otherwise from inside × MarkAt Mark.finish inside to)
   OtherAt (Statements.more s ss) depth from to =
       (inside : List Piece) × (middle : List Piece) × (rest : List Piece)
-      × MarkAt Mark.otherwise from inside × StatementAt s depth inside middle × BodyAt ss depth middle rest × MarkAt Mark.finish rest to
+      × MarkAt Mark.otherwise from inside × StatementAt s depth inside middle
+      × BodyAt ss depth middle rest × MarkAt Mark.finish rest to
 
   -- the statements, one after another
   pub BodyAt : Statements → ℕ → List Piece → List Piece → Type 0
   BodyAt Statements.none depth from to = from ≡ to
-  BodyAt (Statements.more s ss) depth from to = (rest : List Piece) × StatementAt s depth from rest × BodyAt ss depth rest to
+  BodyAt (Statements.more s ss) depth from to = (rest : List Piece) × StatementAt s depth from rest
+      × BodyAt ss depth rest to
 
 -- a block that is open: the place of its tag, and whether an `else` may stand directly in it
 pub record Block : Type 0 where
@@ -49,7 +55,8 @@ block place is_choice = record { place = place; is_choice = is_choice }
 
 -- the open blocks inside of which one more is opened, of which there are at most 64
 abbrev pub within : ℕ → Bool → List Block → Option (List Block)
-within place is_choice blocks = if nat_lt (length blocks) 64 then Some (block place is_choice ∷ blocks) else None
+within place is_choice blocks = if nat_lt (length blocks) 64
+    then Some (block place is_choice ∷ blocks) else None
 
 -- the blocks without the innermost
 abbrev pub ended : List Block → Option (List Block)
@@ -61,7 +68,8 @@ abbrev pub turned : List Block → Option (List Block)
 turned [] = None
 turned (b ∷ blocks) = if b.is_choice then Some (block b.place false ∷ blocks) else None
 
--- the blocks that are open behind a mark at this place, from the innermost one out; none where the mark may not stand there
+-- the blocks that are open behind a mark at this place, from the innermost one out; none where the
+-- mark may not stand there
 abbrev pub behind : ℕ → Mark → List Block → Option (List Block)
 behind place (Mark.put e) blocks = Some blocks
 behind place (Mark.escape e) blocks = Some blocks
@@ -82,11 +90,13 @@ abbrev pub EndFault : List Block → Fault → Type 0
 EndFault [] fault = ⊥
 EndFault (b ∷ blocks) fault = fault ≡ Fault.unclosed b.place
 
--- the first fault of the pieces, inside of the open blocks: that of the first piece, or that it may not stand there, or else
--- the first fault of what follows
+-- the first fault of the pieces, inside of the open blocks: that of the first piece, or that it may
+-- not stand there, or else the first fault of what follows
 abbrev pub FirstFault : List Block → List Piece → Fault → Type 0
 FirstFault blocks [] fault = EndFault blocks fault
 FirstFault blocks (p ∷ ps) fault =
     Means p (Meaning.fault fault)
-    ⊎ ((m : Mark) × Means p (Meaning.mark m) × (behind p.place m blocks ≡ None) × (fault ≡ misplaced p.place m))
-    ⊎ ((m : Mark) × (next : List Block) × Means p (Meaning.mark m) × (behind p.place m blocks ≡ Some next) × FirstFault next ps fault)
+    ⊎ ((m : Mark) × Means p (Meaning.mark m) × (behind p.place m blocks ≡ None)
+    × (fault ≡ misplaced p.place m))
+    ⊎ ((m : Mark) × (next : List Block) × Means p (Meaning.mark m)
+    × (behind p.place m blocks ≡ Some next) × FirstFault next ps fault)

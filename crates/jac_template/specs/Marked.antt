@@ -23,7 +23,8 @@ mark_of read.End = Mark.finish
 
 -- the content of the tag at this place is no tree, and this tells why
 abbrev pub IsContentFault : ℕ → List ℕ → Fault → Type 0
-IsContentFault place content f = (fault : TreeFault) × IsFaultOf content fault × (f ≡ Fault.tree place fault)
+IsContentFault place content f = (fault : TreeFault) × IsFaultOf content fault
+    × (f ≡ Fault.tree place fault)
 
 -- the fault is one of the bytes, and not want of memory
 abbrev pub is_of_bytes : TreeFault → Bool

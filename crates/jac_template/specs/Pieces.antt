@@ -19,19 +19,22 @@ abbrev pub literal_length : List ℕ → ℕ
 literal_length [] = 0
 literal_length (b ∷ bs) = if begins_tag (b ∷ bs) then 0 else literal_length bs + 1
 
--- how many bytes stand before the end of a tag, which is the first `mark` and `}` outside of a quoted text
+-- how many bytes stand before the end of a tag, which is the first `mark` and `}` outside of a
+-- quoted text
 abbrev mutual
   pub content_length : ℕ → List ℕ → Option ℕ
   content_length mark [] = None
   content_length mark (b ∷ bs) =
       if begins_with mark 125 (b ∷ bs) then Some 0
-      else option_map (λ n. n + 1) (if b == 34 then quoted_length mark bs else content_length mark bs)
+      else option_map (λ n. n + 1) (if b == 34 then quoted_length mark bs
+      else content_length mark bs)
 
   -- from within a quoted text, which a quote ends
   pub quoted_length : ℕ → List ℕ → Option ℕ
   quoted_length mark [] = None
   quoted_length mark (b ∷ bs) =
-      option_map (λ n. n + 1) (if b == 34 then content_length mark bs else if b == 92 then escaped_length mark bs else quoted_length mark bs)
+      option_map (λ n. n + 1) (if b == 34 then content_length mark bs else if b == 92
+      then escaped_length mark bs else quoted_length mark bs)
 
   -- from behind a backslash in a quoted text: whatever follows does not end it
   pub escaped_length : ℕ → List ℕ → Option ℕ
@@ -54,8 +57,10 @@ tag_cut kind inside None = cut kinds.Endless [] (length inside + 2)
 
 abbrev pub first_cut : List ℕ → Cut
 first_cut bytes =
-    if begins_with 123 123 bytes then tag_cut kinds.Output (drop 2 bytes) (content_length 125 (drop 2 bytes)) else
-    if begins_with 123 37 bytes then tag_cut kinds.Control (drop 2 bytes) (content_length 37 (drop 2 bytes)) else
+    if begins_with 123 123 bytes then tag_cut kinds.Output (drop 2 bytes)
+    (content_length 125 (drop 2 bytes)) else
+    if begins_with 123 37 bytes then tag_cut kinds.Control (drop 2 bytes)
+    (content_length 37 (drop 2 bytes)) else
     cut kinds.Literal (take (literal_length bytes) bytes) (literal_length bytes)
 
 -- a piece, and the place of its first byte
@@ -67,10 +72,12 @@ pub record Piece : Type 0 where
 abbrev pub piece : ℕ → Cut → Piece
 piece place c = record { place = place; kind = c.kind; content = c.content }
 
--- the pieces of the bytes, of which the first `skip` belong to the piece before and the first stands at `place`
+-- the pieces of the bytes, of which the first `skip` belong to the piece before and the first
+-- stands at `place`
 abbrev pub pieces_from : ℕ → ℕ → List ℕ → List Piece
 pieces_from place skip [] = []
-pieces_from place zero (b ∷ bs) = piece place (first_cut (b ∷ bs)) ∷ pieces_from (place + 1) ((first_cut (b ∷ bs)).size - 1) bs
+pieces_from place zero (b ∷ bs) = piece place (first_cut (b ∷ bs)) ∷ pieces_from (place + 1)
+    ((first_cut (b ∷ bs)).size - 1) bs
 pieces_from place (suc skip) (b ∷ bs) = pieces_from (place + 1) skip bs
 
 abbrev pub pieces : List ℕ → List Piece

@@ -26,7 +26,8 @@ pub record OpenBlock : Type 0 where
 abbrev pub open_block : ℕ → Opening → Statements → OpenBlock
 open_block place opening before = record { place = place; opening = opening; before = before }
 
--- the open blocks from the innermost one out, and the statements of the innermost body, turned round
+-- the open blocks from the innermost one out, and the statements of the innermost body, turned
+-- round
 pub record Progress : Type 0 where
   pub blocks : List OpenBlock
   pub body : Statements
@@ -65,12 +66,14 @@ statement (Opening.each q) body = Statement.each q body
 -- one more block, of which there are at most 64
 abbrev pub opened : ℕ → Opening → Progress → Option Progress
 opened place opening p =
-    if nat_lt (length p.blocks) 64 then Some (progress (open_block place opening p.body ∷ p.blocks) Statements.none) else None
+    if nat_lt (length p.blocks) 64 then Some (progress (open_block place opening p.body ∷ p.blocks)
+    Statements.none) else None
 
 -- the innermost block behind its `else`
 abbrev pub turned_in : ℕ → Opening → Statements → List OpenBlock → Statements → Option Progress
 turned_in place (Opening.first c) before blocks body =
-    Some (progress (open_block place (Opening.second c (run_order body)) before ∷ blocks) Statements.none)
+    Some (progress (open_block place (Opening.second c (run_order body)) before ∷ blocks)
+    Statements.none)
 turned_in place opening before blocks body = None
 
 abbrev pub turned : List OpenBlock → Statements → Option Progress
@@ -80,12 +83,14 @@ turned (b ∷ blocks) body = turned_in b.place b.opening b.before blocks body
 -- the innermost block behind its `end`
 abbrev pub closed : List OpenBlock → Statements → Option Progress
 closed [] body = None
-closed (b ∷ blocks) body = Some (progress blocks (Statements.more (statement b.opening (run_order body)) b.before))
+closed (b ∷ blocks) body =
+    Some (progress blocks (Statements.more (statement b.opening (run_order body)) b.before))
 
 -- behind a mark at this place; none where it may not stand there
 abbrev pub after : ℕ → Mark → Progress → Option Progress
 after place (Mark.put e) p = Some (progress p.blocks (Statements.more (Statement.put e) p.body))
-after place (Mark.escape e) p = Some (progress p.blocks (Statements.more (Statement.escape e) p.body))
+after place (Mark.escape e) p =
+    Some (progress p.blocks (Statements.more (Statement.escape e) p.body))
 after place (Mark.bind x e) p = opened place (Opening.bind x e) p
 after place (Mark.branch c) p = opened place (Opening.first c) p
 after place (Mark.each q) p = opened place (Opening.each q) p

@@ -12,7 +12,8 @@ ends_here quotings.Escaped mark bytes = false
 
 abbrev pub behind_byte : Quoting → ℕ → Quoting
 behind_byte quotings.Outside byte = if byte == 34 then quotings.Quoted else quotings.Outside
-behind_byte quotings.Quoted byte = if byte == 34 then quotings.Outside else if byte == 92 then quotings.Escaped else quotings.Quoted
+behind_byte quotings.Quoted byte = if byte == 34 then quotings.Outside else if byte == 92
+    then quotings.Escaped else quotings.Quoted
 behind_byte quotings.Escaped byte = quotings.Quoted
 
 -- how many bytes stand before the end of the tag, from such a place

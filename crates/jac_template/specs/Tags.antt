@@ -25,8 +25,8 @@ pub data Mark : Type 0 where
   otherwise : Mark
   finish : Mark
 
--- what a tree is as the content of a tag: of no form that a tag has, an expression or query that has no form, with
--- its first fault, or a mark
+-- what a tree is as the content of a tag: of no form that a tag has, an expression or query that
+-- has no form, with its first fault, or a mark
 pub data Form : Type 0 where
   stray : Form
   formless : FormFault → Form
@@ -54,7 +54,8 @@ named_bind None t = Form.stray
 named_bind (Some x) t = formed (read_map (Mark.bind x) (expression_in_tree [] t))
 
 abbrev pub bind_of_trees : PlainTree → PlainTree → PlainTree → Form
-bind_of_trees head x t = if is_word (codes "let") head then named_bind (name_of_tree x) t else Form.stray
+bind_of_trees head x t = if is_word (codes "let") head then named_bind (name_of_tree x) t
+    else Form.stray
 
 -- `else`, `end`
 abbrev pub word_of_tree : List ℕ → Form
@@ -65,7 +66,8 @@ word_of_tree a =
 
 abbrev pub control_of_trees : PlainTrees → Form
 control_of_trees (PlainTrees.more head (PlainTrees.more t PlainTrees.none)) = single_of_tree head t
-control_of_trees (PlainTrees.more head (PlainTrees.more x (PlainTrees.more t PlainTrees.none))) = bind_of_trees head x t
+control_of_trees (PlainTrees.more head (PlainTrees.more x (PlainTrees.more t PlainTrees.none))) =
+    bind_of_trees head x t
 control_of_trees ts = Form.stray
 
 abbrev pub control_of_tree : PlainTree → Form

@@ -19,13 +19,16 @@ pub struct ViewFault {
     pub fault: TemplateFault,
 }
 
-/// The application with each template replaced by the block of its statements. A refused application is
-/// dropped.
+/// The application with each template replaced by the block of its statements. A refused
+/// application is dropped.
 pub fn expand_app(alloc: Global, app: App) -> Result<App, ViewFault>
     requires few { length app.views < 2 ^ 32 }
-    ensures application { IfOk result (λ out. ExpandsApplication (application_of app) (Expanded.application (application_of out))) }
-    ensures fault { IfErr result (λ f. IsTrue (refuses f.fault) → ExpandsApplication (application_of app) (Expanded.fault f.view (fault_of f.fault))) }
-    ensures untemplated { IfOk result (λ out. are_untemplated_views (application_of out).views ≡ true) }
+    ensures application { IfOk result (λ out. ExpandsApplication (application_of app)
+        (Expanded.application (application_of out))) }
+    ensures fault { IfErr result (λ f. IsTrue (refuses f.fault)
+        → ExpandsApplication (application_of app) (Expanded.fault f.view (fault_of f.fault))) }
+    ensures untemplated { IfOk result (λ out. are_untemplated_views (application_of out).views
+        ≡ true) }
 {
     let App {
         viewer,
@@ -43,7 +46,8 @@ pub fn expand_app(alloc: Global, app: App) -> Result<App, ViewFault>
 fn expand_views(alloc: Global, views: Views) -> Result<Views, ViewFault>
     requires few { length views < 2 ^ 32 }
     ensures views { IfOk result (λ out. ExpandsViews (pages_of views) (pages_of out)) }
-    ensures fault { IfErr result (λ f. IsTrue (refuses f.fault) → ViewsFault 0 (pages_of views) f.view (fault_of f.fault)) }
+    ensures fault { IfErr result (λ f. IsTrue (refuses f.fault)
+        → ViewsFault 0 (pages_of views) f.view (fault_of f.fault)) }
     ensures untemplated { IfOk result (λ out. are_untemplated_views (pages_of out) ≡ true) }
 {
     let mut out = Vec::new(alloc);
@@ -65,8 +69,11 @@ fn expand_views(alloc: Global, views: Views) -> Result<Views, ViewFault>
 
 // Puts the view with its templates expanded behind the others.
 fn expand_view(alloc: Global, out: &mut Vec<View>, view: View) -> Result<(), TemplateFault>
-    ensures view { OnOk result ((p : Page) × ExpandsView (page_of view) p × (are_untemplated p.body ≡ true) × (pages_of out.new.items ≡ pages_of out.old.items ++ p ∷ [])) }
-    ensures fault { IfErr result (λ f. IsTrue (refuses f) → BodyFault (statements_of view.body) (fault_of f)) }
+    ensures view { OnOk result ((p : Page) × ExpandsView (page_of view) p
+        × (are_untemplated p.body ≡ true) × (pages_of out.new.items ≡ pages_of out.old.items ++ p
+        ∷ [])) }
+    ensures fault { IfErr result (λ f. IsTrue (refuses f) → BodyFault (statements_of view.body)
+        (fault_of f)) }
 {
     let View {
         method,
@@ -97,7 +104,8 @@ fn push_view(out: &mut Vec<View>, view: View) -> Result<(), Memory>
 #[cycle(expand)]
 fn expand_stmts(alloc: Global, stmts: Stmts) -> Result<Stmts, TemplateFault>
     ensures body { IfOk result (λ out. ExpandsBody (statements_of stmts) (statements_of out)) }
-    ensures fault { IfErr result (λ f. IsTrue (refuses f) → BodyFault (statements_of stmts) (fault_of f)) }
+    ensures fault { IfErr result (λ f. IsTrue (refuses f)
+        → BodyFault (statements_of stmts) (fault_of f)) }
 {
     let mut back = Stmts::End;
     let mut left = stmts;
@@ -111,8 +119,10 @@ fn expand_stmts(alloc: Global, stmts: Stmts) -> Result<Stmts, TemplateFault>
 
 #[cycle(expand)]
 fn expand_stmt(alloc: Global, stmt: Stmt) -> Result<Stmt, TemplateFault>
-    ensures statement { IfOk result (λ out. ExpandsStatement (statement_of stmt) (statement_of out)) }
-    ensures fault { IfErr result (λ f. IsTrue (refuses f) → StatementFault (statement_of stmt) (fault_of f)) }
+    ensures statement { IfOk result (λ out. ExpandsStatement (statement_of stmt)
+        (statement_of out)) }
+    ensures fault { IfErr result (λ f. IsTrue (refuses f) → StatementFault (statement_of stmt)
+        (fault_of f)) }
 {
     match stmt {
         Stmt::Template(text) => {

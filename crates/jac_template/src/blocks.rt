@@ -53,8 +53,11 @@ impl Blocks {
 
     /// Goes on with the mark of the tag at this place.
     pub fn take(&mut self, alloc: Global, place: u64, mark: Mark) -> Result<(), TemplateFault>
-        ensures taken { OnOk result (after place (mark_of mark) (progress_of self.old) ≡ Some (progress_of self.new)) }
-        ensures fault { IfErr result (λ f. IsTrue (refuses f) → (after place (mark_of mark) (progress_of self.old) ≡ None) × (fault_of f ≡ misplaced place (mark_of mark))) }
+        ensures taken { OnOk result (after place (mark_of mark) (progress_of self.old)
+            ≡ Some (progress_of self.new)) }
+        ensures fault { IfErr result (λ f. IsTrue (refuses f)
+            → (after place (mark_of mark) (progress_of self.old) ≡ None)
+            × (fault_of f ≡ misplaced place (mark_of mark))) }
     {
         match mark {
             Mark::Put(e) => match self.add(alloc, Stmt::Put(e)) {
@@ -75,7 +78,8 @@ impl Blocks {
 
     /// The statements, where each block has its `end`.
     pub fn finish(self) -> Result<Stmts, TemplateFault>
-        ensures whole { IfOk result (λ ss. ((progress_of self).blocks ≡ []) × (statements_of ss ≡ run_order (progress_of self).body)) }
+        ensures whole { IfOk result (λ ss. ((progress_of self).blocks ≡ [])
+            × (statements_of ss ≡ run_order (progress_of self).body)) }
         ensures fault { IfErr result (λ f. IsUnclosed (progress_of self).blocks (fault_of f)) }
     {
         let Blocks { mut frames, body } = self;
@@ -87,7 +91,8 @@ impl Blocks {
 
     fn add(&mut self, alloc: Global, stmt: Stmt) -> Result<(), Memory>
         ensures frames { OnOk result (self.new.frames ≡ self.old.frames) }
-        ensures body { OnOk result (statements_of self.new.body ≡ Statements.more (statement_of stmt) (statements_of self.old.body)) }
+        ensures body { OnOk result (statements_of self.new.body ≡ Statements.more
+            (statement_of stmt) (statements_of self.old.body)) }
     {
         let others = mem::replace(&mut self.body, Stmts::End);
         self.body = before_others(alloc, stmt, others)?;
@@ -95,8 +100,11 @@ impl Blocks {
     }
 
     fn open(&mut self, place: u64, context: Context) -> Result<(), TemplateFault>
-        ensures taken { OnOk result (opened place (opening_of context) (progress_of self.old) ≡ Some (progress_of self.new)) }
-        ensures fault { IfErr result (λ f. IsTrue (refuses f) → (opened place (opening_of context) (progress_of self.old) ≡ None) × (fault_of f ≡ Fault.deep place)) }
+        ensures taken { OnOk result (opened place (opening_of context) (progress_of self.old)
+            ≡ Some (progress_of self.new)) }
+        ensures fault { IfErr result (λ f. IsTrue (refuses f)
+            → (opened place (opening_of context) (progress_of self.old) ≡ None)
+            × (fault_of f ≡ Fault.deep place)) }
     {
         if self.frames.len() >= NESTING_LIMIT {
             return Err(TemplateFault::Deep(place));
@@ -114,8 +122,11 @@ impl Blocks {
     }
 
     fn turn(&mut self, place: u64) -> Result<(), TemplateFault>
-        ensures taken { OnOk result (turned (progress_of self.old).blocks (progress_of self.old).body ≡ Some (progress_of self.new)) }
-        ensures fault { IfErr result (λ f. IsTrue (refuses f) → (turned (progress_of self.old).blocks (progress_of self.old).body ≡ None) × (fault_of f ≡ Fault.stray place)) }
+        ensures taken { OnOk result (turned (progress_of self.old).blocks
+            (progress_of self.old).body ≡ Some (progress_of self.new)) }
+        ensures fault { IfErr result (λ f. IsTrue (refuses f)
+            → (turned (progress_of self.old).blocks (progress_of self.old).body ≡ None)
+            × (fault_of f ≡ Fault.stray place)) }
     {
         let Some(frame) = self.frames.pop() else {
             return Err(TemplateFault::Stray(place));
@@ -135,7 +146,9 @@ impl Blocks {
 
     // The second body of the `if` whose tag is at this place, after its first.
     fn begin_else(&mut self, place: u64, c: Expr, before: Stmts) -> Result<(), TemplateFault>
-        ensures taken { OnOk result (turned_in place (Opening.first (expression_of c)) (statements_of before) (progress_of self.old).blocks (progress_of self.old).body ≡ Some (progress_of self.new)) }
+        ensures taken { OnOk result (turned_in place (Opening.first (expression_of c))
+            (statements_of before) (progress_of self.old).blocks (progress_of self.old).body
+            ≡ Some (progress_of self.new)) }
         ensures fault { IfErr result (λ f. refuses f ≡ false) }
     {
         let then = mem::replace(&mut self.body, Stmts::End).before(Stmts::End);
@@ -151,8 +164,11 @@ impl Blocks {
     }
 
     fn close(&mut self, alloc: Global, place: u64) -> Result<(), TemplateFault>
-        ensures taken { OnOk result (closed (progress_of self.old).blocks (progress_of self.old).body ≡ Some (progress_of self.new)) }
-        ensures fault { IfErr result (λ f. IsTrue (refuses f) → (closed (progress_of self.old).blocks (progress_of self.old).body ≡ None) × (fault_of f ≡ Fault.stray place)) }
+        ensures taken { OnOk result (closed (progress_of self.old).blocks
+            (progress_of self.old).body ≡ Some (progress_of self.new)) }
+        ensures fault { IfErr result (λ f. IsTrue (refuses f)
+            → (closed (progress_of self.old).blocks (progress_of self.old).body ≡ None)
+            × (fault_of f ≡ Fault.stray place)) }
     {
         let Some(frame) = self.frames.pop() else {
             return Err(TemplateFault::Stray(place));
@@ -166,7 +182,8 @@ impl Blocks {
 }
 
 fn push_frame(frames: &mut Vec<Frame>, frame: Frame) -> Result<(), Memory>
-    ensures { OnOk result (open_blocks frames.new.items ≡ open_block_of frame ∷ open_blocks frames.old.items) }
+    ensures { OnOk result (open_blocks frames.new.items ≡ open_block_of frame ∷ open_blocks
+        frames.old.items) }
 {
     frames.push(frame)?;
     Ok(())

@@ -19,7 +19,8 @@ use std::alloc::Global;
 /// `{{ e }}` is `(esc e)`.
 pub fn read_output(alloc: Global, place: u64, tree: &Tree) -> Result<Mark, TemplateFault>
     ensures mark { IfOk result (λ m. output_of_tree (plain tree.now) ≡ Form.mark (mark_of m)) }
-    ensures fault { IfErr result (λ f. IsTrue (refuses f) → meaning_of_form place (output_of_tree (plain tree.now)) ≡ Meaning.fault (fault_of f)) }
+    ensures fault { IfErr result (λ f. IsTrue (refuses f)
+        → meaning_of_form place (output_of_tree (plain tree.now)) ≡ Meaning.fault (fault_of f)) }
 {
     let e = read_expr(alloc, place, tree)?;
     Ok(Mark::Esc(e))
@@ -28,7 +29,8 @@ pub fn read_output(alloc: Global, place: u64, tree: &Tree) -> Result<Mark, Templ
 /// The statement, the beginning of a block, or the word that a tree is in a tag `{% .. %}`.
 pub fn read_control(alloc: Global, place: u64, tree: &Tree) -> Result<Mark, TemplateFault>
     ensures mark { IfOk result (λ m. control_of_tree (plain tree.now) ≡ Form.mark (mark_of m)) }
-    ensures fault { IfErr result (λ f. IsTrue (refuses f) → meaning_of_form place (control_of_tree (plain tree.now)) ≡ Meaning.fault (fault_of f)) }
+    ensures fault { IfErr result (λ f. IsTrue (refuses f)
+        → meaning_of_form place (control_of_tree (plain tree.now)) ≡ Meaning.fault (fault_of f)) }
 {
     match tree {
         Tree::Atom(word) => {
@@ -45,7 +47,8 @@ pub fn read_control(alloc: Global, place: u64, tree: &Tree) -> Result<Mark, Temp
 
 fn read_word(place: u64, word: &Txt) -> Result<Mark, TemplateFault>
     ensures mark { IfOk result (λ m. word_of_tree word.now ≡ Form.mark (mark_of m)) }
-    ensures fault { IfErr result (λ f. IsTrue (refuses f) → meaning_of_form place (word_of_tree word.now) ≡ Meaning.fault (fault_of f)) }
+    ensures fault { IfErr result (λ f. IsTrue (refuses f)
+        → meaning_of_form place (word_of_tree word.now) ≡ Meaning.fault (fault_of f)) }
 {
     let word = word.as_str();
     if word == "else" {
@@ -58,8 +61,11 @@ fn read_word(place: u64, word: &Txt) -> Result<Mark, TemplateFault>
 }
 
 fn read_list(alloc: Global, place: u64, trees: &Trees) -> Result<Mark, TemplateFault>
-    ensures mark { IfOk result (λ m. control_of_trees (plain_all trees.now) ≡ Form.mark (mark_of m)) }
-    ensures fault { IfErr result (λ f. IsTrue (refuses f) → meaning_of_form place (control_of_trees (plain_all trees.now)) ≡ Meaning.fault (fault_of f)) }
+    ensures mark { IfOk result (λ m. control_of_trees (plain_all trees.now) ≡ Form.mark
+        (mark_of m)) }
+    ensures fault { IfErr result (λ f. IsTrue (refuses f)
+        → meaning_of_form place (control_of_trees (plain_all trees.now)) ≡ Meaning.fault
+        (fault_of f)) }
 {
     let Trees::More(head, rest) = trees else {
         return Err(TemplateFault::Stray(place));
@@ -79,8 +85,11 @@ fn read_list(alloc: Global, place: u64, trees: &Trees) -> Result<Mark, TemplateF
 }
 
 fn read_single(alloc: Global, place: u64, head: &Tree, tree: &Tree) -> Result<Mark, TemplateFault>
-    ensures mark { IfOk result (λ m. single_of_tree (plain head.now) (plain tree.now) ≡ Form.mark (mark_of m)) }
-    ensures fault { IfErr result (λ f. IsTrue (refuses f) → meaning_of_form place (single_of_tree (plain head.now) (plain tree.now)) ≡ Meaning.fault (fault_of f)) }
+    ensures mark { IfOk result (λ m. single_of_tree (plain head.now) (plain tree.now) ≡ Form.mark
+        (mark_of m)) }
+    ensures fault { IfErr result (λ f. IsTrue (refuses f)
+        → meaning_of_form place (single_of_tree (plain head.now) (plain tree.now)) ≡ Meaning.fault
+        (fault_of f)) }
 {
     if is_word(head, b"put") {
         let e = read_expr(alloc, place, tree)?;
@@ -103,8 +112,11 @@ fn read_bind(
     name: &Tree,
     tree: &Tree,
 ) -> Result<Mark, TemplateFault>
-    ensures mark { IfOk result (λ m. bind_of_trees (plain head.now) (plain name.now) (plain tree.now) ≡ Form.mark (mark_of m)) }
-    ensures fault { IfErr result (λ f. IsTrue (refuses f) → meaning_of_form place (bind_of_trees (plain head.now) (plain name.now) (plain tree.now)) ≡ Meaning.fault (fault_of f)) }
+    ensures mark { IfOk result (λ m. bind_of_trees (plain head.now) (plain name.now)
+        (plain tree.now) ≡ Form.mark (mark_of m)) }
+    ensures fault { IfErr result (λ f. IsTrue (refuses f)
+        → meaning_of_form place (bind_of_trees (plain head.now) (plain name.now) (plain tree.now))
+        ≡ Meaning.fault (fault_of f)) }
 {
     if is_word(head, b"let") {
         let mark = read_named(alloc, place, name, tree)?;
@@ -115,8 +127,11 @@ fn read_bind(
 }
 
 fn read_named(alloc: Global, place: u64, name: &Tree, tree: &Tree) -> Result<Mark, TemplateFault>
-    ensures mark { IfOk result (λ m. named_bind (name_of_tree (plain name.now)) (plain tree.now) ≡ Form.mark (mark_of m)) }
-    ensures fault { IfErr result (λ f. IsTrue (refuses f) → meaning_of_form place (named_bind (name_of_tree (plain name.now)) (plain tree.now)) ≡ Meaning.fault (fault_of f)) }
+    ensures mark { IfOk result (λ m. named_bind (name_of_tree (plain name.now)) (plain tree.now)
+        ≡ Form.mark (mark_of m)) }
+    ensures fault { IfErr result (λ f. IsTrue (refuses f)
+        → meaning_of_form place (named_bind (name_of_tree (plain name.now)) (plain tree.now))
+        ≡ Meaning.fault (fault_of f)) }
 {
     let name = read_name(alloc, place, name)?;
     let e = read_expr(alloc, place, tree)?;
@@ -125,7 +140,8 @@ fn read_named(alloc: Global, place: u64, name: &Tree, tree: &Tree) -> Result<Mar
 
 fn read_name(alloc: Global, place: u64, tree: &Tree) -> Result<Txt, TemplateFault>
     ensures value { IfOk result (λ name. name_of_tree (plain tree.now) ≡ Some name) }
-    ensures none { IfErr result (λ f. IsTrue (refuses f) → (name_of_tree (plain tree.now) ≡ None) × (fault_of f ≡ Fault.stray place)) }
+    ensures none { IfErr result (λ f. IsTrue (refuses f) → (name_of_tree (plain tree.now) ≡ None)
+        × (fault_of f ≡ Fault.stray place)) }
 {
     match tree {
         Tree::Atom(word) => {
@@ -142,8 +158,10 @@ fn read_name(alloc: Global, place: u64, tree: &Tree) -> Result<Txt, TemplateFaul
 }
 
 fn read_expr(alloc: Global, place: u64, tree: &Tree) -> Result<Expr, TemplateFault>
-    ensures value { IfOk result (λ e. expression_in_tree [] (plain tree.now) ≡ got (expression_of e)) }
-    ensures fault { IfErr result (λ f. IsTrue (refuses f) → IsFormless place (expression_in_tree [] (plain tree.now)) (fault_of f)) }
+    ensures value { IfOk result (λ e. expression_in_tree [] (plain tree.now)
+        ≡ got (expression_of e)) }
+    ensures fault { IfErr result (λ f. IsTrue (refuses f)
+        → IsFormless place (expression_in_tree [] (plain tree.now)) (fault_of f)) }
 {
     match expr_of(alloc, tree) {
         Ok(e) => Ok(e),
@@ -153,8 +171,10 @@ fn read_expr(alloc: Global, place: u64, tree: &Tree) -> Result<Expr, TemplateFau
 }
 
 fn read_query(alloc: Global, place: u64, tree: &Tree) -> Result<Query, TemplateFault>
-    ensures value { IfOk result (λ q. question_in_tree 3 [] (plain tree.now) ≡ got (question_of q)) }
-    ensures fault { IfErr result (λ f. IsTrue (refuses f) → IsFormless place (question_in_tree 3 [] (plain tree.now)) (fault_of f)) }
+    ensures value { IfOk result (λ q. question_in_tree 3 [] (plain tree.now)
+        ≡ got (question_of q)) }
+    ensures fault { IfErr result (λ f. IsTrue (refuses f)
+        → IsFormless place (question_in_tree 3 [] (plain tree.now)) (fault_of f)) }
 {
     match query_of(alloc, tree) {
         Ok(q) => Ok(q),

@@ -11,11 +11,13 @@ use jac_lang::Stmts;
 use jac_value::Txt;
 use std::alloc::Global;
 
-/// The statements that a text is a template of, or the first fault in reading order. `{{ e }}` is `(esc e)`,
-/// so a page shows what stands there as text and never as markup.
+/// The statements that a text is a template of, or the first fault in reading order. `{{ e }}` is
+/// `(esc e)`, so a page shows what stands there as text and never as markup.
 pub fn expand(alloc: Global, text: &Txt) -> Result<Stmts, TemplateFault>
-    ensures statements { IfOk result (λ ss. Expands text.now (Expansion.statements (statements_of ss))) }
-    ensures fault { IfErr result (λ f. IsTrue (refuses f) → Expands text.now (Expansion.fault (fault_of f))) }
+    ensures statements { IfOk result
+        (λ ss. Expands text.now (Expansion.statements (statements_of ss))) }
+    ensures fault { IfErr result (λ f. IsTrue (refuses f)
+        → Expands text.now (Expansion.fault (fault_of f))) }
 {
     let mut blocks = Blocks::new(alloc);
     let mut left = text.as_str().as_bytes();

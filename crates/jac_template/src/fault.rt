@@ -8,8 +8,8 @@ use jac_value::Memory;
 /// Why a text is no template. Each place is that of the first byte of a tag, in bytes from 0.
 #[derive(Debug, Drop)]
 pub enum TemplateFault {
-    /// A tag has no end, or a block has no `end`: of the blocks that are open at the end of the text, this is
-    /// the innermost one.
+    /// A tag has no end, or a block has no `end`: of the blocks that are open at the end of the
+    /// text, this is the innermost one.
     Unclosed(u64),
     /// An `else` or an `end` without its block, or a tree that is no tag.
     Stray(u64),

@@ -4,8 +4,8 @@ ghost use Rattle.jac_template.specs.Escaped.{html_byte, html};
 use jac_value::{Bytes, Memory};
 use std::alloc::Global;
 
-/// The text as HTML shows it: `&`, `<`, `>` and the quotes `"` and `'` have their escapes, and every other
-/// byte stays.
+/// The text as HTML shows it: `&`, `<`, `>` and the quotes `"` and `'` have their escapes, and
+/// every other byte stays.
 pub fn escape(alloc: Global, text: &[u8]) -> Result<Bytes, Memory>
     ensures { IfOk result (λ b. b ≡ html text.now) }
 {

@@ -34,7 +34,8 @@ pub fn read_mark(
 ) -> Result<Mark, TemplateFault>
     requires text { HasText kind content.now }
     ensures mark { IfOk result (λ m. MeansAs kind place content.now (Meaning.mark (mark_of m))) }
-    ensures fault { IfErr result (λ f. IsTrue (refuses f) → MeansAs kind place content.now (Meaning.fault (fault_of f))) }
+    ensures fault { IfErr result (λ f. IsTrue (refuses f)
+        → MeansAs kind place content.now (Meaning.fault (fault_of f))) }
 {
     match kind {
         Kind::Literal => {
@@ -66,7 +67,8 @@ fn literal(alloc: Global, content: &[u8]) -> Result<Mark, Memory>
 
 fn read_content(alloc: Global, place: u64, content: &[u8]) -> Result<Tree, TemplateFault>
     ensures tree { IfOk result (λ t. Accepted content.now (plain t)) }
-    ensures fault { IfErr result (λ f. IsTrue (refuses f) → IsContentFault place content.now (fault_of f)) }
+    ensures fault { IfErr result (λ f. IsTrue (refuses f) → IsContentFault place content.now
+        (fault_of f)) }
 {
     match read_tree(alloc, content) {
         Ok(tree) => Ok(tree),
@@ -75,7 +77,8 @@ fn read_content(alloc: Global, place: u64, content: &[u8]) -> Result<Tree, Templ
 }
 
 fn content_fault(place: u64, fault: TreeFault) -> TemplateFault
-    ensures { IsTrue (refuses result) → (is_of_bytes fault ≡ true) × (fault_of result ≡ Fault.tree place fault) }
+    ensures { IsTrue (refuses result) → (is_of_bytes fault ≡ true)
+        × (fault_of result ≡ Fault.tree place fault) }
 {
     match fault {
         TreeFault::Memory => TemplateFault::Memory,

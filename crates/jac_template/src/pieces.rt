@@ -56,9 +56,12 @@ pub fn first_cut(bytes: &[u8]) -> Cut<'_>
 // The tag whose first two bytes stand before these.
 fn tag_cut(kind: Kind, mark: u8, inside: &[u8]) -> Cut<'_>
     ensures kind { result.kind ≡ (tag_cut kind inside.now (content_length mark inside.now)).kind }
-    ensures content { result.content.now ≡ (tag_cut kind inside.now (content_length mark inside.now)).content }
-    ensures rest { result.rest.now ≡ drop ((tag_cut kind inside.now (content_length mark inside.now)).size - 2) inside.now }
-    ensures size { length result.rest.now + (tag_cut kind inside.now (content_length mark inside.now)).size ≡ length inside.now + 2 }
+    ensures content { result.content.now
+        ≡ (tag_cut kind inside.now (content_length mark inside.now)).content }
+    ensures rest { result.rest.now
+        ≡ drop ((tag_cut kind inside.now (content_length mark inside.now)).size - 2) inside.now }
+    ensures size { length result.rest.now
+        + (tag_cut kind inside.now (content_length mark inside.now)).size ≡ length inside.now + 2 }
 {
     match content_length(mark, inside) {
         Some(length) => {

@@ -18,7 +18,8 @@ pub struct Parted {
 
 /// The statement, and then the others.
 pub fn before_others(alloc: Global, first: Stmt, others: Stmts) -> Result<Stmts, Memory>
-    ensures { IfOk result (λ ss. statements_of ss ≡ Statements.more (statement_of first) (statements_of others)) }
+    ensures { IfOk result (λ ss. statements_of ss ≡ Statements.more (statement_of first)
+        (statements_of others)) }
 {
     let first = Box::new(alloc, first)?;
     let others = Box::new(alloc, others)?;
@@ -27,8 +28,10 @@ pub fn before_others(alloc: Global, first: Stmt, others: Stmts) -> Result<Stmts,
 
 /// The first statement and the others, where there are any. It takes no memory.
 pub fn part(stmts: Stmts) -> Option<Parted>
-    ensures cases { MatchOption result (statements_of stmts ≡ Statements.none) (λ p. statements_of stmts ≡ Statements.more (statement_of p.first) (statements_of p.rest)) }
-    ensures smaller { IfSome result (λ p. (size-Stmt p.first < size-Stmts stmts) × (size-Stmts p.rest < size-Stmts stmts)) }
+    ensures cases { MatchOption result (statements_of stmts ≡ Statements.none)
+        (λ p. statements_of stmts ≡ Statements.more (statement_of p.first) (statements_of p.rest)) }
+    ensures smaller { IfSome result (λ p. (size-Stmt p.first < size-Stmts stmts)
+        × (size-Stmts p.rest < size-Stmts stmts)) }
 {
     let mut stmts = stmts;
     match &mut stmts {

@@ -1,5 +1,5 @@
-//! A table that was read is held: the second read of the keeper within is to fail, so what is answered behind the
-//! first one was held.
+//! A table that was read is held: the second read of the keeper within is to fail, so what is
+//! answered behind the first one was held.
 ghost use Rattle.std.specs.Prelude.{IfOk, IsTrue};
 
 use jac_cached::CachedKeeper;

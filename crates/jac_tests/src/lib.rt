@@ -1,5 +1,6 @@
-//! Tests of what no run of the program shows: each public call that no command makes once on its happy path, with an
-//! answer that comes from outside. All others are run by the worked cases of `checks/cases`.
+//! Tests of what no run of the program shows: each public call that no command makes once on its
+//! happy path, with an answer that comes from outside. All others are run by the worked cases of
+//! `checks/cases`.
 #![tactic(auto)]
 
 #[cfg(test)]

@@ -1,5 +1,5 @@
-//! What the keeper in memory and a work find by a value, and that a query under all assignments which asks for one reads
-//! no whole table.
+//! What the keeper in memory and a work find by a value, and that a query under all assignments
+//! which asks for one reads no whole table.
 ghost use Rattle.std.specs.Prelude.{◌≡◌, ◌<◌, IsTrue};
 
 use crate::finder::{Finder, memory, new_finder};
@@ -81,7 +81,8 @@ fn nobody() -> Ctx {
     }
 }
 
-// The answers under the empty path condition, where the texts are those of an application and a query.
+// The answers under the empty path condition, where the texts are those of an application and a
+// query.
 fn answers<L: Ledger>(
     alloc: Global,
     text: &str,

@@ -71,8 +71,8 @@ fn an_id_is_made_around_another(rt: HostRuntime) -> Result<(), Fail> {
     Ok(())
 }
 
-// A reference to it, and three whose bytes 2, 8 and 9 are those of no id: too great a record, and too great an id that
-// is around none.
+// A reference to it, and three whose bytes 2, 8 and 9 are those of no id: too great a record, and
+// too great an id that is around none.
 const REFERENCE: [u8; 18] = [4, 1, 0, 0, 0, 0, 0, 0, 0, 1, 0, 0, 0, 0, 0, 0, 0x30, 1];
 
 const AT_2: [u8; 18] = [4, 1, 0, 0, 1, 0, 0, 0, 0, 1, 0, 0, 0, 0, 0, 0, 0x30, 1];

@@ -1,4 +1,5 @@
-//! An application that is written again, the printing of texts, the faults of a tag, and the schema that a store keeps.
+//! An application that is written again, the printing of texts, the faults of a tag, and the schema
+//! that a store keeps.
 use jac_check::check;
 use jac_forms::{FormFault, Want, app_of};
 use jac_lang::App;

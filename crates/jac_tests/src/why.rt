@@ -1,4 +1,5 @@
-//! Why a label is hidden, where the labels that are shown aren't settled, and a reason that is another's.
+//! Why a label is hidden, where the labels that are shown aren't settled, and a reason that is
+//! another's.
 ghost use Rattle.std.specs.Prelude.{◌≡◌, ◌<◌, ◌≤◌, ◌*◌, ◌∷◌, [], IfOk, IsTrue};
 ghost use Rattle.std.specs.List.{AllByRecursion};
 ghost use Rattle.jac_rows.specs.declared.row.Row.{Row as Kept};

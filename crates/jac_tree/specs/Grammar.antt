@@ -40,7 +40,8 @@ PieceAt x from to =
     ((is_plain_byte x ≡ true) × (from ≡ x ∷ to))
     ⊎ ((e : ℕ) × (escaped e ≡ Some x) × (from ≡ 92 ∷ e ∷ to))
 
--- pieces that stand for the text, and then a quote, are at the front of `from`, and `to` follows them
+-- pieces that stand for the text, and then a quote, are at the front of `from`, and `to` follows
+-- them
 abbrev pub PiecesAt : List ℕ → List ℕ → List ℕ → Type 0
 PiecesAt [] from to = from ≡ 34 ∷ to
 PiecesAt (x ∷ xs) from to = (rest : List ℕ) × PieceAt x from rest × PiecesAt xs rest to
@@ -50,13 +51,16 @@ abbrev mutual
   pub TreeAt : PlainTree → List ℕ → List ℕ → Type 0
   TreeAt (PlainTree.atom a) from to =
       (a ≢ []) × (are_atom_bytes a ≡ true) × (from ≡ a ++ to) × (begins_with_atom_byte to ≡ false)
-  TreeAt (PlainTree.text x) from to = (inside : List ℕ) × (from ≡ 34 ∷ inside) × PiecesAt x inside to
-  TreeAt (PlainTree.list ts) from to = (inside : List ℕ) × (from ≡ 40 ∷ inside) × TreesAt ts inside to
+  TreeAt (PlainTree.text x) from to = (inside : List ℕ) × (from ≡ 34 ∷ inside)
+      × PiecesAt x inside to
+  TreeAt (PlainTree.list ts) from to = (inside : List ℕ) × (from ≡ 40 ∷ inside)
+      × TreesAt ts inside to
 
   -- the trees, white around them, and then the closing bracket
   pub TreesAt : PlainTrees → List ℕ → List ℕ → Type 0
   TreesAt PlainTrees.none from to = skip from ≡ 41 ∷ to
-  TreesAt (PlainTrees.more t ts) from to = (rest : List ℕ) × TreeAt t (skip from) rest × TreesAt ts rest to
+  TreesAt (PlainTrees.more t ts) from to = (rest : List ℕ) × TreeAt t (skip from) rest
+      × TreesAt ts rest to
 
 -- the bytes are a document: white, the tree, white
 abbrev pub Spells : List ℕ → PlainTree → Type 0
@@ -67,7 +71,8 @@ abbrev pub IsBegun : List ℕ → Type 0
 IsBegun front = (rest : List ℕ) × (t : PlainTree) × Spells (front ++ rest) t
 
 abbrev pub IsBegunWithin : ℕ → List ℕ → Type 0
-IsBegunWithin n front = (rest : List ℕ) × (t : PlainTree) × Spells (front ++ rest) t × (nesting t ≤ n)
+IsBegunWithin n front = (rest : List ℕ) × (t : PlainTree) × Spells (front ++ rest) t
+    × (nesting t ≤ n)
 
 -- the byte at this place is the first with which no document goes on
 pub record IsStrayAt (bytes : List ℕ) (at : ℕ) : Type 0 where
@@ -75,7 +80,8 @@ pub record IsStrayAt (bytes : List ℕ) (at : ℕ) : Type 0 where
   pub before : IsBegunWithin 64 (take at bytes)
   pub after : ¬ (IsBegun (take (at + 1) bytes))
 
--- the byte at this place opens a list inside 64 lists: it is the first with which only documents of trees that nest deeper than 64 go on
+-- the byte at this place opens a list inside 64 lists: it is the first with which only documents of
+-- trees that nest deeper than 64 go on
 pub record IsDeepAt (bytes : List ℕ) (at : ℕ) : Type 0 where
   pub within : at < length bytes
   pub opens : slice_index bytes at ≡ 40

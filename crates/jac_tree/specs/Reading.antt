@@ -1,5 +1,6 @@
--- What a reader that has read some bytes still takes: the bytes that complete the document of a tree.
--- The open lists are named from the innermost one out, each with its trees so far, turned round.
+-- What a reader that has read some bytes still takes: the bytes that complete the document of a
+-- tree. The open lists are named from the innermost one out, each with its trees so far, turned
+-- round.
 use Rattle.std.specs.Prelude.{◌≡◌, ℕ, ◌+◌, ◌<◌, ◌≤◌, ◌↔◌, true, false, List, [], ◌∷◌, ◌++◌, length, take, Result, Ok, Err, string_bytes}
 use Rattle.jac_tree.specs.declared.fault.TreeFault.{TreeFault}
 use Rattle.jac_tree.specs.declared.fault.TreeFault.TheVariants as faults
@@ -22,23 +23,27 @@ open_lists (ts ∷ stack) = open_lists stack ++ plain_all ts ∷ []
 abbrev pub After : List PlainTrees → PlainTree → List ℕ → PlainTree → Type 0
 After [] u bytes t = (skip bytes ≡ []) × (t ≡ u)
 After (g ∷ gs) u bytes t =
-    (ts : PlainTrees) × (to : List ℕ) × TreesAt ts bytes to × After gs (PlainTree.list (onto (PlainTrees.more u g) ts)) to t
+    (ts : PlainTrees) × (to : List ℕ) × TreesAt ts bytes to
+    × After gs (PlainTree.list (onto (PlainTrees.more u g) ts)) to t
 
 -- a tree or the end of the innermost list is to come, and the bytes complete the document of t
 abbrev pub Between : List PlainTrees → List ℕ → PlainTree → Type 0
 Between [] bytes t = (u : PlainTree) × (to : List ℕ) × TreeAt u (skip bytes) to × After [] u to t
 Between (g ∷ gs) bytes t =
-    (ts : PlainTrees) × (to : List ℕ) × TreesAt ts bytes to × After gs (PlainTree.list (onto g ts)) to t
+    (ts : PlainTrees) × (to : List ℕ) × TreesAt ts bytes to × After gs (PlainTree.list (onto g ts))
+    to t
 
 -- the atom has begun with a, and the bytes complete the document of t
 abbrev pub InsideAtom : List PlainTrees → List ℕ → List ℕ → PlainTree → Type 0
 InsideAtom gs a bytes t =
-    (b : List ℕ) × (to : List ℕ) × (are_atom_bytes b ≡ true) × (bytes ≡ b ++ to) × (begins_with_atom_byte to ≡ false)
+    (b : List ℕ) × (to : List ℕ) × (are_atom_bytes b ≡ true) × (bytes ≡ b ++ to)
+    × (begins_with_atom_byte to ≡ false)
     × After gs (PlainTree.atom (a ++ b)) to t
 
 -- the text has begun with x, and the bytes complete the document of t
 abbrev pub InsideText : List PlainTrees → List ℕ → List ℕ → PlainTree → Type 0
-InsideText gs x bytes t = (y : List ℕ) × (to : List ℕ) × PiecesAt y bytes to × After gs (PlainTree.text (x ++ y)) to t
+InsideText gs x bytes t = (y : List ℕ) × (to : List ℕ) × PiecesAt y bytes to
+    × After gs (PlainTree.text (x ++ y)) to t
 
 abbrev pub CompletesPlace : List PlainTrees → Place → List ℕ → PlainTree → Type 0
 CompletesPlace gs places.Open bytes t = Between gs bytes t
@@ -53,18 +58,22 @@ Completes gs (modes.InEscape x) bytes t = InsideText gs (string_bytes x) (92 ∷
 
 -- after the bytes `front` a reader in the one state is one in the other
 abbrev pub Steps : List PlainTrees → Mode → List ℕ → List PlainTrees → Mode → Type 0
-Steps gs mode front hs next = (rest : List ℕ) (t : PlainTree) → Completes gs mode (front ++ rest) t ↔ Completes hs next rest t
+Steps gs mode front hs next = (rest : List ℕ) (t : PlainTree) → Completes gs mode (front ++ rest) t
+    ↔ Completes hs next rest t
 
 -- no document goes on with the first of the bytes `front`
 abbrev pub IsStuck : List PlainTrees → Mode → List ℕ → Type 0
-IsStuck gs mode front = (rest : List ℕ) (t : PlainTree) → ¬ (Completes gs mode (take 1 front ++ rest) t)
+IsStuck gs mode front = (rest : List ℕ) (t : PlainTree)
+    → ¬ (Completes gs mode (take 1 front ++ rest) t)
 
--- the first of the bytes `front` is an opening bracket, documents go on with it, and each is of a tree that nests deeper than 64
+-- the first of the bytes `front` is an opening bracket, documents go on with it, and each is of a
+-- tree that nests deeper than 64
 abbrev pub IsTooDeep : List PlainTrees → Mode → List ℕ → Type 0
 IsTooDeep gs mode front =
     (take 1 front ≡ 40 ∷ [])
     × ((rest : List ℕ) × (t : PlainTree) × Completes gs mode (take 1 front ++ rest) t)
-    × ((rest : List ℕ) (t : PlainTree) → Completes gs mode (take 1 front ++ rest) t → 64 < nesting t)
+    × ((rest : List ℕ) (t : PlainTree) → Completes gs mode (take 1 front ++ rest) t
+    → 64 < nesting t)
 
 -- a fault at the place `at`, with its cause
 abbrev pub FaultsFor : List PlainTrees → Mode → List ℕ → ℕ → TreeFault → Type 0
@@ -76,7 +85,8 @@ FaultsFor gs mode front at (faults.NotUtf8 n) = ⊥
 FaultsFor gs mode front at (faults.Unclosed n) = ⊥
 
 -- a step over the bytes `front`, which stand at the place `at`
-abbrev pub Goes : List PlainTrees → Mode → List ℕ → ℕ → List PlainTrees → Result Mode TreeFault → Type 0
+abbrev pub Goes : List PlainTrees → Mode → List ℕ → ℕ → List PlainTrees → Result Mode TreeFault
+    → Type 0
 Goes gs mode front at hs (Ok next) = Steps gs mode front hs next
 Goes gs mode front at hs (Err fault) = FaultsFor gs mode front at fault
 
@@ -98,12 +108,14 @@ IsShallow gs (modes.InEscape x) = AreShallow gs
 
 -- what the tree u makes of the open lists
 abbrev pub Settles : List PlainTrees → PlainTree → List PlainTrees → Place → Type 0
-Settles gs u hs place = (rest : List ℕ) (t : PlainTree) → After gs u rest t ↔ CompletesPlace hs place rest t
+Settles gs u hs place = (rest : List ℕ) (t : PlainTree) → After gs u rest t ↔ CompletesPlace hs
+    place rest t
 
 -- what is answered where the bytes end, at the place `at`
 abbrev pub Finishes : List PlainTrees → Mode → ℕ → Result Tree TreeFault → Type 0
 Finishes gs mode at (Ok tree) = (t : PlainTree) → Completes gs mode [] t ↔ (t ≡ plain tree)
-Finishes gs mode at (Err fault) = (fault ≡ faults.Unclosed at) × ((t : PlainTree) → ¬ (Completes gs mode [] t))
+Finishes gs mode at (Err fault) = (fault ≡ faults.Unclosed at)
+    × ((t : PlainTree) → ¬ (Completes gs mode [] t))
 
 -- a fault of bytes that are a text and aren't too long
 abbrev pub HasFault : List ℕ → TreeFault → Type 0
@@ -116,5 +128,6 @@ HasFault bytes (faults.NotUtf8 at) = ⊥
 
 -- the bytes of a text spell the tree that was read, and no other
 abbrev pub Reads : List ℕ → Result Tree TreeFault → Type 0
-Reads bytes (Ok tree) = (nesting (plain tree) ≤ 64) × ((t : PlainTree) → Spells bytes t ↔ (t ≡ plain tree))
+Reads bytes (Ok tree) = (nesting (plain tree) ≤ 64)
+    × ((t : PlainTree) → Spells bytes t ↔ (t ≡ plain tree))
 Reads bytes (Err fault) = HasFault bytes fault

@@ -9,13 +9,15 @@ use crate::{Tree, Trees};
 use jac_value::{Bytes, Memory};
 use std::alloc::Global;
 
-/// The tree as `(a "b" (c) ())`, with no white but one space between neighbours. In texts LF, CR, tab,
-/// backslash and quote are `\n`, `\r`, `\t`, `\\` and `\"`, and every other byte stands for itself.
+/// The tree as `(a "b" (c) ())`, with no white but one space between neighbours. In texts LF, CR,
+/// tab, backslash and quote are `\n`, `\r`, `\t`, `\\` and `\"`, and every other byte stands for
+/// itself.
 pub fn print_tree(alloc: Global, tree: &Tree) -> Result<Bytes, Memory>
     ensures printed { IfOk result (λ bytes. bytes ≡ printed (plain tree.now)) }
 
     // What was printed is read back as the tree, where it is within the limits of `read_tree`.
-    ensures accepted { IfOk result (λ bytes. HasAtoms (plain tree.now) → nesting (plain tree.now) ≤ 64
+    ensures accepted { IfOk result (λ bytes. HasAtoms (plain tree.now) → nesting (plain tree.now)
+        ≤ 64
         → length bytes ≤ 1048576 → Accepted bytes (plain tree.now)) }
 {
     let mut text = String::new(alloc);
@@ -47,7 +49,8 @@ fn put_tree(tree: &Tree, to: &mut String) -> Result<(), Memory>
 
 #[cycle(print)]
 fn put_list(trees: &Trees, to: &mut String) -> Result<(), Memory>
-    ensures { OnOk result (string_bytes to.new ≡ string_bytes to.old ++ printed (PlainTree.list (plain_all trees.now))) }
+    ensures { OnOk result (string_bytes to.new ≡ string_bytes to.old ++ printed
+        (PlainTree.list (plain_all trees.now))) }
 {
     to.push('(')?;
     if let Trees::More(first, rest) = trees {
@@ -61,7 +64,8 @@ fn put_list(trees: &Trees, to: &mut String) -> Result<(), Memory>
 // The trees that stand behind another one.
 #[cycle(print)]
 fn put_after(trees: &Trees, to: &mut String) -> Result<(), Memory>
-    ensures { OnOk result (string_bytes to.new ≡ string_bytes to.old ++ printed_after (plain_all trees.now)) }
+    ensures { OnOk result (string_bytes to.new ≡ string_bytes to.old ++ printed_after
+        (plain_all trees.now)) }
 {
     let mut left = trees;
     'trees: while let Trees::More(first, rest) = left {
@@ -73,7 +77,8 @@ fn put_after(trees: &Trees, to: &mut String) -> Result<(), Memory>
 }
 
 fn put_text(text: &str, to: &mut String) -> Result<(), Memory>
-    ensures { OnOk result (string_bytes to.new ≡ string_bytes to.old ++ printed (PlainTree.text text.now)) }
+    ensures { OnOk result (string_bytes to.new ≡ string_bytes to.old ++ printed
+        (PlainTree.text text.now)) }
 {
     to.push('"')?;
     'characters: for c in text.chars() {

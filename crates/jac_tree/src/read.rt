@@ -44,20 +44,26 @@ pub fn read_tree(alloc: Global, bytes: &[u8]) -> Result<Tree, TreeFault>
     ensures short_lists { IfOk result (λ t. widest (plain t) < 2 ^ 32) }
 
     // Each tree that the bytes spell is read, unless memory runs out.
-    ensures only { (t : PlainTree) → Accepted bytes.now t → MatchResult result (λ u. plain u ≡ t) (λ e. e ≡ TreeFault.Memory) }
+    ensures only { (t : PlainTree) → Accepted bytes.now t → MatchResult result (λ u. plain u ≡ t)
+        (λ e. e ≡ TreeFault.Memory) }
 
     // The length is tested first, and then the encoding, and neither takes memory.
     ensures long { IsErrOf result TreeFault.Long ↔ (1048576 < length bytes.now) }
-    ensures not_utf8 { (at : ℕ) → IsErrOf result (TreeFault.NotUtf8 at) → (length bytes.now ≤ 1048576) × ¬ (IsUtf8 bytes.now) × IsValidUpTo bytes.now at }
-    ensures no_text { length bytes.now ≤ 1048576 → ¬ (IsUtf8 bytes.now) → (at : ℕ) × IsErrOf result (TreeFault.NotUtf8 at) }
+    ensures not_utf8 { (at : ℕ) → IsErrOf result (TreeFault.NotUtf8 at)
+        → (length bytes.now ≤ 1048576) × ¬ (IsUtf8 bytes.now) × IsValidUpTo bytes.now at }
+    ensures no_text { length bytes.now ≤ 1048576 → ¬ (IsUtf8 bytes.now) → (at : ℕ)
+        × IsErrOf result (TreeFault.NotUtf8 at) }
 
-    // Stray and Deep come at the first byte with which no document, or no document of at most 64 levels, goes on.
+    // Stray and Deep come at the first byte with which no document, or no document of at most 64
+    // levels, goes on.
     ensures stray { (at : ℕ) → IsErrOf result (TreeFault.Stray at) → IsStrayAt bytes.now at }
     ensures deep { (at : ℕ) → IsErrOf result (TreeFault.Deep at) → IsDeepAt bytes.now at }
-    ensures unclosed { (at : ℕ) → IsErrOf result (TreeFault.Unclosed at) → IsUnclosedAt bytes.now at }
+    ensures unclosed { (at : ℕ) → IsErrOf result (TreeFault.Unclosed at)
+        → IsUnclosedAt bytes.now at }
 
     // Where the bytes have a fault it is answered, unless memory runs out.
-    ensures faults { (fault : AnyFault) → IsFaultOf bytes.now fault → MatchResult result (λ _. ⊥) (λ e. (e ≡ fault) ⊎ (e ≡ TreeFault.Memory)) }
+    ensures faults { (fault : AnyFault) → IsFaultOf bytes.now fault
+        → MatchResult result (λ _. ⊥) (λ e. (e ≡ fault) ⊎ (e ≡ TreeFault.Memory)) }
 {
     if bytes.len() > LENGTH_LIMIT {
         return Err(TreeFault::Long);
@@ -72,7 +78,8 @@ pub fn read_tree(alloc: Global, bytes: &[u8]) -> Result<Tree, TreeFault>
 
 /// A law, with nothing to run: bytes spell at most one tree.
 pub fn spells_one_tree()
-    ensures { (bytes : List ℕ) (t : PlainTree) (u : PlainTree) → Spells bytes t → Spells bytes u → t ≡ u }
+    ensures { (bytes : List ℕ) (t : PlainTree) (u : PlainTree) → Spells bytes t → Spells bytes u
+        → t ≡ u }
 {}
 
 /// The tree that the text spells, however long it is.
@@ -106,8 +113,10 @@ fn step(
     c: char,
     at: u64,
 ) -> Result<Mode, TreeFault>
-    ensures steps { Goes (open_lists stack.old.items) mode (encode_utf8 c) at (open_lists stack.new.items) result }
-    ensures shallow { IfOk result (λ next. IsShallow (open_lists stack.old.items) mode → IsShallow (open_lists stack.new.items) next) }
+    ensures steps { Goes (open_lists stack.old.items) mode (encode_utf8 c) at
+        (open_lists stack.new.items) result }
+    ensures shallow { IfOk result (λ next. IsShallow (open_lists stack.old.items) mode
+        → IsShallow (open_lists stack.new.items) next) }
 {
     match mode {
         Mode::Outside(place) => {
@@ -136,8 +145,10 @@ fn outside(
     c: char,
     at: u64,
 ) -> Result<Mode, TreeFault>
-    ensures steps { Goes (open_lists stack.old.items) (Mode.Outside place) (encode_utf8 c) at (open_lists stack.new.items) result }
-    ensures shallow { IfOk result (λ next. IsShallow (open_lists stack.old.items) (Mode.Outside place) → IsShallow (open_lists stack.new.items) next) }
+    ensures steps { Goes (open_lists stack.old.items) (Mode.Outside place) (encode_utf8 c) at
+        (open_lists stack.new.items) result }
+    ensures shallow { IfOk result (λ next. IsShallow (open_lists stack.old.items)
+        (Mode.Outside place) → IsShallow (open_lists stack.new.items) next) }
 {
     match place {
         Place::Open => {
@@ -156,8 +167,10 @@ fn outside(
 
 // A tree may begin with the character, or the innermost list end.
 fn between(alloc: Global, stack: &mut Vec<Trees>, c: char, at: u64) -> Result<Mode, TreeFault>
-    ensures steps { Goes (open_lists stack.old.items) (Mode.Outside Place.Open) (encode_utf8 c) at (open_lists stack.new.items) result }
-    ensures shallow { IfOk result (λ next. IsShallow (open_lists stack.old.items) (Mode.Outside Place.Open) → IsShallow (open_lists stack.new.items) next) }
+    ensures steps { Goes (open_lists stack.old.items) (Mode.Outside Place.Open) (encode_utf8 c) at
+        (open_lists stack.new.items) result }
+    ensures shallow { IfOk result (λ next. IsShallow (open_lists stack.old.items)
+        (Mode.Outside Place.Open) → IsShallow (open_lists stack.new.items) next) }
 {
     if is_white(c) {
         return Ok(Mode::Outside(Place::Open));
@@ -185,8 +198,10 @@ fn begin_atom(alloc: Global, c: char, at: u64) -> Result<Mode, TreeFault>
     requires no_quote { c ≢ 34 }
     requires no_opening { c ≢ 40 }
     requires no_closing { c ≢ 41 }
-    ensures steps { (gs : List PlainTrees) → Goes gs (Mode.Outside Place.Open) (encode_utf8 c) at gs result }
-    ensures shallow { (gs : List PlainTrees) → AreShallow gs → IfOk result (λ next. IsShallow gs next) }
+    ensures steps { (gs : List PlainTrees) → Goes gs (Mode.Outside Place.Open) (encode_utf8 c) at gs
+        result }
+    ensures shallow { (gs : List PlainTrees) → AreShallow gs
+        → IfOk result (λ next. IsShallow gs next) }
 {
     if is_atom_char(c) {
         let atom = pushed(String::new(alloc), c)?;
@@ -197,8 +212,10 @@ fn begin_atom(alloc: Global, c: char, at: u64) -> Result<Mode, TreeFault>
 }
 
 fn open_list(stack: &mut Vec<Trees>, at: u64) -> Result<Mode, TreeFault>
-    ensures steps { Goes (open_lists stack.old.items) (Mode.Outside Place.Open) (40 ∷ []) at (open_lists stack.new.items) result }
-    ensures shallow { IfOk result (λ next. IsShallow (open_lists stack.old.items) (Mode.Outside Place.Open) → IsShallow (open_lists stack.new.items) next) }
+    ensures steps { Goes (open_lists stack.old.items) (Mode.Outside Place.Open) (40 ∷ []) at
+        (open_lists stack.new.items) result }
+    ensures shallow { IfOk result (λ next. IsShallow (open_lists stack.old.items)
+        (Mode.Outside Place.Open) → IsShallow (open_lists stack.new.items) next) }
 {
     if stack.len() >= NESTING_LIMIT {
         return Err(TreeFault::Deep(at));
@@ -208,15 +225,18 @@ fn open_list(stack: &mut Vec<Trees>, at: u64) -> Result<Mode, TreeFault>
 }
 
 fn add_list(stack: &mut Vec<Trees>) -> Result<(), Memory>
-    ensures { OnOk result (open_lists stack.new.items ≡ PlainTrees.none ∷ open_lists stack.old.items) }
+    ensures { OnOk result (open_lists stack.new.items ≡ PlainTrees.none ∷ open_lists
+        stack.old.items) }
 {
     stack.push(Trees::End)?;
     Ok(())
 }
 
 fn close_list(alloc: Global, stack: &mut Vec<Trees>, at: u64) -> Result<Mode, TreeFault>
-    ensures steps { Goes (open_lists stack.old.items) (Mode.Outside Place.Open) (41 ∷ []) at (open_lists stack.new.items) result }
-    ensures shallow { IfOk result (λ next. IsShallow (open_lists stack.old.items) (Mode.Outside Place.Open) → IsShallow (open_lists stack.new.items) next) }
+    ensures steps { Goes (open_lists stack.old.items) (Mode.Outside Place.Open) (41 ∷ []) at
+        (open_lists stack.new.items) result }
+    ensures shallow { IfOk result (λ next. IsShallow (open_lists stack.old.items)
+        (Mode.Outside Place.Open) → IsShallow (open_lists stack.new.items) next) }
 {
     match stack.pop() {
         None => Err(TreeFault::Stray(at)),
@@ -229,8 +249,10 @@ fn close_list(alloc: Global, stack: &mut Vec<Trees>, at: u64) -> Result<Mode, Tr
 
 // Puts a tree that was read into the innermost open list.
 fn settle(alloc: Global, stack: &mut Vec<Trees>, tree: Tree) -> Result<Place, Memory>
-    ensures settles { IfOk result (λ place. Settles (open_lists stack.old.items) (plain tree) (open_lists stack.new.items) place) }
-    ensures shallow { IfOk result (λ place. AreShallow (open_lists stack.old.items) → nesting (plain tree) + length (open_lists stack.old.items) ≤ 64
+    ensures settles { IfOk result (λ place. Settles (open_lists stack.old.items) (plain tree)
+        (open_lists stack.new.items) place) }
+    ensures shallow { IfOk result (λ place. AreShallow (open_lists stack.old.items)
+        → nesting (plain tree) + length (open_lists stack.old.items) ≤ 64
         → AreShallow (open_lists stack.new.items) × IsShallowPlace place) }
 {
     match stack.pop() {
@@ -251,8 +273,10 @@ fn in_atom(
     c: char,
     at: u64,
 ) -> Result<Mode, TreeFault>
-    ensures steps { Goes (open_lists stack.old.items) (Mode.InAtom atom) (encode_utf8 c) at (open_lists stack.new.items) result }
-    ensures shallow { IfOk result (λ next. IsShallow (open_lists stack.old.items) (Mode.InAtom atom) → IsShallow (open_lists stack.new.items) next) }
+    ensures steps { Goes (open_lists stack.old.items) (Mode.InAtom atom) (encode_utf8 c) at
+        (open_lists stack.new.items) result }
+    ensures shallow { IfOk result (λ next. IsShallow (open_lists stack.old.items) (Mode.InAtom atom)
+        → IsShallow (open_lists stack.new.items) next) }
 {
     if is_atom_char(c) {
         let atom = pushed(atom, c)?;
@@ -265,8 +289,10 @@ fn in_atom(
 }
 
 fn in_text(alloc: Global, stack: &mut Vec<Trees>, text: String, c: char) -> Result<Mode, Memory>
-    ensures steps { IfOk result (λ next. Steps (open_lists stack.old.items) (Mode.InText text) (encode_utf8 c) (open_lists stack.new.items) next) }
-    ensures shallow { IfOk result (λ next. IsShallow (open_lists stack.old.items) (Mode.InText text) → IsShallow (open_lists stack.new.items) next) }
+    ensures steps { IfOk result (λ next. Steps (open_lists stack.old.items) (Mode.InText text)
+        (encode_utf8 c) (open_lists stack.new.items) next) }
+    ensures shallow { IfOk result (λ next. IsShallow (open_lists stack.old.items) (Mode.InText text)
+        → IsShallow (open_lists stack.new.items) next) }
 {
     match c {
         '"' => {
@@ -282,8 +308,10 @@ fn in_text(alloc: Global, stack: &mut Vec<Trees>, text: String, c: char) -> Resu
 }
 
 fn in_escape(text: String, c: char, at: u64) -> Result<Mode, TreeFault>
-    ensures steps { (gs : List PlainTrees) → Goes gs (Mode.InEscape text) (encode_utf8 c) at gs result }
-    ensures shallow { (gs : List PlainTrees) → AreShallow gs → IfOk result (λ next. IsShallow gs next) }
+    ensures steps { (gs : List PlainTrees) → Goes gs (Mode.InEscape text) (encode_utf8 c) at gs
+        result }
+    ensures shallow { (gs : List PlainTrees) → AreShallow gs
+        → IfOk result (λ next. IsShallow gs next) }
 {
     match unescaped(c) {
         Some(piece) => {
@@ -296,7 +324,8 @@ fn in_escape(text: String, c: char, at: u64) -> Result<Mode, TreeFault>
 
 fn finish(mode: Mode, stack: &[Trees], at: u64) -> Result<Tree, TreeFault>
     ensures finishes { Finishes (open_lists stack.now) mode at result }
-    ensures shallow { IfOk result (λ tree. IsShallow (open_lists stack.now) mode → nesting (plain tree) ≤ 64) }
+    ensures shallow { IfOk result (λ tree. IsShallow (open_lists stack.now) mode
+        → nesting (plain tree) ≤ 64) }
 {
     match mode {
         Mode::Outside(Place::Complete(tree)) => Ok(tree),

@@ -16,21 +16,23 @@ use jac_tree::{Tree, Trees};
 use jac_value::{Memory, Txt};
 use std::alloc::Global;
 
-/// The tree that an application is written as. `app_of` gives the application of it, for each application
-/// that `app_of` has given. The block of an expanded template has no form of its own: it is written as a list
-/// that begins with `block`, which `app_of` refuses.
+/// The tree that an application is written as. `app_of` gives the application of it, for each
+/// application that `app_of` has given. The block of an expanded template has no form of its own:
+/// it is written as a list that begins with `block`, which `app_of` refuses.
 pub fn tree_of(alloc: Global, app: &App) -> Result<Tree, Memory>
     ensures tree { IfOk result (λ t. plain t ≡ tree_of_application (application_of app.now)) }
-    ensures read { IfOk result (λ t. IsReadable (application_of app.now) → application_in_tree [] (plain t) ≡ got (application_of app.now)) }
+    ensures read { IfOk result (λ t. IsReadable (application_of app.now)
+        → application_in_tree [] (plain t) ≡ got (application_of app.now)) }
 {
     let tree = app_tree(alloc, app)?;
     Ok(tree)
 }
 
-/// A law, with nothing to run: an application that some tree writes is the one of the tree that it is
-/// written as.
+/// A law, with nothing to run: an application that some tree writes is the one of the tree that it
+/// is written as.
 pub fn written_applications_are_read()
-    ensures { (a : Application) → IsReadable a → application_in_tree [] (tree_of_application a) ≡ got a }
+    ensures { (a : Application) → IsReadable a → application_in_tree [] (tree_of_application a)
+        ≡ got a }
 {}
 
 fn app_tree(alloc: Global, app: &App) -> Result<Tree, Memory>
@@ -43,7 +45,8 @@ fn app_tree(alloc: Global, app: &App) -> Result<Tree, Memory>
 }
 
 fn with_viewer(alloc: Global, viewer: Option<&Txt>, items: Trees) -> Result<Trees, Memory>
-    ensures { IfOk result (λ ts. plain_all ts ≡ viewer_before (option_copied viewer.entry) (plain_all items)) }
+    ensures { IfOk result (λ ts. plain_all ts ≡ viewer_before (option_copied viewer.entry)
+        (plain_all items)) }
 {
     match viewer {
         None => Ok(items),
@@ -63,7 +66,8 @@ fn viewer_tree(alloc: Global, viewer: &Txt) -> Result<Tree, Memory>
 
 // The models, before the trees that are there.
 fn model_trees(alloc: Global, models: &[ModelDef], rest: Trees) -> Result<Trees, Memory>
-    ensures { IfOk result (λ ts. plain_all ts ≡ models_before (entities_of models.now) (plain_all rest)) }
+    ensures { IfOk result (λ ts. plain_all ts ≡ models_before (entities_of models.now)
+        (plain_all rest)) }
 {
     let mut back = Trees::End;
     'models: for model in models {

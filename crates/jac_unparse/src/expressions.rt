@@ -53,7 +53,8 @@ pub fn query_tree(alloc: Global, query: &Query) -> Result<Tree, Memory>
 
 #[cycle(write)]
 fn one_operand(alloc: Global, word: &str, operand: &Expr) -> Result<Tree, Memory>
-    ensures { IfOk result (λ t. plain t ≡ form word.now (one (tree_of_expression (expression_of operand.now)))) }
+    ensures { IfOk result (λ t. plain t ≡ form word.now
+        (one (tree_of_expression (expression_of operand.now)))) }
 {
     let operand = expr_tree(alloc, operand)?;
     form_of_one(alloc, word, operand)
@@ -61,7 +62,9 @@ fn one_operand(alloc: Global, word: &str, operand: &Expr) -> Result<Tree, Memory
 
 #[cycle(write)]
 fn two_operands(alloc: Global, word: &str, first: &Expr, second: &Expr) -> Result<Tree, Memory>
-    ensures { IfOk result (λ t. plain t ≡ form word.now (two (tree_of_expression (expression_of first.now)) (tree_of_expression (expression_of second.now)))) }
+    ensures { IfOk result (λ t. plain t ≡ form word.now
+        (two (tree_of_expression (expression_of first.now))
+        (tree_of_expression (expression_of second.now)))) }
 {
     let first = expr_tree(alloc, first)?;
     let second = expr_tree(alloc, second)?;
@@ -70,7 +73,8 @@ fn two_operands(alloc: Global, word: &str, first: &Expr, second: &Expr) -> Resul
 
 #[cycle(write)]
 fn get_tree(alloc: Global, model: &Txt, field: &Txt, reference: &Expr) -> Result<Tree, Memory>
-    ensures { IfOk result (λ t. plain t ≡ form (codes "get") (three (PlainTree.atom model.now) (PlainTree.atom field.now) (tree_of_expression (expression_of reference.now)))) }
+    ensures { IfOk result (λ t. plain t ≡ form (codes "get") (three (PlainTree.atom model.now)
+        (PlainTree.atom field.now) (tree_of_expression (expression_of reference.now)))) }
 {
     let model = name_tree(alloc, model)?;
     let field = name_tree(alloc, field)?;
@@ -80,7 +84,10 @@ fn get_tree(alloc: Global, model: &Txt, field: &Txt, reference: &Expr) -> Result
 
 #[cycle(write)]
 fn pick_tree(alloc: Global, cond: &Expr, then: &Expr, other: &Expr) -> Result<Tree, Memory>
-    ensures { IfOk result (λ t. plain t ≡ form (codes "pick") (three (tree_of_expression (expression_of cond.now)) (tree_of_expression (expression_of then.now)) (tree_of_expression (expression_of other.now)))) }
+    ensures { IfOk result (λ t. plain t ≡ form (codes "pick")
+        (three (tree_of_expression (expression_of cond.now))
+        (tree_of_expression (expression_of then.now))
+        (tree_of_expression (expression_of other.now)))) }
 {
     let cond = expr_tree(alloc, cond)?;
     let then = expr_tree(alloc, then)?;
@@ -90,7 +97,8 @@ fn pick_tree(alloc: Global, cond: &Expr, then: &Expr, other: &Expr) -> Result<Tr
 
 #[cycle(write)]
 fn cat_tree(alloc: Global, parts: &Exprs) -> Result<Tree, Memory>
-    ensures { IfOk result (λ t. plain t ≡ form (codes "cat") (trees_of_expressions (expressions_of parts.now))) }
+    ensures { IfOk result (λ t. plain t ≡ form (codes "cat")
+        (trees_of_expressions (expressions_of parts.now))) }
 {
     let trees = part_trees(alloc, parts)?;
     form(alloc, "cat", trees)
@@ -112,7 +120,8 @@ fn part_trees(alloc: Global, parts: &Exprs) -> Result<Trees, Memory>
 
 #[cycle(write)]
 fn one_query(alloc: Global, word: &str, query: &Query) -> Result<Tree, Memory>
-    ensures { IfOk result (λ t. plain t ≡ form word.now (one (tree_of_question (question_of query.now)))) }
+    ensures { IfOk result (λ t. plain t ≡ form word.now
+        (one (tree_of_question (question_of query.now)))) }
 {
     let query = query_tree(alloc, query)?;
     form_of_one(alloc, word, query)
@@ -120,7 +129,9 @@ fn one_query(alloc: Global, word: &str, query: &Query) -> Result<Tree, Memory>
 
 #[cycle(write)]
 fn sum_tree(alloc: Global, query: &Query, each: &Expr) -> Result<Tree, Memory>
-    ensures { IfOk result (λ t. plain t ≡ form (codes "sum") (two (tree_of_question (question_of query.now)) (tree_of_expression (expression_of each.now)))) }
+    ensures { IfOk result (λ t. plain t ≡ form (codes "sum")
+        (two (tree_of_question (question_of query.now))
+        (tree_of_expression (expression_of each.now)))) }
 {
     let query = query_tree(alloc, query)?;
     let each = expr_tree(alloc, each)?;
@@ -159,7 +170,8 @@ fn order_tree(alloc: Global, order: &Order) -> Result<Tree, Memory>
 }
 
 fn sorted_tree(alloc: Global, word: &str, binder: &Txt, field: &Txt) -> Result<Tree, Memory>
-    ensures { IfOk result (λ t. plain t ≡ form word.now (two (PlainTree.atom binder.now) (PlainTree.atom field.now))) }
+    ensures { IfOk result (λ t. plain t ≡ form word.now (two (PlainTree.atom binder.now)
+        (PlainTree.atom field.now))) }
 {
     let binder = name_tree(alloc, binder)?;
     let field = name_tree(alloc, field)?;

@@ -1,5 +1,5 @@
-//! Back from applications to trees: the tree that an application is written as, which is read as the
-//! same application.
+//! Back from applications to trees: the tree that an application is written as, which is read as
+//! the same application.
 #![tactic(auto)]
 
 mod applications;

@@ -95,7 +95,8 @@ pub fn form_of_three(
     second: Tree,
     third: Tree,
 ) -> Result<Tree, Memory>
-    ensures { IfOk result (λ t. plain t ≡ form word.now (three (plain first) (plain second) (plain third))) }
+    ensures { IfOk result (λ t. plain t ≡ form word.now (three (plain first) (plain second)
+        (plain third))) }
 {
     let rest = three(alloc, first, second, third)?;
     form(alloc, word, rest)

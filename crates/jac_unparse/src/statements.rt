@@ -57,7 +57,10 @@ fn stmt_tree(alloc: Global, statement: &Stmt) -> Result<Tree, Memory>
 
 #[cycle(write)]
 fn let_tree(alloc: Global, name: &Txt, value: &Expr, body: &Stmts) -> Result<Tree, Memory>
-    ensures { IfOk result (λ t. plain t ≡ form (codes "let") (PlainTrees.more (PlainTree.atom name.now) (PlainTrees.more (tree_of_expression (expression_of value.now)) (trees_of_statements (statements_of body.now))))) }
+    ensures { IfOk result (λ t. plain t ≡ form (codes "let")
+        (PlainTrees.more (PlainTree.atom name.now)
+        (PlainTrees.more (tree_of_expression (expression_of value.now))
+        (trees_of_statements (statements_of body.now))))) }
 {
     let name = name_tree(alloc, name)?;
     let value = expr_tree(alloc, value)?;
@@ -69,7 +72,10 @@ fn let_tree(alloc: Global, name: &Txt, value: &Expr, body: &Stmts) -> Result<Tre
 
 #[cycle(write)]
 fn if_tree(alloc: Global, cond: &Expr, then: &Stmts, other: &Stmts) -> Result<Tree, Memory>
-    ensures { IfOk result (λ t. plain t ≡ form (codes "if") (three (tree_of_expression (expression_of cond.now)) (PlainTree.list (trees_of_statements (statements_of then.now))) (PlainTree.list (trees_of_statements (statements_of other.now))))) }
+    ensures { IfOk result (λ t. plain t ≡ form (codes "if")
+        (three (tree_of_expression (expression_of cond.now))
+        (PlainTree.list (trees_of_statements (statements_of then.now)))
+        (PlainTree.list (trees_of_statements (statements_of other.now))))) }
 {
     let cond = expr_tree(alloc, cond)?;
     let then = stmt_trees(alloc, then)?;
@@ -79,7 +85,9 @@ fn if_tree(alloc: Global, cond: &Expr, then: &Stmts, other: &Stmts) -> Result<Tr
 
 #[cycle(write)]
 fn for_tree(alloc: Global, query: &Query, body: &Stmts) -> Result<Tree, Memory>
-    ensures { IfOk result (λ t. plain t ≡ form (codes "for") (PlainTrees.more (tree_of_question (question_of query.now)) (trees_of_statements (statements_of body.now)))) }
+    ensures { IfOk result (λ t. plain t ≡ form (codes "for")
+        (PlainTrees.more (tree_of_question (question_of query.now))
+        (trees_of_statements (statements_of body.now)))) }
 {
     let query = query_tree(alloc, query)?;
     let body = stmt_trees(alloc, body)?;
@@ -96,7 +104,10 @@ fn create_tree(
     cells: &Publics,
     body: &Stmts,
 ) -> Result<Tree, Memory>
-    ensures { IfOk result (λ t. plain t ≡ form (codes "create") (PlainTrees.more (PlainTree.atom name.now) (PlainTrees.more (PlainTree.atom model.now) (PlainTrees.more (tree_of_set (assigned_of cells.now)) (trees_of_statements (statements_of body.now)))))) }
+    ensures { IfOk result (λ t. plain t ≡ form (codes "create")
+        (PlainTrees.more (PlainTree.atom name.now) (PlainTrees.more (PlainTree.atom model.now)
+        (PlainTrees.more (tree_of_set (assigned_of cells.now))
+        (trees_of_statements (statements_of body.now)))))) }
 {
     let name = name_tree(alloc, name)?;
     let model = name_tree(alloc, model)?;
@@ -110,14 +121,16 @@ fn create_tree(
 
 #[cycle(write)]
 fn block_tree(alloc: Global, body: &Stmts) -> Result<Tree, Memory>
-    ensures { IfOk result (λ t. plain t ≡ form (codes "block") (trees_of_statements (statements_of body.now))) }
+    ensures { IfOk result (λ t. plain t ≡ form (codes "block")
+        (trees_of_statements (statements_of body.now))) }
 {
     let body = stmt_trees(alloc, body)?;
     form(alloc, "block", body)
 }
 
 fn update_tree(alloc: Global, model: &Txt, target: &Expr, cells: &Publics) -> Result<Tree, Memory>
-    ensures { IfOk result (λ t. plain t ≡ form (codes "update") (three (PlainTree.atom model.now) (tree_of_expression (expression_of target.now)) (tree_of_set (assigned_of cells.now)))) }
+    ensures { IfOk result (λ t. plain t ≡ form (codes "update") (three (PlainTree.atom model.now)
+        (tree_of_expression (expression_of target.now)) (tree_of_set (assigned_of cells.now)))) }
 {
     let model = name_tree(alloc, model)?;
     let target = expr_tree(alloc, target)?;
@@ -133,14 +146,16 @@ fn template_tree(alloc: Global, text: &Txt) -> Result<Tree, Memory>
 }
 
 fn one_operand(alloc: Global, word: &str, operand: &Expr) -> Result<Tree, Memory>
-    ensures { IfOk result (λ t. plain t ≡ form word.now (one (tree_of_expression (expression_of operand.now)))) }
+    ensures { IfOk result (λ t. plain t ≡ form word.now
+        (one (tree_of_expression (expression_of operand.now)))) }
 {
     let operand = expr_tree(alloc, operand)?;
     form_of_one(alloc, word, operand)
 }
 
 fn name_and_operand(alloc: Global, word: &str, name: &Txt, operand: &Expr) -> Result<Tree, Memory>
-    ensures { IfOk result (λ t. plain t ≡ form word.now (two (PlainTree.atom name.now) (tree_of_expression (expression_of operand.now)))) }
+    ensures { IfOk result (λ t. plain t ≡ form word.now (two (PlainTree.atom name.now)
+        (tree_of_expression (expression_of operand.now)))) }
 {
     let name = name_tree(alloc, name)?;
     let operand = expr_tree(alloc, operand)?;

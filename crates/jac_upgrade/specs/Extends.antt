@@ -21,13 +21,15 @@ or_else (Some fault) other = Some fault
 abbrev pub fields_lack : ℕ → ℕ → List Field → List Field → Option UpgradeFault
 fields_lack m n [] news = None
 fields_lack m n (f ∷ fs) [] = Some (faults.Field m n)
-fields_lack m n (f ∷ fs) (g ∷ gs) = if same_field f g then fields_lack m (n + 1) fs gs else Some (faults.Field m n)
+fields_lack m n (f ∷ fs) (g ∷ gs) = if same_field f g then fields_lack m (n + 1) fs gs
+    else Some (faults.Field m n)
 
 -- the first group that isn't the one at its place there
 abbrev pub groups_lack : ℕ → ℕ → List FieldGroup → List FieldGroup → Option UpgradeFault
 groups_lack m n [] news = None
 groups_lack m n (f ∷ fs) [] = Some (faults.Group m n)
-groups_lack m n (f ∷ fs) (g ∷ gs) = if same_group f g then groups_lack m (n + 1) fs gs else Some (faults.Group m n)
+groups_lack m n (f ∷ fs) (g ∷ gs) = if same_group f g then groups_lack m (n + 1) fs gs
+    else Some (faults.Group m n)
 
 -- of a model its name and whether it is nested, then its fields, then its groups
 abbrev pub model_lack : ℕ → Entity → Entity → Option UpgradeFault

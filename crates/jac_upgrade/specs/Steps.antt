@@ -24,21 +24,25 @@ abbrev pub AreMet : List Row → Type 0
 AreMet rows = AllByRecursion (λ (r : Row). holds (wanted r.guard) r.guard ≡ true) rows
 
 -- what an upgrade leaves of the cells of the alternatives of a record
-abbrev pub upgraded_all : (ℕ → Bool) → List Entity → List Entity → ℕ → ℕ → List (List Value) → List (List Value)
+abbrev pub upgraded_all : (ℕ → Bool) → List Entity → List Entity → ℕ → ℕ → List (List Value)
+    → List (List Value)
 upgraded_all w olds news m id cells =
-    if stays news w m id (group_count olds m) then map (upgraded_cells w olds news m id) cells else []
+    if stays news w m id (group_count olds m) then map (upgraded_cells w olds news m id) cells
+    else []
 
 -- these alternatives of a record show what an upgrade leaves of those
 pub record IsRenewed (olds news : List Entity) (m id : ℕ) (old new : List Row) : Type 0 where
   pub of : AreOf id new
   pub met : AreMet new
-  pub shown : (w : ℕ → Bool) → length (cells_at w old) ≤ 1 → cells_at w new ≡ upgraded_all w olds news m id (cells_at w old)
+  pub shown : (w : ℕ → Bool) → length (cells_at w old) ≤ 1 → cells_at w new ≡ upgraded_all w olds
+      news m id (cells_at w old)
 
 -- the alteration is one of a record of the model, from all alternatives that it has among these
-pub record IsUpgradeIn (olds news : List Entity) (m : ℕ) (rows : List Row) (a : Alteration) : Type 0 where
-  pub one : is_id_of a.id m ≡ true
-  pub there : has_alternative a.id rows ≡ true
-  pub renewed : IsRenewed olds news m a.id (alternatives a.id rows) a.rows
+pub record IsUpgradeIn (olds news : List Entity) (m : ℕ) (rows : List Row) (a : Alteration) : Type 0
+  where
+    pub one : is_id_of a.id m ≡ true
+    pub there : has_alternative a.id rows ≡ true
+    pub renewed : IsRenewed olds news m a.id (alternatives a.id rows) a.rows
 
 -- the alteration has rows of its own record alone
 abbrev pub IsOwn : Alteration → Type 0
@@ -54,12 +58,15 @@ starts_with id [] = false
 starts_with id (r ∷ rows) = r.id == id
 
 -- the record of the first row is altered, where its id is one of the model
-pub record AltersFirst (olds news : List Entity) (m : ℕ) (rows : List Row) (old new : List Alteration) : Type 0 where
+pub record AltersFirst (olds news : List Entity) (m : ℕ) (rows : List Row)
+    (old new : List Alteration) : Type 0 where
   pub more : List Alteration
   pub added : new ≡ old ++ more
   pub own : AllByRecursion IsOwn more
-  pub each : AllByRecursion (λ (a : Alteration). (is_id_of a.id m ≡ true) × (starts_with a.id rows ≡ true) × IsRenewed olds news m a.id rows a.rows) more
-  pub named : (id : ℕ) → is_id_of id m ≡ true → starts_with id rows ≡ true → is_changed id more ≡ true
+  pub each : AllByRecursion (λ (a : Alteration). (is_id_of a.id m ≡ true)
+      × (starts_with a.id rows ≡ true) × IsRenewed olds news m a.id rows a.rows) more
+  pub named : (id : ℕ) → is_id_of id m ≡ true → starts_with id rows ≡ true
+      → is_changed id more ≡ true
 
 -- how many rows at the front are of the record, and how many of the record of the first one
 abbrev pub front_count : ℕ → List Row → ℕ
@@ -71,12 +78,14 @@ first_count [] = 0
 first_count (r ∷ rows) = front_count r.id rows + 1
 
 -- each record of the model that has a row among these is altered, where they don't fall
-pub record AltersRows (olds news : List Entity) (m : ℕ) (rows : List Row) (old new : List Alteration) : Type 0 where
+pub record AltersRows (olds news : List Entity) (m : ℕ) (rows : List Row)
+    (old new : List Alteration) : Type 0 where
   pub more : List Alteration
   pub added : new ≡ old ++ more
   pub own : AllByRecursion IsOwn more
   pub each : AreOrdered rows → AllByRecursion (IsUpgradeIn olds news m rows) more
-  pub named : AreOrdered rows → (id : ℕ) → is_id_of id m ≡ true → has_alternative id rows ≡ true → is_changed id more ≡ true
+  pub named : AreOrdered rows → (id : ℕ) → is_id_of id m ≡ true → has_alternative id rows ≡ true
+      → is_changed id more ≡ true
 
 -- the alteration is one of a record of the state
 pub record IsUpgradeOf (olds news : List Entity) (s : State) (a : Alteration) : Type 0 where
@@ -84,6 +93,8 @@ pub record IsUpgradeOf (olds news : List Entity) (s : State) (a : Alteration) : 
   pub upgrade : IsUpgradeIn olds news (model_of_id a.id) (rows_of s.tables (model_of_id a.id)) a
 
 -- each record of the models below this one is altered
-pub record AltersBelow (olds news : List Entity) (s : State) (m : ℕ) (made : List Alteration) : Type 0 where
+pub record AltersBelow (olds news : List Entity) (s : State) (m : ℕ) (made : List Alteration) : Type
+    0 where
   pub each : AllByRecursion (IsUpgradeOf olds news s) made
-  pub named : (id : ℕ) → model_of_id id < m → has_alternative id (rows_of s.tables (model_of_id id)) ≡ true → is_changed id made ≡ true
+  pub named : (id : ℕ) → model_of_id id < m → has_alternative id (rows_of s.tables (model_of_id id))
+      ≡ true → is_changed id made ≡ true

@@ -14,9 +14,11 @@ group_count models m = length (groups_at models m)
 
 -- the cells, and then the defaults of the fields that were added
 abbrev pub draft_of : List Entity → List Entity → ℕ → List Value → List Value
-draft_of olds news m cells = cells ++ default_cells news (drop (length (fields_at olds m)) (fields_at news m))
+draft_of olds news m cells = cells ++ default_cells news (drop (length (fields_at olds m))
+    (fields_at news m))
 
--- where the label of an added group isn't shown, the fields that it guards have their public values over the draft
+-- where the label of an added group isn't shown, the fields that it guards have their public values
+-- over the draft
 abbrev pub upgraded_cells : (ℕ → Bool) → List Entity → List Entity → ℕ → ℕ → List Value → List Value
 upgraded_cells w olds news m id cells =
     shielded news w m id (is_guarded_from news m (group_count olds m)) (draft_of olds news m cells)
@@ -25,7 +27,8 @@ abbrev pub upgraded_row : (ℕ → Bool) → List Entity → List Entity → ℕ
 upgraded_row w olds news m r = plain_row r.id (upgraded_cells w olds news m r.id r.cells)
 
 -- a record is left out where an added group hides it
-abbrev pub upgraded_rows : (ℕ → Bool) → List Entity → List Entity → ℕ → List PlainRow → List PlainRow
+abbrev pub upgraded_rows : (ℕ → Bool) → List Entity → List Entity → ℕ → List PlainRow
+    → List PlainRow
 upgraded_rows w olds news m [] = []
 upgraded_rows w olds news m (r ∷ rows) =
     if stays news w m r.id (group_count olds m)
@@ -33,9 +36,11 @@ upgraded_rows w olds news m (r ∷ rows) =
     else upgraded_rows w olds news m rows
 
 -- the tables of the models from this one on
-abbrev pub upgraded_tables : (ℕ → Bool) → List Entity → List Entity → ℕ → List (List PlainRow) → List (List PlainRow)
+abbrev pub upgraded_tables : (ℕ → Bool) → List Entity → List Entity → ℕ → List (List PlainRow)
+    → List (List PlainRow)
 upgraded_tables w olds news m [] = []
-upgraded_tables w olds news m (t ∷ ts) = upgraded_rows w olds news m t ∷ upgraded_tables w olds news (m + 1) ts
+upgraded_tables w olds news m (t ∷ ts) = upgraded_rows w olds news m t ∷ upgraded_tables w olds news
+    (m + 1) ts
 
 abbrev pub empty_tables : ℕ → List (List PlainRow)
 empty_tables zero = []

@@ -59,7 +59,8 @@ fn add_rows<L: Ledger>(
 ) -> Result<(), Memory>
     requires old { model < length old.now.models }
     requires new { model < length new.now.models }
-    ensures { OnOk result (AltersRows (application_of old.now).models (application_of new.now).models model rows.now made.old.items made.new.items) }
+    ensures { OnOk result (AltersRows (application_of old.now).models
+        (application_of new.now).models model rows.now made.old.items made.new.items) }
 {
     let mut left = rows;
     'records: while !left.is_empty() {
@@ -85,10 +86,14 @@ fn add_model<K: Keeper, L: Ledger>(
     requires new { model < length new.now.models }
     requires own { AllByRecursion IsOwn made.old.items }
     ensures left { IsLeft (K.seen keeper.old) (K.seen keeper.new) }
-    ensures rose { IsErrOf result KeeperStopped → Rose (K.seen keeper.old).faults (K.seen keeper.new).faults }
+    ensures rose { IsErrOf result KeeperStopped
+        → Rose (K.seen keeper.old).faults (K.seen keeper.new).faults }
     ensures own { OnOk result (AllByRecursion IsOwn made.new.items) }
-    ensures sound { IsTrue (K.seen keeper.new).tells → OnOk result (IsSound (K.seen keeper.old).state) }
-    ensures added { IsTrue (K.seen keeper.new).tells → OnOk result (AltersRows (application_of old.now).models (application_of new.now).models model (rows_of (K.seen keeper.old).state.tables model) made.old.items made.new.items) }
+    ensures sound { IsTrue (K.seen keeper.new).tells
+        → OnOk result (IsSound (K.seen keeper.old).state) }
+    ensures added { IsTrue (K.seen keeper.new).tells
+        → OnOk result (AltersRows (application_of old.now).models (application_of new.now).models
+        model (rows_of (K.seen keeper.old).state.tables model) made.old.items made.new.items) }
 {
     let rows = keeper.rows(alloc, model)?;
     add_rows(alloc, old, new, model, rows.as_slice(), made, splits)?;
@@ -106,9 +111,12 @@ pub(crate) fn alterations<K: Keeper, L: Ledger>(
     requires attached { IsTrue (K.seen keeper.old).store.attached }
     requires extends { length old.now.models ≤ length new.now.models }
     ensures left { IsLeft (K.seen keeper.old) (K.seen keeper.new) }
-    ensures rose { IsErrOf result KeeperStopped → Rose (K.seen keeper.old).faults (K.seen keeper.new).faults }
+    ensures rose { IsErrOf result KeeperStopped
+        → Rose (K.seen keeper.old).faults (K.seen keeper.new).faults }
     ensures own { IfOk result (λ v. AllByRecursion IsOwn v.items) }
-    ensures all { IsTrue (K.seen keeper.new).tells → IfOk result (λ v. AltersBelow (application_of old.now).models (application_of new.now).models (K.seen keeper.old).state (length old.now.models) v.items) }
+    ensures all { IsTrue (K.seen keeper.new).tells
+        → IfOk result (λ v. AltersBelow (application_of old.now).models
+        (application_of new.now).models (K.seen keeper.old).state (length old.now.models) v.items) }
 {
     let mut made = Vec::new(alloc);
     'models: for model in 0..model_count(old) {

@@ -21,7 +21,8 @@ pub(crate) fn drafts(
 ) -> Result<Vec<Row>, Memory>
     requires old { model < length old.now.models }
     requires new { model < length new.now.models }
-    ensures { IfOk result (λ v. v.items ≡ map (drafted (application_of old.now).models (application_of new.now).models model) rows.now) }
+    ensures { IfOk result (λ v. v.items ≡ map (drafted (application_of old.now).models
+        (application_of new.now).models model) rows.now) }
 {
     let mut drafts = Vec::new(alloc);
     'rows: for row in rows {
@@ -34,7 +35,8 @@ pub(crate) fn drafts(
 fn draft_row(alloc: Global, old: &App, new: &App, model: u8, row: &Row) -> Result<Row, Memory>
     requires old { model < length old.now.models }
     requires new { model < length new.now.models }
-    ensures { IfOk result (λ r. r ≡ drafted (application_of old.now).models (application_of new.now).models model row.now) }
+    ensures { IfOk result (λ r. r ≡ drafted (application_of old.now).models
+        (application_of new.now).models model row.now) }
 {
     let Row { id, guard, cells } = row.copy(alloc)?;
     let mut cells = cells.into_vec();
@@ -55,7 +57,8 @@ fn add_defaults(
 ) -> Result<(), Memory>
     requires old { model < length old.now.models }
     requires new { model < length new.now.models }
-    ensures { OnOk result (cells.new.items ≡ draft_of (application_of old.now).models (application_of new.now).models model cells.old.items) }
+    ensures { OnOk result (cells.new.items ≡ draft_of (application_of old.now).models
+        (application_of new.now).models model cells.old.items) }
 {
     let first = field_count(old, model);
     let end = field_count(new, model);

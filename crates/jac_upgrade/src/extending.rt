@@ -12,7 +12,8 @@ use jac_lang::{App, Field, Group, ModelDef};
 /// one that it lacks, or has otherwise: models in order, and in each its name, its fields and its
 /// groups.
 pub fn extends(old: &App, new: &App) -> Result<(), UpgradeFault>
-    ensures { fault_of result ≡ models_lack 0 (application_of old.now).models (application_of new.now).models }
+    ensures { fault_of result ≡ models_lack 0 (application_of old.now).models
+        (application_of new.now).models }
 {
     match models_lack(old.models.as_slice(), new.models.as_slice()) {
         Some(fault) => Err(fault),

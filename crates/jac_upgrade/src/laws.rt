@@ -12,5 +12,6 @@ pub fn extends_itself()
 /// A law: a state with a table for each model stays as it is where its application is upgraded to
 /// itself.
 pub fn upgraded_to_itself()
-    ensures { (w : ℕ → Bool) (models : List Entity) (t : PlainState) → length models ≤ length t.tables → upgraded w models models t ≡ t }
+    ensures { (w : ℕ → Bool) (models : List Entity) (t : PlainState)
+        → length models ≤ length t.tables → upgraded w models models t ≡ t }
 {}

@@ -9,7 +9,8 @@ use jac_lang::{Field, Group, KindName, ModelDef, Publics};
 
 /// Whether the models have one name, and both are nested or neither is.
 pub(crate) fn same_model(one: &ModelDef, other: &ModelDef) -> bool
-    ensures { result ≡ (same_text one.now.name other.now.name && beq one.now.nested other.now.nested) }
+    ensures { result ≡ (same_text one.now.name other.now.name && beq one.now.nested
+        other.now.nested) }
 {
     one.name == other.name && one.nested == other.nested
 }

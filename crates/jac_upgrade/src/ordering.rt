@@ -14,7 +14,8 @@ pub(crate) fn in_order(alloc: Global, made: Vec<Alteration>) -> Result<Alteratio
     requires { AllByRecursion IsOwn made.items }
     ensures apart { IfOk result AreApart }
     ensures within { IfOk result (λ c. AllByRecursion (Contains made.items) c) }
-    ensures named { IfOk result (λ c. (id : ℕ) → is_changed id made.items ≡ true → is_changed id c ≡ true) }
+    ensures named { IfOk result (λ c. (id : ℕ) → is_changed id made.items ≡ true
+        → is_changed id c ≡ true) }
 {
     let sorted = sorted_by_id(made)?;
     let changed = put_all(alloc, sorted)?;
@@ -35,7 +36,8 @@ fn put_all(alloc: Global, made: Vec<Alteration>) -> Result<Alterations, Memory>
     requires { AllByRecursion IsOwn made.items }
     ensures apart { IfOk result AreApart }
     ensures within { IfOk result (λ c. AllByRecursion (Contains made.items) c) }
-    ensures named { IfOk result (λ c. (id : ℕ) → is_changed id made.items ≡ true → is_changed id c ≡ true) }
+    ensures named { IfOk result (λ c. (id : ℕ) → is_changed id made.items ≡ true
+        → is_changed id c ≡ true) }
 {
     let mut changed = Alterations::empty(alloc);
     'made: for alteration in made {

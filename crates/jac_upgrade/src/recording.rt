@@ -31,7 +31,9 @@ fn alternatives<L: Ledger>(
     requires new { model < length new.now.models }
     requires id { is_id_of id model ≡ true }
     ensures own { IfOk result (λ v. All (λ (r : Seen). r.id ≡ id) v) }
-    ensures shown { IfOk result (λ v. (w : ℕ → Bool) → length (cells_at w rows.now) ≤ 1 → cells_at w v ≡ upgraded_all w (application_of old.now).models (application_of new.now).models model id (cells_at w rows.now)) }
+    ensures shown { IfOk result (λ v. (w : ℕ → Bool) → length (cells_at w rows.now) ≤ 1
+        → cells_at w v ≡ upgraded_all w (application_of old.now).models
+        (application_of new.now).models model id (cells_at w rows.now)) }
 {
     let drafts = drafts(alloc, old, new, model, rows)?;
     let drafts = drafts.as_slice();
@@ -54,7 +56,8 @@ fn altered<L: Ledger>(
     requires new { model < length new.now.models }
     requires id { is_id_of id model ≡ true }
     ensures id { IfOk result (λ a. a.id ≡ id) }
-    ensures renewed { IfOk result (λ a. IsRenewed (application_of old.now).models (application_of new.now).models model id rows.now a.rows) }
+    ensures renewed { IfOk result (λ a. IsRenewed (application_of old.now).models
+        (application_of new.now).models model id rows.now a.rows) }
 {
     let rows = alternatives(alloc, old, new, model, id, rows, splits)?;
     read_guards(rows.as_slice());
@@ -83,7 +86,8 @@ pub(crate) fn add_record<L: Ledger>(
 ) -> Result<(), Memory>
     requires old { model < length old.now.models }
     requires new { model < length new.now.models }
-    ensures { OnOk result (AltersFirst (application_of old.now).models (application_of new.now).models model rows.now made.old.items made.new.items) }
+    ensures { OnOk result (AltersFirst (application_of old.now).models
+        (application_of new.now).models model rows.now made.old.items made.new.items) }
 {
     let Some(first) = rows.first() else {
         return Ok(());

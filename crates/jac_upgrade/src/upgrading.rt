@@ -35,9 +35,12 @@ fn all_changed<K: Keeper, L: Ledger>(
     requires attached { IsTrue (K.seen keeper.old).store.attached }
     requires extends { length old.now.models ≤ length new.now.models }
     ensures left { IsLeft (K.seen keeper.old) (K.seen keeper.new) }
-    ensures rose { IsErrOf result KeeperStopped → Rose (K.seen keeper.old).faults (K.seen keeper.new).faults }
+    ensures rose { IsErrOf result KeeperStopped
+        → Rose (K.seen keeper.old).faults (K.seen keeper.new).faults }
     ensures apart { IfOk result AreApart }
-    ensures all { IsTrue (K.seen keeper.new).tells → IfOk result (λ changed. AltersBelow (application_of old.now).models (application_of new.now).models (K.seen keeper.old).state (length old.now.models) changed) }
+    ensures all { IsTrue (K.seen keeper.new).tells
+        → IfOk result (λ changed. AltersBelow (application_of old.now).models
+        (application_of new.now).models (K.seen keeper.old).state (length old.now.models) changed) }
 {
     let made = alterations(alloc, keeper, old, new, splits)?;
     let changed = in_order(alloc, made)?;
@@ -55,13 +58,23 @@ pub fn upgrade<K: Keeper, L: Ledger>(
 ) -> Result<Change, Stop>
     requires attached { IsTrue (K.seen keeper.old).store.attached }
     requires well { IsTrue (is_well (application_of old.now)) }
-    requires extends { models_lack 0 (application_of old.now).models (application_of new.now).models ≡ None }
-    requires fit { IsTrue (K.seen keeper.old).tells → IsFit (shapes_of (application_of old.now)) (K.seen keeper.old).state }
+    requires extends { models_lack 0 (application_of old.now).models (application_of new.now).models
+        ≡ None }
+    requires fit { IsTrue (K.seen keeper.old).tells → IsFit (shapes_of (application_of old.now))
+        (K.seen keeper.old).state }
     ensures left { IsLeft (K.seen keeper.old) (K.seen keeper.new) }
-    ensures rose { IsErrOf result KeeperStopped → Rose (K.seen keeper.old).faults (K.seen keeper.new).faults }
-    ensures names { IsTrue (K.seen keeper.new).tells → IfOk result (λ change. AreIdsOf (K.seen keeper.old).state (changed_ids change.changed)) }
-    ensures shows { IsTrue (K.seen keeper.new).tells → IfOk result (λ change. (w : ℕ → Bool) → project_at w (widened (length (application_of new.now).models) (applied change (K.seen keeper.old).state)) ≡ upgraded w (application_of old.now).models (application_of new.now).models (project_at w (K.seen keeper.old).state)) }
-    ensures fit { IsTrue (K.seen keeper.new).tells → IfOk result (λ change. IsFit (shapes_of (application_of new.now)) (widened (length (application_of new.now).models) (applied change (K.seen keeper.old).state))) }
+    ensures rose { IsErrOf result KeeperStopped
+        → Rose (K.seen keeper.old).faults (K.seen keeper.new).faults }
+    ensures names { IsTrue (K.seen keeper.new).tells
+        → IfOk result (λ change. AreIdsOf (K.seen keeper.old).state (changed_ids change.changed)) }
+    ensures shows { IsTrue (K.seen keeper.new).tells → IfOk result (λ change. (w : ℕ → Bool)
+        → project_at w (widened (length (application_of new.now).models)
+        (applied change (K.seen keeper.old).state)) ≡ upgraded w (application_of old.now).models
+        (application_of new.now).models (project_at w (K.seen keeper.old).state)) }
+    ensures fit { IsTrue (K.seen keeper.new).tells
+        → IfOk result (λ change. IsFit (shapes_of (application_of new.now))
+        (widened (length (application_of new.now).models)
+        (applied change (K.seen keeper.old).state))) }
 {
     let number = keeper.number()?;
     let changed = all_changed(alloc, keeper, old, new, splits)?;

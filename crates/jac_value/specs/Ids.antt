@@ -1,7 +1,8 @@
 -- The numbers of records and of labels.
 use Rattle.std.specs.Prelude.{ℕ, ◌+◌, ◌*◌, ◌/◌, ◌%◌, ◌^◌, Bool, ◌&&◌, ◌||◌, ◌==◌, nat_lt, nat_le}
 
--- the id that a creating statement gives: `n` numbers the accepted request, `s` the statement in its view, `m` the model
+-- the id that a creating statement gives: `n` numbers the accepted request, `s` the statement in
+-- its view, `m` the model
 abbrev pub record_id : ℕ → ℕ → ℕ → ℕ
 record_id n s m = (n * 64 + s) * 64 + m
 
@@ -17,7 +18,8 @@ number_of_id id = id % 2 ^ 52 / 4096
 abbrev pub is_narrow : ℕ → Bool
 is_narrow id = nat_le 4096 id && nat_lt id (2 ^ 52)
 
--- the id of a record that is made around another one: `l` is that record, `b` what `record_id` gives
+-- the id of a record that is made around another one: `l` is that record, `b` what `record_id`
+-- gives
 abbrev pub loop_id : ℕ → ℕ → ℕ
 loop_id l b = l * 2 ^ 52 + b
 

@@ -10,8 +10,10 @@ is_atom_byte b = is_ascii_alphanumeric b || b == 95 || b == 45
 
 -- words that mean something of their own
 abbrev pub is_reserved : List ℕ → Bool
-is_reserved a = bytes_eq a (codes "this") || bytes_eq a (codes "viewer") || bytes_eq a (codes "true") || bytes_eq a (codes "false")
+is_reserved a = bytes_eq a (codes "this") || bytes_eq a (codes "viewer") || bytes_eq a
+    (codes "true") || bytes_eq a (codes "false")
 
 -- a name: an atom of up to 64 bytes that begins with a letter, and no reserved word
 abbrev pub is_name : List ℕ → Bool
-is_name a = nat_le (length a) 64 && is_ascii_alphabetic (slice_index a 0) && not (is_reserved a) && list_all is_atom_byte a
+is_name a = nat_le (length a) 64 && is_ascii_alphabetic (slice_index a 0) && not (is_reserved a) &&
+    list_all is_atom_byte a

@@ -17,7 +17,8 @@ is_fixed_segment part = not (is_nil part) && list_all is_unreserved part
 
 -- the bytes are in braces
 abbrev pub is_braced : List ℕ → Bool
-is_braced part = nat_le 2 (length part) && slice_index part 0 == 123 && slice_index part (length part - 1) == 125
+is_braced part = nat_le 2 (length part) && slice_index part 0 == 123 && slice_index part
+    (length part - 1) == 125
 
 -- the bytes without the first and the last
 abbrev pub inner : List ℕ → List ℕ
@@ -41,7 +42,8 @@ segments path = if nat_lt 1 (length path) then slice_split (λ b. b == 47) (drop
 -- the names in segments, in order
 abbrev pub names_in : List (List ℕ) → List (List ℕ)
 names_in [] = []
-names_in (part ∷ parts) = if is_named_segment part then inner part ∷ names_in parts else names_in parts
+names_in (part ∷ parts) = if is_named_segment part then inner part ∷ names_in parts
+    else names_in parts
 
 -- `/` alone, or one or more segments, each after a `/`
 abbrev pub is_path : List ℕ → Bool

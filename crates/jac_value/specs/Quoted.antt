@@ -9,7 +9,8 @@ hex_digit n = if nat_lt n 10 then 48 + n else 87 + n
 abbrev pub hex_escape : ℕ → List ℕ
 hex_escape b = codes "\\x" ++ hex_digit (b / 16) ∷ (hex_digit (b % 16) ∷ [])
 
--- LF, CR, backslash and quote have short escapes; what is neither visible ASCII nor a space is `\xHH`
+-- LF, CR, backslash and quote have short escapes; what is neither visible ASCII nor a space is
+-- `\xHH`
 abbrev pub escaped : ℕ → List ℕ
 escaped b =
     if b == 10 then codes "\\n" else

@@ -53,7 +53,8 @@ is_number_to most ds = is_numeral ds && nat_le (digits_value 10 ds) most
 abbrev pub integer_of : List ℕ → Option ℤ
 integer_of bs =
     if slice_index bs 0 == 45
-    then (if is_number_to 0x8000_0000_0000_0000 (drop 1 bs) then Some (neg_ℤ (pos (digits_value 10 (drop 1 bs)))) else None)
+    then (if is_number_to 0x8000_0000_0000_0000 (drop 1 bs)
+    then Some (neg_ℤ (pos (digits_value 10 (drop 1 bs)))) else None)
     else (if is_number_to 0x7FFF_FFFF_FFFF_FFFF bs then Some (pos (digits_value 10 bs)) else None)
 
 -- an integer; else 0
@@ -62,11 +63,13 @@ int_read bs = unwrap_or (integer_of bs) (pos 0)
 
 -- three words are true
 abbrev pub bool_read : List ℕ → Bool
-bool_read bs = pointwise ◌==◌ bs (codes "1") || pointwise ◌==◌ bs (codes "true") || pointwise ◌==◌ bs (codes "on")
+bool_read bs = pointwise ◌==◌ bs (codes "1") || pointwise ◌==◌ bs (codes "true") || pointwise ◌==◌
+    bs (codes "on")
 
 -- digits that are an id of the model; else none
 abbrev pub ref_read : ℕ → List ℕ → Option ℕ
-ref_read m bs = if is_numeral bs && is_id_of (digits_value 10 bs) m then Some (digits_value 10 bs) else None
+ref_read m bs = if is_numeral bs && is_id_of (digits_value 10 bs) m then Some (digits_value 10 bs)
+    else None
 
 -- what the text of a parameter reads as
 abbrev pub value_read : Kind → List ℕ → Value

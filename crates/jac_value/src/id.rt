@@ -4,8 +4,8 @@ ghost use Rattle.jac_value.specs.Ids.{record_id, label_of, model_of_id, is_narro
 use std::marker::Model;
 
 /// The number of a record. Its remainder by 64 is its model. A narrow id is less than 2^52, and its
-/// quotient by 4096 is the number of the request that made it; a wide one is two narrow ids, the record
-/// of the loop that it was made in before the one that it would have had outside.
+/// quotient by 4096 is the number of the request that made it; a wide one is two narrow ids, the
+/// record of the loop that it was made in before the one that it would have had outside.
 #[derive(Clone, Copy, Debug, PartialEq, Eq, PartialOrd, Ord)]
 pub struct Id(pub u128);
 
@@ -23,7 +23,8 @@ const FIRST_ID: u128 = 4096;
 
 const IDS_END: u128 = 1 << 52;
 
-/// The id that the creating statement at the place `site` of its view gives in the request `number`.
+/// The id that the creating statement at the place `site` of its view gives in the request
+/// `number`.
 pub fn id_of(number: u64, site: u8, model: u8) -> Id
     requires counted { 0 < number }
     requires in_range { number < 2 ^ 40 }
@@ -50,7 +51,8 @@ pub fn id_model(id: Id) -> u8
     (id.0 % 64) as u8
 }
 
-/// The id of a record that is made in a loop: the loop's record, and the id that it would have outside.
+/// The id of a record that is made in a loop: the loop's record, and the id that it would have
+/// outside.
 pub fn loop_id_of(around: Id, base: Id) -> Id
     requires narrow_around { is_narrow around ≡ true }
     requires narrow_base { is_narrow base ≡ true }
@@ -59,8 +61,8 @@ pub fn loop_id_of(around: Id, base: Id) -> Id
     Id(around.0 * IDS_END + base.0)
 }
 
-/// Whether the number is an id of the model: from 4096 to 2^52 - 1, or two such numbers, one before the
-/// other, with the model as its remainder by 64.
+/// Whether the number is an id of the model: from 4096 to 2^52 - 1, or two such numbers, one before
+/// the other, with the model as its remainder by 64.
 pub fn is_id(number: u128, model: u8) -> bool
     ensures { result ≡ is_id_of number model }
 {

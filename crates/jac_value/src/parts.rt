@@ -4,7 +4,8 @@ ghost use Rattle.jac_value.specs.Parts.{parts_left, option_now};
 
 /// The first of the parts that a byte separates, and what follows that byte, where there is one.
 pub fn first_part(bytes: &[u8], separator: u8) -> (&[u8], Option<&[u8]>)
-    ensures parts { slice_split (λ b. b == separator) bytes.now ≡ result.0.now ∷ parts_left separator (option_now result.1) }
+    ensures parts { slice_split (λ b. b == separator) bytes.now ≡ result.0.now ∷ parts_left
+        separator (option_now result.1) }
     ensures shorter { IfSome result.1 (λ rest. length rest.now < length bytes.now) }
 {
     match place_of(bytes, separator) {

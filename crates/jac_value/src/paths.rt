@@ -5,16 +5,16 @@ ghost use Rattle.jac_value.specs.Paths.{is_unreserved, is_fixed_segment, is_brac
 
 use crate::{first_part, is_name};
 
-/// Whether the bytes are the path of a view: `/` alone, or one or more segments, each after a `/`. A
-/// segment is one or more letters, digits, `-`, `_`, `.` and `~`, or a name in braces.
+/// Whether the bytes are the path of a view: `/` alone, or one or more segments, each after a `/`.
+/// A segment is one or more letters, digits, `-`, `_`, `.` and `~`, or a name in braces.
 pub fn is_path(path: &[u8]) -> bool
     ensures { result ≡ is_path path.now }
 {
     begins_with_slash(path) && are_segments(path)
 }
 
-/// What stands behind the first byte of a path, where that is its segments: `first_part` at `/` gives
-/// them one by one. The path `/` has none.
+/// What stands behind the first byte of a path, where that is its segments: `first_part` at `/`
+/// gives them one by one. The path `/` has none.
 pub fn segments_of(path: &[u8]) -> Option<&[u8]>
     ensures { parts_left 47 (option_now result) ≡ segments path.now }
 {

@@ -4,9 +4,9 @@ ghost use Rattle.jac_value.specs.Values.{starts_with_plus, value_read, integer_o
 
 use crate::{Id, Kind, Txt, Value, is_id};
 
-/// What a parameter's text reads as, and the default of the kind where it doesn't read. An int is an
-/// optional `-` and digits, a bool is true for `1`, `true` and `on`, and a reference is the digits of an
-/// id of its model.
+/// What a parameter's text reads as, and the default of the kind where it doesn't read. An int is
+/// an optional `-` and digits, a bool is true for `1`, `true` and `on`, and a reference is the
+/// digits of an id of its model.
 pub fn value_of(kind: &Kind, text: &Txt) -> Value
     requires { kind.now ≢ Kind.Text }
     ensures { result ≡ value_read kind.now text.now }

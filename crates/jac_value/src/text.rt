@@ -85,7 +85,8 @@ impl Txt {
     /// The text that the bytes are.
     pub fn from_bytes(alloc: Global, bytes: &[u8]) -> Result<Txt, TxtFault>
         ensures text { IfOk result (λ t. (t ≡ bytes.now) × IsUtf8 bytes.now) }
-        ensures not_utf8 { (at : ℕ) → IsErrOf result (TxtFault.NotUtf8 at) → (¬ (IsUtf8 bytes.now)) × IsValidUpTo bytes.now at }
+        ensures not_utf8 { (at : ℕ) → IsErrOf result (TxtFault.NotUtf8 at) → (¬ (IsUtf8 bytes.now))
+            × IsValidUpTo bytes.now at }
     {
         let text = match std::str::from_utf8(bytes) {
             Ok(text) => text,

@@ -13,8 +13,8 @@ pub enum Kind {
     Ref(u8),
 }
 
-/// A value of a field. Ints are ordered by number and texts by bytes; false comes before true, and none
-/// before every id.
+/// A value of a field. Ints are ordered by number and texts by bytes; false comes before true, and
+/// none before every id.
 #[derive(Debug, Drop, PartialEq, Eq, PartialOrd, Ord)]
 pub enum Value {
     Int(i64),
@@ -51,8 +51,8 @@ pub fn default_of(alloc: Global, kind: &Kind) -> Value
     }
 }
 
-/// How a page shows the value: the decimal number, the text itself, `true` or `false`, the decimal id,
-/// or nothing for no reference.
+/// How a page shows the value: the decimal number, the text itself, `true` or `false`, the decimal
+/// id, or nothing for no reference.
 pub fn text_of(alloc: Global, value: &Value) -> Result<Txt, Memory>
     ensures { IfOk result (λ t. t ≡ value_text value.now) }
 {

@@ -1,5 +1,5 @@
--- The command that the words behind the program's name give. Which word is a command, an operand, an option or its
--- value is `clap`'s own meaning of the grammar `jac`.
+-- The command that the words behind the program's name give. Which word is a command, an operand,
+-- an option or its value is `clap`'s own meaning of the grammar `jac`.
 use Rattle.std.specs.Prelude.{ℕ, Bool, false, not, ◌==◌, ◌&&◌, ◌^◌, ◌-◌, nat_le, nat_lt, if◌then◌else◌, List, [], ◌∷◌, length, slice_index, codes, Option, Some, None}
 use Rattle.std.specs.Option.{option_map, option_map_or, option_and_then}
 use Rattle.std.specs.List.{list_all, slice_split}
@@ -25,25 +25,29 @@ has_leading_zero word = slice_index word 0 == 48 && nat_lt 1 (length word)
 
 -- decimal digits, with no sign, and with a leading zero only in `0` itself
 abbrev pub is_number : List ℕ → Bool
-is_number word = nat_lt 0 (length word) && list_all is_ascii_digit word && not (has_leading_zero word)
+is_number word = nat_lt 0 (length word) && list_all is_ascii_digit word && not
+    (has_leading_zero word)
 
 abbrev pub between : ℕ → ℕ → ℕ → Option ℕ
 between least most number = if nat_le least number && nat_le number most then Some number else None
 
 -- the number that the word writes, where it is within
 abbrev pub number_within : ℕ → ℕ → List ℕ → Option ℕ
-number_within least most word = if is_number word then between least most (digits_value 10 word) else None
+number_within least most word = if is_number word then between least most (digits_value 10 word)
+    else None
 
 abbrev pub label_of : List ℕ → Option ℕ
 label_of word = number_within 0 (2 ^ 128 - 1) word
 
 abbrev pub labels_of_parts : List (List ℕ) → Option (List ℕ)
 labels_of_parts [] = Some []
-labels_of_parts (part ∷ parts) = option_and_then (λ label. option_map (λ labels. label ∷ labels) (labels_of_parts parts)) (label_of part)
+labels_of_parts (part ∷ parts) = option_and_then (λ label. option_map (λ labels. label ∷ labels)
+    (labels_of_parts parts)) (label_of part)
 
 -- `-` for no label, or labels with commas (44) between them
 abbrev pub labels_of : List ℕ → Option (List ℕ)
-labels_of word = if bytes_eq word (codes "-") then Some [] else labels_of_parts (slice_split (λ b. b == 44) word)
+labels_of word = if bytes_eq word (codes "-") then Some []
+    else labels_of_parts (slice_split (λ b. b == 44) word)
 
 -- ---- what the words gave a command
 

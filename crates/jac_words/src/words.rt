@@ -73,8 +73,8 @@ pub struct Upgrading {
     pub db: Txt,
 }
 
-/// A store of which to tell what stands against each label that a viewer isn't shown. The viewer is the number of a
-/// record, as the word has it.
+/// A store of which to tell what stands against each label that a viewer isn't shown. The viewer is
+/// the number of a record, as the word has it.
 #[derive(Debug, Drop)]
 pub struct Explaining {
     pub app: Txt,
@@ -91,8 +91,8 @@ struct Options {
     lazy: bool,
 }
 
-/// The command that the words behind the program's name give. Where they give none, that is no error: the caller
-/// shows the usage.
+/// The command that the words behind the program's name give. Where they give none, that is no
+/// error: the caller shows the usage.
 pub fn command_of(alloc: Global, words: &[Txt]) -> Result<Option<Command>, Memory>
     ensures { IfOk result (λ command. command ≡ command_of words.now) }
 {
@@ -118,7 +118,8 @@ fn texts_of(alloc: Global, words: &[Txt]) -> Result<Vec<&str>, Memory>
 
 // Words that clap refuses are no command.
 fn refused(error: &Error) -> Result<Option<Command>, Memory>
-    ensures { IfOk result (λ command. (command ≡ None) × (kind_of error.now ≢ ErrorKind.OutOfMemory)) }
+    ensures { IfOk result (λ command. (command ≡ None)
+        × (kind_of error.now ≢ ErrorKind.OutOfMemory)) }
 {
     match error.kind() {
         ErrorKind::OutOfMemory => Err(Memory),
@@ -140,7 +141,8 @@ fn command_named(
     name: &str,
     matches: &ArgMatches<'_>,
 ) -> Result<Option<Command>, Memory>
-    ensures { IfOk result (λ command. command ≡ command_named name.now (rows_of (found_of matches.now))) }
+    ensures { IfOk result (λ command. command ≡ command_named name.now
+        (rows_of (found_of matches.now))) }
 {
     if name == "check" {
         return check_in(alloc, matches);
@@ -382,7 +384,8 @@ fn small_number(word: &[u8], most: u64) -> Option<u64>
 }
 
 fn labels_in(alloc: Global, matches: &ArgMatches<'_>) -> Result<Option<Labels>, Memory>
-    ensures { IfOk result (λ labels. labels ≡ option_and_then labels_of (first_of (codes "LABELS") (rows_of (found_of matches.now)))) }
+    ensures { IfOk result (λ labels. labels ≡ option_and_then labels_of (first_of (codes "LABELS")
+        (rows_of (found_of matches.now)))) }
 {
     match value_in(matches, "LABELS") {
         Some(text) => labels_of(alloc, text.as_bytes()),
@@ -392,7 +395,8 @@ fn labels_in(alloc: Global, matches: &ArgMatches<'_>) -> Result<Option<Labels>, 
 
 // The viewer, as a line of an events file names one.
 fn viewer_in(matches: &ArgMatches<'_>) -> Option<Option<u128>>
-    ensures { result ≡ option_and_then viewer_read (first_of (codes "VIEWER") (rows_of (found_of matches.now))) }
+    ensures { result ≡ option_and_then viewer_read (first_of (codes "VIEWER")
+        (rows_of (found_of matches.now))) }
 {
     match value_in(matches, "VIEWER") {
         Some(text) => read_viewer(text.as_bytes()),
@@ -402,7 +406,8 @@ fn viewer_in(matches: &ArgMatches<'_>) -> Option<Option<u128>>
 
 // What the words gave the operand or the option of this name.
 fn value_in<'a>(matches: &ArgMatches<'a>, id: &str) -> Option<&'a str>
-    ensures { option_map (λ text. text.now) result ≡ first_of id.now (rows_of (found_of matches.now)) }
+    ensures { option_map (λ text. text.now) result ≡ first_of id.now
+        (rows_of (found_of matches.now)) }
 {
     matches.get_str(id)
 }

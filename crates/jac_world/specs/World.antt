@@ -2,7 +2,8 @@ use Rattle.std.specs.Prelude.{◌≡◌, ℕ, ◌<◌, Bool, true, false, not, �
 use Rattle.std.specs.List.{list_any, list_all, AllByRecursion}
 use mathlib.Core.Bool.{beq}
 
--- An assignment is a test on labels: true where the label is shown. A guard is a list of labels with signs.
+-- An assignment is a test on labels: true where the label is shown. A guard is a list of labels
+-- with signs.
 
 -- what a list of shown labels shows
 abbrev pub shown : List ℕ → ℕ → Bool
@@ -77,7 +78,8 @@ kept w (p ∷ ps) = if beq p.1 (w p.0) then kept w ps + 1 else 0
 
 -- where the first guard holds, the cut is broken at an earlier label than where the second holds
 abbrev pub BreaksEarlier : List (ℕ × Bool) → List (ℕ × Bool) → List (ℕ × Bool) → Type 0
-BreaksEarlier cut g h = (v w : ℕ → Bool) → holds v g ≡ true → holds w h ≡ true → kept v cut < kept w cut
+BreaksEarlier cut g h = (v w : ℕ → Bool) → holds v g ≡ true → holds w h ≡ true
+    → kept v cut < kept w cut
 
 -- the guards come in the order of the labels at which they break the cut
 abbrev pub FollowCut : List (ℕ × Bool) → List (List (ℕ × Bool)) → Type 0

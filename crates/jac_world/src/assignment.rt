@@ -55,7 +55,8 @@ impl Assignment {
 
     /// Shows this label too, whatever was shown.
     pub fn add(&mut self, label: Label) -> Result<(), Memory>
-        ensures added { OnOk result ((k : ℕ) → shown self.new k ≡ (label == k || shown self.old k)) }
+        ensures added { OnOk result ((k : ℕ)
+            → shown self.new k ≡ (label == k || shown self.old k)) }
         ensures kept { OnErr result (self.new ≡ self.old) }
     {
         add_among(&mut self.labels, label)

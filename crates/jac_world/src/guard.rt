@@ -6,7 +6,8 @@ use crate::{Assignment, Guards, Label, Memory};
 use std::alloc::Global;
 use std::marker::Model;
 
-/// A path condition: it holds where each of its labels is shown, for the sign true, or hidden, for false.
+/// A path condition: it holds where each of its labels is shown, for the sign true, or hidden, for
+/// false.
 #[derive(Debug, Drop)]
 pub struct Guard {
     pairs: Vec<(Label, bool)>,
@@ -86,9 +87,11 @@ impl Guard {
         }
     }
 
-    /// Guards that hold where this one holds and the cut doesn't, by the label at which they break the cut.
+    /// Guards that hold where this one holds and the cut doesn't, by the label at which they break
+    /// the cut.
     pub fn less(&self, alloc: Global, cut: &Guard) -> Result<Guards, Memory>
-        ensures exact { IfOk result (λ gs. (w : ℕ → Bool) → holding w gs ≡ (if holds w self.now && not (holds w cut.now) then 1 else 0)) }
+        ensures exact { IfOk result (λ gs. (w : ℕ → Bool)
+            → holding w gs ≡ (if holds w self.now && not (holds w cut.now) then 1 else 0)) }
         ensures apart { IfOk result ArePairwiseApart }
         ensures order { IfOk result (FollowCut cut.now) }
     {
@@ -150,7 +153,8 @@ fn merge(
     requires first { IsRising first.now }
     requires second { IsRising second.now }
     ensures rising { IfOk result (λ r. IfSome r (λ v. IsRising v.items)) }
-    ensures both { IfOk result (λ r. IfSome r (λ v. (w : ℕ → Bool) → holds w v.items ≡ both w first.now second.now)) }
+    ensures both { IfOk result (λ r. IfSome r (λ v. (w : ℕ → Bool)
+        → holds w v.items ≡ both w first.now second.now)) }
     ensures none { IfOk result (λ r. IsNone r ↔ IsTrue (contradict first.now second.now)) }
 {
     let mut out = Vec::new(alloc);

@@ -1,6 +1,7 @@
 use std::marker::Model;
 
-/// A label of faceted execution (Austin and Flanagan, POPL 2012). It is shown to a viewer or hidden.
+/// A label of faceted execution (Austin and Flanagan, POPL 2012). It is shown to a viewer or
+/// hidden.
 #[derive(Clone, Copy, Debug, PartialEq, Eq, PartialOrd, Ord)]
 pub struct Label(pub u128);
 

@@ -3,12 +3,14 @@ ghost use Rattle.jac_world.specs.World.{holds, names, contradict, wanted, IsRisi
 
 /// A law: whether a guard holds depends on the labels that it names alone.
 pub fn holds_by_names()
-    ensures { (g : List (ℕ × Bool)) (v w : ℕ → Bool) → ((k : ℕ) → IsTrue (names g k) → v k ≡ w k) → holds v g ≡ holds w g }
+    ensures { (g : List (ℕ × Bool)) (v w : ℕ → Bool) → ((k : ℕ) → IsTrue (names g k) → v k ≡ w k)
+        → holds v g ≡ holds w g }
 {}
 
 /// A law: two guards contradict each other exactly where no assignment makes both hold.
 pub fn contradict_where_apart()
-    ensures { (g h : List (ℕ × Bool)) → IsRising g → IsRising h → (IsTrue (contradict g h) ↔ IsApart g h) }
+    ensures { (g h : List (ℕ × Bool)) → IsRising g → IsRising h
+        → (IsTrue (contradict g h) ↔ IsApart g h) }
 {}
 
 /// A law: a guard holds under the assignment that shows what it wants shown.
@@ -18,5 +20,6 @@ pub fn holds_somewhere()
 
 /// A law: guards that hold under the same assignments are equal.
 pub fn same_where_alike()
-    ensures { (g h : List (ℕ × Bool)) → IsRising g → IsRising h → ((w : ℕ → Bool) → holds w g ≡ holds w h) → g ≡ h }
+    ensures { (g h : List (ℕ × Bool)) → IsRising g → IsRising h
+        → ((w : ℕ → Bool) → holds w g ≡ holds w h) → g ≡ h }
 {}

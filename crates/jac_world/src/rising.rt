@@ -15,7 +15,8 @@ pub fn is_among(labels: &[Label], label: Label) -> bool
 /// The same labels and this one.
 pub fn add_among(labels: &mut Vec<Label>, label: Label) -> Result<(), Memory>
     requires { IsAscending labels.old.items }
-    ensures added { OnOk result ((k : ℕ) → shown labels.new.items k ≡ (label == k || shown labels.old.items k)) }
+    ensures added { OnOk result ((k : ℕ) → shown labels.new.items k
+        ≡ (label == k || shown labels.old.items k)) }
     ensures ascending { IsAscending labels.new.items }
     ensures kept { OnErr result (labels.new.items ≡ labels.old.items) }
 {
@@ -31,7 +32,8 @@ pub fn add_among(labels: &mut Vec<Label>, label: Label) -> Result<(), Memory>
 /// The same labels but this one.
 pub fn remove_among(labels: &mut Vec<Label>, label: Label)
     requires { IsAscending labels.old.items }
-    ensures removed { (k : ℕ) → shown labels.new.items k ≡ (not (label == k) && shown labels.old.items k) }
+    ensures removed { (k : ℕ) → shown labels.new.items k
+        ≡ (not (label == k) && shown labels.old.items k) }
     ensures ascending { IsAscending labels.new.items }
 {
     match labels.as_slice().binary_search(&label) {

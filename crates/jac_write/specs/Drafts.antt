@@ -17,9 +17,11 @@ with_cell Behind v cells = cells ++ v ∷ []
 with_cell (At f) v cells = slice_set cells f v
 
 -- the cells with the value of each leaf that is seen
-abbrev pub with_each : (ℕ → Bool) → Spot → List Value → List (List (ℕ × Bool) × Value) → List (List Value)
+abbrev pub with_each : (ℕ → Bool) → Spot → List Value → List (List (ℕ × Bool) × Value)
+    → List (List Value)
 with_each w spot cells [] = []
-with_each w spot cells (p ∷ leaves) = (if holds w p.0 then with_cell spot p.1 cells ∷ [] else []) ++ with_each w spot cells leaves
+with_each w spot cells (p ∷ leaves) = (if holds w p.0 then with_cell spot p.1 cells ∷ [] else [])
+    ++ with_each w spot cells leaves
 
 -- the fields that a write names
 abbrev pub named_by : List Entity → ℕ → (ℕ → Bool) → Named → ℕ → Bool
@@ -32,11 +34,14 @@ abbrev pub hides : (ℕ → Bool) → Option ℕ → Bool
 hides w None = false
 hides w (Some label) = not (w label)
 
--- the guard holds where the path condition does and the record is kept; without a guard that is nowhere
+-- the guard holds where the path condition does and the record is kept; without a guard that is
+-- nowhere
 abbrev pub IsKeptUnder : ((ℕ → Bool) → Bool) → List (ℕ × Bool) → Option (List (ℕ × Bool)) → Type 0
 IsKeptUnder kept pc None = (w : ℕ → Bool) → (holds w pc && kept w) ≡ false
 IsKeptUnder kept pc (Some guard) = (w : ℕ → Bool) → holds w guard ≡ (holds w pc && kept w)
 
 -- what is stored of a cell of a draft
-abbrev pub stored_at : List Entity → (ℕ → Bool) → ℕ → ℕ → (ℕ → Bool) → List Value → ℕ → Value → Value
-stored_at models w m id named draft f cell = if named f && is_hidden models w m id f then public_cell models m id draft f cell else cell
+abbrev pub stored_at : List Entity → (ℕ → Bool) → ℕ → ℕ → (ℕ → Bool) → List Value → ℕ → Value
+    → Value
+stored_at models w m id named draft f cell = if named f && is_hidden models w m id f
+    then public_cell models m id draft f cell else cell

@@ -12,14 +12,18 @@ is_from first (Some g) = nat_le first g
 
 -- one of the groups from this place on guards the field
 abbrev pub is_guarded_from : List Entity → ℕ → ℕ → ℕ → Bool
-is_guarded_from models m first f = is_from first (group_in (groups_at models m) (fields_at models m) f)
+is_guarded_from models m first f = is_from first (group_in (groups_at models m) (fields_at models m)
+    f)
 
 -- none of the groups from this place on hides the record
 abbrev pub stays : List Entity → (ℕ → Bool) → ℕ → ℕ → ℕ → Bool
 stays models shown m id first =
-    not (is_from first (hiding_place (groups_at models m)) && is_hidden_by shown id (hiding_place (groups_at models m)))
+    not (is_from first (hiding_place (groups_at models m)) && is_hidden_by shown id
+    (hiding_place (groups_at models m)))
 
 -- what is stored of the drafts of a record where the groups from this place on are new to it
-abbrev pub regrouped_cells : List Entity → (ℕ → Bool) → ℕ → ℕ → ℕ → List (List Value) → List (List Value)
+abbrev pub regrouped_cells : List Entity → (ℕ → Bool) → ℕ → ℕ → ℕ → List (List Value)
+    → List (List Value)
 regrouped_cells models shown m id first drafts =
-    if stays models shown m id first then map (shielded models shown m id (is_guarded_from models m first)) drafts else []
+    if stays models shown m id first
+    then map (shielded models shown m id (is_guarded_from models m first)) drafts else []

@@ -29,7 +29,8 @@ use Rattle.jac_keep.specs.declared.work.WorkOver.{WorkOver}
 abbrev pub KeepsOrMerges : State → State → Type 0
 KeepsOrMerges old new =
     (id : ℕ)
-    → (alternatives id (rows_of new.tables (model_of_id id)) ≡ alternatives id (rows_of old.tables (model_of_id id)))
+    → (alternatives id (rows_of new.tables (model_of_id id)) ≡ alternatives id
+    (rows_of old.tables (model_of_id id)))
     ⊎ AreMerged (alternatives id (rows_of new.tables (model_of_id id)))
 
 abbrev pub PlainTables : Type 0
@@ -39,18 +40,23 @@ PlainTables = List (List PlainRow)
 abbrev pub numbered : ℕ → State → State
 numbered n s = record s { number = n }
 
--- where the path condition holds the tables are what the step leaves, elsewhere they are as before; and tables
--- that are sound with the next number n stay so
-pub record Written (n : ℕ) (step : (ℕ → Bool) → PlainTables → PlainTables) (pc : List (ℕ × Bool)) (old new : State) : Type 0 where
-  pub left : (w : ℕ → Bool) → (project_at w new).tables ≡ (if holds w pc then step w (project_at w old).tables else (project_at w old).tables)
+-- where the path condition holds the tables are what the step leaves, elsewhere they are as before;
+-- and tables that are sound with the next number n stay so
+pub record Written (n : ℕ) (step : (ℕ → Bool) → PlainTables → PlainTables) (pc : List (ℕ × Bool))
+    (old new : State) : Type 0 where
+  pub left : (w : ℕ → Bool) → (project_at w new).tables ≡ (if holds w pc
+      then step w (project_at w old).tables else (project_at w old).tables)
   pub sound : IsSound (numbered n new)
 
 -- what a write leaves of tables that are sound
-abbrev pub Writes : ((ℕ → Bool) → PlainTables → PlainTables) → List (ℕ × Bool) → State → State → Type 0
+abbrev pub Writes : ((ℕ → Bool) → PlainTables → PlainTables) → List (ℕ × Bool) → State → State
+    → Type 0
 Writes step pc old new = (n : ℕ) → IsSound (numbered n old) → Written n step pc old new
 
--- a work that is told after a write was told before, and it is told after where its keeper still tells
-pub record StaysTold {K : Type 0} (sight : K → KeeperSeen) (old new : WorkOver K Alterations) : Type 0 where
+-- a work that is told after a write was told before, and it is told after where its keeper still
+-- tells
+pub record StaysTold {K : Type 0} (sight : K → KeeperSeen) (old new : WorkOver K Alterations) : Type
+    0 where
   pub back : IsTold sight new → IsTold sight old
   pub placed : IsTrue (sight new.keeper.now).tells → IsTold sight old → IsTold sight new
 
@@ -70,12 +76,16 @@ after_each step [] tables = tables
 after_each step (v ∷ vs) tables = after_each step vs (step v tables)
 
 -- the tables are what a step for each value that is seen leaves
-pub record WrittenEach (n : ℕ) (step : (ℕ → Bool) → Value → PlainTables → PlainTables) (leaves : List (List (ℕ × Bool) × Value)) (old new : State) : Type 0 where
-  pub left : (w : ℕ → Bool) → (project_at w new).tables ≡ after_each (step w) (seen w leaves) (project_at w old).tables
+pub record WrittenEach (n : ℕ) (step : (ℕ → Bool) → Value → PlainTables → PlainTables)
+    (leaves : List (List (ℕ × Bool) × Value)) (old new : State) : Type 0 where
+  pub left : (w : ℕ → Bool) → (project_at w new).tables ≡ after_each (step w) (seen w leaves)
+      (project_at w old).tables
   pub sound : IsSound (numbered n new)
 
-abbrev pub WritesEach : ((ℕ → Bool) → Value → PlainTables → PlainTables) → List (List (ℕ × Bool) × Value) → State → State → Type 0
-WritesEach step leaves old new = (n : ℕ) → IsSound (numbered n old) → WrittenEach n step leaves old new
+abbrev pub WritesEach : ((ℕ → Bool) → Value → PlainTables → PlainTables)
+    → List (List (ℕ × Bool) × Value) → State → State → Type 0
+WritesEach step leaves old new = (n : ℕ) → IsSound (numbered n old)
+    → WrittenEach n step leaves old new
 
 -- the tables with one row of the model at this place
 abbrev pub only : ℕ → Row → List (List Row)
@@ -85,23 +95,27 @@ only (suc m) row = [] ∷ only m row
 -- cells in the order of their fields, from one field on, each as its field holds it
 abbrev pub fitted_from : List Entity → List Field → ℕ → List Value → List Value
 fitted_from models fields f [] = []
-fitted_from models fields f (v ∷ vs) = fitting (kind_at models fields f) v ∷ fitted_from models fields (f + 1) vs
+fitted_from models fields f (v ∷ vs) = fitting (kind_at models fields f) v ∷ fitted_from models
+    fields (f + 1) vs
 
 -- the cells of a new record, as they are stored
 abbrev pub made_cells : List Entity → (ℕ → Bool) → ℕ → ℕ → List Value → List Value
-made_cells models w m id cells = shielded models w m id every_field (fitted_from models (fields_at models m) 0 cells)
+made_cells models w m id cells = shielded models w m id every_field
+    (fitted_from models (fields_at models m) 0 cells)
 
 -- the tables with a new record of these cells, where the record is kept
 abbrev pub tables_made : List Entity → (ℕ → Bool) → ℕ → ℕ → List Value → PlainTables → PlainTables
 tables_made models w m id cells tables =
     tables_kept (is_kept models w m id) m (plain_row id (made_cells models w m id cells)) tables
 
--- what a create leaves of tables that are sound, where the record comes before the next number and none of its
--- id stands wherever the path condition holds
-abbrev pub Creates : ℕ → ((ℕ → Bool) → PlainTables → PlainTables) → List (ℕ × Bool) → State → State → Type 0
+-- what a create leaves of tables that are sound, where the record comes before the next number and
+-- none of its id stands wherever the path condition holds
+abbrev pub Creates : ℕ → ((ℕ → Bool) → PlainTables → PlainTables) → List (ℕ × Bool) → State → State
+    → Type 0
 Creates id step pc old new =
     (n : ℕ) → number_of_id id < n
-    → ((w : ℕ → Bool) → holds w pc ≡ true → stands (record_with id (rows_of (project_at w old).tables (model_of_id id))) ≡ false)
+    → ((w : ℕ → Bool) → holds w pc ≡ true
+    → stands (record_with id (rows_of (project_at w old).tables (model_of_id id))) ≡ false)
     → IsSound (numbered n old) → Written n step pc old new
 
 -- what the facets of fields show, each with its field's place
@@ -112,7 +126,8 @@ sets_at w (s ∷ sets) = (s.0, at w s.1) ∷ sets_at w sets
 -- the cells with these put in their places, each as its field holds it
 abbrev pub put_in : List Entity → List Field → List (ℕ × Value) → List Value → List Value
 put_in models fields [] cells = cells
-put_in models fields (s ∷ sets) cells = put_in models fields sets (slice_set cells s.0 (fitting (kind_at models fields s.0) s.1))
+put_in models fields (s ∷ sets) cells = put_in models fields sets
+    (slice_set cells s.0 (fitting (kind_at models fields s.0) s.1))
 
 -- one of the sets is of the field at this place
 abbrev pub is_put : List (ℕ × Value) → ℕ → Bool
@@ -120,9 +135,13 @@ is_put [] f = false
 is_put (s ∷ sets) f = if s.0 == f then true else is_put sets f
 
 -- the cells of a record that stands, as they are stored once these are put in
-abbrev pub remade_cells : List Entity → (ℕ → Bool) → ℕ → ℕ → List (ℕ × Value) → List Value → List Value
-remade_cells models w m id sets old = shielded models w m id (is_put sets) (put_in models (fields_at models m) sets old)
+abbrev pub remade_cells : List Entity → (ℕ → Bool) → ℕ → ℕ → List (ℕ × Value) → List Value
+    → List Value
+remade_cells models w m id sets old = shielded models w m id (is_put sets)
+    (put_in models (fields_at models m) sets old)
 
 -- the tables with these cells put into the record that the value refers to
-abbrev pub tables_remade : List Entity → (ℕ → Bool) → ℕ → Value → List (ℕ × Value) → PlainTables → PlainTables
-tables_remade models w m target sets tables = tables_after m target (λ id rows. changed id (remade_cells models w m id sets) rows) tables
+abbrev pub tables_remade : List Entity → (ℕ → Bool) → ℕ → Value → List (ℕ × Value) → PlainTables
+    → PlainTables
+tables_remade models w m target sets tables = tables_after m target
+    (λ id rows. changed id (remade_cells models w m id sets) rows) tables

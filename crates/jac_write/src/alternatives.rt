@@ -19,7 +19,8 @@ pub(crate) fn outside(
     rows: &[Row],
 ) -> Result<Vec<Row>, Memory>
     ensures own { IfOk result (λ v. All (λ (r : Seen). r.id ≡ id) v.items) }
-    ensures shown { IfOk result (λ v. (w : ℕ → Bool) → cells_at w v.items ≡ (if holds w guard.now then [] else cells_at w rows.now)) }
+    ensures shown { IfOk result (λ v. (w : ℕ → Bool) → cells_at w v.items ≡ (if holds w guard.now
+        then [] else cells_at w rows.now)) }
 {
     let mut out = Vec::new(alloc);
     'rows: for row in rows {
@@ -38,7 +39,8 @@ fn add_outside(
 ) -> Result<(), Memory>
     requires { All (λ (r : Seen). r.id ≡ id) out.old.items }
     ensures own { OnOk result (All (λ (r : Seen). r.id ≡ id) out.new.items) }
-    ensures shown { OnOk result ((w : ℕ → Bool) → cells_at w out.new.items ≡ cells_at w out.old.items ++ (if holds w guard.now then [] else cells_at w (row.now ∷ []))) }
+    ensures shown { OnOk result ((w : ℕ → Bool) → cells_at w out.new.items ≡ cells_at w
+        out.old.items ++ (if holds w guard.now then [] else cells_at w (row.now ∷ []))) }
 {
     let parts = from_world(row.guard.less(alloc, guard))?;
     add_parts(alloc, parts.into_vec(), id, &row.cells, out)?;
@@ -55,7 +57,8 @@ fn add_parts(
 ) -> Result<(), Memory>
     requires { All (λ (r : Seen). r.id ≡ id) out.old.items }
     ensures own { OnOk result (All (λ (r : Seen). r.id ≡ id) out.new.items) }
-    ensures shown { OnOk result ((w : ℕ → Bool) → cells_at w out.new.items ≡ cells_at w out.old.items ++ each_holding w guards.items cells.now) }
+    ensures shown { OnOk result ((w : ℕ → Bool) → cells_at w out.new.items ≡ cells_at w
+        out.old.items ++ each_holding w guards.items cells.now) }
 {
     'guards: for guard in guards {
         add_row(alloc, guard, id, cells, out)?;
@@ -73,7 +76,8 @@ pub(crate) fn add_row(
 ) -> Result<(), Memory>
     requires { All (λ (r : Seen). r.id ≡ id) out.old.items }
     ensures own { OnOk result (All (λ (r : Seen). r.id ≡ id) out.new.items) }
-    ensures shown { OnOk result ((w : ℕ → Bool) → cells_at w out.new.items ≡ cells_at w out.old.items ++ (if holds w guard then cells.now ∷ [] else [])) }
+    ensures shown { OnOk result ((w : ℕ → Bool) → cells_at w out.new.items ≡ cells_at w
+        out.old.items ++ (if holds w guard then cells.now ∷ [] else [])) }
 {
     let cells = cells.copy(alloc)?;
     put_row(id, guard, cells, out)?;
@@ -85,7 +89,8 @@ pub(crate) fn add_row(
 pub(crate) fn put_row(id: Id, guard: Guard, cells: Cells, out: &mut Vec<Row>) -> Result<(), Memory>
     requires { All (λ (r : Seen). r.id ≡ id) out.old.items }
     ensures own { OnOk result (All (λ (r : Seen). r.id ≡ id) out.new.items) }
-    ensures shown { OnOk result ((w : ℕ → Bool) → cells_at w out.new.items ≡ cells_at w out.old.items ++ (if holds w guard then cells ∷ [] else [])) }
+    ensures shown { OnOk result ((w : ℕ → Bool) → cells_at w out.new.items ≡ cells_at w
+        out.old.items ++ (if holds w guard then cells ∷ [] else [])) }
 {
     out.push(Row { id, guard, cells })?;
     Ok(())
@@ -96,7 +101,8 @@ pub(crate) fn put_row(id: Id, guard: Guard, cells: Cells, out: &mut Vec<Row>) ->
 pub(crate) fn put_rows(id: Id, rows: Vec<Row>, out: &mut Vec<Row>) -> Result<(), Memory>
     requires { All (λ (r : Seen). r.id ≡ id) out.old.items }
     ensures own { OnOk result (All (λ (r : Seen). r.id ≡ id) out.new.items) }
-    ensures shown { OnOk result ((w : ℕ → Bool) → cells_at w out.new.items ≡ cells_at w out.old.items ++ cells_at w rows.items) }
+    ensures shown { OnOk result ((w : ℕ → Bool) → cells_at w out.new.items ≡ cells_at w
+        out.old.items ++ cells_at w rows.items) }
 {
     'rows: for row in rows {
         let Row {
@@ -113,7 +119,8 @@ pub(crate) fn put_rows(id: Id, rows: Vec<Row>, out: &mut Vec<Row>) -> Result<(),
 #[tactic(auto, using(crate::proofs::CellsLaws::within_is))]
 pub(crate) fn within(alloc: Global, guard: &Guard, id: Id, rows: &[Row]) -> Result<Vec<Row>, Memory>
     ensures own { IfOk result (λ v. All (λ (r : Seen). r.id ≡ id) v.items) }
-    ensures shown { IfOk result (λ v. (w : ℕ → Bool) → cells_at w v.items ≡ (if holds w guard.now then cells_at w rows.now else [])) }
+    ensures shown { IfOk result (λ v. (w : ℕ → Bool) → cells_at w v.items ≡ (if holds w guard.now
+        then cells_at w rows.now else [])) }
 {
     let mut out = Vec::new(alloc);
     'rows: for row in rows {
@@ -132,7 +139,8 @@ fn add_within(
 ) -> Result<(), Memory>
     requires { All (λ (r : Seen). r.id ≡ id) out.old.items }
     ensures own { OnOk result (All (λ (r : Seen). r.id ≡ id) out.new.items) }
-    ensures shown { OnOk result ((w : ℕ → Bool) → cells_at w out.new.items ≡ cells_at w out.old.items ++ (if holds w guard.now then cells_at w (row.now ∷ []) else [])) }
+    ensures shown { OnOk result ((w : ℕ → Bool) → cells_at w out.new.items ≡ cells_at w
+        out.old.items ++ (if holds w guard.now then cells_at w (row.now ∷ []) else [])) }
 {
     match from_world(row.guard.meet(alloc, guard))? {
         Some(both) => {

@@ -22,7 +22,8 @@ pub(crate) enum Spot {
     At(u8),
 }
 
-/// The alternatives with what the facet shows in this spot: each as often as there are values under its guard.
+/// The alternatives with what the facet shows in this spot: each as often as there are values under
+/// its guard.
 #[tactic(auto, using(crate::proofs::DraftLaws::each_row_mapped))]
 pub(crate) fn with_facet(
     alloc: Global,
@@ -32,7 +33,8 @@ pub(crate) fn with_facet(
     facet: &Facet<Value>,
 ) -> Result<Vec<Row>, Memory>
     ensures own { IfOk result (λ v. All (λ (r : Seen). r.id ≡ id) v.items) }
-    ensures shown { IfOk result (λ v. (w : ℕ → Bool) → cells_at w v.items ≡ map (with_cell spot (at w facet.now)) (cells_at w rows.now)) }
+    ensures shown { IfOk result (λ v. (w : ℕ → Bool)
+        → cells_at w v.items ≡ map (with_cell spot (at w facet.now)) (cells_at w rows.now)) }
 {
     let mut out = Vec::new(alloc);
     'rows: for row in rows {
@@ -52,7 +54,8 @@ fn add_with_facet(
 ) -> Result<(), Memory>
     requires { All (λ (r : Seen). r.id ≡ id) out.old.items }
     ensures own { OnOk result (All (λ (r : Seen). r.id ≡ id) out.new.items) }
-    ensures shown { OnOk result ((w : ℕ → Bool) → cells_at w out.new.items ≡ cells_at w out.old.items ++ map (with_cell spot (at w facet.now)) (cells_at w (row.now ∷ []))) }
+    ensures shown { OnOk result ((w : ℕ → Bool) → cells_at w out.new.items ≡ cells_at w
+        out.old.items ++ map (with_cell spot (at w facet.now)) (cells_at w (row.now ∷ []))) }
 {
     let leaves = facet.leaves_under(alloc, &row.guard)?;
     add_leaves(alloc, id, &row.cells, spot, leaves.into_vec(), out)?;
@@ -70,7 +73,8 @@ fn add_leaves(
 ) -> Result<(), Memory>
     requires { All (λ (r : Seen). r.id ≡ id) out.old.items }
     ensures own { OnOk result (All (λ (r : Seen). r.id ≡ id) out.new.items) }
-    ensures shown { OnOk result ((w : ℕ → Bool) → cells_at w out.new.items ≡ cells_at w out.old.items ++ with_each w spot cells.now leaves.items) }
+    ensures shown { OnOk result ((w : ℕ → Bool) → cells_at w out.new.items ≡ cells_at w
+        out.old.items ++ with_each w spot cells.now leaves.items) }
 {
     'leaves: for leaf in leaves {
         let (guard, value) = leaf;
@@ -90,7 +94,8 @@ fn add_leaf(
 ) -> Result<(), Memory>
     requires { All (λ (r : Seen). r.id ≡ id) out.old.items }
     ensures own { OnOk result (All (λ (r : Seen). r.id ≡ id) out.new.items) }
-    ensures shown { OnOk result ((w : ℕ → Bool) → cells_at w out.new.items ≡ cells_at w out.old.items ++ (if holds w guard then with_cell spot value cells.now ∷ [] else [])) }
+    ensures shown { OnOk result ((w : ℕ → Bool) → cells_at w out.new.items ≡ cells_at w
+        out.old.items ++ (if holds w guard then with_cell spot value cells.now ∷ [] else [])) }
 {
     let cells = cells_with(alloc, cells, spot, value)?;
     put_row(id, guard, cells, out)?;

@@ -38,9 +38,13 @@ fn with_new_record<L: Ledger>(
 ) -> Result<Vec<Row>, Memory>
     requires model { model < length app.now.models }
     requires id { is_id_of id model ≡ true }
-    requires each_field { length cells.now ≡ length (fields_at (application_of app.now).models model) }
+    requires each_field { length cells.now ≡ length (fields_at (application_of app.now).models
+        model) }
     ensures own { IfOk result (λ v. All (λ (r : Seen). r.id ≡ id) v.items) }
-    ensures shown { IfOk result (λ v. (w : ℕ → Bool) → cells_at w v.items ≡ cells_at w standing.items ++ (if holds w pc.now then made_cells (application_of app.now).models w model id (all_at w cells.now) ∷ [] else [])) }
+    ensures shown { IfOk result (λ v. (w : ℕ → Bool)
+        → cells_at w v.items ≡ cells_at w standing.items ++ (if holds w pc.now
+        then made_cells (application_of app.now).models w model id (all_at w cells.now) ∷ []
+        else [])) }
 {
     let drafts = new_drafts(alloc, app, pc, model, id, cells, splits)?;
     let mut rows = Vec::new(alloc);
@@ -70,13 +74,20 @@ fn make_under<K: Keeper, L: Ledger>(
     splits: &mut Steps<L>,
 ) -> Result<(), Stop>
     requires attached { IsTrue (K.seen work.old.keeper.now).store.attached }
-    requires a_table { IsTrue (K.seen work.old.keeper.now).tells → model_of_id id < length (K.seen work.old.keeper.now).state.tables }
+    requires a_table { IsTrue (K.seen work.old.keeper.now).tells
+        → model_of_id id < length (K.seen work.old.keeper.now).state.tables }
     requires model { model_of_id id < length app.now.models }
     requires id { is_id_of id (model_of_id id) ≡ true }
-    requires each_field { length cells.now ≡ length (fields_at (application_of app.now).models (model_of_id id)) }
-    ensures left { IsTold K.seen work.new → OnOk result (Creates id (λ w. tables_with (model_of_id id) (plain_row id (made_cells (application_of app.now).models w (model_of_id id) id (all_at w cells.now)))) guard.now (state_of K.seen work.old) (state_of K.seen work.new)) }
+    requires each_field { length cells.now ≡ length (fields_at (application_of app.now).models
+        (model_of_id id)) }
+    ensures left { IsTold K.seen work.new
+        → OnOk result
+        (Creates id (λ w. tables_with (model_of_id id)
+        (plain_row id (made_cells (application_of app.now).models w (model_of_id id) id
+        (all_at w cells.now)))) guard.now (state_of K.seen work.old) (state_of K.seen work.new)) }
     ensures told { OnOk result (StaysTold K.seen work.old work.new) }
-    ensures merged { IsTold K.seen work.new → OnOk result (KeepsOrMerges (state_of K.seen work.old) (state_of K.seen work.new)) }
+    ensures merged { IsTold K.seen work.new
+        → OnOk result (KeepsOrMerges (state_of K.seen work.old) (state_of K.seen work.new)) }
     ensures keeps { WritesWork K.seen work.old work.new result }
 {
     sound_after_change();
@@ -90,9 +101,9 @@ fn make_under<K: Keeper, L: Ledger>(
     Ok(())
 }
 
-/// Makes a record wherever the path condition holds, with one cell for each field of its model. A cell of
-/// another kind than its field's counts as the default of that kind. Where a group hides the model's records, the
-/// record is made only where its label for that group is shown.
+/// Makes a record wherever the path condition holds, with one cell for each field of its model. A
+/// cell of another kind than its field's counts as the default of that kind. Where a group hides
+/// the model's records, the record is made only where its label for that group is shown.
 pub fn create<K: Keeper, L: Ledger>(
     alloc: Global,
     work: &mut Work<'_, K>,
@@ -103,13 +114,19 @@ pub fn create<K: Keeper, L: Ledger>(
     splits: &mut Steps<L>,
 ) -> Result<(), Stop>
     requires attached { IsTrue (K.seen work.old.keeper.now).store.attached }
-    requires a_table { IsTrue (K.seen work.old.keeper.now).tells → model_of_id id < length (K.seen work.old.keeper.now).state.tables }
+    requires a_table { IsTrue (K.seen work.old.keeper.now).tells
+        → model_of_id id < length (K.seen work.old.keeper.now).state.tables }
     requires model { model_of_id id < length app.now.models }
     requires id { is_id_of id (model_of_id id) ≡ true }
-    requires each_field { length cells.now ≡ length (fields_at (application_of app.now).models (model_of_id id)) }
-    ensures left { IsTold K.seen work.new → OnOk result (Creates id (λ w. tables_made (application_of app.now).models w (model_of_id id) id (all_at w cells.now)) pc.now (state_of K.seen work.old) (state_of K.seen work.new)) }
+    requires each_field { length cells.now ≡ length (fields_at (application_of app.now).models
+        (model_of_id id)) }
+    ensures left { IsTold K.seen work.new
+        → OnOk result (Creates id (λ w. tables_made (application_of app.now).models w
+        (model_of_id id) id (all_at w cells.now)) pc.now (state_of K.seen work.old)
+        (state_of K.seen work.new)) }
     ensures told { OnOk result (StaysTold K.seen work.old work.new) }
-    ensures merged { IsTold K.seen work.new → OnOk result (KeepsOrMerges (state_of K.seen work.old) (state_of K.seen work.new)) }
+    ensures merged { IsTold K.seen work.new
+        → OnOk result (KeepsOrMerges (state_of K.seen work.old) (state_of K.seen work.new)) }
     ensures keeps { WritesWork K.seen work.old work.new result }
 {
     match kept_under(alloc, app, pc, id)? {

@@ -23,10 +23,15 @@ fn delete_alternatives<K: Keeper>(
     id: Id,
 ) -> Result<(), Stop>
     requires attached { IsTrue (K.seen work.old.keeper.now).store.attached }
-    requires a_table { IsTrue (K.seen work.old.keeper.now).tells → model_of_id id < length (K.seen work.old.keeper.now).state.tables }
-    ensures left { IsTold K.seen work.new → OnOk result (Writes (λ w ts. slice_set ts (model_of_id id) (without id (rows_of ts (model_of_id id)))) guard.now (state_of K.seen work.old) (state_of K.seen work.new)) }
+    requires a_table { IsTrue (K.seen work.old.keeper.now).tells
+        → model_of_id id < length (K.seen work.old.keeper.now).state.tables }
+    ensures left { IsTold K.seen work.new
+        → OnOk result
+        (Writes (λ w ts. slice_set ts (model_of_id id) (without id (rows_of ts (model_of_id id))))
+        guard.now (state_of K.seen work.old) (state_of K.seen work.new)) }
     ensures told { OnOk result (StaysTold K.seen work.old work.new) }
-    ensures merged { IsTold K.seen work.new → OnOk result (KeepsOrMerges (state_of K.seen work.old) (state_of K.seen work.new)) }
+    ensures merged { IsTold K.seen work.new
+        → OnOk result (KeepsOrMerges (state_of K.seen work.old) (state_of K.seen work.new)) }
     ensures keeps { WritesWork K.seen work.old work.new result }
 {
     sound_after_change();
@@ -49,10 +54,14 @@ fn delete_record<K: Keeper>(
     id: Id,
 ) -> Result<(), Stop>
     requires attached { IsTrue (K.seen work.old.keeper.now).store.attached }
-    requires a_table { IsTrue (K.seen work.old.keeper.now).tells → model < length (K.seen work.old.keeper.now).state.tables }
-    ensures left { IsTold K.seen work.new → OnOk result (Writes (λ w ts. slice_set ts model (without id (rows_of ts model))) guard.now (state_of K.seen work.old) (state_of K.seen work.new)) }
+    requires a_table { IsTrue (K.seen work.old.keeper.now).tells
+        → model < length (K.seen work.old.keeper.now).state.tables }
+    ensures left { IsTold K.seen work.new
+        → OnOk result (Writes (λ w ts. slice_set ts model (without id (rows_of ts model))) guard.now
+        (state_of K.seen work.old) (state_of K.seen work.new)) }
     ensures told { OnOk result (StaysTold K.seen work.old work.new) }
-    ensures merged { IsTold K.seen work.new → OnOk result (KeepsOrMerges (state_of K.seen work.old) (state_of K.seen work.new)) }
+    ensures merged { IsTold K.seen work.new
+        → OnOk result (KeepsOrMerges (state_of K.seen work.old) (state_of K.seen work.new)) }
     ensures keeps { WritesWork K.seen work.old work.new result }
 {
     if id_model(id) != model {
@@ -71,10 +80,14 @@ fn delete_where<K: Keeper>(
     target: &Value,
 ) -> Result<(), Stop>
     requires attached { IsTrue (K.seen work.old.keeper.now).store.attached }
-    requires a_table { IsTrue (K.seen work.old.keeper.now).tells → model < length (K.seen work.old.keeper.now).state.tables }
-    ensures left { IsTold K.seen work.new → OnOk result (Writes (λ w. tables_after model target.now without) guard.now (state_of K.seen work.old) (state_of K.seen work.new)) }
+    requires a_table { IsTrue (K.seen work.old.keeper.now).tells
+        → model < length (K.seen work.old.keeper.now).state.tables }
+    ensures left { IsTold K.seen work.new
+        → OnOk result (Writes (λ w. tables_after model target.now without) guard.now
+        (state_of K.seen work.old) (state_of K.seen work.new)) }
     ensures told { OnOk result (StaysTold K.seen work.old work.new) }
-    ensures merged { IsTold K.seen work.new → OnOk result (KeepsOrMerges (state_of K.seen work.old) (state_of K.seen work.new)) }
+    ensures merged { IsTold K.seen work.new
+        → OnOk result (KeepsOrMerges (state_of K.seen work.old) (state_of K.seen work.new)) }
     ensures keeps { WritesWork K.seen work.old work.new result }
 {
     match target {
@@ -93,10 +106,14 @@ fn delete_leaves<K: Keeper>(
     leaves: &[(Guard, Value)],
 ) -> Result<(), Stop>
     requires attached { IsTrue (K.seen work.old.keeper.now).store.attached }
-    requires a_table { IsTrue (K.seen work.old.keeper.now).tells → model < length (K.seen work.old.keeper.now).state.tables }
-    ensures left { IsTold K.seen work.new → OnOk result (WritesEach (λ w v. tables_after model v without) leaves.now (state_of K.seen work.old) (state_of K.seen work.new)) }
+    requires a_table { IsTrue (K.seen work.old.keeper.now).tells
+        → model < length (K.seen work.old.keeper.now).state.tables }
+    ensures left { IsTold K.seen work.new
+        → OnOk result (WritesEach (λ w v. tables_after model v without) leaves.now
+        (state_of K.seen work.old) (state_of K.seen work.new)) }
     ensures told { OnOk result (StaysTold K.seen work.old work.new) }
-    ensures merged { IsTold K.seen work.new → OnOk result (KeepsOrMerges (state_of K.seen work.old) (state_of K.seen work.new)) }
+    ensures merged { IsTold K.seen work.new
+        → OnOk result (KeepsOrMerges (state_of K.seen work.old) (state_of K.seen work.new)) }
     ensures keeps { WritesWork K.seen work.old work.new result }
 {
     'leaves: for leaf in leaves {
@@ -105,8 +122,8 @@ fn delete_leaves<K: Keeper>(
     Ok(())
 }
 
-/// Takes the record that the target refers to away, wherever the path condition holds. Nothing happens where
-/// the target is no record of the model, or one that isn't there.
+/// Takes the record that the target refers to away, wherever the path condition holds. Nothing
+/// happens where the target is no record of the model, or one that isn't there.
 pub fn delete<K: Keeper>(
     alloc: Global,
     work: &mut Work<'_, K>,
@@ -115,10 +132,14 @@ pub fn delete<K: Keeper>(
     target: &Facet<Value>,
 ) -> Result<(), Stop>
     requires attached { IsTrue (K.seen work.old.keeper.now).store.attached }
-    requires a_table { IsTrue (K.seen work.old.keeper.now).tells → model < length (K.seen work.old.keeper.now).state.tables }
-    ensures left { IsTold K.seen work.new → OnOk result (Writes (λ w. tables_after model (at w target.now) without) pc.now (state_of K.seen work.old) (state_of K.seen work.new)) }
+    requires a_table { IsTrue (K.seen work.old.keeper.now).tells
+        → model < length (K.seen work.old.keeper.now).state.tables }
+    ensures left { IsTold K.seen work.new
+        → OnOk result (Writes (λ w. tables_after model (at w target.now) without) pc.now
+        (state_of K.seen work.old) (state_of K.seen work.new)) }
     ensures told { OnOk result (StaysTold K.seen work.old work.new) }
-    ensures merged { IsTold K.seen work.new → OnOk result (KeepsOrMerges (state_of K.seen work.old) (state_of K.seen work.new)) }
+    ensures merged { IsTold K.seen work.new
+        → OnOk result (KeepsOrMerges (state_of K.seen work.old) (state_of K.seen work.new)) }
     ensures keeps { WritesWork K.seen work.old work.new result }
 {
     let leaves = target.leaves_under(alloc, pc)?;

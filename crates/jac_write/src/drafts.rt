@@ -27,7 +27,8 @@ use std::sync::ledger::Ledger;
 /// A record without cells where the guard holds.
 pub(crate) fn without_cells(alloc: Global, id: Id, guard: &Guard) -> Result<Vec<Row>, Memory>
     ensures own { IfOk result (λ v. All (λ (r : Seen). r.id ≡ id) v.items) }
-    ensures shown { IfOk result (λ v. (w : ℕ → Bool) → cells_at w v.items ≡ (if holds w guard.now then [] ∷ [] else [])) }
+    ensures shown { IfOk result (λ v. (w : ℕ → Bool) → cells_at w v.items ≡ (if holds w guard.now
+        then [] ∷ [] else [])) }
 {
     let guard = from_world(guard.copy(alloc))?;
     let mut rows = Vec::new(alloc);
@@ -70,7 +71,10 @@ fn with_field<L: Ledger>(
     requires model { model < length app.now.models }
     requires field { field < length (fields_at (application_of app.now).models model) }
     ensures own { IfOk result (λ v. All (λ (r : Seen). r.id ≡ id) v.items) }
-    ensures shown { let models = (application_of app.now).models in IfOk result (λ v. (w : ℕ → Bool) → cells_at w v.items ≡ map (with_cell spot (fitting (kind_at models (fields_at models model) field) (at w facet.now))) (cells_at w rows.now)) }
+    ensures shown { let models = (application_of app.now).models in IfOk result (λ v. (w : ℕ → Bool)
+        → cells_at w v.items
+        ≡ map (with_cell spot (fitting (kind_at models (fields_at models model) field)
+        (at w facet.now))) (cells_at w rows.now)) }
 {
     let facet = fitted_facet(alloc, kind_of(app, model, field), facet, splits)?;
     let rows = with_facet(alloc, id, rows, spot, &facet)?;
@@ -88,9 +92,12 @@ pub(crate) fn new_drafts<L: Ledger>(
     splits: &mut Steps<L>,
 ) -> Result<Vec<Row>, Memory>
     requires model { model < length app.now.models }
-    requires each_field { length cells.now ≡ length (fields_at (application_of app.now).models model) }
+    requires each_field { length cells.now ≡ length (fields_at (application_of app.now).models
+        model) }
     ensures own { IfOk result (λ v. All (λ (r : Seen). r.id ≡ id) v.items) }
-    ensures shown { let models = (application_of app.now).models in IfOk result (λ v. (w : ℕ → Bool) → cells_at w v.items ≡ (if holds w guard.now then fitted_from models (fields_at models model) 0 (all_at w cells.now) ∷ [] else [])) }
+    ensures shown { let models = (application_of app.now).models in IfOk result (λ v. (w : ℕ → Bool)
+        → cells_at w v.items ≡ (if holds w guard.now
+        then fitted_from models (fields_at models model) 0 (all_at w cells.now) ∷ [] else [])) }
 {
     let mut drafts = without_cells(alloc, id, guard)?;
     'fields: for field in 0..field_count(app, model) {
@@ -122,10 +129,13 @@ pub(crate) fn with_sets<L: Ledger>(
     splits: &mut Steps<L>,
 ) -> Result<Vec<Row>, Memory>
     requires model { model < length app.now.models }
-    requires fields { All (λ (s : ℕ × Shape Plain). s.0 < length (fields_at (application_of app.now).models model)) sets.now }
+    requires fields { All (λ (s : ℕ × Shape Plain). s.0
+        < length (fields_at (application_of app.now).models model)) sets.now }
     requires own { All (λ (r : Seen). r.id ≡ id) rows.items }
     ensures own { IfOk result (λ v. All (λ (r : Seen). r.id ≡ id) v.items) }
-    ensures shown { let models = (application_of app.now).models in IfOk result (λ v. (w : ℕ → Bool) → cells_at w v.items ≡ map (put_in models (fields_at models model) (sets_at w sets.now)) (cells_at w rows.items)) }
+    ensures shown { let models = (application_of app.now).models in IfOk result (λ v. (w : ℕ → Bool)
+        → cells_at w v.items ≡ map (put_in models (fields_at models model) (sets_at w sets.now))
+        (cells_at w rows.items)) }
 {
     let mut drafts = rows;
     'sets: for set in sets {

@@ -37,7 +37,9 @@ pub fn regrouped<L: Ledger>(
     requires model { model < length app.now.models }
     requires id { is_id_of id model ≡ true }
     ensures own { IfOk result (λ rows. All (λ (r : Seen). r.id ≡ id) rows) }
-    ensures shown { IfOk result (λ rows. (w : ℕ → Bool) → length (cells_at w drafts.now) ≤ 1 → cells_at w rows ≡ regrouped_cells (application_of app.now).models w model id first (cells_at w drafts.now)) }
+    ensures shown { IfOk result (λ rows. (w : ℕ → Bool) → length (cells_at w drafts.now) ≤ 1
+        → cells_at w rows ≡ regrouped_cells (application_of app.now).models w model id first
+        (cells_at w drafts.now)) }
     ensures merged { IfOk result AreMerged }
 {
     let guard = staying_guard(alloc, app, model, id, first)?;
@@ -62,7 +64,8 @@ pub fn regrouped<L: Ledger>(
 fn staying_guard(alloc: Global, app: &App, model: u8, id: Id, first: u8) -> Result<Guard, Memory>
     requires model { model < length app.now.models }
     requires id { is_id_of id model ≡ true }
-    ensures { IfOk result (λ g. (w : ℕ → Bool) → holds w g ≡ stays (application_of app.now).models w model id first) }
+    ensures { IfOk result (λ g. (w : ℕ → Bool) → holds w g ≡ stays (application_of app.now).models w
+        model id first) }
 {
     let guard = shown_guard(alloc, new_hiding_label(app, model, id, first))?;
     Ok(guard)
@@ -73,7 +76,8 @@ fn staying_guard(alloc: Global, app: &App, model: u8, id: Id, first: u8) -> Resu
 fn new_hiding_label(app: &App, model: u8, id: Id, first: u8) -> Option<Label>
     requires model { model < length app.now.models }
     requires id { is_id_of id model ≡ true }
-    ensures { (w : ℕ → Bool) → not (hides w result) ≡ stays (application_of app.now).models w model id first }
+    ensures { (w : ℕ → Bool) → not (hides w result) ≡ stays (application_of app.now).models w model
+        id first }
 {
     let place = group_that_hides(app, model);
     if !is_from(first, place) {

@@ -1,4 +1,5 @@
-//! Where a new record is kept: nowhere but where the label of the group that hides its records is shown.
+//! Where a new record is kept: nowhere but where the label of the group that hides its records is
+//! shown.
 ghost use Rattle.std.specs.Prelude.{◌≡◌, ◌<◌, ℕ, Bool, true, not, length, IfOk};
 ghost use Rattle.jac_value.specs.Ids.{is_id_of, model_of_id};
 ghost use Rattle.jac_lang.specs.Mirror.{application_of};
@@ -12,8 +13,8 @@ use jac_value::{Id, Memory, id_model, label_number};
 use jac_world::{Guard, Label};
 use std::alloc::Global;
 
-/// The guard under which a new record is made: the path condition and the label of the group that hides its
-/// records, if they ever hold together; or the path condition, where no group does.
+/// The guard under which a new record is made: the path condition and the label of the group that
+/// hides its records, if they ever hold together; or the path condition, where no group does.
 pub(crate) fn kept_under(
     alloc: Global,
     app: &App,
@@ -22,7 +23,8 @@ pub(crate) fn kept_under(
 ) -> Result<Option<Guard>, Memory>
     requires model { model_of_id id < length app.now.models }
     requires id { is_id_of id (model_of_id id) ≡ true }
-    ensures { IfOk result (IsKeptUnder (λ w. is_kept (application_of app.now).models w (model_of_id id) id) pc.now) }
+    ensures { IfOk result (IsKeptUnder (λ w. is_kept (application_of app.now).models w
+        (model_of_id id) id) pc.now) }
 {
     match hiding_label(app, id) {
         Some(label) => {
@@ -40,7 +42,8 @@ pub(crate) fn kept_under(
 fn hiding_label(app: &App, id: Id) -> Option<Label>
     requires model { model_of_id id < length app.now.models }
     requires id { is_id_of id (model_of_id id) ≡ true }
-    ensures { (w : ℕ → Bool) → not (hides w result) ≡ is_kept (application_of app.now).models w (model_of_id id) id }
+    ensures { (w : ℕ → Bool) → not (hides w result) ≡ is_kept (application_of app.now).models w
+        (model_of_id id) id }
 {
     match group_that_hides(app, id_model(id)) {
         Some(group) => Some(Label(label_number(id, group))),

@@ -9,10 +9,13 @@ use jac_rows::{Row, Rows};
 use jac_value::Memory;
 use std::alloc::Global;
 
-/// The alternatives with those joined that have equal cells and guards that differ in one label's sign alone.
+/// The alternatives with those joined that have equal cells and guards that differ in one label's
+/// sign alone.
 pub(crate) fn merged_rows(alloc: Global, rows: Vec<Row>) -> Result<Rows, Memory>
-    ensures own { IfOk result (λ m. (id : ℕ) → All (λ (r : Seen). r.id ≡ id) rows.items → All (λ (r : Seen). r.id ≡ id) m) }
-    ensures shown { IfOk result (λ m. (w : ℕ → Bool) → length (cells_at w rows.items) ≤ 1 → cells_at w m ≡ cells_at w rows.items) }
+    ensures own { IfOk result (λ m. (id : ℕ) → All (λ (r : Seen). r.id ≡ id) rows.items
+        → All (λ (r : Seen). r.id ≡ id) m) }
+    ensures shown { IfOk result (λ m. (w : ℕ → Bool) → length (cells_at w rows.items) ≤ 1
+        → cells_at w m ≡ cells_at w rows.items) }
     ensures merged { IfOk result AreMerged }
 {
     let merged = merge_rows(alloc, Rows::from_vec(rows))?;

@@ -23,7 +23,8 @@ pub(crate) enum Named<'s> {
 pub(crate) fn is_named(app: &App, model: u8, named: Named<'_>, field: u8) -> bool
     requires model { model < length app.now.models }
     requires field { field < length (fields_at (application_of app.now).models model) }
-    ensures { (w : ℕ → Bool) → named_by (application_of app.now).models model w named.entry field ≡ result }
+    ensures { (w : ℕ → Bool) → named_by (application_of app.now).models model w named.entry field
+        ≡ result }
 {
     match named {
         Named::Every => true,

@@ -27,7 +27,9 @@ use std::sync::ledger::Ledger;
 fn cell_at(alloc: Global, app: &App, model: u8, cells: &Cells, field: u8) -> Result<Value, Memory>
     requires model { model < length app.now.models }
     requires field { field < length (fields_at (application_of app.now).models model) }
-    ensures { let models = (application_of app.now).models in IfOk result (λ v. v ≡ unwrap_or (slice_get cells.now field) (default_value (kind_at models (fields_at models model) field))) }
+    ensures { let models = (application_of app.now).models
+        in IfOk result (λ v. v ≡ unwrap_or (slice_get cells.now field)
+        (default_value (kind_at models (fields_at models model) field))) }
 {
     match cells.as_slice().get(usize::from(field)) {
         Some(cell) => {
@@ -70,7 +72,8 @@ fn next_number(id: Id, model: u8) -> u64
 fn state_alone(alloc: Global, model: u8, id: Id, cells: &Cells) -> Result<State, Memory>
     requires { is_id_of id model ≡ true }
     ensures sound { IfOk result IsSound }
-    ensures shown { IfOk result (λ s. (w : ℕ → Bool) → (project_at w s).tables ≡ alone model (plain_row id cells.now)) }
+    ensures shown { IfOk result (λ s. (w : ℕ → Bool) → (project_at w s).tables ≡ alone model
+        (plain_row id cells.now)) }
 {
     let cells = cells.copy(alloc)?;
     let row = Row {
@@ -107,7 +110,13 @@ fn value_in<L: Ledger>(
     splits: &mut Steps<L>,
 ) -> Result<Value, Stop>
     requires { IsTrue keeper.old.store.attached }
-    ensures { IfOk result (λ v. v ≡ mean (record { models = (application_of app.now).models; this = Some id; viewer = None; tables = (project_at (shown []) keeper.old.state).tables }) (expression_of e.now) []) }
+    ensures { IfOk result (λ v. v ≡ mean (record {
+      models = (application_of app.now).models;
+      this = Some id;
+      viewer = None;
+      tables = (project_at (shown []) keeper.old.state).tables;
+    })
+        (expression_of e.now) []) }
 {
     let mut work = Work::new(alloc, keeper);
     let ctx = asked_of(id);
@@ -130,7 +139,8 @@ fn value_alone<L: Ledger>(
     splits: &mut Steps<L>,
 ) -> Result<Value, Memory>
     requires { is_id_of id model ≡ true }
-    ensures { IfOk result (λ v. v ≡ value_over (application_of app.now).models model id cells.now (expression_of e.now)) }
+    ensures { IfOk result (λ v. v ≡ value_over (application_of app.now).models model id cells.now
+        (expression_of e.now)) }
 {
     let state = state_alone(alloc, model, id, cells)?;
     let mut keeper = MemoryKeeper::attached(state, Calls::empty(alloc), Calls::empty(alloc));
@@ -141,8 +151,8 @@ fn value_alone<L: Ledger>(
     }
 }
 
-/// What the field of a record with these cells shows where its group is hidden: its public expression over the
-/// cells; or the cell, where no group guards it.
+/// What the field of a record with these cells shows where its group is hidden: its public
+/// expression over the cells; or the cell, where no group guards it.
 pub fn public_value<L: Ledger>(
     alloc: Global,
     app: &App,
@@ -155,7 +165,10 @@ pub fn public_value<L: Ledger>(
     requires model { model < length app.now.models }
     requires field { field < length (fields_at (application_of app.now).models model) }
     requires id { is_id_of id model ≡ true }
-    ensures { let models = (application_of app.now).models in IfOk result (λ v. v ≡ public_cell models model id cells.now field (unwrap_or (slice_get cells.now field) (default_value (kind_at models (fields_at models model) field)))) }
+    ensures { let models = (application_of app.now).models
+        in IfOk result (λ v. v ≡ public_cell models model id cells.now field
+        (unwrap_or (slice_get cells.now field)
+        (default_value (kind_at models (fields_at models model) field)))) }
 {
     match expression_of_field(app, model, field) {
         Some(e) => {

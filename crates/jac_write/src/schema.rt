@@ -1,4 +1,5 @@
-//! The groups of a model: which one guards a field, which one hides records, and the public expressions.
+//! The groups of a model: which one guards a field, which one hides records, and the public
+//! expressions.
 ghost use Rattle.std.specs.Prelude.{◌≡◌, ◌<◌, ◌≤◌, length, option_copied, option_map, slice_get, IfSome, Some};
 ghost use Rattle.jac_lang.specs.Lookup.{fields_at, group_in, groups_at, hiding_place};
 ghost use Rattle.jac_lang.specs.Mirror.{application_of, assigned_of, expression_of, groups_of};
@@ -11,7 +12,8 @@ use jac_value::Txt;
 pub(crate) fn expression_of_field(app: &App, model: u8, field: u8) -> Option<&Expr>
     requires model { model < length app.now.models }
     requires field { field < length (fields_at (application_of app.now).models model) }
-    ensures { option_map (λ e. expression_of e.now) result ≡ public_expression (application_of app.now).models model field }
+    ensures { option_map (λ e. expression_of e.now) result ≡ public_expression
+        (application_of app.now).models model field }
 {
     match group_of(app, model, field) {
         Some(place) => expression_in(app, model, place, field),
@@ -22,7 +24,9 @@ pub(crate) fn expression_of_field(app: &App, model: u8, field: u8) -> Option<&Ex
 fn expression_in(app: &App, model: u8, place: u8, field: u8) -> Option<&Expr>
     requires model { model < length app.now.models }
     requires field { field < length (fields_at (application_of app.now).models model) }
-    ensures { let models = (application_of app.now).models in option_map (λ e. expression_of e.now) result ≡ expression_for (name_in (slice_get (fields_at models model) field)) (guards_in (slice_get (groups_at models model) place)) }
+    ensures { let models = (application_of app.now).models in option_map (λ e. expression_of e.now)
+        result ≡ expression_for (name_in (slice_get (fields_at models model) field))
+        (guards_in (slice_get (groups_at models model) place)) }
 {
     let field = field_at(fields_of(app, model), field);
     expression_at(groups_of_model(app, model), place, &field.name)
@@ -40,7 +44,8 @@ pub(crate) fn field_count(app: &App, model: u8) -> u8
 pub(crate) fn guarding_group(app: &App, model: u8, field: u8) -> Option<u8>
     requires model { model < length app.now.models }
     requires field { field < length (fields_at (application_of app.now).models model) }
-    ensures group { let models = (application_of app.now).models in result ≡ group_in (groups_at models model) (fields_at models model) field }
+    ensures group { let models = (application_of app.now).models
+        in result ≡ group_in (groups_at models model) (fields_at models model) field }
     ensures few { IfSome result (λ g. g < 8) }
 {
     // The list of the groups tells how many there can be.
@@ -93,7 +98,8 @@ fn field_at(fields: &[Field], place: u8) -> &Field
 }
 
 fn expression_at<'g>(groups: &'g [Group], place: u8, name: &Txt) -> Option<&'g Expr>
-    ensures { option_map (λ e. expression_of e.now) result ≡ expression_for name.now (guards_in (slice_get (groups_of groups.now) place)) }
+    ensures { option_map (λ e. expression_of e.now) result ≡ expression_for name.now
+        (guards_in (slice_get (groups_of groups.now) place)) }
 {
     match group_at(groups, place) {
         Some(group) => expression_named(&group.guards, name),
@@ -111,7 +117,8 @@ fn group_at(groups: &[Group], place: u8) -> Option<&Group>
 }
 
 fn expression_named<'p>(guards: &'p Publics, name: &Txt) -> Option<&'p Expr>
-    ensures { option_map (λ e. expression_of e.now) result ≡ expression_for name.now (assigned_of guards.now) }
+    ensures { option_map (λ e. expression_of e.now) result ≡ expression_for name.now
+        (assigned_of guards.now) }
 {
     let mut left = guards;
     'guards: while let Publics::More(first, rest) = left {

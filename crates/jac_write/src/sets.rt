@@ -5,7 +5,8 @@ use jac_value::Value;
 use std::alloc::Global;
 use std::marker::Model;
 
-/// New cells of a record, each with the number of its field. Where a field stands twice, the later one counts.
+/// New cells of a record, each with the number of its field. Where a field stands twice, the later
+/// one counts.
 #[derive(Drop)]
 pub struct Sets {
     items: Vec<(u8, Facet<Value>)>,

@@ -29,7 +29,8 @@ fn label_of_field(app: &App, model: u8, id: Id, field: u8) -> Option<Label>
     requires model { model < length app.now.models }
     requires field { field < length (fields_at (application_of app.now).models model) }
     requires id { is_id_of id model ≡ true }
-    ensures { (w : ℕ → Bool) → hides w result ≡ is_hidden (application_of app.now).models w model id field }
+    ensures { (w : ℕ → Bool) → hides w result ≡ is_hidden (application_of app.now).models w model id
+        field }
 {
     match guarding_group(app, model, field) {
         Some(group) => Some(Label(label_number(id, group))),
@@ -42,7 +43,8 @@ fn label_if_named(app: &App, model: u8, id: Id, named: Named<'_>, field: u8) -> 
     requires model { model < length app.now.models }
     requires field { field < length (fields_at (application_of app.now).models model) }
     requires id { is_id_of id model ≡ true }
-    ensures { (w : ℕ → Bool) → hides w result ≡ (named_by (application_of app.now).models model w named.entry field && is_hidden (application_of app.now).models w model id field) }
+    ensures { (w : ℕ → Bool) → hides w result ≡ (named_by (application_of app.now).models model w
+        named.entry field && is_hidden (application_of app.now).models w model id field) }
 {
     if is_named(app, model, named, field) {
         return label_of_field(app, model, id, field);
@@ -50,7 +52,8 @@ fn label_if_named(app: &App, model: u8, id: Id, named: Named<'_>, field: u8) -> 
     None
 }
 
-// The cell where the label is shown, and the field's public value over the draft where it is hidden.
+// The cell where the label is shown, and the field's public value over the draft where it is
+// hidden.
 fn parted_cell<L: Ledger>(
     alloc: Global,
     app: &App,
@@ -66,7 +69,8 @@ fn parted_cell<L: Ledger>(
     requires field { field < length (fields_at (application_of app.now).models model) }
     requires id { is_id_of id model ≡ true }
     requires cell { slice_get draft.now field ≡ Some cell.now }
-    ensures { IfOk result (λ s. (w : ℕ → Bool) → at w s ≡ (if w label then cell.now else public_cell (application_of app.now).models model id draft.now field cell.now)) }
+    ensures { IfOk result (λ s. (w : ℕ → Bool) → at w s ≡ (if w label then cell.now
+        else public_cell (application_of app.now).models model id draft.now field cell.now)) }
 {
     let public = public_value(alloc, app, model, id, draft, field, splits)?;
     let cell = cell.copy(alloc)?;
@@ -74,7 +78,8 @@ fn parted_cell<L: Ledger>(
     Ok(parted)
 }
 
-// What is stored of a field of a draft. Here alone the label of a group comes into the cells of a record.
+// What is stored of a field of a draft. Here alone the label of a group comes into the cells of a
+// record.
 #[tactic(auto, using(crate::proofs::DraftLaws::parted_at))]
 fn stored_field<L: Ledger>(
     alloc: Global,
@@ -91,7 +96,9 @@ fn stored_field<L: Ledger>(
     requires field { field < length (fields_at (application_of app.now).models model) }
     requires id { is_id_of id model ≡ true }
     requires cell { slice_get draft.now field ≡ Some cell.now }
-    ensures { IfOk result (λ s. (w : ℕ → Bool) → at w s ≡ stored_at (application_of app.now).models w model id (named_by (application_of app.now).models model w named.entry) draft.now field cell.now) }
+    ensures { IfOk result (λ s. (w : ℕ → Bool) → at w s ≡ stored_at (application_of app.now).models
+        w model id (named_by (application_of app.now).models model w named.entry) draft.now field
+        cell.now) }
 {
     match label_if_named(app, model, id, named, field) {
         Some(label) => {
@@ -121,7 +128,9 @@ fn stored_cell<L: Ledger>(
     requires model { model < length app.now.models }
     requires id { is_id_of id model ≡ true }
     requires cell { slice_get draft.now field ≡ Some cell.now }
-    ensures { IfOk result (λ s. (w : ℕ → Bool) → at w s ≡ stored_at (application_of app.now).models w model id (named_by (application_of app.now).models model w named.entry) draft.now field cell.now) }
+    ensures { IfOk result (λ s. (w : ℕ → Bool) → at w s ≡ stored_at (application_of app.now).models
+        w model id (named_by (application_of app.now).models model w named.entry) draft.now field
+        cell.now) }
 {
     if field < usize::from(field_count(app, model)) {
         let field = field as u8;
@@ -146,7 +155,10 @@ fn stored_draft<L: Ledger>(
     requires model { model < length app.now.models }
     requires id { is_id_of id model ≡ true }
     ensures own { IfOk result (λ v. All (λ (r : Seen). r.id ≡ id) v.items) }
-    ensures shown { IfOk result (λ v. (w : ℕ → Bool) → cells_at w v.items ≡ map (shielded (application_of app.now).models w model id (named_by (application_of app.now).models model w named.entry)) (cells_at w (draft.now ∷ []))) }
+    ensures shown { IfOk result (λ v. (w : ℕ → Bool)
+        → cells_at w v.items ≡ map (shielded (application_of app.now).models w model id
+        (named_by (application_of app.now).models model w named.entry))
+        (cells_at w (draft.now ∷ []))) }
 {
     let mut stored = without_cells(alloc, id, &draft.guard)?;
     let cells = draft.cells.as_slice();
@@ -182,15 +194,18 @@ fn add_stored_draft<L: Ledger>(
     requires id { is_id_of id model ≡ true }
     requires own { All (λ (r : Seen). r.id ≡ id) out.old.items }
     ensures own { OnOk result (All (λ (r : Seen). r.id ≡ id) out.new.items) }
-    ensures shown { OnOk result ((w : ℕ → Bool) → cells_at w out.new.items ≡ cells_at w out.old.items ++ map (shielded (application_of app.now).models w model id (named_by (application_of app.now).models model w named.entry)) (cells_at w (draft.now ∷ []))) }
+    ensures shown { OnOk result ((w : ℕ → Bool) → cells_at w out.new.items ≡ cells_at w
+        out.old.items ++ map (shielded (application_of app.now).models w model id
+        (named_by (application_of app.now).models model w named.entry))
+        (cells_at w (draft.now ∷ []))) }
 {
     let stored = stored_draft(alloc, app, model, id, named, draft, splits)?;
     put_rows(id, stored, out)?;
     Ok(())
 }
 
-/// Adds the drafts as they are stored: where the group of a named field is hidden, it has its public value over
-/// the draft.
+/// Adds the drafts as they are stored: where the group of a named field is hidden, it has its
+/// public value over the draft.
 #[tactic(auto, using(crate::proofs::DraftLaws::each_row_mapped))]
 pub(crate) fn add_stored<L: Ledger>(
     alloc: Global,
@@ -206,7 +221,9 @@ pub(crate) fn add_stored<L: Ledger>(
     requires id { is_id_of id model ≡ true }
     requires own { All (λ (r : Seen). r.id ≡ id) out.old.items }
     ensures own { OnOk result (All (λ (r : Seen). r.id ≡ id) out.new.items) }
-    ensures shown { OnOk result ((w : ℕ → Bool) → cells_at w out.new.items ≡ cells_at w out.old.items ++ map (shielded (application_of app.now).models w model id (named_by (application_of app.now).models model w named.entry)) (cells_at w drafts.now)) }
+    ensures shown { OnOk result ((w : ℕ → Bool) → cells_at w out.new.items ≡ cells_at w
+        out.old.items ++ map (shielded (application_of app.now).models w model id
+        (named_by (application_of app.now).models model w named.entry)) (cells_at w drafts.now)) }
 {
     'drafts: for draft in drafts {
         add_stored_draft(alloc, app, model, id, named, draft, out, splits)?;

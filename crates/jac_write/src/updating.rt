@@ -27,8 +27,8 @@ use jac_world::{Guard, Steps};
 use std::alloc::Global;
 use std::sync::ledger::Ledger;
 
-// The alternatives of a record: outside of the guard as they were, and within as they are stored with the sets
-// put in.
+// The alternatives of a record: outside of the guard as they were, and within as they are stored
+// with the sets put in.
 fn remade_rows<L: Ledger>(
     alloc: Global,
     app: &App,
@@ -40,10 +40,13 @@ fn remade_rows<L: Ledger>(
     splits: &mut Steps<L>,
 ) -> Result<Vec<Row>, Memory>
     requires model { model < length app.now.models }
-    requires fields { All (λ (s : ℕ × Shape Plain). s.0 < length (fields_at (application_of app.now).models model)) sets.now }
+    requires fields { All (λ (s : ℕ × Shape Plain). s.0
+        < length (fields_at (application_of app.now).models model)) sets.now }
     requires id { is_id_of id model ≡ true }
     ensures own { IfOk result (λ v. All (λ (r : Seen). r.id ≡ id) v.items) }
-    ensures shown { IfOk result (λ v. (w : ℕ → Bool) → cells_at w v.items ≡ (if holds w guard.now then map (remade_cells (application_of app.now).models w model id (sets_at w sets.now)) (cells_at w rows.now) else cells_at w rows.now)) }
+    ensures shown { IfOk result (λ v. (w : ℕ → Bool) → cells_at w v.items ≡ (if holds w guard.now
+        then map (remade_cells (application_of app.now).models w model id (sets_at w sets.now))
+        (cells_at w rows.now) else cells_at w rows.now)) }
 {
     let mut remade = outside(alloc, guard, id, rows)?;
     let inner = within(alloc, guard, id, rows)?;
@@ -74,13 +77,20 @@ fn update_alternatives<K: Keeper, L: Ledger>(
     splits: &mut Steps<L>,
 ) -> Result<(), Stop>
     requires attached { IsTrue (K.seen work.old.keeper.now).store.attached }
-    requires a_table { IsTrue (K.seen work.old.keeper.now).tells → model < length (K.seen work.old.keeper.now).state.tables }
+    requires a_table { IsTrue (K.seen work.old.keeper.now).tells
+        → model < length (K.seen work.old.keeper.now).state.tables }
     requires model { model < length app.now.models }
-    requires fields { All (λ (s : ℕ × Shape Plain). s.0 < length (fields_at (application_of app.now).models model)) sets.now }
+    requires fields { All (λ (s : ℕ × Shape Plain). s.0
+        < length (fields_at (application_of app.now).models model)) sets.now }
     requires id { is_id_of id model ≡ true }
-    ensures left { IsTold K.seen work.new → OnOk result (Writes (λ w ts. slice_set ts model (changed id (remade_cells (application_of app.now).models w model id (sets_at w sets.now)) (rows_of ts model))) guard.now (state_of K.seen work.old) (state_of K.seen work.new)) }
+    ensures left { IsTold K.seen work.new
+        → OnOk result
+        (Writes (λ w ts. slice_set ts model
+        (changed id (remade_cells (application_of app.now).models w model id (sets_at w sets.now))
+        (rows_of ts model))) guard.now (state_of K.seen work.old) (state_of K.seen work.new)) }
     ensures told { OnOk result (StaysTold K.seen work.old work.new) }
-    ensures merged { IsTold K.seen work.new → OnOk result (KeepsOrMerges (state_of K.seen work.old) (state_of K.seen work.new)) }
+    ensures merged { IsTold K.seen work.new
+        → OnOk result (KeepsOrMerges (state_of K.seen work.old) (state_of K.seen work.new)) }
     ensures keeps { WritesWork K.seen work.old work.new result }
 {
     sound_after_change();
@@ -107,12 +117,19 @@ fn update_record<K: Keeper, L: Ledger>(
     splits: &mut Steps<L>,
 ) -> Result<(), Stop>
     requires attached { IsTrue (K.seen work.old.keeper.now).store.attached }
-    requires a_table { IsTrue (K.seen work.old.keeper.now).tells → model < length (K.seen work.old.keeper.now).state.tables }
+    requires a_table { IsTrue (K.seen work.old.keeper.now).tells
+        → model < length (K.seen work.old.keeper.now).state.tables }
     requires model { model < length app.now.models }
-    requires fields { All (λ (s : ℕ × Shape Plain). s.0 < length (fields_at (application_of app.now).models model)) sets.now }
-    ensures left { IsTold K.seen work.new → OnOk result (Writes (λ w ts. slice_set ts model (changed id (remade_cells (application_of app.now).models w model id (sets_at w sets.now)) (rows_of ts model))) guard.now (state_of K.seen work.old) (state_of K.seen work.new)) }
+    requires fields { All (λ (s : ℕ × Shape Plain). s.0
+        < length (fields_at (application_of app.now).models model)) sets.now }
+    ensures left { IsTold K.seen work.new
+        → OnOk result
+        (Writes (λ w ts. slice_set ts model
+        (changed id (remade_cells (application_of app.now).models w model id (sets_at w sets.now))
+        (rows_of ts model))) guard.now (state_of K.seen work.old) (state_of K.seen work.new)) }
     ensures told { OnOk result (StaysTold K.seen work.old work.new) }
-    ensures merged { IsTold K.seen work.new → OnOk result (KeepsOrMerges (state_of K.seen work.old) (state_of K.seen work.new)) }
+    ensures merged { IsTold K.seen work.new
+        → OnOk result (KeepsOrMerges (state_of K.seen work.old) (state_of K.seen work.new)) }
     ensures keeps { WritesWork K.seen work.old work.new result }
 {
     if !is_id(id.0, model) {
@@ -134,12 +151,17 @@ fn update_where<K: Keeper, L: Ledger>(
     splits: &mut Steps<L>,
 ) -> Result<(), Stop>
     requires attached { IsTrue (K.seen work.old.keeper.now).store.attached }
-    requires a_table { IsTrue (K.seen work.old.keeper.now).tells → model < length (K.seen work.old.keeper.now).state.tables }
+    requires a_table { IsTrue (K.seen work.old.keeper.now).tells
+        → model < length (K.seen work.old.keeper.now).state.tables }
     requires model { model < length app.now.models }
-    requires fields { All (λ (s : ℕ × Shape Plain). s.0 < length (fields_at (application_of app.now).models model)) sets.now }
-    ensures left { IsTold K.seen work.new → OnOk result (Writes (λ w. tables_remade (application_of app.now).models w model target.now (sets_at w sets.now)) guard.now (state_of K.seen work.old) (state_of K.seen work.new)) }
+    requires fields { All (λ (s : ℕ × Shape Plain). s.0
+        < length (fields_at (application_of app.now).models model)) sets.now }
+    ensures left { IsTold K.seen work.new
+        → OnOk result (Writes (λ w. tables_remade (application_of app.now).models w model target.now
+        (sets_at w sets.now)) guard.now (state_of K.seen work.old) (state_of K.seen work.new)) }
     ensures told { OnOk result (StaysTold K.seen work.old work.new) }
-    ensures merged { IsTold K.seen work.new → OnOk result (KeepsOrMerges (state_of K.seen work.old) (state_of K.seen work.new)) }
+    ensures merged { IsTold K.seen work.new
+        → OnOk result (KeepsOrMerges (state_of K.seen work.old) (state_of K.seen work.new)) }
     ensures keeps { WritesWork K.seen work.old work.new result }
 {
     match target {
@@ -161,12 +183,17 @@ fn update_leaves<K: Keeper, L: Ledger>(
     splits: &mut Steps<L>,
 ) -> Result<(), Stop>
     requires attached { IsTrue (K.seen work.old.keeper.now).store.attached }
-    requires a_table { IsTrue (K.seen work.old.keeper.now).tells → model < length (K.seen work.old.keeper.now).state.tables }
+    requires a_table { IsTrue (K.seen work.old.keeper.now).tells
+        → model < length (K.seen work.old.keeper.now).state.tables }
     requires model { model < length app.now.models }
-    requires fields { All (λ (s : ℕ × Shape Plain). s.0 < length (fields_at (application_of app.now).models model)) sets.now }
-    ensures left { IsTold K.seen work.new → OnOk result (WritesEach (λ w v. tables_remade (application_of app.now).models w model v (sets_at w sets.now)) leaves.now (state_of K.seen work.old) (state_of K.seen work.new)) }
+    requires fields { All (λ (s : ℕ × Shape Plain). s.0
+        < length (fields_at (application_of app.now).models model)) sets.now }
+    ensures left { IsTold K.seen work.new
+        → OnOk result (WritesEach (λ w v. tables_remade (application_of app.now).models w model v
+        (sets_at w sets.now)) leaves.now (state_of K.seen work.old) (state_of K.seen work.new)) }
     ensures told { OnOk result (StaysTold K.seen work.old work.new) }
-    ensures merged { IsTold K.seen work.new → OnOk result (KeepsOrMerges (state_of K.seen work.old) (state_of K.seen work.new)) }
+    ensures merged { IsTold K.seen work.new
+        → OnOk result (KeepsOrMerges (state_of K.seen work.old) (state_of K.seen work.new)) }
     ensures keeps { WritesWork K.seen work.old work.new result }
 {
     'leaves: for leaf in leaves {
@@ -175,8 +202,8 @@ fn update_leaves<K: Keeper, L: Ledger>(
     Ok(())
 }
 
-/// Changes the cells of the record that the target refers to, wherever the path condition holds. Nothing
-/// happens where the target is no record of the model, or one that isn't there.
+/// Changes the cells of the record that the target refers to, wherever the path condition holds.
+/// Nothing happens where the target is no record of the model, or one that isn't there.
 pub fn update<K: Keeper, L: Ledger>(
     alloc: Global,
     work: &mut Work<'_, K>,
@@ -188,12 +215,18 @@ pub fn update<K: Keeper, L: Ledger>(
     splits: &mut Steps<L>,
 ) -> Result<(), Stop>
     requires attached { IsTrue (K.seen work.old.keeper.now).store.attached }
-    requires a_table { IsTrue (K.seen work.old.keeper.now).tells → model < length (K.seen work.old.keeper.now).state.tables }
+    requires a_table { IsTrue (K.seen work.old.keeper.now).tells
+        → model < length (K.seen work.old.keeper.now).state.tables }
     requires model { model < length app.now.models }
-    requires fields { All (λ (s : ℕ × Shape Plain). s.0 < length (fields_at (application_of app.now).models model)) sets.now }
-    ensures left { IsTold K.seen work.new → OnOk result (Writes (λ w. tables_remade (application_of app.now).models w model (at w target.now) (sets_at w sets.now)) pc.now (state_of K.seen work.old) (state_of K.seen work.new)) }
+    requires fields { All (λ (s : ℕ × Shape Plain). s.0
+        < length (fields_at (application_of app.now).models model)) sets.now }
+    ensures left { IsTold K.seen work.new
+        → OnOk result (Writes (λ w. tables_remade (application_of app.now).models w model
+        (at w target.now) (sets_at w sets.now)) pc.now (state_of K.seen work.old)
+        (state_of K.seen work.new)) }
     ensures told { OnOk result (StaysTold K.seen work.old work.new) }
-    ensures merged { IsTold K.seen work.new → OnOk result (KeepsOrMerges (state_of K.seen work.old) (state_of K.seen work.new)) }
+    ensures merged { IsTold K.seen work.new
+        → OnOk result (KeepsOrMerges (state_of K.seen work.old) (state_of K.seen work.new)) }
     ensures keeps { WritesWork K.seen work.old work.new result }
 {
     let leaves = target.leaves_under(alloc, pc)?;

@@ -146,7 +146,8 @@ fn with_flag<'a>(alloc: Global, command: Command<'a>, name: &'a str) -> Result<C
 
 fn with_argument<'a>(command: Command<'a>, argument: Arg<'a>) -> Result<Command<'a>, Memory>
     requires local { argument.global ≡ false }
-    ensures app { IfOk result (λ c. app_of c ≡ with_rule (app_of command.entry) (rule_of argument.entry)) }
+    ensures app { IfOk result (λ c. app_of c ≡ with_rule (app_of command.entry)
+        (rule_of argument.entry)) }
     ensures local { IfOk result (λ c.
         (out-Command c).has_globals ≡ (out-Command command.entry).has_globals) }
 {

@@ -66,7 +66,8 @@ pub(super) fn labels_of(alloc: Global, word: &[u8]) -> Result<Option<Labels>, Me
 }
 
 fn labels_of_parts(alloc: Global, word: &[u8]) -> Result<Option<Labels>, Memory>
-    ensures { IfOk result (λ labels. labels ≡ labels_of_parts (slice_split (λ b. b == 44) word.now)) }
+    ensures { IfOk result (λ labels. labels ≡ labels_of_parts (slice_split (λ b. b == 44)
+        word.now)) }
 {
     let mut labels = Vec::new(alloc);
     let mut left = Some(word);
