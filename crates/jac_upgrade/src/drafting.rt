@@ -39,7 +39,7 @@ fn draft_row(alloc: Global, old: &App, new: &App, model: u8, row: &Row) -> Resul
         (application_of new.now).models model row.now) }
 {
     let Row { id, guard, cells } = row.copy(alloc)?;
-    let mut cells = cells.into_vec();
+    let mut cells = cells.to_vec(alloc)?;
     add_defaults(alloc, old, new, model, &mut cells)?;
     Ok(Row {
         id,

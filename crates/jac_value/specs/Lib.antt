@@ -1,3 +1,4 @@
+pub mod CellLists
 pub mod Ids
 pub mod Names
 pub mod Parts

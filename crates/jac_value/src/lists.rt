@@ -3,60 +3,104 @@ ghost use Rattle.std.specs.Prelude.{◌≡◌, [], IfOk};
 use crate::{Id, Kind, Memory, Value};
 use std::alloc::Global;
 use std::marker::Model;
+use std::rc::Rc;
 
-/// The values of a record, one for each field of its model.
+/// The values of a record, one for each field of its model. Copies share them.
 #[derive(Debug, Drop)]
 pub struct Cells {
-    cells: Vec<Value>,
+    values: CellList,
+}
+
+// The values of one list, or those that copies of a list share.
+#[derive(Debug)]
+enum CellList {
+    Own(Vec<Value>),
+    Shared(Rc<Vec<Value>>),
+}
+
+// One step for whoever lets cells go, whichever list they are.
+impl Drop for CellList {
+    fn drop(self) {
+        match self {
+            CellList::Own(_) => {}
+            CellList::Shared(_) => {}
+        }
+    }
 }
 
 impl Model for Cells {
     ghost use Rattle.std.specs.Prelude.{List};
     ghost use Rattle.jac_value.specs.declared.value.Value.{Value as Cell};
+    ghost use Rattle.jac_value.specs.CellLists.{listed_cells};
 
     ghost Value = { List Cell };
 
-    ghost view = { λ c. c.cells.items };
+    ghost view = { λ c. listed_cells c.values };
 }
 
 impl Cells {
     pub fn empty(alloc: Global) -> Cells
         ensures { result ≡ [] }
     {
-        Cells {
-            cells: Vec::new(alloc),
-        }
+        Cells::from_vec(Vec::new(alloc))
     }
 
     pub fn from_vec(cells: Vec<Value>) -> Cells
         ensures { result ≡ cells.items }
     {
-        Cells { cells }
+        Cells {
+            values: CellList::Own(cells),
+        }
     }
 
     pub fn as_slice(&self) -> &[Value]
         ensures { result.now ≡ self.now }
     {
-        self.cells.as_slice()
+        match &self.values {
+            CellList::Own(values) => values.as_slice(),
+            CellList::Shared(values) => values.as_ref().as_slice(),
+        }
     }
 
-    pub fn into_vec(self) -> Vec<Value>
-        ensures { result.items ≡ self }
+    /// The values in a list of their own.
+    pub fn to_vec(&self, alloc: Global) -> Result<Vec<Value>, Memory>
+        ensures { IfOk result (λ v. v.items ≡ self.now) }
     {
-        self.cells
+        copy_values(alloc, self.as_slice())
     }
 
+    /// The same values. Those of a copy aren't copied once more.
     pub fn copy(&self, alloc: Global) -> Result<Cells, Memory>
         ensures { IfOk result (λ c. c ≡ self.now) }
     {
-        let values = self.cells.as_slice();
-        let mut cells = Vec::new(alloc);
-        'cells: for value in values {
-            let value = value.copy(alloc)?;
-            cells.push(value)?;
-        }
-        Ok(Cells { cells })
+        let values = self.shared(alloc)?;
+        Ok(Cells {
+            values: CellList::Shared(values),
+        })
     }
+
+    fn shared(&self, alloc: Global) -> Result<Rc<Vec<Value>>, Memory>
+        ensures { IfOk result (λ rc. rc.value.items ≡ self.now) }
+    {
+        match &self.values {
+            CellList::Own(values) => {
+                let values = copy_values(alloc, values.as_slice())?;
+                Ok(Rc::new(alloc, values)?)
+            }
+            CellList::Shared(values) => Ok(values.clone()?),
+        }
+    }
+}
+
+fn copy_values(alloc: Global, values: &[Value]) -> Result<Vec<Value>, Memory>
+    ensures { IfOk result (λ v. v.items ≡ values.now) }
+{
+    let mut copied = Vec::new(alloc);
+    'values: for value in values {
+        let value = value.copy(alloc)?;
+        copied.push(value)?;
+    }
+    Ok(copied)
 }
 
 /// The kinds of the fields of a model, in the order of the text.

@@ -1,2 +1,3 @@
 pub mod CutOff
 pub mod World
+pub mod PairLists

@@ -5,23 +5,42 @@ ghost use Rattle.jac_world.specs.CutOff.{AddsMeet, IsCutOff};
 use crate::{Assignment, Guards, Label, Memory};
 use std::alloc::Global;
 use std::marker::Model;
+use std::rc::Rc;
 
 /// A path condition: it holds where each of its labels is shown, for the sign true, or hidden, for
-/// false.
+/// false. Copies share their pairs.
 #[derive(Debug, Drop)]
 pub struct Guard {
-    pairs: Vec<(Label, bool)>,
+    pairs: PairList,
+}
+
+// The pairs of one guard, or those that copies of a guard share.
+#[derive(Debug)]
+enum PairList {
+    Own(Vec<(Label, bool)>),
+    Shared(Rc<Vec<(Label, bool)>>),
+}
+
+// One step for whoever lets a guard go, whichever list it has.
+impl Drop for PairList {
+    fn drop(self) {
+        match self {
+            PairList::Own(_) => {}
+            PairList::Shared(_) => {}
+        }
+    }
 }
 
 impl Model for Guard {
     ghost use Rattle.std.specs.Prelude.{List, ℕ, Bool};
     ghost use Rattle.jac_world.specs.World.{IsRising};
+    ghost use Rattle.jac_world.specs.PairLists.{listed_pairs};
 
     ghost Value = { List (ℕ × Bool) };
 
-    ghost view = { λ g. g.pairs.items };
+    ghost view = { λ g. listed_pairs g.pairs };
 
-    ghost invariant = { λ g. IsRising g.pairs.items };
+    ghost invariant = { λ g. IsRising (listed_pairs g.pairs) };
 }
 
 impl Guard {
@@ -30,7 +49,7 @@ impl Guard {
         ensures { result ≡ [] }
     {
         Guard {
-            pairs: Vec::new(alloc),
+            pairs: PairList::Own(Vec::new(alloc)),
         }
     }
 
@@ -39,7 +58,9 @@ impl Guard {
     {
         let mut pairs = Vec::new(alloc);
         pairs.push((label, sign))?;
-        Ok(Guard { pairs })
+        Ok(Guard {
+            pairs: PairList::Own(pairs),
+        })
     }
 
     /// The guard of these labels with their signs.
@@ -47,14 +68,15 @@ impl Guard {
         requires { IsRising pairs.items }
         ensures { result ≡ pairs.items }
     {
-        Guard { pairs }
+        Guard {
+            pairs: PairList::Own(pairs),
+        }
     }
 
     pub fn holds(&self, assignment: &Assignment) -> bool
         ensures { result ≡ holds (shown assignment.now) self.now }
     {
-        self.pairs
-            .as_slice()
+        self.list()
             .iter()
             .all(|pair| pair.1 == assignment.shows(pair.0))
     }
@@ -65,7 +87,7 @@ impl Guard {
         ensures rising { IsRising self.now }
         ensures can_be_met { holds (wanted self.now) self.now ≡ true }
     {
-        self.pairs.as_slice()
+        self.list()
     }
 
     /// Whether both hold under the same assignments.
@@ -81,8 +103,10 @@ impl Guard {
         ensures exact { IfOk result (IsMeet self.now other.now) }
         ensures none { IfOk result (λ r. IsNone r ↔ IsTrue (contradict self.now other.now)) }
     {
-        match merge(alloc, self.pairs.as_slice(), other.pairs.as_slice())? {
-            Some(pairs) => Ok(Some(Guard { pairs })),
+        match merge(alloc, self.list(), other.list())? {
+            Some(pairs) => Ok(Some(Guard {
+                pairs: PairList::Own(pairs),
+            })),
             None => Ok(None),
         }
     }
@@ -99,11 +123,39 @@ impl Guard {
         Ok(guards)
     }
 
+    /// The same guard. The pairs of a copy aren't copied once more.
     pub fn copy(&self, alloc: Global) -> Result<Guard, Memory>
         ensures { IfOk result (λ g. g ≡ self.now) }
     {
-        let pairs = Vec::from_slice(alloc, self.pairs.as_slice())?;
-        Ok(Guard { pairs })
+        if self.list().is_empty() {
+            return Ok(Guard::empty(alloc));
+        }
+        let pairs = self.shared(alloc)?;
+        Ok(Guard {
+            pairs: PairList::Shared(pairs),
+        })
+    }
+
+    fn list(&self) -> &[(Label, bool)]
+        ensures list { result.now ≡ self.now }
+        ensures rising { IsRising self.now }
+    {
+        match &self.pairs {
+            PairList::Own(pairs) => pairs.as_slice(),
+            PairList::Shared(pairs) => pairs.as_ref().as_slice(),
+        }
+    }
+
+    fn shared(&self, alloc: Global) -> Result<Rc<Vec<(Label, bool)>>, Memory>
+        ensures { IfOk result (λ rc. rc.value.items ≡ self.now) }
+    {
+        match &self.pairs {
+            PairList::Own(pairs) => {
+                let pairs = Vec::from_slice(alloc, pairs.as_slice())?;
+                Ok(Rc::new(alloc, pairs)?)
+            }
+            PairList::Shared(pairs) => Ok(pairs.clone()?),
+        }
     }
 
     fn cut_off(&self, alloc: Global, cut: &Guard) -> Result<Guards, Memory>
@@ -111,7 +163,7 @@ impl Guard {
     {
         let mut items = Vec::new(alloc);
         let mut prefix = self.copy(alloc)?;
-        let mut rest = cut.pairs.as_slice();
+        let mut rest = cut.list();
         'cut: while let Some((pair, more)) = rest.split_first() {
             let turned = Guard::one(alloc, pair.0, !pair.1)?;
             add_meet(alloc, &mut items, &prefix, &turned)?;

@@ -105,7 +105,7 @@ fn add_leaf(
 fn cells_with(alloc: Global, cells: &Cells, spot: Spot, value: Value) -> Result<Cells, Memory>
     ensures { IfOk result (λ c. c ≡ with_cell spot value cells.now) }
 {
-    let cells = cells.copy(alloc)?.into_vec();
+    let cells = cells.to_vec(alloc)?;
     match spot {
         Spot::Behind => {
             let cells = pushed(cells, value)?;

@@ -1,0 +1,10 @@
+-- Cells whose copies share their values.
+use Rattle.std.specs.Prelude.{List}
+use Rattle.jac_value.specs.declared.value.Value.{Value}
+use Rattle.jac_value.specs.declared.lists.CellList.{CellList}
+use Rattle.jac_value.specs.declared.lists.CellList.TheVariants as list
+
+-- the values, whether they are a list's own or those that copies share
+abbrev pub listed_cells : CellList → List Value
+listed_cells (list.Own own) = own.items
+listed_cells (list.Shared shared) = shared.value.items

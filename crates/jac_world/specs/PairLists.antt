@@ -1,0 +1,9 @@
+-- Guards whose copies share their pairs.
+use Rattle.std.specs.Prelude.{ℕ, Bool, List}
+use Rattle.jac_world.specs.declared.guard.PairList.{PairList}
+use Rattle.jac_world.specs.declared.guard.PairList.TheVariants as list
+
+-- the pairs, whether they are a guard's own or those that copies share
+abbrev pub listed_pairs : PairList → List (ℕ × Bool)
+listed_pairs (list.Own own) = own.items
+listed_pairs (list.Shared shared) = shared.value.items
