@@ -8,9 +8,9 @@ use Rattle.jac_plain.specs.Requests.{Worlds}
 use Rattle.jac_plain.specs.Policies.{with_label, IsSettled}
 use Rattle.jac_pruned.proofs.Working.{next}
 use Rattle.jac_recall.specs.declared.answers.Answers.{Answers}
-use Rattle.jac_resolve.specs.Recalled.{Fills, Grown, IsPassed, IsUnderway, RemembersForbidden, Tries}
+use Rattle.jac_resolve.specs.Recalled.{Fills, Grown, IsPassed, IsUnderway, Retains, RemembersForbidden, Tries}
 use Rattle.jac_resolve.specs.Rounds.{hidden_count, AreLive, MayAdd, Advances, Within}
-use Rattle.jac_resolve.proofs.Underway.{refused_still}
+use Rattle.jac_resolve.proofs.Underway.{grown_same, grown_then, refused_still}
 
 or_right : (a b : Bool) → b ≡ true → (a || b) ≡ true
 or_right true b p = refl
@@ -69,6 +69,40 @@ stays_within labels start old new k true s within g j h =
     (within j)
     (sym (g.1 j) ∙ h)
 stays_within labels start old new k false s within g j h = within j (sym (g j) ∙ h)
+
+or_left : (a b : Bool) → a ≡ true → (a || b) ≡ true
+or_left true b p = refl
+or_left false b p = absurd cc
+
+pub within_same : (labels start : List ℕ) → Within labels start start
+within_same labels start j s = or_left (shown start j) (shown labels j) s
+
+pub within_then : (labels start old new : List ℕ) → Within labels start old → Within labels old new → Within labels start new
+within_then labels start old new before more j s = then_if (shown old j) (shown start j) (shown labels j) (before j) (more j s)
+  where
+    then_if : (was a b : Bool) → (was ≡ true → (a || b) ≡ true) → (was || b) ≡ true → (a || b) ≡ true
+    then_if true a b there h = there refl
+    then_if false a b there h = or_right a b h
+
+-- what was shown stays, and what was remembered
+pub retains_same : (labels : List ℕ) (answers : Answers) → Retains labels labels answers answers
+retains_same labels answers = record { shows = λ j s. s; grown = grown_same answers }
+
+pub retains_then : (start old new : List ℕ) (first answers known : Answers) → Retains start old first answers → Retains old new answers known → Retains start new first known
+retains_then start old new first answers known before more = record {
+  shows = λ j s. more.shows j (before.shows j s);
+  grown = grown_then first answers known before.grown more.grown;
+}
+
+pub retains_on : (start old new : List ℕ) (first answers known : Answers) (k : ℕ) (one : Bool) → Retains start old first answers → MayAdd k old new one → Grown answers known → Retains start new first known
+retains_on start old new first answers known k true before g grown = record {
+  shows = λ j s. g.1 j ∙ or_right (k == j) (shown old j) (before.shows j s);
+  grown = grown_then first answers known before.grown grown;
+}
+retains_on start old new first answers known k false before g grown = record {
+  shows = λ j s. g j ∙ before.shows j s;
+  grown = grown_then first answers known before.grown grown;
+}
 
 -- the labels that are left are among all
 pub left_is_shown : (xs : List ℕ) (i k : ℕ) → shown (drop i xs) k ≡ true → shown xs k ≡ true
@@ -153,8 +187,16 @@ pub record SoFar (right asked : Type 0) : Type 0 where
   pub so_far : asked
 
 -- what is known in a round, told or not, with a count that doesn't fall, and what is known beside
-pub record InRound (labels start new : List ℕ) (added : Bool) (before now : ℕ) (beside : Type 0) : Type 0 where
+pub record InRound (labels start new : List ℕ) (added : Bool) (old known : Answers) (before now : ℕ) (beside : Type 0) : Type 0 where
   pub later : before ≤ now
   pub advances : Advances labels start new added
   pub within : Within labels start new
+  pub retains : Retains start new old known
+  pub working : beside
+
+-- and between two rounds
+pub record InRounds (labels start new : List ℕ) (old known : Answers) (before now : ℕ) (beside : Type 0) : Type 0 where
+  pub later : before ≤ now
+  pub within : Within labels start new
+  pub retains : Retains start new old known
   pub working : beside

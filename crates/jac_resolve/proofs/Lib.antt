@@ -1,4 +1,5 @@
 pub mod Alike
+pub mod Apart
 pub mod Collecting
 pub mod Greedy
 pub mod Living

@@ -1,5 +1,5 @@
 -- What is kept of a seat when worlds change.
-use Rattle.std.proofs.Common.{◌≡◌, ◌==◌, ◌&&◌, ◌||◌, ◌⊎◌, inl, inr, ℕ, Bool, true, false, not, if◌then◌else◌, List, [], ◌∷◌, Option, Some, None, refl, ap, sym, subst, ◌∙◌}
+use Rattle.std.proofs.Common.{◌≡◌, ◌==◌, ◌||◌, ◌⊎◌, inl, inr, ℕ, Bool, true, false, if◌then◌else◌, List, Option, Some, None, refl, ap, sym, subst, ◌∙◌}
 use Rattle.std.specs.Option.{is_some}
 use Rattle.std.specs.Ordering.{nat_cmp}
 use Rattle.std.specs.BTreeMap.{get}
@@ -8,13 +8,12 @@ use Rattle.jac_world.specs.World.{shown}
 use Rattle.jac_lang.specs.Syntax.{Application}
 use Rattle.jac_rows.specs.declared.row.Row.{Row}
 use Rattle.jac_rows.specs.declared.state.State.{State}
-use Rattle.jac_plain.specs.Policies.{is_allowed, with_label, IsLiveLabel}
+use Rattle.jac_plain.specs.Policies.{with_label}
 use Rattle.jac_plain.specs.Requests.{Worlds}
-use Rattle.jac_recall.specs.declared.answers.Answers.{Answers}
 use Rattle.jac_recall.specs.declared.answers.Given.{Given}
 use Rattle.jac_recall.specs.declared.seat.Seat.{Seat}
 use Rattle.jac_recall.specs.declared.touch.Touch.{Touch}
-use Rattle.jac_recall.specs.Recalled.{AreWatched, hangs, is_asked, recall, recall_in, watches}
+use Rattle.jac_recall.specs.Recalled.{AreWatched, hangs, recall, recall_in}
 use Rattle.jac_recall.specs.Seats.{IsEmptySeat, Unsettles}
 use Rattle.jac_recall.specs.Touched.{IsCovered, touches}
 use Rattle.jac_resolve.specs.Recalled.{AreRight}

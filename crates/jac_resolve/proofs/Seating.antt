@@ -1,25 +1,20 @@
 -- What was settled for somebody, over plain lists.
-use Rattle.std.proofs.Common.{◌≡◌, ◌==◌, ◌&&◌, ◌||◌, ◌⊎◌, inl, inr, ℕ, Bool, true, false, not, if◌then◌else◌, List, [], ◌∷◌, Option, Some, None, refl, ap, sym, subst, ◌∙◌}
+use Rattle.std.proofs.Common.{◌≡◌, ◌==◌, ◌||◌, ◌⊎◌, inl, inr, ℕ, Bool, true, false, List, [], Option, Some, None, refl, ap, sym, subst, ◌∙◌}
 use Rattle.std.specs.Option.{is_some}
 use Rattle.std.specs.Ordering.{nat_cmp}
 use Rattle.std.specs.BTreeMap.{get}
 use Rattle.std.proofs.lemmas.Bool.Decides.{Decides-eqb}
 use Rattle.jac_world.specs.World.{shown, IsAscending}
 use Rattle.jac_lang.specs.Syntax.{Application}
-use Rattle.jac_plain.specs.Policies.{is_allowed, with_label, AreAllowed, IsLiveLabel, IsSettled}
+use Rattle.jac_plain.specs.Policies.{is_allowed, with_label, IsLiveLabel, IsSettled}
 use Rattle.jac_plain.specs.Requests.{Worlds}
 use Rattle.jac_recall.specs.declared.answers.Answers.{Answers}
 use Rattle.jac_recall.specs.declared.seat.Seat.{Seat}
-use Rattle.jac_recall.specs.declared.touch.Touch.{Touch}
-use Rattle.jac_recall.specs.Recalled.{AreWatched, IsLinked, hangs, is_asked, recall, watches}
-use Rattle.jac_recall.specs.Seats.{IsEmptySeat, Unsettles}
-use Rattle.jac_recall.specs.Touched.{IsCovered, touches}
+use Rattle.jac_recall.specs.Recalled.{hangs, recall}
 use Rattle.jac_recall.proofs.Recalling.{recall_by}
-use Rattle.jac_recall.proofs.Rising.{bool_eq}
 use Rattle.jac_resolve.specs.Recalled.{AreRight, IsPassed, IsUnderway, RemembersForbidden}
 use Rattle.jac_resolve.specs.Rounds.{AreLive}
 use Rattle.jac_resolve.specs.Seated.{AreSettledBut, AreSettledButIf, IsAtRest, StandsRefused, IsSeated}
-use Rattle.jac_resolve.proofs.Underway.{itself}
 
 -- whether a label is shown is nothing to what is remembered of one whose answers don't hang on it
 pub unhung : (answers : Answers) (j k : ℕ) → hangs answers j k ≡ false → (w : ℕ → Bool) → recall answers j (with_label k w) ≡ recall answers j w
@@ -43,7 +38,7 @@ other_answer o P is (inr e) = absurd (let both : Some false ≡ None = sym is �
 
 module _ (app : Application) (worlds : Worlds) (viewer : Option ℕ) where
   -- what is remembered is what the policy answers
-  recalled_is : (answers : Answers) (k : ℕ) (w : ℕ → Bool) (b : Bool) → AreRight app worlds viewer answers → is_some (recall answers k w) ≡ true → is_allowed app (worlds w) viewer k ≡ b →
+  pub recalled_is : (answers : Answers) (k : ℕ) (w : ℕ → Bool) (b : Bool) → AreRight app worlds viewer answers → is_some (recall answers k w) ≡ true → is_allowed app (worlds w) viewer k ≡ b →
       recall answers k w ≡ Some b
   recalled_is answers k w b right some allowed = by_answer (recall answers k w) refl some
     where
@@ -54,18 +49,18 @@ module _ (app : Application) (worlds : Worlds) (viewer : Option ℕ) where
   allowed_is : (answers : Answers) (k : ℕ) (w : ℕ → Bool) (b : Bool) → AreRight app worlds viewer answers → recall answers k w ≡ Some b → is_allowed app (worlds w) viewer k ≡ b
   allowed_is answers k w b right e = sym (right.each k w b e)
 
-  refused_is : (answers : Answers) (k : ℕ) (w : ℕ → Bool) → AreRight app worlds viewer answers → RemembersForbidden app worlds viewer answers (with_label k w) → StandsRefused answers k w
+  pub refused_is : (answers : Answers) (k : ℕ) (w : ℕ → Bool) → AreRight app worlds viewer answers → RemembersForbidden app worlds viewer answers (with_label k w) → StandsRefused answers k w
   refused_is answers k w right one = record {
     label = one.label;
     is_shown = one.is_shown;
     refused = recalled_is answers one.label (with_label k w) false right one.known one.forbidden;
   }
 
-  -- labels that a pass left, with none that is due
-  pub seated_passed : (labels : List ℕ) (answers : Answers) → IsUnderway app worlds viewer labels answers → ((k : ℕ) → shown labels k ≡ true → IsLiveLabel app worlds k) →
+  -- labels that a pass left, whatever is due
+  pub seated_passed : (labels due : List ℕ) (answers : Answers) → IsUnderway app worlds viewer labels answers → ((k : ℕ) → shown labels k ≡ true → IsLiveLabel app worlds k) →
       ((k : ℕ) → IsLiveLabel app worlds k → shown labels k ≡ false → StandsRefused answers k (shown labels)) →
-      IsSeated app worlds viewer (record { labels = Some labels; answers = answers; due = [] })
-  seated_passed labels answers underway live full = record {
+      IsSeated app worlds viewer (record { labels = Some labels; answers = answers; due = due })
+  seated_passed labels due answers underway live full = record {
     right = underway.right;
     watched = underway.watched;
     kept = record {
@@ -76,10 +71,10 @@ module _ (app : Application) (worlds : Worlds) (viewer : Option ℕ) where
   }
 
   -- after a pass over all live labels
-  pub seated_all : (labels live : List ℕ) (answers : Answers) → AreLive app worlds live → IsPassed app worlds viewer answers live labels →
-      IsSeated app worlds viewer (record { labels = Some labels; answers = answers; due = [] })
-  seated_all labels live answers are passed =
-      seated_passed labels answers passed.underway (λ k s. are.only k (passed.within k s))
+  pub seated_all : (labels live due : List ℕ) (answers : Answers) → AreLive app worlds live → IsPassed app worlds viewer answers live labels →
+      IsSeated app worlds viewer (record { labels = Some labels; answers = answers; due = due })
+  seated_all labels live due answers are passed =
+      seated_passed labels due answers passed.underway (λ k s. are.only k (passed.within k s))
       (λ k lives hidden. refused_is answers k (shown labels) passed.underway.right (passed.refused.each k (are.every k lives) hidden))
 
   -- all live labels are tried from none on

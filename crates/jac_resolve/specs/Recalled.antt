@@ -31,6 +31,11 @@ pub record Grown (old new : Answers) : Type 0 where
   pub watching : (k j : ℕ) → watches old k j ≡ true → watches new k j ≡ true
   pub watched : AreWatched old → AreWatched new
 
+-- what was shown still is, and what was remembered
+pub record Retains (old new : List ℕ) (before now : Answers) : Type 0 where
+  pub shows : (k : ℕ) → shown old k ≡ true → shown new k ≡ true
+  pub grown : Grown before now
+
 -- what holds between two tries
 pub record IsUnderway (app : Application) (worlds : Worlds) (viewer : Option ℕ) (a : List ℕ)
     (answers : Answers) : Type 0 where

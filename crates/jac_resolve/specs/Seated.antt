@@ -6,7 +6,8 @@ use Rattle.jac_plain.specs.Policies.{IsLiveLabel, with_label}
 use Rattle.jac_plain.specs.Requests.{Worlds}
 use Rattle.jac_recall.specs.declared.answers.Answers.{Answers}
 use Rattle.jac_recall.specs.declared.seat.Seat.{Seat}
-use Rattle.jac_recall.specs.Recalled.{AreWatched, recall}
+use Rattle.jac_recall.specs.Linked.{AreLinked}
+use Rattle.jac_recall.specs.Recalled.{AreWatched, IsLinked, recall}
 use Rattle.jac_resolve.specs.Recalled.{AreRight}
 
 -- some label that is shown once k is shown too isn't allowed then, and that is remembered
@@ -41,3 +42,41 @@ pub record IsSeated (app : Application) (worlds : Worlds) (viewer : Option ℕ)
 pub record IsAtRest (seat : Seat) : Type 0 where
   pub labels : is_some seat.labels ≡ true
   pub due : seat.due ≡ []
+
+-- the seat has labels, and these are those that are due, with all that they are linked to
+pub record AreNear (seat : Seat) (near : List ℕ) : Type 0 where
+  pub settled : is_some seat.labels ≡ true
+  pub linked : AreLinked seat.answers seat.due near
+
+abbrev pub AreNearIf : Seat → Option (List ℕ) → Type 0
+AreNearIf seat None = ⊤
+AreNearIf seat (Some near) = AreNear seat near
+
+abbrev pub seat_labels : Option (List ℕ) → List ℕ
+seat_labels None = []
+seat_labels (Some labels) = labels
+
+-- what was due still is, and apart from what is due the same labels are shown
+pub record IsWidened (old new : Seat) : Type 0 where
+  pub due : (k : ℕ) → shown old.due k ≡ true → shown new.due k ≡ true
+  pub same : (k : ℕ) → shown new.due k ≡ false
+      → shown (seat_labels new.labels) k ≡ shown (seat_labels old.labels) k
+
+-- what was due is among some labels that no answer links to others, and apart from these the same
+-- are shown
+pub record IsSettledApart (old new : Seat) : Type 0 where
+  pub near : List ℕ
+  pub due : (k : ℕ) → shown old.due k ≡ true → shown near k ≡ true
+  pub linked : IsLinked new.answers near
+  pub same : (k : ℕ) → shown near k ≡ false
+      → shown (seat_labels new.labels) k ≡ shown (seat_labels old.labels) k
+
+-- no answer links the labels that were tried to others, or they are due again
+abbrev pub TriesApart : Seat → Seat → Bool → Type 0
+TriesApart old new true = IsSettledApart old new
+TriesApart old new false = IsWidened old new
+
+-- no answer links the labels to others, or these are among more
+abbrev pub Widens : Answers → List ℕ → Option (List ℕ) → Type 0
+Widens answers near None = IsLinked answers near
+Widens answers near (Some all) = (k : ℕ) → shown near k ≡ true → shown all k ≡ true

@@ -7,7 +7,7 @@ ghost use Rattle.jac_keep.specs.Worked.{state_of, IsTold, ReadsWork};
 ghost use Rattle.jac_pruned.specs.Local.{IsLocalCase};
 ghost use Rattle.jac_plain.specs.Policies.{IsSettled, is_allowed};
 ghost use Rattle.jac_recall.specs.Recalled.{recall};
-ghost use Rattle.jac_resolve.specs.Recalled.{AreRight, Fills, Fitting, Grown, IsPassed, IsRight, IsUnderway, Stays, Tries, touched};
+ghost use Rattle.jac_resolve.specs.Recalled.{AreRight, Fills, Fitting, Grown, IsPassed, IsRight, IsUnderway, Retains, Stays, Tries, touched};
 ghost use Rattle.jac_resolve.specs.Room.{AreOwn, Spends, room};
 ghost use Rattle.jac_resolve.specs.Rounds.{worlds_of, HasSoundTables, AreLive, MayAdd, Advances, Within};
 
@@ -118,7 +118,7 @@ pub fn settle_among<K: Keeper, M: Ledger>(
 }
 
 // Tries each label once, and says whether one was added.
-fn try_labels<K: Keeper, M: Ledger>(
+pub(crate) fn try_labels<K: Keeper, M: Ledger>(
     alloc: Global,
     work: &mut Work<'_, K>,
     app: &App,
@@ -131,6 +131,7 @@ fn try_labels<K: Keeper, M: Ledger>(
     requires attached { IsTrue (K.seen work.old.keeper.now).store.attached }
     ensures advances { IfOk result (Advances labels.now a.old a.new) }
     ensures within { IfOk result (λ b. Within labels.now a.old a.new) }
+    ensures retains { OnOk result (Retains a.old a.new answers.old answers.new) }
     ensures underway { IsTold K.seen work.new → IsUnderway
         (application_of app.now) (worlds_of (state_of K.seen work.old)) viewer.now a.old answers.old
         → OnOk result (IsUnderway (application_of app.now)

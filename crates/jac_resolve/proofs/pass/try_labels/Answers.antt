@@ -8,7 +8,7 @@ use Rattle.jac_pruned.specs.Local.{IsLocalCase}
 use Rattle.jac_resolve.specs.Rounds.{worlds_of}
 use Rattle.jac_pruned.proofs.Working.{next}
 use Rattle.jac_resolve.proofs.Room.{most_then, spends_most, spends_then}
-use Rattle.jac_resolve.proofs.Greedy.{first_is_shown, advances, filled, none_left, stays_within, round_on}
+use Rattle.jac_resolve.proofs.Greedy.{first_is_shown, advances, filled, retains_on, none_left, stays_within, round_on}
 use Rattle.jac_resolve.proofs.pass.try_labels.Goals as goal
 
 pub labels-preserved : goal.labels-preserved
@@ -29,6 +29,7 @@ labels-preserved g c =
       later = omega (arith, c.labels.invariant.later, c.in_ok-one.ensures.later);
       advances = advances labels start old new x c.labels.added c.in_ok-one.one among c.labels.invariant.advances grows;
       within = stays_within labels start old new x c.in_ok-one.one among c.labels.invariant.within grows;
+      retains = retains_on start old new c.args.answers.now c.labels.answers c.try_label.new.answers x c.in_ok-one.one c.labels.invariant.retains grows c.in_ok-one.ensures.grown;
       working = record {
         told = λ told.
             let before = c.in_ok-one.ensures.reads.same.told told in

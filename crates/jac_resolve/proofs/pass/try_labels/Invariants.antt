@@ -15,7 +15,7 @@ invariant-labels g l =
     let k = g.K.Keeper in
     let app = application_of l.app in
     let worlds = worlds_of (state_of k.seen l.fn.work) in
-    InRound l.labels l.fn.a l.a l.added l.fn.evaluations l.evaluations
+    InRound l.labels l.fn.a l.a l.added l.fn.answers l.answers l.fn.evaluations l.evaluations
     (LoopOver k.seen l.fn.work l.work
     (AsBounded (IsUnderway app worlds l.viewer l.fn.a l.fn.answers → Round app worlds l.viewer l.labels (drop l.label-index l.labels) l.a l.answers l.added)
     (IsLocalCase app (state_of k.seen l.fn.work) l.viewer → AreOwn l.labels l.fn.answers → Spends l.labels l.fn.evaluations l.evaluations l.fn.answers l.answers)))

@@ -1,12 +1,10 @@
-use Rattle.std.proofs.Common.{◌≡◌, ◌∙◌, ◌&&◌, ℕ, not, true, false, List, [], Option, Some, ap, refl, sym, subst, rules}
-use Rattle.jac_world.specs.World.{shown}
+use Rattle.std.proofs.Common.{ℕ, List, sym, subst}
 use Rattle.jac_lang.specs.Mirror.{application_of}
 use Rattle.jac_rows.specs.declared.state.State.{State}
 use Rattle.jac_keep.specs.Worked.{state_of}
-use Rattle.jac_recall.specs.declared.answers.Answers.{Answers}
 use Rattle.jac_recall.specs.declared.seat.Seat.{Seat}
 use Rattle.jac_resolve.specs.Rounds.{AreLive, worlds_of}
-use Rattle.jac_resolve.specs.Recalled.{IsPassed, IsUnderway}
+use Rattle.jac_resolve.specs.Recalled.{IsPassed}
 use Rattle.jac_resolve.specs.Seated.{IsSeated}
 use Rattle.jac_resolve.proofs.Seating.{seated_all}
 use Rattle.jac_resolve.proofs.seated.settle_all.Goals as goal
@@ -23,6 +21,6 @@ returns-clause-seated g c told =
     let live = c.as_slice.result.now in
     let answers = c.settle_among.new.answers in
     subst (λ (s : Seat). IsSeated app worlds viewer s) (sym c.put_labels.ensures)
-    (seated_all app worlds viewer labels live answers
+    (seated_all app worlds viewer labels live c.empty.result answers
     (subst (λ (l : List ℕ). AreLive app worlds l) (sym c.as_slice.ensures.labels) (c.in_ok-live.ensures.live before))
     (subst (λ (s : State). IsPassed app (worlds_of s) viewer answers live labels) moved (c.in_ok-labels.ensures.passed told)))

@@ -1,0 +1,18 @@
+use Rattle.jac_world.specs.World.{shown}
+use Rattle.jac_lang.specs.Mirror.{application_of}
+use Rattle.jac_keep.specs.Worked.{state_of}
+use Rattle.jac_resolve.specs.Recalled.{IsUnderway}
+use Rattle.jac_resolve.specs.Rounds.{worlds_of, hidden_count}
+use Rattle.jac_resolve.specs.Seated.{seat_labels}
+use Rattle.jac_pruned.proofs.Working.{LoopOver}
+use Rattle.jac_resolve.proofs.Greedy.{InRounds}
+use Rattle.jac_resolve.proofs.seated.fill.Given as goal
+
+abbrev pub invariant-rounds : goal.invariant-rounds
+invariant-rounds g l =
+    let k = g.K.Keeper in
+    InRounds l.tried (seat_labels l.fn.seat.labels) l.labels l.fn.seat.answers l.seat.answers l.fn.evaluations l.evaluations
+    (LoopOver k.seen l.fn.work l.work (IsUnderway (application_of l.app) (worlds_of (state_of k.seen l.fn.work)) l.viewer l.labels l.seat.answers))
+
+abbrev pub decreases-rounds : goal.decreases-rounds
+decreases-rounds g l = hidden_count (shown l.labels) l.tried

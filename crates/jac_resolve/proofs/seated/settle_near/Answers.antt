@@ -1,0 +1,164 @@
+use Rattle.std.proofs.Common.{◌≡◌, ◌&&◌, ◌∙◌, not, ℕ, List, Option, Some, ap, refl, sym, subst}
+use Rattle.jac_world.specs.World.{shown}
+use Rattle.jac_lang.specs.Mirror.{application_of}
+use Rattle.jac_rows.specs.declared.state.State.{State}
+use Rattle.jac_keep.specs.Worked.{state_of}
+use Rattle.jac_recall.specs.declared.answers.Answers.{Answers}
+use Rattle.jac_recall.specs.declared.seat.Seat.{Seat}
+use Rattle.jac_resolve.specs.Live.{AreLiveOf}
+use Rattle.jac_resolve.specs.Recalled.{AreRefused, IsUnderway, Retains}
+use Rattle.jac_resolve.specs.Rounds.{Within, worlds_of}
+use Rattle.jac_resolve.specs.Seated.{IsSeated, IsSettledApart, IsWidened, Widens, seat_labels}
+use Rattle.jac_resolve.proofs.Apart.{kept_some, same_apart, seated_apart, settled_apart, underway_apart, widened_apart}
+use Rattle.jac_resolve.proofs.seated.settle_near.Goals as goal
+
+pub fill-requires-clause-underway : goal.fill-requires-clause-underway
+fill-requires-clause-underway g c told =
+    let k = g.K.Keeper in
+    let app = application_of c.args.app.now in
+    let viewer = c.args.viewer.now in
+    let worlds = worlds_of (state_of k.seen c.args.work.now) in
+    let seat = c.args.seat.now in
+    let near = c.args.near.now in
+    let labels = c.in_ok-rest.rest in
+    let rest = c.remove_all.new.a in
+    let put = c.put_labels.new.seat in
+    let before = c.in_ok-tried.ensures.reads.same.told told in
+    let moved = c.in_ok-tried.ensures.reads.same.same_state told in
+    let seated = c.requires.seated before in
+    let cut : (i : ℕ) → shown rest i ≡ (not (shown near i) && shown labels i) =
+    λ i. c.remove_all.ensures i ∙ ap (λ (l : List ℕ). not (shown l i) && shown labels i) c.as_slice-2.ensures.labels in
+    let starts : seat_labels put.labels ≡ rest = ap (λ (s : Seat). seat_labels s.labels) c.put_labels.ensures in
+    let same : put.answers ≡ seat.answers = ap (λ (s : Seat). s.answers) c.put_labels.ensures in
+    subst (λ (s : State). IsUnderway app (worlds_of s) viewer (seat_labels put.labels) put.answers) (sym moved)
+    (subst (λ (l : List ℕ). IsUnderway app worlds viewer l put.answers) (sym starts)
+    (subst (λ (a : Answers). IsUnderway app worlds viewer rest a) (sym same)
+    (underway_apart app worlds viewer labels seat.due near rest seat.answers seated.right seated.watched (kept_some app worlds viewer seat labels c.in_ok-rest.ensures seated) c.requires.near.linked cut)))
+
+pub returns-in-Some-clause-seated : goal.returns-in-Some-clause-seated
+returns-in-Some-clause-seated g c told =
+    let k = g.K.Keeper in
+    let app = application_of c.args.app.now in
+    let viewer = c.args.viewer.now in
+    let worlds = worlds_of (state_of k.seen c.args.work.now) in
+    let seat = c.args.seat.now in
+    let near = c.args.near.now in
+    let labels = c.in_ok-rest.rest in
+    let rest = c.remove_all.new.a in
+    let put = c.put_labels.new.seat in
+    let now = c.in_ok-labels.labels in
+    let tried = c.as_slice-3.result.now in
+    let known = c.fill.new.seat.answers in
+    let filled = c.in_ok-labels.ensures in
+    let behind = filled.reads.same.told told in
+    let before = c.in_ok-tried.ensures.reads.same.told behind in
+    let moved = c.in_ok-tried.ensures.reads.same.same_state behind in
+    let seated = c.requires.seated before in
+    let kept = kept_some app worlds viewer seat labels c.in_ok-rest.ensures seated in
+    let cut : (i : ℕ) → shown rest i ≡ (not (shown near i) && shown labels i) =
+    λ i. c.remove_all.ensures i ∙ ap (λ (l : List ℕ). not (shown l i) && shown labels i) c.as_slice-2.ensures.labels in
+    let starts : seat_labels put.labels ≡ rest = ap (λ (s : Seat). seat_labels s.labels) c.put_labels.ensures in
+    let same : put.answers ≡ seat.answers = ap (λ (s : Seat). s.answers) c.put_labels.ensures in
+    let live = subst (λ (l : List ℕ). AreLiveOf app worlds near l) (sym c.as_slice-3.ensures.value) (subst (λ (l : List ℕ). AreLiveOf app worlds l c.in_ok-tried.tried.items) c.as_slice.ensures.labels (c.in_ok-tried.ensures.live behind)) in
+    let within = subst (λ (l : List ℕ). Within tried l now) starts filled.within in
+    let retains = subst (λ (l : List ℕ). Retains l now seat.answers known) starts (subst (λ (a : Answers). Retains (seat_labels put.labels) now a known) same filled.retains) in
+    subst (λ (s : Seat). IsSeated app worlds viewer s) (sym c.put_labels-in-Some.ensures)
+    (seated_apart app worlds viewer labels seat.due near rest seat.answers seated.right seated.watched kept c.requires.near.linked cut now tried known live within retains c.in-Some.due
+    (subst (λ (s : State). IsUnderway app (worlds_of s) viewer now known) moved (filled.underway told))
+    (subst (λ (s : State). AreRefused app (worlds_of s) viewer known tried now) moved (filled.refused told)))
+
+pub returns-in-Some-clause-apart : goal.returns-in-Some-clause-apart
+returns-in-Some-clause-apart g c told =
+    let k = g.K.Keeper in
+    let app = application_of c.args.app.now in
+    let viewer = c.args.viewer.now in
+    let worlds = worlds_of (state_of k.seen c.args.work.now) in
+    let seat = c.args.seat.now in
+    let near = c.args.near.now in
+    let labels = c.in_ok-rest.rest in
+    let rest = c.remove_all.new.a in
+    let put = c.put_labels.new.seat in
+    let now = c.in_ok-labels.labels in
+    let tried = c.as_slice-3.result.now in
+    let known = c.fill.new.seat.answers in
+    let filled = c.in_ok-labels.ensures in
+    let behind = filled.reads.same.told told in
+    let before = c.in_ok-tried.ensures.reads.same.told behind in
+    let moved = c.in_ok-tried.ensures.reads.same.same_state behind in
+    let seated = c.requires.seated before in
+    let kept = kept_some app worlds viewer seat labels c.in_ok-rest.ensures seated in
+    let cut : (i : ℕ) → shown rest i ≡ (not (shown near i) && shown labels i) =
+    λ i. c.remove_all.ensures i ∙ ap (λ (l : List ℕ). not (shown l i) && shown labels i) c.as_slice-2.ensures.labels in
+    let starts : seat_labels put.labels ≡ rest = ap (λ (s : Seat). seat_labels s.labels) c.put_labels.ensures in
+    let same : put.answers ≡ seat.answers = ap (λ (s : Seat). s.answers) c.put_labels.ensures in
+    let live = subst (λ (l : List ℕ). AreLiveOf app worlds near l) (sym c.as_slice-3.ensures.value) (subst (λ (l : List ℕ). AreLiveOf app worlds l c.in_ok-tried.tried.items) c.as_slice.ensures.labels (c.in_ok-tried.ensures.live behind)) in
+    let within = subst (λ (l : List ℕ). Within tried l now) starts filled.within in
+    let retains = subst (λ (l : List ℕ). Retains l now seat.answers known) starts (subst (λ (a : Answers). Retains (seat_labels put.labels) now a known) same filled.retains) in
+    subst (λ (s : Seat). IsWidened seat s) (sym c.put_labels-in-Some.ensures)
+    (widened_apart seat (record { labels = Some now; answers = known; due = c.in-Some.due }) near labels now c.requires.near.linked c.in_ok-rest.ensures refl
+    (same_apart app worlds viewer labels seat.due near rest seat.answers seated.right seated.watched kept c.requires.near.linked cut now tried known live within retains)
+    (subst (λ (o : Option (List ℕ)). Widens known near o) c.in-Some.is c.in_ok-due.ensures))
+
+pub returns-clause-seated : goal.returns-clause-seated
+returns-clause-seated g c told =
+    let k = g.K.Keeper in
+    let app = application_of c.args.app.now in
+    let viewer = c.args.viewer.now in
+    let worlds = worlds_of (state_of k.seen c.args.work.now) in
+    let seat = c.args.seat.now in
+    let near = c.args.near.now in
+    let labels = c.in_ok-rest.rest in
+    let rest = c.remove_all.new.a in
+    let put = c.put_labels.new.seat in
+    let now = c.in_ok-labels.labels in
+    let tried = c.as_slice-3.result.now in
+    let known = c.fill.new.seat.answers in
+    let filled = c.in_ok-labels.ensures in
+    let behind = filled.reads.same.told told in
+    let before = c.in_ok-tried.ensures.reads.same.told behind in
+    let moved = c.in_ok-tried.ensures.reads.same.same_state behind in
+    let seated = c.requires.seated before in
+    let kept = kept_some app worlds viewer seat labels c.in_ok-rest.ensures seated in
+    let cut : (i : ℕ) → shown rest i ≡ (not (shown near i) && shown labels i) =
+    λ i. c.remove_all.ensures i ∙ ap (λ (l : List ℕ). not (shown l i) && shown labels i) c.as_slice-2.ensures.labels in
+    let starts : seat_labels put.labels ≡ rest = ap (λ (s : Seat). seat_labels s.labels) c.put_labels.ensures in
+    let same : put.answers ≡ seat.answers = ap (λ (s : Seat). s.answers) c.put_labels.ensures in
+    let live = subst (λ (l : List ℕ). AreLiveOf app worlds near l) (sym c.as_slice-3.ensures.value) (subst (λ (l : List ℕ). AreLiveOf app worlds l c.in_ok-tried.tried.items) c.as_slice.ensures.labels (c.in_ok-tried.ensures.live behind)) in
+    let within = subst (λ (l : List ℕ). Within tried l now) starts filled.within in
+    let retains = subst (λ (l : List ℕ). Retains l now seat.answers known) starts (subst (λ (a : Answers). Retains (seat_labels put.labels) now a known) same filled.retains) in
+    subst (λ (s : Seat). IsSeated app worlds viewer s) (sym c.put_labels-in-None.ensures)
+    (seated_apart app worlds viewer labels seat.due near rest seat.answers seated.right seated.watched kept c.requires.near.linked cut now tried known live within retains c.empty-in-None.result
+    (subst (λ (s : State). IsUnderway app (worlds_of s) viewer now known) moved (filled.underway told))
+    (subst (λ (s : State). AreRefused app (worlds_of s) viewer known tried now) moved (filled.refused told)))
+
+pub returns-clause-apart : goal.returns-clause-apart
+returns-clause-apart g c told =
+    let k = g.K.Keeper in
+    let app = application_of c.args.app.now in
+    let viewer = c.args.viewer.now in
+    let worlds = worlds_of (state_of k.seen c.args.work.now) in
+    let seat = c.args.seat.now in
+    let near = c.args.near.now in
+    let labels = c.in_ok-rest.rest in
+    let rest = c.remove_all.new.a in
+    let put = c.put_labels.new.seat in
+    let now = c.in_ok-labels.labels in
+    let tried = c.as_slice-3.result.now in
+    let known = c.fill.new.seat.answers in
+    let filled = c.in_ok-labels.ensures in
+    let behind = filled.reads.same.told told in
+    let before = c.in_ok-tried.ensures.reads.same.told behind in
+    let moved = c.in_ok-tried.ensures.reads.same.same_state behind in
+    let seated = c.requires.seated before in
+    let kept = kept_some app worlds viewer seat labels c.in_ok-rest.ensures seated in
+    let cut : (i : ℕ) → shown rest i ≡ (not (shown near i) && shown labels i) =
+    λ i. c.remove_all.ensures i ∙ ap (λ (l : List ℕ). not (shown l i) && shown labels i) c.as_slice-2.ensures.labels in
+    let starts : seat_labels put.labels ≡ rest = ap (λ (s : Seat). seat_labels s.labels) c.put_labels.ensures in
+    let same : put.answers ≡ seat.answers = ap (λ (s : Seat). s.answers) c.put_labels.ensures in
+    let live = subst (λ (l : List ℕ). AreLiveOf app worlds near l) (sym c.as_slice-3.ensures.value) (subst (λ (l : List ℕ). AreLiveOf app worlds l c.in_ok-tried.tried.items) c.as_slice.ensures.labels (c.in_ok-tried.ensures.live behind)) in
+    let within = subst (λ (l : List ℕ). Within tried l now) starts filled.within in
+    let retains = subst (λ (l : List ℕ). Retains l now seat.answers known) starts (subst (λ (a : Answers). Retains (seat_labels put.labels) now a known) same filled.retains) in
+    subst (λ (s : Seat). IsSettledApart seat s) (sym c.put_labels-in-None.ensures)
+    (settled_apart seat (record { labels = Some now; answers = known; due = c.empty-in-None.result }) near labels now c.requires.near.linked c.in_ok-rest.ensures refl
+    (same_apart app worlds viewer labels seat.due near rest seat.answers seated.right seated.watched kept c.requires.near.linked cut now tried known live within retains)
+    (subst (λ (o : Option (List ℕ)). Widens known near o) c.in-None.is c.in_ok-due.ensures))
