@@ -14,22 +14,22 @@ use Rattle.jac_lang.specs.declared.expressions.Op.TheVariants as op
 use Rattle.jac_lang.specs.declared.queries.Binder.{Binder}
 use Rattle.jac_lang.specs.declared.queries.Order.{Order}
 use Rattle.jac_lang.specs.declared.queries.Order.TheVariants as orders
-use Rattle.jac_lang.specs.Lookup.{same_text, model_place, fields_at, field_place}
-use Rattle.jac_lang.specs.Syntax.{Expression, Expressions}
+use Rattle.jac_lang.specs.Lookup.{same_text, model_place, fields_at, field_place, kind_at}
+use Rattle.jac_lang.specs.Syntax.{Entity, Expression, Expressions}
 use Rattle.jac_rows.specs.Tables.{rows_of}
 use Rattle.jac_rows.specs.declared.plain.PlainRow.{PlainRow}
 use Rattle.jac_plain.specs.World.{World, rows_at_place, records, record_with, referred, cell_named, got_of, got}
 use Rattle.jac_plain.specs.Expressions.{is_true, is_less, two, pick, bytes_of, stands, is_live, look_from, look, binding, bound, extended, crossed, tuples_from, kept_by, model_of_binder, key_of, inserted, sorted, ordered, answers_by, is_single, count_of, summed, sum_of, some_of, first_of, mean, texts}
 use Rattle.jac_plain.specs.Records.{with_ids}
 use Rattle.jac_choice.specs.Cut.{crossed_where, tuples_where, Covers}
-use Rattle.jac_choice.specs.Fixed.{has_binder, is_fixed, field_asked, Asked, AsksFor, has_value}
+use Rattle.jac_choice.specs.Fixed.{has_binder, is_fixed, field_asked, AsksFor, has_value}
 use Rattle.jac_choice.proofs.Narrowing.{narrower}
 use Rattle.jac_choice.proofs.Choosing.{has_asked}
 use Rattle.jac_rests.specs.declared.rest.Rest.{Rest}
 use Rattle.jac_rests.specs.declared.rest.Rest.TheVariants as rest
 use Rattle.jac_rests.specs.declared.rest.Whom.{Whom}
 use Rattle.jac_rests.specs.declared.rest.Whom.TheVariants as whom
-use Rattle.jac_rests.specs.Rests.{is_whom, one_or_other, asked_field, found_field, rest_found_at, rest_found_in, rest_found_by, found_rest, table_rest, records_rest, binder_rest, binder_rests, read_rest, live_rest, rests, rests_each}
+use Rattle.jac_rests.specs.Rests.{may_refer, field_if, field_whom, model_whom, own_whom, named_whom, is_same_whom, is_whom_in, is_whom, one_or_other, asked_field, found_field, found_link, rest_found_at, rest_found_in, rest_found_by, rest_linked_by, found_rest, table_rest, one_rest, records_rest, binder_rest, binder_rests, read_rest, live_rest, rests, rests_each}
 use Rattle.jac_rests.specs.Cleared.{cleared_world, is_clear, whom_in, field_in, IsTest}
 
 -- a test of all of two lists
@@ -206,25 +206,53 @@ sum_if : (b : Bool) (x y : Value) → x ≡ y → (if b then x else value.Int (p
 sum_if b x y e = ap (λ v. if b then v else value.Int (pos 0)) e
 
 -- what a condition finds records by
-abbrev expression_for : Whom → Expression
-expression_for whom.This = Expression.this
-expression_for whom.Viewer = Expression.viewer
+same_place : (a b : ℕ) → (a == b) ≡ true → a ≡ b
+same_place a b e = grind (arith, e)
 
-whom_is : (s : Whom) (e : Expression) → is_whom s e ≡ true → e ≡ expression_for s
-whom_is whom.This Expression.this h = refl
-whom_is whom.Viewer Expression.viewer h = refl
-whom_is s e h = absurd cc
+pub same_whom : (s t : Whom) → is_same_whom s t ≡ true → s ≡ t
+same_whom whom.This whom.This e = refl
+same_whom (whom.Field m f) (whom.Field n g) e =
+    let parts = and_parts (m == n) (f == g) e in
+    rw (same_place m n parts.0, same_place f g parts.1) refl
+same_whom whom.Viewer whom.Viewer e = refl
+same_whom s t e = absurd cc
 
-whom_fixed : (s : Whom) (bs : List Binder) → is_fixed bs (expression_for s) ≡ true
-whom_fixed whom.This bs = refl
-whom_fixed whom.Viewer bs = refl
+whom_named : (s : Whom) (found : Option Whom) → is_whom_in s found ≡ true → found ≡ Some s
+whom_named s None e = absurd cc
+whom_named s (Some t) e = ap Some (sym (same_whom s t e))
 
-whom_mean : (w : World) (s : Whom) (env : List Binding) → mean w (expression_for s) env ≡ value.Ref (whom_in w s)
-whom_mean w whom.This env = refl
-whom_mean w whom.Viewer env = refl
+if_mean : (w : World) (s : Whom) (m f : ℕ) (b : Bool) → field_if b m f ≡ Some s → cell_named w m (Some f) (referred (value.Ref w.this) (rows_of w.tables m)) ≡ whom_in w s
+if_mean w s m f true h = let same : whom.Field m f ≡ s = cc in ap (whom_in w) same
+if_mean w s m f false h = absurd cc
 
-abbrev by_whom : Whom → List ℕ → Asked
-by_whom s f = record { field = f; value = expression_for s }
+field_mean : (w : World) (s : Whom) (m : ℕ) (f : Option ℕ) → field_whom w.models m f ≡ Some s → cell_named w m f (referred (value.Ref w.this) (rows_of w.tables m)) ≡ whom_in w s
+field_mean w s m None h = absurd cc
+field_mean w s m (Some f) h = if_mean w s m f (may_refer (kind_at w.models (fields_at w.models m) f)) h
+
+model_mean : (w : World) (s : Whom) (m : Option ℕ) (f : List ℕ) → model_whom w.models m f ≡ Some s → got_of w m f (value.Ref w.this) ≡ whom_in w s
+model_mean w s None f h = absurd cc
+model_mean w s (Some m) f h = field_mean w s m (field_place (fields_at w.models m) f) h
+
+own_mean : (w : World) (s : Whom) (m f : List ℕ) (e : Expression) (env : List Binding) → own_whom w.models m f e ≡ Some s → got w m f (mean w e env) ≡ whom_in w s
+own_mean w s m f Expression.this env h = model_mean w s (model_place w.models m) f h
+own_mean w s m f e env h = absurd cc
+
+-- an expression that names a record has its value
+named_mean : (w : World) (s : Whom) (e : Expression) (env : List Binding) → named_whom w.models e ≡ Some s → mean w e env ≡ whom_in w s
+named_mean w s Expression.this env h = let same : whom.This ≡ s = cc in ap (whom_in w) same
+named_mean w s Expression.viewer env h = let same : whom.Viewer ≡ s = cc in ap (whom_in w) same
+named_mean w s (Expression.get m f e) env h = own_mean w s m f e env h
+named_mean w s e env h = absurd cc
+
+own_fixed : (models : List Entity) (s : Whom) (m f : List ℕ) (e : Expression) (bs : List Binder) → own_whom models m f e ≡ Some s → is_fixed bs e ≡ true
+own_fixed models s m f Expression.this bs h = refl
+own_fixed models s m f e bs h = absurd cc
+
+named_fixed : (models : List Entity) (s : Whom) (e : Expression) (bs : List Binder) → named_whom models e ≡ Some s → is_fixed bs e ≡ true
+named_fixed models s Expression.this bs h = refl
+named_fixed models s Expression.viewer bs h = refl
+named_fixed models s (Expression.get m f e) bs h = own_fixed models s m f e bs h
+named_fixed models s e bs h = absurd cc
 
 asked_parts : (c : Bool) (found : Option (List ℕ)) (f : List ℕ) → asked_field c found ≡ Some f → (c ≡ true) × (found ≡ Some f)
 asked_parts true found f h = (refl, h)
@@ -234,15 +262,22 @@ else_parts : (P : List ℕ → Type 0) (a b : Option (List ℕ)) (f : List ℕ) 
 else_parts P None b f p q h = q h
 else_parts P (Some x) b f p q h = p h
 
-found_asks : (s : Whom) (m x : List ℕ) (bs : List Binder) (c : Expression) (f : List ℕ) → found_field s m x c ≡ Some f → AsksFor m x bs (by_whom s f) c
-found_asks s m x bs (Expression.two op.And a b) f h =
-    else_parts (λ g. AsksFor m x bs (by_whom s g) (Expression.two op.And a b)) (found_field s m x a) (found_field s m x b) f
-    (λ e. inl (found_asks s m x bs a f e)) (λ e. inr (found_asks s m x bs b f e)) h
-found_asks s m x bs (Expression.two op.Eq a b) f h =
-    let parts = asked_parts (is_whom s b) (field_asked m x a) f h in
-    let same : b ≡ expression_for s = whom_is s b parts.0 in
-    (parts.1, ap (is_fixed bs) same ∙ whom_fixed s bs, same)
-found_asks s m x bs e f h = absurd cc
+-- a condition asks that a field be what an expression has that names the record
+record AsksBy (models : List Entity) (s : Whom) (m x : List ℕ) (bs : List Binder) (c : Expression) (f : List ℕ) : Type 0 where
+  by : Expression
+  named : named_whom models by ≡ Some s
+  asks : AsksFor m x bs (record { field = f; value = by }) c
+
+found_asks : (models : List Entity) (s : Whom) (m x : List ℕ) (bs : List Binder) (c : Expression) (f : List ℕ) → found_field models s m x c ≡ Some f → AsksBy models s m x bs c f
+found_asks models s m x bs (Expression.two op.And a b) f h =
+    else_parts (λ g. AsksBy models s m x bs (Expression.two op.And a b) g) (found_field models s m x a) (found_field models s m x b) f
+    (λ e. let one : AsksBy models s m x bs a f = found_asks models s m x bs a f e in record { by = one.by; named = one.named; asks = inl one.asks })
+    (λ e. let one : AsksBy models s m x bs b f = found_asks models s m x bs b f e in record { by = one.by; named = one.named; asks = inr one.asks }) h
+found_asks models s m x bs (Expression.two op.Eq a b) f h =
+    let parts = asked_parts (is_whom models s b) (field_asked m x a) f h in
+    let is : named_whom models b ≡ Some s = whom_named s (named_whom models b) parts.0 in
+    record { by = b; named = is; asks = (parts.1, named_fixed models s b bs is, refl) }
+found_asks models s m x bs e f h = absurd cc
 
 -- what is read of a record that stays
 module _ (stays : ℕ → Bool) (test : Rest → Bool) (w : World) (fits : IsTest stays test w) where
@@ -281,16 +316,21 @@ module _ (stays : ℕ → Bool) (test : Rest → Bool) (w : World) (fits : IsTes
   got_table : (model field : List ℕ) (v : Value) → list_all test (option_to_list (table_rest (model_place w.models model))) ≡ true → got cleared model field v ≡ got w model field v
   got_table model field v h = table_in (model_place w.models model) field v h
 
+  read_one : (m f : List ℕ) (v : Value) (named : Option Whom) → ((s : Whom) → named ≡ Some s → v ≡ whom_in w s)
+      → list_all test (option_to_list (one_or_other (one_rest named) (table_rest (model_place w.models m)))) ≡ true → got cleared m f v ≡ got w m f v
+  read_one m f v None is h = got_table m f v h
+  read_one m f v (Some s) is h =
+      got_clear m f v (subst (λ x. is_clear stays x ≡ true) (sym (is s refl)) (fits.one s (all_one test (rest.One s) h)))
+
   read_same : (m f : List ℕ) (e : Expression) (env : List Binding) → AllClear stays env → list_all test (option_to_list (read_rest w.models m e)) ≡ true
       → got cleared m f (mean w e env) ≡ got w m f (mean w e env)
   read_same m f Expression.this env clear h = got_clear m f (value.Ref w.this) fits.own
-  read_same m f Expression.viewer env clear h = got_clear m f (value.Ref w.viewer) (fits.asker (all_one test rest.Asker h))
   read_same m f (Expression.name x) env clear h = got_clear m f (look env x) (clear_look stays (value.Int (pos 0)) env x refl clear)
   read_same m f (Expression.int i) env clear h = got_clear m f (value.Int i) refl
   read_same m f (Expression.text t) env clear h = got_clear m f (value.Text t) refl
   read_same m f (Expression.bool b) env clear h = got_clear m f (value.Bool b) refl
   read_same m f (Expression.none_of n) env clear h = got_clear m f (value.Ref None) refl
-  read_same m f e env clear h = got_table m f (mean w e env) h
+  read_same m f e env clear h = read_one m f (mean w e env) (named_whom w.models e) (λ s is. named_mean w s e env is) h
 
   live_clear : (v : Value) → is_clear stays v ≡ true → is_live cleared v ≡ is_live w v
   live_clear (value.Ref (Some id)) h =
@@ -308,15 +348,20 @@ module _ (stays : ℕ → Bool) (test : Rest → Bool) (w : World) (fits : IsTes
   any_clear (value.Text t) h = refl
   any_clear (value.Bool b) h = refl
 
-  live_same : (e : Expression) (env : List Binding) → AllClear stays env → list_all test (option_to_list (live_rest e)) ≡ true → is_live cleared (mean w e env) ≡ is_live w (mean w e env)
+  live_one : (v : Value) (named : Option Whom) → ((s : Whom) → named ≡ Some s → v ≡ whom_in w s)
+      → list_all test (unwrap_or (one_rest named) rest.Any ∷ []) ≡ true → is_live cleared v ≡ is_live w v
+  live_one v None is h = live_clear v (any_clear v h)
+  live_one v (Some s) is h =
+      live_clear v (subst (λ x. is_clear stays x ≡ true) (sym (is s refl)) (fits.one s (all_one test (rest.One s) h)))
+
+  live_same : (e : Expression) (env : List Binding) → AllClear stays env → list_all test (option_to_list (live_rest w.models e)) ≡ true → is_live cleared (mean w e env) ≡ is_live w (mean w e env)
   live_same Expression.this env clear h = live_clear (value.Ref w.this) fits.own
-  live_same Expression.viewer env clear h = live_clear (value.Ref w.viewer) (fits.asker (all_one test rest.Asker h))
   live_same (Expression.name x) env clear h = live_clear (look env x) (clear_look stays (value.Int (pos 0)) env x refl clear)
   live_same (Expression.int i) env clear h = refl
   live_same (Expression.text t) env clear h = refl
   live_same (Expression.bool b) env clear h = refl
   live_same (Expression.none_of n) env clear h = refl
-  live_same e env clear h = live_clear (mean w e env) (any_clear (mean w e env) h)
+  live_same e env clear h = live_one (mean w e env) (named_whom w.models e) (λ s is. named_mean w s e env is) h
 
   -- the tuples of records that stay
   records_cleared : (m : Option ℕ) → rows_at_place (map (with_ids stays) w.tables) m ≡ with_ids stays (rows_at_place w.tables m)
@@ -363,7 +408,7 @@ module _ (stays : ℕ → Bool) (test : Rest → Bool) (w : World) (fits : IsTes
   leads_or id None d p q h = q h
   leads_or id (Some x) d p q h = p x refl h
 
-  leads_at : (s : Whom) (m id : ℕ) (place : Option ℕ) → ((f : ℕ) → place ≡ Some f → equality.ghosts.eq (field_in w m f id) (value.Ref (whom_in w s)) ≡ true)
+  leads_at : (s : Whom) (m id : ℕ) (place : Option ℕ) → ((f : ℕ) → place ≡ Some f → equality.ghosts.eq (field_in w m f id) (whom_in w s) ≡ true)
       → stands (record_with id (rows_of w.tables m)) ≡ true → Leads id (rest_found_at s m place)
   leads_at s m id None equal stood x h t = absurd cc
   leads_at s m id (Some f) equal stood x h t =
@@ -375,21 +420,30 @@ module _ (stays : ℕ → Bool) (test : Rest → Bool) (w : World) (fits : IsTes
   read_is model name m f id at place = rw (at, place) refl
 
   leads_in : (s : Whom) (m id : ℕ) (model : List ℕ) (name : Option (List ℕ)) → model_place w.models model ≡ Some m
-      → ((g : List ℕ) → name ≡ Some g → has_value w model g (value.Ref (whom_in w s)) id ≡ true)
+      → ((g : List ℕ) → name ≡ Some g → has_value w model g (whom_in w s) id ≡ true)
       → stands (record_with id (rows_of w.tables m)) ≡ true → Leads id (rest_found_in w.models s m name)
   leads_in s m id model None at has stood x h t = absurd cc
   leads_in s m id model (Some g) at has stood x h t =
       leads_at s m id (field_place (fields_at w.models m) g)
-      (λ f place. ap (λ v. equality.ghosts.eq v (value.Ref (whom_in w s))) (sym (read_is model g m f id at place)) ∙ has g refl) stood x h t
+      (λ f place. ap (λ v. equality.ghosts.eq v (whom_in w s)) (sym (read_is model g m f id at place)) ∙ has g refl) stood x h t
 
   leads_by : (s : Whom) (m : ℕ) (done : List Binder) (b : Binder) (later : List Binder) (c : Expression) (env : List Binding) (front : List ℕ) (id : ℕ) (rest : List ℕ)
       → model_place w.models b.model ≡ Some m → length front ≡ length done → stands (record_with id (rows_of w.tables m)) ≡ true
       → is_true (mean w c (bound (done ++ (b ∷ later)) (front ++ (id ∷ rest)) env)) ≡ true
       → not (has_binder later b.name) ≡ true → Leads id (rest_found_by w.models s m b c)
   leads_by s m done b later c env front id rest at long stood t single =
-      leads_in s m id b.model (found_field s b.model b.name c) at
-      (λ g e. subst (λ v. has_value w b.model g v id ≡ true) (whom_mean w s (bound done front env))
-      (has_asked w done b later c (by_whom s g) env front id rest single (found_asks s b.model b.name (b ∷ later) c g e) long t)) stood
+      leads_in s m id b.model (found_field w.models s b.model b.name c) at
+      (λ g e. let one : AsksBy w.models s b.model b.name (b ∷ later) c g = found_asks w.models s b.model b.name (b ∷ later) c g e in
+      subst (λ v. has_value w b.model g v id ≡ true) (named_mean w s one.by (bound done front env) one.named)
+      (has_asked w done b later c (record { field = g; value = one.by }) env front id rest single one.asks long t)) stood
+
+  leads_linked : (link : Option Whom) (m : ℕ) (done : List Binder) (b : Binder) (later : List Binder) (c : Expression) (env : List Binding) (front : List ℕ) (id : ℕ) (rest : List ℕ)
+      → model_place w.models b.model ≡ Some m → length front ≡ length done → stands (record_with id (rows_of w.tables m)) ≡ true
+      → is_true (mean w c (bound (done ++ (b ∷ later)) (front ++ (id ∷ rest)) env)) ≡ true
+      → not (has_binder later b.name) ≡ true → Leads id (rest_linked_by w.models link m b c)
+  leads_linked None m done b later c env front id rest at long stood t single x h k = absurd cc
+  leads_linked (Some s) m done b later c env front id rest at long stood t single x h k =
+      leads_by s m done b later c env front id rest at long stood t single x h k
 
   covers_place : (place : Option ℕ) (done : List Binder) (b : Binder) (later : List Binder) (c : Expression) (env : List Binding) (front : List ℕ) (id : ℕ) (tail : List ℕ)
       → model_place w.models b.model ≡ place → length front ≡ length done → list_all test (option_to_list (records_rest w.models place b later c)) ≡ true
@@ -398,12 +452,16 @@ module _ (stays : ℕ → Bool) (test : Rest → Bool) (w : World) (fits : IsTes
   covers_place None done b later c env front id tail at long all stood t = absurd cc
   covers_place (Some m) done b later c env front id tail at long all stood t =
       let this : Option Rest = rest_found_by w.models whom.This m b c in
+      let link : Option Whom = found_link w.models b.model b.name c in
+      let linked : Option Rest = rest_linked_by w.models link m b c in
       let viewer : Option Rest = rest_found_by w.models whom.Viewer m b c in
       leads_or id (found_rest w.models m b later c) (rest.Table m)
-      (leads_if id (has_binder later b.name) (one_or_other this viewer)
-      (λ single. leads_else id this viewer
+      (leads_if id (has_binder later b.name) (one_or_other this (one_or_other linked viewer))
+      (λ single. leads_else id this (one_or_other linked viewer)
       (leads_by whom.This m done b later c env front id tail at long stood t single)
-      (leads_by whom.Viewer m done b later c env front id tail at long stood t single)))
+      (leads_else id linked viewer
+      (leads_linked link m done b later c env front id tail at long stood t single)
+      (leads_by whom.Viewer m done b later c env front id tail at long stood t single))))
       (λ k. covered_table m id k stood)
       (all_one test (unwrap_or (found_rest w.models m b later c) (rest.Table m)) all)
 
@@ -469,7 +527,7 @@ module _ (stays : ℕ → Bool) (test : Rest → Bool) (w : World) (fits : IsTes
         let parts = all_parts test (option_to_list (read_rest w.models m e)) (rests w.models e) h in
         ap (got cleared m f) (mean_same e env parts.1 clear) ∙ read_same m f e env clear parts.0
     mean_same (Expression.live e) env h clear =
-        let parts = all_parts test (option_to_list (live_rest e)) (rests w.models e) h in
+        let parts = all_parts test (option_to_list (live_rest w.models e)) (rests w.models e) h in
         ap (λ v. value.Bool (is_live cleared v)) (mean_same e env parts.1 clear) ∙ ap value.Bool (live_same e env clear parts.0)
     mean_same (Expression.two o a b) env h clear =
         let parts = all_parts test (rests w.models a) (rests w.models b) h in

@@ -5,6 +5,7 @@ use Rattle.std.specs.List.{list_any, list_all}
 use Rattle.std.proofs.lemmas.Bool.{and_parts}
 use Rattle.std.proofs.lemmas.Bool.Decides.{nat_tests}
 use Rattle.jac_value.specs.Ids.{model_of_id, record_of_label, group_of_label, label_of}
+use Rattle.jac_value.specs.declared.value.Value.TheVariants as value
 use Rattle.jac_world.specs.World.{shown, holds}
 use Rattle.jac_lang.specs.Lookup.{groups_in}
 use Rattle.jac_lang.specs.Syntax.{Entity, FieldGroup, Application}
@@ -15,6 +16,8 @@ use Rattle.jac_rows.specs.declared.row.Row.{Row}
 use Rattle.jac_rows.specs.declared.state.State.{State}
 use Rattle.jac_keep.specs.declared.alteration.Alteration.{Alteration}
 use Rattle.jac_keep.specs.Alterations.{AreOwn, ArePlaced, alters}
+use Rattle.jac_keep.specs.Holding.{has_cell, holds_cell}
+use Rattle.jac_keep.specs.Records.{with_id}
 use Rattle.jac_plain.specs.World.{record_with}
 use Rattle.jac_plain.specs.Expressions.{stands}
 use Rattle.jac_plain.specs.Policies.{has_group, has_record, is_some_group, labelled_group, policy_world, policy_is_true, is_allowed, IsLiveLabel}
@@ -27,9 +30,10 @@ use Rattle.jac_rests.specs.declared.rest.Rest.{Rest}
 use Rattle.jac_rests.specs.declared.rest.Rest.TheVariants as rest
 use Rattle.jac_rests.specs.declared.rest.Whom.{Whom}
 use Rattle.jac_rests.specs.declared.rest.Whom.TheVariants as whom
-use Rattle.jac_rests.specs.Rests.{rests}
-use Rattle.jac_rests.specs.Altered.{state_over, is_altered, is_outside, is_viewer_altered, rows_altered, referred_by, is_to, row_refers, whom_of, alters_none, test_of, group_rests}
-use Rattle.jac_rests.specs.Marks.{group_mark, whose_of, touched_group, id_where, own_mark, own_marks, viewer_marks, cell_mark, row_mark, found_marks, marks_if, some_marks, rest_marks, is_same_whom, is_same_rest, comes_again, each_rest_marks, policy_marks, groups_marks, models_marks, marks_label, is_one, marked_labels, marked_groups}
+use Rattle.jac_rests.specs.Rests.{rests, is_same_whom}
+use Rattle.jac_rests.specs.Altered.{state_over, is_altered, is_outside, is_viewer_altered, RowsAltered, rows_altered, referred_by, row_refers, is_linked, is_found, is_link_altered, is_one_altered, alters_none, test_of, group_rests}
+use Rattle.jac_rests.specs.Marks.{group_mark, whose_of, touched_group, id_where, own_mark, own_marks, viewer_marks, linked_mark, link_mark, linked_marks, cell_mark, row_mark, found_marks, marks_if, some_marks, one_marks, rest_marks, is_same_rest, comes_again, each_rest_marks, policy_marks, groups_marks, models_marks, row_labels, holder_labels, marks_label, is_one, marked_labels, marked_groups}
+use Rattle.jac_rests.proofs.Clearing.{same_whom}
 use Rattle.jac_rests.proofs.Replaced.{AreSmall, are_small, or_cases}
 use Rattle.jac_choice.proofs.Finding.{rows_of-shown}
 use Rattle.jac_rests.proofs.Sparing.{same_has, spared_allowed, spared_live}
@@ -131,14 +135,8 @@ not_own q k (a ∷ more) is h =
     unless (a.id == record_of_label k) (λ e. own_if q k a.id (model_of_id a.id == m) is (same_if a.id (record_of_label k) e) refl parts.0) in
     rw here (not_own q k more is parts.1)
 
-same_whom : (s t : Whom) → is_same_whom s t ≡ true → s ≡ t
-same_whom whom.This whom.This e = refl
-same_whom whom.Viewer whom.Viewer e = refl
-same_whom whom.This whom.Viewer e = absurd cc
-same_whom whom.Viewer whom.This e = absurd cc
-
 same_rest : (x y : Rest) → is_same_rest x y ≡ true → x ≡ y
-same_rest rest.Asker rest.Asker e = refl
+same_rest (rest.One s) (rest.One t) e = ap rest.One (same_whom s t e)
 same_rest (rest.Table m) (rest.Table n) e = ap rest.Table (same_if m n e)
 same_rest (rest.Found s m f) (rest.Found t n g) e =
     let parts = and_parts (is_same_whom s t) ((m == n) && (f == g)) e in
@@ -147,8 +145,28 @@ same_rest (rest.Found s m f) (rest.Found t n g) e =
 same_rest rest.Any rest.Any e = refl
 same_rest x y e = absurd cc
 
+-- the labels of records that an alternative leads to
+label_kept : (b : Bool) (g j : ℕ) (r : Row) (rows : List Row) → b ≡ true → (label_of r.id g == j) ≡ true → shown (row_labels g (if b then r ∷ rows else rows)) j ≡ true
+label_kept true g j r rows e h = rw h refl
+label_kept false g j r rows e h = absurd cc
+
+label_later : (b c : Bool) (g j : ℕ) (r : Row) (rows : List Row) → (label_of r.id g == j) ≡ c → shown (row_labels g rows) j ≡ true → shown (row_labels g (if b then r ∷ rows else rows)) j ≡ true
+label_later true true g j r rows e h = rw e refl
+label_later true false g j r rows e h = rw e h
+label_later false c g j r rows e h = h
+
+holder_shown : (p : ℕ → Bool) (q : Row → Bool) (g id : ℕ) (rows : List Row) → p id ≡ true → list_any (λ r. (r.id == id) && q r) rows ≡ true
+    → shown (row_labels g (with_id p rows)) (label_of id g) ≡ true
+holder_shown p q g id [] is h = absurd cc
+holder_shown p q g id (r ∷ rows) is h =
+    or_cases (shown (row_labels g (with_id p (r ∷ rows))) (label_of id g) ≡ true) ((r.id == id) && q r) (list_any (λ r. (r.id == id) && q r) rows)
+    (λ e. let same : id ≡ r.id = sym (same_if r.id id (and_parts (r.id == id) (q r) e).0) in
+    label_kept (p r.id) g (label_of id g) r (with_id p rows) (ap p (sym same) ∙ is)
+    (ap (λ i. label_of i g == label_of id g) (sym same) ∙ itself (label_of id g)))
+    (λ e. label_later (p r.id) (label_of r.id g == label_of id g) g (label_of id g) r (with_id p rows) refl (holder_shown p q g id rows is e)) h
+
 -- the marks of what a policy rests on
-module _ (viewer : Option ℕ) (k : ℕ) (over : List Alteration) (rows : List Row) (small : record_of_label k < 2 ^ 124) where
+module _ (viewer : Option ℕ) (k : ℕ) (over : List Alteration) (among : RowsAltered) (small : record_of_label k < 2 ^ 124) where
   abbrev model : ℕ
   model = model_of_id (record_of_label k)
 
@@ -156,7 +174,7 @@ module _ (viewer : Option ℕ) (k : ℕ) (over : List Alteration) (rows : List R
   group = group_of_label k
 
   abbrev hit : Mark → Bool
-  hit = marks_label viewer k
+  hit = marks_label among.tables viewer k
 
   both_if : (a b c : Bool) → a ≡ true → b ≡ true → ((a && b) && c) ≡ c
   both_if true true c p q = refl
@@ -200,52 +218,80 @@ module _ (viewer : Option ℕ) (k : ℕ) (over : List Alteration) (rows : List R
       ap (λ b. list_any hit (own_mark (id_where b y) group)) (small_if y e)
       ∙ ap (λ b. b || false) (one_is (label_of y group) (ap (λ i. label_of i group) e ∙ label_again k))
 
-  cell_not : (s : Whom) (x : Option (Option ℕ)) → list_any hit (cell_mark model group s x) ≡ false → is_to (whom_of (record_of_label k) viewer s) x ≡ false
+  linked_if : (n f y : ℕ) (b : Bool) → (n == model) ≡ b → hit (linked_mark b model group f y) ≡ false → holds_cell f (value.Ref (Some y)) (rows_of among.tables n) (record_of_label k) ≡ false
+  linked_if n f y true e h =
+      let v = value.Ref (Some y) in
+      let there : List Row = rows_of among.tables model in
+      subst (λ m. holds_cell f v (rows_of among.tables m) (record_of_label k) ≡ false) (sym (same_if n model e))
+      (unless (holds_cell f v there (record_of_label k))
+      (λ holds. sym (subst (λ j. shown (holder_labels among.tables model group f y) j ≡ true) (label_again k)
+      (holder_shown (holds_cell f v there) (has_cell f v) group (record_of_label k) there holds holds)) ∙ h))
+  linked_if n f y false e h = let wrong : true ≡ false = sym everybody ∙ h in absurd cc
+
+  link_not : (n f : ℕ) (x : Option (Option ℕ)) → list_any hit (link_mark model group n f x) ≡ false → is_linked among.tables n f (record_of_label k) x ≡ false
+  link_not n f None h = sym everybody ∙ none_one hit (group_mark model group None) h
+  link_not n f (Some None) h = sym everybody ∙ none_one hit (group_mark model group None) h
+  link_not n f (Some (Some y)) h = linked_if n f y (n == model) refl (none_one hit (linked_mark (n == model) model group f y) h)
+
+  links_not : (n f : ℕ) (others : List Alteration) → list_any hit (linked_marks model group n f others) ≡ false → is_link_altered among.tables n f (record_of_label k) others ≡ false
+  links_not n f [] h = refl
+  links_not n f (a ∷ more) h =
+      let parts = none_parts hit (link_mark model group n f (Some (Some a.id))) (linked_marks model group n f more) h in
+      let here : is_linked among.tables n f (record_of_label k) (Some (Some a.id)) ≡ false = link_not n f (Some (Some a.id)) parts.0 in
+      rw here (links_not n f more parts.1)
+
+  one_not : (s : Whom) → list_any hit (one_marks model group over s) ≡ false → not (is_one_altered over among.tables (record_of_label k) viewer s) ≡ true
+  one_not whom.This h = not_of (is_altered over (record_of_label k)) (not_own hit k over (one_is k refl) h)
+  one_not (whom.Field n f) h = not_of (is_link_altered among.tables n f (record_of_label k) over) (links_not n f over h)
+  one_not whom.Viewer h = viewer_not viewer refl h
+
+  cell_not : (s : Whom) (x : Option (Option ℕ)) → list_any hit (cell_mark model group s x) ≡ false → is_found among.tables (record_of_label k) viewer s x ≡ false
   cell_not whom.This None h = refl
   cell_not whom.This (Some None) h = refl
   cell_not whom.This (Some (Some y)) h =
       unless (y == record_of_label k) (λ e. sym (label_hit y (same_if y (record_of_label k) e)) ∙ h)
+  cell_not (whom.Field n f) x h = link_not n f x h
   cell_not whom.Viewer None h = refl
   cell_not whom.Viewer (Some x) h = sym (group_is (Some x)) ∙ none_one hit (group_mark model group (Some x)) h
 
   row_not : (s : Whom) (n f : ℕ) (r : Row) (b : Bool) → (model_of_id r.id == n) ≡ b
       → list_any hit (if b then cell_mark model group s (referred_by (slice_get r.cells f)) else []) ≡ false
-      → (b && is_to (whom_of (record_of_label k) viewer s) (referred_by (slice_get r.cells f))) ≡ false
+      → (b && is_found among.tables (record_of_label k) viewer s (referred_by (slice_get r.cells f))) ≡ false
   row_not s n f r true e h = cell_not s (referred_by (slice_get r.cells f)) h
   row_not s n f r false e h = refl
 
-  found_not : (s : Whom) (n f : ℕ) (some : List Row) → list_any hit (found_marks model group s n f some) ≡ false → list_any (row_refers n f (whom_of (record_of_label k) viewer s)) some ≡ false
+  found_not : (s : Whom) (n f : ℕ) (some : List Row) → list_any hit (found_marks model group s n f some) ≡ false → list_any (row_refers n f (is_found among.tables (record_of_label k) viewer s)) some ≡ false
   found_not s n f [] h = refl
   found_not s n f (r ∷ some) h =
       let parts = none_parts hit (row_mark model group s n f r) (found_marks model group s n f some) h in
-      let here : row_refers n f (whom_of (record_of_label k) viewer s) r ≡ false = row_not s n f r (model_of_id r.id == n) refl parts.0 in
+      let here : row_refers n f (is_found among.tables (record_of_label k) viewer s) r ≡ false = row_not s n f r (model_of_id r.id == n) refl parts.0 in
       rw here (found_not s n f some parts.1)
 
-  rest_not : (x : Rest) → list_any hit (rest_marks model group over rows x) ≡ false → test_of over rows (record_of_label k) viewer x ≡ true
-  rest_not rest.Asker h = viewer_not viewer refl h
+  rest_not : (x : Rest) → list_any hit (rest_marks model group over among.rows x) ≡ false → test_of over among (record_of_label k) viewer x ≡ true
+  rest_not (rest.One s) h = one_not s h
   rest_not (rest.Table n) h = table_not (alters n over) h
-  rest_not (rest.Found s n f) h = not_of (list_any (row_refers n f (whom_of (record_of_label k) viewer s)) rows) (found_not s n f rows h)
+  rest_not (rest.Found s n f) h = not_of (list_any (row_refers n f (is_found among.tables (record_of_label k) viewer s)) among.rows) (found_not s n f among.rows h)
   rest_not rest.Any h = any_not over h
 
-  same_test : (x y : Rest) → is_same_rest x y ≡ true → test_of over rows (record_of_label k) viewer y ≡ true → test_of over rows (record_of_label k) viewer x ≡ true
-  same_test x y e h = subst (λ z. test_of over rows (record_of_label k) viewer z ≡ true) (sym (same_rest x y e)) h
+  same_test : (x y : Rest) → is_same_rest x y ≡ true → test_of over among (record_of_label k) viewer y ≡ true → test_of over among (record_of_label k) viewer x ≡ true
+  same_test x y e h = subst (λ z. test_of over among (record_of_label k) viewer z ≡ true) (sym (same_rest x y e)) h
 
-  again_test : (x : Rest) (xs : List Rest) → comes_again x xs ≡ true → list_all (test_of over rows (record_of_label k) viewer) xs ≡ true → test_of over rows (record_of_label k) viewer x ≡ true
+  again_test : (x : Rest) (xs : List Rest) → comes_again x xs ≡ true → list_all (test_of over among (record_of_label k) viewer) xs ≡ true → test_of over among (record_of_label k) viewer x ≡ true
   again_test x [] e h = absurd cc
   again_test x (y ∷ xs) e h =
-      let parts = and_parts (test_of over rows (record_of_label k) viewer y) (list_all (test_of over rows (record_of_label k) viewer) xs) h in
-      or_cases (test_of over rows (record_of_label k) viewer x ≡ true) (is_same_rest x y) (comes_again x xs)
+      let parts = and_parts (test_of over among (record_of_label k) viewer y) (list_all (test_of over among (record_of_label k) viewer) xs) h in
+      or_cases (test_of over among (record_of_label k) viewer x ≡ true) (is_same_rest x y) (comes_again x xs)
       (λ i. same_test x y i parts.0) (λ i. again_test x xs i parts.1) e
 
-  first_not : (x : Rest) (xs : List Rest) (b : Bool) → comes_again x xs ≡ b → list_any hit (if b then [] else rest_marks model group over rows x) ≡ false
-      → list_all (test_of over rows (record_of_label k) viewer) xs ≡ true → test_of over rows (record_of_label k) viewer x ≡ true
+  first_not : (x : Rest) (xs : List Rest) (b : Bool) → comes_again x xs ≡ b → list_any hit (if b then [] else rest_marks model group over among.rows x) ≡ false
+      → list_all (test_of over among (record_of_label k) viewer) xs ≡ true → test_of over among (record_of_label k) viewer x ≡ true
   first_not x xs true e h all = again_test x xs e all
   first_not x xs false e h all = rest_not x h
 
-  pub each_not : (xs : List Rest) → list_any hit (each_rest_marks model group over rows xs) ≡ false → list_all (test_of over rows (record_of_label k) viewer) xs ≡ true
+  pub each_not : (xs : List Rest) → list_any hit (each_rest_marks model group over among.rows xs) ≡ false → list_all (test_of over among (record_of_label k) viewer) xs ≡ true
   each_not [] h = refl
   each_not (x ∷ xs) h =
-      let parts = none_parts hit (if comes_again x xs then [] else rest_marks model group over rows x) (each_rest_marks model group over rows xs) h in
+      let parts = none_parts hit (if comes_again x xs then [] else rest_marks model group over among.rows x) (each_rest_marks model group over among.rows xs) h in
       let later = each_not xs parts.1 in
       rw (first_not x xs (comes_again x xs) refl parts.0 later) later
 
@@ -253,45 +299,61 @@ module _ (viewer : Option ℕ) (k : ℕ) (over : List Alteration) (rows : List R
 abbrev pub all_marks : Application → List Alteration → List Row → List Mark
 all_marks app over rows = models_marks app.models 0 over rows app.models
 
-rests_spared : (app : Application) (over : List Alteration) (rows : List Row) (viewer : Option ℕ) (k : ℕ) (found : Option FieldGroup) → record_of_label k < 2 ^ 124 → labelled_group app k ≡ found
-    → list_any (marks_label viewer k) (all_marks app over rows) ≡ false → list_all (test_of over rows (record_of_label k) viewer) (group_rests app.models found) ≡ true
-rests_spared app over rows viewer k None small is h = refl
-rests_spared app over rows viewer k (Some g) small is h =
+rests_spared : (app : Application) (over : List Alteration) (among : RowsAltered) (viewer : Option ℕ) (k : ℕ) (found : Option FieldGroup) → record_of_label k < 2 ^ 124 → labelled_group app k ≡ found
+    → list_any (marks_label among.tables viewer k) (all_marks app over among.rows) ≡ false → list_all (test_of over among (record_of_label k) viewer) (group_rests app.models found) ≡ true
+rests_spared app over among viewer k None small is h = refl
+rests_spared app over among viewer k (Some g) small is h =
+    let rows : List Row = among.rows in
+    let hit = marks_label among.tables viewer k in
     let m : ℕ = model_of_id (record_of_label k) in
     let n : ℕ = group_of_label k in
-    let all = in_entity (marks_label viewer k) app.models m n over rows (slice_get app.models m) g refl is h in
-    each_not viewer k over rows small (rests app.models g.policy)
-    (none_parts (marks_label viewer k) (own_marks m n over) (each_rest_marks m n over rows (rests app.models g.policy)) all).1
+    let all = in_entity hit app.models m n over rows (slice_get app.models m) g refl is h in
+    each_not viewer k over among small (rests app.models g.policy)
+    (none_parts hit (own_marks m n over) (each_rest_marks m n over rows (rests app.models g.policy)) all).1
 
-own_spared : (app : Application) (over : List Alteration) (rows : List Row) (k : ℕ) (found : Option FieldGroup) → labelled_group app k ≡ found → is_some_group found ≡ true
-    → list_any (is_one k) (all_marks app over rows) ≡ false → is_outside over (record_of_label k) ≡ true
-own_spared app over rows k None is some h = absurd cc
-own_spared app over rows k (Some g) is some h =
+own_spared : (app : Application) (over : List Alteration) (tables : List (List Row)) (rows : List Row) (k : ℕ) (found : Option FieldGroup) → labelled_group app k ≡ found → is_some_group found ≡ true
+    → list_any (is_one tables k) (all_marks app over rows) ≡ false → is_outside over (record_of_label k) ≡ true
+own_spared app over tables rows k None is some h = absurd cc
+own_spared app over tables rows k (Some g) is some h =
     let m : ℕ = model_of_id (record_of_label k) in
     let n : ℕ = group_of_label k in
-    let all = in_entity (is_one k) app.models m n over rows (slice_get app.models m) g refl is h in
+    let all = in_entity (is_one tables k) app.models m n over rows (slice_get app.models m) g refl is h in
     not_of (is_altered over (record_of_label k))
-    (not_own (is_one k) k over (itself k) (none_parts (is_one k) (own_marks m n over) (each_rest_marks m n over rows (rests app.models g.policy)) all).0)
+    (not_own (is_one tables k) k over (itself k) (none_parts (is_one tables k) (own_marks m n over) (each_rest_marks m n over rows (rests app.models g.policy)) all).0)
 
 -- from a touch to marks
-labels_are : (k : ℕ) (marks : List Mark) → shown (marked_labels marks) k ≡ list_any (is_one k) marks
-labels_are k [] = refl
-labels_are k (mark.One j ∷ marks) = ap (λ b. (j == k) || b) (labels_are k marks)
-labels_are k (mark.All m g ∷ marks) = labels_are k marks
-labels_are k (mark.Only m g v ∷ marks) = labels_are k marks
+or_join : (a b c d : Bool) → d ≡ (b || c) → (a || d) ≡ ((a || b) || c)
+or_join true b c d e = refl
+or_join false b c d e = e
 
-groups_are : (viewer : Option ℕ) (k : ℕ) (marks : List Mark) → list_any (is_one k) marks ≡ false
-    → list_any (λ (g : TouchedGroup). is_in_group g k && is_for g.viewer viewer) (marked_groups marks) ≡ false → list_any (marks_label viewer k) marks ≡ false
-groups_are viewer k [] a b = refl
-groups_are viewer k (mark.One j ∷ marks) a b =
-    let parts = or_none (j == k) (list_any (is_one k) marks) a in
-    rw parts.0 (groups_are viewer k marks parts.1 b)
-groups_are viewer k (mark.All m g ∷ marks) a b =
+shown_append : (xs ys : List ℕ) (k : ℕ) → shown (xs ++ ys) k ≡ (shown xs k || shown ys k)
+shown_append [] ys k = refl
+shown_append (x ∷ xs) ys k = or_join (x == k) (shown xs k) (shown ys k) (shown (xs ++ ys) k) (shown_append xs ys k)
+
+labels_are : (tables : List (List Row)) (k : ℕ) (marks : List Mark) → shown (marked_labels tables marks) k ≡ list_any (is_one tables k) marks
+labels_are tables k [] = refl
+labels_are tables k (mark.One j ∷ marks) = ap (λ b. (j == k) || b) (labels_are tables k marks)
+labels_are tables k (mark.Linked m g f id ∷ marks) =
+    shown_append (holder_labels tables m g f id) (marked_labels tables marks) k
+    ∙ ap (λ b. shown (holder_labels tables m g f id) k || b) (labels_are tables k marks)
+labels_are tables k (mark.All m g ∷ marks) = labels_are tables k marks
+labels_are tables k (mark.Only m g v ∷ marks) = labels_are tables k marks
+
+groups_are : (tables : List (List Row)) (viewer : Option ℕ) (k : ℕ) (marks : List Mark) → list_any (is_one tables k) marks ≡ false
+    → list_any (λ (g : TouchedGroup). is_in_group g k && is_for g.viewer viewer) (marked_groups marks) ≡ false → list_any (marks_label tables viewer k) marks ≡ false
+groups_are tables viewer k [] a b = refl
+groups_are tables viewer k (mark.One j ∷ marks) a b =
+    let parts = or_none (j == k) (list_any (is_one tables k) marks) a in
+    rw parts.0 (groups_are tables viewer k marks parts.1 b)
+groups_are tables viewer k (mark.Linked m g f id ∷ marks) a b =
+    let parts = or_none (shown (holder_labels tables m g f id) k) (list_any (is_one tables k) marks) a in
+    rw parts.0 (groups_are tables viewer k marks parts.1 b)
+groups_are tables viewer k (mark.All m g ∷ marks) a b =
     let parts = or_none (is_in_group (touched_group m g None) k && is_for (whose_of None) viewer) (list_any (λ (g : TouchedGroup). is_in_group g k && is_for g.viewer viewer) (marked_groups marks)) b in
-    rw parts.0 (groups_are viewer k marks a parts.1)
-groups_are viewer k (mark.Only m g v ∷ marks) a b =
+    rw parts.0 (groups_are tables viewer k marks a parts.1)
+groups_are tables viewer k (mark.Only m g v ∷ marks) a b =
     let parts = or_none (is_in_group (touched_group m g (Some v)) k && is_for (whose_of (Some v)) viewer) (list_any (λ (g : TouchedGroup). is_in_group g k && is_for g.viewer viewer) (marked_groups marks)) b in
-    rw parts.0 (groups_are viewer k marks a parts.1)
+    rw parts.0 (groups_are tables viewer k marks a parts.1)
 
 -- a record past the end stands nowhere
 stands_if : (u : ℕ → Bool) (h b : Bool) (id : ℕ) (r : Row) (rows : List Row) → (r.id == id) ≡ b → b ≡ false → stands (record_with id (rows_at u rows)) ≡ false
@@ -313,16 +375,19 @@ and_false false = refl
 
 -- what a touch of the marks covers
 module _ (app : Application) (s : State) (over : List Alteration) (sound : IsSound s) (own : AreOwn over) (placed : ArePlaced over (length s.tables)) where
+  abbrev among : RowsAltered
+  among = rows_altered s.tables over
+
   abbrev rows : List Row
-  rows = rows_altered s.tables over
+  rows = among.rows
 
   abbrev behind : State
   behind = state_over over s
 
-  group_there : (k : ℕ) (b : Bool) → has_group app k ≡ b → list_any (is_one k) (all_marks app over rows) ≡ false
+  group_there : (k : ℕ) (b : Bool) → has_group app k ≡ b → list_any (is_one s.tables k) (all_marks app over rows) ≡ false
       → IsLiveLabel app (λ u. project_at u s) k ↔ IsLiveLabel app (λ u. project_at u behind) k
   group_there k true is h =
-      spared_live app s over sound own placed k (own_spared app over rows k (labelled_group app k) refl is h)
+      spared_live app s over sound own placed k (own_spared app over s.tables rows k (labelled_group app k) refl is h)
   group_there k false is h = (
     (λ live. let wrong : false ≡ true = sym is ∙ live.group in absurd cc),
     (λ live. let wrong : false ≡ true = sym is ∙ live.group in absurd cc),
@@ -335,13 +400,13 @@ module _ (app : Application) (s : State) (over : List Alteration) (sound : IsSou
       ∙ none_with u id (rows_of s.tables (model_of_id id)) (are_small s (model_of_id id) sound) big
 
   size_there : (viewer : Option ℕ) (k : ℕ) (b : Bool) → nat_lt (record_of_label k) (2 ^ 124) ≡ b → is_outside over (record_of_label k) ≡ true
-      → list_any (marks_label viewer k) (all_marks app over rows) ≡ false
+      → list_any (marks_label s.tables viewer k) (all_marks app over rows) ≡ false
       → (u : ℕ → Bool) → is_allowed app (project_at u behind) viewer k ≡ is_allowed app (project_at u s) viewer k
   size_there viewer k true is stay h u =
       let small : record_of_label k < 2 ^ 124 = grind (arith, nat_tests, is) in
       spared_allowed app s over sound own placed viewer k
-      (both_true (is_outside over (record_of_label k)) (list_all (test_of over rows (record_of_label k) viewer) (group_rests app.models (labelled_group app k))) stay
-      (rests_spared app over rows viewer k (labelled_group app k) small refl h)) u
+      (both_true (is_outside over (record_of_label k)) (list_all (test_of over among (record_of_label k) viewer) (group_rests app.models (labelled_group app k))) stay
+      (rests_spared app over among viewer k (labelled_group app k) small refl h)) u
   size_there viewer k false is stay h u =
       let big : record_of_label k < 2 ^ 124 → false ≡ true = λ small. grind (arith, nat_tests, is, small) in
       let before : has_record (project_at u s) k ≡ false = has_none u k big in
@@ -350,7 +415,7 @@ module _ (app : Application) (s : State) (over : List Alteration) (sound : IsSou
       ∙ ap (λ b. b && policy_is_true (labelled_group app k) (policy_world app (project_at u s) viewer (record_of_label k))) (sym before)
 
   policy_there : (viewer : Option ℕ) (k : ℕ) (found : Option FieldGroup) → labelled_group app k ≡ found
-      → list_any (is_one k) (all_marks app over rows) ≡ false → list_any (marks_label viewer k) (all_marks app over rows) ≡ false
+      → list_any (is_one s.tables k) (all_marks app over rows) ≡ false → list_any (marks_label s.tables viewer k) (all_marks app over rows) ≡ false
       → (u : ℕ → Bool) → is_allowed app (project_at u behind) viewer k ≡ is_allowed app (project_at u s) viewer k
   policy_there viewer k None is a b u =
       ap (λ g. has_record (project_at u behind) k && policy_is_true g (policy_world app (project_at u behind) viewer (record_of_label k))) is
@@ -358,17 +423,17 @@ module _ (app : Application) (s : State) (over : List Alteration) (sound : IsSou
       ∙ sym (and_false (has_record (project_at u s) k))
       ∙ ap (λ g. has_record (project_at u s) k && policy_is_true g (policy_world app (project_at u s) viewer (record_of_label k))) (sym is)
   policy_there viewer k (Some g) is a b u =
-      size_there viewer k (nat_lt (record_of_label k) (2 ^ 124)) refl (own_spared app over rows k (Some g) is refl a) b u
+      size_there viewer k (nat_lt (record_of_label k) (2 ^ 124)) refl (own_spared app over s.tables rows k (Some g) is refl a) b u
 
-  pub covered : (t : Touch) (viewer : Option ℕ) → ((k : ℕ) → shown t.labels k ≡ shown (marked_labels (all_marks app over rows)) k)
+  pub covered : (t : Touch) (viewer : Option ℕ) → ((k : ℕ) → shown t.labels k ≡ shown (marked_labels s.tables (all_marks app over rows)) k)
       → t.groups.items ≡ marked_groups (all_marks app over rows)
       → IsCovered app (λ u. project_at u s) (λ u. project_at u behind) t viewer
   covered t viewer labels groups = record {
-    living = λ k h. group_there k (has_group app k) refl (sym (labels_are k (all_marks app over rows)) ∙ sym (labels k) ∙ h);
+    living = λ k h. group_there k (has_group app k) refl (sym (labels_are s.tables k (all_marks app over rows)) ∙ sym (labels k) ∙ h);
     allowed = λ k h u.
         let parts = or_none (shown t.labels k) (list_any (λ (g : TouchedGroup). is_in_group g k && is_for g.viewer viewer) t.groups.items) h in
-        let one : list_any (is_one k) (all_marks app over rows) ≡ false = sym (labels_are k (all_marks app over rows)) ∙ sym (labels k) ∙ parts.0 in
+        let one : list_any (is_one s.tables k) (all_marks app over rows) ≡ false = sym (labels_are s.tables k (all_marks app over rows)) ∙ sym (labels k) ∙ parts.0 in
         let each : list_any (λ (g : TouchedGroup). is_in_group g k && is_for g.viewer viewer) (marked_groups (all_marks app over rows)) ≡ false =
         subst (λ (l : List TouchedGroup). list_any (λ (g : TouchedGroup). is_in_group g k && is_for g.viewer viewer) l ≡ false) groups parts.1 in
-        policy_there viewer k (labelled_group app k) refl one (groups_are viewer k (all_marks app over rows) one each) u;
+        policy_there viewer k (labelled_group app k) refl one (groups_are s.tables viewer k (all_marks app over rows) one each) u;
   }

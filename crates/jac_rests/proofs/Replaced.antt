@@ -19,7 +19,7 @@ use Rattle.jac_keep.proofs.OrderLaws.{ordered_if_rising, ordered-placed}
 use Rattle.jac_keep.proofs.SoundLaws.{all-with_id, all-append, all-mapped}
 use Rattle.jac_plain.specs.Records.{with_ids}
 use Rattle.jac_choice.proofs.Finding.{rows_at_with_id}
-use Rattle.jac_rests.specs.Altered.{is_altered, is_outside, rows_altered, referred_by, is_to, row_refers}
+use Rattle.jac_rests.specs.Altered.{is_altered, is_outside, alternatives_altered, referred_by, row_refers}
 
 -- rows that are picked twice, in two parts, and by a test that fails for some
 picked_if : (b c : Bool) (r : Row) (xs ys : List Row) (test : ℕ → Bool) → test r.id ≡ c → with_id test xs ≡ ys
@@ -231,14 +231,14 @@ any_placed_if P q false id new rows f g h = f h
 
 -- some replaced row has it, or some that was there
 any_altered : (P : Type 0) (q : Row → Bool) (tables : List (List Row)) (m : ℕ) (over : List Alteration) (rows : List Row)
-    → (list_any q rows ≡ true → P) → (list_any q (rows_altered tables over) ≡ true → P) → list_any q (altered m over rows) ≡ true → P
+    → (list_any q rows ≡ true → P) → (list_any q (alternatives_altered tables over) ≡ true → P) → list_any q (altered m over rows) ≡ true → P
 any_altered P q tables m [] rows f g h = f h
 any_altered P q tables m (a ∷ more) rows f g h =
     let old : List Row = alternatives a.id (rows_of tables (model_of_id a.id)) in
     any_altered P q tables m more (if model_of_id a.id == m then placed a.id a.rows rows else rows)
     (λ e. any_placed_if P q (model_of_id a.id == m) a.id a.rows rows f
-    (λ k. g (any_right q old (a.rows ++ rows_altered tables more) (any_left q a.rows (rows_altered tables more) k))) e)
-    (λ e. g (any_right q old (a.rows ++ rows_altered tables more) (any_right q a.rows (rows_altered tables more) e))) h
+    (λ k. g (any_right q old (a.rows ++ alternatives_altered tables more) (any_left q a.rows (alternatives_altered tables more) k))) e)
+    (λ e. g (any_right q old (a.rows ++ alternatives_altered tables more) (any_right q a.rows (alternatives_altered tables more) e))) h
 
 first_if : (q : Row → Bool) (b : Bool) (r : Row) (xs : List Row) → (b && q r) ≡ true → list_any q (if b then r ∷ xs else xs) ≡ true
 first_if q true r xs h = left_true (q r) (list_any q xs) h
@@ -257,15 +257,15 @@ any_alternatives q id (r ∷ rows) h =
 
 -- among the replaced rows are those of each replaced record as it was
 any_named : (q : Row → Bool) (tables : List (List Row)) (over : List Alteration) (id : ℕ) → is_altered over id ≡ true
-    → list_any q (alternatives id (rows_of tables (model_of_id id))) ≡ true → list_any q (rows_altered tables over) ≡ true
+    → list_any q (alternatives id (rows_of tables (model_of_id id))) ≡ true → list_any q (alternatives_altered tables over) ≡ true
 any_named q tables [] id is h = absurd cc
 any_named q tables (a ∷ more) id is h =
     let old : List Row = alternatives a.id (rows_of tables (model_of_id a.id)) in
-    let rest : List Row = a.rows ++ rows_altered tables more in
+    let rest : List Row = a.rows ++ alternatives_altered tables more in
     or_cases (list_any q (old ++ rest) ≡ true) (a.id == id) (is_altered more id)
     (λ e. let same : id ≡ a.id = grind (arith, e) in
     any_left q old rest (subst (λ i. list_any q (alternatives i (rows_of tables (model_of_id i))) ≡ true) same h))
-    (λ e. any_right q old rest (any_right q a.rows (rows_altered tables more) (any_named q tables more id e h))) is
+    (λ e. any_right q old rest (any_right q a.rows (alternatives_altered tables more) (any_named q tables more id e h))) is
 
 -- the model of a record of which there is a row
 any_model : (q : Row → Bool) (m id : ℕ) (rows : List Row) → OfModel m rows → list_any (λ r. (r.id == id) && q r) rows ≡ true → model_of_id id ≡ m
@@ -300,11 +300,11 @@ both_true : (a b : Bool) → a ≡ true → b ≡ true → (a && b) ≡ true
 both_true true b p q = q
 both_true false b p q = absurd cc
 
-abbrev pub cell_refers : ℕ → Option ℕ → Row → Bool
-cell_refers f x r = is_to x (referred_by (slice_get r.cells f))
+abbrev pub cell_refers : ℕ → (Option (Option ℕ) → Bool) → Row → Bool
+cell_refers f x r = x (referred_by (slice_get r.cells f))
 
-pub found_before : (tables : List (List Row)) (over : List Alteration) (m f : ℕ) (x : Option ℕ) (id : ℕ) → OfModel m (rows_of tables m) → is_altered over id ≡ true
-    → list_any (λ r. (r.id == id) && cell_refers f x r) (rows_of tables m) ≡ true → list_any (row_refers m f x) (rows_altered tables over) ≡ true
+pub found_before : (tables : List (List Row)) (over : List Alteration) (m f : ℕ) (x : Option (Option ℕ) → Bool) (id : ℕ) → OfModel m (rows_of tables m) → is_altered over id ≡ true
+    → list_any (λ r. (r.id == id) && cell_refers f x r) (rows_of tables m) ≡ true → list_any (row_refers m f x) (alternatives_altered tables over) ≡ true
 found_before tables over m f x id all is h =
     let model : model_of_id id ≡ m = any_model (cell_refers f x) m id (rows_of tables m) all h in
     let there : list_any (λ r. (r.id == id) && row_refers m f x r) (rows_of tables m) ≡ true =
@@ -317,15 +317,15 @@ found_before tables over m f x id all is h =
     (subst (λ n. list_any (row_refers m f x) (alternatives id (rows_of tables n)) ≡ true) (sym model)
     (any_alternatives (row_refers m f x) id (rows_of tables m) there))
 
-pub found_behind : (tables : List (List Row)) (over : List Alteration) (m f : ℕ) (x : Option ℕ) (id : ℕ) → AreOwn over → OfModel m (rows_of tables m) → is_altered over id ≡ true
-    → list_any (λ r. (r.id == id) && cell_refers f x r) (altered m over (rows_of tables m)) ≡ true → list_any (row_refers m f x) (rows_altered tables over) ≡ true
+pub found_behind : (tables : List (List Row)) (over : List Alteration) (m f : ℕ) (x : Option (Option ℕ) → Bool) (id : ℕ) → AreOwn over → OfModel m (rows_of tables m) → is_altered over id ≡ true
+    → list_any (λ r. (r.id == id) && cell_refers f x r) (altered m over (rows_of tables m)) ≡ true → list_any (row_refers m f x) (alternatives_altered tables over) ≡ true
 found_behind tables over m f x id own all is h =
     let q = λ (r : Row). (r.id == id) && cell_refers f x r in
     let rows : List Row = rows_of tables m in
     let model : model_of_id id ≡ m = any_model (cell_refers f x) m id (altered m over rows) (altered_model m over rows own all) h in
-    any_altered (list_any (row_refers m f x) (rows_altered tables over) ≡ true) q tables m over rows
+    any_altered (list_any (row_refers m f x) (alternatives_altered tables over) ≡ true) q tables m over rows
     (λ e. found_before tables over m f x id all is e)
-    (λ e. any_mapped q (row_refers m f x) (rows_altered tables over)
+    (λ e. any_mapped q (row_refers m f x) (alternatives_altered tables over)
     (λ r k. let parts = and_parts (r.id == id) (cell_refers f x r) k in
     let same : r.id ≡ id = grind (arith, parts.0) in
     let mine : (model_of_id r.id == m) ≡ true = ap (λ i. model_of_id i == m) same ∙ ap (λ n. n == m) model ∙ itself m in

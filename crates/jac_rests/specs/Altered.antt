@@ -10,6 +10,7 @@ use Rattle.jac_rows.specs.declared.state.State.{State}
 use Rattle.jac_rows.specs.Tables.{rows_of}
 use Rattle.jac_keep.specs.declared.alteration.Alteration.{Alteration}
 use Rattle.jac_keep.specs.Alterations.{alters, overlaid}
+use Rattle.jac_keep.specs.Holding.{holds_cell}
 use Rattle.jac_keep.specs.Records.{alternatives}
 use Rattle.jac_plain.specs.Policies.{labelled_group}
 use Rattle.jac_recall.specs.Touched.{is_same_viewer}
@@ -36,12 +37,24 @@ is_viewer_altered over None = false
 is_viewer_altered over (Some id) = is_altered over id
 
 -- the alternatives of the replaced records, as they were and as they are
-abbrev pub rows_altered : List (List Row) → List Alteration → List Row
-rows_altered tables [] = []
-rows_altered tables (a ∷ more) =
-    alternatives a.id (rows_of tables (model_of_id a.id)) ++ (a.rows ++ rows_altered tables more)
+abbrev pub alternatives_altered : List (List Row) → List Alteration → List Row
+alternatives_altered tables [] = []
+alternatives_altered tables (a ∷ more) =
+    alternatives a.id (rows_of tables (model_of_id a.id))
+    ++ (a.rows ++ alternatives_altered tables more)
 
--- what a cell row_refers to, which a missing one may do as one that is none
+-- these, and the tables in which the records are replaced
+pub record RowsAltered : Type 0 where
+  pub tables : List (List Row)
+  pub rows : List Row
+
+abbrev pub rows_altered : List (List Row) → List Alteration → RowsAltered
+rows_altered tables over = record {
+  tables = tables;
+  rows = alternatives_altered tables over;
+}
+
+-- what a cell refers to, which a missing one may do as one that is none
 abbrev pub referred_by : Option Value → Option (Option ℕ)
 referred_by None = Some None
 referred_by (Some (value.Ref id)) = Some id
@@ -53,32 +66,55 @@ abbrev pub is_to : Option ℕ → Option (Option ℕ) → Bool
 is_to id None = false
 is_to id (Some other) = is_same_viewer other id
 
--- the row is one of the model at this place, and its field at a place row_refers to this
-abbrev pub row_refers : ℕ → ℕ → Option ℕ → Row → Bool
-row_refers m f id r = (model_of_id r.id == m) && is_to id (referred_by (slice_get r.cells f))
+-- the row is one of the model at this place, and what its field at a place refers to passes the
+-- test
+abbrev pub row_refers : ℕ → ℕ → (Option (Option ℕ) → Bool) → Row → Bool
+row_refers m f test r = (model_of_id r.id == m) && test (referred_by (slice_get r.cells f))
 
-abbrev pub whom_of : ℕ → Option ℕ → Whom → Option ℕ
-whom_of this viewer whom.This = Some this
-whom_of this viewer whom.Viewer = viewer
+-- the field at a place of the model's record of this id may refer to what a cell does: where that
+-- is a record, one of its alternatives does
+abbrev pub is_linked : List (List Row) → ℕ → ℕ → ℕ → Option (Option ℕ) → Bool
+is_linked tables m f this (Some (Some id)) =
+    holds_cell f (value.Ref (Some id)) (rows_of tables m) this
+is_linked tables m f this (Some None) = true
+is_linked tables m f this None = true
+
+-- a record is found by what a cell of it refers to
+abbrev pub is_found : List (List Row) → ℕ → Option ℕ → Whom → Option (Option ℕ) → Bool
+is_found tables this viewer whom.This x = is_to (Some this) x
+is_found tables this viewer (whom.Field m f) x = is_linked tables m f this x
+is_found tables this viewer whom.Viewer x = is_to viewer x
+
+-- the field may refer to a replaced record
+abbrev pub is_link_altered : List (List Row) → ℕ → ℕ → ℕ → List Alteration → Bool
+is_link_altered tables m f this [] = false
+is_link_altered tables m f this (a ∷ more) =
+    is_linked tables m f this (Some (Some a.id)) || is_link_altered tables m f this more
+
+abbrev pub is_one_altered : List Alteration → List (List Row) → ℕ → Option ℕ → Whom → Bool
+is_one_altered over tables this viewer whom.This = is_altered over this
+is_one_altered over tables this viewer (whom.Field m f) = is_link_altered tables m f this over
+is_one_altered over tables this viewer whom.Viewer = is_viewer_altered over viewer
 
 abbrev pub alters_none : List Alteration → Bool
 alters_none [] = true
 alters_none (a ∷ more) = false
 
 -- no replaced record is among what a policy of the record rests on for the viewer
-abbrev pub test_of : List Alteration → List Row → ℕ → Option ℕ → Rest → Bool
-test_of over rows this viewer rest.Asker = not (is_viewer_altered over viewer)
-test_of over rows this viewer (rest.Table m) = not (alters m over)
-test_of over rows this viewer (rest.Found s m f) =
-    not (list_any (row_refers m f (whom_of this viewer s)) rows)
-test_of over rows this viewer rest.Any = alters_none over
+abbrev pub test_of : List Alteration → RowsAltered → ℕ → Option ℕ → Rest → Bool
+test_of over among this viewer (rest.One s) =
+    not (is_one_altered over among.tables this viewer s)
+test_of over among this viewer (rest.Table m) = not (alters m over)
+test_of over among this viewer (rest.Found s m f) =
+    not (list_any (row_refers m f (is_found among.tables this viewer s)) among.rows)
+test_of over among this viewer rest.Any = alters_none over
 
 abbrev pub group_rests : List Entity → Option FieldGroup → List Rest
 group_rests models None = []
 group_rests models (Some g) = rests models g.policy
 
 -- the label's record isn't replaced, and none is that its policy rests on
-abbrev pub is_spared : Application → List Alteration → List Row → Option ℕ → ℕ → Bool
-is_spared app over rows viewer k =
-    is_outside over (record_of_label k) && list_all (test_of over rows (record_of_label k) viewer)
+abbrev pub is_spared : Application → List Alteration → RowsAltered → Option ℕ → ℕ → Bool
+is_spared app over among viewer k =
+    is_outside over (record_of_label k) && list_all (test_of over among (record_of_label k) viewer)
     (group_rests app.models (labelled_group app k))

@@ -1,13 +1,13 @@
 -- A world without some records, and a test that says whether any of them is among what a policy
 -- rests on.
-use Rattle.std.specs.Prelude.{◌≡◌, ℕ, Bool, true, map, Option, Some}
+use Rattle.std.specs.Prelude.{◌≡◌, ℕ, Bool, true, map, Some}
 use Rattle.jac_value.specs.declared.value.Value.{Value}
 use Rattle.jac_value.specs.declared.value.Value.TheVariants as value
 use Rattle.jac_value.specs.contracts.value.ValuePartialEq.TheImpl as equality
 use Rattle.jac_value.specs.Values.{default_value}
 use Rattle.jac_lang.specs.Lookup.{fields_at, kind_at}
 use Rattle.jac_rows.specs.Tables.{rows_of}
-use Rattle.jac_plain.specs.World.{World, record_with, cell_of}
+use Rattle.jac_plain.specs.World.{World, record_with, referred, cell_of}
 use Rattle.jac_plain.specs.Expressions.{stands}
 use Rattle.jac_plain.specs.Records.{with_ids}
 use Rattle.jac_rests.specs.declared.rest.Rest.{Rest}
@@ -24,23 +24,26 @@ abbrev pub is_clear : (ℕ → Bool) → Value → Bool
 is_clear stays (value.Ref (Some id)) = stays id
 is_clear stays v = true
 
-abbrev pub whom_in : World → Whom → Option ℕ
-whom_in w whom.This = w.this
-whom_in w whom.Viewer = w.viewer
+-- the reference that a policy reads or finds records by, or what a field has in its place
+abbrev pub whom_in : World → Whom → Value
+whom_in w whom.This = value.Ref w.this
+whom_in w (whom.Field m f) = cell_of (referred (value.Ref w.this) (rows_of w.tables m)) f
+    (default_value (kind_at w.models (fields_at w.models m) f))
+whom_in w whom.Viewer = value.Ref w.viewer
 
 -- what the field at a place reads as, of the record of an id
 abbrev pub field_in : World → ℕ → ℕ → ℕ → Value
 field_in w m f id = cell_of (record_with id (rows_of w.tables m)) f
     (default_value (kind_at w.models (fields_at w.models m) f))
 
--- the record itself stays; and where the test is passed, so does the viewer's record, each of the
+-- the record itself stays; and where the test is passed, so does the one that is read, each of the
 -- table, each that is found, or any
 pub record IsTest (stays : ℕ → Bool) (test : Rest → Bool) (w : World) : Type 0 where
   pub own : is_clear stays (value.Ref w.this) ≡ true
-  pub asker : test rest.Asker ≡ true → is_clear stays (value.Ref w.viewer) ≡ true
+  pub one : (s : Whom) → test (rest.One s) ≡ true → is_clear stays (whom_in w s) ≡ true
   pub table : (m : ℕ) → test (rest.Table m) ≡ true
       → with_ids stays (rows_of w.tables m) ≡ rows_of w.tables m
   pub found : (s : Whom) (m f id : ℕ) → test (rest.Found s m f) ≡ true →
       stands (record_with id (rows_of w.tables m)) ≡ true →
-      equality.ghosts.eq (field_in w m f id) (value.Ref (whom_in w s)) ≡ true → stays id ≡ true
+      equality.ghosts.eq (field_in w m f id) (whom_in w s) ≡ true → stays id ≡ true
   pub any : test rest.Any ≡ true → (id : ℕ) → stays id ≡ true

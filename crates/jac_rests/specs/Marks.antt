@@ -2,11 +2,15 @@
 -- otherwise.
 use Rattle.std.specs.Prelude.{ℕ, ◌+◌, ◌^◌, ◌&&◌, ◌==◌, nat_lt, Bool, true, false, if◌then◌else◌, List, [], ◌∷◌, ◌++◌, slice_get, Option, Some, None}
 use Rattle.std.specs.List.{list_any}
+use Rattle.jac_value.specs.declared.value.Value.TheVariants as value
 use Rattle.jac_value.specs.Ids.{model_of_id, label_of}
+use Rattle.jac_world.specs.World.{shown}
 use Rattle.jac_lang.specs.Syntax.{Entity, FieldGroup}
 use Rattle.jac_rows.specs.declared.row.Row.{Row}
+use Rattle.jac_rows.specs.Tables.{rows_of}
 use Rattle.jac_keep.specs.declared.alteration.Alteration.{Alteration}
 use Rattle.jac_keep.specs.Alterations.{alters}
+use Rattle.jac_keep.specs.Holding.{holders}
 use Rattle.jac_recall.specs.Touched.{is_in_group, is_for}
 use Rattle.jac_recall.specs.declared.touch.TouchedGroup.{TouchedGroup}
 use Rattle.jac_recall.specs.declared.touch.Whose.{Whose}
@@ -17,7 +21,7 @@ use Rattle.jac_rests.specs.declared.rest.Rest.{Rest}
 use Rattle.jac_rests.specs.declared.rest.Rest.TheVariants as rest
 use Rattle.jac_rests.specs.declared.rest.Whom.{Whom}
 use Rattle.jac_rests.specs.declared.rest.Whom.TheVariants as whom
-use Rattle.jac_rests.specs.Rests.{rests}
+use Rattle.jac_rests.specs.Rests.{rests, is_same_whom}
 use Rattle.jac_rests.specs.Altered.{referred_by}
 
 abbrev pub whose_of : Option (Option ℕ) → Whose
@@ -50,7 +54,24 @@ abbrev pub viewer_marks : ℕ → ℕ → List Alteration → List Mark
 viewer_marks m g [] = []
 viewer_marks m g (a ∷ more) = group_mark m g (Some (Some a.id)) ∷ viewer_marks m g more
 
--- what a row's cell row_refers to is a record with a label, or a viewer
+-- the label of this group of each record of the model of which an alternative refers to a record
+-- by its own field; where that isn't known, the group
+abbrev pub linked_mark : Bool → ℕ → ℕ → ℕ → ℕ → Mark
+linked_mark true m g f id = mark.Linked m g f id
+linked_mark false m g f id = group_mark m g None
+
+abbrev pub link_mark : ℕ → ℕ → ℕ → ℕ → Option (Option ℕ) → List Mark
+link_mark m g n f (Some (Some id)) = linked_mark (n == m) m g f id ∷ []
+link_mark m g n f (Some None) = group_mark m g None ∷ []
+link_mark m g n f None = group_mark m g None ∷ []
+
+-- those for each replaced record
+abbrev pub linked_marks : ℕ → ℕ → ℕ → ℕ → List Alteration → List Mark
+linked_marks m g n f [] = []
+linked_marks m g n f (a ∷ more) =
+    link_mark m g n f (Some (Some a.id)) ++ linked_marks m g n f more
+
+-- what a row's cell refers to is a record with a label, one that others refer to, or a viewer
 abbrev pub label_mark : ℕ → Option (Option ℕ) → List Mark
 label_mark g (Some (Some id)) = own_mark (id_where (nat_lt id (2 ^ 124)) id) g
 label_mark g (Some None) = []
@@ -62,6 +83,7 @@ only_mark m g None = []
 
 abbrev pub cell_mark : ℕ → ℕ → Whom → Option (Option ℕ) → List Mark
 cell_mark m g whom.This x = label_mark g x
+cell_mark m g (whom.Field n f) x = link_mark m g n f x
 cell_mark m g whom.Viewer x = only_mark m g x
 
 abbrev pub row_mark : ℕ → ℕ → Whom → ℕ → ℕ → Row → List Mark
@@ -81,21 +103,21 @@ abbrev pub some_marks : List Alteration → ℕ → ℕ → List Mark
 some_marks [] m g = []
 some_marks (a ∷ more) m g = group_mark m g None ∷ []
 
+abbrev pub one_marks : ℕ → ℕ → List Alteration → Whom → List Mark
+one_marks m g over whom.This = own_marks m g over
+one_marks m g over (whom.Field n f) = linked_marks m g n f over
+one_marks m g over whom.Viewer = viewer_marks m g over
+
 -- what replaced records mark where the policy of the group at place g of the model at place m rests
 -- on this
 abbrev pub rest_marks : ℕ → ℕ → List Alteration → List Row → Rest → List Mark
-rest_marks m g over rows rest.Asker = viewer_marks m g over
+rest_marks m g over rows (rest.One s) = one_marks m g over s
 rest_marks m g over rows (rest.Table n) = marks_if (alters n over) m g
 rest_marks m g over rows (rest.Found s n f) = found_marks m g s n f rows
 rest_marks m g over rows rest.Any = some_marks over m g
 
-abbrev pub is_same_whom : Whom → Whom → Bool
-is_same_whom whom.This whom.This = true
-is_same_whom whom.Viewer whom.Viewer = true
-is_same_whom s t = false
-
 abbrev pub is_same_rest : Rest → Rest → Bool
-is_same_rest rest.Asker rest.Asker = true
+is_same_rest (rest.One s) (rest.One t) = is_same_whom s t
 is_same_rest (rest.Table m) (rest.Table n) = m == n
 is_same_rest (rest.Found s m f) (rest.Found t n g) = is_same_whom s t && (m == n && f == g)
 is_same_rest rest.Any rest.Any = true
@@ -130,30 +152,43 @@ models_marks models m over rows [] = []
 models_marks models m over rows (entity ∷ more) =
     groups_marks models m 0 over rows entity.groups ++ models_marks models (m + 1) over rows more
 
+abbrev pub row_labels : ℕ → List Row → List ℕ
+row_labels g [] = []
+row_labels g (r ∷ rows) = label_of r.id g ∷ row_labels g rows
+
+-- the labels of a group of the records of the model of which an alternative has the reference
+abbrev pub holder_labels : List (List Row) → ℕ → ℕ → ℕ → ℕ → List ℕ
+holder_labels tables m g f id =
+    row_labels g (holders f (value.Ref (Some id)) (rows_of tables m))
+
 -- a mark is of the label, for the viewer; or of the label by itself
-abbrev pub marks_label : Option ℕ → ℕ → Mark → Bool
-marks_label viewer k (mark.One j) = j == k
-marks_label viewer k (mark.All m g) =
+abbrev pub marks_label : List (List Row) → Option ℕ → ℕ → Mark → Bool
+marks_label tables viewer k (mark.One j) = j == k
+marks_label tables viewer k (mark.Linked m g f id) = shown (holder_labels tables m g f id) k
+marks_label tables viewer k (mark.All m g) =
     is_in_group (touched_group m g None) k && is_for (whose_of None) viewer
-marks_label viewer k (mark.Only m g v) =
+marks_label tables viewer k (mark.Only m g v) =
     is_in_group (touched_group m g (Some v)) k && is_for (whose_of (Some v)) viewer
 
-abbrev pub is_one : ℕ → Mark → Bool
-is_one k (mark.One j) = j == k
-is_one k (mark.All m g) = false
-is_one k (mark.Only m g v) = false
+abbrev pub is_one : List (List Row) → ℕ → Mark → Bool
+is_one tables k (mark.One j) = j == k
+is_one tables k (mark.Linked m g f id) = shown (holder_labels tables m g f id) k
+is_one tables k (mark.All m g) = false
+is_one tables k (mark.Only m g v) = false
 
-abbrev pub marked_label : Mark → List ℕ
-marked_label (mark.One j) = j ∷ []
-marked_label (mark.All m g) = []
-marked_label (mark.Only m g v) = []
+abbrev pub marked_label : List (List Row) → Mark → List ℕ
+marked_label tables (mark.One j) = j ∷ []
+marked_label tables (mark.Linked m g f id) = holder_labels tables m g f id
+marked_label tables (mark.All m g) = []
+marked_label tables (mark.Only m g v) = []
 
-abbrev pub marked_labels : List Mark → List ℕ
-marked_labels [] = []
-marked_labels (x ∷ more) = marked_label x ++ marked_labels more
+abbrev pub marked_labels : List (List Row) → List Mark → List ℕ
+marked_labels tables [] = []
+marked_labels tables (x ∷ more) = marked_label tables x ++ marked_labels tables more
 
 abbrev pub marked_group : Mark → List TouchedGroup
 marked_group (mark.One j) = []
+marked_group (mark.Linked m g f id) = []
 marked_group (mark.All m g) = touched_group m g None ∷ []
 marked_group (mark.Only m g v) = touched_group m g (Some v) ∷ []
 

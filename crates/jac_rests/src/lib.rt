@@ -6,6 +6,7 @@ mod finder;
 mod laws;
 mod mark;
 mod marker;
+mod names;
 mod reading;
 mod rest;
 mod touch;

@@ -4,9 +4,10 @@ ghost use Rattle.std.specs.Option.{option_map};
 ghost use Rattle.jac_lang.specs.Mirror.{application_of, field_group_of, groups_of};
 ghost use Rattle.jac_keep.specs.Alterations.{alters};
 ghost use Rattle.jac_rests.specs.Altered.{referred_by};
-ghost use Rattle.jac_rests.specs.Marks.{cell_mark, comes_again, each_rest_marks, found_marks, group_mark, groups_marks, is_same_rest, is_same_whom, id_where, label_mark, marks_if, models_marks, only_mark, own_mark, own_marks, policy_marks, rest_marks, row_mark, some_marks, viewer_marks};
+ghost use Rattle.jac_rests.specs.Marks.{cell_mark, comes_again, each_rest_marks, found_marks, group_mark, groups_marks, id_where, is_same_rest, label_mark, link_mark, linked_mark, linked_marks, marks_if, models_marks, one_marks, only_mark, own_mark, own_marks, policy_marks, rest_marks, row_mark, some_marks, viewer_marks};
 
 use crate::mark::Mark;
+use crate::names::is_same_whom;
 use crate::reading::add_rests;
 use crate::{Rest, Whom};
 use jac_keep::Alteration;
@@ -109,7 +110,7 @@ fn mark_own(place: Place, over: &[Alteration], marks: &mut Vec<Mark>) -> Result<
 }
 
 // An id past the end has no labels. No sound state has one.
-const IDS_END: u128 = 1 << 124;
+pub(crate) const IDS_END: u128 = 1 << 124;
 
 fn push_own(own: Option<Id>, group: u8, marks: &mut Vec<Mark>) -> Result<(), Memory>
     requires { group < 8 }
@@ -182,7 +183,10 @@ fn is_same_rest(one: Rest, other: Rest) -> bool
     ensures { result ≡ is_same_rest one other }
 {
     match one {
-        Rest::Asker => matches!(other, Rest::Asker),
+        Rest::One(s) => match other {
+            Rest::One(t) => is_same_whom(s, t),
+            _ => false,
+        },
         Rest::Table(m) => match other {
             Rest::Table(n) => m == n,
             _ => false,
@@ -192,15 +196,6 @@ fn is_same_rest(one: Rest, other: Rest) -> bool
             _ => false,
         },
         Rest::Any => matches!(other, Rest::Any),
-    }
-}
-
-fn is_same_whom(one: Whom, other: Whom) -> bool
-    ensures { result ≡ is_same_whom one other }
-{
-    match one {
-        Whom::This => matches!(other, Whom::This),
-        Whom::Viewer => matches!(other, Whom::Viewer),
     }
 }
 
@@ -216,10 +211,78 @@ fn mark_rest(
         ≡ marks.old.items ++ rest_marks place.model place.group over.now rows.now rest) }
 {
     match rest {
-        Rest::Asker => mark_viewers(place, over, marks),
+        Rest::One(whom) => mark_one(place, over, whom, marks),
         Rest::Table(model) => mark_if(alters(model, over), place, marks),
         Rest::Found(whom, model, field) => { mark_found(place, whom, model, field, rows, marks) }
         Rest::Any => mark_some(over, place, marks),
+    }
+}
+
+fn mark_one(
+    place: Place,
+    over: &[Alteration],
+    whom: Whom,
+    marks: &mut Vec<Mark>,
+) -> Result<(), Memory>
+    requires { place.group < 8 }
+    ensures { OnOk result (marks.new.items
+        ≡ marks.old.items ++ one_marks place.model place.group over.now whom) }
+{
+    match whom {
+        Whom::This => mark_own(place, over, marks),
+        Whom::Field(model, field) => mark_linked(place, model, field, over, marks),
+        Whom::Viewer => mark_viewers(place, over, marks),
+    }
+}
+
+fn mark_linked(
+    place: Place,
+    model: u8,
+    field: u8,
+    over: &[Alteration],
+    marks: &mut Vec<Mark>,
+) -> Result<(), Memory>
+    ensures { OnOk result (marks.new.items
+        ≡ marks.old.items ++ linked_marks place.model place.group model field over.now) }
+{
+    'over: for alteration in over {
+        push_link(place, model, field, Some(Some(alteration.id)), marks)?;
+    }
+    Ok(())
+}
+
+fn push_link(
+    place: Place,
+    model: u8,
+    field: u8,
+    referred: Option<Option<Id>>,
+    marks: &mut Vec<Mark>,
+) -> Result<(), Memory>
+    ensures { OnOk result (marks.new.items
+        ≡ marks.old.items ++ link_mark place.model place.group model field referred) }
+{
+    match referred {
+        Some(Some(id)) => push_linked(model == place.model, place, field, id, marks),
+        Some(None) => push_group(place, None, marks),
+        None => push_group(place, None, marks),
+    }
+}
+
+fn push_linked(
+    is_own: bool,
+    place: Place,
+    field: u8,
+    id: Id,
+    marks: &mut Vec<Mark>,
+) -> Result<(), Memory>
+    ensures { OnOk result (marks.new.items
+        ≡ marks.old.items ++ linked_mark is_own place.model place.group field id ∷ []) }
+{
+    if is_own {
+        marks.push(Mark::Linked(place.model, place.group, field, id))?;
+        Ok(())
+    } else {
+        push_group(place, None, marks)
     }
 }
 
@@ -315,11 +378,12 @@ fn mark_row(
     let referred = referred_by(row.cells.as_slice().get(usize::from(field)));
     match whom {
         Whom::This => push_label(place.group, referred, marks),
+        Whom::Field(model, field) => push_link(place, model, field, referred, marks),
         Whom::Viewer => push_viewer(place, referred, marks),
     }
 }
 
-// What a cell row_refers to, which a missing one may do as one that is none.
+// What a cell refers to, which a missing one may do as one that is none.
 fn referred_by(cell: Option<&Value>) -> Option<Option<Id>>
     ensures { result ≡ referred_by (option_map (λ v. v.now) cell.entry) }
 {

@@ -2,10 +2,11 @@
 ghost use Rattle.std.specs.Prelude.{◌≡◌, ◌++◌, OnOk};
 ghost use Rattle.std.specs.Option.{option_to_list};
 ghost use Rattle.jac_lang.specs.Mirror.{application_of, binders_of, expression_of, expressions_of};
-ghost use Rattle.jac_rests.specs.Rests.{binder_rests, live_rest, read_rest, rests, rests_each};
+ghost use Rattle.jac_rests.specs.Rests.{binder_rests, live_rest, named_whom, one_rest, read_rest, rests, rests_each};
 
 use crate::Rest;
 use crate::finder::binder_rest;
+use crate::names::named_whom;
 use jac_lang::{App, Binders, Expr, Exprs, Query, model_of};
 use jac_value::{Memory, Txt};
 
@@ -28,7 +29,7 @@ pub(crate) fn add_rests(app: &App, e: &Expr, out: &mut Vec<Rest>) -> Result<(), 
             add_rests(app, of_whom, out)
         }
         Expr::Live(of_whom) => {
-            push_some(out, live_rest(of_whom))?;
+            push_some(out, live_rest(app, of_whom))?;
             add_rests(app, of_whom, out)
         }
         Expr::Two(_, a, b) => {
@@ -114,16 +115,28 @@ fn read_rest(app: &App, model: &Txt, of_whom: &Expr) -> Option<Rest>
         | Expr::Text(_)
         | Expr::Bool(_)
         | Expr::NoneOf(_) => None,
-        Expr::Viewer => Some(Rest::Asker),
-        _ => match model_of(app, model) {
-            Some(model) => Some(Rest::Table(model)),
-            None => None,
+        _ => match one_rest(app, of_whom) {
+            Some(rest) => Some(rest),
+            None => match model_of(app, model) {
+                Some(model) => Some(Rest::Table(model)),
+                None => None,
+            },
         },
     }
 }
 
-fn live_rest(of_whom: &Expr) -> Option<Rest>
-    ensures { result ≡ live_rest (expression_of of_whom.now) }
+fn one_rest(app: &App, of_whom: &Expr) -> Option<Rest>
+    ensures { result
+        ≡ one_rest (named_whom (application_of app.now).models (expression_of of_whom.now)) }
+{
+    match named_whom(app, of_whom) {
+        Some(whom) => Some(Rest::One(whom)),
+        None => None,
+    }
+}
+
+fn live_rest(app: &App, of_whom: &Expr) -> Option<Rest>
+    ensures { result ≡ live_rest (application_of app.now).models (expression_of of_whom.now) }
 {
     match of_whom {
         Expr::This
@@ -132,7 +145,9 @@ fn live_rest(of_whom: &Expr) -> Option<Rest>
         | Expr::Text(_)
         | Expr::Bool(_)
         | Expr::NoneOf(_) => None,
-        Expr::Viewer => Some(Rest::Asker),
-        _ => Some(Rest::Any),
+        _ => match one_rest(app, of_whom) {
+            Some(rest) => Some(rest),
+            None => Some(Rest::Any),
+        },
     }
 }

@@ -1,20 +1,23 @@
 //! What a policy's answer rests on.
 
-/// By whom a policy finds records: by the record itself, whose policy it is, or by the viewer.
+/// Which record a policy reads, or by which it finds others: the record itself, whose policy it
+/// is, the one that a field of it refers to, or the viewer's.
 #[derive(Clone, Copy, Debug, PartialEq, Eq)]
 pub enum Whom {
     This,
+    /// By the places of the model and of its field.
+    Field(u8, u8),
     Viewer,
 }
 
 /// What a policy's answer rests on beside the record itself.
 #[derive(Clone, Copy, Debug, PartialEq, Eq)]
 pub enum Rest {
-    /// The viewer's record.
-    Asker,
+    /// One record.
+    One(Whom),
     /// The records of the model at this place.
     Table(u8),
-    /// Of the records of the model at a place those whose field at a place row_refers to whom it is
+    /// Of the records of the model at a place those whose field at a place refers to whom it is
     /// found by.
     Found(Whom, u8, u8),
     /// Any record.

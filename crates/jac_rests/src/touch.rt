@@ -1,6 +1,7 @@
 //! What a work's replaced records may touch.
 ghost use Rattle.std.specs.Prelude.{◌≡◌, ◌++◌, ◌∷◌, ℕ, [], Option, IfOk, OnOk, IsErrOf, IsTrue};
 ghost use Rattle.jac_io.specs.Faults.{Rose};
+ghost use Rattle.jac_value.specs.Ids.{label_of};
 ghost use Rattle.jac_world.specs.World.{shown};
 ghost use Rattle.jac_lang.specs.Mirror.{application_of};
 ghost use Rattle.jac_rows.specs.Good.{IsSound};
@@ -9,16 +10,16 @@ ghost use Rattle.jac_keep.specs.declared.stop.Stop.TheVariants.{Keeper as OfKeep
 ghost use Rattle.jac_keep.specs.KeeperSeen.{IsLeft};
 ghost use Rattle.jac_keep.specs.Worked.{state_of, IsTold, ReadsWork};
 ghost use Rattle.jac_recall.specs.Touched.{IsCovered};
-ghost use Rattle.jac_rests.specs.Altered.{rows_altered};
-ghost use Rattle.jac_rests.specs.Marks.{marked_groups, marked_label, marked_labels, models_marks, marked_group, touched_group};
+ghost use Rattle.jac_rests.specs.Altered.{alternatives_altered};
+ghost use Rattle.jac_rests.specs.Marks.{holder_labels, marked_group, marked_groups, marked_label, marked_labels, models_marks, row_labels, touched_group};
 
 use crate::mark::Mark;
-use crate::marker::mark_models;
+use crate::marker::{IDS_END, mark_models};
 use jac_keep::{Alteration, Keeper, Stop, Work};
 use jac_lang::App;
 use jac_recall::{Labels, Touch, TouchedGroup, Whose};
 use jac_rows::{Row, Rows};
-use jac_value::{Id, Memory};
+use jac_value::{Id, Memory, Value, label_number};
 use jac_world::Label;
 use std::alloc::Global;
 
@@ -36,7 +37,13 @@ pub fn touch_of<K: Keeper>(alloc: Global, work: &mut Work<'_, K>, app: &App) -> 
 {
     let mut rows = Vec::new(alloc);
     add_altered(alloc, work.keeper, work.over.as_slice(), &mut rows)?;
-    let touch = touch_among(alloc, app, work.over.as_slice(), rows.as_slice())?;
+    let touch = touch_among(
+        alloc,
+        work.keeper,
+        app,
+        work.over.as_slice(),
+        rows.as_slice(),
+    )?;
     Ok(touch)
 }
 
@@ -49,7 +56,7 @@ fn add_altered<K: Keeper>(
 ) -> Result<(), Stop>
     requires attached { IsTrue (K.seen keeper.old).store.attached }
     ensures rows { IsTrue (K.seen keeper.new).tells → OnOk result (rows.new.items
-        ≡ rows.old.items ++ rows_altered (K.seen keeper.old).state.tables over.now) }
+        ≡ rows.old.items ++ alternatives_altered (K.seen keeper.old).state.tables over.now) }
     ensures left { IsLeft (K.seen keeper.old) (K.seen keeper.new) }
     ensures rose { IsErrOf result OfKeeper
         → Rose (K.seen keeper.old).faults (K.seen keeper.new).faults }
@@ -72,16 +79,27 @@ fn push_rows(rows: &mut Vec<Row>, more: Rows) -> Result<(), Memory>
 }
 
 // What records with these rows touch where they are replaced.
-fn touch_among(alloc: Global, app: &App, over: &[Alteration], rows: &[Row]) -> Result<Touch, Memory>
-    ensures labels { IfOk result (λ t. (k : ℕ)
-        → shown t.labels k ≡ shown (marked_labels (models_marks
+fn touch_among<K: Keeper>(
+    alloc: Global,
+    keeper: &mut K,
+    app: &App,
+    over: &[Alteration],
+    rows: &[Row],
+) -> Result<Touch, Stop>
+    requires attached { IsTrue (K.seen keeper.old).store.attached }
+    ensures labels { IsTrue (K.seen keeper.new).tells → IfOk result (λ t. (k : ℕ)
+        → shown t.labels k ≡ shown (marked_labels (K.seen keeper.old).state.tables (models_marks
         (application_of app.now).models 0 over.now rows.now (application_of app.now).models)) k) }
     ensures groups { IfOk result (λ t. t.groups.items ≡ marked_groups (models_marks
         (application_of app.now).models 0 over.now rows.now (application_of app.now).models)) }
+    ensures left { IsLeft (K.seen keeper.old) (K.seen keeper.new) }
+    ensures rose { IsErrOf result OfKeeper
+        → Rose (K.seen keeper.old).faults (K.seen keeper.new).faults }
 {
     let mut marks = Vec::new(alloc);
     mark_models(alloc, app, over, rows, &mut marks)?;
-    let labels = marked_labels(alloc, marks.as_slice())?;
+    let mut labels = Vec::new(alloc);
+    add_labels(alloc, keeper, marks.as_slice(), &mut labels)?;
     let groups = groups_in(alloc, marks.as_slice())?;
     Ok(Touch {
         labels: Labels::rising(labels),
@@ -89,27 +107,95 @@ fn touch_among(alloc: Global, app: &App, over: &[Alteration], rows: &[Row]) -> R
     })
 }
 
-fn marked_labels(alloc: Global, marks: &[Mark]) -> Result<Vec<Label>, Memory>
-    ensures { IfOk result (λ v. v.items ≡ marked_labels marks.now) }
+// Adds the labels of the marks: of records that refer to one those that do so in the keeper, which
+// aren't replaced or have marks of their own.
+fn add_labels<K: Keeper>(
+    alloc: Global,
+    keeper: &mut K,
+    marks: &[Mark],
+    labels: &mut Vec<Label>,
+) -> Result<(), Stop>
+    requires attached { IsTrue (K.seen keeper.old).store.attached }
+    ensures labels { IsTrue (K.seen keeper.new).tells → OnOk result (labels.new.items
+        ≡ labels.old.items ++ marked_labels (K.seen keeper.old).state.tables marks.now) }
+    ensures left { IsLeft (K.seen keeper.old) (K.seen keeper.new) }
+    ensures rose { IsErrOf result OfKeeper
+        → Rose (K.seen keeper.old).faults (K.seen keeper.new).faults }
 {
-    let mut labels = Vec::new(alloc);
     'marks: for mark in marks {
-        add_label(&mut labels, mark)?;
+        add_label(alloc, keeper, mark, labels)?;
     }
-    Ok(labels)
+    Ok(())
 }
 
-fn add_label(labels: &mut Vec<Label>, mark: &Mark) -> Result<(), Memory>
-    ensures { OnOk result (labels.new.items ≡ labels.old.items ++ marked_label mark.now) }
+fn add_label<K: Keeper>(
+    alloc: Global,
+    keeper: &mut K,
+    mark: &Mark,
+    labels: &mut Vec<Label>,
+) -> Result<(), Stop>
+    requires attached { IsTrue (K.seen keeper.old).store.attached }
+    ensures labels { IsTrue (K.seen keeper.new).tells → OnOk result (labels.new.items
+        ≡ labels.old.items ++ marked_label (K.seen keeper.old).state.tables mark.now) }
+    ensures left { IsLeft (K.seen keeper.old) (K.seen keeper.new) }
+    ensures rose { IsErrOf result OfKeeper
+        → Rose (K.seen keeper.old).faults (K.seen keeper.new).faults }
 {
     match mark {
         Mark::One(label) => {
             labels.push(*label)?;
             Ok(())
         }
+        Mark::Linked(model, group, field, id) => {
+            add_linked(alloc, keeper, *model, *group, *field, *id, labels)
+        }
         Mark::All(_, _) => Ok(()),
         Mark::Only(_, _, _) => Ok(()),
     }
+}
+
+// Adds the labels of a group of the records of which an alternative refers by the field to the
+// record.
+fn add_linked<K: Keeper>(
+    alloc: Global,
+    keeper: &mut K,
+    model: u8,
+    group: u8,
+    field: u8,
+    id: Id,
+    labels: &mut Vec<Label>,
+) -> Result<(), Stop>
+    requires attached { IsTrue (K.seen keeper.old).store.attached }
+    ensures labels { IsTrue (K.seen keeper.new).tells → OnOk result (labels.new.items
+        ≡ labels.old.items ++ holder_labels (K.seen keeper.old).state.tables model group field id) }
+    ensures left { IsLeft (K.seen keeper.old) (K.seen keeper.new) }
+    ensures rose { IsErrOf result OfKeeper
+        → Rose (K.seen keeper.old).faults (K.seen keeper.new).faults }
+{
+    let wanted = Value::Ref(Some(id));
+    let rows = keeper.rows_with(alloc, model, field, &wanted)?;
+    push_labels(group, rows.as_slice(), labels)?;
+    Ok(())
+}
+
+fn push_labels(group: u8, rows: &[Row], labels: &mut Vec<Label>) -> Result<(), Memory>
+    ensures { OnOk result (labels.new.items ≡ labels.old.items ++ row_labels group rows.now) }
+{
+    'rows: for row in rows {
+        push_label(row.id, group, labels)?;
+    }
+    Ok(())
+}
+
+// An id past the end has no labels, and no mark is of a group past the last one.
+fn push_label(id: Id, group: u8, labels: &mut Vec<Label>) -> Result<(), Memory>
+    ensures { OnOk result (labels.new.items ≡ labels.old.items ++ label_of id group ∷ []) }
+{
+    if IDS_END <= id.0 || 8 <= group {
+        return Err(Memory);
+    }
+    labels.push(Label(label_number(id, group)))?;
+    Ok(())
 }
 
 fn groups_in(alloc: Global, marks: &[Mark]) -> Result<Vec<TouchedGroup>, Memory>
@@ -127,6 +213,7 @@ fn add_group(groups: &mut Vec<TouchedGroup>, mark: &Mark) -> Result<(), Memory>
 {
     match mark {
         Mark::One(_) => Ok(()),
+        Mark::Linked(_, _, _, _) => Ok(()),
         Mark::All(model, group) => push_group(groups, *model, *group, None),
         Mark::Only(model, group, viewer) => push_group(groups, *model, *group, Some(*viewer)),
     }

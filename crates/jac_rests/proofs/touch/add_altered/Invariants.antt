@@ -1,5 +1,5 @@
 use Rattle.std.proofs.Common.{◌≡◌, ◌++◌, drop}
-use Rattle.jac_rests.specs.Altered.{rows_altered}
+use Rattle.jac_rests.specs.Altered.{alternatives_altered}
 use Rattle.jac_rests.proofs.Gathering.{ReadSoFar}
 use Rattle.jac_rests.proofs.touch.add_altered.Given as goal
 
@@ -7,4 +7,4 @@ abbrev pub invariant-over : goal.invariant-over
 invariant-over g l =
     let k = g.K.Keeper in
     ReadSoFar (k.seen l.fn.keeper) (k.seen l.keeper)
-    (l.rows.items ++ rows_altered (k.seen l.fn.keeper).state.tables (drop l.alteration-index l.over) ≡ l.fn.rows.items ++ rows_altered (k.seen l.fn.keeper).state.tables l.over)
+    (l.rows.items ++ alternatives_altered (k.seen l.fn.keeper).state.tables (drop l.alteration-index l.over) ≡ l.fn.rows.items ++ alternatives_altered (k.seen l.fn.keeper).state.tables l.over)
