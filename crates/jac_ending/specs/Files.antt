@@ -62,6 +62,12 @@ pub record HasApplication (seen : Sight) (command : Command) (app : Application)
   pub read : IsRead seen command roles.App bytes
   pub spelled : IsApplication bytes app
 
+-- the same of the file of this name
+pub record IsSpelledIn (files : Span FilesSeen) (name : List ℕ) (app : Application) : Type 0 where
+  pub bytes : List ℕ
+  pub read : IsReadAs files name roles.App bytes
+  pub spelled : IsApplication bytes app
+
 -- the file of the application that a store is brought to was read, and spells this application
 pub record HasNext (seen : Sight) (command : Command) (app : Application) : Type 0 where
   pub bytes : List ℕ
@@ -135,6 +141,12 @@ abbrev pub IsUnopened : List ℕ → Ending → Type 0
 IsUnopened bytes ending =
     ((line : List ℕ) × (ending ≡ endings.AppRefused line) × IsRefusedBy bytes line)
     ⊎ (ending ≡ endings.Memory)
+
+-- why the file of this name gave none
+abbrev pub IsAppless : Span FilesSeen → List ℕ → Ending → Type 0
+IsAppless files name ending =
+    IsUnread files name roles.App ending
+    ⊎ ((bytes : List ℕ) × IsReadAs files name roles.App bytes × IsUnopened bytes ending)
 
 -- an ending of the opening, where it is that of the application that a store is brought to
 abbrev pub of_next : Ending → Ending

@@ -3,3 +3,4 @@ pub mod Ending
 pub mod Files
 pub mod Attached
 pub mod Early
+pub mod Outset

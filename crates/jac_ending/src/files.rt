@@ -7,7 +7,7 @@ ghost use Rattle.jac_opening.specs.Application.{IsApplication};
 ghost use Rattle.jac_opening.specs.Refusal.{refusal_text};
 ghost use Rattle.jac_serving.specs.Outside.{span};
 ghost use Rattle.jac_words.specs.Commands.{limit_of};
-ghost use Rattle.jac_ending.specs.Files.{HasSessions, IsUnread, IsUnopened, IsNextUnopened, IsUnlisted, IsSessionless, of_next};
+ghost use Rattle.jac_ending.specs.Files.{HasSessions, IsAppless, IsSpelledIn, IsUnread, IsUnopened, IsNextUnopened, IsUnlisted, IsSessionless, of_next};
 
 use crate::ending::{Ending, limit};
 use jac_io::{FileFault, Files};
@@ -51,6 +51,25 @@ pub fn open_app(alloc: Global, bytes: &[u8]) -> Result<Service, Ending>
         }
         Err(refusal) => Err(refused(alloc, &refusal)),
     }
+}
+
+/// The application of the file of this name.
+pub fn read_app<F: Files>(alloc: Global, files: &mut F, name: &Txt) -> Result<Service, Ending>
+    ensures lasts { FilesLast (F.seen files.old) (F.seen files.new) }
+    ensures spelled { IfOk result (λ service. IsSpelledIn
+        (span (F.seen files.old) (F.seen files.new)) name.now (application_of service)) }
+    ensures appless { IfErr result (IsAppless (span (F.seen files.old) (F.seen files.new))
+        name.now) }
+{
+    let bytes = match read_file(alloc, files, name, Role::App) {
+        Ok(bytes) => bytes,
+        Err(ending) => return Err(ending),
+    };
+    let service = match open_app(alloc, bytes.as_slice()) {
+        Ok(service) => service,
+        Err(ending) => return Err(ending),
+    };
+    Ok(service)
 }
 
 /// The same of the application that a store is to be brought to.

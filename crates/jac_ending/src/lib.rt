@@ -5,10 +5,12 @@ mod attaching;
 mod ending;
 mod files;
 mod names;
+mod outset;
 mod status;
 
 pub use attaching::attach;
 pub use ending::{Ending, put_fault, status_of};
-pub use files::{open_app, open_next, read_file, read_sessions};
+pub use files::{open_app, open_next, read_app, read_file, read_sessions};
 pub use names::{copy_name, named};
+pub use outset::{Opened, Opening, open_store};
 pub use status::Status;
