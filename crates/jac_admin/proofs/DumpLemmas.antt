@@ -1,9 +1,9 @@
 -- The text of a store, table by table, and how the steps of a dump end.
-use Rattle.std.proofs.Common.{◌≡◌, inl, inr, ◌∙◌, ap, sym, subst, refl, ℕ, ◌+◌, Bool, true, false, if◌then◌else◌, IsTrue, Result, Ok, Err, arith, List, [], ◌∷◌, ◌++◌, append_assoc, append-nil, length, map, Option, Some, None, slice_get}
+use Rattle.std.proofs.Common.{◌≡◌, ◌≤◌, ◌⊎◌, inl, inr, ◌∙◌, ap, sym, subst, refl, ℕ, ◌+◌, Bool, true, false, if◌then◌else◌, IsTrue, Result, Ok, Err, arith, List, [], ◌∷◌, ◌++◌, append_assoc, append-nil, length, map, Option, Some, None, slice_get}
 use Rattle.std.specs.Option.{option_map}
 use Rattle.std.proofs.lemmas.Option.{slice_get-map}
-use Rattle.jac_io.specs.Seen.{SinkSeen}
-use Rattle.jac_world.specs.World.{holds}
+use Rattle.jac_io.specs.Seen.{FilesSeen, SinkSeen}
+use Rattle.jac_world.specs.World.{holds, shown}
 use Rattle.jac_lang.specs.declared.application.App.{App}
 use Rattle.jac_lang.specs.declared.schema.ModelDef.{ModelDef}
 use Rattle.jac_lang.specs.Mirror.{application_of, entities_of, entity_of}
@@ -16,11 +16,17 @@ use Rattle.jac_rows.specs.Tables.{rows_of, rows_or_none}
 use Rattle.jac_keep.specs.KeeperSeen.{KeeperSeen, Store, IsLeft}
 use Rattle.jac_ending.specs.declared.ending.Ending.{Ending}
 use Rattle.jac_ending.specs.declared.ending.Ending.TheVariants as endings
-use Rattle.jac_serving.specs.Outside.{Span, span}
+use Rattle.jac_route.specs.declared.sessions.Session.{Session}
+use Rattle.jac_words.specs.declared.words.Command.TheVariants as commands
+use Rattle.jac_words.specs.declared.words.Dumping.{Dumping}
+use Rattle.jac_serving.specs.Outside.{Span, span, sinks, WentAimed}
 use Rattle.jac_ending.specs.Attached.{AttachesAs}
-use Rattle.jac_admin.specs.Dump.{record_line, table_text, tables_text, number_line, dump_text, EndsRead, IsDumped, EndsDumping}
+use Rattle.jac_ending.specs.Ending.{Closed}
+use Rattle.jac_ending.specs.Outset.{sight_of, AreFilesRead, HasBegun, IsBarred, IsHalted, IsStoppedAiming}
+use Rattle.jac_admin.specs.Dump.{record_line, table_text, tables_text, number_line, dump_text, EndsRead, IsDumped, EndsDumping, EndsDump}
 use Rattle.jac_serving.proofs.OutsideLemmas.{Rose-widen}
 use Rattle.jac_ending.proofs.EndingLemmas.{is_attached}
+use Rattle.jac_ending.proofs.OutsetLemmas.{application_read, idle_behind, idle_with}
 
 -- the text of the tables from one on
 abbrev pub text_from : (ℕ → Bool) → List ModelDef → ℕ → KeeperSeen → List ℕ
@@ -137,3 +143,51 @@ module _ (db : Option (List ℕ)) (app : Application) (w : ℕ → Bool) (out : 
   read_ends (Err endings.DoorFault) put h = dumped (Err endings.DoorFault) put h
   read_ends (Err (endings.LineRefused lapse)) put h = dumped (Err (endings.LineRefused lapse)) put h
   read_ends (Err (endings.SessionsRefused line)) put h = dumped (Err (endings.SessionsRefused line)) put h
+
+-- a dump that was halted as it began
+module _ (files : Span FilesSeen) (out audit later : SinkSeen) (keeper : Span KeeperSeen) (dumping : Dumping) (ending : Ending) where
+  dump_barred : (app : Application) (sessions : List Session) (events : List ℕ) → AreFilesRead (commands.Dump dumping) files app sessions events
+      → IsStoppedAiming (commands.Dump dumping) (span audit later) keeper ending ⊎ IsBarred (commands.Dump dumping) app (span audit later) keeper ending
+      → WentAimed (sinks out out audit later) (EndsDump (sight_of files (span out out) (span audit later) keeper) (commands.Dump dumping) (Err ending))
+  dump_barred app sessions events read (inl stopped) = absurd stopped.aims
+  dump_barred app sessions events read (inr barred) =
+      idle_behind out audit later _ barred.aims
+      (inr (record {
+        app = app;
+        application = application_read (commands.Dump dumping) files (span out out) (span audit later) keeper app sessions events read;
+        no_audit = refl;
+        unaimed = λ told. ap (λ (s : SinkSeen). s.aims) barred.aims;
+        ends = unattached_ends dumping.db app (shown dumping.labels) (span out out) keeper ending barred.attaches;
+      }))
+
+  pub dump_halted : IsHalted (commands.Dump dumping) files (span audit later) keeper ending
+      → WentAimed (sinks out out audit later) (EndsDump (sight_of files (span out out) (span audit later) keeper) (commands.Dump dumping) (Err ending))
+  dump_halted (inl early) =
+      idle_behind out audit later _ early.uncalled
+      (inl (early.ends (span out out) (span audit later) keeper, idle_with (span audit later) keeper early.uncalled early.still))
+  dump_halted (inr behind) = dump_barred behind.app behind.sessions behind.events behind.read behind.halts
+
+-- one that began, and then read its store
+pub dump_ended : (files : Span FilesSeen) (out_before out_after audit later : SinkSeen) (before opened after : KeeperSeen) (dumping : Dumping) (w : ℕ → Bool)
+    (app : Application) (sessions : List Session) (events : List ℕ) (result : Result (Unit {0}) Ending)
+    → HasBegun (commands.Dump dumping) files (span audit later) (span before opened) app sessions events
+    → ((k : ℕ) → w k ≡ shown dumping.labels k) → IsLeft opened after → Closed (span out_before out_after) (EndsRead app w (span out_before out_after) (span opened after) result)
+    → WentAimed (sinks out_before out_after audit later) (EndsDump (sight_of files (span out_before out_after) (span audit later) (span before after)) (commands.Dump dumping) result)
+dump_ended files out_before out_after audit later before opened after dumping w app sessions events result begun same left closed =
+    let out = span out_before out_after in
+    record {
+      out = closed.put;
+      audit = [];
+      out_lasts = closed.lasts;
+      audit_later = subst (λ (s : SinkSeen). audit.faults ≤ s.faults) (sym begun.aims) (omega arith);
+      out_took = closed.took;
+      audit_took = λ told. ap (λ (s : SinkSeen). s.held) begun.aims ∙ sym (append-nil audit.held);
+      holds = inr (record {
+        app = app;
+        application = application_read (commands.Dump dumping) files out (span audit later) (span before after) app sessions events begun.read;
+        no_audit = refl;
+        unaimed = λ told. ap (λ (s : SinkSeen). s.aims) begun.aims;
+        ends = same_shown (λ (v : ℕ → Bool). EndsDumping dumping.db app v out (span before after) result closed.put) w (shown dumping.labels) same
+            (read_ends dumping.db app w out before opened after begun.attaches left result closed.put closed.holds);
+      });
+    }

@@ -1,9 +1,8 @@
 -- The lines of a `why`, and how its steps end.
-use Rattle.std.proofs.Common.{◌≡◌, ◌∙◌, ◌≤◌, ap, sym, subst, refl, arith, ℕ, zero, suc, drop, length, ◌⊎◌, ◌&&◌, inl, inr, Bool, true, IsTrue, Result, Ok, Err, Option, List, [], ◌∷◌, ◌++◌, append_assoc, append-nil}
+use Rattle.std.proofs.Common.{◌≡◌, ◌∙◌, ◌≤◌, ap, sym, subst, refl, arith, ℕ, zero, suc, drop, length, ◌⊎◌, inl, inr, Bool, true, Result, Err, Option, List, [], ◌∷◌, ◌++◌, append_assoc, append-nil}
 use Rattle.std.specs.List.{list_all}
 use Rattle.std.proofs.lemmas.Bool.{and_parts}
-use Rattle.jac_io.specs.Faults.{Rose}
-use Rattle.jac_io.specs.Seen.{SinkSeen}
+use Rattle.jac_io.specs.Seen.{FilesSeen, SinkSeen}
 use Rattle.jac_world.specs.World.{IsAscending}
 use Rattle.jac_lang.specs.Syntax.{Application, Entity}
 use Rattle.jac_rows.specs.declared.state.State.{State}
@@ -13,15 +12,18 @@ use Rattle.jac_keep.specs.KeeperSeen.{KeeperSeen, IsLeft}
 use Rattle.jac_keep.specs.Schema.{IsFit}
 use Rattle.jac_keep.proofs.SoundLaws.{sound_if_good}
 use Rattle.jac_resolve.specs.Rounds.{worlds_of, AreLive, HasSoundTables}
-use Rattle.jac_serving.specs.Outside.{Span, span}
+use Rattle.jac_route.specs.declared.sessions.Session.{Session}
+use Rattle.jac_words.specs.declared.words.Command.TheVariants as commands
+use Rattle.jac_words.specs.declared.words.Explaining.{Explaining}
+use Rattle.jac_serving.specs.Outside.{Span, span, sinks, WentAimed}
 use Rattle.jac_why.specs.declared.reasons.Explanation.{Explanation}
 use Rattle.jac_why.specs.Whys.{all_whys, is_standing}
 use Rattle.jac_why.proofs.Explaining.{all_stand}
 use Rattle.jac_ending.specs.declared.ending.Ending.{Ending}
-use Rattle.jac_ending.specs.declared.ending.Ending.TheVariants as endings
-use Rattle.jac_ending.specs.Attached.{AttachesAs}
-use Rattle.jac_admin.specs.Explain.{why_line, why_lines, whys_text, scene_with, IsExplanation, EndsExplained, IsExplained, EndsExplaining}
-use Rattle.jac_admin.specs.Upgrade.{IsUnmoved, IsKept}
+use Rattle.jac_ending.specs.Ending.{Closed}
+use Rattle.jac_ending.specs.Outset.{sight_of, AreFilesRead, HasBegun, IsBarred, IsHalted, IsStoppedAiming}
+use Rattle.jac_ending.proofs.OutsetLemmas.{application_read, idle_behind, idle_with}
+use Rattle.jac_admin.specs.Explain.{asker_of, why_line, why_lines, whys_text, scene_with, IsExplanation, EndsExplained, EndsExplain}
 
 -- a state that fits has sound tables
 pub sound_tables : (app : Application) (s : State) → IsFit (shapes_of app) s → HasSoundTables s
@@ -77,4 +79,51 @@ explained app viewer s settling asking live labels text one two up are settled l
       is_text =
           subst (λ (t : State). AreAllowed app (worlds_of t) viewer labels → text ≡ whys_text app.models labels (all_whys (scene_with app viewer t labels) live)) two lines
           settled_now.allowed;
+    }
+
+-- a `why` that was halted as it began
+module _ (files : Span FilesSeen) (out audit later : SinkSeen) (keeper : Span KeeperSeen) (explaining : Explaining) (ending : Ending) where
+  why_barred : (app : Application) (sessions : List Session) (events : List ℕ) → AreFilesRead (commands.Why explaining) files app sessions events
+      → IsStoppedAiming (commands.Why explaining) (span audit later) keeper ending ⊎ IsBarred (commands.Why explaining) app (span audit later) keeper ending
+      → WentAimed (sinks out out audit later) (EndsExplain (sight_of files (span out out) (span audit later) keeper) (commands.Why explaining) (Err ending))
+  why_barred app sessions events read (inl stopped) = absurd stopped.aims
+  why_barred app sessions events read (inr barred) =
+      idle_behind out audit later _ barred.aims
+      (inr (record {
+        app = app;
+        application = application_read (commands.Why explaining) files (span out out) (span audit later) keeper app sessions events read;
+        no_audit = refl;
+        unaimed = λ told. ap (λ (s : SinkSeen). s.aims) barred.aims;
+        ends = inl (record { ending = ending; ended = refl; attaches = barred.attaches; no_out = refl });
+      }))
+
+  pub why_halted : IsHalted (commands.Why explaining) files (span audit later) keeper ending
+      → WentAimed (sinks out out audit later) (EndsExplain (sight_of files (span out out) (span audit later) keeper) (commands.Why explaining) (Err ending))
+  why_halted (inl early) =
+      idle_behind out audit later _ early.uncalled
+      (inl (early.ends (span out out) (span audit later) keeper, idle_with (span audit later) keeper early.uncalled early.still))
+  why_halted (inr behind) = why_barred behind.app behind.sessions behind.events behind.read behind.halts
+
+-- one that began, and then asked its store
+pub why_ended : (files : Span FilesSeen) (out_before out_after audit later : SinkSeen) (before opened after : KeeperSeen) (explaining : Explaining)
+    (app : Application) (sessions : List Session) (events : List ℕ) (result : Result (Unit {0}) Ending)
+    → HasBegun (commands.Why explaining) files (span audit later) (span before opened) app sessions events → IsLeft opened after
+    → Closed (span out_before out_after) (EndsExplained app (asker_of app explaining.viewer) (span out_before out_after) (span opened after) result)
+    → WentAimed (sinks out_before out_after audit later) (EndsExplain (sight_of files (span out_before out_after) (span audit later) (span before after)) (commands.Why explaining) result)
+why_ended files out_before out_after audit later before opened after explaining app sessions events result begun left closed =
+    let out = span out_before out_after in
+    record {
+      out = closed.put;
+      audit = [];
+      out_lasts = closed.lasts;
+      audit_later = subst (λ (s : SinkSeen). audit.faults ≤ s.faults) (sym begun.aims) (omega arith);
+      out_took = closed.took;
+      audit_took = λ told. ap (λ (s : SinkSeen). s.held) begun.aims ∙ sym (append-nil audit.held);
+      holds = inr (record {
+        app = app;
+        application = application_read (commands.Why explaining) files out (span audit later) (span before after) app sessions events begun.read;
+        no_audit = refl;
+        unaimed = λ told. ap (λ (s : SinkSeen). s.aims) begun.aims;
+        ends = inr (record { opened = opened; attached = begun.attaches; left = left; ends = closed.holds });
+      });
     }

@@ -1,5 +1,5 @@
 -- How the steps of a `why` end.
-use Rattle.std.specs.Prelude.{◌≡◌, ◌⊎◌, ℕ, IsTrue, Result, Ok, Err, Option, Some, None, List, [], ◌∷◌, ◌++◌, slice_get, codes, decimal}
+use Rattle.std.specs.Prelude.{◌≡◌, ◌⊎◌, ℕ, IsTrue, Result, Ok, Option, None, List, [], ◌∷◌, ◌++◌, slice_get, codes, decimal}
 use Rattle.std.specs.Option.{option_and_then}
 use Rattle.jac_io.specs.Seen.{SinkSeen}
 use Rattle.jac_value.specs.Ids.{record_of_label}

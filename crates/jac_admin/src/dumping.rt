@@ -1,32 +1,28 @@
 //! The tables of a store, as they look where some labels are shown.
 ghost use Rattle.std.specs.Prelude.{◌≡◌, ◌≤◌, ◌+◌, ◌++◌, [], length, map, if◌then◌else◌, IfOk, OnOk, IsErrOf, IsTrue, codes, false};
-ghost use Rattle.std.specs.Option.{option_copied};
 ghost use Rattle.jac_io.specs.Faults.{Rose};
 ghost use Rattle.jac_world.specs.World.{shown, holds};
 ghost use Rattle.jac_lang.specs.Mirror.{application_of, entities_of, entity_of};
-ghost use Rattle.jac_plain.specs.Models.{shapes_of};
 ghost use Rattle.jac_rows.specs.Project.{rows_at, project_at};
 ghost use Rattle.jac_rows.specs.Tables.{rows_of};
-ghost use Rattle.jac_keep.specs.Schema.{IsSchema};
 ghost use Rattle.jac_keep.specs.KeeperSeen.{IsLeft};
 ghost use Rattle.jac_keep.specs.declared.stop.Stop.TheVariants.{Keeper as Failing};
 ghost use Rattle.jac_words.specs.declared.words.Command.TheVariants as commands;
 ghost use Rattle.jac_serving.specs.Outside.{WentAimed, span, sinks};
 ghost use Rattle.jac_ending.specs.Files.{sight};
 ghost use Rattle.jac_ending.specs.Ending.{Closed};
-ghost use Rattle.jac_opening.specs.Application.{schema_text};
-ghost use Rattle.jac_admin.specs.Dump.{cell_text, cells_text, record_line, table_text, tables_text, number_line, dump_text, EndsRead, EndsDumping, EndsDump};
+ghost use Rattle.jac_admin.specs.Dump.{cell_text, cells_text, record_line, table_text, tables_text, number_line, dump_text, EndsRead, EndsDump};
 
 use itoa::Buffer;
-use jac_ending::{Ending, attach, named, open_app, read_file};
+use jac_ending::{Ending, Opening, open_store};
 use jac_io::{AuditSink, Failed, Files, Sink};
 use jac_keep::{Stop, Vault};
 use jac_lang::{App, Field, ModelDef};
 use jac_opening::Service;
 use jac_rows::Row;
 use jac_serving::put;
-use jac_value::{Bytes, Memory, Txt, Value, escape_line};
-use jac_words::{Dumping, Role};
+use jac_value::{Bytes, Memory, Value, escape_line};
+use jac_words::Dumping;
 use jac_world::Assignment;
 use std::alloc::Global;
 
@@ -47,55 +43,15 @@ pub fn dump<F: Files, O: Sink, U: AuditSink, K: Vault>(
         (U.seen audit.old) (U.seen audit.new) (K.seen vault.old) (K.seen vault.new))
         (commands.Dump command.now) result) }
 {
-    let bytes = match read_file(alloc, files, &command.app, Role::App) {
-        Ok(bytes) => bytes,
-        Err(ending) => return Err(ending),
-    };
-    let service = match open_app(alloc, bytes.as_slice()) {
-        Ok(service) => service,
-        Err(ending) => return Err(ending),
-    };
-    let schema = match service.schema(alloc) {
-        Ok(schema) => schema,
-        Err(Memory) => return Err(Ending::Memory),
-    };
     let assignment = match command.labels.assignment(alloc) {
         Ok(assignment) => assignment,
         Err(Memory) => return Err(Ending::Memory),
     };
-    dump_store(
-        alloc,
-        &service,
-        named(&command.db),
-        schema,
-        &assignment,
-        out,
-        vault,
-    )
-}
-
-// Attaches the store, and puts its text.
-fn dump_store<O: Sink, K: Vault>(
-    alloc: Global,
-    service: &Service,
-    db: Option<&Txt>,
-    schema: Txt,
-    assignment: &Assignment,
-    out: &mut O,
-    vault: &mut K,
-) -> Result<(), Ending>
-    requires first { (K.seen vault.old).store.called ≡ false }
-    requires own { schema ≡ schema_text (application_of service.now) }
-    requires schema { IsSchema schema (shapes_of (application_of service.now)) }
-    ensures { Closed (span (O.seen out.old) (O.seen out.new))
-        (EndsDumping (option_copied db.entry) (application_of service.now) (shown assignment.now)
-        (span (O.seen out.old) (O.seen out.new)) (span (K.seen vault.old) (K.seen vault.new))
-        result) }
-{
-    match attach(alloc, service, db, schema, vault) {
-        Ok(()) => dump_attached(alloc, service, assignment, out, vault),
-        Err(ending) => Err(ending),
-    }
+    let opened = match open_store(alloc, Opening::Dump(command), files, audit, vault) {
+        Ok(opened) => opened,
+        Err(ending) => return Err(ending),
+    };
+    dump_attached(alloc, &opened.service, &assignment, out, vault)
 }
 
 // Reads the store, and puts its text.

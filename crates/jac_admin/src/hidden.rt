@@ -16,20 +16,19 @@ ghost use Rattle.jac_why.specs.Scene.{scene_on};
 ghost use Rattle.jac_why.specs.Whys.{all_whys, is_standing};
 ghost use Rattle.jac_ending.specs.Files.{sight};
 ghost use Rattle.jac_ending.specs.Ending.{Closed};
-ghost use Rattle.jac_admin.specs.Explain.{asker_of, shown_line, reason_text, why_line, why_lines, whys_text, scene_with, IsExplanation, EndsExplained, EndsExplaining, EndsExplain};
+ghost use Rattle.jac_admin.specs.Explain.{asker_of, shown_line, reason_text, why_line, why_lines, whys_text, scene_with, IsExplanation, EndsExplained, EndsExplain};
 
 use itoa::Buffer;
-use jac_ending::{Ending, attach, named, open_app, read_file};
+use jac_ending::{Ending, Opening, open_store};
 use jac_io::{AuditSink, Failed, Files, Sink};
 use jac_keep::{Keeper, Stop, Vault, Work};
 use jac_lang::{App, ModelDef};
-use jac_opening::Service;
 use jac_resolve::{live_labels, resolve};
 use jac_route::viewer_id;
 use jac_serving::put;
 use jac_value::{Bytes, Id, Memory};
 use jac_why::{Explanation, Reason, Scene, check_reason, whys};
-use jac_words::{Explaining, Role};
+use jac_words::Explaining;
 use jac_world::{Assignment, Label, Steps};
 use std::alloc::Global;
 use std::sync::ledger::Ledger;
@@ -54,50 +53,18 @@ pub fn explain<F: Files, O: Sink, U: AuditSink, K: Vault, M: Ledger>(
         (U.seen audit.old) (U.seen audit.new) (K.seen vault.old) (K.seen vault.new))
         (commands.Why command.now) result) }
 {
-    let bytes = match read_file(alloc, files, &command.app, Role::App) {
-        Ok(bytes) => bytes,
+    let opened = match open_store(alloc, Opening::Why(command), files, audit, vault) {
+        Ok(opened) => opened,
         Err(ending) => return Err(ending),
     };
-    let service = match open_app(alloc, bytes.as_slice()) {
-        Ok(service) => service,
-        Err(ending) => return Err(ending),
-    };
-    explain_store(alloc, &service, command, out, vault, evaluations)
-}
-
-// Attaches the store, and puts the lines.
-fn explain_store<O: Sink, K: Vault, M: Ledger>(
-    alloc: Global,
-    service: &Service,
-    command: &Explaining,
-    out: &mut O,
-    vault: &mut K,
-    evaluations: &mut Steps<M>,
-) -> Result<(), Ending>
-    requires first { (K.seen vault.old).store.called ≡ false }
-    ensures { Closed (span (O.seen out.old) (O.seen out.new))
-        (EndsExplaining command.now.db (application_of service.now)
-        (asker_of (application_of service.now) command.now.viewer)
-        (span (O.seen out.old) (O.seen out.new)) (span (K.seen vault.old) (K.seen vault.new))
-        result) }
-{
-    let schema = match service.schema(alloc) {
-        Ok(schema) => schema,
-        Err(Memory) => return Err(Ending::Memory),
-    };
-    match attach(alloc, service, named(&command.db), schema, vault) {
-        Ok(()) => {
-            explain_attached(
-                alloc,
-                service.app(),
-                command.viewer,
-                out,
-                vault,
-                evaluations,
-            )
-        }
-        Err(ending) => Err(ending),
-    }
+    explain_attached(
+        alloc,
+        opened.service.app(),
+        command.viewer,
+        out,
+        vault,
+        evaluations,
+    )
 }
 
 // Who asks: nobody, where the number is no id of the viewer's model.

@@ -18,7 +18,7 @@ ghost use Rattle.jac_ending.specs.Ending.{Closed};
 ghost use Rattle.jac_admin.specs.Upgrade.{lack_line, upgraded_line, IsUpgraded, EndsReshaping, EndsMoving, EndsUpgrading, EndsUpgrade};
 
 use itoa::Buffer;
-use jac_ending::{Ending, attach, open_app, open_next, read_file};
+use jac_ending::{Ending, attach, open_next, read_app, read_file};
 use jac_io::{AuditSink, Failed, Files, Sink};
 use jac_keep::{Stop, Vault};
 use jac_lang::{App, Field, ModelDef};
@@ -50,11 +50,7 @@ pub fn upgrade<F: Files, O: Sink, U: AuditSink, K: Vault, L: Ledger>(
         (U.seen audit.old) (U.seen audit.new) (K.seen vault.old) (K.seen vault.new))
         (commands.Upgrade command.now) result) }
 {
-    let bytes = match read_file(alloc, files, &command.app, Role::App) {
-        Ok(bytes) => bytes,
-        Err(ending) => return Err(ending),
-    };
-    let old = match open_app(alloc, bytes.as_slice()) {
+    let old = match read_app(alloc, files, &command.app) {
         Ok(service) => service,
         Err(ending) => return Err(ending),
     };

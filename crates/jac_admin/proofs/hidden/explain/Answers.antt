@@ -1,67 +1,30 @@
-use Rattle.std.proofs.Common.{refl, inl, inr, [], arith}
 use Rattle.jac_lang.specs.Mirror.{application_of}
-use Rattle.jac_words.specs.declared.role.Role.TheVariants as roles
-use Rattle.jac_words.specs.declared.words.Command.TheVariants as commands
 use Rattle.jac_serving.specs.Outside.{span}
-use Rattle.jac_ending.specs.Files.{sight}
-use Rattle.jac_serving.proofs.OutsideLemmas.{Took-none}
-use Rattle.jac_ending.proofs.EndingLemmas.{unread_ends, unopened_ends, idle_ends, still_idle}
+use Rattle.jac_admin.proofs.ExplainLemmas.{sound_tables, why_ended, why_halted}
 use Rattle.jac_admin.proofs.hidden.explain.Goals as goal
 
 pub returns-in-Err : goal.returns-in-Err
 returns-in-Err g c =
     let F = g.F.Files in
-    let command = commands.Why c.args.command.now in
-    let out = g.O.Sink.seen c.args.out.now in
-    let audit = g.U.Sink.seen c.args.audit.now in
-    let k = g.K.Keeper.seen c.args.vault.now in
-    let files = F.seen c.args.files.now in
-    let later = F.seen c.read_file.new.files in
-    idle_ends out audit _
-    (inl (
-      unread_ends (sight files later out out audit audit k k) command roles.App (span files later) c.in-Err.ending tt
-          (record { earlier = omega arith; later = omega arith; told = λ told. told; same_file = λ told. refl })
-          c.in-Err.ensures.unread,
-      still_idle audit k,
-    ))
+    let U = g.U.Sink in
+    let K = g.K.Keeper in
+    why_halted (span (F.seen c.args.files.now) (F.seen c.open_store.new.files)) (g.O.Sink.seen c.args.out.now) (U.seen c.args.audit.now) (U.seen c.open_store.new.audit)
+    (span (K.seen c.args.vault.now) (K.seen c.open_store.new.vault)) c.args.command.now c.in-Err.ending c.in-Err.ensures
 
-pub returns-in-Err-open_app : goal.returns-in-Err-open_app
-returns-in-Err-open_app g c =
-    let F = g.F.Files in
-    let command = commands.Why c.args.command.now in
-    let out = g.O.Sink.seen c.args.out.now in
-    let audit = g.U.Sink.seen c.args.audit.now in
-    let k = g.K.Keeper.seen c.args.vault.now in
-    let files = F.seen c.args.files.now in
-    let later = F.seen c.read_file.new.files in
-    idle_ends out audit _
-    (inl (
-      unopened_ends (sight files later out out audit audit k k) command c.in-Ok.bytes c.in-Err-open_app.ending
-          (record { short = c.in-Ok.ensures.short; told = c.in-Ok.ensures.told })
-          (rw c.as_slice.ensures at c.in-Err-open_app.ensures.unopened),
-      still_idle audit k,
-    ))
+pub explain_attached-requires-clause-attached : goal.explain_attached-requires-clause-attached
+explain_attached-requires-clause-attached g c = c.in-Ok.ensures.attaches.0.ok.attached
+
+pub explain_attached-requires-clause-sound : goal.explain_attached-requires-clause-sound
+explain_attached-requires-clause-sound g c told = sound_tables (application_of c.in-Ok.opened.service) (g.K.Keeper.seen c.open_store.new.vault).state (c.in-Ok.ensures.attaches.1 told)
 
 pub returns : goal.returns
 returns g c =
-    let audit = g.U.Sink.seen c.args.audit.now in
-    let explained = c.explain_store.ensures in
-    record {
-      out = explained.put;
-      audit = [];
-      out_lasts = explained.lasts;
-      audit_later = omega arith;
-      out_took = explained.took;
-      audit_took = Took-none audit;
-      holds = inr (record {
-        app = application_of c.in-Ok-open_app.service;
-        application = record {
-          bytes = c.in-Ok.bytes;
-          read = record { short = c.in-Ok.ensures.short; told = c.in-Ok.ensures.told };
-          spelled = rw c.as_slice.ensures at c.in-Ok-open_app.ensures.opened;
-        };
-        no_audit = refl;
-        unaimed = λ told. refl;
-        ends = explained.holds;
-      });
-    }
+    let F = g.F.Files in
+    let O = g.O.Sink in
+    let U = g.U.Sink in
+    let K = g.K.Keeper in
+    let opened = c.in-Ok.opened in
+    why_ended (span (F.seen c.args.files.now) (F.seen c.open_store.new.files)) (O.seen c.args.out.now) (O.seen c.explain_attached.new.out) (U.seen c.args.audit.now) (U.seen c.open_store.new.audit)
+    (K.seen c.args.vault.now) (K.seen c.open_store.new.vault) (K.seen c.explain_attached.new.vault) c.args.command.now
+    (application_of opened.service) opened.sessions opened.events c.explain_attached.result
+    c.in-Ok.ensures c.explain_attached.ensures.left (rw c.app.ensures.app at c.explain_attached.ensures.ends)

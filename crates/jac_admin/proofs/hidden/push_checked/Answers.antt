@@ -1,11 +1,10 @@
-use Rattle.std.proofs.Common.{◌≡◌, ◌++◌, ◌+◌, ◌≤◌, true, drop, length, refl, sym, subst, rules}
+use Rattle.std.proofs.Common.{◌≡◌, ◌+◌, ◌≤◌, true, drop, length, refl, sym, subst, rules}
 use Rattle.jac_lang.specs.Mirror.{application_of}
 use Rattle.jac_rows.specs.declared.state.State.{State}
 use Rattle.jac_keep.specs.Worked.{state_of}
 use Rattle.jac_pruned.proofs.Working.{next}
 use Rattle.jac_why.specs.Scene.{scene_on}
 use Rattle.jac_why.specs.Whys.{is_standing}
-use Rattle.jac_admin.specs.Explain.{why_line, why_lines}
 use Rattle.jac_admin.proofs.ExplainLemmas.{lines_end, lines_on, standing_parts, none_behind}
 use Rattle.jac_admin.proofs.hidden.push_checked.Goals as goal
 
