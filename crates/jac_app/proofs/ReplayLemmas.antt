@@ -1,11 +1,13 @@
 -- How the steps of a replay end.
-use Rattle.std.proofs.Common.{◌≡◌, ◌∙◌, sym, subst, refl, Bool, ℕ, inl, inr, Result, Ok, Err, List, [], append-nil}
-use Rattle.jac_io.specs.Seen.{SinkSeen, Aims}
+use Rattle.std.proofs.Common.{◌≡◌, ◌∙◌, ◌≤◌, ◌<◌, ◌^◌, ◌⊎◌, sym, subst, refl, Bool, ℕ, inl, inr, Result, Ok, Err, List, [], append-nil, length, arith}
+use Rattle.jac_io.specs.Seen.{FilesSeen, SinkSeen, Aims}
 use Rattle.jac_io.specs.declared.sink.Failed.{Failed}
 use Rattle.jac_lang.specs.Syntax.{Application}
 use Rattle.jac_keep.specs.KeeperSeen.{KeeperSeen}
 use Rattle.jac_route.specs.declared.sessions.Session.{Session}
 use Rattle.jac_words.specs.declared.words.Command.{Command}
+use Rattle.jac_words.specs.declared.words.Command.TheVariants as commands
+use Rattle.jac_words.specs.declared.words.Replay.{Replay}
 use Rattle.jac_ending.specs.declared.ending.Ending.{Ending}
 use Rattle.jac_ending.specs.declared.ending.Ending.TheVariants as endings
 use Rattle.jac_serving.specs.declared.serve.Stopped.{Stopped}
@@ -13,18 +15,21 @@ use Rattle.jac_serving.specs.declared.serve.Stopped.TheVariants as stops
 use Rattle.jac_serving.specs.Script.{Script, script_of}
 use Rattle.jac_desk.specs.Answered.{answering_of}
 use Rattle.jac_serving.specs.Keeping.{Holding, holding_of, keepers}
-use Rattle.jac_serving.specs.Outside.{Span, span, Sinks, sinks, WentAimed}
+use Rattle.jac_serving.specs.Outside.{Span, span, Sinks, sinks, WentAimed, WentWith}
 use Rattle.jac_serving.specs.Answering.{Answering}
 use Rattle.jac_serving.specs.Serve.{ServesAs}
 use Rattle.jac_words.specs.Commands.{audit_of, db_of, lazy_of}
 use Rattle.jac_ending.specs.Files.{Sight, sinks_of, IsOpened, IsAimed}
 use Rattle.jac_ending.specs.Ending.{ending_of}
 use Rattle.jac_ending.specs.Attached.{AttachesAs}
+use Rattle.jac_ending.specs.Early.{IsEndedEarly}
+use Rattle.jac_ending.specs.Outset.{sight_of, AreFilesRead, EndsAim, HasBegun, IsBarred, IsHalted, IsStoppedAiming}
 use Rattle.jac_app.specs.Held.{held_of}
 use Rattle.jac_app.specs.Replay.{EndsServed, IsServedOn, EndsAttaching, EndsServing, EndsReplay}
-use Rattle.jac_serving.proofs.OutsideLemmas.{Lasts-none, Took-none, FailsWithin}
+use Rattle.jac_serving.proofs.OutsideLemmas.{Lasts-none, Took-none, FailsWithin, fails_behind, Went-none}
 use Rattle.jac_serving.proofs.ProgressLemmas.{puts_torn_within}
-use Rattle.jac_ending.proofs.EndingLemmas.{is_attached}
+use Rattle.jac_ending.proofs.EndingLemmas.{is_attached, went_aimed, WentAimed-on}
+use Rattle.jac_ending.proofs.OutsetLemmas.{application_read, ended_early, idle_behind, memory_early}
 
 -- a store that wasn't attached ends them
 pub attach_ends : (command : Command) (app : Application) (sessions : List Session) (k : Span Holding) (script : Script) (ending : Ending) (s : Sinks)
@@ -55,15 +60,29 @@ module _ (command : Command) (app : Application) (sessions : List Session) (befo
     ends = subst (λ (is : Bool). EndsServed (answering_of is app sessions) (span (holding_of opened splits) after) (script_of events) result s o a) same ends;
   }
 
-  pub serve_whole : (done : Unit {0}) (s : Sinks) (o a : List ℕ) → ServesAs (answering_of lazy app sessions) (span (holding_of opened splits) after) events (Ok done) s o a
-      → EndsAttaching command app sessions (span (holding_of before splits) after) (script_of events) (Ok done) s o a
-  serve_whole done s o a h = on (Ok done) s o a h
+  pub served_on : (result : Result (Unit {0}) Ending) (s : Sinks) (o a : List ℕ)
+      → EndsServed (answering_of lazy app sessions) (span (holding_of opened splits) after) (script_of events) result s o a
+      → EndsAttaching command app sessions (span (holding_of before splits) after) (script_of events) result s o a
+  served_on (Ok done) s o a h = on (Ok done) s o a h
+  served_on (Err (endings.LineRefused lapse)) s o a h = on (Err (endings.LineRefused lapse)) s o a h
+  served_on (Err endings.WriteFault) s o a h = on (Err endings.WriteFault) s o a h
+  served_on (Err endings.Memory) s o a h = inr (on (Err endings.Memory) s o a h)
+  served_on (Err endings.DoorFault) s o a h = absurd h
+  served_on (Err endings.StoreFault) s o a h = absurd h
+  served_on (Err (endings.OtherStore stored wanted)) s o a h = absurd h
+  served_on (Err (endings.ReadFault role)) s o a h = absurd h
+  served_on (Err (endings.TooLong role)) s o a h = absurd h
+  served_on (Err (endings.AppRefused text)) s o a h = absurd h
+  served_on (Err (endings.NewRefused text)) s o a h = absurd h
+  served_on (Err (endings.UpgradeRefused text)) s o a h = absurd h
+  served_on (Err (endings.SessionsRefused n)) s o a h = absurd h
 
-  pub serve_stopped : (stopped : Stopped) (s : Sinks) (o a : List ℕ) → ServesAs (answering_of lazy app sessions) (span (holding_of opened splits) after) events (Err stopped) s o a
-      → EndsAttaching command app sessions (span (holding_of before splits) after) (script_of events) (Err (ending_of stopped)) s o a
-  serve_stopped (stops.Refused lapse) s o a h = on (Err (endings.LineRefused lapse)) s o a h
-  serve_stopped stops.Write s o a h = on (Err endings.WriteFault) s o a h
-  serve_stopped stops.Memory s o a h = inr (on (Err endings.Memory) s o a h)
+-- serving them stopped
+pub served_stopped : (x : Answering) (k : Span Holding) (events : List ℕ) (stopped : Stopped) (s : Sinks) (o a : List ℕ)
+    → ServesAs x k events (Err stopped) s o a → EndsServed x k (script_of events) (Err (ending_of stopped)) s o a
+served_stopped x k events (stops.Refused lapse) s o a h = h
+served_stopped x k events stops.Write s o a h = h
+served_stopped x k events stops.Memory s o a h = h
 
 -- the last steps end a replay
 pub served_ends : (seen : Sight) (splits : Span ℕ) (command : Command) (app : Application) (sessions : List Session) (events out audit : List ℕ) (result : Result (Unit {0}) Ending)
@@ -132,3 +151,91 @@ aim_failed out audit_before audit_after command failed app sessions k script aim
   audit_took = λ told. aims.same_held told ∙ sym (append-nil audit_before.held);
   holds = inl (aims.rose, record { idle = record { no_out = refl; no_audit = refl; unaimed = aims.err; still = refl }; unsplit = refl });
 }
+
+-- the files of a replay were read
+pub replay_opened : (files : Span FilesSeen) (out audit : Span SinkSeen) (keeper : Span KeeperSeen) (replay : Replay) (app : Application) (sessions : List Session) (events : List ℕ)
+    → AreFilesRead (commands.Replay replay) files app sessions events → IsOpened (sight_of files out audit keeper) (commands.Replay replay) app sessions events
+replay_opened files out audit keeper replay app sessions events read = record {
+  application = application_read (commands.Replay replay) files out audit keeper app sessions events read;
+  sessions_had = read.sessions_had;
+  events_read = read.events_had;
+}
+
+-- so there are few events
+pub few_events : (files : Span FilesSeen) (replay : Replay) (app : Application) (sessions : List Session) (events : List ℕ)
+    → AreFilesRead (commands.Replay replay) files app sessions events → length events < 2 ^ 32
+few_events files replay app sessions events read =
+    let short : length events ≤ 16777216 = read.events_had.short in
+    omega (arith, short)
+
+-- a replay that was halted as it began
+module _ (files : Span FilesSeen) (out audit later : SinkSeen) (before after : KeeperSeen) (splits : ℕ) (replay : Replay) where
+  replay_idle : (ending : Ending) → IsEndedEarly (sight_of files (span out out) (span audit later) (span before after)) (commands.Replay replay) (Err ending) [] [] → later ≡ audit
+      → WentAimed (sinks out out audit later) (EndsReplay (sight_of files (span out out) (span audit later) (span before after)) (span splits splits) (commands.Replay replay) (Err ending))
+  replay_idle ending early uncalled = idle_behind out audit later _ uncalled (inl (early, refl))
+
+  module _ (app : Application) (sessions : List Session) (events : List ℕ) (read : AreFilesRead (commands.Replay replay) files app sessions events) where
+    replay_unaimed : (failed : Failed) → Aims audit later replay.audit (Err failed)
+        → WentAimed (sinks out out audit later) (EndsReplay (sight_of files (span out out) (span audit later) (span before before)) (span splits splits) (commands.Replay replay) (Err endings.WriteFault))
+    replay_unaimed failed aims =
+        let seen = sight_of files (span out out) (span audit later) (span before before) in
+        WentAimed-on (sinks out out audit later) _ _
+        (λ o a h.
+        served_ends seen (span splits splits) (commands.Replay replay) app sessions events o a (Err endings.WriteFault)
+        (replay_opened files (span out out) (span audit later) (span before before) replay app sessions events read) h)
+        (aim_failed out audit later (commands.Replay replay) failed app sessions (holding_of before splits) (script_of events) aims)
+
+    replay_barred : (ending : Ending) → Aims audit later replay.audit (Ok tt) → AttachesAs replay.db app (span before after) (Err ending)
+        → WentAimed (sinks out out audit later) (EndsReplay (sight_of files (span out out) (span audit later) (span before after)) (span splits splits) (commands.Replay replay) (Err ending))
+    replay_barred ending aims attaches =
+        let command = commands.Replay replay in
+        let seen = sight_of files (span out out) (span audit later) (span before after) in
+        let k = span (holding_of before splits) (holding_of after splits) in
+        went_aimed out out audit later later replay.audit tt aims _ _
+        (λ is_aimed o a h.
+        served_ends seen (span splits splits) command app sessions events o a (Err ending)
+        (replay_opened files (span out out) (span audit later) (span before after) replay app sessions events read)
+        (serving_behind (sinks out out audit later) (sinks out out later later) command app sessions k (script_of events) (Err ending) o a
+        (fails_behind out out out audit later later (omega arith) aims.later) is_aimed h))
+        (Went-none out later (EndsAttaching command app sessions k (script_of events) (Err ending) (sinks out out later later))
+        (attach_ends command app sessions k (script_of events) ending (sinks out out later later) attaches refl))
+
+    replay_stopped : (ending : Ending) → after ≡ before → EndsAim replay.audit (span audit later) (Err ending)
+        → WentAimed (sinks out out audit later) (EndsReplay (sight_of files (span out out) (span audit later) (span before after)) (span splits splits) (commands.Replay replay) (Err ending))
+    replay_stopped ending still (inl (failed, is, aims)) =
+        subst (λ (e : Ending). WentAimed (sinks out out audit later) (EndsReplay (sight_of files (span out out) (span audit later) (span before after)) (span splits splits) (commands.Replay replay) (Err e))) (sym is)
+        (subst (λ (k : KeeperSeen). WentAimed (sinks out out audit later) (EndsReplay (sight_of files (span out out) (span audit later) (span before k)) (span splits splits) (commands.Replay replay) (Err endings.WriteFault))) (sym still)
+        (replay_unaimed failed aims))
+    replay_stopped ending still (inr (is, uncalled)) =
+        subst (λ (e : Ending). WentAimed (sinks out out audit later) (EndsReplay (sight_of files (span out out) (span audit later) (span before after)) (span splits splits) (commands.Replay replay) (Err e))) (sym is)
+        (replay_idle endings.Memory (memory_early (commands.Replay replay) files (span out out) (span audit later) (span before after) uncalled still) uncalled)
+
+    replay_behind : (ending : Ending) → IsStoppedAiming (commands.Replay replay) (span audit later) (span before after) ending ⊎ IsBarred (commands.Replay replay) app (span audit later) (span before after) ending
+        → WentAimed (sinks out out audit later) (EndsReplay (sight_of files (span out out) (span audit later) (span before after)) (span splits splits) (commands.Replay replay) (Err ending))
+    replay_behind ending (inr barred) = replay_barred ending barred.aims barred.attaches
+    replay_behind ending (inl stopped) = replay_stopped ending stopped.still stopped.aims
+
+  pub replay_halted : (ending : Ending) → IsHalted (commands.Replay replay) files (span audit later) (span before after) ending
+      → WentAimed (sinks out out audit later) (EndsReplay (sight_of files (span out out) (span audit later) (span before after)) (span splits splits) (commands.Replay replay) (Err ending))
+  replay_halted ending (inl early) = replay_idle ending (ended_early (commands.Replay replay) files (span out out) (span audit later) (span before after) ending early) early.uncalled
+  replay_halted ending (inr behind) = replay_behind behind.app behind.sessions behind.events behind.read ending behind.halts
+
+-- one that began, and then served its events
+pub replay_served : (files : Span FilesSeen) (out_before out_after audit aimed later : SinkSeen) (before opened after : KeeperSeen) (splits more : ℕ) (replay : Replay)
+    (app : Application) (sessions : List Session) (events : List ℕ) (result : Result (Unit {0}) Ending)
+    → HasBegun (commands.Replay replay) files (span audit aimed) (span before opened) app sessions events → after.store ≡ opened.store
+    → WentWith (sinks out_before out_after aimed later) (EndsServed (answering_of replay.lazy app sessions) (span (holding_of opened splits) (holding_of after more)) (script_of events) result)
+    → WentAimed (sinks out_before out_after audit later)
+    (EndsReplay (sight_of files (span out_before out_after) (span audit later) (span before after)) (span splits more) (commands.Replay replay) result)
+replay_served files out_before out_after audit aimed later before opened after splits more replay app sessions events result begun stays went =
+    let command = commands.Replay replay in
+    let seen = sight_of files (span out_before out_after) (span audit later) (span before after) in
+    let k = span (holding_of before splits) (holding_of after more) in
+    went_aimed out_before out_after audit aimed later replay.audit tt begun.aims _ _
+    (λ is_aimed o a h.
+    served_ends seen (span splits more) command app sessions events o a result
+    (replay_opened files (span out_before out_after) (span audit later) (span before after) replay app sessions events begun.read)
+    (serving_behind (sinks out_before out_after audit later) (sinks out_before out_after aimed later) command app sessions k (script_of events) result o a
+    (fails_behind out_before out_before out_after audit aimed later (omega arith) begun.aims.later) is_aimed
+    (served_on command app sessions before opened splits (holding_of after more) events begun.attaches stays replay.lazy refl result (sinks out_before out_after aimed later) o a h)))
+    went

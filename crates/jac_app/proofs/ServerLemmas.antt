@@ -1,8 +1,8 @@
 -- How the steps of `serve` end.
-use Rattle.std.proofs.Common.{◌≡◌, ◌∙◌, ap, sym, subst, refl, Bool, ℕ, inl, inr, IsTrue, Result, Ok, Err, Option, List, [], ◌++◌, append-nil, map, arith}
+use Rattle.std.proofs.Common.{◌≡◌, ◌∙◌, ◌⊎◌, ap, sym, subst, refl, Bool, ℕ, inl, inr, IsTrue, Result, Ok, Err, Option, List, [], ◌++◌, append-nil, map, arith}
 use Rattle.jac_io.specs.Faults.{Rose}
 use Rattle.jac_io.specs.Linked.{LinkSeen, DoorSeen, DoorLasts, Listens}
-use Rattle.jac_io.specs.Seen.{SinkSeen, Aims}
+use Rattle.jac_io.specs.Seen.{FilesSeen, SinkSeen, Aims}
 use Rattle.jac_io.specs.declared.sink.Failed.{Failed}
 use Rattle.jac_lang.specs.Syntax.{Application}
 use Rattle.jac_keep.specs.KeeperSeen.{KeeperSeen}
@@ -18,13 +18,16 @@ use Rattle.jac_desk.specs.Answered.{answering_of}
 use Rattle.jac_serving.specs.Outside.{Span, span, Sinks, sinks, IsPut, WentWith, WentTo, WentAimed, HasFaulted, AWriteFailed}
 use Rattle.jac_ending.specs.Files.{Sight, sinks_of, HasApplication, HasSessions, IsAimed}
 use Rattle.jac_ending.specs.Attached.{AttachesAs}
+use Rattle.jac_ending.specs.Early.{IsEndedEarly}
+use Rattle.jac_ending.specs.Outset.{sight_of, AreFilesRead, EndsAim, HasBegun, IsBarred, IsHalted, IsStoppedAiming}
 use Rattle.jac_links.specs.Door.{Visit, IsEnding, AreLinksServed}
 use Rattle.jac_serving.specs.Answering.{Answering, Entry}
 use Rattle.jac_serving.specs.Keeping.{Holding, holding_of, keepers}
 use Rattle.jac_app.specs.Held.{held_of}
 use Rattle.jac_app.specs.Server.{served_line, halted, EndsConnections, IsListenedAt, EndsDoor, IsServedAt, EndsAttached, EndsAimed, EndsServer}
-use Rattle.jac_serving.proofs.OutsideLemmas.{Lasts-none, Took-none, Rose-widen, FailsWithin}
-use Rattle.jac_ending.proofs.EndingLemmas.{is_attached}
+use Rattle.jac_serving.proofs.OutsideLemmas.{Lasts-none, Took-none, Rose-widen, FailsWithin, fails_behind, Went-none}
+use Rattle.jac_ending.proofs.EndingLemmas.{is_attached, went_aimed, WentAimed-on}
+use Rattle.jac_ending.proofs.OutsetLemmas.{application_read, ended_early, idle_behind, memory_early}
 
 module _ {L : Type 0} (line : L → LinkSeen) (x : Answering) where
   -- the connections were served, and it was told how many
@@ -296,3 +299,75 @@ pub server_ends : {L : Type 0} (line : L → LinkSeen) (seen : Sight) (door : Sp
     → EndsAimed line (sinks_of seen) app sessions serving door (held_of seen splits) result out audit → EndsServer line seen door splits serving result out audit
 server_ends line seen door splits serving app sessions out audit result application had h =
     inr (record { app = app; sessions = sessions; application = application; sessions_had = had; ends = h })
+
+-- a `serve` that was halted as it began
+module _ {L : Type 0} (line : L → LinkSeen) (files : Span FilesSeen) (out audit later : SinkSeen) (before after : KeeperSeen) (door : DoorSeen L) (splits : ℕ) (serving : Serving) where
+  server_idle : (ending : Ending) → IsEndedEarly (sight_of files (span out out) (span audit later) (span before after)) (commands.Serve serving) (Err ending) [] [] → later ≡ audit
+      → WentAimed (sinks out out audit later) (EndsServer line (sight_of files (span out out) (span audit later) (span before after)) (span door door) (span splits splits) serving (Err ending))
+  server_idle ending early uncalled = idle_behind out audit later _ uncalled (inl (early, refl, refl))
+
+  module _ (app : Application) (sessions : List Session) (events : List ℕ) (read : AreFilesRead (commands.Serve serving) files app sessions events) where
+    server_unaimed : (failed : Failed) → Aims audit later serving.audit (Err failed)
+        → WentAimed (sinks out out audit later)
+        (EndsServer line (sight_of files (span out out) (span audit later) (span before before)) (span door door) (span splits splits) serving (Err endings.WriteFault))
+    server_unaimed failed aims =
+        let seen = sight_of files (span out out) (span audit later) (span before before) in
+        WentAimed-on (sinks out out audit later) _ _
+        (λ o a h.
+        server_ends line seen (span door door) (span splits splits) serving app sessions o a (Err endings.WriteFault)
+        (application_read (commands.Serve serving) files (span out out) (span audit later) (span before before) app sessions events read) read.sessions_had h)
+        (unaimed_ends line app sessions out audit later serving door (holding_of before splits) failed aims)
+
+    server_barred : (ending : Ending) → Aims audit later serving.audit (Ok tt) → AttachesAs serving.db app (span before after) (Err ending)
+        → WentAimed (sinks out out audit later) (EndsServer line (sight_of files (span out out) (span audit later) (span before after)) (span door door) (span splits splits) serving (Err ending))
+    server_barred ending aims attaches =
+        let seen = sight_of files (span out out) (span audit later) (span before after) in
+        let k = span (holding_of before splits) (holding_of after splits) in
+        went_aimed out out audit later later serving.audit tt aims _ _
+        (λ is_aimed o a h.
+        server_ends line seen (span door door) (span splits splits) serving app sessions o a (Err ending)
+        (application_read (commands.Serve serving) files (span out out) (span audit later) (span before after) app sessions events read) read.sessions_had
+        (aimed_ends line app sessions serving (span door door) (sinks out out audit later) (sinks out out later later)
+        (fails_behind out out out audit later later (omega arith) aims.later) k (Err ending) o a is_aimed h))
+        (Went-none out later (EndsAttached line app sessions serving (span door door) k (Err ending) (sinks out out later later))
+        (unattached_ends line app sessions serving door k ending (sinks out out later later) attaches refl))
+
+    server_stopped : (ending : Ending) → after ≡ before → EndsAim serving.audit (span audit later) (Err ending)
+        → WentAimed (sinks out out audit later) (EndsServer line (sight_of files (span out out) (span audit later) (span before after)) (span door door) (span splits splits) serving (Err ending))
+    server_stopped ending still (inl (failed, is, aims)) =
+        subst (λ (e : Ending). WentAimed (sinks out out audit later) (EndsServer line (sight_of files (span out out) (span audit later) (span before after)) (span door door) (span splits splits) serving (Err e))) (sym is)
+        (subst (λ (k : KeeperSeen). WentAimed (sinks out out audit later)
+        (EndsServer line (sight_of files (span out out) (span audit later) (span before k)) (span door door) (span splits splits) serving (Err endings.WriteFault))) (sym still)
+        (server_unaimed failed aims))
+    server_stopped ending still (inr (is, uncalled)) =
+        subst (λ (e : Ending). WentAimed (sinks out out audit later) (EndsServer line (sight_of files (span out out) (span audit later) (span before after)) (span door door) (span splits splits) serving (Err e))) (sym is)
+        (server_idle endings.Memory (memory_early (commands.Serve serving) files (span out out) (span audit later) (span before after) uncalled still) uncalled)
+
+    server_behind : (ending : Ending) → IsStoppedAiming (commands.Serve serving) (span audit later) (span before after) ending ⊎ IsBarred (commands.Serve serving) app (span audit later) (span before after) ending
+        → WentAimed (sinks out out audit later) (EndsServer line (sight_of files (span out out) (span audit later) (span before after)) (span door door) (span splits splits) serving (Err ending))
+    server_behind ending (inr barred) = server_barred ending barred.aims barred.attaches
+    server_behind ending (inl stopped) = server_stopped ending stopped.still stopped.aims
+
+  pub server_halted : (ending : Ending) → IsHalted (commands.Serve serving) files (span audit later) (span before after) ending
+      → WentAimed (sinks out out audit later) (EndsServer line (sight_of files (span out out) (span audit later) (span before after)) (span door door) (span splits splits) serving (Err ending))
+  server_halted ending (inl early) = server_idle ending (ended_early (commands.Serve serving) files (span out out) (span audit later) (span before after) ending early) early.uncalled
+  server_halted ending (inr behind) = server_behind behind.app behind.sessions behind.events behind.read ending behind.halts
+
+-- one that began, and then served its door
+pub server_served : {L : Type 0} (line : L → LinkSeen) (files : Span FilesSeen) (out_before out_after audit aimed later : SinkSeen) (before opened after : KeeperSeen) (door : Span (DoorSeen L))
+    (splits more : ℕ) (serving : Serving) (app : Application) (sessions : List Session) (events : List ℕ) (result : Result (Unit {0}) Ending)
+    → HasBegun (commands.Serve serving) files (span audit aimed) (span before opened) app sessions events → after.store ≡ opened.store
+    → WentWith (sinks out_before out_after aimed later) (EndsDoor line app sessions serving door (span (holding_of opened splits) (holding_of after more)) result)
+    → WentAimed (sinks out_before out_after audit later)
+    (EndsServer line (sight_of files (span out_before out_after) (span audit later) (span before after)) door (span splits more) serving result)
+server_served line files out_before out_after audit aimed later before opened after door splits more serving app sessions events result begun stays went =
+    let seen = sight_of files (span out_before out_after) (span audit later) (span before after) in
+    let k = span (holding_of before splits) (holding_of after more) in
+    went_aimed out_before out_after audit aimed later serving.audit tt begun.aims _ _
+    (λ is_aimed o a h.
+    server_ends line seen door (span splits more) serving app sessions o a result
+    (application_read (commands.Serve serving) files (span out_before out_after) (span audit later) (span before after) app sessions events begun.read) begun.read.sessions_had
+    (aimed_ends line app sessions serving door (sinks out_before out_after audit later) (sinks out_before out_after aimed later)
+    (fails_behind out_before out_before out_after audit aimed later (omega arith) begun.aims.later) k result o a is_aimed
+    (attached_ends line app sessions serving door before opened splits (holding_of after more) begun.attaches stays result (sinks out_before out_after aimed later) o a h)))
+    went

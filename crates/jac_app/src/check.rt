@@ -6,14 +6,13 @@ ghost use Rattle.jac_ending.specs.Files.{sight};
 ghost use Rattle.jac_app.specs.Check.{EndsCheck, checked_text};
 
 use itoa::Buffer;
-use jac_ending::{Ending, open_app, read_file};
+use jac_ending::{Ending, read_app};
 use jac_io::{AuditSink, Failed, Files, Sink};
 use jac_keep::Keeper;
 use jac_lang::App;
 use jac_opening::Service;
 use jac_serving::put_five;
 use jac_value::Txt;
-use jac_words::Role;
 use std::alloc::Global;
 
 /// The steps of a check: the application is read, and its counts are put.
@@ -31,11 +30,7 @@ pub fn check<F: Files, O: Sink, U: AuditSink, K: Keeper>(
         (U.seen audit.old) (U.seen audit.new) (K.seen vault.old) (K.seen vault.new))
         (commands.Check name.now) result) }
 {
-    let bytes = match read_file(alloc, files, name, Role::App) {
-        Ok(bytes) => bytes,
-        Err(ending) => return Err(ending),
-    };
-    let service = match open_app(alloc, bytes.as_slice()) {
+    let service = match read_app(alloc, files, name) {
         Ok(service) => service,
         Err(ending) => return Err(ending),
     };

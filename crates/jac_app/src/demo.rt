@@ -25,6 +25,7 @@ ghost use Rattle.jac_serving.specs.Outside.{Went, WentAimed, WentTo, sinks, span
 ghost use Rattle.jac_serving.specs.Script.{script_of};
 
 use crate::attach::attach;
+use crate::counts::Counts;
 use crate::summary::{Summary, Tally, counted, failed_tally, none_counted, put_summary, tally_of};
 use jac_demo::{demo_app, demo_events};
 use jac_desk::{ask_in, viewer_in};
@@ -37,7 +38,6 @@ use jac_opening::Service;
 use jac_replies::{Answer, Ask, audit_rest, fixed_of};
 use jac_serving::{put_failed_audit, put_numbered};
 use jac_value::{Bytes, Id, Memory, Txt, first_part};
-use jac_world::Steps;
 use std::alloc::Global;
 use std::sync::ledger::Ledger;
 
@@ -47,6 +47,16 @@ pub enum DemoFault {
     /// A put on the audit failed.
     Write,
     Memory,
+}
+
+// The parts of an `ask` line.
+#[derive(Clone, Copy)]
+struct Asking<'e> {
+    viewer: Option<u128>,
+    method: &'e Txt,
+    path: &'e Txt,
+    query: &'e Bytes,
+    body: &'e Bytes,
 }
 
 // What follows the number in the audit line of a request, and what is counted of its answer.
@@ -75,63 +85,77 @@ fn count_answer(alloc: Global, ask: &Ask, answer: &Answer) -> Result<Counted, Me
 // Answers one request and stores what it leaves. What its audit line says is made before, so that
 // nothing is stored without it.
 fn answer_counted<K: Keeper, L: Ledger, M: Ledger>(
-    alloc: Global,
     service: &Service,
     keeper: &mut K,
     ask: &Ask,
-    splits: &mut Steps<L>,
-    evaluations: &mut Steps<M>,
+    counts: &mut Counts<'_, '_, L, M>,
 ) -> Result<Counted, Stop>
     requires attached { IsTrue (K.seen keeper.old).store.attached }
     requires start { IsTrue (K.seen keeper.old).tells → IsStart (application_of service.now)
         (K.seen keeper.old).state }
-    ensures counted { IfOk result (λ c. IsCounted (application_of service.now) (span (holding_of
-        (K.seen keeper.old) splits.old) (holding_of
-        (K.seen keeper.new) splits.new)) ask.now c.audit c.tally) }
+    ensures counted { IfOk result (λ c. IsCounted (application_of service.now)
+        (span (holding_of (K.seen keeper.old) counts.old.splits.now)
+        (holding_of (K.seen keeper.new) counts.new.splits.now)) ask.now c.audit c.tally) }
     ensures reading { stores (application_of service.now) ask.now ≡ false
-        → splits.new ≡ splits.old }
+        → counts.new.splits.now ≡ counts.old.splits.now }
     ensures refused { IsTrue (K.seen keeper.new).tells
         → OnErr result ((K.seen keeper.new).state ≡ (K.seen keeper.old).state) }
     ensures told { IsTrue (K.seen keeper.new).tells → IsTrue (K.seen keeper.old).tells }
     ensures cause { HasCause (K.seen keeper.old).faults (K.seen keeper.new).faults result }
     ensures attached { (K.seen keeper.new).store ≡ (K.seen keeper.old).store }
+    ensures same_splits { counts.new.splits.ghost_name ≡ counts.old.splits.ghost_name }
 {
-    let prepared = prepare(alloc, service, keeper, ask, false, splits, evaluations)?;
-    let counted = count_answer(alloc, ask, &prepared.answer)?;
-    commit(alloc, keeper, prepared)?;
+    let prepared = prepare(
+        counts.alloc,
+        service,
+        keeper,
+        ask,
+        false,
+        counts.splits,
+        counts.evaluations,
+    )?;
+    let counted = count_answer(counts.alloc, ask, &prepared.answer)?;
+    commit(counts.alloc, keeper, prepared)?;
     Ok(counted)
 }
 
 // The same of an `ask` line.
 fn count_ask<K: Keeper, L: Ledger, M: Ledger>(
-    alloc: Global,
     service: &Service,
     keeper: &mut K,
-    viewer: Option<u128>,
-    method: &Txt,
-    path: &Txt,
-    query: &Bytes,
-    body: &Bytes,
-    splits: &mut Steps<L>,
-    evaluations: &mut Steps<M>,
+    asking: &Asking<'_>,
+    counts: &mut Counts<'_, '_, L, M>,
 ) -> Result<Counted, Stop>
     requires attached { IsTrue (K.seen keeper.old).store.attached }
     requires start { IsTrue (K.seen keeper.old).tells → IsStart (application_of service.now)
         (K.seen keeper.old).state }
-    ensures counted { IfOk result (λ c. IsCounted (application_of service.now) (span (holding_of
-        (K.seen keeper.old) splits.old) (holding_of (K.seen keeper.new) splits.new))
-        (ask_in (application_of service.now) viewer method.now path.now query.now body.now) c.audit
+    ensures counted { IfOk result (λ c. IsCounted (application_of service.now)
+        (span (holding_of (K.seen keeper.old) counts.old.splits.now)
+        (holding_of (K.seen keeper.new) counts.new.splits.now))
+        (ask_in (application_of service.now) asking.now.viewer asking.now.method.now
+        asking.now.path.now asking.now.query.now asking.now.body.now) c.audit
         c.tally) }
     ensures reading { stores (application_of service.now) (ask_in (application_of service.now)
-        viewer method.now path.now query.now body.now) ≡ false → splits.new ≡ splits.old }
+        asking.now.viewer asking.now.method.now
+        asking.now.path.now asking.now.query.now asking.now.body.now) ≡ false
+        → counts.new.splits.now ≡ counts.old.splits.now }
     ensures refused { IsTrue (K.seen keeper.new).tells
         → OnErr result ((K.seen keeper.new).state ≡ (K.seen keeper.old).state) }
     ensures told { IsTrue (K.seen keeper.new).tells → IsTrue (K.seen keeper.old).tells }
     ensures cause { HasCause (K.seen keeper.old).faults (K.seen keeper.new).faults result }
     ensures attached { (K.seen keeper.new).store ≡ (K.seen keeper.old).store }
+    ensures same_splits { counts.new.splits.ghost_name ≡ counts.old.splits.ghost_name }
 {
-    let ask = ask_in(alloc, service.app(), viewer, method, path, query, body)?;
-    let counted = answer_counted(alloc, service, keeper, &ask, splits, evaluations)?;
+    let ask = ask_in(
+        counts.alloc,
+        service.app(),
+        asking.viewer,
+        asking.method,
+        asking.path,
+        asking.query,
+        asking.body,
+    )?;
+    let counted = answer_counted(service, keeper, &ask, counts)?;
     Ok(counted)
 }
 
@@ -173,59 +197,48 @@ fn put_stopped<U: AuditSink>(
 // Answers the request of an `ask` line, of which so many were answered before, and puts its audit
 // line.
 fn tally_ask<U: AuditSink, K: Keeper, L: Ledger, M: Ledger>(
-    alloc: Global,
     service: &Service,
     served: u64,
-    viewer: Option<u128>,
-    method: &Txt,
-    path: &Txt,
-    query: &Bytes,
-    body: &Bytes,
+    asking: &Asking<'_>,
     audit: &mut U,
     keeper: &mut K,
-    splits: &mut Steps<L>,
-    evaluations: &mut Steps<M>,
+    counts: &mut Counts<'_, '_, L, M>,
 ) -> Result<Tally, Failed>
     requires few { served < 2 ^ 64 - 1 }
     requires attached { IsTrue (K.seen keeper.old).store.attached }
     requires start { IsTrue (K.seen keeper.old).tells → IsStart (application_of service.now)
         (K.seen keeper.old).state }
     ensures answered { WentTo (span (U.seen audit.old) (U.seen audit.new))
-        (TalliesAsk (application_of service.now) (span (holding_of (K.seen keeper.old) splits.old)
-        (holding_of (K.seen keeper.new) splits.new)) served (ask_in
-        (application_of service.now) viewer method.now path.now query.now body.now) result) }
+        (TalliesAsk (application_of service.now)
+        (span (holding_of (K.seen keeper.old) counts.old.splits.now)
+        (holding_of (K.seen keeper.new) counts.new.splits.now)) served (ask_in
+        (application_of service.now) asking.now.viewer asking.now.method.now
+        asking.now.path.now asking.now.query.now asking.now.body.now) result) }
     ensures cause { OnErr result (Rose (U.seen audit.old).faults (U.seen audit.new).faults) }
     ensures start { IsTrue (K.seen keeper.new).tells → IsStart (application_of service.now)
         (K.seen keeper.new).state }
     ensures attached { (K.seen keeper.new).store ≡ (K.seen keeper.old).store }
+    ensures same_splits { counts.new.splits.ghost_name ≡ counts.old.splits.ghost_name }
 {
-    match count_ask(
-        alloc,
-        service,
-        keeper,
-        viewer,
-        method,
-        path,
-        query,
-        body,
-        splits,
-        evaluations,
-    ) {
+    match count_ask(service, keeper, asking, counts) {
         Ok(counted) => put_counted(audit, served + 1, counted.audit.as_bytes(), counted.tally),
-        Err(stop) => put_stopped(audit, served + 1, stop, viewer_in(service.app(), viewer)),
+        Err(stop) => put_stopped(
+            audit,
+            served + 1,
+            stop,
+            viewer_in(service.app(), asking.viewer),
+        ),
     }
 }
 
 // Serves a request, and counts it.
 fn tally_event<U: AuditSink, K: Keeper, L: Ledger, M: Ledger>(
-    alloc: Global,
     service: &Service,
     summary: Summary,
     event: &Event,
     audit: &mut U,
     keeper: &mut K,
-    splits: &mut Steps<L>,
-    evaluations: &mut Steps<M>,
+    counts: &mut Counts<'_, '_, L, M>,
 ) -> Result<Summary, DemoFault>
     requires few { summary.asks < 2 ^ 64 - 1 }
     requires bounded { IsBounded summary }
@@ -234,8 +247,9 @@ fn tally_event<U: AuditSink, K: Keeper, L: Ledger, M: Ledger>(
     requires start { IsTrue (K.seen keeper.old).tells → IsStart (application_of service.now)
         (K.seen keeper.old).state }
     ensures tallied { WentTo (span (U.seen audit.old) (U.seen audit.new))
-        (TalliesEvent (application_of service.now) (span (holding_of (K.seen keeper.old) splits.old)
-        (holding_of (K.seen keeper.new) splits.new)) summary event.now result) }
+        (TalliesEvent (application_of service.now)
+        (span (holding_of (K.seen keeper.old) counts.old.splits.now)
+        (holding_of (K.seen keeper.new) counts.new.splits.now)) summary event.now result) }
     ensures cause { result ≡ Err DemoFault.Write
         → Rose (U.seen audit.old).faults (U.seen audit.new).faults }
     ensures bounded { IfOk result (λ more. IsBounded more) }
@@ -243,6 +257,7 @@ fn tally_event<U: AuditSink, K: Keeper, L: Ledger, M: Ledger>(
     ensures start { IsTrue (K.seen keeper.new).tells → IsStart (application_of service.now)
         (K.seen keeper.new).state }
     ensures attached { (K.seen keeper.new).store ≡ (K.seen keeper.old).store }
+    ensures same_splits { counts.new.splits.ghost_name ≡ counts.old.splits.ghost_name }
 {
     match event {
         Event::Ask {
@@ -251,37 +266,31 @@ fn tally_event<U: AuditSink, K: Keeper, L: Ledger, M: Ledger>(
             path,
             query,
             body,
-        } => match tally_ask(
-            alloc,
-            service,
-            summary.asks,
-            *viewer,
-            method,
-            path,
-            query,
-            body,
-            audit,
-            keeper,
-            splits,
-            evaluations,
-        ) {
-            Ok(tally) => Ok(counted(summary, method.as_bytes(), tally)),
-            Err(Failed) => Err(DemoFault::Write),
-        },
+        } => {
+            let asking = Asking {
+                viewer: *viewer,
+                method,
+                path,
+                query,
+                body,
+            };
+            match tally_ask(service, summary.asks, &asking, audit, keeper, counts) {
+                Ok(tally) => Ok(counted(summary, method.as_bytes(), tally)),
+                Err(Failed) => Err(DemoFault::Write),
+            }
+        }
         _ => unreachable!(),
     }
 }
 
 // Serves a line, which is empty or writes down a request.
 fn tally_line<U: AuditSink, K: Keeper, L: Ledger, M: Ledger>(
-    alloc: Global,
     service: &Service,
     summary: Summary,
     line: &[u8],
     audit: &mut U,
     keeper: &mut K,
-    splits: &mut Steps<L>,
-    evaluations: &mut Steps<M>,
+    counts: &mut Counts<'_, '_, L, M>,
 ) -> Result<Summary, DemoFault>
     requires few { summary.asks < 2 ^ 64 - 1 }
     requires bounded { IsBounded summary }
@@ -290,8 +299,9 @@ fn tally_line<U: AuditSink, K: Keeper, L: Ledger, M: Ledger>(
     requires start { IsTrue (K.seen keeper.old).tells → IsStart (application_of service.now)
         (K.seen keeper.old).state }
     ensures tallied { WentTo (span (U.seen audit.old) (U.seen audit.new))
-        (TalliesLine (application_of service.now) (span (holding_of (K.seen keeper.old) splits.old)
-        (holding_of (K.seen keeper.new) splits.new)) summary (line_of line.now) result) }
+        (TalliesLine (application_of service.now)
+        (span (holding_of (K.seen keeper.old) counts.old.splits.now)
+        (holding_of (K.seen keeper.new) counts.new.splits.now)) summary (line_of line.now) result) }
     ensures cause { result ≡ Err DemoFault.Write
         → Rose (U.seen audit.old).faults (U.seen audit.new).faults }
     ensures bounded { IfOk result (λ more. IsBounded more) }
@@ -299,18 +309,10 @@ fn tally_line<U: AuditSink, K: Keeper, L: Ledger, M: Ledger>(
     ensures start { IsTrue (K.seen keeper.new).tells → IsStart (application_of service.now)
         (K.seen keeper.new).state }
     ensures attached { (K.seen keeper.new).store ≡ (K.seen keeper.old).store }
+    ensures same_splits { counts.new.splits.ghost_name ≡ counts.old.splits.ghost_name }
 {
-    match read_line(alloc, line) {
-        Ok(Some(event)) => tally_event(
-            alloc,
-            service,
-            summary,
-            &event,
-            audit,
-            keeper,
-            splits,
-            evaluations,
-        ),
+    match read_line(counts.alloc, line) {
+        Ok(Some(event)) => tally_event(service, summary, &event, audit, keeper, counts),
         Ok(None) => Ok(summary),
         Err(LineFault::BadLine) => unreachable!(),
         Err(LineFault::Memory) => Err(DemoFault::Memory),
@@ -319,13 +321,11 @@ fn tally_line<U: AuditSink, K: Keeper, L: Ledger, M: Ledger>(
 
 // Serves the requests of a text, line by line.
 fn tally_events<U: AuditSink, K: Keeper, L: Ledger, M: Ledger>(
-    alloc: Global,
     service: &Service,
     bytes: &[u8],
     audit: &mut U,
     keeper: &mut K,
-    splits: &mut Steps<L>,
-    evaluations: &mut Steps<M>,
+    counts: &mut Counts<'_, '_, L, M>,
 ) -> Result<Summary, DemoFault>
     requires short { length bytes.now < 2 ^ 63 }
     requires asking { All (λ line. IsAsking (line_of line)) (lines_of bytes.now) }
@@ -333,26 +333,19 @@ fn tally_events<U: AuditSink, K: Keeper, L: Ledger, M: Ledger>(
     requires start { IsTrue (K.seen keeper.old).tells → IsStart (application_of service.now)
         (K.seen keeper.old).state }
     ensures tallied { WentTo (span (U.seen audit.old) (U.seen audit.new))
-        (Tallies (application_of service.now) (span (holding_of (K.seen keeper.old) splits.old)
-        (holding_of (K.seen keeper.new) splits.new)) (script_of bytes.now) result) }
+        (Tallies (application_of service.now)
+        (span (holding_of (K.seen keeper.old) counts.old.splits.now)
+        (holding_of (K.seen keeper.new) counts.new.splits.now)) (script_of bytes.now) result) }
     ensures cause { result ≡ Err DemoFault.Write
         → Rose (U.seen audit.old).faults (U.seen audit.new).faults }
     ensures store { (K.seen keeper.new).store ≡ (K.seen keeper.old).store }
+    ensures same_splits { counts.new.splits.ghost_name ≡ counts.old.splits.ghost_name }
 {
     let mut summary = none_counted();
     let mut left = Some(bytes);
     'lines: while let Some(rest) = left {
         let (line, after) = first_part(rest, b'\n');
-        match tally_line(
-            alloc,
-            service,
-            summary,
-            line,
-            audit,
-            keeper,
-            splits,
-            evaluations,
-        ) {
+        match tally_line(service, summary, line, audit, keeper, counts) {
             Ok(more) => summary = more,
             Err(fault) => return Err(fault),
         }
@@ -363,13 +356,11 @@ fn tally_events<U: AuditSink, K: Keeper, L: Ledger, M: Ledger>(
 
 // Serves the requests to the calendar.
 fn serve_calendar<U: AuditSink, K: Keeper, L: Ledger, M: Ledger>(
-    alloc: Global,
     service: &Service,
     count: u64,
     audit: &mut U,
     keeper: &mut K,
-    splits: &mut Steps<L>,
-    evaluations: &mut Steps<M>,
+    counts: &mut Counts<'_, '_, L, M>,
 ) -> Result<Summary, DemoFault>
     requires some { 1 ≤ count }
     requires few { count ≤ 2000 }
@@ -377,36 +368,28 @@ fn serve_calendar<U: AuditSink, K: Keeper, L: Ledger, M: Ledger>(
     requires start { IsTrue (K.seen keeper.old).tells → IsStart (application_of service.now)
         (K.seen keeper.old).state }
     ensures served { WentTo (span (U.seen audit.old) (U.seen audit.new))
-        (Tallies (application_of service.now) (span (holding_of (K.seen keeper.old) splits.old)
-        (holding_of (K.seen keeper.new) splits.new)) (demo_script count) result) }
+        (Tallies (application_of service.now)
+        (span (holding_of (K.seen keeper.old) counts.old.splits.now)
+        (holding_of (K.seen keeper.new) counts.new.splits.now)) (demo_script count) result) }
     ensures cause { result ≡ Err DemoFault.Write
         → Rose (U.seen audit.old).faults (U.seen audit.new).faults }
     ensures store { (K.seen keeper.new).store ≡ (K.seen keeper.old).store }
+    ensures same_splits { counts.new.splits.ghost_name ≡ counts.old.splits.ghost_name }
 {
-    match demo_events(alloc, count) {
-        Ok(events) => tally_events(
-            alloc,
-            service,
-            events.as_slice(),
-            audit,
-            keeper,
-            splits,
-            evaluations,
-        ),
+    match demo_events(counts.alloc, count) {
+        Ok(events) => tally_events(service, events.as_slice(), audit, keeper, counts),
         Err(Memory) => Err(DemoFault::Memory),
     }
 }
 
 // Attaches a store without a name, and serves the requests.
 fn tally_attached<U: AuditSink, K: Vault, L: Ledger, M: Ledger>(
-    alloc: Global,
     service: &Service,
     schema: Txt,
     count: u64,
     audit: &mut U,
     vault: &mut K,
-    splits: &mut Steps<L>,
-    evaluations: &mut Steps<M>,
+    counts: &mut Counts<'_, '_, L, M>,
 ) -> Result<Summary, Ending>
     requires some { 1 ≤ count }
     requires few { count ≤ 2000 }
@@ -414,13 +397,15 @@ fn tally_attached<U: AuditSink, K: Vault, L: Ledger, M: Ledger>(
     requires own { schema ≡ schema_text (application_of service.now) }
     requires schema { IsSchema schema (shapes_of (application_of service.now)) }
     ensures served { WentTo (span (U.seen audit.old) (U.seen audit.new))
-        (EndsTallying (application_of service.now) (span (holding_of (K.seen vault.old) splits.old)
-        (holding_of (K.seen vault.new) splits.new)) count result) }
+        (EndsTallying (application_of service.now)
+        (span (holding_of (K.seen vault.old) counts.old.splits.now)
+        (holding_of (K.seen vault.new) counts.new.splits.now)) count result) }
     ensures cause { result ≡ Err endings.WriteFault
         → Rose (U.seen audit.old).faults (U.seen audit.new).faults }
+    ensures same_splits { counts.new.splits.ghost_name ≡ counts.old.splits.ghost_name }
 {
-    match attach(alloc, service, None, schema, vault) {
-        Ok(()) => match serve_calendar(alloc, service, count, audit, vault, splits, evaluations) {
+    match attach(counts.alloc, service, None, schema, vault) {
+        Ok(()) => match serve_calendar(service, count, audit, vault, counts) {
             Ok(summary) => Ok(summary),
             Err(DemoFault::Write) => Err(Ending::WriteFault),
             Err(DemoFault::Memory) => Err(Ending::Memory),
@@ -431,36 +416,28 @@ fn tally_attached<U: AuditSink, K: Vault, L: Ledger, M: Ledger>(
 
 // The same, and the summary is put.
 fn tell_attached<O: Sink, U: AuditSink, K: Vault, L: Ledger, M: Ledger>(
-    alloc: Global,
     service: &Service,
     schema: Txt,
     count: u64,
     out: &mut O,
     audit: &mut U,
     vault: &mut K,
-    splits: &mut Steps<L>,
-    evaluations: &mut Steps<M>,
+    counts: &mut Counts<'_, '_, L, M>,
 ) -> Result<(), Ending>
     requires some { 1 ≤ count }
     requires few { count ≤ 2000 }
     requires first { (K.seen vault.old).store.called ≡ false }
     requires own { schema ≡ schema_text (application_of service.now) }
     requires schema { IsSchema schema (shapes_of (application_of service.now)) }
-    ensures { Went (sinks (O.seen out.old) (O.seen out.new) (U.seen audit.old) (U.seen audit.new))
+    ensures told { Went (sinks (O.seen out.old) (O.seen out.new) (U.seen audit.old)
+        (U.seen audit.new))
         (IsTold (sinks (O.seen out.old) (O.seen out.new) (U.seen audit.old) (U.seen audit.new))
-        (application_of service.now) (span (holding_of (K.seen vault.old) splits.old) (holding_of
-        (K.seen vault.new) splits.new)) count result) }
+        (application_of service.now)
+        (span (holding_of (K.seen vault.old) counts.old.splits.now)
+        (holding_of (K.seen vault.new) counts.new.splits.now)) count result) }
+    ensures same_splits { counts.new.splits.ghost_name ≡ counts.old.splits.ghost_name }
 {
-    match tally_attached(
-        alloc,
-        service,
-        schema,
-        count,
-        audit,
-        vault,
-        splits,
-        evaluations,
-    ) {
+    match tally_attached(service, schema, count, audit, vault, counts) {
         Ok(summary) => match put_summary(out, &summary) {
             Ok(()) => Ok(()),
             Err(Failed) => Err(Ending::WriteFault),
@@ -471,40 +448,30 @@ fn tell_attached<O: Sink, U: AuditSink, K: Vault, L: Ledger, M: Ledger>(
 
 // Aims the audit at none, attaches the store, and serves the requests.
 fn count_calendar<O: Sink, U: AuditSink, K: Vault, L: Ledger, M: Ledger>(
-    alloc: Global,
     service: &Service,
     schema: Txt,
     count: u64,
     out: &mut O,
     audit: &mut U,
     vault: &mut K,
-    splits: &mut Steps<L>,
-    evaluations: &mut Steps<M>,
+    counts: &mut Counts<'_, '_, L, M>,
 ) -> Result<(), Ending>
     requires some { 1 ≤ count }
     requires few { count ≤ 2000 }
     requires first { (K.seen vault.old).store.called ≡ false }
     requires own { schema ≡ schema_text (application_of service.now) }
     requires schema { IsSchema schema (shapes_of (application_of service.now)) }
-    ensures { WentAimed (sinks (O.seen out.old) (O.seen out.new) (U.seen audit.old)
+    ensures ends { WentAimed (sinks (O.seen out.old) (O.seen out.new) (U.seen audit.old)
         (U.seen audit.new))
         (EndsCounting
         (sinks (O.seen out.old) (O.seen out.new) (U.seen audit.old) (U.seen audit.new))
-        (application_of service.now) (span (holding_of (K.seen vault.old) splits.old) (holding_of
-        (K.seen vault.new) splits.new)) count result) }
+        (application_of service.now)
+        (span (holding_of (K.seen vault.old) counts.old.splits.now)
+        (holding_of (K.seen vault.new) counts.new.splits.now)) count result) }
+    ensures same_splits { counts.new.splits.ghost_name ≡ counts.old.splits.ghost_name }
 {
     match audit.aim(None) {
-        Ok(()) => tell_attached(
-            alloc,
-            service,
-            schema,
-            count,
-            out,
-            audit,
-            vault,
-            splits,
-            evaluations,
-        ),
+        Ok(()) => tell_attached(service, schema, count, out, audit, vault, counts),
         Err(Failed) => Err(Ending::WriteFault),
     }
 }
@@ -535,40 +502,29 @@ fn read_calendar(alloc: Global, text: &Bytes) -> Result<Service, Ending>
 /// `count` requests of `jac_demo` are answered in silence to its calendar, and their summary is
 /// put.
 pub fn demo<O: Sink, U: AuditSink, K: Vault, L: Ledger, M: Ledger>(
-    alloc: Global,
     count: u64,
     out: &mut O,
     audit: &mut U,
     vault: &mut K,
-    splits: &mut Steps<L>,
-    evaluations: &mut Steps<M>,
+    counts: &mut Counts<'_, '_, L, M>,
 ) -> Result<(), Ending>
     requires some { 1 ≤ count }
     requires few { count ≤ 2000 }
     requires first { (K.seen vault.old).store.called ≡ false }
-    ensures { WentAimed (sinks (O.seen out.old) (O.seen out.new) (U.seen audit.old)
+    ensures ends { WentAimed (sinks (O.seen out.old) (O.seen out.new) (U.seen audit.old)
         (U.seen audit.new))
         (EndsDemo (sinks (O.seen out.old) (O.seen out.new) (U.seen audit.old) (U.seen audit.new))
-        (span (holding_of (K.seen vault.old) splits.old) (holding_of
-        (K.seen vault.new) splits.new)) count result) }
+        (span (holding_of (K.seen vault.old) counts.old.splits.now)
+        (holding_of (K.seen vault.new) counts.new.splits.now)) count result) }
+    ensures same_splits { counts.new.splits.ghost_name ≡ counts.old.splits.ghost_name }
 {
-    let service = match open_calendar(alloc) {
+    let service = match open_calendar(counts.alloc) {
         Ok(service) => service,
         Err(ending) => return Err(ending),
     };
-    let schema = match service.schema(alloc) {
+    let schema = match service.schema(counts.alloc) {
         Ok(schema) => schema,
         Err(Memory) => return Err(Ending::Memory),
     };
-    count_calendar(
-        alloc,
-        &service,
-        schema,
-        count,
-        out,
-        audit,
-        vault,
-        splits,
-        evaluations,
-    )
+    count_calendar(&service, schema, count, out, audit, vault, counts)
 }

@@ -4,6 +4,7 @@
 
 mod attach;
 mod check;
+mod counts;
 mod demo;
 mod link;
 mod program;

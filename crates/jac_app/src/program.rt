@@ -7,6 +7,7 @@ ghost use Rattle.jac_app.specs.Run.{Ends, Runs, IsRun, usage_line};
 ghost use Rattle.jac_io.specs.Linked.{DoorLasts};
 
 use crate::check::check;
+use crate::counts::Counts;
 use crate::demo::demo;
 use crate::replay::replay;
 use crate::server::serve;
@@ -62,15 +63,13 @@ fn run_out<O: Sink>(out: &mut O) -> Status
 
 // The steps of the command.
 fn take_steps<F: Files, O: Sink, U: AuditSink, K: Vault, D: Door, L: Ledger, M: Ledger>(
-    alloc: Global,
     command: &Command,
     files: &mut F,
     out: &mut O,
     audit: &mut U,
     vault: &mut K,
     door: &mut D,
-    splits: &mut Steps<L>,
-    evaluations: &mut Steps<M>,
+    counts: &mut Counts<'_, '_, L, M>,
 ) -> Result<(), Ending>
     requires count { HasCount command.now }
     requires first { (K.seen vault.old).store.called ≡ false }
@@ -79,53 +78,47 @@ fn take_steps<F: Files, O: Sink, U: AuditSink, K: Vault, D: Door, L: Ledger, M: 
         (Ends D.Line.seen (sight (F.seen files.old) (F.seen files.new) (O.seen out.old)
         (O.seen out.new) (U.seen audit.old) (U.seen audit.new) (K.seen vault.old)
         (K.seen vault.new))
-        (span (D.seen door.old) (D.seen door.new)) (span splits.old splits.new) command.now
-        result) }
+        (span (D.seen door.old) (D.seen door.new))
+        (span counts.old.splits.now counts.new.splits.now) command.now result) }
     ensures lasts { DoorLasts (D.seen door.old) (D.seen door.new) }
+    ensures same_splits { counts.new.splits.ghost_name ≡ counts.old.splits.ghost_name }
 {
     match command {
-        Command::Check(app) => check(alloc, app, files, out, audit, vault),
-        Command::Replay(files_of) => replay(
-            alloc,
-            files_of,
+        Command::Check(app) => check(counts.alloc, app, files, out, audit, vault),
+        Command::Replay(files_of) => replay(files_of, files, out, audit, vault, counts),
+        Command::Serve(serving) => serve(serving, files, out, audit, vault, door, counts),
+        Command::Demo(count) => demo(*count, out, audit, vault, counts),
+        Command::Dump(dumping) => dump(counts.alloc, dumping, files, out, audit, vault),
+        Command::Upgrade(upgrading) => upgrade(
+            counts.alloc,
+            upgrading,
             files,
             out,
             audit,
             vault,
-            splits,
-            evaluations,
+            counts.splits,
         ),
-        Command::Serve(serving) => serve(
-            alloc,
-            serving,
+        Command::Why(explaining) => explain(
+            counts.alloc,
+            explaining,
             files,
             out,
             audit,
             vault,
-            door,
-            splits,
-            evaluations,
+            counts.evaluations,
         ),
-        Command::Demo(count) => demo(alloc, *count, out, audit, vault, splits, evaluations),
-        Command::Dump(dumping) => dump(alloc, dumping, files, out, audit, vault),
-        Command::Upgrade(upgrading) => upgrade(alloc, upgrading, files, out, audit, vault, splits),
-        Command::Why(explaining) => {
-            explain(alloc, explaining, files, out, audit, vault, evaluations)
-        }
     }
 }
 
 // The run, as one statement on all that it puts.
 fn run_words<F: Files, O: Sink, U: AuditSink, K: Vault, D: Door, L: Ledger, M: Ledger>(
-    alloc: Global,
     words: &[Txt],
     files: &mut F,
     out: &mut O,
     audit: &mut U,
     vault: &mut K,
     door: &mut D,
-    splits: &mut Steps<L>,
-    evaluations: &mut Steps<M>,
+    counts: &mut Counts<'_, '_, L, M>,
 ) -> Status
     requires first { (K.seen vault.old).store.called ≡ false }
     ensures ran { WentAimed (sinks (O.seen out.old) (O.seen out.new) (U.seen audit.old)
@@ -133,27 +126,40 @@ fn run_words<F: Files, O: Sink, U: AuditSink, K: Vault, D: Door, L: Ledger, M: L
         (Runs D.Line.seen (sight (F.seen files.old) (F.seen files.new) (O.seen out.old)
         (O.seen out.new) (U.seen audit.old) (U.seen audit.new) (K.seen vault.old)
         (K.seen vault.new))
-        (span (D.seen door.old) (D.seen door.new)) (span splits.old splits.new) words.now result) }
+        (span (D.seen door.old) (D.seen door.new))
+        (span counts.old.splits.now counts.new.splits.now) words.now result) }
     ensures lasts { DoorLasts (D.seen door.old) (D.seen door.new) }
+    ensures same_splits { counts.new.splits.ghost_name ≡ counts.old.splits.ghost_name }
 {
-    match command_of(alloc, words) {
+    match command_of(counts.alloc, words) {
         Ok(Some(command)) => {
-            let ended = take_steps(
-                alloc,
-                &command,
-                files,
-                out,
-                audit,
-                vault,
-                door,
-                splits,
-                evaluations,
-            );
+            let ended = take_steps(&command, files, out, audit, vault, door, counts);
             finish(out, &command, ended)
         }
         Ok(None) => refuse_words(out),
         Err(Memory) => run_out(out),
     }
+}
+
+// The same, with each status by its cause.
+fn run_counted<F: Files, O: Sink, U: AuditSink, K: Vault, D: Door, L: Ledger, M: Ledger>(
+    words: &[Txt],
+    files: &mut F,
+    out: &mut O,
+    audit: &mut U,
+    vault: &mut K,
+    door: &mut D,
+    counts: &mut Counts<'_, '_, L, M>,
+) -> Status
+    requires first { (K.seen vault.old).store.called ≡ false }
+    ensures run { IsRun D.Line.seen (sight (F.seen files.old) (F.seen files.new) (O.seen out.old)
+        (O.seen out.new) (U.seen audit.old) (U.seen audit.new) (K.seen vault.old)
+        (K.seen vault.new))
+        (span (D.seen door.old) (D.seen door.new))
+        (span counts.old.splits.now counts.new.splits.now) words.now result }
+    ensures same_splits { counts.new.splits.ghost_name ≡ counts.old.splits.ghost_name }
+{
+    run_words(words, files, out, audit, vault, door, counts)
 }
 
 /// Runs the command that the words give, and puts replies on `out` and the audit's lines on
@@ -201,15 +207,10 @@ pub fn run<F: Files, O: Sink, U: AuditSink, K: Vault, D: Door, L: Ledger, M: Led
         (K.seen vault.new))
         (span (D.seen door.old) (D.seen door.new)) (span splits.old splits.new) words.now result }
 {
-    run_words(
-        alloc,
-        words,
-        files,
-        out,
-        audit,
-        vault,
-        door,
+    let mut counts = Counts {
         splits,
         evaluations,
-    )
+        alloc,
+    };
+    run_counted(words, files, out, audit, vault, door, &mut counts)
 }

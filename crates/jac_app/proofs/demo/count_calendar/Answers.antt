@@ -6,8 +6,8 @@ use Rattle.jac_app.proofs.DemoLemmas.{told_behind, unaimed}
 use Rattle.jac_ending.proofs.EndingLemmas.{went_aimed}
 use Rattle.jac_app.proofs.demo.count_calendar.Goals as goal
 
-pub returns-in-Ok : goal.returns-in-Ok
-returns-in-Ok g c =
+pub returns-in-Ok-clause-ends : goal.returns-in-Ok-clause-ends
+returns-in-Ok-clause-ends g c =
     let O = g.O.Sink in
     let U = g.U.Sink in
     let K = g.K.Keeper in
@@ -21,11 +21,11 @@ returns-in-Ok g c =
     (λ is_aimed o a h.
     inr (
       is_aimed,
-      told_behind out later before aimed after (application_of c.args.service.now) (span (holding_of (K.seen c.args.vault.now) c.args.splits.now) (holding_of (K.seen c.tell_attached.new.vault) c.tell_attached.new.splits)) c.args.count c.tell_attached.result o a aims.later h,
+      told_behind out later before aimed after (application_of c.args.service.now) (span (holding_of (K.seen c.args.vault.now) c.args.counts.now.splits.now) (holding_of (K.seen c.tell_attached.new.vault) c.tell_attached.new.counts.splits.now)) c.args.count c.tell_attached.result o a aims.later h,
     ))
-    c.tell_attached.ensures
+    c.tell_attached.ensures.told
 
-pub returns-in-Err : goal.returns-in-Err
-returns-in-Err g c =
+pub returns-in-Err-clause-ends : goal.returns-in-Err-clause-ends
+returns-in-Err-clause-ends g c =
     let U = g.U.Sink in
-    unaimed (g.O.Sink.seen c.args.out.now) (U.seen c.args.audit.now) (U.seen c.aim.new.self) _ (application_of c.args.service.now) (holding_of (g.K.Keeper.seen c.args.vault.now) c.args.splits.now) c.args.count c.in-Err.ensures
+    unaimed (g.O.Sink.seen c.args.out.now) (U.seen c.args.audit.now) (U.seen c.aim.new.self) _ (application_of c.args.service.now) (holding_of (g.K.Keeper.seen c.args.vault.now) c.args.counts.now.splits.now) c.args.count c.in-Err.ensures

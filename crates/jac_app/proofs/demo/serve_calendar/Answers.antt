@@ -25,14 +25,14 @@ tally_events-requires-clause-asking g c =
 pub returns-in-Ok-clause-served : goal.returns-in-Ok-clause-served
 returns-in-Ok-clause-served g c =
     let K = g.K.Keeper in
-    let before = holding_of (K.seen c.args.keeper.now) c.args.splits.now in
+    let before = holding_of (K.seen c.args.keeper.now) c.args.counts.now.splits.now in
     WentTo-on _ _ _
     (λ put h.
-    subst (λ (t : List ℕ). Tallies (application_of c.args.service.now) (span before (holding_of (K.seen c.tally_events.new.keeper) c.tally_events.new.splits)) (script_of t) c.tally_events.result put)
+    subst (λ (t : List ℕ). Tallies (application_of c.args.service.now) (span before (holding_of (K.seen c.tally_events.new.keeper) c.tally_events.new.counts.splits.now)) (script_of t) c.tally_events.result put)
     (c.as_slice.ensures ∙ c.in-Ok.ensures) h)
     c.tally_events.ensures.tallied
 
 pub returns-in-Err-clause-served : goal.returns-in-Err-clause-served
 returns-in-Err-clause-served g c =
-    let k = holding_of (g.K.Keeper.seen c.args.keeper.now) c.args.splits.now in
+    let k = holding_of (g.K.Keeper.seen c.args.keeper.now) c.args.counts.now.splits.now in
     WentTo-none (g.U.Sink.seen c.args.audit.now) _ (tally_none (application_of c.args.service.now) k c.args.count c.requires.start)

@@ -13,8 +13,8 @@ pub returns-in-Ok-clause-answered : goal.returns-in-Ok-clause-answered
 returns-in-Ok-clause-answered g c =
     let K = g.K.Keeper in
     let app = application_of c.args.service.now in
-    let k = span (holding_of (K.seen c.args.keeper.now) c.args.splits.now) (holding_of (K.seen c.count_ask.new.keeper) c.count_ask.new.splits) in
-    let ask = ask_in app c.args.viewer c.args.method.now c.args.path.now c.args.query.now c.args.body.now in
+    let k = span (holding_of (K.seen c.args.keeper.now) c.args.counts.now.splits.now) (holding_of (K.seen c.count_ask.new.keeper) c.count_ask.new.counts.splits.now) in
+    let ask = ask_in app c.args.asking.now.viewer c.args.asking.now.method.now c.args.asking.now.path.now c.args.asking.now.query.now c.args.asking.now.body.now in
     WentTo-on _ _ _
     (λ put h.
     ask_counted app k c.args.served ask c.in-Ok.counted.audit c.in-Ok.counted.tally c.put_counted.result put
@@ -26,8 +26,8 @@ pub returns-in-Err-clause-answered : goal.returns-in-Err-clause-answered
 returns-in-Err-clause-answered g c =
     let K = g.K.Keeper in
     let app = application_of c.args.service.now in
-    let k = span (holding_of (K.seen c.args.keeper.now) c.args.splits.now) (holding_of (K.seen c.count_ask.new.keeper) c.count_ask.new.splits) in
-    let ask = ask_in app c.args.viewer c.args.method.now c.args.path.now c.args.query.now c.args.body.now in
+    let k = span (holding_of (K.seen c.args.keeper.now) c.args.counts.now.splits.now) (holding_of (K.seen c.count_ask.new.keeper) c.count_ask.new.counts.splits.now) in
+    let ask = ask_in app c.args.asking.now.viewer c.args.asking.now.method.now c.args.asking.now.path.now c.args.asking.now.query.now c.args.asking.now.body.now in
     let stop = c.in-Err.stop in
     WentTo-on _ _ _
     (λ put h.

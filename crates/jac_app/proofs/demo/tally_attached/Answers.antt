@@ -11,7 +11,7 @@ returns-in-Ok-serve_calendar-clause-served g c =
     let K = g.K.Keeper in
     WentTo-on _ _ _
     (λ a served.
-    tallied_on (application_of c.args.service.now) (K.seen c.args.vault.now) (K.seen c.attach.new.vault) c.args.splits.now (holding_of (K.seen c.serve_calendar.new.keeper) c.serve_calendar.new.splits)
+    tallied_on (application_of c.args.service.now) (K.seen c.args.vault.now) (K.seen c.attach.new.vault) c.args.counts.now.splits.now (holding_of (K.seen c.serve_calendar.new.keeper) c.serve_calendar.new.counts.splits.now)
     c.args.count _ a c.in-Ok.ensures.attaches c.in-Ok-serve_calendar.ensures.store served)
     c.in-Ok-serve_calendar.ensures.served
 
@@ -19,4 +19,4 @@ pub returns-in-Err-clause-served : goal.returns-in-Err-clause-served
 returns-in-Err-clause-served g c =
     let K = g.K.Keeper in
     WentTo-none (g.U.Sink.seen c.args.audit.now) _
-    (tally_unattached (application_of c.args.service.now) (span (holding_of (K.seen c.args.vault.now) c.args.splits.now) (holding_of (K.seen c.attach.new.vault) c.args.splits.now)) c.args.count c.in-Err.ending c.in-Err.ensures.attaches refl)
+    (tally_unattached (application_of c.args.service.now) (span (holding_of (K.seen c.args.vault.now) c.args.counts.now.splits.now) (holding_of (K.seen c.attach.new.vault) c.args.counts.now.splits.now)) c.args.count c.in-Err.ending c.in-Err.ensures.attaches refl)

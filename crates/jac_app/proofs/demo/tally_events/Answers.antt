@@ -23,10 +23,11 @@ lines-init g c =
       asking = c.requires.asking;
       attached = c.requires.attached;
       same_store = refl;
+      same_splits = refl;
       start = c.requires.start;
       went =
           WentTo-none (g.U.Sink.seen c.args.audit.now) _
-          (tally_start (application_of c.args.service.now) (holding_of (g.K.Keeper.seen c.args.keeper.now) c.args.splits.now) c.args.bytes.now c.none_counted-summary.result c.none_counted-summary.ensures.none c.requires.start);
+          (tally_start (application_of c.args.service.now) (holding_of (g.K.Keeper.seen c.args.keeper.now) c.args.counts.now.splits.now) c.args.bytes.now c.none_counted-summary.result c.none_counted-summary.ensures.none c.requires.start);
     }
 
 pub tally_line-requires-clause-asking : goal.tally_line-requires-clause-asking
@@ -42,7 +43,7 @@ returns-in-Err-clause-tallied g c =
     let parts = ap (λ (o : Option (Bor (List ℕ))). parts_left 10 (option_now o)) c.in-Some.is ∙ c.first_part.ensures.parts in
     WentTo-then (U.seen c.args.audit.now) (U.seen c.lines.audit) (U.seen c.tally_line.new.audit) _ _ _
     (λ a b progress line.
-    tally_stop (application_of c.args.service.now) (holding_of (K.seen c.args.keeper.now) c.args.splits.now) (holding_of (K.seen c.lines.keeper) c.lines.splits) (holding_of (K.seen c.tally_line.new.keeper) c.tally_line.new.splits)
+    tally_stop (application_of c.args.service.now) (holding_of (K.seen c.args.keeper.now) c.args.counts.now.splits.now) (holding_of (K.seen c.lines.keeper) c.lines.counts.splits.now) (holding_of (K.seen c.tally_line.new.keeper) c.tally_line.new.counts.splits.now)
     c.args.bytes.now (option_now c.lines.left) (option_now c.first_part.result.1) c.lines.summary a c.first_part.result.0.now b (line_of c.first_part.result.0.now) c.in-Err.fault
     progress parts refl line)
     c.lines.invariant.went c.in-Err.ensures.tallied
@@ -63,11 +64,12 @@ lines-preserved g c =
           (subst (λ (lines : List (List ℕ)). All (λ line. IsAsking (line_of line)) lines) parts before.asking);
       attached = rw c.in-Ok.ensures.attached before.attached;
       same_store = c.in-Ok.ensures.attached ∙ before.same_store;
+      same_splits = c.in-Ok.ensures.same_splits ∙ before.same_splits;
       start = c.in-Ok.ensures.start;
       went =
           WentTo-then (U.seen c.args.audit.now) (U.seen c.lines.audit) (U.seen c.tally_line.new.audit) _ _ _
           (λ a b progress line.
-          tally_on (application_of c.args.service.now) (holding_of (K.seen c.args.keeper.now) c.args.splits.now) (holding_of (K.seen c.lines.keeper) c.lines.splits) (holding_of (K.seen c.tally_line.new.keeper) c.tally_line.new.splits)
+          tally_on (application_of c.args.service.now) (holding_of (K.seen c.args.keeper.now) c.args.counts.now.splits.now) (holding_of (K.seen c.lines.keeper) c.lines.counts.splits.now) (holding_of (K.seen c.tally_line.new.keeper) c.tally_line.new.counts.splits.now)
           c.args.bytes.now (option_now c.lines.left) (option_now c.first_part.result.1) c.lines.summary c.in-Ok.more a c.first_part.result.0.now b (line_of c.first_part.result.0.now)
           progress parts refl line)
           before.went c.in-Ok.ensures.tallied;
@@ -77,5 +79,5 @@ pub returns-clause-tallied : goal.returns-clause-tallied
 returns-clause-tallied g c =
     let K = g.K.Keeper in
     WentTo-on _ _ _
-    (λ a progress. tally_all (application_of c.args.service.now) (holding_of (K.seen c.args.keeper.now) c.args.splits.now) (holding_of (K.seen c.lines.keeper) c.lines.splits) c.args.bytes.now c.lines.left c.lines.summary a c.in_default.not-Some progress)
+    (λ a progress. tally_all (application_of c.args.service.now) (holding_of (K.seen c.args.keeper.now) c.args.counts.now.splits.now) (holding_of (K.seen c.lines.keeper) c.lines.counts.splits.now) c.args.bytes.now c.lines.left c.lines.summary a c.in_default.not-Some progress)
     c.lines.invariant.went

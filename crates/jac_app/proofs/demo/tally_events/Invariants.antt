@@ -22,9 +22,10 @@ invariant-lines g l =
       asking : All (λ line. IsAsking (line_of line)) (parts_left 10 (option_now l.left));
       attached : IsTrue (K.seen l.keeper).store.attached;
       same_store : (K.seen l.keeper).store ≡ (K.seen l.fn.keeper).store;
+      same_splits : l.counts.splits.ghost_name ≡ l.fn.counts.splits.ghost_name;
       start : IsTrue (K.seen l.keeper).tells → IsStart (application_of l.service) (K.seen l.keeper).state;
       went : WentTo (span (U.seen l.fn.audit) (U.seen l.audit))
-          (Tallying (application_of l.service) (span (holding_of (K.seen l.fn.keeper) l.fn.splits) (holding_of (K.seen l.keeper) l.splits)) l.bytes (option_now l.left) l.summary);
+          (Tallying (application_of l.service) (span (holding_of (K.seen l.fn.keeper) l.fn.counts.splits.now) (holding_of (K.seen l.keeper) l.counts.splits.now)) l.bytes (option_now l.left) l.summary);
     }
 
 abbrev pub decreases-lines : goal.decreases-lines

@@ -6,10 +6,10 @@ pub returns-in-Check-clause-ends : goal.returns-in-Check-clause-ends
 returns-in-Check-clause-ends g c = rw c.in-Check.is (WentAimed-on _ _ _ (λ out audit ends. (ends, refl, refl)) c.check.ensures)
 
 pub returns-in-Replay-clause-ends : goal.returns-in-Replay-clause-ends
-returns-in-Replay-clause-ends g c = rw c.in-Replay.is (WentAimed-on _ _ _ (λ out audit ends. (ends, refl)) c.replay.ensures)
+returns-in-Replay-clause-ends g c = rw c.in-Replay.is (WentAimed-on _ _ _ (λ out audit ends. (ends, refl)) c.replay.ensures.ends)
 
 pub returns-in-Demo-clause-ends : goal.returns-in-Demo-clause-ends
-returns-in-Demo-clause-ends g c = rw c.in-Demo.is (WentAimed-on _ _ _ (λ out audit ends. (ends, refl)) c.demo.ensures)
+returns-in-Demo-clause-ends g c = rw c.in-Demo.is (WentAimed-on _ _ _ (λ out audit ends. (ends, refl)) c.demo.ensures.ends)
 
 pub returns-in-Dump-clause-ends : goal.returns-in-Dump-clause-ends
 returns-in-Dump-clause-ends g c = rw c.in-Dump.is (WentAimed-on _ _ _ (λ out audit ends. (ends, refl, refl)) c.dump.ensures)

@@ -2,10 +2,10 @@ use Rattle.jac_serving.specs.Outside.{span}
 use Rattle.jac_ending.specs.Files.{sight}
 use Rattle.jac_app.proofs.CauseLemmas.{comes_for, is_attached_so}
 use Rattle.jac_app.proofs.CompleteLemmas.{is_served, is_checked, is_shown, is_dumped, is_explained, is_upgraded, is_refused, is_listened}
-use Rattle.jac_app.proofs.program.run.Goals as goal
+use Rattle.jac_app.proofs.program.run_counted.Goals as goal
 
-pub returns : goal.returns
-returns g c =
+pub returns-clause-run : goal.returns-clause-run
+returns-clause-run g c =
     let F = g.F.Files in
     let O = g.O.Sink in
     let U = g.U.Sink in
@@ -13,7 +13,7 @@ returns g c =
     let D = g.D.Door in
     let line = g.D.Line.Link.seen in
     let door = span (D.seen c.args.door.now) (D.seen c.run_words.new.door) in
-    let splits = span c.args.splits.now c.run_words.new.splits in
+    let splits = span c.args.counts.now.splits.now c.run_words.new.counts.splits.now in
     let seen =
     sight (F.seen c.args.files.now) (F.seen c.run_words.new.files) (O.seen c.args.out.now) (O.seen c.run_words.new.out)
     (U.seen c.args.audit.now) (U.seen c.run_words.new.audit) (K.seen c.args.vault.now) (K.seen c.run_words.new.vault) in

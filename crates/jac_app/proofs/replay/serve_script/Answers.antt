@@ -1,0 +1,25 @@
+use Rattle.jac_lang.specs.Mirror.{application_of}
+use Rattle.jac_serving.specs.Keeping.{holding_of}
+use Rattle.jac_serving.specs.Outside.{span, sinks}
+use Rattle.jac_serving.proofs.OutsideLemmas.{Went-on}
+use Rattle.jac_desk.specs.Answered.{answering_of}
+use Rattle.jac_app.proofs.ReplayLemmas.{served_stopped}
+use Rattle.jac_app.proofs.replay.serve_script.Goals as goal
+
+pub returns-in-Ok-clause-served : goal.returns-in-Ok-clause-served
+returns-in-Ok-clause-served g c = Went-on _ _ _ (λ o a h. h) (rw c.as_slice.ensures at c.in-Ok.ensures.served)
+
+pub returns-in-Err-clause-served : goal.returns-in-Err-clause-served
+returns-in-Err-clause-served g c =
+    let O = g.O.Sink in
+    let U = g.U.Sink in
+    let K = g.K.Keeper in
+    let desk = c.args.desk.now in
+    let after = c.serve_events.new.desk in
+    let s = sinks (O.seen c.args.out.now) (O.seen c.serve_events.new.out) (U.seen c.args.audit.now) (U.seen c.serve_events.new.audit) in
+    rw c.ending_of.ensures
+    (Went-on _ _ _
+    (λ o a h.
+    served_stopped (answering_of desk.lazy (application_of desk.service.now) desk.sessions.now)
+    (span (holding_of (K.seen desk.keeper.now) desk.splits.now) (holding_of (K.seen after.keeper.now) after.splits.now)) c.args.events.now c.in-Err.stopped s o a h)
+    (rw c.as_slice.ensures at c.in-Err.ensures.served))
