@@ -1,6 +1,5 @@
 -- How the steps of `serve` end.
 use Rattle.std.proofs.Common.{◌≡◌, ◌∙◌, ◌⊎◌, ap, sym, subst, refl, Bool, ℕ, inl, inr, IsTrue, Result, Ok, Err, Option, List, [], ◌++◌, append-nil, map, arith}
-use Rattle.jac_io.specs.Faults.{Rose}
 use Rattle.jac_io.specs.Linked.{LinkSeen, DoorSeen, DoorLasts, Listens}
 use Rattle.jac_io.specs.Seen.{FilesSeen, SinkSeen, Aims}
 use Rattle.jac_io.specs.declared.sink.Failed.{Failed}

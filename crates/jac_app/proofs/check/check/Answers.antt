@@ -1,4 +1,4 @@
-use Rattle.std.proofs.Common.{refl, inl, inr, [], arith}
+use Rattle.std.proofs.Common.{inl, inr, [], arith}
 use Rattle.jac_lang.specs.Mirror.{application_of}
 use Rattle.jac_words.specs.declared.words.Command.TheVariants as commands
 use Rattle.jac_serving.specs.Outside.{span}
