@@ -25,6 +25,13 @@ def uncommented(text):
     return re.sub(r'(?m)(?:--|//).*$', '', text)
 
 
+def first_sentence(text):
+    """That of the first comment, or all of it where none ends."""
+    first = re.search(r'(?m)^-- .*(?:\n-- .*)*', text)
+    words = re.sub(r'\n-- ', ' ', first.group()[3:]).strip() if first else ''
+    return re.sub(r'(?<=\.) .*$', '', words)
+
+
 class Item:
     """A definition of specs/, or a type, a trait or the top call of the code."""
 
@@ -64,8 +71,7 @@ class Specs(Place):
     def __init__(self, path, crate):
         super().__init__(path, crate)
         text = read(path)
-        first = re.search(r'(?m)^-- (.*)$', text)
-        self.about = first.group(1).strip() if first else ''
+        self.about = first_sentence(text)
         self.add_imports(text, r'(?m)^(pub )?use Rattle\.([\w.]+?)(?:\.\{([^}]*)\}| as (\w+))?$', '.')
         self.add_items(uncommented(text))
 
