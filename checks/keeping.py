@@ -4,8 +4,13 @@ requests of several viewers in turn: each reply, each line of the audit, and the
 program, for how many seconds, as `600s`, or how many applications, and the first one's seed, where it isn't to be the
 time. The other program is a trial of these sources in which labels are kept for no viewer; it is built in a folder of its
 own, which takes some minutes, or named by JAC_FORGETFUL. It is no part of the gate. A second interpreter says what is
-right (compare.py); this looks at longer runs, with more labels than that one can look at."""
+right (compare.py); this looks at longer runs, with more labels than that one can look at.
+
+Every other application is that of `linked.app`, whose policies link few labels each, by their own record and by what its
+fields refer to, so that behind a change a part of the labels is tried again; those of the random ones mostly go through
+whole tables."""
 import os
+import random
 import re
 import shutil
 import subprocess
@@ -94,6 +99,55 @@ class Case:
         return done.returncode, done.stdout.split(b'\n'), audit.split(b'\n'), dump.split(b'\n')
 
 
+class Linked(Case):
+    """The application whose policies link few labels, and many requests to it."""
+    OTHERS = {'review': 'paper', 'vote': 'review'}
+    SECOND = {'paper': 'title'}
+
+    def __init__(self, seed):
+        with open(os.path.join(TOP, 'checks', 'linked.app'), 'rb') as file:
+            self.text = file.read()
+        self.random, self.stored = random.Random(seed), False
+        self.made = {'paper': [], 'review': [], 'vote': []}
+        self.lines = ['ask - POST "/join" "name=Ann"\n', 'ask - POST "/join" "name=Bob"\n']
+        self.fill(self.random.randint(20, 200), self.random.randint(40, 200))
+
+    def fill(self, first, more):
+        for _ in range(first):
+            self.add()
+        for _ in range(more):
+            self.random.choice((self.add, self.set, self.set, self.set, self.remove, self.look))()
+
+    def ask(self, method, path, body=''):
+        self.lines.append('ask %s %s "%s" "%s"\n' % (self.random.choice(('4096', '4096', '8192', '-')), method, path, body))
+
+    def one(self, model):
+        return self.random.choice(self.made[model] or [4096])
+
+    def form(self, model):
+        choice, other = self.random.choice, self.OTHERS.get(model)
+        pairs = [(other, self.one(other))] if other else []
+        pairs += [(self.SECOND.get(model, 'words'), choice(('raid', 'raid', 'tea'))), ('open', choice('1110'))]
+        pairs += [('kind', choice('0112'))] * (model != 'vote')
+        return '&'.join('%s=%s' % pair for pair in pairs)
+
+    def add(self):
+        model = self.random.choice(list(self.made))
+        self.ask('POST', '/' + model, self.form(model))
+        self.made[model].append((len(self.lines)) * 4096 + list(self.made).index(model) + 1)
+
+    def set(self):
+        model = self.random.choice(list(self.made))
+        self.ask('POST', '/%s/set' % model, 'id=%d&%s' % (self.one(model), self.form(model)))
+
+    def remove(self):
+        model = self.random.choice(list(self.made))
+        self.ask('POST', '/%s/remove' % model, 'id=%d' % self.one(model))
+
+    def look(self):
+        self.ask('GET', '/all')
+
+
 def difference(have, want):
     """Where two runs differ, or None."""
     if have == want:
@@ -117,7 +171,7 @@ def main():
         other = forgetful(folder)
         began = time.monotonic()
         while (time.monotonic() - began < seconds if most is None else seed - first < most) and wrong < 5:
-            case = Case(seed)
+            case = (Case, Linked)[seed % 2](seed)
             case.put_files(folder)
             seed += 1
             have = case.told_by(program, folder)
