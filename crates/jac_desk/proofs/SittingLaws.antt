@@ -20,7 +20,7 @@ use Rattle.jac_engine.specs.Start.{IsStart}
 use Rattle.jac_engine.specs.declared.answer.Prepared.{Prepared}
 use Rattle.jac_sittings.specs.Kept.{IsOneOf, sitting_of}
 use Rattle.jac_sittings.specs.declared.sittings.Sitting.{Sitting}
-use Rattle.jac_desk.specs.Answered.{AreSeated, AreTouched, AreUnsettledIf, IsPutBack}
+use Rattle.jac_desk.specs.Answered.{DeskOf, AreSeated, AreTouched, AreUnsettledIf, IsPutBack}
 
 none_in : {P : Type 0} (s : Sitting) (sittings : List Sitting) → sittings ≡ [] → IsOneOf s sittings → P
 none_in s sittings none is = let nothing : ⊥ = subst (λ (xs : List Sitting). IsOneOf s xs) none is in absurd nothing
@@ -28,6 +28,14 @@ none_in s sittings none is = let nothing : ⊥ = subst (λ (xs : List Sitting). 
 -- where nothing is kept
 pub none_settled : (app : Application) (k : KeeperSeen) (sittings : List Sitting) → sittings ≡ [] → AreSeated app k sittings
 none_settled app k sittings none = record { each = λ told s is. none_in s sittings none is }
+
+-- what is settled for who asks is so for a desk that is whose it was, on the state that it was
+pub still_seated : (was is : DeskOf) (a b : KeeperSeen) (change : Option Change) (viewer : Option ℕ) (seat : Option Seat) → is ≡ was → (IsTrue b.tells → b.state ≡ a.state)
+    → (IsTrue b.tells → IfSome seat (IsSeated was.app (worlds_of (applied_if change a.state)) viewer))
+    → IsTrue b.tells → IfSome seat (IsSeated is.app (worlds_of (applied_if change b.state)) viewer)
+still_seated was is a b change viewer seat same left seated told =
+    subst (λ (of : DeskOf). IfSome seat (IsSeated of.app (worlds_of (applied_if change b.state)) viewer)) (sym same)
+    (subst (λ (s : State). IfSome seat (IsSeated was.app (worlds_of (applied_if change s)) viewer)) (sym (left told)) (seated told))
 
 -- fewer are kept, on the same state
 pub fewer_seated : (app : Application) (a b : KeeperSeen) (before after : List Sitting)

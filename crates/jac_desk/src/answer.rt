@@ -49,13 +49,14 @@ pub struct Lines {
     pub audit: Txt,
 }
 
-// What was prepared; what is settled for who asks on what it leaves, where that is kept; and what
-// its change may touch of what is kept for others.
+/// An answer that isn't stored yet.
 #[derive(Drop)]
-struct Ready {
-    prepared: Prepared,
-    seat: Option<Seat>,
-    touch: Option<Touch>,
+pub struct Ready {
+    pub prepared: Prepared,
+    /// What is settled for who asks on what the answer leaves, where that is kept.
+    pub seat: Option<Seat>,
+    /// What its change may touch of what is kept for others.
+    pub touch: Option<Touch>,
 }
 
 fn reply_via(alloc: Global, via: Via, ask: &Ask, answer: &Answer) -> Result<Bytes, Memory>
@@ -141,8 +142,8 @@ pub fn answer_ask<K: Keeper, L: Ledger, M: Ledger>(
     Ok(lines)
 }
 
-// What answers the request, over what is kept for who asks, which is taken out.
-fn ready_answer<K: Keeper, L: Ledger, M: Ledger>(
+/// What answers the request, over what is kept for who asks, which is taken out. Nothing is stored.
+pub fn ready_answer<K: Keeper, L: Ledger, M: Ledger>(
     desk: &mut Answerer<'_, '_, '_, '_, '_, '_, K, L, M>,
     ask: &Ask,
 ) -> Result<Ready, Stop>
@@ -288,9 +289,9 @@ fn take_seat(alloc: Global, sittings: &mut Sittings, viewer: &Option<Id>) -> Sea
     }
 }
 
-// Stores what was prepared. What is kept for others is right on what stood before and on what
-// stands then; what is settled for who asks is kept again where all went well.
-fn store_answer<K: Keeper, L: Ledger, M: Ledger>(
+/// Stores what was prepared. What is kept for others is right on what stood before and on what
+/// stands then; what is settled for who asks is kept again where all went well.
+pub fn store_answer<K: Keeper, L: Ledger, M: Ledger>(
     desk: &mut Answerer<'_, '_, '_, '_, '_, '_, K, L, M>,
     ask: &Ask,
     ready: Ready,

@@ -5,6 +5,6 @@ mod answer;
 mod asks;
 mod handler;
 
-pub use answer::{Lines, Via, answer_ask};
+pub use answer::{Lines, Ready, Via, answer_ask, ready_answer, store_answer};
 pub use asks::{ask_in, request_in, request_viewer, viewer_in};
 pub use handler::Answerer;

@@ -1,13 +1,13 @@
-use Rattle.std.proofs.Common.{◌≡◌, ◌∙◌, ap, sym, subst, IsTrue, IfSome}
+use Rattle.std.proofs.Common.{◌≡◌, ◌∙◌, ap, sym, subst, IsTrue}
 use Rattle.jac_rows.specs.Project.{project_at}
 use Rattle.jac_rows.specs.declared.state.State.{State}
 use Rattle.jac_lang.specs.Mirror.{application_of}
 use Rattle.jac_engine.specs.Answers.{HasForm}
-use Rattle.jac_engine.specs.Prepared.{IsPrepared, applied_if, worlds_of}
-use Rattle.jac_resolve.specs.Seated.{IsSeated}
+use Rattle.jac_engine.specs.Prepared.{IsPrepared, applied_if}
 use Rattle.jac_desk.specs.Answered.{AreSeated, AreTouched, DeskOf}
+use Rattle.jac_desk.specs.Seen.{whose}
 use Rattle.jac_desk.proofs.EntryLemmas.{servable, unapplied}
-use Rattle.jac_desk.proofs.SittingLaws.{prepared_after}
+use Rattle.jac_desk.proofs.SittingLaws.{prepared_after, still_seated}
 use Rattle.jac_desk.proofs.answer.answer_ask.Goals as goal
 
 pub make_lines-requires-clause-status : goal.make_lines-requires-clause-status
@@ -61,12 +61,13 @@ store_answer-requires-clause-prepared g c =
     c.args.ask.now c.in_ok-ready.ready.prepared new.tells (λ told. told) left.same_state c.in_ok-ready.ensures.prepared)
 
 pub store_answer-requires-clause-seated : goal.store_answer-requires-clause-seated
-store_answer-requires-clause-seated g c = λ told.
+store_answer-requires-clause-seated g c =
     let K = g.K.Keeper in
-    let left = c.in_ok-ready.ensures.reads.left in
+    let before = c.args.desk.now in
+    let after = c.ready_answer.new.desk in
     let ready = c.in_ok-ready.ready in
-    subst (λ (of : DeskOf). IfSome ready.seat (IsSeated of.app (worlds_of (applied_if ready.prepared.change (K.seen c.ready_answer.new.desk.keeper.now).state)) c.args.ask.now.viewer)) (sym c.in_ok-ready.ensures.same)
-    (rw (left.same_state told) (c.in_ok-ready.ensures.seated told))
+    still_seated (whose before) (whose after) (K.seen before.keeper.now) (K.seen after.keeper.now) ready.prepared.change c.args.ask.now.viewer ready.seat
+    c.in_ok-ready.ensures.same c.in_ok-ready.ensures.reads.left.same_state c.in_ok-ready.ensures.seated
 
 pub store_answer-requires-clause-touched : goal.store_answer-requires-clause-touched
 store_answer-requires-clause-touched g c = λ told.
