@@ -1,5 +1,5 @@
 -- Requests that are answered in silence, one after another.
-use Rattle.std.proofs.Common.{◌≡◌, ◌∙◌, ap, sym, subst, refl, inl, inr, ℕ, ◌+◌, ◌≤◌, Bool, true, false, IsTrue, if◌then◌else◌, Option, Some, None, Result, Ok, Err, List, [], ◌∷◌, ◌++◌, length, append-nil, length-append, decimal, arith, codes, is_some}
+use Rattle.std.proofs.Common.{◌≡◌, ◌∙◌, ap, sym, subst, refl, inl, inr, ℕ, ◌+◌, ◌≤◌, Bool, true, false, IsTrue, if◌then◌else◌, Option, Some, None, Result, Ok, Err, List, [], ◌∷◌, ◌++◌, length, append-nil, length-append, decimal, arith, codes}
 use denote.Ref.{Bor}
 use Rattle.std.specs.Str.{bytes_eq}
 use Rattle.jac_demo.specs.Calendar.{calendar_text}
@@ -9,7 +9,6 @@ use Rattle.jac_io.specs.Faults.{Rose}
 use Rattle.jac_io.specs.declared.sink.Failed.{Failed}
 use Rattle.jac_lang.specs.Syntax.{Application}
 use Rattle.jac_keep.specs.KeeperSeen.{KeeperSeen}
-use Rattle.jac_keep.specs.declared.alteration.Change.{Change}
 use Rattle.jac_keep.specs.declared.stop.Stop.{Stop}
 use Rattle.jac_value.specs.Parts.{parts_left, option_now}
 use Rattle.jac_replies.specs.Refused.{refusal}
@@ -88,11 +87,6 @@ pub ask_stopped : (app : Application) (k : Span Holding) (served : ℕ) (ask : A
 ask_stopped app k served ask viewer stop result put same entry h =
     tallies_ask app k served ask (refusal (status_of_stop stop) None) result put entry
     (PutsTally-same _ _ _ _ result put (ap (λ (v : Option ℕ). audit_text (served + 1) (status_of_stop stop) v None None) same) refl h)
-
--- no change comes with what isn't stored
-pub no_change : (change : Option Change) (stored : Bool) → is_some change ≡ stored → stored ≡ false → change ≡ None
-no_change None stored same none = refl
-no_change (Some change) stored same none = let bad = same ∙ none in cc
 
 -- sums with one more at the end
 sum_one : (x : ℕ) → 0 + x ≡ x + 0

@@ -13,13 +13,16 @@ ghost use Rattle.jac_engine.specs.Start.{IsStart};
 ghost use Rattle.jac_replies.specs.Refused.{refusal};
 ghost use Rattle.jac_ending.specs.declared.ending.Ending.TheVariants as endings;
 ghost use Rattle.jac_opening.specs.Application.{IsApplication, schema_text};
+ghost use Rattle.jac_desk.specs.Answered.{AreSeated, answering};
 ghost use Rattle.jac_desk.specs.Asked.{ask_in};
+ghost use Rattle.jac_desk.specs.Seen.{whose, desk_seen};
 ghost use Rattle.jac_calendar.specs.Asking.{IsAsking};
 ghost use Rattle.jac_app.specs.Demo.{EndsCounting, EndsDemo, EndsTallying, IsBounded, IsCounted, IsTold, PutsTally, Tallies, TalliesAsk, TalliesEvent, TalliesLine, demo_script, tally_of};
 ghost use Rattle.jac_replies.specs.Failed.{status_of_stop};
 ghost use Rattle.jac_ending.specs.Files.{IsUnopened};
 ghost use Rattle.jac_serving.specs.Line.{lines_of};
 ghost use Rattle.jac_replies.specs.Spelled.{audit_rest, audit_text};
+ghost use Rattle.jac_serving.specs.Desk.{MayServe, Keeps, kept};
 ghost use Rattle.jac_serving.specs.Keeping.{holding_of};
 ghost use Rattle.jac_serving.specs.Outside.{Went, WentAimed, WentTo, sinks, span};
 ghost use Rattle.jac_serving.specs.Script.{script_of};
@@ -28,16 +31,18 @@ use crate::attach::attach;
 use crate::counts::Counts;
 use crate::summary::{Summary, Tally, counted, failed_tally, none_counted, put_summary, tally_of};
 use jac_demo::{demo_app, demo_events};
-use jac_desk::{ask_in, viewer_in};
+use jac_desk::{Answerer, ask_in, ready_answer, store_answer, viewer_in};
 use jac_ending::{Ending, open_app};
-use jac_engine::{commit, prepare};
 use jac_events::{Event, LineFault, read_line};
 use jac_io::{AuditSink, Failed, Sink};
 use jac_keep::{Keeper, Stop, Vault};
 use jac_opening::Service;
-use jac_replies::{Answer, Ask, audit_rest, fixed_of};
+use jac_replies::{Answer, Ask, Spelling, audit_rest, fixed_of};
+use jac_route::Sessions;
 use jac_serving::{put_failed_audit, put_numbered};
+use jac_sittings::Sittings;
 use jac_value::{Bytes, Id, Memory, Txt, first_part};
+use jac_world::Steps;
 use std::alloc::Global;
 use std::sync::ledger::Ledger;
 
@@ -85,77 +90,69 @@ fn count_answer(alloc: Global, ask: &Ask, answer: &Answer) -> Result<Counted, Me
 // Answers one request and stores what it leaves. What its audit line says is made before, so that
 // nothing is stored without it.
 fn answer_counted<K: Keeper, L: Ledger, M: Ledger>(
-    service: &Service,
-    keeper: &mut K,
+    desk: &mut Answerer<'_, '_, '_, '_, '_, '_, K, L, M>,
     ask: &Ask,
-    counts: &mut Counts<'_, '_, L, M>,
 ) -> Result<Counted, Stop>
-    requires attached { IsTrue (K.seen keeper.old).store.attached }
-    requires start { IsTrue (K.seen keeper.old).tells → IsStart (application_of service.now)
-        (K.seen keeper.old).state }
-    ensures counted { IfOk result (λ c. IsCounted (application_of service.now)
-        (span (holding_of (K.seen keeper.old) counts.old.splits.now)
-        (holding_of (K.seen keeper.new) counts.new.splits.now)) ask.now c.audit c.tally) }
-    ensures reading { stores (application_of service.now) ask.now ≡ false
-        → counts.new.splits.now ≡ counts.old.splits.now }
-    ensures refused { IsTrue (K.seen keeper.new).tells
-        → OnErr result ((K.seen keeper.new).state ≡ (K.seen keeper.old).state) }
-    ensures told { IsTrue (K.seen keeper.new).tells → IsTrue (K.seen keeper.old).tells }
-    ensures cause { HasCause (K.seen keeper.old).faults (K.seen keeper.new).faults result }
-    ensures attached { (K.seen keeper.new).store ≡ (K.seen keeper.old).store }
-    ensures same_splits { counts.new.splits.ghost_name ≡ counts.old.splits.ghost_name }
+    requires desk { MayServe answering (desk_seen K.seen desk.old) }
+    requires eager { desk.old.lazy ≡ false }
+    ensures counted { IfOk result (λ c. IsCounted (whose desk.old).app
+        (kept (desk_seen K.seen desk.old) (desk_seen K.seen desk.new)) ask.now c.audit c.tally) }
+    ensures reading { stores (whose desk.old).app ask.now ≡ false
+        → desk.new.splits.now ≡ desk.old.splits.now }
+    ensures refused { IsTrue (K.seen desk.new.keeper.now).tells
+        → OnErr result ((K.seen desk.new.keeper.now).state ≡ (K.seen desk.old.keeper.now).state) }
+    ensures told { IsTrue (K.seen desk.new.keeper.now).tells
+        → IsTrue (K.seen desk.old.keeper.now).tells }
+    ensures cause { HasCause (K.seen desk.old.keeper.now).faults
+        (K.seen desk.new.keeper.now).faults result }
+    ensures attached { (K.seen desk.new.keeper.now).store ≡ (K.seen desk.old.keeper.now).store }
+    ensures settled { AreSeated (whose desk.old).app (K.seen desk.new.keeper.now)
+        desk.new.sittings.now }
+    ensures same { whose desk.new ≡ whose desk.old }
 {
-    let prepared = prepare(
-        counts.alloc,
-        service,
-        keeper,
-        ask,
-        false,
-        counts.splits,
-        counts.evaluations,
-    )?;
-    let counted = count_answer(counts.alloc, ask, &prepared.answer)?;
-    commit(counts.alloc, keeper, prepared)?;
+    let ready = ready_answer(desk, ask)?;
+    let counted = count_answer(desk.alloc, ask, &ready.prepared.answer)?;
+    store_answer(desk, ask, ready)?;
     Ok(counted)
 }
 
 // The same of an `ask` line.
 fn count_ask<K: Keeper, L: Ledger, M: Ledger>(
-    service: &Service,
-    keeper: &mut K,
+    desk: &mut Answerer<'_, '_, '_, '_, '_, '_, K, L, M>,
     asking: &Asking<'_>,
-    counts: &mut Counts<'_, '_, L, M>,
 ) -> Result<Counted, Stop>
-    requires attached { IsTrue (K.seen keeper.old).store.attached }
-    requires start { IsTrue (K.seen keeper.old).tells → IsStart (application_of service.now)
-        (K.seen keeper.old).state }
-    ensures counted { IfOk result (λ c. IsCounted (application_of service.now)
-        (span (holding_of (K.seen keeper.old) counts.old.splits.now)
-        (holding_of (K.seen keeper.new) counts.new.splits.now))
-        (ask_in (application_of service.now) asking.now.viewer asking.now.method.now
+    requires desk { MayServe answering (desk_seen K.seen desk.old) }
+    requires eager { desk.old.lazy ≡ false }
+    ensures counted { IfOk result (λ c. IsCounted (whose desk.old).app
+        (kept (desk_seen K.seen desk.old) (desk_seen K.seen desk.new))
+        (ask_in (whose desk.old).app asking.now.viewer asking.now.method.now
         asking.now.path.now asking.now.query.now asking.now.body.now) c.audit
         c.tally) }
-    ensures reading { stores (application_of service.now) (ask_in (application_of service.now)
+    ensures reading { stores (whose desk.old).app (ask_in (whose desk.old).app
         asking.now.viewer asking.now.method.now
         asking.now.path.now asking.now.query.now asking.now.body.now) ≡ false
-        → counts.new.splits.now ≡ counts.old.splits.now }
-    ensures refused { IsTrue (K.seen keeper.new).tells
-        → OnErr result ((K.seen keeper.new).state ≡ (K.seen keeper.old).state) }
-    ensures told { IsTrue (K.seen keeper.new).tells → IsTrue (K.seen keeper.old).tells }
-    ensures cause { HasCause (K.seen keeper.old).faults (K.seen keeper.new).faults result }
-    ensures attached { (K.seen keeper.new).store ≡ (K.seen keeper.old).store }
-    ensures same_splits { counts.new.splits.ghost_name ≡ counts.old.splits.ghost_name }
+        → desk.new.splits.now ≡ desk.old.splits.now }
+    ensures refused { IsTrue (K.seen desk.new.keeper.now).tells
+        → OnErr result ((K.seen desk.new.keeper.now).state ≡ (K.seen desk.old.keeper.now).state) }
+    ensures told { IsTrue (K.seen desk.new.keeper.now).tells
+        → IsTrue (K.seen desk.old.keeper.now).tells }
+    ensures cause { HasCause (K.seen desk.old.keeper.now).faults
+        (K.seen desk.new.keeper.now).faults result }
+    ensures attached { (K.seen desk.new.keeper.now).store ≡ (K.seen desk.old.keeper.now).store }
+    ensures settled { AreSeated (whose desk.old).app (K.seen desk.new.keeper.now)
+        desk.new.sittings.now }
+    ensures same { whose desk.new ≡ whose desk.old }
 {
     let ask = ask_in(
-        counts.alloc,
-        service.app(),
+        desk.alloc,
+        desk.service.app(),
         asking.viewer,
         asking.method,
         asking.path,
         asking.query,
         asking.body,
     )?;
-    let counted = answer_counted(service, keeper, &ask, counts)?;
+    let counted = answer_counted(desk, &ask)?;
     Ok(counted)
 }
 
@@ -197,30 +194,24 @@ fn put_stopped<U: AuditSink>(
 // Answers the request of an `ask` line, of which so many were answered before, and puts its audit
 // line.
 fn tally_ask<U: AuditSink, K: Keeper, L: Ledger, M: Ledger>(
-    service: &Service,
+    desk: &mut Answerer<'_, '_, '_, '_, '_, '_, K, L, M>,
     served: u64,
     asking: &Asking<'_>,
     audit: &mut U,
-    keeper: &mut K,
-    counts: &mut Counts<'_, '_, L, M>,
 ) -> Result<Tally, Failed>
     requires few { served < 2 ^ 64 - 1 }
-    requires attached { IsTrue (K.seen keeper.old).store.attached }
-    requires start { IsTrue (K.seen keeper.old).tells → IsStart (application_of service.now)
-        (K.seen keeper.old).state }
+    requires desk { MayServe answering (desk_seen K.seen desk.old) }
+    requires eager { desk.old.lazy ≡ false }
     ensures answered { WentTo (span (U.seen audit.old) (U.seen audit.new))
-        (TalliesAsk (application_of service.now)
-        (span (holding_of (K.seen keeper.old) counts.old.splits.now)
-        (holding_of (K.seen keeper.new) counts.new.splits.now)) served (ask_in
-        (application_of service.now) asking.now.viewer asking.now.method.now
+        (TalliesAsk (whose desk.old).app
+        (kept (desk_seen K.seen desk.old) (desk_seen K.seen desk.new)) served
+        (ask_in (whose desk.old).app asking.now.viewer asking.now.method.now
         asking.now.path.now asking.now.query.now asking.now.body.now) result) }
     ensures cause { OnErr result (Rose (U.seen audit.old).faults (U.seen audit.new).faults) }
-    ensures start { IsTrue (K.seen keeper.new).tells → IsStart (application_of service.now)
-        (K.seen keeper.new).state }
-    ensures attached { (K.seen keeper.new).store ≡ (K.seen keeper.old).store }
-    ensures same_splits { counts.new.splits.ghost_name ≡ counts.old.splits.ghost_name }
+    ensures keeps { Keeps answering (desk_seen K.seen desk.old) (desk_seen K.seen desk.new) }
 {
-    match count_ask(service, keeper, asking, counts) {
+    let service = desk.service;
+    match count_ask(desk, asking) {
         Ok(counted) => put_counted(audit, served + 1, counted.audit.as_bytes(), counted.tally),
         Err(stop) => put_stopped(
             audit,
@@ -233,31 +224,24 @@ fn tally_ask<U: AuditSink, K: Keeper, L: Ledger, M: Ledger>(
 
 // Serves a request, and counts it.
 fn tally_event<U: AuditSink, K: Keeper, L: Ledger, M: Ledger>(
-    service: &Service,
+    desk: &mut Answerer<'_, '_, '_, '_, '_, '_, K, L, M>,
     summary: Summary,
     event: &Event,
     audit: &mut U,
-    keeper: &mut K,
-    counts: &mut Counts<'_, '_, L, M>,
 ) -> Result<Summary, DemoFault>
     requires few { summary.asks < 2 ^ 64 - 1 }
     requires bounded { IsBounded summary }
     requires asking { IsAsking (Some (Some event.now)) }
-    requires attached { IsTrue (K.seen keeper.old).store.attached }
-    requires start { IsTrue (K.seen keeper.old).tells → IsStart (application_of service.now)
-        (K.seen keeper.old).state }
+    requires desk { MayServe answering (desk_seen K.seen desk.old) }
+    requires eager { desk.old.lazy ≡ false }
     ensures tallied { WentTo (span (U.seen audit.old) (U.seen audit.new))
-        (TalliesEvent (application_of service.now)
-        (span (holding_of (K.seen keeper.old) counts.old.splits.now)
-        (holding_of (K.seen keeper.new) counts.new.splits.now)) summary event.now result) }
+        (TalliesEvent (whose desk.old).app
+        (kept (desk_seen K.seen desk.old) (desk_seen K.seen desk.new)) summary event.now result) }
     ensures cause { result ≡ Err DemoFault.Write
         → Rose (U.seen audit.old).faults (U.seen audit.new).faults }
     ensures bounded { IfOk result (λ more. IsBounded more) }
     ensures count { IfOk result (λ more. more.asks ≤ summary.asks + 1) }
-    ensures start { IsTrue (K.seen keeper.new).tells → IsStart (application_of service.now)
-        (K.seen keeper.new).state }
-    ensures attached { (K.seen keeper.new).store ≡ (K.seen keeper.old).store }
-    ensures same_splits { counts.new.splits.ghost_name ≡ counts.old.splits.ghost_name }
+    ensures keeps { Keeps answering (desk_seen K.seen desk.old) (desk_seen K.seen desk.new) }
 {
     match event {
         Event::Ask {
@@ -274,7 +258,7 @@ fn tally_event<U: AuditSink, K: Keeper, L: Ledger, M: Ledger>(
                 query,
                 body,
             };
-            match tally_ask(service, summary.asks, &asking, audit, keeper, counts) {
+            match tally_ask(desk, summary.asks, &asking, audit) {
                 Ok(tally) => Ok(counted(summary, method.as_bytes(), tally)),
                 Err(Failed) => Err(DemoFault::Write),
             }
@@ -285,34 +269,28 @@ fn tally_event<U: AuditSink, K: Keeper, L: Ledger, M: Ledger>(
 
 // Serves a line, which is empty or writes down a request.
 fn tally_line<U: AuditSink, K: Keeper, L: Ledger, M: Ledger>(
-    service: &Service,
+    desk: &mut Answerer<'_, '_, '_, '_, '_, '_, K, L, M>,
     summary: Summary,
     line: &[u8],
     audit: &mut U,
-    keeper: &mut K,
-    counts: &mut Counts<'_, '_, L, M>,
 ) -> Result<Summary, DemoFault>
     requires few { summary.asks < 2 ^ 64 - 1 }
     requires bounded { IsBounded summary }
     requires asking { IsAsking (line_of line.now) }
-    requires attached { IsTrue (K.seen keeper.old).store.attached }
-    requires start { IsTrue (K.seen keeper.old).tells → IsStart (application_of service.now)
-        (K.seen keeper.old).state }
+    requires desk { MayServe answering (desk_seen K.seen desk.old) }
+    requires eager { desk.old.lazy ≡ false }
     ensures tallied { WentTo (span (U.seen audit.old) (U.seen audit.new))
-        (TalliesLine (application_of service.now)
-        (span (holding_of (K.seen keeper.old) counts.old.splits.now)
-        (holding_of (K.seen keeper.new) counts.new.splits.now)) summary (line_of line.now) result) }
+        (TalliesLine (whose desk.old).app
+        (kept (desk_seen K.seen desk.old) (desk_seen K.seen desk.new)) summary (line_of line.now)
+        result) }
     ensures cause { result ≡ Err DemoFault.Write
         → Rose (U.seen audit.old).faults (U.seen audit.new).faults }
     ensures bounded { IfOk result (λ more. IsBounded more) }
     ensures count { IfOk result (λ more. more.asks ≤ summary.asks + 1) }
-    ensures start { IsTrue (K.seen keeper.new).tells → IsStart (application_of service.now)
-        (K.seen keeper.new).state }
-    ensures attached { (K.seen keeper.new).store ≡ (K.seen keeper.old).store }
-    ensures same_splits { counts.new.splits.ghost_name ≡ counts.old.splits.ghost_name }
+    ensures keeps { Keeps answering (desk_seen K.seen desk.old) (desk_seen K.seen desk.new) }
 {
-    match read_line(counts.alloc, line) {
-        Ok(Some(event)) => tally_event(service, summary, &event, audit, keeper, counts),
+    match read_line(desk.alloc, line) {
+        Ok(Some(event)) => tally_event(desk, summary, &event, audit),
         Ok(None) => Ok(summary),
         Err(LineFault::BadLine) => unreachable!(),
         Err(LineFault::Memory) => Err(DemoFault::Memory),
@@ -321,31 +299,27 @@ fn tally_line<U: AuditSink, K: Keeper, L: Ledger, M: Ledger>(
 
 // Serves the requests of a text, line by line.
 fn tally_events<U: AuditSink, K: Keeper, L: Ledger, M: Ledger>(
-    service: &Service,
+    desk: &mut Answerer<'_, '_, '_, '_, '_, '_, K, L, M>,
     bytes: &[u8],
     audit: &mut U,
-    keeper: &mut K,
-    counts: &mut Counts<'_, '_, L, M>,
 ) -> Result<Summary, DemoFault>
     requires short { length bytes.now < 2 ^ 63 }
     requires asking { All (λ line. IsAsking (line_of line)) (lines_of bytes.now) }
-    requires attached { IsTrue (K.seen keeper.old).store.attached }
-    requires start { IsTrue (K.seen keeper.old).tells → IsStart (application_of service.now)
-        (K.seen keeper.old).state }
+    requires desk { MayServe answering (desk_seen K.seen desk.old) }
+    requires eager { desk.old.lazy ≡ false }
     ensures tallied { WentTo (span (U.seen audit.old) (U.seen audit.new))
-        (Tallies (application_of service.now)
-        (span (holding_of (K.seen keeper.old) counts.old.splits.now)
-        (holding_of (K.seen keeper.new) counts.new.splits.now)) (script_of bytes.now) result) }
+        (Tallies (whose desk.old).app
+        (kept (desk_seen K.seen desk.old) (desk_seen K.seen desk.new)) (script_of bytes.now)
+        result) }
     ensures cause { result ≡ Err DemoFault.Write
         → Rose (U.seen audit.old).faults (U.seen audit.new).faults }
-    ensures store { (K.seen keeper.new).store ≡ (K.seen keeper.old).store }
-    ensures same_splits { counts.new.splits.ghost_name ≡ counts.old.splits.ghost_name }
+    ensures keeps { Keeps answering (desk_seen K.seen desk.old) (desk_seen K.seen desk.new) }
 {
     let mut summary = none_counted();
     let mut left = Some(bytes);
     'lines: while let Some(rest) = left {
         let (line, after) = first_part(rest, b'\n');
-        match tally_line(service, summary, line, audit, keeper, counts) {
+        match tally_line(desk, summary, line, audit) {
             Ok(more) => summary = more,
             Err(fault) => return Err(fault),
         }
@@ -356,30 +330,65 @@ fn tally_events<U: AuditSink, K: Keeper, L: Ledger, M: Ledger>(
 
 // Serves the requests to the calendar.
 fn serve_calendar<U: AuditSink, K: Keeper, L: Ledger, M: Ledger>(
-    service: &Service,
+    desk: &mut Answerer<'_, '_, '_, '_, '_, '_, K, L, M>,
     count: u64,
     audit: &mut U,
-    keeper: &mut K,
-    counts: &mut Counts<'_, '_, L, M>,
 ) -> Result<Summary, DemoFault>
     requires some { 1 ≤ count }
     requires few { count ≤ 2000 }
-    requires attached { IsTrue (K.seen keeper.old).store.attached }
-    requires start { IsTrue (K.seen keeper.old).tells → IsStart (application_of service.now)
-        (K.seen keeper.old).state }
+    requires desk { MayServe answering (desk_seen K.seen desk.old) }
+    requires eager { desk.old.lazy ≡ false }
     ensures served { WentTo (span (U.seen audit.old) (U.seen audit.new))
-        (Tallies (application_of service.now)
-        (span (holding_of (K.seen keeper.old) counts.old.splits.now)
-        (holding_of (K.seen keeper.new) counts.new.splits.now)) (demo_script count) result) }
+        (Tallies (whose desk.old).app
+        (kept (desk_seen K.seen desk.old) (desk_seen K.seen desk.new)) (demo_script count)
+        result) }
     ensures cause { result ≡ Err DemoFault.Write
         → Rose (U.seen audit.old).faults (U.seen audit.new).faults }
-    ensures store { (K.seen keeper.new).store ≡ (K.seen keeper.old).store }
-    ensures same_splits { counts.new.splits.ghost_name ≡ counts.old.splits.ghost_name }
+    ensures keeps { Keeps answering (desk_seen K.seen desk.old) (desk_seen K.seen desk.new) }
 {
-    match demo_events(counts.alloc, count) {
-        Ok(events) => tally_events(service, events.as_slice(), audit, keeper, counts),
+    match demo_events(desk.alloc, count) {
+        Ok(events) => tally_events(desk, events.as_slice(), audit),
         Err(Memory) => Err(DemoFault::Memory),
     }
+}
+
+// The same over a desk, which ends behind them.
+fn serve_over<U: AuditSink, K: Vault, L: Ledger, M: Ledger>(
+    alloc: Global,
+    service: &Service,
+    count: u64,
+    audit: &mut U,
+    vault: &mut K,
+    splits: &mut Steps<L>,
+    evaluations: &mut Steps<M>,
+) -> Result<Summary, DemoFault>
+    requires some { 1 ≤ count }
+    requires few { count ≤ 2000 }
+    requires attached { IsTrue (K.seen vault.old).store.attached }
+    requires start { IsTrue (K.seen vault.old).tells → IsStart (application_of service.now)
+        (K.seen vault.old).state }
+    ensures served { WentTo (span (U.seen audit.old) (U.seen audit.new))
+        (Tallies (application_of service.now)
+        (span (holding_of (K.seen vault.old) splits.old) (holding_of (K.seen vault.new) splits.new))
+        (demo_script count) result) }
+    ensures cause { result ≡ Err DemoFault.Write
+        → Rose (U.seen audit.old).faults (U.seen audit.new).faults }
+    ensures store { (K.seen vault.new).store ≡ (K.seen vault.old).store }
+{
+    let sessions = Sessions::empty(alloc);
+    let mut sittings = Sittings::none(alloc);
+    let mut desk = Answerer {
+        keeper: vault,
+        splits,
+        evaluations,
+        alloc,
+        spelling: Spelling::Quoted,
+        service,
+        sessions: &sessions,
+        sittings: &mut sittings,
+        lazy: false,
+    };
+    serve_calendar(&mut desk, count, audit)
 }
 
 // Attaches a store without a name, and serves the requests.
@@ -405,7 +414,15 @@ fn tally_attached<U: AuditSink, K: Vault, L: Ledger, M: Ledger>(
     ensures same_splits { counts.new.splits.ghost_name ≡ counts.old.splits.ghost_name }
 {
     match attach(counts.alloc, service, None, schema, vault) {
-        Ok(()) => match serve_calendar(service, count, audit, vault, counts) {
+        Ok(()) => match serve_over(
+            counts.alloc,
+            service,
+            count,
+            audit,
+            vault,
+            counts.splits,
+            counts.evaluations,
+        ) {
             Ok(summary) => Ok(summary),
             Err(DemoFault::Write) => Err(Ending::WriteFault),
             Err(DemoFault::Memory) => Err(Ending::Memory),

@@ -6,14 +6,14 @@ use Rattle.jac_serving.proofs.OutsideLemmas.{WentTo-none, WentTo-on}
 use Rattle.jac_app.proofs.DemoLemmas.{tallied_on, tally_unattached}
 use Rattle.jac_app.proofs.demo.tally_attached.Goals as goal
 
-pub returns-in-Ok-serve_calendar-clause-served : goal.returns-in-Ok-serve_calendar-clause-served
-returns-in-Ok-serve_calendar-clause-served g c =
+pub returns-in-Ok-serve_over-clause-served : goal.returns-in-Ok-serve_over-clause-served
+returns-in-Ok-serve_over-clause-served g c =
     let K = g.K.Keeper in
     WentTo-on _ _ _
     (λ a served.
-    tallied_on (application_of c.args.service.now) (K.seen c.args.vault.now) (K.seen c.attach.new.vault) c.args.counts.now.splits.now (holding_of (K.seen c.serve_calendar.new.keeper) c.serve_calendar.new.counts.splits.now)
-    c.args.count _ a c.in-Ok.ensures.attaches c.in-Ok-serve_calendar.ensures.store served)
-    c.in-Ok-serve_calendar.ensures.served
+    tallied_on (application_of c.args.service.now) (K.seen c.args.vault.now) (K.seen c.attach.new.vault) c.args.counts.now.splits.now (holding_of (K.seen c.serve_over.new.vault) c.serve_over.new.splits)
+    c.args.count _ a c.in-Ok.ensures.attaches c.in-Ok-serve_over.ensures.store served)
+    c.in-Ok-serve_over.ensures.served
 
 pub returns-in-Err-clause-served : goal.returns-in-Err-clause-served
 returns-in-Err-clause-served g c =

@@ -1,33 +1,38 @@
-use Rattle.std.proofs.Common.{◌∙◌, ap, subst, List, ℕ, arith, Option, refl}
+use Rattle.std.proofs.Common.{◌∙◌, ap, subst, List, ℕ, arith, Option, Ok, Err, refl}
 use Rattle.std.proofs.lemmas.List.Elements.{All-head, All-tail}
 use Rattle.std.specs.List.{All}
 use denote.Ref.{Bor}
 use Rattle.jac_lang.specs.Mirror.{application_of}
+use Rattle.jac_lang.specs.Syntax.{Application}
 use Rattle.jac_events.specs.Lines.{line_of}
 use Rattle.jac_value.specs.Parts.{parts_left, option_now, length_left}
 use Rattle.jac_app.specs.declared.summary.Summary.{Summary}
+use Rattle.jac_app.specs.Demo.{TalliesLine}
 use Rattle.jac_calendar.specs.Asking.{IsAsking}
-use Rattle.jac_serving.specs.Keeping.{holding_of}
+use Rattle.jac_serving.specs.Outside.{span}
 use Rattle.jac_serving.proofs.OutsideLemmas.{WentTo-none, WentTo-on, WentTo-then}
+use Rattle.jac_desk.specs.Answered.{DeskOf, answering}
+use Rattle.jac_desk.specs.Seen.{desk_seen}
 use Rattle.jac_app.proofs.DemoLemmas.{tally_start, tally_on, tally_stop, tally_all}
+use Rattle.jac_serving.proofs.DeskLemmas.{keeps-none, keeps-may, keeps-then}
 use Rattle.jac_serving.proofs.ProgressLemmas.{shorter_left}
 use Rattle.jac_app.proofs.demo.tally_events.Goals as goal
 
 pub lines-init : goal.lines-init
 lines-init g c =
     let none = ap (λ (s : Summary). s.asks) c.none_counted-summary.ensures.none in
+    let desk = desk_seen g.K.Keeper.seen c.args.desk.now in
     record {
       short = c.requires.short;
       fewer = omega (arith, none);
       bounded = c.none_counted-summary.ensures.bounded;
       asking = c.requires.asking;
-      attached = c.requires.attached;
-      same_store = refl;
-      same_splits = refl;
-      start = c.requires.start;
+      desk = c.requires.desk;
+      eager = c.requires.eager;
+      keeps = keeps-none answering desk c.requires.desk;
       went =
           WentTo-none (g.U.Sink.seen c.args.audit.now) _
-          (tally_start (application_of c.args.service.now) (holding_of (g.K.Keeper.seen c.args.keeper.now) c.args.counts.now.splits.now) c.args.bytes.now c.none_counted-summary.result c.none_counted-summary.ensures.none c.requires.start);
+          (tally_start (application_of c.args.desk.now.service.now) desk.holding c.args.bytes.now c.none_counted-summary.result c.none_counted-summary.ensures.none c.requires.desk.ready);
     }
 
 pub tally_line-requires-clause-asking : goal.tally_line-requires-clause-asking
@@ -40,19 +45,32 @@ pub returns-in-Err-clause-tallied : goal.returns-in-Err-clause-tallied
 returns-in-Err-clause-tallied g c =
     let U = g.U.Sink in
     let K = g.K.Keeper in
+    let first = desk_seen K.seen c.args.desk.now in
+    let before = desk_seen K.seen c.lines.desk in
+    let after = desk_seen K.seen c.tally_line.new.desk in
+    let same = ap (λ (of : DeskOf). of.app) c.lines.invariant.keeps.same in
     let parts = ap (λ (o : Option (Bor (List ℕ))). parts_left 10 (option_now o)) c.in-Some.is ∙ c.first_part.ensures.parts in
     WentTo-then (U.seen c.args.audit.now) (U.seen c.lines.audit) (U.seen c.tally_line.new.audit) _ _ _
     (λ a b progress line.
-    tally_stop (application_of c.args.service.now) (holding_of (K.seen c.args.keeper.now) c.args.counts.now.splits.now) (holding_of (K.seen c.lines.keeper) c.lines.counts.splits.now) (holding_of (K.seen c.tally_line.new.keeper) c.tally_line.new.counts.splits.now)
+    tally_stop (application_of c.args.desk.now.service.now) first.holding before.holding after.holding
     c.args.bytes.now (option_now c.lines.left) (option_now c.first_part.result.1) c.lines.summary a c.first_part.result.0.now b (line_of c.first_part.result.0.now) c.in-Err.fault
-    progress parts refl line)
+    progress parts refl (subst (λ (app : Application). TalliesLine app (span before.holding after.holding) c.lines.summary (line_of c.first_part.result.0.now) (Err c.in-Err.fault) b) same line))
     c.lines.invariant.went c.in-Err.ensures.tallied
+
+pub returns-in-Err-clause-keeps : goal.returns-in-Err-clause-keeps
+returns-in-Err-clause-keeps g c =
+    let K = g.K.Keeper in
+    keeps-then answering (desk_seen K.seen c.args.desk.now) (desk_seen K.seen c.lines.desk) (desk_seen K.seen c.tally_line.new.desk) c.lines.invariant.keeps c.in-Err.ensures.keeps
 
 pub lines-preserved : goal.lines-preserved
 lines-preserved g c =
     let U = g.U.Sink in
     let K = g.K.Keeper in
+    let first = desk_seen K.seen c.args.desk.now in
+    let now = desk_seen K.seen c.lines.desk in
+    let after = desk_seen K.seen c.tally_line.new.desk in
     let before = c.lines.invariant in
+    let same = ap (λ (of : DeskOf). of.app) before.keeps.same in
     let left = ap (λ (o : Option (Bor (List ℕ))). length_left (option_now o)) c.in-Some.is in
     let parts = ap (λ (o : Option (Bor (List ℕ))). parts_left 10 (option_now o)) c.in-Some.is ∙ c.first_part.ensures.parts in
     record {
@@ -62,16 +80,15 @@ lines-preserved g c =
       asking =
           All-tail (λ line. IsAsking (line_of line)) c.first_part.result.0.now (parts_left 10 (option_now c.first_part.result.1))
           (subst (λ (lines : List (List ℕ)). All (λ line. IsAsking (line_of line)) lines) parts before.asking);
-      attached = rw c.in-Ok.ensures.attached before.attached;
-      same_store = c.in-Ok.ensures.attached ∙ before.same_store;
-      same_splits = c.in-Ok.ensures.same_splits ∙ before.same_splits;
-      start = c.in-Ok.ensures.start;
+      desk = keeps-may answering now after before.desk c.in-Ok.ensures.keeps;
+      eager = ap (λ (of : DeskOf). of.lazy) c.in-Ok.ensures.keeps.same ∙ before.eager;
+      keeps = keeps-then answering first now after before.keeps c.in-Ok.ensures.keeps;
       went =
           WentTo-then (U.seen c.args.audit.now) (U.seen c.lines.audit) (U.seen c.tally_line.new.audit) _ _ _
           (λ a b progress line.
-          tally_on (application_of c.args.service.now) (holding_of (K.seen c.args.keeper.now) c.args.counts.now.splits.now) (holding_of (K.seen c.lines.keeper) c.lines.counts.splits.now) (holding_of (K.seen c.tally_line.new.keeper) c.tally_line.new.counts.splits.now)
+          tally_on (application_of c.args.desk.now.service.now) first.holding now.holding after.holding
           c.args.bytes.now (option_now c.lines.left) (option_now c.first_part.result.1) c.lines.summary c.in-Ok.more a c.first_part.result.0.now b (line_of c.first_part.result.0.now)
-          progress parts refl line)
+          progress parts refl (subst (λ (app : Application). TalliesLine app (span now.holding after.holding) c.lines.summary (line_of c.first_part.result.0.now) (Ok c.in-Ok.more) b) same line))
           before.went c.in-Ok.ensures.tallied;
     }
 
@@ -79,5 +96,5 @@ pub returns-clause-tallied : goal.returns-clause-tallied
 returns-clause-tallied g c =
     let K = g.K.Keeper in
     WentTo-on _ _ _
-    (λ a progress. tally_all (application_of c.args.service.now) (holding_of (K.seen c.args.keeper.now) c.args.counts.now.splits.now) (holding_of (K.seen c.lines.keeper) c.lines.counts.splits.now) c.args.bytes.now c.lines.left c.lines.summary a c.in_default.not-Some progress)
+    (λ a progress. tally_all (application_of c.args.desk.now.service.now) (desk_seen K.seen c.args.desk.now).holding (desk_seen K.seen c.lines.desk).holding c.args.bytes.now c.lines.left c.lines.summary a c.in_default.not-Some progress)
     c.lines.invariant.went
