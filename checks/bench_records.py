@@ -22,6 +22,7 @@ from serving import processor_seconds, served
 
 SIZES = [1000, 16000]
 ROUNDS = 15
+AGAIN = 25      # how often a page is asked again in a round: about as often in all as of Flask
 LAZY = '--lazy'
 # who hosts or writes all, who comes or writes too, and who reviews
 ONE, OTHER, THIRD = (id_of(1, place) for place in (1, 2, 3))
@@ -253,7 +254,7 @@ def measured(program, kind, count, folder, options):
             first, again = [], []
             for _ in range(ROUNDS):
                 line.post(None, '/setup')
-                for times in first, again:
+                for times in [first] + [again] * AGAIN:
                     status, body, took = line.ask(viewer, 'GET', path)
                     assert status == 200, (status, body[:200])
                     times.append(took)
