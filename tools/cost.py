@@ -6,6 +6,10 @@ that are wanted, or none for all; `--write` writes the table of docs/TESTING.md,
 was measured is written down beside the clone, so that a run that was cut short goes on with what it lacks, as long as
 the crates stay; `--anew` begins again.
 
+With `--gate` it runs the gate itself, `rt ci`, here and once, and measures that; what it proves is kept as by any gate. On
+a machine that keeps nothing that is the whole table, and the time by the clock: where a crate was kept its row is lacking,
+and nothing is written.
+
 A crate's edits cost a check of the crate, which they begin with, one over it for each of them, and one at the end, as
 in `rt ci`. The minutes are those of the processors, by the system's count of a process and of all that it waited for,
 so that other work on the machine lengthens them a little, and not by its own time."""
@@ -22,6 +26,7 @@ sys.path.insert(0, os.path.join(TOP, 'checks'))
 import kit                                                                  # noqa: E402
 from costs import HEAD, PAGE, costs                                         # noqa: E402
 from crates import below, crates                                            # noqa: E402
+from gate import measured                                                   # noqa: E402
 from pages import differences                                               # noqa: E402
 from schedule import Schedule, Task, free_memory, processors                # noqa: E402
 
@@ -154,7 +159,7 @@ def measure(notes, wanted):
     return not failed
 
 
-def table(notes, names, when):
+def table(notes, names, when, how='runs of one crate each'):
     """The rows that the page has, a line for each crate, and their sum."""
     def cell(what, name):
         found = notes.found.get((what, name))
@@ -167,12 +172,37 @@ def table(notes, names, when):
             for name in names]
     sums = [total(what) for what in STEPS]
     rows.append('| **all** | %s | |' % ' | '.join('%.0f' % it for it in sums))
-    said = 'Measured on %s, from nothing, by `tools/cost.py` on %d processors: %.0f processor minutes.' % (
-        when, processors(), sum(sums))
+    said = 'Measured on %s, from nothing, by `tools/cost.py` in %s, on %d processors: %.0f processor minutes.' % (
+        when, how, processors(), sum(sums))
     return '\n'.join([said, '', *HEAD, *rows])
 
 
+class Found:
+    """What was found of the steps."""
+
+    def __init__(self, found):
+        self.found = found
+
+
+def measure_gate(words):
+    """Runs the gate here, and prints or writes the table of it."""
+    gate = measured(TOP)
+    notes, names = Found(gate.found()), list(crates())
+    lacking = [name for name in names if (PROOF, name) not in notes.found]
+    print('%.0f minutes by the clock' % gate.minutes)
+    if lacking:
+        print('these were kept from an earlier run: ' + ' '.join(lacking))
+        return 1
+    rows = table(notes, names, time.strftime('%-d %B %Y'), 'a run of `rt ci` that took %.0f minutes' % gate.minutes)
+    print(rows)
+    if '--write' in words:
+        differences(PAGE, {'cost': rows}, 'tools/cost.py', True)
+    return 0
+
+
 def main(words):
+    if '--gate' in words:
+        return measure_gate(words)
     wanted = [word for word in words if not word.startswith('--')] or list(crates())
     notes = Notes('--anew' in words)
     print('measuring in %s, with %d processors and %d MB' % (notes.clone, processors(), free_memory()), flush=True)

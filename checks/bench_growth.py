@@ -1,0 +1,77 @@
+#!/usr/bin/env python3
+"""Counts the instructions that guarded lists and POSTs take, by how many events there are. Words: the program, and the
+numbers of events, or none for 256, 1,024, 4,096 and 16,384. The requests are those of `bench.py`: the host of all events
+is shown all labels, nobody none; a list is asked again and again, and then anew behind a `POST` of nobody. A request costs
+what a run with some more of them takes less that of a run with two, divided by how many these are: four of a list, and 64
+of a `POST`, of which one now and then has the store find more room.
+
+valgrind counts, so a figure is the same from run to run, whatever else the machine does; what its caches do to it isn't
+counted, for which `bench.py` has the times. Last stand the bars. docs/COSTS.md has what it said last, with its date. It is
+no part of the gate."""
+import concurrent.futures
+import os
+import re
+import shutil
+import subprocess
+import sys
+import tempfile
+
+import proved
+from bench import GUARDED, GUARDED_ASKED, bar, guarded
+
+SIZES = [256, 1024, 4096, 16384]
+BARRED = 1024, 4096     # from these on to four times as many
+FEW = 2                 # requests of a run
+MORE = {'GET': 4, 'POST': 64}   # and those of another one beyond these, by the last of what is asked
+GROWTH = 4.6
+COUNTED = re.compile(r'I\s+refs:\s+([\d,]+)')
+
+
+def instructions(program, folder, name, events):
+    """What a run that answers these takes."""
+    path = os.path.join(folder, name)
+    with open(path, 'w') as file:
+        file.write('\n'.join(events) + '\n')
+    words = ['valgrind', '--tool=cachegrind', '--cache-sim=no', '--cachegrind-out-file=/dev/null',
+             program, 'replay', os.path.join(folder, 'bench.app'), path]
+    run = subprocess.run(words, stdout=subprocess.DEVNULL, stderr=subprocess.PIPE, text=True)
+    found = COUNTED.search(run.stderr)
+    if run.returncode or not found:
+        sys.exit('%s ended with %d\n%s' % (program, run.returncode, run.stderr[-2000:]))
+    return int(found.group(1).replace(',', ''))
+
+
+def request(program, folder, name, count, asked):
+    """What a request takes beside so many events."""
+    more = MORE[asked[-1].split()[2]]
+    few, many = (instructions(program, folder, '%s, %d of %d' % (name, number, count), guarded(count) + asked * number)
+                 for number in (FEW, FEW + more))
+    return (many - few) / more
+
+
+def main():
+    program = proved.binary(sys.argv[1])
+    sizes = [int(word) for word in sys.argv[2:]] or SIZES
+    if shutil.which('valgrind') is None:
+        sys.exit('there is no valgrind here')
+    took = {}
+    print('%-28s %6s %14s %8s' % ('request', 'N', 'instructions', 'growth'))
+    with tempfile.TemporaryDirectory() as folder, concurrent.futures.ThreadPoolExecutor(os.cpu_count()) as pool:
+        with open(os.path.join(folder, 'bench.app'), 'w') as file:
+            file.write(GUARDED)
+        waiting = {(name, count): pool.submit(request, program, folder, name, count, asked)
+                   for count in sizes for name, asked, _ in GUARDED_ASKED}
+        for count in sizes:
+            for name, _, before in GUARDED_ASKED:
+                took[name, count] = waiting[name, count].result() - (took[before, count] if before else 0)
+                fourth = took.get((name, count // 4))
+                growth = '%8.2f' % (took[name, count] / fourth) if fourth else ''
+                print('%-28s %6d %14.0f %s' % (name, count, took[name, count], growth), flush=True)
+    for name, _, _ in GUARDED_ASKED:
+        for count in BARRED:
+            both = (took.get((name, count)), took.get((name, 4 * count)))
+            bar('%s, from %d to %d' % (name, count, 4 * count), both[1] / both[0] if all(both) else None, GROWTH)
+
+
+if __name__ == '__main__':
+    main()
