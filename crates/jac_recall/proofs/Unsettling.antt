@@ -2,8 +2,6 @@
 use Rattle.std.proofs.Common.{◌≡◌, ◌==◌, ◌&&◌, ◌||◌, ℕ, Bool, true, false, if◌then◌else◌, List, [], ◌∷◌, Option, Some, None, refl, ap, ◌∙◌}
 use Rattle.std.specs.Option.{is_some}
 use Rattle.std.specs.List.{list_any}
-use Rattle.std.specs.Ordering.{nat_cmp}
-use Rattle.std.specs.BTreeMap.{get}
 use Rattle.std.proofs.lemmas.Bool.Decides.{Decides-eqb}
 use Rattle.jac_world.specs.World.{shown}
 use Rattle.jac_recall.specs.declared.answers.Answers.{Answers}
@@ -12,7 +10,7 @@ use Rattle.jac_recall.specs.declared.answers.Given.{Given}
 use Rattle.jac_recall.specs.declared.seat.Seat.{Seat}
 use Rattle.jac_recall.specs.declared.touch.Touch.{Touch}
 use Rattle.jac_recall.specs.declared.touch.TouchedGroup.{TouchedGroup}
-use Rattle.jac_recall.specs.Recalled.{hangs, hangs_in, is_asked, recall, recall_in, watches}
+use Rattle.jac_recall.specs.Recalled.{given_of, hangs, hangs_in, is_asked, recall, recall_in, watches}
 use Rattle.jac_recall.specs.Touched.{is_for, is_in_group, touches}
 use Rattle.jac_recall.specs.Seats.{Unsettles, is_marked}
 
@@ -66,12 +64,12 @@ unsettles_by touch viewer old new touched labels are due recalls watching = reco
   recalls = λ k w.
       recalls k w
       ∙ recall_if (shown touch.labels k) (list_any (λ (g : TouchedGroup). is_in_group g k && is_for g.viewer viewer) touch.groups.items) (is_asked old.answers k) (shown touched k) (recall old.answers k w) (are k)
-      (not_asked (get nat_cmp old.answers.given k) w);
+      (not_asked (given_of old.answers.given k) w);
   watching = watching;
   due = λ k s. due k ∙ or_left (shown old.due k) (is_marked old.answers touched k) s;
   named = λ k s. marked k (marked_itself old.answers touched k (are k ∙ or_left (shown touch.labels k) (touches touch viewer k && is_asked old.answers k) s));
   dropped = λ k t a. marked k (marked_itself old.answers touched k (among k t a));
-  hanging = λ j k t h. marked k (marked_hanging old.answers touched j k (among j t (hung_asked (get nat_cmp old.answers.given j) k h)) h);
+  hanging = λ j k t h. marked k (marked_hanging old.answers touched j k (among j t (hung_asked (given_of old.answers.given j) k h)) h);
 }
   where
     marked : (k : ℕ) → is_marked old.answers touched k ≡ true → shown new.due k ≡ true

@@ -1,13 +1,14 @@
 -- Answers of policies that are remembered with the signs of the labels that were consulted for
 -- them.
-use Rattle.std.specs.Prelude.{◌≡◌, ℕ, Bool, true, false, List, [], ◌∷◌, Option, Some, None, is_some, if◌then◌else◌}
+use Rattle.std.specs.Prelude.{◌≡◌, ◌%◌, ℕ, Bool, true, false, List, [], ◌∷◌, Option, Some, None, is_some, if◌then◌else◌}
 use Rattle.std.specs.List.{list_any}
 use Rattle.std.specs.Ordering.{nat_cmp}
-use Rattle.std.specs.BTreeMap.{get}
+use Rattle.std.specs.BTreeMap.{BTreeMap, get}
 use Rattle.jac_world.specs.World.{shown, holds, names}
 use Rattle.jac_recall.specs.declared.answers.Answers.{Answers}
 use Rattle.jac_recall.specs.declared.answers.Given.{Given}
 use Rattle.jac_recall.specs.declared.answers.Known.{Known}
+use Rattle.jac_recall.specs.declared.by_group.ByGroup.{ByGroup}
 
 -- the answer where its signs are those of the assignment
 abbrev pub known_at : Known → (ℕ → Bool) → Option Bool
@@ -23,6 +24,15 @@ abbrev pub first_fitting : List Known → (ℕ → Bool) → Option Bool
 first_fitting [] w = None
 first_fitting (c ∷ cs) w = if holds w c.when then Some c.holds else first_fitting cs w
 
+abbrev pub given_in : Option (BTreeMap ℕ Given) → ℕ → Option Given
+given_in None k = None
+given_in (Some group) k = get nat_cmp group k
+
+-- what was answered of a label. It is looked up among those of its group and of its record's model,
+-- which have one remainder by 512
+abbrev pub given_of : ByGroup → ℕ → Option Given
+given_of given k = given_in (get nat_cmp given.groups (k % 512)) k
+
 abbrev pub recall_in : Option Given → (ℕ → Bool) → Option Bool
 recall_in None w = None
 recall_in (Some given) w = first_fitting given.answers.items w
@@ -33,7 +43,7 @@ watched_in (Some watchers) j = shown watchers j
 
 -- what is remembered of a label under an assignment
 abbrev pub recall : Answers → ℕ → (ℕ → Bool) → Option Bool
-recall answers k w = recall_in (get nat_cmp answers.given k) w
+recall answers k w = recall_in (given_of answers.given k) w
 
 -- the first label is watched by the second
 abbrev pub watches : Answers → ℕ → ℕ → Bool
@@ -49,11 +59,11 @@ hangs_in (Some given) k = names_label given.answers.items k
 
 -- some answer of the first label was given with the sign of the second
 abbrev pub hangs : Answers → ℕ → ℕ → Bool
-hangs answers j k = hangs_in (get nat_cmp answers.given j) k
+hangs answers j k = hangs_in (given_of answers.given j) k
 
 -- something was answered of the label
 abbrev pub is_asked : Answers → ℕ → Bool
-is_asked answers k = is_some (get nat_cmp answers.given k)
+is_asked answers k = is_some (given_of answers.given k)
 
 -- the labels with the signs that they have under an assignment
 abbrev pub signed : (ℕ → Bool) → List ℕ → List (ℕ × Bool)

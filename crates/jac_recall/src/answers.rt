@@ -4,10 +4,11 @@ ghost use Rattle.jac_world.specs.World.{shown, holds, names, IsAscending};
 ghost use Rattle.std.specs.Ordering.{nat_cmp};
 ghost use Rattle.std.specs.BTreeMap.{get};
 ghost use Rattle.jac_plain.specs.Policies.{with_label};
-ghost use Rattle.jac_recall.specs.Recalled.{first_fitting, hangs, hangs_in, is_asked, names_label, or_known, recall, recall_in, signed, watched_in, watches};
+ghost use Rattle.jac_recall.specs.Recalled.{first_fitting, hangs, is_asked, names_label, or_known, recall, signed, watched_in, watches};
 ghost use Rattle.jac_recall.specs.Linked.{AreLinkedIf};
 ghost use Rattle.jac_recall.specs.Touched.{touches};
 
+use crate::by_group::ByGroup;
 use crate::links::linked;
 use crate::{Labels, Touch};
 use jac_value::{Id, Memory};
@@ -32,7 +33,7 @@ pub struct Given {
 /// for an answer.
 #[derive(Debug, Drop)]
 pub struct Answers {
-    pub given: BTreeMap<Label, Given>,
+    pub given: ByGroup,
     pub watchers: BTreeMap<Label, Labels>,
 }
 
@@ -42,7 +43,7 @@ impl Answers {
         ensures watches { (k j : ℕ) → watches result k j ≡ false }
     {
         Answers {
-            given: BTreeMap::new(alloc),
+            given: ByGroup::empty(alloc),
             watchers: BTreeMap::new(alloc),
         }
     }
@@ -51,7 +52,7 @@ impl Answers {
     pub fn recalled(&self, a: &Assignment, label: Label) -> Option<bool>
         ensures { result ≡ recall self.now label (with_label label (shown a.now)) }
     {
-        match self.given.get(&label) {
+        match self.given.get(label) {
             Some(given) => first_fitting(given.answers.as_slice(), a, label),
             None => None,
         }
@@ -79,7 +80,7 @@ impl Answers {
             → hangs self.new j k ≡ ((label == j && names known.when k) || hangs self.old j k)) }
     {
         watch_all(&mut self.watchers, alloc, known.when.pairs(), label)?;
-        give(&mut self.given, alloc, label, known)
+        self.given.give(alloc, label, known)
     }
 
     /// The labels whose answers hang on whether this one is shown.
@@ -97,24 +98,31 @@ impl Answers {
         ensures { OnOk result ((k : ℕ)
             → shown labels.new k ≡ (shown labels.old k || hangs self.now label k)) }
     {
-        match self.given.get(&label) {
+        match self.given.get(label) {
             Some(given) => add_answers(given.answers.as_slice(), labels),
             None => Ok(()),
         }
     }
 
-    /// Adds those labels of which something was answered that the change may touch. It goes through
-    /// all of which something was.
-    pub fn add_touched(
+    // Adds those labels of which something was answered that the change may touch, to labels that
+    // have those that it names. Of all that were asked it looks at the labels of its groups alone,
+    // where these are for this viewer.
+    pub(crate) fn add_touched(
         &self,
+        alloc: Global,
         touch: &Touch,
         viewer: &Option<Id>,
         labels: &mut Labels,
     ) -> Result<(), Memory>
+        requires named { (k : ℕ) → shown touch.now.labels k ≡ true → shown labels.old k ≡ true }
         ensures { OnOk result ((k : ℕ) → shown labels.new k ≡ (shown labels.old k
             || (touches touch.now viewer.now k && is_asked self.now k))) }
     {
-        add_asked(&self.given, touch, viewer, labels)
+        let mut touched = Vec::from_slice(alloc, labels.as_slice())?;
+        self.given
+            .add_touched(touch.groups.as_slice(), viewer, &mut touched)?;
+        *labels = Labels::rising(touched);
+        Ok(())
     }
 
     /// Forgets what was answered of the label. Its watchers stay, and the labels that it watches.
@@ -127,7 +135,7 @@ impl Answers {
         ensures asked { (k : ℕ)
             → is_asked self.new k ≡ (if label == k then false else is_asked self.old k) }
     {
-        forget_in(&mut self.given, label);
+        self.given.forget(label);
     }
 
     /// The labels with all that watch them, and all that their answers hang on, again and again; or
@@ -173,33 +181,6 @@ fn shows(a: &Assignment, added: Label, label: Label) -> bool
     added == label || a.shows(label)
 }
 
-fn give(
-    given: &mut BTreeMap<Label, Given>,
-    alloc: Global,
-    label: Label,
-    known: Known,
-) -> Result<(), Memory>
-    ensures hangs { OnOk result ((j k : ℕ) → hangs_in (get nat_cmp given.new j) k
-        ≡ ((label == j && names known.when k) || hangs_in (get nat_cmp given.old j) k)) }
-    ensures recalls { OnOk result ((k : ℕ) → (w : ℕ → Bool) → recall_in (get nat_cmp given.new k) w
-        ≡ (if label == k then or_known (recall_in (get nat_cmp given.old k) w) known w
-        else recall_in (get nat_cmp given.old k) w)) }
-{
-    let none = Given {
-        answers: Vec::new(alloc),
-    };
-    let of_label = given.entry(label)?.or_insert(none);
-    of_label.answers.push(known)?;
-    Ok(())
-}
-
-fn forget_in(given: &mut BTreeMap<Label, Given>, label: Label)
-    ensures { (k : ℕ)
-        → get nat_cmp given.new k ≡ (if label == k then None else get nat_cmp given.old k) }
-{
-    let _ = given.remove(&label);
-}
-
 fn add_answers(answers: &[Known], labels: &mut Labels) -> Result<(), Memory>
     ensures { OnOk result ((k : ℕ)
         → shown labels.new k ≡ (shown labels.old k || names_label answers.now k)) }
@@ -216,36 +197,6 @@ fn add_pairs(pairs: &[(Label, bool)], labels: &mut Labels) -> Result<(), Memory>
 {
     'pairs: for pair in pairs {
         labels.add(pair.0)?;
-    }
-    Ok(())
-}
-
-fn add_asked(
-    given: &BTreeMap<Label, Given>,
-    touch: &Touch,
-    viewer: &Option<Id>,
-    labels: &mut Labels,
-) -> Result<(), Memory>
-    ensures { OnOk result ((k : ℕ) → shown labels.new k ≡ (shown labels.old k
-        || (touches touch.now viewer.now k && is_some (get nat_cmp given.now k)))) }
-{
-    'asked: for label in given.keys() {
-        add_if_touched(touch, viewer, *label, labels)?;
-    }
-    Ok(())
-}
-
-fn add_if_touched(
-    touch: &Touch,
-    viewer: &Option<Id>,
-    label: Label,
-    labels: &mut Labels,
-) -> Result<(), Memory>
-    ensures { OnOk result ((k : ℕ) → shown labels.new k ≡ (shown labels.old k
-        || (label == k && touches touch.now viewer.now k))) }
-{
-    if touch.touches(viewer, label) {
-        labels.add(label)?;
     }
     Ok(())
 }

@@ -3,6 +3,7 @@
 #![tactic(auto)]
 
 mod answers;
+mod by_group;
 mod labels;
 mod laws;
 mod links;

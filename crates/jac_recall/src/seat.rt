@@ -32,8 +32,8 @@ impl Seat {
         }
     }
 
-    /// Forgets what a change may touch, and marks as due what hung on it. Where the change touches
-    /// no group it looks at the named labels alone, and not at all that were asked.
+    /// Forgets what a change may touch, and marks as due what hung on it. It looks at the named
+    /// labels and at those of the touched groups, and not at all that were asked.
     pub fn unsettle(
         &mut self,
         alloc: Global,
@@ -61,7 +61,7 @@ fn touched_of(
 {
     let mut touched = touch.labels.copy(alloc)?;
     if !touch.groups.is_empty() {
-        answers.add_touched(touch, viewer, &mut touched)?;
+        answers.add_touched(alloc, touch, viewer, &mut touched)?;
     }
     Ok(touched)
 }

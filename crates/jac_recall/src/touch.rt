@@ -1,9 +1,7 @@
 //! The labels whose policies may answer otherwise behind a change.
-ghost use Rattle.std.specs.Prelude.{◌≡◌, ◌&&◌, ◌||◌};
-ghost use Rattle.std.specs.List.{list_any};
+ghost use Rattle.std.specs.Prelude.{◌≡◌};
 ghost use Rattle.jac_value.specs.Ids.{record_of_label};
-ghost use Rattle.jac_recall.specs.declared.touch.TouchedGroup.{TouchedGroup as Group};
-ghost use Rattle.jac_recall.specs.Touched.{touches, is_for, is_in_group, is_same_viewer};
+ghost use Rattle.jac_recall.specs.Touched.{is_for, is_in_group, is_same_viewer};
 
 use crate::Labels;
 use jac_value::{Id, id_model};
@@ -34,23 +32,7 @@ pub struct Touch {
     pub groups: Vec<TouchedGroup>,
 }
 
-impl Touch {
-    /// Whether the policy of the label may answer otherwise to this viewer.
-    pub fn touches(&self, viewer: &Option<Id>, label: Label) -> bool
-        ensures { result ≡ touches self.now viewer.now label }
-    {
-        self.labels.has(label) || is_in_groups(self.groups.as_slice(), viewer, label)
-    }
-}
-
-fn is_in_groups(groups: &[TouchedGroup], viewer: &Option<Id>, label: Label) -> bool
-    ensures { result
-        ≡ list_any (λ (g : Group). is_in_group g label && is_for g.viewer viewer.now) groups.now }
-{
-    groups.iter().any(|group| is_in_group(group, label) && is_for(&group.viewer, viewer))
-}
-
-fn is_in_group(group: &TouchedGroup, label: Label) -> bool
+pub(crate) fn is_in_group(group: &TouchedGroup, label: Label) -> bool
     ensures { result ≡ is_in_group group.now label }
 {
     id_model(record_of(label)) == group.model && (label.0 % 8) as u8 == group.group
@@ -62,7 +44,7 @@ fn record_of(label: Label) -> Id
     Id(label.0 / 8)
 }
 
-fn is_for(whose: &Whose, viewer: &Option<Id>) -> bool
+pub(crate) fn is_for(whose: &Whose, viewer: &Option<Id>) -> bool
     ensures { result ≡ is_for whose.now viewer.now }
 {
     match whose {

@@ -1,8 +1,6 @@
 -- What is kept of a seat when worlds change.
 use Rattle.std.proofs.Common.{◌≡◌, ◌==◌, ◌||◌, ◌⊎◌, inl, inr, ℕ, Bool, true, false, if◌then◌else◌, List, Option, Some, None, refl, ap, sym, subst, ◌∙◌}
 use Rattle.std.specs.Option.{is_some}
-use Rattle.std.specs.Ordering.{nat_cmp}
-use Rattle.std.specs.BTreeMap.{get}
 use Rattle.std.proofs.lemmas.Bool.Decides.{Decides-eqb}
 use Rattle.jac_world.specs.World.{shown}
 use Rattle.jac_lang.specs.Syntax.{Application}
@@ -13,7 +11,7 @@ use Rattle.jac_plain.specs.Requests.{Worlds}
 use Rattle.jac_recall.specs.declared.answers.Given.{Given}
 use Rattle.jac_recall.specs.declared.seat.Seat.{Seat}
 use Rattle.jac_recall.specs.declared.touch.Touch.{Touch}
-use Rattle.jac_recall.specs.Recalled.{AreWatched, hangs, recall, recall_in}
+use Rattle.jac_recall.specs.Recalled.{AreWatched, given_of, hangs, recall, recall_in}
 use Rattle.jac_recall.specs.Seats.{IsEmptySeat, Unsettles}
 use Rattle.jac_recall.specs.Touched.{IsCovered, touches}
 use Rattle.jac_resolve.specs.Recalled.{AreRight}
@@ -85,7 +83,7 @@ module _ (app : Application) (worlds later : Worlds) (viewer : Option ℕ) (touc
       stays_if k (inl e) = touched_if (touches touch viewer k) refl
         where
           touched_if : (t : Bool) → touches touch viewer k ≡ t → (recall new.answers k (shown labels) ≡ Some true) ⊎ ((shown new.due k ≡ true) × ((w : ℕ → Bool) → recall new.answers k w ≡ None))
-          touched_if true t = inr (unsettles.dropped k t (asked_if (get nat_cmp old.answers.given k) (shown labels) true e), λ w. forgotten k w t)
+          touched_if true t = inr (unsettles.dropped k t (asked_if (given_of old.answers.given k) (shown labels) true e), λ w. forgotten k w t)
           touched_if false t = inl (unsettles.recalls k (shown labels) ∙ ap (λ b. if b then None else recall old.answers k (shown labels)) t ∙ e)
       stays_if k (inr p) = inr (unsettles.due k p.0, λ w. none_new k w (p.1 w))
 
@@ -101,7 +99,7 @@ module _ (app : Application) (worlds later : Worlds) (viewer : Option ℕ) (touc
           not_touched : touches touch viewer j ≡ true → (b : Bool) → (k == j) ≡ b → (b || shown labels j) ≡ true → touches touch viewer j ≡ false
           not_touched t true e h =
               let same : k ≡ j = (Decides-eqb k j).0 e in
-              never (shown new.due j) (touches touch viewer j ≡ false) (unsettles.dropped j t (asked_if (get nat_cmp old.answers.given j) (with_label k (shown labels)) false is)) (ap (shown new.due) (sym same) ∙ absent)
+              never (shown new.due j) (touches touch viewer j ≡ false) (unsettles.dropped j t (asked_if (given_of old.answers.given j) (with_label k (shown labels)) false is)) (ap (shown new.due) (sym same) ∙ absent)
           not_touched t false e h =
               one_of (hangs old.answers j k) (touches touch viewer j ≡ false) (λ hung. never (shown new.due k) (touches touch viewer j ≡ false) (unsettles.hanging j k t hung) absent)
               (λ apart. other_answer (recall old.answers j (shown labels)) (touches touch viewer j ≡ false) (sym (unhung old.answers j k apart (shown labels)) ∙ is) (stays_or j (kept.stays j h)))

@@ -1,8 +1,6 @@
 -- What was settled for somebody, over plain lists.
 use Rattle.std.proofs.Common.{◌≡◌, ◌==◌, ◌||◌, ◌⊎◌, inl, inr, ℕ, Bool, true, false, List, [], Option, Some, None, refl, ap, sym, subst, ◌∙◌}
 use Rattle.std.specs.Option.{is_some}
-use Rattle.std.specs.Ordering.{nat_cmp}
-use Rattle.std.specs.BTreeMap.{get}
 use Rattle.std.proofs.lemmas.Bool.Decides.{Decides-eqb}
 use Rattle.jac_world.specs.World.{shown, IsAscending}
 use Rattle.jac_lang.specs.Syntax.{Application}
@@ -10,7 +8,7 @@ use Rattle.jac_plain.specs.Policies.{is_allowed, with_label, IsLiveLabel, IsSett
 use Rattle.jac_plain.specs.Requests.{Worlds}
 use Rattle.jac_recall.specs.declared.answers.Answers.{Answers}
 use Rattle.jac_recall.specs.declared.seat.Seat.{Seat}
-use Rattle.jac_recall.specs.Recalled.{hangs, recall}
+use Rattle.jac_recall.specs.Recalled.{given_of, hangs, recall}
 use Rattle.jac_recall.proofs.Recalling.{recall_by}
 use Rattle.jac_resolve.specs.Recalled.{AreRight, IsPassed, IsUnderway, RemembersForbidden}
 use Rattle.jac_resolve.specs.Rounds.{AreLive}
@@ -18,7 +16,7 @@ use Rattle.jac_resolve.specs.Seated.{AreSettledBut, AreSettledButIf, IsAtRest, S
 
 -- whether a label is shown is nothing to what is remembered of one whose answers don't hang on it
 pub unhung : (answers : Answers) (j k : ℕ) → hangs answers j k ≡ false → (w : ℕ → Bool) → recall answers j (with_label k w) ≡ recall answers j w
-unhung answers j k absent w = recall_by (get nat_cmp answers.given j) (with_label k w) w (λ i h. differs i h (k == i) refl)
+unhung answers j k absent w = recall_by (given_of answers.given j) (with_label k w) w (λ i h. differs i h (k == i) refl)
   where
     differs : (i : ℕ) → hangs answers j i ≡ true → (b : Bool) → (k == i) ≡ b → (b || w i) ≡ w i
     differs i h true e = absurd (let same : true ≡ false = sym h ∙ ap (λ (n : ℕ). hangs answers j n) (sym ((Decides-eqb k i).0 e)) ∙ absent in cc)

@@ -7,7 +7,7 @@ use Rattle.jac_recall.specs.Recalled.{hangs_in, recall_in, or_known}
 use Rattle.jac_world.specs.World.{names}
 use Rattle.jac_recall.specs.declared.answers.Given.{Given}
 use Rattle.jac_recall.proofs.Recalling.{at_end, given_more, hung_more, or_none, is_at_number}
-use Rattle.jac_recall.proofs.answers.give.Goals as goal
+use Rattle.jac_recall.proofs.by_group.give.Goals as goal
 
 pub returns-clause-recalls : goal.returns-clause-recalls
 returns-clause-recalls c k w =
