@@ -4,7 +4,6 @@ use Rattle.jac_io.specs.Faults.{Rose}
 use Rattle.jac_io.specs.declared.sink.Failed.{Failed}
 use Rattle.jac_io.specs.Linked.{LinkSeen, DoorSeen, Nexts, Returns}
 use Rattle.jac_serving.specs.Keeping.{Holding}
-use Rattle.jac_events.specs.declared.event.Event.{Event}
 use Rattle.jac_links.specs.declared.door.DoorHalt.{DoorHalt}
 use Rattle.jac_links.specs.declared.door.DoorHalt.TheVariants as halts
 use Rattle.jac_links.specs.declared.door.Tally.{Tally}
@@ -16,7 +15,6 @@ use Rattle.jac_links.specs.DoorSteps.{visit_of, Visits, VisitsLine, GaveLine, Is
 use Rattle.jac_serving.specs.Answering.{Entry, Answering, IsAnswering}
 use Rattle.jac_serving.specs.Log.{audited, audited_from}
 use Rattle.jac_serving.specs.Outside.{Span, span, Took, IsFront}
-use Rattle.jac_serving.specs.Serve.{IsServed}
 use Rattle.jac_serving.proofs.EntriesLemmas.{entries-still, audited-append}
 use Rattle.jac_serving.proofs.OutsideLemmas.{append-IsFront, Rose-widen}
 use Rattle.jac_links.proofs.LostReplies.{lost_lines, torn_lines}

@@ -1,5 +1,5 @@
 -- Serving piece after piece of a link.
-use Rattle.std.proofs.Common.{◌≡◌, ◌∙◌, ap, sym, subst, refl, inl, inr, ℕ, ◌+◌, ◌-◌, ◌≤◌, ◌<◌, ◌==◌, ◌||◌, ◌&&◌, ◌⊎◌, nat_le, Bool, true, false, IsTrue, IsSome, Option, Some, None, Ok, Err, List, [], ◌∷◌, ◌++◌, length, drop, append_assoc, append-nil, length-append, length-take, length-drop, if◌then◌else◌, arith}
+use Rattle.std.proofs.Common.{◌≡◌, ◌∙◌, ap, sym, subst, refl, inl, inr, ℕ, ◌+◌, ◌-◌, ◌≤◌, ◌<◌, ◌==◌, ◌||◌, ◌&&◌, ◌⊎◌, not, nat_le, Bool, true, false, IsTrue, IsSome, Option, Some, None, Ok, Err, List, [], ◌∷◌, ◌++◌, length, drop, append_assoc, append-nil, length-append, length-take, length-drop, if◌then◌else◌, arith}
 use Rattle.std.proofs.lemmas.Bool.Decides.{nat_tests}
 use Rattle.std.specs.List.{concat}
 use Rattle.jac_io.specs.Faults.{Rose}
@@ -16,25 +16,25 @@ use Rattle.jac_hub.specs.Channel.{LIMIT, ChannelSeen, new_channel}
 use Rattle.jac_hub.specs.Hearing.{Subject as SubjectOf, whole, refused, broken}
 use Rattle.jac_hub.specs.Heard.{Connection, Connections, no_connections, new_connection, set_at, with_bytes, with_entry, is_closed, is_closing, closes, counted, StandAt, IsNext, AreBrought, AreBegun, PieceBrings, PieceBegins, IsBroughtBy, IsHeardFrom, after_both}
 use Rattle.jac_hub.specs.Hub.{HubSeen}
-use Rattle.jac_hub.specs.Served.{AreLikeAt, AreLike, closing}
+use Rattle.jac_hub.specs.Served.{AreLikeAt, AreLike, is_shut, closing}
 use Rattle.jac_hub.proofs.Events.{piece-left, piece-closings}
 use Rattle.jac_hub.proofs.Following.{new-like}
 use Rattle.jac_hub.proofs.Standing.{with_entries, set-same, brought-of}
 use Rattle.jac_hub.proofs.Statuses.{all_sound}
-use Rattle.jac_links.specs.declared.link.Brought.{Brought}
+use Rattle.jac_serving.specs.declared.given.Brought.{Brought}
 use Rattle.jac_links.specs.declared.link.Halt.TheVariants as halts
-use Rattle.jac_links.specs.declared.onto.Lost.{Lost}
-use Rattle.jac_links.specs.declared.onto.Lost.TheVariants as losses
+use Rattle.jac_serving.specs.declared.given.Lost.{Lost}
+use Rattle.jac_serving.specs.declared.given.Lost.TheVariants as losses
 use Rattle.jac_replies.specs.declared.reply.Spelling.TheVariants as spellings
-use Rattle.jac_links.specs.Link.{pieces_of, events_of, closes_in, is_over, IsLastLost, IsLinkServed}
-use Rattle.jac_links.specs.LinkSteps.{Gave, has_closed, begun_hub, IsPieceOn, IsPieceBegun, IsTornOn, IsQuiet}
+use Rattle.jac_links.specs.Link.{pieces_of, events_of, closes_in, is_over, IsLinkServed}
+use Rattle.jac_links.specs.LinkSteps.{Gave, begun_hub, IsPieceOn, IsPieceBegun, IsTornOn, IsQuiet}
 use Rattle.jac_serving.specs.Answering.{Entry, hearing, IsHeardBy, Answering, IsAnswering}
 use Rattle.jac_serving.specs.Log.{replies_on, audited_from, Brings, event_text}
 use Rattle.jac_serving.specs.Outside.{Span, span}
-use Rattle.jac_serving.specs.Serve.{IsServed}
+use Rattle.jac_serving.specs.Serve.{IsServed, IsLastLost, has_closed, outs_on}
 use Rattle.jac_serving.proofs.BringsLemmas.{brings-push, brings-part, brings-begun}
-use Rattle.jac_serving.proofs.EntriesLemmas.{entries-still}
-use Rattle.jac_links.proofs.LostReplies.{raw-append, audited_on, last_behind}
+use Rattle.jac_serving.proofs.EntriesLemmas.{entries-still, replies-append}
+use Rattle.jac_links.proofs.LostReplies.{audited_on, last_behind}
 use Rattle.jac_serving.proofs.OutsideLemmas.{Rose-widen}
 use Rattle.jac_serving.proofs.ProgressLemmas.{is_served_by}
 
@@ -175,6 +175,11 @@ module _ (app : Answering) (law : IsReading IsTaken) where
   closed_is : (c : ℕ) (b : Bool) → has_closed (closing c b) ≡ b
   closed_is c true = refl
   closed_is c false = refl
+
+  -- that it was closed is not told to it
+  closed_raw : (c : ℕ) (b : Bool) → outs_on spellings.Raw (closing c b) ≡ []
+  closed_raw c true = refl
+  closed_raw c false = refl
 
 -- ---- lists
 
@@ -346,8 +351,11 @@ module _ (app : Answering) (lawful : IsAnswering app) (law : IsReading IsTaken) 
         like = s.heard.like;
         idle = s.heard.idle;
         out_text =
-            ap (λ (t : List ℕ). t ++ p) so_far.out_text ∙ ap (λ (t : List ℕ). replies_on spellings.Raw so_far.log ++ t) s.heard.out_text
-            ∙ sym (raw-append so_far.log mine);
+            ap (λ (t : List ℕ). t ++ p) so_far.out_text
+            ∙ ap (λ (t : List ℕ). replies_on spellings.Raw so_far.log ++ t)
+            (s.heard.out_text ∙ ap (λ (t : List ℕ). replies_on spellings.Raw mine ++ t) (closed_raw app law c (not (is_shut (so_far.known c)) && is_shut (later c)))
+            ∙ append-nil (replies_on spellings.Raw mine))
+            ∙ sym (replies-append spellings.Raw so_far.log mine);
         audit_text =
             ap (λ (t : List ℕ). t ++ bu) so_far.audit_text ∙ ap (λ (t : List ℕ). audited_from (first + 1) so_far.log ++ t) s.heard.audit_text
             ∙ audited_on first count so_far.log mine so_far.count_is;
@@ -512,14 +520,14 @@ module _ (app : Answering) (lawful : IsAnswering app) (law : IsReading IsTaken) 
   lost_heard =
       subst (λ (es : List Event). IsHeardBy true (hearing app) es (s.log ++ mine))
       (ap (λ (es : List Event). Begin c ∷ es) (sym (pieces_split c s.pieces piece.bytes (Finish c ∷ []))))
-      (brings-begun app (Begin c ∷ pieces_of c s.pieces) (Finish c ∷ []) (Piece c piece.bytes) no_connections s.known 0 s.log mine s.text s.brings piece.begun.begun)
+      (brings-begun app (Begin c ∷ pieces_of c s.pieces) (Finish c ∷ []) (Piece c piece.bytes) no_connections s.known 0 s.log mine s.text s.brings piece.begun)
 
   lost_few : length (s.log ++ mine) ≤ 16777217
   lost_few =
       let n = place app lawful law c first hub la lb lc a b d count o au p bu back s in
       let begun =
       begun_by_some app law n c piece.bytes s.one mine s.is_closed_now
-      (subst (λ (x : Option (Connection Ask)). PieceBegins (hearing app) n c piece.bytes x mine) s.here piece.begun.begun) in
+      (subst (λ (x : Option (Connection Ask)). PieceBegins (hearing app) n c piece.bytes x mine) s.here piece.begun) in
       let few =
       few_begun app law n c (with_bytes piece.bytes s.one) mine (record { whole_ones = s.few.whole_ones; few = s.few.few }) begun in
       let most = few.few in
@@ -532,13 +540,13 @@ module _ (app : Answering) (lawful : IsAnswering app) (law : IsReading IsTaken) 
   lost_served : IsServed true app (span a d) (events_of c (s.pieces ++ piece.bytes ∷ [])) (s.log ++ mine)
   lost_served =
       is_served_by true app a d (events_of c (s.pieces ++ piece.bytes ∷ [])) (s.log ++ mine) lost_heard
-      (lawful.joined a b d s.log mine s.entries piece.begun.entries)
+      (lawful.joined a b d s.log mine s.entries piece.entries)
 
-  lost_behind : (lost : Lost) → IsLastLost lost count mine p bu → IsLastLost lost first (s.log ++ mine) (o ++ p) (au ++ bu)
+  lost_behind : (lost : Lost) → IsLastLost spellings.Raw lost count mine p bu → IsLastLost spellings.Raw lost first (s.log ++ mine) (o ++ p) (au ++ bu)
   lost_behind lost last = last_behind lost first count s.log mine o au p bu s.count_is s.out_text s.audit_text last
 
   -- a put on the audit failed
-  pub link_cut : IsLastLost losses.Audit count mine p bu → IsLinkServed app c first (span la lc) (span a d) (Err halts.Write) (o ++ p) (au ++ bu)
+  pub link_cut : IsLastLost spellings.Raw losses.Audit count mine p bu → IsLinkServed app c first (span la lc) (span a d) (Err halts.Write) (o ++ p) (au ++ bu)
   link_cut last = record {
     pieces = s.pieces ++ piece.bytes ∷ [];
     log = s.log ++ mine;
@@ -571,5 +579,5 @@ module _ (app : Answering) (lawful : IsAnswering app) (law : IsReading IsTaken) 
             let before = s.count_is in
             let last_is = torn.count_is in
             omega (arith, long, before, less, last_is);
-        puts = inr (lost_behind losses.Link torn.lost, rose);
+        puts = inr (lost_behind losses.Out torn.lost, rose);
       }

@@ -9,7 +9,7 @@ use Rattle.jac_links.specs.declared.door.Tally.{Tally}
 use Rattle.jac_links.specs.declared.link.Halt.{Halt}
 use Rattle.jac_links.specs.declared.link.Halt.TheVariants as ways
 use Rattle.jac_links.specs.Link.{as_sink, IsLinkServed}
-use Rattle.jac_serving.specs.Answering.{Entry, Answering, IsAnswering}
+use Rattle.jac_serving.specs.Answering.{Entry, Answering}
 use Rattle.jac_serving.specs.Log.{audited}
 use Rattle.jac_serving.specs.Outside.{Span, span, Took, IsFront}
 

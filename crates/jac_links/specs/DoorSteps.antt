@@ -9,7 +9,7 @@ use Rattle.jac_links.specs.declared.door.Tally.{Tally}
 use Rattle.jac_links.specs.declared.link.Halt.{Halt}
 use Rattle.jac_links.specs.declared.link.Halt.TheVariants as ways
 use Rattle.jac_links.specs.Door.{Visit, IsVisited}
-use Rattle.jac_serving.specs.Answering.{Entry, Answering, IsAnswering}
+use Rattle.jac_serving.specs.Answering.{Entry, Answering}
 use Rattle.jac_serving.specs.Outside.{Span}
 
 abbrev pub visit_of : {L : Type 0} → L → L → Result ℕ Halt → Visit L

@@ -12,13 +12,12 @@ use Rattle.jac_hub.specs.Channel.{LIMIT}
 use Rattle.jac_hub.specs.Heard.{is_closing}
 use Rattle.jac_links.specs.declared.link.Halt.{Halt}
 use Rattle.jac_links.specs.declared.link.Halt.TheVariants as halts
-use Rattle.jac_links.specs.declared.onto.Lost.{Lost}
-use Rattle.jac_links.specs.declared.onto.Lost.TheVariants as losses
 use Rattle.jac_replies.specs.declared.reply.Spelling.TheVariants as spellings
-use Rattle.jac_serving.specs.Answering.{Entry, hearing, Answering, IsAnswering}
-use Rattle.jac_serving.specs.Log.{entry_on, replies_on, audit_line, audited_from}
-use Rattle.jac_serving.specs.Outside.{Span, IsFront}
-use Rattle.jac_serving.specs.Serve.{IsServed}
+use Rattle.jac_serving.specs.declared.given.Lost.TheVariants as losses
+use Rattle.jac_serving.specs.Answering.{Entry, hearing, Answering}
+use Rattle.jac_serving.specs.Log.{replies_on, audited_from}
+use Rattle.jac_serving.specs.Outside.{Span}
+use Rattle.jac_serving.specs.Serve.{IsServed, IsLastLost}
 
 -- a link as a sink of what is put on it
 abbrev pub as_sink : LinkSeen → SinkSeen
@@ -48,32 +47,15 @@ pub record ArePut (first : ℕ) (log : List Entry) (out audit : List ℕ) : Type
   pub out_text : out ≡ replies_on spellings.Raw log
   pub audit_text : audit ≡ audited_from (first + 1) log
 
--- a reply, whose line goes to the audit before it, was lost: on the link, behind its whole line; or
--- in its line, before any of it
-abbrev pub IsLostOn : Lost → List ℕ → List ℕ → List ℕ → List ℕ → Type 0
-IsLostOn losses.Link reply line out audit = IsFront out reply × (audit ≡ line)
-IsLostOn losses.Audit reply line out audit = (out ≡ []) × IsFront audit line
-
--- all was put before the last of these entries, whose reply was lost
-pub record IsLastLost (lost : Lost) (first : ℕ) (log : List Entry) (out audit : List ℕ)
-    : Type 0 where
-  pub whole_ones : List Entry
-  pub entry : Entry
-  pub out_torn : List ℕ
-  pub audit_torn : List ℕ
-  pub parts : log ≡ whole_ones ++ entry ∷ []
-  pub torn : IsLostOn lost (entry_on spellings.Raw entry)
-      (audit_line (first + length whole_ones + 1) entry) out_torn audit_torn
-  pub out_text : out ≡ replies_on spellings.Raw whole_ones ++ out_torn
-  pub audit_text : audit ≡ audited_from (first + 1) whole_ones ++ audit_torn
-
 -- what was put of these entries, by how serving their link ended: where a put on the link failed
 -- the connection ended, one on the audit is a write's refusal, and where memory ran out all was put
 abbrev pub PutsLog : ℕ → Span LinkSeen → List Entry → Result ℕ Halt → List ℕ → List ℕ → Type 0
 PutsLog first link log (Ok count) out audit =
     ArePut first log out audit
-    ⊎ (IsLastLost losses.Link first log out audit × Rose link.before.faults link.after.faults)
-PutsLog first link log (Err halts.Write) out audit = IsLastLost losses.Audit first log out audit
+    ⊎ (IsLastLost spellings.Raw losses.Out first log out audit
+    × Rose link.before.faults link.after.faults)
+PutsLog first link log (Err halts.Write) out audit =
+    IsLastLost spellings.Raw losses.Audit first log out audit
 PutsLog first link log (Err halts.Memory) out audit = ArePut first log out audit
 
 -- connection c was served, before which there were `first` replies: these bytes went to its link,

@@ -1,22 +1,23 @@
 //! A link is served: its input is the pieces of one connection, and the replies go back on it as
 //! they are.
-ghost use Rattle.std.specs.Prelude.{◌≡◌, ◌<◌, ◌+◌, ◌-◌, ◌^◌, ℕ, IsSome, IsTrue, OnOk, Err};
+ghost use Rattle.std.specs.Prelude.{◌≡◌, ◌<◌, ◌+◌, ◌-◌, ◌^◌, IsSome, IsTrue, OnOk, Err};
 ghost use Rattle.jac_io.specs.Faults.{Rose};
 ghost use Rattle.jac_serving.specs.Desk.{MayServe, Keeps, kept};
 ghost use Rattle.jac_hub.specs.Hub.{seen, left, new_hub};
 ghost use Rattle.jac_hub.specs.declared.hub.Turn.TheVariants.{Idle};
 ghost use Rattle.jac_links.specs.Link.{as_sink, IsLinkServed};
-ghost use Rattle.jac_links.specs.LinkSteps.{PutsOutOn, PutsOutsOn, MayTake, TakesIn, AnswersOn, ServesPiece, standing_of, begun_hub};
-ghost use Rattle.jac_serving.specs.Outside.{Went, sinks, span};
-ghost use Rattle.jac_serving.specs.Serve.{IsFollowing};
+ghost use Rattle.jac_links.specs.LinkSteps.{MayTake, TakesIn, AnswersOn, ServesPiece, standing_of, cut_by, begun_hub};
+ghost use Rattle.jac_replies.specs.declared.reply.Spelling.TheVariants as spellings;
+ghost use Rattle.jac_serving.specs.Outside.{Went, WentWith, sinks, span};
+ghost use Rattle.jac_serving.specs.Serve.{IsFollowing, PutsOuts};
 
-use crate::onto::{Lost, Missed, put_reply, take_piece};
+use crate::onto::{Missed, Wire, take_piece};
 use jac_events::Event;
 use jac_http::requests_are_read;
-use jac_hub::{Hub, HubFault, HubOut};
+use jac_hub::{Hub, HubFault};
 use jac_io::{AuditSink, Link};
 use jac_replies::Spelling;
-use jac_serving::Desk;
+use jac_serving::{Brought, Cut, Desk, Lost, put_given};
 use jac_value::Memory;
 use std::alloc::Global;
 
@@ -28,22 +29,6 @@ pub enum Halt {
     Memory,
 }
 
-/// What an event brought so far: the count of replies by then, and whether its connection was
-/// closed.
-#[derive(Clone, Copy, Debug, PartialEq, Eq)]
-struct Brought {
-    count: u64,
-    closed: bool,
-}
-
-/// Why not all that an event brings was put.
-#[derive(Clone, Copy, Debug, PartialEq, Eq)]
-enum Cut {
-    /// The link failed, behind the audit line of the last of so many replies.
-    Link { count: u64 },
-    Audit,
-}
-
 /// How a connection stands behind a piece, and the count of replies by then.
 #[derive(Clone, Copy, Debug, PartialEq, Eq)]
 enum Standing {
@@ -51,44 +36,8 @@ enum Standing {
     Over { count: u64 },
 }
 
-// Puts what a hub gives, behind what was put so far.
-fn put_out<N: Link, U: AuditSink>(
-    link: &mut N,
-    audit: &mut U,
-    so_far: Brought,
-    given: &HubOut,
-) -> Result<Brought, Cut>
-    requires few { so_far.count < 2 ^ 64 - 1 }
-    ensures put { Went (sinks (as_sink (N.seen link.old)) (as_sink (N.seen link.new))
-        (U.seen audit.old) (U.seen audit.new)) (PutsOutOn so_far given.now result) }
-    ensures left { IsTrue (N.seen link.new).tells → (N.seen link.new).left
-        ≡ (N.seen link.old).left }
-    ensures link { (count : ℕ) → result ≡ Err (Cut.Link count)
-        → Rose (N.seen link.old).faults (N.seen link.new).faults }
-    ensures audit { result ≡ Err Cut.Audit
-        → Rose (U.seen audit.old).faults (U.seen audit.new).faults }
-{
-    match given {
-        HubOut::Reply { conn, sent } => {
-            let count = so_far.count + 1;
-            match put_reply(link, audit, count, *conn, sent) {
-                Ok(()) => Ok(Brought {
-                    count,
-                    closed: so_far.closed,
-                }),
-                Err(Lost::Link) => Err(Cut::Link { count }),
-                Err(Lost::Audit) => Err(Cut::Audit),
-            }
-        }
-        HubOut::Closed { conn: _ } => Ok(Brought {
-            count: so_far.count,
-            closed: true,
-        }),
-    }
-}
-
-// Puts what a hub gives for its last event.
-fn put_outs<D: Desk, N: Link, U: AuditSink>(
+// Tells what a hub gives for its last event on the link.
+fn put_on<D: Desk, N: Link, U: AuditSink>(
     desk: &mut D,
     served: u64,
     hub: &mut Hub,
@@ -97,29 +46,16 @@ fn put_outs<D: Desk, N: Link, U: AuditSink>(
 ) -> Result<Brought, Cut>
     requires few { served + left (seen hub.old) < 2 ^ 64 - 1 }
     requires desk { MayServe D.answering (D.seen desk.old) }
-    ensures put { Went (sinks (as_sink (N.seen link.old)) (as_sink (N.seen link.new))
+    ensures put { WentWith (sinks (as_sink (N.seen link.old)) (as_sink (N.seen link.new))
         (U.seen audit.old) (U.seen audit.new))
-        (PutsOutsOn (D.answering (D.seen desk.old).of) (seen hub.old) (seen hub.new)
+        (PutsOuts spellings.Raw (D.answering (D.seen desk.old).of) (seen hub.old) (seen hub.new)
         (kept (D.seen desk.old) (D.seen desk.new)) served result) }
     ensures left { IsTrue (N.seen link.new).tells → (N.seen link.new).left
         ≡ (N.seen link.old).left }
-    ensures link { (count : ℕ) → result ≡ Err (Cut.Link count)
-        → Rose (N.seen link.old).faults (N.seen link.new).faults }
-    ensures audit { result ≡ Err Cut.Audit
-        → Rose (U.seen audit.old).faults (U.seen audit.new).faults }
     ensures keeps { Keeps D.answering (D.seen desk.old) (D.seen desk.new) }
 {
-    let mut so_far = Brought {
-        count: served,
-        closed: false,
-    };
-    'outs: while let Some(given) = desk.next_out(Spelling::Raw, hub) {
-        match put_out(link, audit, so_far, &given) {
-            Ok(more) => so_far = more,
-            Err(cut) => return Err(cut),
-        }
-    }
-    Ok(so_far)
+    let mut wire = Wire { link };
+    put_given(desk, served, hub, &mut wire, audit)
 }
 
 // Has a hub take a piece. Where memory runs out for it, the hub gives the reply that says so.
@@ -149,22 +85,18 @@ fn serve_event<D: Desk, N: Link, U: AuditSink>(
     requires following { IsFollowing (D.answering (D.seen desk.old).of) (seen hub.old) }
     requires piece { MayTake (seen hub.old) event.now }
     requires desk { MayServe D.answering (D.seen desk.old) }
-    ensures answered { Went (sinks (as_sink (N.seen link.old)) (as_sink (N.seen link.new))
+    ensures answered { WentWith (sinks (as_sink (N.seen link.old)) (as_sink (N.seen link.new))
         (U.seen audit.old) (U.seen audit.new))
         (AnswersOn (D.answering (D.seen desk.old).of) (seen hub.old) (seen hub.new)
         (kept (D.seen desk.old) (D.seen desk.new)) served event.now result) }
     ensures left { IsTrue (N.seen link.new).tells → (N.seen link.new).left
         ≡ (N.seen link.old).left }
-    ensures link { (count : ℕ) → result ≡ Err (Cut.Link count)
-        → Rose (N.seen link.old).faults (N.seen link.new).faults }
-    ensures audit { result ≡ Err Cut.Audit
-        → Rose (U.seen audit.old).faults (U.seen audit.new).faults }
     ensures keeps { Keeps D.answering (D.seen desk.old) (D.seen desk.new) }
 {
     requests_are_read();
     desk.lawful();
     take_in(desk.alloc(), hub, event);
-    put_outs(desk, served, hub, link, audit)
+    put_on(desk, served, hub, link, audit)
 }
 
 // How a connection stands behind a piece.
@@ -179,6 +111,16 @@ fn stands(brought: Brought) -> Standing
         Standing::Open {
             count: brought.count,
         }
+    }
+}
+
+// The same behind a piece of which not all was told: a link that failed ends its connection alone.
+fn cut_short(cut: Cut) -> Result<Standing, Halt>
+    ensures { result ≡ cut_by cut.lost cut.count }
+{
+    match cut.lost {
+        Lost::Out => Ok(Standing::Over { count: cut.count }),
+        Lost::Audit => Err(Halt::Write),
     }
 }
 
@@ -210,8 +152,7 @@ fn serve_piece<D: Desk, N: Link, U: AuditSink>(
             let event = Event::Piece { conn, bytes };
             match serve_event(desk, served, &event, hub, link, audit) {
                 Ok(brought) => Ok(stands(brought)),
-                Err(Cut::Link { count }) => Ok(Standing::Over { count }),
-                Err(Cut::Audit) => Err(Halt::Write),
+                Err(cut) => cut_short(cut),
             }
         }
         Ok(None) => Ok(Standing::Over { count: served }),

@@ -8,7 +8,7 @@ use Rattle.jac_events.specs.declared.event.Event.{Event}
 use Rattle.jac_events.specs.declared.event.Event.TheVariants.{Ask as Asking, Begin, Piece, Finish}
 use Rattle.jac_hub.specs.Hearing.{Source, asked, connection, Hearing}
 use Rattle.jac_hub.specs.Heard.{Connection, Connections, set_at, begun, with_bytes, with_entry, is_closed, after_event, after_entry, after_entries, after_both, PieceBegins, IsBroughtBy, IsBegunBy, IsHeardFrom, IsHeardInPartFrom}
-use Rattle.jac_serving.specs.Answering.{Entry, hearing, Answering, IsAnswering}
+use Rattle.jac_serving.specs.Answering.{Entry, hearing, Answering}
 use Rattle.jac_serving.specs.Log.{event_text, Brings}
 use Rattle.jac_serving.specs.Script.{opened_by}
 use Rattle.jac_serving.specs.Serve.{is_open}

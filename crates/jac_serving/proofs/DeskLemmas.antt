@@ -40,10 +40,12 @@ module _ {O : Type 0} (answering : O → Answering) where
   pub of-keeps : (a b : DeskSeen O) (P : Answering → Type 0) → Keeps answering a b → P (answering a.of) → P (answering b.of)
   of-keeps a b P keeps h = subst (λ (o : O). P (answering o)) (sym keeps.same) h
 
-  pub next-of : (a b : DeskSeen O) (spelling : Spelling) (hub new : HubSeen) (result : Option HubOut) (before after : Holding) → Keeps answering a b
-      → Nexts IsTaken (handled spelling (answering b.of)) hub hub.turn result new before after → Nexts IsTaken (handled spelling (answering a.of)) hub hub.turn result new before after
-  next-of a b spelling hub new result before after keeps h =
-      keeps-of a b (λ (x : Answering). Nexts IsTaken (handled spelling x) hub hub.turn result new before after) keeps h
+  -- what it gave as it was asked to spell it
+  pub next-of : (a b : DeskSeen O) (told spelling : Spelling) (hub new : HubSeen) (result : Option HubOut) (before after : Holding) → Keeps answering a b → told ≡ spelling
+      → Nexts IsTaken (handled told (answering b.of)) hub hub.turn result new before after → Nexts IsTaken (handled spelling (answering a.of)) hub hub.turn result new before after
+  next-of a b told spelling hub new result before after keeps same h =
+      keeps-of a b (λ (x : Answering). Nexts IsTaken (handled spelling x) hub hub.turn result new before after) keeps
+      (subst (λ (s : Spelling). Nexts IsTaken (handled s (answering b.of)) hub hub.turn result new before after) same h)
 
   pub line-of : (a b : DeskSeen O) (hub new : HubSeen) (k : Span Holding) (served line : ℕ) (written : Option (Option Event)) (result : Result ℕ Stopped) (s : Sinks) (out audit : List ℕ) → Keeps answering a b
       → AnswersLine (answering b.of) hub new k served line written result s out audit → AnswersLine (answering a.of) hub new k served line written result s out audit

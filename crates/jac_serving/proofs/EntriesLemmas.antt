@@ -2,12 +2,15 @@
 use Rattle.std.proofs.Common.{◌≡◌, ◌∙◌, ap, sym, subst, refl, ℕ, ◌+◌, List, [], ◌∷◌, ◌++◌, length, append_assoc, arith}
 use Rattle.jac_serving.specs.Keeping.{Holding}
 use Rattle.jac_serving.specs.Answering.{Entry, Answering}
-use Rattle.jac_serving.specs.Log.{reply_line, audit_line, replies_text, audited_from}
+use Rattle.jac_replies.specs.declared.reply.Spelling.{Spelling}
+use Rattle.jac_serving.specs.Log.{entry_on, replies_on, audit_line, audited_from}
 use Rattle.jac_serving.specs.Outside.{span}
 
-pub replies-append : (xs ys : List Entry) → replies_text (xs ++ ys) ≡ replies_text xs ++ replies_text ys
-replies-append [] ys = refl
-replies-append (x ∷ xs) ys = ap (λ (rest : List ℕ). reply_line x ++ rest) (replies-append xs ys) ∙ sym (append_assoc (reply_line x) (replies_text xs) (replies_text ys))
+pub replies-append : (spelling : Spelling) (xs ys : List Entry) → replies_on spelling (xs ++ ys) ≡ replies_on spelling xs ++ replies_on spelling ys
+replies-append spelling [] ys = refl
+replies-append spelling (x ∷ xs) ys =
+    ap (λ (rest : List ℕ). entry_on spelling x ++ rest) (replies-append spelling xs ys)
+    ∙ sym (append_assoc (entry_on spelling x) (replies_on spelling xs) (replies_on spelling ys))
 
 pub audited-append : (k : ℕ) (xs ys : List Entry) → audited_from k (xs ++ ys) ≡ audited_from k xs ++ audited_from (k + length xs) ys
 audited-append k [] ys = ap (λ (n : ℕ). audited_from n ys) (omega arith)

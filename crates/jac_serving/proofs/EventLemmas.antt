@@ -1,5 +1,5 @@
 -- An event, as a hub takes it and as its entries are put.
-use Rattle.std.proofs.Common.{◌≡◌, ◌∙◌, ap, sym, subst, refl, inl, inr, ℕ, zero, suc, ◌+◌, ◌-◌, ◌≤◌, ◌^◌, ◌&&◌, ◌⊎◌, not, Bool, true, false, IsTrue, is_some, Option, Some, None, Result, Ok, Err, List, [], ◌∷◌, ◌++◌, length, take, drop, append-nil, length-append, if◌then◌else◌, decimal, arith}
+use Rattle.std.proofs.Common.{◌≡◌, ◌∙◌, ap, sym, subst, refl, inl, inr, ℕ, zero, suc, ◌+◌, ◌-◌, ◌≤◌, ◌^◌, ◌&&◌, ◌⊎◌, not, Bool, true, false, is_some, Option, Some, None, Result, Ok, Err, List, [], ◌∷◌, ◌++◌, length, take, drop, append-nil, length-append, if◌then◌else◌, decimal, arith}
 use Rattle.jac_serving.specs.Keeping.{Holding}
 use Rattle.jac_replies.specs.Failed.{status_of_stop}
 use Rattle.jac_replies.specs.Refused.{refusal}
@@ -12,7 +12,7 @@ use Rattle.jac_http.specs.Requests.{IsTaken}
 use Rattle.jac_hub.specs.declared.hub.HubFault.{HubFault}
 use Rattle.jac_hub.specs.declared.hub.HubFault.TheVariants as faults
 use Rattle.jac_hub.specs.declared.hub.HubOut.{HubOut}
-use Rattle.jac_hub.specs.declared.hub.HubOut.TheVariants.{Closed}
+use Rattle.jac_hub.specs.declared.hub.HubOut.TheVariants.{Reply, Closed}
 use Rattle.jac_hub.specs.declared.hub.Turn.{Turn}
 use Rattle.jac_hub.specs.declared.hub.Turn.TheVariants as turns
 use Rattle.jac_hub.specs.Channel.{LIMIT, ChannelSeen, grown}
@@ -26,16 +26,19 @@ use Rattle.jac_serving.specs.declared.serve.Lapse.{Lapse}
 use Rattle.jac_serving.specs.declared.serve.Lapse.TheVariants as lapses
 use Rattle.jac_serving.specs.declared.serve.Stopped.{Stopped}
 use Rattle.jac_serving.specs.declared.serve.Stopped.TheVariants as stops
+use Rattle.jac_replies.specs.declared.reply.Spelling.{Spelling}
 use Rattle.jac_replies.specs.declared.reply.Spelling.TheVariants as spellings
+use Rattle.jac_serving.specs.declared.given.Cut.{Cut}
+use Rattle.jac_serving.specs.declared.given.Lost.{Lost}
 use Rattle.jac_serving.specs.Answering.{Entry, hearing, Answering, IsAnswering}
-use Rattle.jac_serving.specs.Log.{reply_to, reply_line, replies_text, closing_text, audit_line}
+use Rattle.jac_serving.specs.Log.{reply_to, entry_on, replies_on, replies_text, closing_text, audit_line}
 use Rattle.jac_replies.specs.Spelled.{closed_text, audit_text}
-use Rattle.jac_serving.specs.Outside.{Span, span, Sinks, PutBoth, IsFront, IsTorn}
+use Rattle.jac_serving.specs.Outside.{Span, span, Sinks, PutBoth, IsFront, IsLostOn, FaultedAt}
 use Rattle.jac_serving.specs.Script.{lapse_of}
 use Rattle.jac_serving.specs.declared.desk.Asked.{Asked}
 use Rattle.jac_serving.specs.declared.desk.Asked.TheVariants.{Answered, Unanswered}
-use Rattle.jac_serving.specs.Serve.{IsAsked, asked_line, asked_audit, IsHandled, handled, outs_text, outs_audited, replies_in, IsOutTorn, PutsSome, IsEventServed, IsEventTorn, IsEntryTorn, IsClosingTorn, TakesEvent, AnswersEvent, is_open, lapse_by}
-use Rattle.jac_serving.proofs.HubLemmas.{handled-tells, lines_all, torn_reply}
+use Rattle.jac_serving.specs.Serve.{IsAsked, asked_line, asked_audit, IsHandled, handled, closed_on, outs_on, outs_audited, replies_in, IsOutLost, PutsSome, IsEventServed, IsLastLost, IsClosingTorn, IsEventCut, TakesEvent, AnswersEvent, is_open, lapse_by}
+use Rattle.jac_serving.proofs.HubLemmas.{handled-tells, lines_all, cut_last}
 
 pub err_same : (x y : HubFault) → ◌≡◌ {A = Result (Unit {0}) HubFault} (Err x) (Err y) → x ≡ y
 err_same x y e = cc
@@ -250,56 +253,83 @@ last_same (a ∷ xs) (b ∷ ys) x y e =
     let heads : a ≡ b = cc in
     (λ i. heads i ∷ rest.0 i, rest.1)
 
--- what was torn, by what the hub gave
-module _ (x : Answering) (lawful : IsAnswering x) (n served : ℕ) (event : Event) (known : Connections Ask) (a b : Holding) (mine : List Entry) (replies outs : List HubOut) (last : HubOut)
-    (s : Sinks) (out audit out_torn audit_torn : List ℕ) (start : x.ready a)
-    (answered : AreAnswered (hearing x) (IsHandled spellings.Quoted x) (refusal 500 None) a mine replies b)
-    (torn : IsOutTorn (served + replies_in outs + 1) last s out_torn audit_torn)
-    (out_text : out ≡ outs_text outs ++ out_torn) (audit_text : audit ≡ outs_audited (served + 1) outs ++ audit_torn) where
-  by_reply : replies ≡ outs ++ last ∷ [] → IsEntryTorn served mine s out audit
-  by_reply parts = torn_reply x lawful n served event known a b mine replies outs last s out audit out_torn audit_torn start answered parts torn out_text audit_text
+out_faulted : (spelling : Spelling) (k : ℕ) (lost : Lost) (given : HubOut) (s : Sinks) (out audit : List ℕ) → IsOutLost spelling k lost given s out audit → FaultedAt lost s
+out_faulted spelling k lost (Reply c sent) s out audit h = h.fault
+out_faulted spelling k lost (Closed c) s out audit h = subst (λ (l : Lost). FaultedAt l s) (sym h.1) h.4
+
+-- what was lost, by what the hub gave
+module _ (spelling : Spelling) (x : Answering) (lawful : IsAnswering x) (n served : ℕ) (event : Event) (known : Connections Ask) (a b : Holding) (mine : List Entry) (replies outs : List HubOut) (last : HubOut)
+    (cut : Cut) (s : Sinks) (out audit out_torn audit_torn : List ℕ) (start : x.ready a)
+    (answered : AreAnswered (hearing x) (IsHandled spelling x) (refusal 500 None) a mine replies b)
+    (torn : IsOutLost spelling cut.count cut.lost last s out_torn audit_torn) (count_is : cut.count ≡ served + replies_in outs + 1)
+    (out_text : out ≡ outs_on spelling outs ++ out_torn) (audit_text : audit ≡ outs_audited (served + 1) outs ++ audit_torn) where
+  by_reply : replies ≡ outs ++ last ∷ [] → IsLastLost spelling cut.lost served mine out audit × (cut.count ≡ served + length mine)
+  by_reply parts =
+      let c = cut_last spelling x lawful mine replies outs last a b start answered parts in
+      let count : cut.count ≡ served + length c.whole_ones + 1 = count_is ∙ ap (λ (m : ℕ). served + m + 1) c.replies in
+      let long = ap (λ (l : List Entry). length l) c.parts ∙ length-append c.whole_ones (c.entry ∷ []) in (
+        record {
+          whole_ones = c.whole_ones;
+          entry = c.entry;
+          out_torn = out_torn;
+          audit_torn = audit_torn;
+          parts = c.parts;
+          torn =
+              c.torn (served + length c.whole_ones + 1) cut.lost s out_torn audit_torn
+              (subst (λ (m : ℕ). IsOutLost spelling m cut.lost last s out_torn audit_torn) count torn);
+          out_text = out_text ∙ ap (λ (t : List ℕ). t ++ out_torn) c.text;
+          audit_text = audit_text ∙ ap (λ (t : List ℕ). t ++ audit_torn) (c.audited (served + 1));
+        },
+        omega (arith, count, long),
+      )
 
   by_closing : IsBroughtBy (hearing x) n event known mine
       → outs ++ last ∷ [] ≡ replies ++ closings event known (after_both (hearing x) event mine known)
       → (closings event known (after_both (hearing x) event mine known) ≡ []) ⊎ ((c : ℕ) × IsClosingOut event known (after_both (hearing x) event mine known) c)
-      → IsEntryTorn served mine s out audit ⊎ IsClosingTorn x served n event known mine s out audit
+      → (IsLastLost spelling cut.lost served mine out audit × (cut.count ≡ served + length mine)) ⊎ ((spelling ≡ spellings.Quoted) × IsClosingTorn x served n event known mine s out audit)
   by_closing brought parts (inl none) = inl (by_reply (sym (parts ∙ ap (λ (t : List HubOut). replies ++ t) none ∙ append-nil replies)))
   by_closing brought parts (inr one) =
       let same = last_same outs replies last (Closed one.0) (parts ∙ ap (λ (t : List HubOut). replies ++ t) one.1.out) in
-      let closed : IsOutTorn (served + replies_in outs + 1) (Closed one.0) s out_torn audit_torn =
-      subst (λ (l : HubOut). IsOutTorn (served + replies_in outs + 1) l s out_torn audit_torn) same.1 torn in
-      let lines = lines_all spellings.Quoted x lawful mine replies a b start answered in
-      inr (record {
-        out_torn = out_torn;
-        fault = closed.2;
-        some = λ none. closed_some one.0 (sym one.1.text ∙ none);
-        brought = brought;
-        torn = subst (λ (t : List ℕ). IsFront out_torn t) (sym one.1.text) closed.0;
-        out_text = out_text ∙ ap (λ (t : List ℕ). t ++ out_torn) (ap outs_text same.0 ∙ lines.text);
-        audit_text =
-            audit_text ∙ ap (λ (t : List ℕ). outs_audited (served + 1) outs ++ t) closed.1 ∙ append-nil (outs_audited (served + 1) outs)
-            ∙ ap (outs_audited (served + 1)) same.0 ∙ lines.audited (served + 1);
-      })
+      let closed : IsOutLost spelling cut.count cut.lost (Closed one.0) s out_torn audit_torn =
+      subst (λ (l : HubOut). IsOutLost spelling cut.count cut.lost l s out_torn audit_torn) same.1 torn in
+      let lines = lines_all spelling x lawful mine replies a b start answered in
+      inr (
+        closed.0,
+        record {
+          out_torn = out_torn;
+          fault = closed.4;
+          some = λ none. closed_some one.0 (sym one.1.text ∙ none);
+          brought = brought;
+          torn = subst (λ (t : List ℕ). IsFront out_torn t) (ap (λ (p : Spelling). closed_on p one.0) closed.0 ∙ sym one.1.text) closed.2;
+          out_text =
+              out_text ∙ ap (λ (t : List ℕ). t ++ out_torn)
+              (ap (outs_on spelling) same.0 ∙ lines.text ∙ ap (λ (p : Spelling). replies_on p mine) closed.0);
+          audit_text =
+              audit_text ∙ ap (λ (t : List ℕ). outs_audited (served + 1) outs ++ t) closed.3 ∙ append-nil (outs_audited (served + 1) outs)
+              ∙ ap (outs_audited (served + 1)) same.0 ∙ lines.audited (served + 1);
+        },
+      )
 
   torn_by : (outs ++ last ∷ [] ≡ replies) ⊎ (IsBroughtBy (hearing x) n event known mine × (outs ++ last ∷ [] ≡ replies ++ closings event known (after_both (hearing x) event mine known)))
-      → IsEntryTorn served mine s out audit ⊎ IsClosingTorn x served n event known mine s out audit
+      → (IsLastLost spelling cut.lost served mine out audit × (cut.count ≡ served + length mine)) ⊎ ((spelling ≡ spellings.Quoted) × IsClosingTorn x served n event known mine s out audit)
   torn_by (inl parts) = inl (by_reply (sym parts))
   torn_by (inr h) = by_closing h.0 h.1 (closing_shape event known (after_both (hearing x) event mine known))
 
 -- a put failed while an event was served
-pub event_torn : (x : Answering) (lawful : IsAnswering x) → IsReading IsTaken → (n served : ℕ) (event : Event) (known : Connections Ask) (taken : Result (Unit {0}) HubFault)
-    (old stepped : HubSeen) (a b : Holding) (s : Sinks) (out audit : List ℕ)
+pub event_cut : (spelling : Spelling) (x : Answering) (lawful : IsAnswering x) → IsReading IsTaken → (n served : ℕ) (event : Event) (known : Connections Ask) (taken : Result (Unit {0}) HubFault)
+    (old stepped : HubSeen) (a b : Holding) (cut : Cut) (s : Sinks) (out audit : List ℕ)
     → old.turn ≡ turns.Idle → AreLike (hearing x) old.channels known → Steps old event taken stepped → x.ready a
-    → PutsSome x stepped (span a b) served s out audit → IsEventTorn x (span a b) served n event known s out audit
-event_torn x lawful law n served event known taken old stepped a b sinks out audit idle like steps start p =
-    let s = event-served_in_part (hearing x) law (handled spellings.Quoted x) (IsHandled spellings.Quoted x) (refusal 500 None) n (handled-tells spellings.Quoted x)
+    → PutsSome spelling x stepped (span a b) served cut s out audit → IsEventCut spelling x (span a b) served cut n event known s out audit
+event_cut spelling x lawful law n served event known taken old stepped a b cut sinks out audit idle like steps start p =
+    let s = event-served_in_part (hearing x) law (handled spelling x) (IsHandled spelling x) (refusal 500 None) n (handled-tells spelling x)
     event known taken old stepped p.left (p.outs ++ p.last ∷ []) a b idle like steps p.given in
-    let lines = lines_all spellings.Quoted x lawful s.mine s.replies a b start s.answered in
+    let lines = lines_all spelling x lawful s.mine s.replies a b start s.answered in
     record {
       mine = s.mine;
       begun = s.begun;
       entries = lines.entries;
-      torn = torn_by x lawful n served event known a b s.mine s.replies p.outs p.last sinks out audit p.out_torn p.audit_torn start s.answered p.torn p.out_text p.audit_text s.put;
+      fault = out_faulted spelling cut.count cut.lost p.last sinks p.out_torn p.audit_torn p.torn;
+      torn = torn_by spelling x lawful n served event known a b s.mine s.replies p.outs p.last cut sinks out audit p.out_torn p.audit_torn start s.answered p.torn p.count_is p.out_text p.audit_text s.put;
     }
 
 -- the lines of what a desk made of a request
@@ -317,30 +347,31 @@ ask_entry n ask answer = record { place = n; source = asked; subject = whole ask
 pub ask_served : (x : Answering) (lawful : IsAnswering x) (hub : HubSeen) (a b : Holding) (served n : ℕ) (viewer : Option ℕ) (method path query body : List ℕ) (s : Sinks) (out audit : List ℕ) (known : Connections Ask) (made : Asked)
     → hub.turn ≡ turns.Idle → AreLike (hearing x) hub.channels known
     → IsAsked x (span a b) (x.asks viewer method path query body) made
-    → PutBoth {E = Unit {0}} (asked_line method made) (asked_audit (served + 1) made) (Ok tt) s out audit
-    → IsEventServed x hub (span a b) served (served + 1) n (Asking viewer method path query body) known out audit
+    → PutBoth (asked_line method made) (asked_audit (served + 1) made) (Ok tt) s out audit
+    → IsEventServed spellings.Quoted x hub (span a b) served (record { count = served + 1; closed = false }) n (Asking viewer method path query body) known out audit
 ask_served x lawful hub a b served n viewer method path query body s out audit known made idle like is put =
     let ask = x.asks viewer method path query body in
     let told = asked_told x (span a b) ask made is in
     let entry = ask_entry n ask told.0 in
     record {
       mine = entry ∷ [];
-      brought = (told.0, refl);
+      brought_by = (told.0, refl);
       entries = lawful.one a b entry told.1;
       count_is = omega arith;
+      closed_is = refl;
       like = like;
       idle = idle;
       out_text =
           put.0 ∙ ap (λ (m : List ℕ). asked_line m made) (sym (lawful.same_method viewer method path query body)) ∙ told.2
-          ∙ sym (append-nil (reply_line entry)) ∙ sym (append-nil (replies_text (entry ∷ [])));
+          ∙ sym (append-nil (entry_on spellings.Quoted entry)) ∙ sym (append-nil (replies_text (entry ∷ [])));
       audit_text = put.1 ∙ told.3 (served + 1) ∙ sym (append-nil (audit_line (served + 1) entry));
     }
 
-pub ask_torn : (x : Answering) (lawful : IsAnswering x) (a b : Holding) (served n : ℕ) (viewer : Option ℕ) (method path query body : List ℕ) (s : Sinks) (out audit : List ℕ) (known : Connections Ask) (made : Asked)
+pub ask_torn : (x : Answering) (lawful : IsAnswering x) (a b : Holding) (served n : ℕ) (viewer : Option ℕ) (method path query body : List ℕ) (lost : Lost) (s : Sinks) (out audit : List ℕ) (known : Connections Ask) (made : Asked)
     → IsAsked x (span a b) (x.asks viewer method path query body) made
-    → IsTorn (asked_line method made) (asked_audit (served + 1) made) s out audit
-    → IsEventTorn x (span a b) served n (Asking viewer method path query body) known s out audit
-ask_torn x lawful a b served n viewer method path query body s out audit known made is torn =
+    → PutBoth (asked_line method made) (asked_audit (served + 1) made) (Err lost) s out audit
+    → IsEventCut spellings.Quoted x (span a b) served (record { lost = lost; count = served + 1 }) n (Asking viewer method path query body) known s out audit
+ask_torn x lawful a b served n viewer method path query body lost s out audit known made is put =
     let ask = x.asks viewer method path query body in
     let told = asked_told x (span a b) ask made is in
     let entry = ask_entry n ask told.0 in
@@ -348,16 +379,20 @@ ask_torn x lawful a b served n viewer method path query body s out audit known m
       mine = entry ∷ [];
       begun = inr (told.0, refl);
       entries = lawful.one a b entry told.1;
-      torn = inl (record {
-        whole_ones = [];
-        entry = entry;
-        out_torn = out;
-        audit_torn = audit;
-        parts = refl;
-        torn =
-            subst (λ (t : List ℕ). IsTorn t (audit_line (served + 0 + 1) entry) s out audit) (ap (λ (m : List ℕ). asked_line m made) (sym (lawful.same_method viewer method path query body)) ∙ told.2)
-            (subst (λ (t : List ℕ). IsTorn (asked_line method made) t s out audit) (told.3 (served + 1) ∙ ap (λ (m : ℕ). audit_line m entry) (omega arith)) torn);
-        out_text = refl;
-        audit_text = refl;
-      });
+      fault = put.fault;
+      torn = inl (
+        record {
+          whole_ones = [];
+          entry = entry;
+          out_torn = out;
+          audit_torn = audit;
+          parts = refl;
+          torn =
+              subst (λ (t : List ℕ). IsLostOn lost t (audit_line (served + 0 + 1) entry) out audit) (ap (λ (m : List ℕ). asked_line m made) (sym (lawful.same_method viewer method path query body)) ∙ told.2)
+              (subst (λ (t : List ℕ). IsLostOn lost (asked_line method made) t out audit) (told.3 (served + 1) ∙ ap (λ (m : ℕ). audit_line m entry) (omega arith)) put.torn);
+          out_text = refl;
+          audit_text = refl;
+        },
+        omega arith,
+      );
     }

@@ -1,5 +1,5 @@
 -- What a hub gives, as entries of a log and their lines.
-use Rattle.std.proofs.Common.{◌≡◌, ◌∙◌, ap, sym, subst, refl, ℕ, ◌+◌, ◌&&◌, not, Bool, true, false, IsTrue, None, Result, List, [], ◌∷◌, ◌++◌, length, append_assoc, append-nil, if◌then◌else◌, arith}
+use Rattle.std.proofs.Common.{◌≡◌, ◌∙◌, ap, sym, subst, refl, ℕ, ◌+◌, ◌&&◌, ◌||◌, not, Bool, true, false, None, Result, List, [], ◌∷◌, ◌++◌, length, append_assoc, append-nil, if◌then◌else◌, arith}
 use Rattle.jac_serving.specs.Keeping.{Holding}
 use Rattle.jac_replies.specs.Refused.{refusal}
 use Rattle.jac_replies.specs.declared.answer.Answer.{Answer}
@@ -24,10 +24,12 @@ use Rattle.jac_hub.proofs.Events.{event-served}
 use Rattle.jac_replies.specs.declared.reply.Spelling.{Spelling}
 use Rattle.jac_replies.specs.declared.reply.Spelling.TheVariants as spellings
 use Rattle.jac_serving.specs.Answering.{Subject, Entry, hearing, Answering, IsAnswering}
-use Rattle.jac_serving.specs.Log.{reply_on, entry_on, replies_on, reply_line, replies_text, closing_text, reply_to, audit_line, audited_from, viewer_of}
+use Rattle.jac_serving.specs.declared.given.Brought.{Brought}
+use Rattle.jac_serving.specs.declared.given.Lost.{Lost}
+use Rattle.jac_serving.specs.Log.{reply_on, entry_on, replies_on, closing_text, audit_line, audited_from, viewer_of}
 use Rattle.jac_replies.specs.Spelled.{closed_text, audit_text}
-use Rattle.jac_serving.specs.Outside.{Span, span, Sinks, IsTorn}
-use Rattle.jac_serving.specs.Serve.{IsHandled, handled, sent_on, sent_line, sent_audit, out_on, outs_on, outs_text, out_text, outs_audited, replies_in, IsOutTorn, PutsAll, IsEventServed, IsEntryTorn}
+use Rattle.jac_serving.specs.Outside.{Span, span, Sinks, IsLostOn, IsLostAt}
+use Rattle.jac_serving.specs.Serve.{IsHandled, handled, sent_on, sent_audit, out_on, outs_on, outs_audited, replies_in, is_closed_out, has_closed, IsOutLost, PutsAll, IsEventServed}
 
 agrees : (spelling : Spelling) (x : Answering) (before after : Holding) (c : ℕ) (heard : Heard) (sent : Sent) (answer : Answer)
     → IsHandled spelling x before c heard sent after answer → Agrees (hearing x) heard sent answer
@@ -112,12 +114,12 @@ replies_in-append [] ys = omega arith
 replies_in-append (Reply c sent ∷ xs) ys = omega (arith, replies_in-append xs ys)
 replies_in-append (Closed c ∷ xs) ys = replies_in-append xs ys
 
--- what tells that a connection was closed has its line, and no other
-closed_outs : (c : ℕ) (closed : Bool) → outs_text (closing c closed) ≡ (if closed then closed_text c else [])
+-- what tells that a connection was closed has its line in a text, and no other
+closed_outs : (c : ℕ) (closed : Bool) → outs_on spellings.Quoted (closing c closed) ≡ (if closed then closed_text c else [])
 closed_outs c true = append-nil (closed_text c)
 closed_outs c false = refl
 
-closings_text : (event : Event) (before after : Connections Ask) → outs_text (closings event before after) ≡ closing_text event before after
+pub closings_text : (event : Event) (before after : Connections Ask) → outs_on spellings.Quoted (closings event before after) ≡ closing_text event before after
 closings_text (Asking viewer method path query body) before after = refl
 closings_text (Begin c) before after = refl
 closings_text (Piece c bytes) before after = closed_outs c (not (is_shut (before c)) && is_shut (after c))
@@ -127,45 +129,63 @@ closed_silent : (c : ℕ) (closed : Bool) (k : ℕ) → (outs_audited k (closing
 closed_silent c true k = (refl, refl)
 closed_silent c false k = (refl, refl)
 
-pub closings_silent : (event : Event) (before after : Connections Ask) (k : ℕ) → (outs_audited k (closings event before after) ≡ []) × (replies_in (closings event before after) ≡ 0)
+closings_silent : (event : Event) (before after : Connections Ask) (k : ℕ) → (outs_audited k (closings event before after) ≡ []) × (replies_in (closings event before after) ≡ 0)
 closings_silent (Asking viewer method path query body) before after k = (refl, refl)
 closings_silent (Begin c) before after k = (refl, refl)
 closings_silent (Piece c bytes) before after k = closed_silent c (not (is_shut (before c)) && is_shut (after c)) k
 closings_silent (Finish c) before after k = (refl, refl)
 
-pub right_none : (m : ℕ) → m + 0 ≡ m
+or_assoc : (a b c : Bool) → ((a || b) || c) ≡ (a || (b || c))
+or_assoc true b c = refl
+or_assoc false b c = refl
+
+pub has_closed-append : (xs ys : List HubOut) → has_closed (xs ++ ys) ≡ (has_closed xs || has_closed ys)
+has_closed-append [] ys = refl
+has_closed-append (x ∷ xs) ys = ap (λ (b : Bool). is_closed_out x || b) (has_closed-append xs ys) ∙ sym (or_assoc (is_closed_out x) (has_closed xs) (has_closed ys))
+
+-- the replies to entries tell no closing
+answered_open : (spelling : Spelling) (x : Answering) (mine : List Entry) (outs : List HubOut) (before after : Holding)
+    → AreAnswered (hearing x) (IsHandled spelling x) (refusal 500 None) before mine outs after → has_closed outs ≡ false
+answered_open spelling x [] outs before after (none, same) = ap has_closed none
+answered_open spelling x (entry ∷ mine) outs before after (c, sent, rest, between, is, parts, answered, more) =
+    ap has_closed parts ∙ answered_open spelling x mine rest between after more
+
+right_none : (m : ℕ) → m + 0 ≡ m
 right_none m = omega arith
 
 -- all that a hub gave for an event was put: the event was served
-pub event_whole : (x : Answering) (lawful : IsAnswering x) → IsReading IsTaken → (n served count : ℕ) (event : Event) (known : Connections Ask) (taken : Result (Unit {0}) HubFault)
+pub event_whole : (spelling : Spelling) (x : Answering) (lawful : IsAnswering x) → IsReading IsTaken → (n served : ℕ) (brought : Brought) (event : Event) (known : Connections Ask) (taken : Result (Unit {0}) HubFault)
     (old stepped new : HubSeen) (a b : Holding) (out audit : List ℕ)
     → old.turn ≡ Idle → AreLike (hearing x) old.channels known → Steps old event taken stepped → (IsLost event taken → ⊥) → x.ready a
-    → PutsAll x stepped new (span a b) served count out audit
-    → IsEventServed x new (span a b) served count n event known out audit
-event_whole x lawful law n served count event known taken old stepped new a b out audit idle like steps kept start p =
+    → PutsAll spelling x stepped new (span a b) served brought out audit
+    → IsEventServed spelling x new (span a b) served brought n event known out audit
+event_whole spelling x lawful law n served brought event known taken old stepped new a b out audit idle like steps kept start p =
     let h = hearing x in
-    let s = event-served h law (handled spellings.Quoted x) (IsHandled spellings.Quoted x) (refusal 500 None) n (handled-tells spellings.Quoted x)
+    let s = event-served h law (handled spelling x) (IsHandled spelling x) (refusal 500 None) n (handled-tells spelling x)
     event known taken old stepped new p.outs a b idle like steps kept p.emptied in
     let later = after_both h event s.mine known in
-    let lines = lines_all spellings.Quoted x lawful s.mine s.replies a b start s.answered in
+    let last = closings event known later in
+    let lines = lines_all spelling x lawful s.mine s.replies a b start s.answered in
     let silent = closings_silent event known later in
     record {
       mine = s.mine;
-      brought = s.brought;
+      brought_by = s.brought;
       entries = lines.entries;
       count_is =
-          p.count_is
+          p.put.count_is
           ∙ ap (λ (m : ℕ). served + m)
-          (ap replies_in s.put ∙ replies_in-append s.replies (closings event known later) ∙ ap (λ (m : ℕ). replies_in s.replies + m) (silent 0).1
+          (ap replies_in s.put ∙ replies_in-append s.replies last ∙ ap (λ (m : ℕ). replies_in s.replies + m) (silent 0).1
           ∙ right_none (replies_in s.replies) ∙ lines.replies);
+      closed_is =
+          p.put.closed_is ∙ ap has_closed s.put ∙ has_closed-append s.replies last
+          ∙ ap (λ (x : Bool). x || has_closed last) (answered_open spelling x s.mine s.replies a b s.answered);
       like = s.like;
       idle = s.idle;
       out_text =
-          p.out_text ∙ ap outs_text s.put ∙ outs_on-append spellings.Quoted s.replies (closings event known later)
-          ∙ ap (λ (t : List ℕ). t ++ outs_text (closings event known later)) lines.text
-          ∙ ap (λ (t : List ℕ). replies_text s.mine ++ t) (closings_text event known later);
+          p.put.out_text ∙ ap (outs_on spelling) s.put ∙ outs_on-append spelling s.replies last
+          ∙ ap (λ (t : List ℕ). t ++ outs_on spelling last) lines.text;
       audit_text =
-          p.audit_text ∙ ap (outs_audited (served + 1)) s.put ∙ outs_audited-append (served + 1) s.replies (closings event known later)
+          p.put.audit_text ∙ ap (outs_audited (served + 1)) s.put ∙ outs_audited-append (served + 1) s.replies last
           ∙ ap (λ (t : List ℕ). outs_audited (served + 1) s.replies ++ t) (silent (served + 1 + replies_in s.replies)).0
           ∙ append-nil (outs_audited (served + 1) s.replies) ∙ lines.audited (served + 1);
     }
@@ -175,15 +195,14 @@ no_entries [] e = refl
 no_entries (entry ∷ mine) e = absurd cc
 
 -- the entries beside the first of the replies
-pub record IsCut (x : Answering) (k : Span Holding) (mine : List Entry) (outs : List HubOut) (last : HubOut) : Type 0 where
+pub record IsCut (spelling : Spelling) (mine : List Entry) (outs : List HubOut) (last : HubOut) : Type 0 where
   pub whole_ones : List Entry
   pub entry : Entry
   pub parts : mine ≡ whole_ones ++ entry ∷ []
-  pub text : outs_text outs ≡ replies_text whole_ones
+  pub text : outs_on spelling outs ≡ replies_on spelling whole_ones
   pub audited : (n : ℕ) → outs_audited n outs ≡ audited_from n whole_ones
   pub replies : replies_in outs ≡ length whole_ones
-  pub line : out_text last ≡ reply_line entry
-  pub torn : (n : ℕ) (s : Sinks) (o a : List ℕ) → IsOutTorn n last s o a → IsTorn (reply_line entry) (audit_line n entry) s o a
+  pub torn : (n : ℕ) (lost : Lost) (s : Sinks) (o a : List ℕ) → IsOutLost spelling n lost last s o a → IsLostOn lost (entry_on spelling entry) (audit_line n entry) o a
 
 no_replies : (X : Type 0) (outs : List HubOut) (last : HubOut) → [] ≡ outs ++ last ∷ [] → X
 no_replies X [] last e = absurd cc
@@ -196,17 +215,17 @@ tail_same : (x y : HubOut) (xs ys : List HubOut) → x ∷ xs ≡ y ∷ ys → x
 tail_same x y xs ys e = cc
 
 -- replies that end with the torn one
-cut_last : (x : Answering) (lawful : IsAnswering x) (mine : List Entry) (replies outs : List HubOut) (last : HubOut) (before after : Holding)
+pub cut_last : (spelling : Spelling) (x : Answering) (lawful : IsAnswering x) (mine : List Entry) (replies outs : List HubOut) (last : HubOut) (before after : Holding)
     → x.ready before
-    → AreAnswered (hearing x) (IsHandled spellings.Quoted x) (refusal 500 None) before mine replies after → replies ≡ outs ++ last ∷ []
-    → IsCut x (span before after) mine outs last
-cut_last x lawful [] replies outs last before after start (none, same) parts = no_replies _ outs last (sym none ∙ parts)
-cut_last x lawful (entry ∷ mine) replies [] last before after start (c, sent, rest, between, is, whole_ones, answered, more) parts =
-    let line = line_of spellings.Quoted x lawful c entry.subject entry.answer sent before between start answered in
+    → AreAnswered (hearing x) (IsHandled spelling x) (refusal 500 None) before mine replies after → replies ≡ outs ++ last ∷ []
+    → IsCut spelling mine outs last
+cut_last spelling x lawful [] replies outs last before after start (none, same) parts = no_replies _ outs last (sym none ∙ parts)
+cut_last spelling x lawful (entry ∷ mine) replies [] last before after start (c, sent, rest, between, is, whole_ones, answered, more) parts =
+    let line = line_of spelling x lawful c entry.subject entry.answer sent before between start answered in
     let both = sym whole_ones ∙ parts in
-    let lines = lines_all spellings.Quoted x lawful mine rest between after (lawful.goes_on before between _ _ line.one) more in
+    let lines = lines_all spelling x lawful mine rest between after (lawful.goes_on before between _ _ line.one) more in
     let none : mine ≡ [] = no_entries mine (sym lines.replies ∙ ap replies_in (tail_same (Reply c sent) last rest [] both)) in
-    let same : sent_line c sent ≡ reply_line entry = line.line ∙ ap (λ (s : Source). reply_to s entry.subject entry.answer) (sym is) in
+    let same : sent_on spelling c sent ≡ entry_on spelling entry = line.line ∙ ap (λ (s : Source). reply_on spelling s entry.subject entry.answer) (sym is) in
     record {
       whole_ones = [];
       entry = entry;
@@ -214,47 +233,25 @@ cut_last x lawful (entry ∷ mine) replies [] last before after start (c, sent, 
       text = refl;
       audited = λ n. refl;
       replies = refl;
-      line = ap out_text (sym (head_same (Reply c sent) last rest [] both)) ∙ same;
-      torn = λ n s o a torn.
-          subst (λ (t : List ℕ). IsTorn t (audit_line n entry) s o a) same
-          (subst (λ (t : List ℕ). IsTorn (sent_line c sent) t s o a) (line.audit n)
-          (subst (λ (l : HubOut). IsOutTorn n l s o a) (sym (head_same (Reply c sent) last rest [] both)) torn));
+      torn = λ n lost s o a torn.
+          let at : IsLostAt lost (sent_on spelling c sent) (sent_audit n sent) s o a =
+          subst (λ (l : HubOut). IsOutLost spelling n lost l s o a) (sym (head_same (Reply c sent) last rest [] both)) torn in
+          subst (λ (t : List ℕ). IsLostOn lost t (audit_line n entry) o a) same
+          (subst (λ (t : List ℕ). IsLostOn lost (sent_on spelling c sent) t o a) (line.audit n) at.torn);
     }
-cut_last x lawful (entry ∷ mine) replies (first ∷ outs) last before after start (c, sent, rest, between, is, whole_ones, answered, more) parts =
-    let line = line_of spellings.Quoted x lawful c entry.subject entry.answer sent before between start answered in
+cut_last spelling x lawful (entry ∷ mine) replies (first ∷ outs) last before after start (c, sent, rest, between, is, whole_ones, answered, more) parts =
+    let line = line_of spelling x lawful c entry.subject entry.answer sent before between start answered in
     let both = sym whole_ones ∙ parts in
-    let cut = cut_last x lawful mine rest outs last between after (lawful.goes_on before between _ _ line.one) more (tail_same (Reply c sent) first rest (outs ++ last ∷ []) both) in
-    let same : sent_line c sent ≡ reply_line entry = line.line ∙ ap (λ (s : Source). reply_to s entry.subject entry.answer) (sym is) in
-    subst (λ (f : HubOut). IsCut x (span before after) (entry ∷ mine) (f ∷ outs) last) (head_same (Reply c sent) first rest (outs ++ last ∷ []) both)
+    let cut = cut_last spelling x lawful mine rest outs last between after (lawful.goes_on before between _ _ line.one) more (tail_same (Reply c sent) first rest (outs ++ last ∷ []) both) in
+    let same : sent_on spelling c sent ≡ entry_on spelling entry = line.line ∙ ap (λ (s : Source). reply_on spelling s entry.subject entry.answer) (sym is) in
+    subst (λ (f : HubOut). IsCut spelling (entry ∷ mine) (f ∷ outs) last) (head_same (Reply c sent) first rest (outs ++ last ∷ []) both)
     (record {
       whole_ones = entry ∷ cut.whole_ones;
       entry = cut.entry;
       parts = ap (λ (m : List Entry). entry ∷ m) cut.parts;
-      text = ap (λ (t : List ℕ). t ++ outs_text outs) same ∙ ap (λ (t : List ℕ). reply_line entry ++ t) cut.text;
+      text = ap (λ (t : List ℕ). t ++ outs_on spelling outs) same ∙ ap (λ (t : List ℕ). entry_on spelling entry ++ t) cut.text;
       audited = λ n.
           ap (λ (t : List ℕ). t ++ outs_audited (n + 1) outs) (line.audit n) ∙ ap (λ (t : List ℕ). audit_line n entry ++ t) (cut.audited (n + 1));
       replies = let r = cut.replies in omega (arith, r);
-      line = cut.line;
       torn = cut.torn;
     })
-
--- where the replies are torn, or the line behind them all
-pub torn_reply : (x : Answering) (lawful : IsAnswering x) (n served : ℕ) (event : Event) (known : Connections Ask) (a b : Holding) (mine : List Entry) (replies outs : List HubOut) (last : HubOut)
-    (s : Sinks) (out audit out_torn audit_torn : List ℕ) → x.ready a
-    → AreAnswered (hearing x) (IsHandled spellings.Quoted x) (refusal 500 None) a mine replies b → replies ≡ outs ++ last ∷ []
-    → IsOutTorn (served + replies_in outs + 1) last s out_torn audit_torn → out ≡ outs_text outs ++ out_torn → audit ≡ outs_audited (served + 1) outs ++ audit_torn
-    → IsEntryTorn served mine s out audit
-torn_reply x lawful n served event known a b mine replies outs last s out audit out_torn audit_torn start answered parts torn text audited =
-    let cut = cut_last x lawful mine replies outs last a b start answered parts in
-    record {
-      whole_ones = cut.whole_ones;
-      entry = cut.entry;
-      out_torn = out_torn;
-      audit_torn = audit_torn;
-      parts = cut.parts;
-      torn =
-          subst (λ (m : ℕ). IsTorn (reply_line cut.entry) (audit_line (served + m + 1) cut.entry) s out_torn audit_torn) cut.replies
-          (cut.torn (served + replies_in outs + 1) s out_torn audit_torn torn);
-      out_text = text ∙ ap (λ (t : List ℕ). t ++ out_torn) cut.text;
-      audit_text = audited ∙ ap (λ (t : List ℕ). t ++ audit_torn) (cut.audited (served + 1));
-    }

@@ -1,6 +1,7 @@
 pub mod OutsideLemmas
 pub mod EntriesLemmas
 pub mod DeskLemmas
+pub mod TellerLemmas
 pub mod BringsLemmas
 pub mod HubLemmas
 pub mod NextLemmas

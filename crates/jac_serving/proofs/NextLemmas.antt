@@ -1,5 +1,5 @@
 -- The calls of a hub, one after another.
-use Rattle.std.proofs.Common.{◌≡◌, ◌∙◌, ap, sym, subst, refl, inl, inr, ℕ, ◌+◌, ◌≤◌, Option, Some, None, Ok, List, [], ◌∷◌, ◌++◌, append-nil, arith}
+use Rattle.std.proofs.Common.{◌≡◌, ◌∙◌, ap, sym, refl, inl, inr, ℕ, ◌+◌, ◌≤◌, ◌||◌, Bool, true, false, Option, Some, None, Ok, Err, List, [], ◌∷◌, ◌++◌, append-nil, arith}
 use Rattle.jac_serving.specs.Keeping.{Holding}
 use Rattle.jac_http.specs.declared.taken.Taken.{Taken}
 use Rattle.jac_http.specs.declared.taken.Taken.TheVariants.{More, Whole, Refused}
@@ -15,12 +15,14 @@ use Rattle.jac_hub.specs.declared.sent.Sent.{Sent}
 use Rattle.jac_hub.specs.Channel.{ChannelSeen, AnswersFront, NextOfChannel}
 use Rattle.jac_hub.specs.Hub.{HubSeen, Nexts, NextServing}
 use Rattle.jac_hub.proofs.Giving.{given-push, given-all}
-use Rattle.jac_replies.specs.declared.reply.Spelling.TheVariants as spellings
+use Rattle.jac_replies.specs.declared.reply.Spelling.{Spelling}
+use Rattle.jac_serving.specs.declared.given.Brought.{Brought}
+use Rattle.jac_serving.specs.declared.given.Lost.{Lost}
 use Rattle.jac_serving.specs.Answering.{Answering}
-use Rattle.jac_serving.specs.Outside.{span, Sinks}
-use Rattle.jac_serving.specs.Serve.{handled, sent_line, sent_audit, out_text, outs_text, outs_audited, replies_in, IsOutTorn, PutsOut, PutsSoFar, PutsSome, PutsAll}
-use Rattle.jac_serving.proofs.HubLemmas.{outs_on-append, outs_audited-append, replies_in-append}
-use Rattle.jac_serving.proofs.OutsideLemmas.{FailsWithin, torn_within}
+use Rattle.jac_serving.specs.Outside.{span, Sinks, PutBoth}
+use Rattle.jac_serving.specs.Serve.{handled, sent_on, sent_audit, closed_on, out_on, outs_on, outs_audited, replies_in, is_closed_out, has_closed, IsOutLost, PutsOut, PutsSoFar, PutsSome, PutsAll}
+use Rattle.jac_serving.proofs.HubLemmas.{outs_on-append, outs_audited-append, replies_in-append, has_closed-append}
+use Rattle.jac_serving.proofs.OutsideLemmas.{FailsWithin, faulted_within}
 
 -- a call of a hub calls its handler once, or not at all
 module _ {H : Type 0} (reads : List ℕ → Taken → Type 0) (before after : H) (handles : H → ℕ → Heard → Sent → H → Type 0) where
@@ -75,72 +77,99 @@ module _ {H G : Type 0} (reads : List ℕ → Taken → Type 0) (before after : 
   next-seen hub (turns.Closing c) result new h = (ap f h.0, h.1, h.2)
   next-seen hub turns.Done result new h = (ap f h.0, h.1, h.2)
 
-pub so_far_none : (x : Answering) (hub : HubSeen) (k : Holding) (served : ℕ) → PutsSoFar x hub hub (span k k) served served [] []
-so_far_none x hub k served = record { outs = []; given = (refl, refl); count_is = omega arith; out_text = refl; audit_text = refl }
+pub so_far_none : (spelling : Spelling) (x : Answering) (hub : HubSeen) (k : Holding) (served : ℕ)
+    → PutsSoFar spelling x hub hub (span k k) served (record { count = served; closed = false }) [] []
+so_far_none spelling x hub k served = record {
+  outs = [];
+  given = (refl, refl);
+  put = record { count_is = omega arith; closed_is = refl; out_text = refl; audit_text = refl };
+}
 
 pub few_replies : (given : HubOut) → replies_in (given ∷ []) ≤ 1
 few_replies (Reply c sent) = omega arith
 few_replies (Closed c) = omega arith
 
-pub audited_next : (served count : ℕ) (outs : List HubOut) (given : HubOut) → count ≡ served + replies_in outs
+audited_next : (served count : ℕ) (outs : List HubOut) (given : HubOut) → count ≡ served + replies_in outs
     → outs_audited (served + 1) outs ++ outs_audited (count + 1) (given ∷ []) ≡ outs_audited (served + 1) (outs ++ given ∷ [])
 audited_next served count outs given count_is =
     ap (λ (n : ℕ). outs_audited (served + 1) outs ++ outs_audited n (given ∷ [])) (omega (arith, count_is))
     ∙ sym (outs_audited-append (served + 1) outs (given ∷ []))
 
-out_alone : (given : HubOut) → out_text given ≡ outs_text (given ∷ [])
-out_alone given = sym (append-nil (out_text given))
+count_next : (served count more : ℕ) (outs : List HubOut) (given : HubOut) → count ≡ served + replies_in outs → more ≡ count + replies_in (given ∷ []) → more ≡ served + replies_in (outs ++ given ∷ [])
+count_next served count more outs given before is = let r = replies_in-append outs (given ∷ []) in omega (arith, r, before, is)
 
--- one more was put
-pub so_far_more : (x : Answering) (hub between new : HubSeen) (a b c : Holding) (served count more : ℕ) (given : HubOut) (part : Sinks) (o au p bu : List ℕ)
-    → Nexts IsTaken (handled spellings.Quoted x) between between.turn (Some given) new b c
-    → PutsSoFar x hub between (span a b) served count o au → PutsOut {E = Unit {0}} count given (Ok more) part p bu
-    → PutsSoFar x hub new (span a c) served more (o ++ p) (au ++ bu)
-so_far_more x hub between new a b c served count more given part o au p bu next s put = record {
-  outs = s.outs ++ given ∷ [];
-  given = given-push IsTaken (handled spellings.Quoted x) s.outs hub between new given a b c s.given next;
-  count_is =
-      put.0 ∙ ap (λ (n : ℕ). n + replies_in (given ∷ [])) s.count_is
-      ∙ (let r = replies_in-append s.outs (given ∷ []) in omega (arith, r));
-  out_text =
-      ap (λ (t : List ℕ). t ++ p) s.out_text ∙ ap (λ (t : List ℕ). outs_text s.outs ++ t) (put.1 ∙ out_alone given)
-      ∙ sym (outs_on-append spellings.Quoted s.outs (given ∷ []));
-  audit_text =
-      ap (λ (t : List ℕ). t ++ bu) s.audit_text ∙ ap (λ (t : List ℕ). outs_audited (served + 1) s.outs ++ t) put.2
-      ∙ audited_next served count s.outs given s.count_is;
-}
+or_false : (b : Bool) → b ≡ (b || false)
+or_false true = refl
+or_false false = refl
 
--- what was torn by a part was torn by the whole
-out_torn_within : (all part : Sinks) (k : ℕ) (given : HubOut) (o au : List ℕ) → FailsWithin all part → IsOutTorn k given part o au → IsOutTorn k given all o au
-out_torn_within all part k (Reply c sent) o au within h = torn_within all part (sent_line c sent) (sent_audit k sent) o au within h
-out_torn_within all part k (Closed c) o au within h = (h.0, h.1, within.out h.2)
+or_true : (b : Bool) → true ≡ (b || true)
+or_true true = refl
+or_true false = refl
 
--- the next one was torn
-pub so_far_torn : (x : Answering) (hub between new : HubSeen) (a b c : Holding) (served count : ℕ) (given : HubOut) (all part : Sinks) (o au p bu : List ℕ)
-    → FailsWithin all part
-    → Nexts IsTaken (handled spellings.Quoted x) between between.turn (Some given) new b c
-    → PutsSoFar x hub between (span a b) served count o au → IsOutTorn (count + 1) given part p bu
-    → PutsSome x hub (span a c) served all (o ++ p) (au ++ bu)
-so_far_torn x hub between new a b c served count given all part o au p bu within next s torn = record {
-  outs = s.outs;
-  last = given;
-  left = new;
-  out_torn = p;
-  audit_torn = bu;
-  given = given-push IsTaken (handled spellings.Quoted x) s.outs hub between new given a b c s.given next;
-  torn = subst (λ (n : ℕ). IsOutTorn (n + 1) given all p bu) s.count_is (out_torn_within all part (count + 1) given p bu within torn);
-  out_text = ap (λ (t : List ℕ). t ++ p) s.out_text;
-  audit_text = ap (λ (t : List ℕ). t ++ bu) s.audit_text;
-}
+closed_next : (outs : List HubOut) (given : HubOut) (old new : Bool) → old ≡ has_closed outs → new ≡ (old || is_closed_out given) → new ≡ has_closed (outs ++ given ∷ [])
+closed_next outs given old new before is =
+    is ∙ ap (λ (b : Bool). b || is_closed_out given) before ∙ ap (λ (b : Bool). has_closed outs || b) (or_false (is_closed_out given))
+    ∙ sym (has_closed-append outs (given ∷ []))
 
--- nothing more is given
-pub so_far_all : (x : Answering) (hub between new : HubSeen) (a b c : Holding) (served count : ℕ) (o au : List ℕ)
-    → Nexts IsTaken (handled spellings.Quoted x) between between.turn None new b c
-    → PutsSoFar x hub between (span a b) served count o au → PutsAll x hub new (span a c) served count o au
-so_far_all x hub between new a b c served count o au next s = record {
-  outs = s.outs;
-  emptied = given-all IsTaken (handled spellings.Quoted x) s.outs hub between new a b c s.given next;
-  count_is = s.count_is;
-  out_text = s.out_text;
-  audit_text = s.audit_text;
-}
+out_alone : (spelling : Spelling) (given : HubOut) → out_on spelling given ≡ outs_on spelling (given ∷ [])
+out_alone spelling given = sym (append-nil (out_on spelling given))
+
+-- a reply that was put is what the hub gave
+pub out_put : (spelling : Spelling) (so_far : Brought) (c : ℕ) (sent : Sent) (s : Sinks) (out audit : List ℕ)
+    → PutBoth (sent_on spelling c sent) (sent_audit (so_far.count + 1) sent) (Ok tt) s out audit
+    → PutsOut spelling so_far (Reply c sent) (Ok (record { count = so_far.count + 1; closed = so_far.closed })) s out audit
+out_put spelling so_far c sent s out audit h = (omega arith, or_false so_far.closed, h.0, h.1 ∙ sym (append-nil (sent_audit (so_far.count + 1) sent)))
+
+-- so is what tells that its connection was closed
+pub out_closed : (spelling : Spelling) (so_far : Brought) (c : ℕ) (s : Sinks) (out : List ℕ) → out ≡ closed_on spelling c
+    → PutsOut spelling so_far (Closed c) (Ok (record { count = so_far.count; closed = true })) s out []
+out_closed spelling so_far c s out put = (omega arith, or_true so_far.closed, put, refl)
+
+-- what was lost in a part was lost in the whole
+out_lost_within : (spelling : Spelling) (all part : Sinks) (k : ℕ) (lost : Lost) (given : HubOut) (o au : List ℕ) → FailsWithin all part
+    → IsOutLost spelling k lost given part o au → IsOutLost spelling k lost given all o au
+out_lost_within spelling all part k lost (Reply c sent) o au within h = record { torn = h.torn; fault = faulted_within all part lost within h.fault }
+out_lost_within spelling all part k lost (Closed c) o au within h = (h.0, h.1, h.2, h.3, within.out h.4)
+
+-- the calls so far, and one more
+module _ (spelling : Spelling) (x : Answering) (hub between new : HubSeen) (a b c : Holding) (served : ℕ) (so_far : Brought) (o au : List ℕ)
+    (s : PutsSoFar spelling x hub between (span a b) served so_far o au) where
+  -- what it gave was put
+  pub so_far_more : (more : Brought) (given : HubOut) (part : Sinks) (p bu : List ℕ)
+      → Nexts IsTaken (handled spelling x) between between.turn (Some given) new b c → PutsOut spelling so_far given (Ok more) part p bu
+      → PutsSoFar spelling x hub new (span a c) served more (o ++ p) (au ++ bu)
+  so_far_more more given part p bu next put = record {
+    outs = s.outs ++ given ∷ [];
+    given = given-push IsTaken (handled spelling x) s.outs hub between new given a b c s.given next;
+    put = record {
+      count_is = count_next served so_far.count more.count s.outs given s.put.count_is put.0;
+      closed_is = closed_next s.outs given so_far.closed more.closed s.put.closed_is put.1;
+      out_text =
+          ap (λ (t : List ℕ). t ++ p) s.put.out_text ∙ ap (λ (t : List ℕ). outs_on spelling s.outs ++ t) (put.2 ∙ out_alone spelling given)
+          ∙ sym (outs_on-append spelling s.outs (given ∷ []));
+      audit_text =
+          ap (λ (t : List ℕ). t ++ bu) s.put.audit_text ∙ ap (λ (t : List ℕ). outs_audited (served + 1) s.outs ++ t) put.3
+          ∙ audited_next served so_far.count s.outs given s.put.count_is;
+    };
+  }
+
+  -- it was lost
+  pub so_far_lost : (lost : Lost) (given : HubOut) (all part : Sinks) (p bu : List ℕ) → FailsWithin all part
+      → Nexts IsTaken (handled spelling x) between between.turn (Some given) new b c → PutsOut spelling so_far given (Err lost) part p bu
+      → PutsSome spelling x hub (span a c) served (record { lost = lost; count = so_far.count + 1 }) all (o ++ p) (au ++ bu)
+  so_far_lost lost given all part p bu within next torn = record {
+    outs = s.outs;
+    last = given;
+    left = new;
+    out_torn = p;
+    audit_torn = bu;
+    given = given-push IsTaken (handled spelling x) s.outs hub between new given a b c s.given next;
+    torn = out_lost_within spelling all part (so_far.count + 1) lost given p bu within torn;
+    count_is = ap (λ (n : ℕ). n + 1) s.put.count_is;
+    out_text = ap (λ (t : List ℕ). t ++ p) s.put.out_text;
+    audit_text = ap (λ (t : List ℕ). t ++ bu) s.put.audit_text;
+  }
+
+  -- it gave nothing more
+  pub so_far_all : Nexts IsTaken (handled spelling x) between between.turn None new b c → PutsAll spelling x hub new (span a c) served so_far o au
+  so_far_all next = record { outs = s.outs; emptied = given-all IsTaken (handled spelling x) s.outs hub between new a b c s.given next; put = s.put }

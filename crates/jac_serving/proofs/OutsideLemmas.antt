@@ -3,7 +3,10 @@ use Rattle.std.proofs.Common.{◌≡◌, ◌≤◌, ◌∙◌, ap, sym, subst, r
 use Rattle.jac_io.specs.Faults.{Rose}
 use Rattle.jac_io.specs.Put.{AddsPrefix}
 use Rattle.jac_io.specs.Seen.{SinkSeen, Lasts}
-use Rattle.jac_serving.specs.Outside.{Span, span, Took, IsFront, Put, IsPut, IsTorn, PutBoth, Sinks, sinks, Went, WentWith, WentTo, HasFaulted, AWriteFailed}
+use Rattle.jac_io.specs.declared.sink.Failed.{Failed}
+use Rattle.jac_serving.specs.declared.given.Lost.{Lost}
+use Rattle.jac_serving.specs.declared.given.Lost.TheVariants as losses
+use Rattle.jac_serving.specs.Outside.{Span, span, Took, IsFront, Put, IsPut, PutBoth, FaultedAt, Sinks, sinks, Went, WentWith, WentTo, HasFaulted, AWriteFailed}
 
 -- a put that failed left the front of its bytes
 pub torn_put : (tells : Bool) (before after bytes : List ℕ) → (IsTrue tells → AddsPrefix before after bytes)
@@ -86,67 +89,52 @@ fails_behind out_a out_b out_c audit_a audit_b audit_c out_later audit_later = r
   audit = λ rose. Rose-widen audit_a.faults audit_b.faults audit_c.faults audit_c.faults audit_later (omega arith) rose;
 }
 
-pub torn_within : (all part : Sinks) (reply line out audit : List ℕ) → FailsWithin all part → IsTorn reply line part out audit → IsTorn reply line all out audit
-torn_within all part reply line out audit within (inl h) = inl (h.0, h.1, within.audit h.2)
-torn_within all part reply line out audit within (inr h) = inr (h.0, h.1, within.out h.2)
+pub faulted_within : (all part : Sinks) (lost : Lost) → FailsWithin all part → FaultedAt lost part → FaultedAt lost all
+faulted_within all part losses.Out within fault = within.out fault
+faulted_within all part losses.Audit within fault = within.audit fault
 
-pub torn_failed : (s : Sinks) (reply line out audit : List ℕ) → IsTorn reply line s out audit → AWriteFailed s
-torn_failed s reply line out audit (inl h) = inr h.2
-torn_failed s reply line out audit (inr h) = inl h.2
-
--- the same of equal lines
-pub PutBoth-same : (E : Type 0) (s : Sinks) (reply reply_now line line_now out audit : List ℕ) (result : Result (Unit {0}) E)
-    → reply ≡ reply_now → line ≡ line_now → PutBoth reply line result s out audit → PutBoth reply_now line_now result s out audit
-PutBoth-same E s reply reply_now line line_now out audit result same_reply same_line h =
-    subst (λ (r : List ℕ). PutBoth {E = E} r line_now result s out audit) same_reply
-    (subst (λ (l : List ℕ). PutBoth {E = E} reply l result s out audit) same_line h)
-
-pub Went-same : (E : Type 0) (s : Sinks) (reply reply_now line line_now : List ℕ) (result : Result (Unit {0}) E)
-    → reply ≡ reply_now → line ≡ line_now → WentWith s (PutBoth reply line result) → WentWith s (PutBoth reply_now line_now result)
-Went-same E s reply reply_now line line_now result same_reply same_line went = record {
-  out = went.out;
-  audit = went.audit;
-  out_lasts = went.out_lasts;
-  audit_lasts = went.audit_lasts;
-  out_took = went.out_took;
-  audit_took = went.audit_took;
-  holds = PutBoth-same E s reply reply_now line line_now went.out went.audit result same_reply same_line went.holds;
-}
+pub faulted_failed : (s : Sinks) (lost : Lost) → FaultedAt lost s → AWriteFailed s
+faulted_failed s losses.Out fault = inl fault
+faulted_failed s losses.Audit fault = inr fault
 
 -- the audit's line failed, and nothing was put on out
-pub Went-line : (E : Type 0) (out audit_before audit_after : SinkSeen) (reply line : List ℕ) (failed : E)
-    → IsPut {E = E} (span audit_before audit_after) line (Err failed) → WentWith (sinks out out audit_before audit_after) (PutBoth {E = E} reply line (Err failed))
-Went-line E out audit_before audit_after reply line failed put = record {
+pub Went-line : (out audit_before audit_after : SinkSeen) (reply line : List ℕ) (failed : Failed)
+    → IsPut {E = Failed} (span audit_before audit_after) line (Err failed) → WentWith (sinks out out audit_before audit_after) (PutBoth reply line (Err losses.Audit))
+Went-line out audit_before audit_after reply line failed put = record {
   out = [];
   audit = put.put;
   out_lasts = Lasts-none out;
   audit_lasts = put.lasts;
   out_took = Took-none out;
   audit_took = put.took;
-  holds = inl (refl, put.is_put, put.rose);
+  holds = record { torn = (refl, put.is_put); fault = put.rose };
 }
 
--- the audit's line was put, and then the reply
-pub Went-reply : (E : Type 0) (out_before out_after audit_before audit_after : SinkSeen) (reply line : List ℕ) (done : Unit {0}) (result : Result (Unit {0}) E)
-    → IsPut {E = E} (span audit_before audit_after) line (Ok done) → IsPut (span out_before out_after) reply result
-    → WentWith (sinks out_before out_after audit_before audit_after) (PutBoth reply line result)
-Went-reply E out_before out_after audit_before audit_after reply line done (Ok _) put_line put_reply = record {
-  out = put_reply.put;
+-- the audit's line was put, and the reply wasn't, or not whole
+pub Went-reply : (out_before out_after audit_before audit_after : SinkSeen) (reply line : List ℕ) (done : Unit {0}) (failed : Failed)
+    → IsPut {E = Failed} (span audit_before audit_after) line (Ok done) → IsPut {E = Failed} (span out_before out_after) reply (Err failed)
+    → WentWith (sinks out_before out_after audit_before audit_after) (PutBoth reply line (Err losses.Out))
+Went-reply out_before out_after audit_before audit_after reply line done failed put_line put = record {
+  out = put.put;
   audit = put_line.put;
-  out_lasts = put_reply.lasts;
+  out_lasts = put.lasts;
   audit_lasts = put_line.lasts;
-  out_took = put_reply.took;
+  out_took = put.took;
   audit_took = put_line.took;
-  holds = (put_reply.is_put, put_line.is_put);
+  holds = record { torn = (put.is_put, put_line.is_put); fault = put.rose };
 }
-Went-reply E out_before out_after audit_before audit_after reply line done (Err _) put_line put_reply = record {
-  out = put_reply.put;
+
+pub Went-both : (out_before out_after audit_before audit_after : SinkSeen) (reply line : List ℕ) (done also : Unit {0})
+    → IsPut {E = Failed} (span audit_before audit_after) line (Ok done) → IsPut {E = Failed} (span out_before out_after) reply (Ok also)
+    → WentWith (sinks out_before out_after audit_before audit_after) (PutBoth reply line (Ok tt))
+Went-both out_before out_after audit_before audit_after reply line done also put_line put = record {
+  out = put.put;
   audit = put_line.put;
-  out_lasts = put_reply.lasts;
+  out_lasts = put.lasts;
   audit_lasts = put_line.lasts;
-  out_took = put_reply.took;
+  out_took = put.took;
   audit_took = put_line.took;
-  holds = inr (put_reply.is_put, put_line.is_put, put_reply.rose);
+  holds = (put.is_put, put_line.is_put);
 }
 
 -- what follows of the bytes

@@ -1,5 +1,5 @@
 -- Serving line after line.
-use Rattle.std.proofs.Common.{◌≡◌, ◌∙◌, ap, sym, subst, refl, inl, inr, ℕ, ◌+◌, ◌≤◌, ◌<◌, ◌⊎◌, true, false, Bool, IsTrue, IfSome, Option, Some, None, Result, Ok, Err, List, [], ◌∷◌, ◌++◌, length, append_assoc, append-nil, length-append, arith}
+use Rattle.std.proofs.Common.{◌≡◌, ◌∙◌, ap, sym, subst, refl, inl, inr, ℕ, ◌+◌, ◌≤◌, ◌<◌, ◌⊎◌, true, false, Bool, IfSome, Option, Some, None, Result, Ok, Err, List, [], ◌∷◌, ◌++◌, length, append_assoc, append-nil, length-append, arith}
 use denote.Ref.{Bor}
 use Rattle.jac_serving.specs.Keeping.{Holding}
 use Rattle.jac_value.specs.Parts.{parts_left, option_now, length_left}
@@ -10,18 +10,22 @@ use Rattle.jac_hub.specs.declared.hub.Turn.TheVariants as turns
 use Rattle.jac_hub.specs.Heard.{Connections, no_connections, IsBegunBy, after_both}
 use Rattle.jac_hub.specs.Hub.{HubSeen, new_hub}
 use Rattle.jac_hub.specs.Served.{AreLike}
+use Rattle.jac_replies.specs.declared.reply.Spelling.TheVariants as spellings
+use Rattle.jac_serving.specs.declared.given.Brought.{Brought}
+use Rattle.jac_serving.specs.declared.given.Cut.{Cut}
 use Rattle.jac_serving.specs.declared.serve.Lapse.{Lapse}
 use Rattle.jac_serving.specs.declared.serve.Lapse.TheVariants as lapses
 use Rattle.jac_serving.specs.declared.serve.Stopped.{Stopped}
 use Rattle.jac_serving.specs.declared.serve.Stopped.TheVariants as stops
 use Rattle.jac_serving.specs.Answering.{Entry, hearing, IsHeardBy, Answering, IsAnswering}
-use Rattle.jac_serving.specs.Log.{Brings, reply_line, audit_line, audited, audited_from}
-use Rattle.jac_serving.specs.Outside.{Span, span, Sinks, AWriteFailed}
+use Rattle.jac_serving.specs.Log.{Brings, replies_text, audited, audited_from}
+use Rattle.jac_serving.specs.Outside.{Span, span, Sinks, FaultedAt, AWriteFailed}
 use Rattle.jac_serving.specs.Script.{Script, script_from, script_of, script_step, script_event, stopped_at, with_event, lapse_of, opened_by}
-use Rattle.jac_serving.specs.Serve.{IsEventServed, IsEventTorn, IsEntryTorn, IsClosingTorn, AnswersEvent, AnswersLine, IsServed, PutsServed, PutsTorn, ServesAs, is_open}
+use Rattle.jac_serving.specs.Serve.{IsEventServed, IsEventCut, IsLastLost, IsEntryTorn, IsClosingTorn, AnswersEvent, AnswersLine, IsServed, PutsServed, PutsTorn, ServesAs, is_open}
 use Rattle.jac_serving.proofs.EntriesLemmas.{entries-still, audited-append}
+use Rattle.jac_serving.proofs.HubLemmas.{closings_text}
 use Rattle.jac_serving.proofs.BringsLemmas.{brings-push, brings-heard, brings-part, brings-begun, open_after}
-use Rattle.jac_serving.proofs.OutsideLemmas.{FailsWithin, torn_within, torn_failed}
+use Rattle.jac_serving.proofs.OutsideLemmas.{FailsWithin, faulted_within, faulted_failed}
 
 -- events that were served, before those of the rest
 abbrev pub served_before : List Event → Script → Script
@@ -104,12 +108,12 @@ audited_more log mine served audit more counted is more_is =
     ∙ sym (audited-append 1 log mine)
 
 -- a line's event is served
-serve_one : (x : Answering) (lawful : IsAnswering x) (hub new : HubSeen) (a b c : Holding) (bytes : List ℕ) (left after : Option (List ℕ)) (lines served count : ℕ) (out audit line o au : List ℕ) (event : Event)
+serve_one : (x : Answering) (lawful : IsAnswering x) (hub new : HubSeen) (a b c : Holding) (bytes : List ℕ) (left after : Option (List ℕ)) (lines served : ℕ) (brought : Brought) (out audit line o au : List ℕ) (event : Event)
     → (p : Progress x hub (span a b) bytes left lines served out audit)
     → parts_left 10 left ≡ line ∷ parts_left 10 after → line_of line ≡ Some (Some event) → lapse_of (lines + 1) (is_open p.known) event ≡ None
-    → IsEventServed x new (span b c) served count (0 + length p.events) event p.known o au
-    → Progress x new (span a c) bytes after (lines + 1) count (out ++ o) (audit ++ au)
-serve_one x lawful hub new a b c bytes left after lines served count out audit line o au event p parts is none s =
+    → IsEventServed spellings.Quoted x new (span b c) served brought (0 + length p.events) event p.known o au
+    → Progress x new (span a c) bytes after (lines + 1) brought.count (out ++ o) (audit ++ au)
+serve_one x lawful hub new a b c bytes left after lines served brought out audit line o au event p parts is none s =
     let h = hearing x in
     let later = after_both h event s.mine p.known in
     record {
@@ -125,8 +129,9 @@ serve_one x lawful hub new a b c bytes left after lines served count out audit l
       like = s.like;
       idle = s.idle;
       out_text =
-          subst (λ (t : List ℕ). Brings x no_connections 0 (p.events ++ event ∷ []) (p.log ++ s.mine) (out ++ t) later) (sym s.out_text)
-          (brings-push x p.events no_connections p.known 0 p.log s.mine out event p.out_text s.brought);
+          subst (λ (t : List ℕ). Brings x no_connections 0 (p.events ++ event ∷ []) (p.log ++ s.mine) (out ++ t) later)
+          (sym (s.out_text ∙ ap (λ (t : List ℕ). replies_text s.mine ++ t) (closings_text event p.known later)))
+          (brings-push x p.events no_connections p.known 0 p.log s.mine out event p.out_text s.brought_by);
       audit_text = audited_more p.log s.mine served audit au p.counted p.audit_text s.audit_text;
     }
 
@@ -151,7 +156,7 @@ go_on x lawful hub new a b c bytes left after lines served count s out audit lin
     (pass_over x hub new a b c bytes left after lines served out audit line p h.1 h.4 parts is)))
 go_on x lawful hub new a b c bytes left after lines served count s out audit line o au p parts (Some (Some event)) is h =
     let one = h (0 + length p.events) p.known p.like in
-    serve_one x lawful hub new a b c bytes left after lines served count out audit line o au event p parts is one.0 one.1
+    serve_one x lawful hub new a b c bytes left after lines served (record { count = count; closed = one.1 }) out audit line o au event p parts is one.0 one.2
 
 -- what was served of all, whole or in part
 pub heard_by : (early : Bool) (x : Answering) (events unserved all : List Event) (log : List Entry) (out : List ℕ) (known : Connections Ask)
@@ -220,16 +225,7 @@ torn_at x served n event known mine s o au count place same at h =
 -- what was torn by a part was torn by the whole
 module _ (x : Answering) (served n : ℕ) (event : Event) (known : Connections Ask) (mine : List Entry) (o au : List ℕ) (all part : Sinks) (within : FailsWithin all part) where
   both_within : IsEntryTorn served mine part o au ⊎ IsClosingTorn x served n event known mine part o au → IsEntryTorn served mine all o au ⊎ IsClosingTorn x served n event known mine all o au
-  both_within (inl h) = inl (record {
-    whole_ones = h.whole_ones;
-    entry = h.entry;
-    out_torn = h.out_torn;
-    audit_torn = h.audit_torn;
-    parts = h.parts;
-    torn = torn_within all part (reply_line h.entry) (audit_line (served + length h.whole_ones + 1) h.entry) h.out_torn h.audit_torn within h.torn;
-    out_text = h.out_text;
-    audit_text = h.audit_text;
-  })
+  both_within (inl h) = inl (h.0, h.1, faulted_within all part h.0 within h.2)
   both_within (inr h) = inr (record {
     out_torn = h.out_torn;
     fault = within.out h.fault;
@@ -241,7 +237,7 @@ module _ (x : Answering) (served n : ℕ) (event : Event) (known : Connections A
   })
 
   both_failed : IsEntryTorn served mine all o au ⊎ IsClosingTorn x served n event known mine all o au → AWriteFailed all
-  both_failed (inl h) = torn_failed all (reply_line h.entry) (audit_line (served + length h.whole_ones + 1) h.entry) h.out_torn h.audit_torn h.torn
+  both_failed (inl h) = faulted_failed all h.0 h.2
   both_failed (inr h) = inl h.fault
 
 pub puts_torn_within : (x : Answering) (k : Span Holding) (script : Script) (all part : Sinks) (out audit : List ℕ) → FailsWithin all part → PutsTorn x k script part out audit
@@ -269,16 +265,22 @@ pub puts_torn_failed : (x : Answering) (k : Span Holding) (script : Script) (s :
 puts_torn_failed x k script s out audit h =
     both_failed x (length h.log) (length h.events) h.event h.known h.mine h.out_more h.audit_more s s (record { out = λ rose. rose; audit = λ rose. rose }) h.torn
 
+torn_lines : (x : Answering) (served : ℕ) (cut : Cut) (n : ℕ) (event : Event) (known : Connections Ask) (mine : List Entry) (s : Sinks) (o au : List ℕ) → FaultedAt cut.lost s
+    → (IsLastLost spellings.Quoted cut.lost served mine o au × (cut.count ≡ served + length mine)) ⊎ ((spellings.Quoted ≡ spellings.Quoted) × IsClosingTorn x served n event known mine s o au)
+    → IsEntryTorn served mine s o au ⊎ IsClosingTorn x served n event known mine s o au
+torn_lines x served cut n event known mine s o au fault (inl h) = inl (cut.lost, h.0, fault)
+torn_lines x served cut n event known mine s o au fault (inr h) = inr h.1
+
 none_before : (n : ℕ) → 0 + n ≡ n
 none_before n = omega arith
 
 -- a put failed
-finish_torn : (x : Answering) (lawful : IsAnswering x) (hub : HubSeen) (a b c : Holding) (bytes : List ℕ) (left after : Option (List ℕ)) (lines served : ℕ) (all part : Sinks) (out audit line o au : List ℕ) (event : Event)
+finish_torn : (x : Answering) (lawful : IsAnswering x) (hub : HubSeen) (a b c : Holding) (bytes : List ℕ) (left after : Option (List ℕ)) (lines served : ℕ) (cut : Cut) (all part : Sinks) (out audit line o au : List ℕ) (event : Event)
     → FailsWithin all part → (p : Progress x hub (span a b) bytes left lines served out audit)
     → parts_left 10 left ≡ line ∷ parts_left 10 after → line_of line ≡ Some (Some event) → lapse_of (lines + 1) (is_open p.known) event ≡ None
-    → IsEventTorn x (span b c) served (0 + length p.events) event p.known part o au
+    → IsEventCut spellings.Quoted x (span b c) served cut (0 + length p.events) event p.known part o au
     → PutsTorn x (span a c) (script_of bytes) all (out ++ o) (audit ++ au)
-finish_torn x lawful hub a b c bytes left after lines served sinks part out audit line o au event within p parts is none t =
+finish_torn x lawful hub a b c bytes left after lines served cut sinks part out audit line o au event within p parts is none t =
     let unserved = (script_from (parts_left 10 after) (lines + 1 + 1) (opened_by event (is_open p.known))).events in
     let all : (script_of bytes).events ≡ p.events ++ event ∷ unserved = ap (λ (s : Script). s.events) (sym (allowed p after line event parts is none)) in
     record {
@@ -300,7 +302,8 @@ finish_torn x lawful hub a b c bytes left after lines served sinks part out audi
       brought = p.out_text;
       begun = subst (λ (n : ℕ). IsBegunBy (hearing x) n event p.known t.mine) (none_before (length p.events)) t.begun;
       torn = torn_at x served (0 + length p.events) event p.known t.mine sinks o au (length p.log) (length p.events) (sym p.counted) (none_before (length p.events))
-          (both_within x served (0 + length p.events) event p.known t.mine o au sinks part within t.torn);
+          (both_within x served (0 + length p.events) event p.known t.mine o au sinks part within
+          (torn_lines x served cut (0 + length p.events) event p.known t.mine part o au t.fault t.torn));
       out_text = refl;
       audit_text = ap (λ (x : List ℕ). x ++ au) p.audit_text;
     }
@@ -327,7 +330,7 @@ stop_at x lawful hub new a b c bytes left after lines served all part out audit 
 stop_at x lawful hub new a b c bytes left after lines served all part out audit line o au within p parts (Some None) is stops.Write h = refused_other _ stops.Write served h.0
 stop_at x lawful hub new a b c bytes left after lines served all part out audit line o au within p parts (Some (Some event)) is stops.Write h =
     let one = h (0 + length p.events) p.known p.like in
-    finish_torn x lawful hub a b c bytes left after lines served all part out audit line o au event within p parts is one.0 one.1
+    finish_torn x lawful hub a b c bytes left after lines served one.1 all part out audit line o au event within p parts is one.0 one.2
 
 -- no line is left
 pub finish_left : (x : Answering) (hub : HubSeen) (a b : Holding) (bytes : List ℕ) (left : Option (Bor (List ℕ))) (lines served : ℕ) (s : Sinks) (out audit : List ℕ)

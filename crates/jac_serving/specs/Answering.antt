@@ -1,5 +1,5 @@
 -- How an application answers, as what serves it sees it.
-use Rattle.std.specs.Prelude.{◌≡◌, ℕ, ◌==◌, ◌||◌, Bool, true, false, IsTrue, Option, None, List, [], ◌∷◌, ◌++◌}
+use Rattle.std.specs.Prelude.{◌≡◌, ℕ, ◌==◌, ◌||◌, Bool, true, false, Option, None, List, [], ◌∷◌, ◌++◌}
 use Rattle.jac_events.specs.declared.event.Event.{Event}
 use Rattle.jac_http.specs.Requests.{IsTaken}
 use Rattle.jac_http.specs.declared.taken.Request.{Request}

@@ -1,5 +1,5 @@
 -- A desk, which answers requests over a keeper.
-use Rattle.std.specs.Prelude.{◌≡◌, ℕ, IsTrue, List}
+use Rattle.std.specs.Prelude.{◌≡◌, IsTrue, List}
 use Rattle.jac_sittings.specs.declared.sittings.Sitting.{Sitting}
 use Rattle.jac_serving.specs.Answering.{Answering}
 use Rattle.jac_serving.specs.Keeping.{Holding}

@@ -2,6 +2,7 @@ pub mod Outside
 pub mod Keeping
 pub mod Answering
 pub mod Desk
+pub mod Teller
 pub mod Log
 pub mod Line
 pub mod Script

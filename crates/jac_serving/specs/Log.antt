@@ -1,5 +1,5 @@
 -- What is put for a log, and the events that bring it.
-use Rattle.std.specs.Prelude.{◌≡◌, ℕ, ◌+◌, ◌&&◌, ◌||◌, Bool, true, false, is_some, not, if◌then◌else◌, Option, None, List, [], ◌∷◌, ◌++◌, codes}
+use Rattle.std.specs.Prelude.{◌≡◌, ℕ, ◌+◌, ◌&&◌, ◌||◌, Bool, true, is_some, not, if◌then◌else◌, Option, None, List, [], ◌∷◌, ◌++◌, codes}
 use Rattle.std.specs.List.{flat_map}
 use Rattle.std.specs.Str.{bytes_eq}
 use Rattle.jac_events.specs.declared.event.Event.{Event}
@@ -47,9 +47,6 @@ replies_on spelling log = flat_map (entry_on spelling) log
 -- the reply in a text
 abbrev pub reply_to : Source → Subject → Answer → List ℕ
 reply_to source subject answer = reply_on spellings.Quoted source subject answer
-
-abbrev pub reply_line : Entry → List ℕ
-reply_line entry = entry_on spellings.Quoted entry
 
 -- the lines of the replies, in order
 abbrev pub replies_text : List Entry → List ℕ

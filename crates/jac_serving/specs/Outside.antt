@@ -2,6 +2,8 @@
 use Rattle.std.specs.Prelude.{◌≡◌, ◌≤◌, ◌⊎◌, ℕ, IsTrue, OnErr, Result, Ok, Err, List, [], ◌++◌}
 use Rattle.jac_io.specs.Faults.{Rose}
 use Rattle.jac_io.specs.Seen.{SinkSeen, Lasts}
+use Rattle.jac_serving.specs.declared.given.Lost.{Lost}
+use Rattle.jac_serving.specs.declared.given.Lost.TheVariants as losses
 
 -- what is seen of an object before and after some calls
 pub record Span (X : Type 0) : Type 0 where
@@ -73,18 +75,26 @@ pub record WentTo (sink : Span SinkSeen) (Holds : List ℕ → Type 0) : Type 0 
   pub took : Took sink put
   pub holds : Holds put
 
--- the audit's line was torn, where the audit failed; or it was whole and the reply was torn, where
--- the sink of replies failed
-abbrev pub IsTorn : List ℕ → List ℕ → Sinks → List ℕ → List ℕ → Type 0
-IsTorn reply line s out audit =
-    ((out ≡ []) × IsFront audit line × HasFaulted s.audit)
-    ⊎ (IsFront out reply × (audit ≡ line) × HasFaulted s.out)
+-- a reply, whose line goes to the audit before it, was lost: behind its whole line; or in its line,
+-- before any of it
+abbrev pub IsLostOn : Lost → List ℕ → List ℕ → List ℕ → List ℕ → Type 0
+IsLostOn losses.Out reply line out audit = IsFront out reply × (audit ≡ line)
+IsLostOn losses.Audit reply line out audit = (out ≡ []) × IsFront audit line
+
+-- a call failed of the sink that it was lost on
+abbrev pub FaultedAt : Lost → Sinks → Type 0
+FaultedAt losses.Out s = HasFaulted s.out
+FaultedAt losses.Audit s = HasFaulted s.audit
+
+pub record IsLostAt (lost : Lost) (reply line : List ℕ) (s : Sinks) (out audit : List ℕ) : Type 0
+  where
+    pub torn : IsLostOn lost reply line out audit
+    pub fault : FaultedAt lost s
 
 -- a reply goes to one sink, after its audit line has gone to the other
-abbrev pub PutBoth : {E : Type 0} → List ℕ → List ℕ → Result (Unit {0}) E → Sinks → List ℕ
-    → List ℕ → Type 0
+abbrev pub PutBoth : List ℕ → List ℕ → Result (Unit {0}) Lost → Sinks → List ℕ → List ℕ → Type 0
 PutBoth reply line (Ok done) s out audit = (out ≡ reply) × (audit ≡ line)
-PutBoth reply line (Err failed) s out audit = IsTorn reply line s out audit
+PutBoth reply line (Err lost) s out audit = IsLostAt lost reply line s out audit
 
 -- some bytes went to the one sink and some to the other, and of these it holds; the audit may have
 -- been aimed

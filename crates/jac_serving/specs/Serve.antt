@@ -1,5 +1,5 @@
 -- What serving the lines of an events file puts on the two sinks.
-use Rattle.std.specs.Prelude.{◌≡◌, ℕ, ◌+◌, ◌⊎◌, Bool, IsTrue, length, true, false, is_some, decimal, Result, Ok, Err, Option, Some, None, List, [], ◌∷◌, ◌++◌, ⊤}
+use Rattle.std.specs.Prelude.{◌≡◌, ℕ, ◌+◌, ◌||◌, ◌⊎◌, Bool, length, true, false, is_some, decimal, Result, Ok, Err, Option, Some, None, List, [], ◌∷◌, ◌++◌, ⊤}
 use Rattle.std.specs.List.{flat_map}
 use Rattle.jac_events.specs.declared.event.Event.{Event}
 use Rattle.jac_http.specs.Requests.{IsTaken}
@@ -17,7 +17,7 @@ use Rattle.jac_hub.specs.Channel.{sent_closes}
 use Rattle.jac_hub.specs.Hearing.{asked, connection, whole, refused}
 use Rattle.jac_hub.specs.Heard.{Connections, no_connections, IsBroughtBy, IsBegunBy, after_both}
 use Rattle.jac_hub.specs.Hub.{HubSeen, Steps}
-use Rattle.jac_hub.specs.Served.{AreLike, IsEmptied, IsGiven, IsLost}
+use Rattle.jac_hub.specs.Served.{AreLike, IsEmptied, IsGiven, IsLost, closings}
 use Rattle.jac_replies.specs.declared.answer.Answer.{Answer}
 use Rattle.jac_replies.specs.declared.answer.Ask.{Ask}
 use Rattle.jac_replies.specs.declared.reply.Spelling.{Spelling}
@@ -27,14 +27,18 @@ use Rattle.jac_replies.specs.Refused.{refusal}
 use Rattle.jac_replies.specs.Spelled.{reply_text, spelled, closed_text, audit_rest, audit_text}
 use Rattle.jac_serving.specs.declared.desk.Asked.{Asked}
 use Rattle.jac_serving.specs.declared.desk.Asked.TheVariants.{Answered, Unanswered}
+use Rattle.jac_serving.specs.declared.given.Brought.{Brought}
+use Rattle.jac_serving.specs.declared.given.Cut.{Cut}
+use Rattle.jac_serving.specs.declared.given.Lost.{Lost}
+use Rattle.jac_serving.specs.declared.given.Lost.TheVariants as losses
 use Rattle.jac_serving.specs.declared.serve.Lapse.{Lapse}
 use Rattle.jac_serving.specs.declared.serve.Lapse.TheVariants as lapses
 use Rattle.jac_serving.specs.declared.serve.Stopped.{Stopped}
 use Rattle.jac_serving.specs.declared.serve.Stopped.TheVariants as stops
 use Rattle.jac_serving.specs.Answering.{Subject, Entry, is_failure, Answering, hearing, IsHeardBy}
 use Rattle.jac_serving.specs.Keeping.{Holding, IsStill}
-use Rattle.jac_serving.specs.Log.{Brings, reply_on, reply_to, reply_line, closing_text, event_text, replies_text, viewer_of, audit_line, audited, audited_from}
-use Rattle.jac_serving.specs.Outside.{Span, span, Sinks, PutBoth, IsTorn, IsFront, HasFaulted}
+use Rattle.jac_serving.specs.Log.{Brings, reply_on, reply_to, entry_on, replies_on, replies_text, closing_text, viewer_of, audit_line, audited, audited_from}
+use Rattle.jac_serving.specs.Outside.{Span, span, Sinks, IsFront, HasFaulted, IsLostOn, FaultedAt, IsLostAt}
 use Rattle.jac_serving.specs.Script.{Script, script_of, lapse_of}
 
 -- the request of an `ask` line was answered: its reply, and what follows the number of its audit
@@ -67,10 +71,6 @@ sent_on spelling c (Made line audit close) = line
 sent_on spelling c (Still status head viewer) =
     spelled spelling c (reply_bytes (status_of_fixed status) None None [] false head true)
 
--- the line for it in a text
-abbrev pub sent_line : ℕ → Sent → List ℕ
-sent_line c sent = sent_on spellings.Quoted c sent
-
 -- the audit's line for it, of the k-th reply
 abbrev pub sent_audit : ℕ → Sent → List ℕ
 sent_audit k (Made line audit close) = decimal k ++ audit
@@ -102,12 +102,6 @@ out_on spelling (Closed c) = closed_on spelling c
 abbrev pub outs_on : Spelling → List HubOut → List ℕ
 outs_on spelling outs = flat_map (out_on spelling) outs
 
-abbrev pub out_text : HubOut → List ℕ
-out_text given = out_on spellings.Quoted given
-
-abbrev pub outs_text : List HubOut → List ℕ
-outs_text outs = outs_on spellings.Quoted outs
-
 -- so many replies are among them
 abbrev pub replies_in : List HubOut → ℕ
 replies_in [] = 0
@@ -120,55 +114,76 @@ outs_audited k [] = []
 outs_audited k (Reply c sent ∷ outs) = sent_audit k sent ++ outs_audited (k + 1) outs
 outs_audited k (Closed c ∷ outs) = outs_audited k outs
 
--- what was to be put for one of them was torn
-abbrev pub IsOutTorn : ℕ → HubOut → Sinks → List ℕ → List ℕ → Type 0
-IsOutTorn k (Reply c sent) s out audit = IsTorn (sent_line c sent) (sent_audit k sent) s out audit
-IsOutTorn k (Closed c) s out audit =
-    IsFront out (closed_text c) × (audit ≡ []) × HasFaulted s.out
+abbrev pub is_closed_out : HubOut → Bool
+is_closed_out (Reply c sent) = false
+is_closed_out (Closed c) = true
 
--- one of them is put, behind so many replies
-abbrev pub PutsOut : {E : Type 0} → ℕ → HubOut → Result ℕ E → Sinks → List ℕ → List ℕ → Type 0
-PutsOut served given (Ok count) s out audit =
-    (count ≡ served + replies_in (given ∷ [])) × (out ≡ out_text given)
-    × (audit ≡ outs_audited (served + 1) (given ∷ []))
-PutsOut served given (Err failed) s out audit = IsOutTorn (served + 1) given s out audit
+-- one of them tells that the connection was closed
+abbrev pub has_closed : List HubOut → Bool
+has_closed [] = false
+has_closed (given ∷ outs) = is_closed_out given || has_closed outs
 
--- what a hub gave so far was put
-pub record PutsSoFar (x : Answering) (hub now : HubSeen) (k : Span Holding) (served count : ℕ)
+-- what was to be put for one of them was lost: for the k-th reply; or, in a text, for what tells
+-- that the connection was closed
+abbrev pub IsOutLost : Spelling → ℕ → Lost → HubOut → Sinks → List ℕ → List ℕ → Type 0
+IsOutLost spelling k lost (Reply c sent) s out audit =
+    IsLostAt lost (sent_on spelling c sent) (sent_audit k sent) s out audit
+IsOutLost spelling k lost (Closed c) s out audit =
+    (spelling ≡ spellings.Quoted) × (lost ≡ losses.Out) × IsFront out (closed_on spelling c)
+    × (audit ≡ []) × HasFaulted s.out
+
+-- one of them is put, behind what was put so far
+abbrev pub PutsOut : Spelling → Brought → HubOut → Result Brought Lost → Sinks → List ℕ → List ℕ
+    → Type 0
+PutsOut spelling so_far given (Ok more) s out audit =
+    (more.count ≡ so_far.count + replies_in (given ∷ []))
+    × (more.closed ≡ (so_far.closed || is_closed_out given))
+    × (out ≡ out_on spelling given) × (audit ≡ outs_audited (so_far.count + 1) (given ∷ []))
+PutsOut spelling so_far given (Err lost) s out audit =
+    IsOutLost spelling (so_far.count + 1) lost given s out audit
+
+-- these were put, behind so many replies
+pub record ArePutOut (spelling : Spelling) (served : ℕ) (brought : Brought) (outs : List HubOut)
     (out audit : List ℕ) : Type 0 where
-  pub outs : List HubOut
-  pub given : IsGiven IsTaken (handled spellings.Quoted x) hub outs now k.before k.after
-  pub count_is : count ≡ served + replies_in outs
-  pub out_text : out ≡ outs_text outs
+  pub count_is : brought.count ≡ served + replies_in outs
+  pub closed_is : brought.closed ≡ has_closed outs
+  pub out_text : out ≡ outs_on spelling outs
   pub audit_text : audit ≡ outs_audited (served + 1) outs
 
--- some of what a hub gave was put, and then a put failed
-pub record PutsSome (x : Answering) (hub : HubSeen) (k : Span Holding) (served : ℕ) (s : Sinks)
-    (out audit : List ℕ) : Type 0 where
+-- what a hub gave so far was put
+pub record PutsSoFar (spelling : Spelling) (x : Answering) (hub now : HubSeen) (k : Span Holding)
+    (served : ℕ) (so_far : Brought) (out audit : List ℕ) : Type 0 where
+  pub outs : List HubOut
+  pub given : IsGiven IsTaken (handled spelling x) hub outs now k.before k.after
+  pub put : ArePutOut spelling served so_far outs out audit
+
+-- all that a hub gave was put
+pub record PutsAll (spelling : Spelling) (x : Answering) (hub new : HubSeen) (k : Span Holding)
+    (served : ℕ) (brought : Brought) (out audit : List ℕ) : Type 0 where
+  pub outs : List HubOut
+  pub emptied : IsEmptied IsTaken (handled spelling x) hub outs new k.before k.after
+  pub put : ArePutOut spelling served brought outs out audit
+
+-- some of what a hub gave was put, and then one was lost, behind which it was asked for nothing
+pub record PutsSome (spelling : Spelling) (x : Answering) (hub : HubSeen) (k : Span Holding)
+    (served : ℕ) (cut : Cut) (s : Sinks) (out audit : List ℕ) : Type 0 where
   pub outs : List HubOut
   pub last : HubOut
   pub left : HubSeen
   pub out_torn : List ℕ
   pub audit_torn : List ℕ
-  pub given : IsGiven IsTaken (handled spellings.Quoted x) hub (outs ++ last ∷ []) left k.before
-      k.after
-  pub torn : IsOutTorn (served + replies_in outs + 1) last s out_torn audit_torn
-  pub out_text : out ≡ outs_text outs ++ out_torn
+  pub given : IsGiven IsTaken (handled spelling x) hub (outs ++ last ∷ []) left k.before k.after
+  pub torn : IsOutLost spelling cut.count cut.lost last s out_torn audit_torn
+  pub count_is : cut.count ≡ served + replies_in outs + 1
+  pub out_text : out ≡ outs_on spelling outs ++ out_torn
   pub audit_text : audit ≡ outs_audited (served + 1) outs ++ audit_torn
 
--- all that a hub gave was put
-pub record PutsAll (x : Answering) (hub new : HubSeen) (k : Span Holding) (served count : ℕ)
-    (out audit : List ℕ) : Type 0 where
-  pub outs : List HubOut
-  pub emptied : IsEmptied IsTaken (handled spellings.Quoted x) hub outs new k.before k.after
-  pub count_is : count ≡ served + replies_in outs
-  pub out_text : out ≡ outs_text outs
-  pub audit_text : audit ≡ outs_audited (served + 1) outs
-
-abbrev pub PutsOuts : {E : Type 0} → Answering → HubSeen → HubSeen → Span Holding → ℕ → Result ℕ E
-    → Sinks → List ℕ → List ℕ → Type 0
-PutsOuts x hub new k served (Ok count) s out audit = PutsAll x hub new k served count out audit
-PutsOuts x hub new k served (Err failed) s out audit = PutsSome x hub k served s out audit
+abbrev pub PutsOuts : Spelling → Answering → HubSeen → HubSeen → Span Holding → ℕ
+    → Result Brought Cut → Sinks → List ℕ → List ℕ → Type 0
+PutsOuts spelling x hub new k served (Ok brought) s out audit =
+    PutsAll spelling x hub new k served brought out audit
+PutsOuts spelling x hub new k served (Err cut) s out audit =
+    PutsSome spelling x hub k served cut s out audit
 
 abbrev pub lapse_by : ℕ → HubFault → Option Lapse
 lapse_by line (faults.NotOpen c) = Some (lapses.NotOpen line c)
@@ -195,29 +210,39 @@ pub record IsFollowing (x : Answering) (hub : HubSeen) : Type 0 where
   pub like : AreLike (hearing x) hub.channels known
 
 -- the n-th event was served whole, of which the connections stood so before
-pub record IsEventServed (x : Answering) (new : HubSeen) (k : Span Holding) (served count n : ℕ)
-    (event : Event) (known : Connections Ask) (out audit : List ℕ) : Type 0 where
+pub record IsEventServed (spelling : Spelling) (x : Answering) (new : HubSeen) (k : Span Holding)
+    (served : ℕ) (brought : Brought) (n : ℕ) (event : Event)
+    (known : Connections Ask) (out audit : List ℕ) : Type 0 where
   pub mine : List Entry
-  pub brought : IsBroughtBy (hearing x) n event known mine
+  pub brought_by : IsBroughtBy (hearing x) n event known mine
   pub entries : x.entries k mine
-  pub count_is : count ≡ served + length mine
+  pub count_is : brought.count ≡ served + length mine
+  pub closed_is : brought.closed ≡ has_closed (closings event known (after_both (hearing x) event
+      mine known))
   pub like : AreLike (hearing x) new.channels (after_both (hearing x) event mine known)
   pub idle : new.turn ≡ Idle
-  pub out_text : out ≡ event_text x event known mine
+  pub out_text : out ≡ replies_on spelling mine ++ outs_on spelling (closings event known
+      (after_both (hearing x) event mine known))
   pub audit_text : audit ≡ audited_from (served + 1) mine
 
--- the lines of an entry were torn
-pub record IsEntryTorn (served : ℕ) (mine : List Entry) (s : Sinks) (out audit : List ℕ)
-    : Type 0 where
+-- all was put before the last of these entries, whose reply was lost
+pub record IsLastLost (spelling : Spelling) (lost : Lost) (first : ℕ) (log : List Entry)
+    (out audit : List ℕ) : Type 0 where
   pub whole_ones : List Entry
   pub entry : Entry
   pub out_torn : List ℕ
   pub audit_torn : List ℕ
-  pub parts : mine ≡ whole_ones ++ entry ∷ []
-  pub torn : IsTorn (reply_line entry) (audit_line (served + length whole_ones + 1) entry) s
-      out_torn audit_torn
-  pub out_text : out ≡ replies_text whole_ones ++ out_torn
-  pub audit_text : audit ≡ audited_from (served + 1) whole_ones ++ audit_torn
+  pub parts : log ≡ whole_ones ++ entry ∷ []
+  pub torn : IsLostOn lost (entry_on spelling entry)
+      (audit_line (first + length whole_ones + 1) entry) out_torn audit_torn
+  pub out_text : out ≡ replies_on spelling whole_ones ++ out_torn
+  pub audit_text : audit ≡ audited_from (first + 1) whole_ones ++ audit_torn
+
+-- the lines of the last of these entries were torn: the audit's line, where the audit failed; or it
+-- was whole and the reply was torn, where the sink of replies failed
+abbrev pub IsEntryTorn : ℕ → List Entry → Sinks → List ℕ → List ℕ → Type 0
+IsEntryTorn served mine s out audit = (lost : Lost)
+    × IsLastLost spellings.Quoted lost served mine out audit × FaultedAt lost s
 
 -- the line was torn that tells that a connection was closed, where the event has one, and the sink
 -- of replies failed
@@ -231,22 +256,27 @@ pub record IsClosingTorn (x : Answering) (served n : ℕ) (event : Event) (known
   pub out_text : out ≡ replies_text mine ++ out_torn
   pub audit_text : audit ≡ audited_from (served + 1) mine
 
--- the first entries of the n-th event were answered, and a put failed
-pub record IsEventTorn (x : Answering) (k : Span Holding) (served n : ℕ) (event : Event)
+-- the first entries of the n-th event were answered, and a put failed: of the last of them; or, in
+-- a text, of what tells that a connection was closed
+pub record IsEventCut (spelling : Spelling) (x : Answering) (k : Span Holding) (served : ℕ)
+    (cut : Cut) (n : ℕ) (event : Event)
     (known : Connections Ask) (s : Sinks) (out audit : List ℕ) : Type 0 where
   pub mine : List Entry
   pub begun : IsBegunBy (hearing x) n event known mine
   pub entries : x.entries k mine
-  pub torn : IsEntryTorn served mine s out audit
-      ⊎ IsClosingTorn x served n event known mine s out audit
+  pub fault : FaultedAt cut.lost s
+  pub torn : (IsLastLost spelling cut.lost served mine out audit
+      × (cut.count ≡ served + length mine))
+      ⊎ ((spelling ≡ spellings.Quoted) × IsClosingTorn x served n event known mine s out audit)
 
 -- an event is served, whichever connections the hub may stand for; it stands on this line
 abbrev pub AnswersEvent : Answering → HubSeen → HubSeen → Span Holding → ℕ → ℕ → Event
     → Result ℕ Stopped → Sinks → List ℕ → List ℕ → Type 0
 AnswersEvent x hub new k served line event (Ok count) s out audit =
     (n : ℕ) (known : Connections Ask) → AreLike (hearing x) hub.channels known
-    → (lapse_of line (is_open known) event ≡ None) × IsEventServed x new k served count n event
-    known out audit
+    → (lapse_of line (is_open known) event ≡ None) × (closed : Bool)
+    × IsEventServed spellings.Quoted x new k served (record { count = count; closed = closed }) n
+    event known out audit
 AnswersEvent x hub new k served line event (Err (stops.Refused lapse)) s out audit =
     ((known : Connections Ask) → AreLike (hearing x) hub.channels known
     → lapse_of line (is_open known) event ≡ Some lapse)
@@ -255,8 +285,8 @@ AnswersEvent x hub new k served line event (Err stops.Memory) s out audit =
     (out ≡ []) × (audit ≡ []) × IsStill k
 AnswersEvent x hub new k served line event (Err stops.Write) s out audit =
     (n : ℕ) (known : Connections Ask) → AreLike (hearing x) hub.channels known
-    → (lapse_of line (is_open known) event ≡ None)
-    × IsEventTorn x k served n event known s out audit
+    → (lapse_of line (is_open known) event ≡ None) × (cut : Cut)
+    × IsEventCut spellings.Quoted x k served cut n event known s out audit
 
 -- a line by what it writes down: nothing, an event, or it has no form
 abbrev pub AnswersLine : Answering → HubSeen → HubSeen → Span Holding → ℕ → ℕ

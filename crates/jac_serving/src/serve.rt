@@ -1,19 +1,19 @@
 //! The events of a text are served, line by line.
-ghost use Rattle.std.specs.Prelude.{◌≡◌, ◌≤◌, ◌<◌, ◌+◌, ◌*◌, ◌-◌, ◌^◌, ℕ, true, List, Result, IfOk, IsTrue, length};
+ghost use Rattle.std.specs.Prelude.{◌≡◌, ◌≤◌, ◌<◌, ◌+◌, ◌^◌, IfOk, length};
 ghost use Rattle.jac_events.specs.Lines.{line_of};
-ghost use Rattle.jac_hub.specs.Hub.{seen, left, IsOfConnection};
+ghost use Rattle.jac_hub.specs.Hub.{seen, IsOfConnection};
 ghost use Rattle.jac_hub.specs.declared.hub.Turn.TheVariants.{Idle};
 ghost use Rattle.jac_serving.specs.Desk.{MayServe, Keeps, kept};
 ghost use Rattle.jac_serving.specs.Outside.{WentWith, sinks, span};
-ghost use Rattle.jac_serving.specs.Serve.{IsFollowing, PutsOuts, TakesEvent, AnswersEvent, AnswersLine, ServesAs};
+ghost use Rattle.jac_serving.specs.Serve.{IsFollowing, TakesEvent, AnswersEvent, AnswersLine, ServesAs};
 
 use crate::desk::Desk;
-use crate::puts::{put_asked, put_out};
+use crate::given::put_given;
+use crate::puts::put_asked;
 use jac_events::{Event, LineFault, read_line};
 use jac_http::requests_are_read;
 use jac_hub::{Hub, HubFault};
-use jac_io::{AuditSink, Failed, Sink};
-use jac_replies::Spelling;
+use jac_io::{AuditSink, Sink};
 use jac_value::first_part;
 use std::alloc::Global;
 
@@ -34,33 +34,6 @@ pub enum Stopped {
     /// A put failed.
     Write,
     Memory,
-}
-
-// Puts what a hub gives for its last event; the count of replies by then.
-fn put_given<D: Desk, O: Sink, U: AuditSink>(
-    desk: &mut D,
-    served: u64,
-    hub: &mut Hub,
-    out: &mut O,
-    audit: &mut U,
-) -> Result<u64, Failed>
-    requires few { served + left (seen hub.old) < 2 ^ 64 - 1 }
-    requires desk { MayServe D.answering (D.seen desk.old) }
-    ensures put { WentWith (sinks (O.seen out.old) (O.seen out.new) (U.seen audit.old)
-        (U.seen audit.new))
-        (PutsOuts (D.answering (D.seen desk.old).of) (seen hub.old) (seen hub.new)
-        (kept (D.seen desk.old) (D.seen desk.new)) served result) }
-    ensures count { IfOk result (λ count. count ≤ served + left (seen hub.old)) }
-    ensures keeps { Keeps D.answering (D.seen desk.old) (D.seen desk.new) }
-{
-    let mut count = served;
-    'outs: while let Some(given) = desk.next_out(Spelling::Quoted, hub) {
-        match put_out(out, audit, count, &given) {
-            Ok(more) => count = more,
-            Err(Failed) => return Err(Failed),
-        }
-    }
-    Ok(count)
 }
 
 // Has a hub take the event of a connection, which stands on this line.
@@ -108,8 +81,8 @@ fn serve_connection<D: Desk, O: Sink, U: AuditSink>(
     desk.lawful();
     match take_event(desk.alloc(), hub, line, event) {
         Ok(()) => match put_given(desk, served, hub, out, audit) {
-            Ok(count) => Ok(count),
-            Err(Failed) => Err(Stopped::Write),
+            Ok(brought) => Ok(brought.count),
+            Err(_) => Err(Stopped::Write),
         },
         Err(stopped) => Err(stopped),
     }
@@ -148,7 +121,7 @@ fn serve_event<D: Desk, O: Sink, U: AuditSink>(
             let asked = desk.ask(*viewer, method, path, query, body);
             match put_asked(out, audit, served + 1, method.as_bytes(), &asked) {
                 Ok(()) => Ok(served + 1),
-                Err(Failed) => Err(Stopped::Write),
+                Err(_) => Err(Stopped::Write),
             }
         }
         _ => serve_connection(desk, served, line, event, hub, out, audit),

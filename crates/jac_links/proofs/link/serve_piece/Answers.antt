@@ -1,8 +1,9 @@
-use Rattle.std.proofs.Common.{refl, arith}
+use Rattle.std.proofs.Common.{◌∙◌, sym}
 use Rattle.jac_hub.specs.Hub.{seen}
 use Rattle.jac_links.specs.Link.{as_sink}
-use Rattle.jac_links.proofs.LinkEvents.{piece_stands, piece_torn, piece_cut, piece_last, piece_missed}
-use Rattle.jac_serving.proofs.OutsideLemmas.{Went-after, Went-quiet, Rose-widen}
+use Rattle.jac_links.proofs.LinkEvents.{piece_stands, piece_cut, cut_cause, piece_last, piece_missed}
+use Rattle.jac_serving.specs.Outside.{sinks}
+use Rattle.jac_serving.proofs.OutsideLemmas.{Went-after, Went-quiet}
 use Rattle.jac_links.proofs.link.serve_piece.Goals as goal
 
 pub returns-in-Ok-clause-served : goal.returns-in-Ok-clause-served
@@ -15,39 +16,37 @@ returns-in-Ok-clause-served g c =
     c.in-Ok-Some.ensures.lasts c.in-Ok-Some.ensures.none_put
     (λ out audit answers.
     piece_stands (D.answering (D.seen c.args.desk.now).of) c.args.conn c.args.served (seen c.args.hub.now) (seen c.serve_event.new.hub)
-    (N.seen c.args.link.now) (N.seen c.take_piece.new.link) (N.seen c.serve_event.new.link) (D.seen c.args.desk.now).holding (D.seen c.serve_event.new.desk).holding c.in-Ok-Some.bytes out audit c.in-Ok.brought
+    (N.seen c.args.link.now) (N.seen c.take_piece.new.link) (N.seen c.serve_event.new.link) (D.seen c.args.desk.now).holding (D.seen c.serve_event.new.desk).holding
+    (sinks (as_sink (N.seen c.take_piece.new.link)) (as_sink (N.seen c.serve_event.new.link)) (U.seen c.args.audit.now) (U.seen c.serve_event.new.audit)) c.in-Ok-Some.bytes out audit c.in-Ok.brought
     c.in-Ok.ensures.answered.out_lasts.told c.in-Ok.ensures.left (rw c.in-Ok-Some.field-0-is at c.in-Ok-Some.ensures.taken) answers)
     c.in-Ok.ensures.answered)
-
-pub returns-in-Err-Link-serve_event-clause-served : goal.returns-in-Err-Link-serve_event-clause-served
-returns-in-Err-Link-serve_event-clause-served g c =
-    let N = g.N.Link in
-    let U = g.U.Sink in
-    let D = g.D.Desk in
-    let answered = rw c.in-Err-Link-serve_event.field-0-is at c.in-Err-Link-serve_event.ensures.answered in
-    Went-after (as_sink (N.seen c.args.link.now)) (as_sink (N.seen c.take_piece.new.link)) (as_sink (N.seen c.serve_event.new.link)) (U.seen c.args.audit.now) (U.seen c.serve_event.new.audit) _ _
-    c.in-Ok-Some.ensures.lasts c.in-Ok-Some.ensures.none_put
-    (λ out audit answers.
-    piece_torn (D.answering (D.seen c.args.desk.now).of) c.args.conn c.args.served c.in-Err-Link-serve_event.count (seen c.args.hub.now) (seen c.serve_event.new.hub)
-    (N.seen c.args.link.now) (N.seen c.take_piece.new.link) (N.seen c.serve_event.new.link) (D.seen c.args.desk.now).holding (D.seen c.serve_event.new.desk).holding c.in-Ok-Some.bytes out audit
-    answered.out_lasts.told c.in-Err-Link-serve_event.ensures.left
-    (Rose-widen _ _ _ _ c.in-Ok-Some.ensures.lasts.later (omega arith) (c.in-Err-Link-serve_event.ensures.link c.in-Err-Link-serve_event.count (rw c.in-Err-Link-serve_event.field-0-is refl)))
-    (rw c.in-Ok-Some.field-0-is at c.in-Ok-Some.ensures.taken) answers)
-    answered
 
 pub returns-in-Ok-Some-clause-served : goal.returns-in-Ok-Some-clause-served
 returns-in-Ok-Some-clause-served g c =
     let N = g.N.Link in
     let U = g.U.Sink in
     let D = g.D.Desk in
-    let answered = rw c.in-Err-Audit.field-0-is at c.in-Err-Audit.ensures.answered in
-    Went-after (as_sink (N.seen c.args.link.now)) (as_sink (N.seen c.take_piece.new.link)) (as_sink (N.seen c.serve_event.new.link)) (U.seen c.args.audit.now) (U.seen c.serve_event.new.audit) _ _
+    let cut = c.in-Err.cut in
+    let answered = c.in-Err.ensures.answered in
+    rw c.cut_short.ensures
+    (Went-after (as_sink (N.seen c.args.link.now)) (as_sink (N.seen c.take_piece.new.link)) (as_sink (N.seen c.serve_event.new.link)) (U.seen c.args.audit.now) (U.seen c.serve_event.new.audit) _ _
     c.in-Ok-Some.ensures.lasts c.in-Ok-Some.ensures.none_put
     (λ out audit answers.
-    piece_cut (D.answering (D.seen c.args.desk.now).of) c.args.conn c.args.served (seen c.args.hub.now) (seen c.serve_event.new.hub)
-    (N.seen c.args.link.now) (N.seen c.take_piece.new.link) (N.seen c.serve_event.new.link) (D.seen c.args.desk.now).holding (D.seen c.serve_event.new.desk).holding c.in-Ok-Some.bytes out audit
-    answered.out_lasts.told c.in-Err-Audit.ensures.left (rw c.in-Ok-Some.field-0-is at c.in-Ok-Some.ensures.taken) answers)
-    answered
+    piece_cut (D.answering (D.seen c.args.desk.now).of) c.args.conn c.args.served cut.lost cut.count (seen c.args.hub.now) (seen c.serve_event.new.hub)
+    (N.seen c.args.link.now) (N.seen c.take_piece.new.link) (N.seen c.serve_event.new.link) (U.seen c.args.audit.now) (U.seen c.serve_event.new.audit)
+    (D.seen c.args.desk.now).holding (D.seen c.serve_event.new.desk).holding c.in-Ok-Some.bytes out audit
+    answered.out_lasts.told c.in-Err.ensures.left c.in-Ok-Some.ensures.lasts.later (rw c.in-Ok-Some.field-0-is at c.in-Ok-Some.ensures.taken) answers)
+    answered)
+
+pub returns-in-Ok-Some-clause-cause : goal.returns-in-Ok-Some-clause-cause
+returns-in-Ok-Some-clause-cause g c = λ is.
+    let N = g.N.Link in
+    let U = g.U.Sink in
+    let cut = c.in-Err.cut in
+    cut_cause cut.lost cut.count
+    (sinks (as_sink (N.seen c.take_piece.new.link)) (as_sink (N.seen c.serve_event.new.link)) (U.seen c.args.audit.now) (U.seen c.serve_event.new.audit))
+    (sym c.cut_short.ensures ∙ is)
+    (c.in-Err.ensures.answered.holds 0 c.requires.following.known c.requires.following.like).fault
 
 pub returns-in-Ok-None-clause-served : goal.returns-in-Ok-None-clause-served
 returns-in-Ok-None-clause-served g c =

@@ -1,4 +1,4 @@
-use Rattle.std.proofs.Common.{◌≡◌, ◌-◌, ◌<◌, ◌^◌, IsTrue, false}
+use Rattle.std.proofs.Common.{◌-◌, ◌<◌, ◌^◌, false}
 use Rattle.jac_hub.specs.Channel.{LIMIT}
 use Rattle.jac_hub.specs.Hub.{seen}
 use Rattle.jac_links.specs.Link.{as_sink}

@@ -1,11 +1,12 @@
 use Rattle.std.proofs.Common.{arith}
 use Rattle.jac_hub.specs.Hub.{seen}
+use Rattle.jac_replies.specs.declared.reply.Spelling.TheVariants as spellings
 use Rattle.jac_serving.specs.Answering.{hearing}
 use Rattle.jac_serving.specs.Outside.{sinks}
 use Rattle.jac_serving.proofs.DeskLemmas.{keeps-none}
 use Rattle.jac_serving.proofs.OutsideLemmas.{Went-none, Went-on}
 use Rattle.jac_serving.proofs.HubLemmas.{event_whole}
-use Rattle.jac_serving.proofs.EventLemmas.{step_left, step_kept, event_torn, stopped_answers}
+use Rattle.jac_serving.proofs.EventLemmas.{step_left, step_kept, event_cut, stopped_answers}
 use Rattle.jac_serving.proofs.serve.serve_connection.Goals as goal
 
 pub put_given-requires-clause-few : goal.put_given-requires-clause-few
@@ -34,10 +35,12 @@ returns-in-Ok-put_given-clause-answered g c =
     let old = seen c.args.hub.now in
     let stepped = seen c.take_event.new.hub in
     let taken = c.in-Ok.ensures in
+    let brought = c.in-Ok-put_given.brought in
     Went-on _ _ _
     (λ out audit puts n known like. (
       step_kept (hearing x) c.args.line c.args.event.now known taken.0 old stepped like taken.1 taken.3,
-      event_whole x c.lawful.ensures c.requests_are_read.ensures n c.args.served c.in-Ok-put_given.count c.args.event.now known taken.0 old stepped (seen c.put_given.new.hub)
+      brought.closed,
+      event_whole spellings.Quoted x c.lawful.ensures c.requests_are_read.ensures n c.args.served brought c.args.event.now known taken.0 old stepped (seen c.put_given.new.hub)
           desk.holding (D.seen c.put_given.new.desk).holding out audit c.requires.idle like taken.1 taken.2 c.requires.desk.ready puts,
     ))
     c.in-Ok-put_given.ensures.put
@@ -52,12 +55,14 @@ returns-in-Err-put_given-clause-answered g c =
     let taken = c.in-Ok.ensures in
     let O = g.O.Sink in
     let U = g.U.Sink in
-    let s = sinks (O.seen c.args.out.now) (O.seen c.put_given.new.out) (U.seen c.args.audit.now) (U.seen c.put_given.new.audit) in
+    let s = sinks (O.seen c.args.out.now) (O.seen c.put_given.new.teller) (U.seen c.args.audit.now) (U.seen c.put_given.new.audit) in
+    let cut = c.in-Err-put_given.field-0 in
     Went-on _ _ _
     (λ out audit puts n known like. (
       step_kept (hearing x) c.args.line c.args.event.now known taken.0 old stepped like taken.1 taken.3,
-      event_torn x c.lawful.ensures c.requests_are_read.ensures n c.args.served c.args.event.now known taken.0 old stepped
-          desk.holding (D.seen c.put_given.new.desk).holding s out audit c.requires.idle like taken.1 c.requires.desk.ready puts,
+      cut,
+      event_cut spellings.Quoted x c.lawful.ensures c.requests_are_read.ensures n c.args.served c.args.event.now known taken.0 old stepped
+          desk.holding (D.seen c.put_given.new.desk).holding cut s out audit c.requires.idle like taken.1 c.requires.desk.ready puts,
     ))
     c.in-Err-put_given.ensures.put
 

@@ -1,4 +1,4 @@
-use Rattle.std.proofs.Common.{refl}
+use Rattle.std.proofs.Common.{◌+◌, refl, false}
 use Rattle.jac_hub.specs.Hub.{seen}
 use Rattle.jac_serving.specs.Outside.{sinks}
 use Rattle.jac_serving.proofs.OutsideLemmas.{Went-on}
@@ -16,6 +16,7 @@ returns-in-Ok-clause-answered g c =
     (Went-on _ _ _
     (λ out audit put n known like. (
       refl,
+      false,
       ask_served (D.answering desk.of) c.lawful.ensures (seen c.args.hub.now) desk.holding (D.seen c.ask-asked.new.self).holding c.args.served n
           c.in-Ask.viewer c.in-Ask.method c.in-Ask.path c.in-Ask.query c.in-Ask.body s out audit known c.ask-asked.result c.requires.idle like c.ask-asked.ensures.asked put,
     ))
@@ -32,7 +33,8 @@ returns-in-Ask-clause-answered g c =
     (Went-on _ _ _
     (λ out audit torn n known like. (
       refl,
+      record { lost = c.in-Err.field-0; count = c.args.served + 1 },
       ask_torn (D.answering desk.of) c.lawful.ensures desk.holding (D.seen c.ask-asked.new.self).holding c.args.served n
-          c.in-Ask.viewer c.in-Ask.method c.in-Ask.path c.in-Ask.query c.in-Ask.body s out audit known c.ask-asked.result c.ask-asked.ensures.asked torn,
+          c.in-Ask.viewer c.in-Ask.method c.in-Ask.path c.in-Ask.query c.in-Ask.body c.in-Err.field-0 s out audit known c.ask-asked.result c.ask-asked.ensures.asked torn,
     ))
     (rw c.as_bytes.ensures at c.in-Err.ensures.put))
