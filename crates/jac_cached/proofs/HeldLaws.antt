@@ -1,5 +1,5 @@
 -- What keeps the tables that are held those of the keeper's state.
-use Rattle.std.proofs.Common.{◌≡◌, ◌≢◌, ◌==◌, ◌<◌, ◌≤◌, ◌+◌, ◌||◌, ℕ, zero, suc, Bool, true, false, not, nat_lt, nat_le, IsTrue, IfSome, List, [], ◌∷◌, length, take, drop, Option, Some, None, refl, sym, ◌∙◌, ap, subst, arith, add-zero, zero-add, inl, inr}
+use Rattle.std.proofs.Common.{◌≡◌, ◌≢◌, ◌==◌, ◌<◌, ◌≤◌, ◌+◌, ℕ, Bool, true, false, not, nat_lt, nat_le, IsTrue, IfSome, List, length, take, drop, Option, Some, None, refl, sym, ◌∙◌, ap, subst, arith, inl, inr}
 use Rattle.std.proofs.lemmas.Bool.{cases_lt}
 use Rattle.std.proofs.lemmas.Option.{slice_get_past}
 use Rattle.jac_value.specs.Ids.{model_of_id}
@@ -9,43 +9,15 @@ use Rattle.jac_rows.specs.declared.row.Row.{Row}
 use Rattle.jac_rows.specs.declared.state.State.{State}
 use Rattle.jac_keep.specs.declared.alteration.Alteration.{Alteration}
 use Rattle.jac_keep.specs.declared.alteration.Change.{Change}
-use Rattle.jac_keep.specs.Alterations.{alters, altered, overlaid, overlaid_from}
+use Rattle.jac_keep.specs.Alterations.{alters, altered}
 use Rattle.jac_keep.specs.KeeperSeen.{KeeperSeen}
 use Rattle.jac_keep.specs.Kept.{applied}
 use Rattle.jac_keep.specs.Records.{AreOrdered, with_id, alternatives}
 use Rattle.jac_keep.proofs.Bisection.{own_through}
-use Rattle.jac_keep.proofs.Forgotten.{rows_unaltered}
+use Rattle.jac_keep.proofs.Forgotten.{altered_other, altered_table}
 use Rattle.jac_keep.proofs.OrderLaws.{ordered_if_rising, ordered-with_id}
 use Rattle.jac_keep.proofs.SoundLaws.{rows_of_sound}
 use Rattle.jac_cached.specs.Held.{held, IsAfter, IsLater, IsTableIn, AreHeld}
-
-neither : (b c : Bool) → (b || c) ≡ false → (b ≡ false) × (c ≡ false)
-neither true c e = absurd cc
-neither false c e = (refl, e)
-
-altered_other : (m : ℕ) (changed : List Alteration) (rows : List Row) → alters m changed ≡ false → altered m changed rows ≡ rows
-altered_other m [] rows none = refl
-altered_other m (a ∷ rest) rows none =
-    let both = neither (model_of_id a.id == m) (alters m rest) none in
-    rw both.0 (altered_other m rest rows both.1)
-
-rows_altered_from : (first m : ℕ) (changed : List Alteration) (tables : List (List Row)) → 0 < length (rows_of tables m)
-    → rows_of (overlaid_from first changed tables) m ≡ altered (first + m) changed (rows_of tables m)
-rows_altered_from first zero changed [] some = absurd (omega (arith, some))
-rows_altered_from first (suc m) changed [] some = absurd (omega (arith, some))
-rows_altered_from first zero changed (t ∷ tables) some = rw (add-zero first) refl
-rows_altered_from first (suc m) changed (t ∷ tables) some =
-    let next : (first + 1) + m ≡ first + suc m = omega arith in
-    rows_altered_from (first + 1) m changed tables some ∙ ap (λ k. altered k changed (rows_of tables m)) next
-
--- the table of a model after alterations, where an altered one wasn't empty
-altered_table : (m : ℕ) (changed : List Alteration) (tables : List (List Row)) → (alters m changed ≡ true → 0 < length (rows_of tables m))
-    → altered m changed (rows_of tables m) ≡ rows_of (overlaid changed tables) m
-altered_table m changed tables some = by_case (alters m changed) refl
-  where
-    by_case : (b : Bool) → alters m changed ≡ b → altered m changed (rows_of tables m) ≡ rows_of (overlaid changed tables) m
-    by_case true e = sym (rows_altered_from 0 m changed tables (some e) ∙ ap (λ k. altered k changed (rows_of tables m)) (zero-add m))
-    by_case false e = altered_other m changed (rows_of tables m) e ∙ sym (rows_unaltered m changed tables e)
 
 table_after : (old new : State) (change : Change) (m : ℕ) (before : Option (List Row)) (rows : List Row) → ((table : List Row) → before ≡ Some table → IsTableIn old m table)
     → IsSound new → new ≡ applied change old → IsAfter m change.changed before rows → IsTableIn new m rows

@@ -1,16 +1,17 @@
 -- What keeps the indexes those of the tables that are held.
-use Rattle.std.proofs.Common.{◌≡◌, ℕ, zero, suc, ◌==◌, Bool, true, false, if◌then◌else◌, List, [], ◌∷◌, Option, Some, None, IfSome, Result, Ok, Err, OnOk, OnErr, refl, sym, ◌∙◌, subst}
+use Rattle.std.proofs.Common.{◌≡◌, ℕ, zero, suc, ◌==◌, Bool, true, false, if◌then◌else◌, List, [], ◌∷◌, Option, Some, None, IfSome, Result, Ok, Err, OnOk, OnErr, refl, sym, ap, ◌∙◌, subst}
+use Rattle.std.proofs.lemmas.Bool.Decides.{Decides-eqb}
 use Rattle.jac_value.specs.declared.memory.Memory.{Memory}
 use Rattle.jac_rows.specs.Tables.{rows_of, rows_or_none}
 use Rattle.jac_rows.specs.declared.row.Row.{Row}
 use Rattle.jac_keep.specs.declared.alteration.Alteration.{Alteration}
 use Rattle.jac_keep.specs.declared.table_index.TableIndex.{TableIndex}
 use Rattle.jac_keep.specs.declared.table_indexes.TableIndexes.{TableIndexes}
-use Rattle.jac_keep.specs.Alterations.{alters}
-use Rattle.jac_keep.specs.Indexed.{index_at, IsIndexOf, AreIndexesOf}
+use Rattle.jac_keep.specs.Alterations.{alters, altered}
+use Rattle.jac_keep.specs.Indexed.{index_at, IsIndexOf, AreIndexesOf, AreAltered}
 use Rattle.jac_keep.specs.Records.{AreOrdered, are_in_order}
 use Rattle.jac_keep.proofs.OrderLaws.{ordered_if_tested}
-use Rattle.jac_cached.specs.Held.{held, rows_held, IsHolding}
+use Rattle.jac_cached.specs.Held.{held, rows_held, IsAfter, IsHolding, IsLater}
 
 -- the tables that are held, and none for each other model
 abbrev pub all_held : List (Option (List Row)) → List (List Row)
@@ -43,19 +44,61 @@ holding_none indexes right = record {
     none zero = tt
     none (suc m) = tt
 
--- a table that was altered has no index
-indexed_left : (b : Bool) (before after : Option (List Row)) (found : Option TableIndex) (x : TableIndex) → (b ≡ false → after ≡ before)
-    → (found ≡ Some x → IsIndexOf (rows_or_none before) x) → (if b then None else found) ≡ Some x → IsIndexOf (rows_or_none after) x
-indexed_left true before after found x same indexed is = absurd cc
-indexed_left false before after found x same indexed is = subst (λ (t : Option (List Row)). IsIndexOf (rows_or_none t) x) (sym (same refl)) (indexed is)
+-- a table that was altered has its index altered, or none
+indexed_none : (b : Bool) (before after : Option (List Row)) (old mid : Option TableIndex) (x : TableIndex) → (b ≡ false → after ≡ before) → (b ≡ false → mid ≡ old)
+    → (old ≡ Some x → IsIndexOf (rows_or_none before) x) → (if b then None else mid) ≡ Some x → IsIndexOf (rows_or_none after) x
+indexed_none true before after old mid x same kept indexed is = absurd cc
+indexed_none false before after old mid x same kept indexed is =
+    subst (λ (t : Option (List Row)). IsIndexOf (rows_or_none t) x) (sym (same refl)) (indexed (sym (kept refl) ∙ is))
 
-pub holding_left : (changed : List Alteration) (before after : List (Option (List Row))) (old new : TableIndexes) → IsHolding before old
-    → ((m : ℕ) → AreOrdered (rows_held m after)) → ((m : ℕ) → alters m changed ≡ false → held m after ≡ held m before)
-    → ((m : ℕ) → index_at m new ≡ (if alters m changed then None else index_at m old)) → IsHolding after new
-holding_left changed before after old new holding ordered same gone = record {
-  ordered = ordered;
-  indexed = λ m x is. indexed_left (alters m changed) (held m before) (held m after) (index_at m old) x (same m) (holding.indexed m x) (sym (gone m) ∙ is);
-}
+indexed_some : (m : ℕ) (changed : List Alteration) (before : Option (List Row)) (rows : List Row) (x : TableIndex) → IsAfter m changed before rows
+    → IsIndexOf (altered m changed (rows_or_none before)) x → IsIndexOf rows x
+indexed_some m changed before rows x after right =
+    subst (λ (r : List Row). IsIndexOf r x) (ap (λ t. altered m changed (rows_or_none t)) after.was ∙ sym after.same) right
+
+module _ (changed : List Alteration) (before after : List (Option (List Row))) (old mid new : TableIndexes) (holding : IsHolding before old)
+    (same : (m : ℕ) → alters m changed ≡ false → held m after ≡ held m before) (later : (m : ℕ) → IsLater m changed (held m before) (held m after))
+    (all : AreAltered (λ m. rows_held m before) changed old mid) (gone : (m : ℕ) → held m after ≡ None → index_at m new ≡ (if alters m changed then None else index_at m mid))
+    (kept : (m : ℕ) (rows : List Row) → held m after ≡ Some rows → index_at m new ≡ index_at m mid) where
+  indexed_after : (m : ℕ) (x : TableIndex) (table : Option (List Row)) → held m after ≡ table → index_at m new ≡ Some x → IsIndexOf (rows_or_none table) x
+  indexed_after m x None e is =
+      subst (λ (t : Option (List Row)). IsIndexOf (rows_or_none t) x) e
+      (indexed_none (alters m changed) (held m before) (held m after) (index_at m old) (index_at m mid) x (same m) (all.same m) (holding.indexed m x) (sym (gone m e) ∙ is))
+  indexed_after m x (Some rows) e is =
+      indexed_some m changed (held m before) rows x ((later m).left rows e) (all.right m x (sym (kept m rows e) ∙ is))
+
+  pub holding_left : ((m : ℕ) → AreOrdered (rows_held m after)) → IsHolding after new
+  holding_left ordered = record {
+    ordered = ordered;
+    indexed = λ m x is. indexed_after m x (held m after) refl is;
+  }
+
+-- what is forgotten of a table that is held, and of one that isn't
+pub gone_held : (model m : ℕ) (tables : List (Option (List Row))) (rows : List Row) (found : Option TableIndex) → held model tables ≡ Some rows → held m tables ≡ None
+    → found ≡ (if model == m then None else found)
+gone_held model m tables rows found is none = by_case (model == m) refl
+  where
+    by_case : (b : Bool) → (model == m) ≡ b → found ≡ (if b then None else found)
+    by_case true e =
+        let same : model ≡ m = (Decides-eqb model m).0 e in
+        absurd (clash (sym none ∙ ap (λ k. held k tables) (sym same) ∙ is))
+      where
+        clash : None ≡ Some rows → ⊥
+        clash bad = absurd cc
+    by_case false e = refl
+
+pub same_held : (model m : ℕ) (tables : List (Option (List Row))) (rows : List Row) (before after : Option TableIndex) → held model tables ≡ None → held m tables ≡ Some rows
+    → after ≡ (if model == m then None else before) → after ≡ before
+same_held model m tables rows before after none is left = by_case (model == m) refl left
+  where
+    by_case : (b : Bool) → (model == m) ≡ b → after ≡ (if b then None else before) → after ≡ before
+    by_case true e gone =
+        let same : model ≡ m = (Decides-eqb model m).0 e in
+        absurd (clash (sym none ∙ ap (λ k. held k tables) same ∙ is))
+      where
+        clash : None ≡ Some rows → ⊥
+        clash bad = absurd cc
+    by_case false e gone = gone
 
 -- what is held is by rising id behind a step too
 pub ordered_step : (b : Bool) (put table : Option (List Row)) → IfSome put AreOrdered → AreOrdered (rows_or_none table)

@@ -7,6 +7,7 @@ ghost use Rattle.jac_keep.specs.Holding.{holders};
 ghost use Rattle.jac_keep.specs.Records.{AreOrdered, are_in_order};
 ghost use Rattle.jac_cached.specs.Held.{held, rows_held, IsAfter, IsHolding, IsLater};
 
+use crate::indexes::{alter_indexes, forget_dropped, table_of};
 use jac_keep::{Alteration, Alterations, TableIndexes, is_in_order};
 use jac_rows::Rows;
 use jac_value::{Memory, Value, id_model};
@@ -80,8 +81,8 @@ impl HeldTables {
         }
     }
 
-    /// The tables that are held as they are after the alterations. An altered one is held no longer
-    /// where it was empty, or where memory lacks.
+    /// The tables that are held as they are after the alterations, and their indexes with them. An
+    /// altered one is held no longer where it was empty, or where memory lacks.
     pub fn alter(&mut self, alloc: Global, changed: &Alterations)
         ensures { (m : ℕ) → IsLater m changed.now (held m self.old) (held m self.new) }
     {
@@ -93,18 +94,6 @@ impl HeldTables {
     {
         self.tables.clear();
         self.indexes = TableIndexes::none(alloc);
-    }
-}
-
-fn table_of(tables: &[Option<Rows>], model: u8) -> Option<&Rows>
-    ensures { option_copied result ≡ held model tables.now }
-{
-    match tables.get(usize::from(model)) {
-        Some(table) => match table {
-            Some(rows) => Some(rows),
-            None => None,
-        },
-        None => None,
     }
 }
 
@@ -169,8 +158,9 @@ fn alter_in(
         IsLater m changed.now (held m tables.old.items) (held m tables.new.items) }
     ensures holding { IsHolding tables.new.items indexes.new }
 {
+    alter_indexes(alloc, tables.as_slice(), indexes, changed);
     alter_each(alloc, tables, changed);
-    indexes.forget(changed.as_slice());
+    forget_dropped(tables.as_slice(), indexes, changed.as_slice());
 }
 
 // Alters each of the tables.

@@ -3,6 +3,7 @@
 #![tactic(auto)]
 
 mod held;
+mod indexes;
 mod keeper;
 mod places;
 

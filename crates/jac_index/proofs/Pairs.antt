@@ -79,3 +79,15 @@ pair_none v id f g same none u k = ap (λ (h : Ids). shown (ids_or_none (h u)) k
         no true = refl
         no false = refl
     by_case false e = refl
+
+-- a value that has no ids is gone
+pub pair_closed : (v : Value) (f g : Ids) → ((u : Value) → g u ≡ cond (is_eq (order.ghosts.cmp v u)) None (f u)) → ((k : ℕ) → shown (ids_or_none (f v)) k ≡ false)
+    → (u : Value) (k : ℕ) → shown (ids_or_none (g u)) k ≡ shown (ids_or_none (f u)) k
+pair_closed v f g gone none u k = by_case (same_value v u) refl
+  where
+    by_case : (b : Bool) → same_value v u ≡ b → shown (ids_or_none (g u)) k ≡ shown (ids_or_none (f u)) k
+    by_case true e =
+        ap (λ o. shown (ids_or_none o) k) (gone u ∙ ap (λ b. cond b None (f u)) (tells v u ∙ e))
+        ∙ sym (none k)
+        ∙ ap (λ z. shown (ids_or_none (f z)) k) (equal v u e)
+    by_case false e = ap (λ o. shown (ids_or_none o) k) (gone u ∙ ap (λ b. cond b None (f u)) (tells v u ∙ e))

@@ -1,4 +1,4 @@
-ghost use Rattle.std.specs.Prelude.{◌≡◌, ◌==◌, ◌||◌, ◌&&◌, not, ℕ, Bool, false, IfOk, OnOk, OnErr};
+ghost use Rattle.std.specs.Prelude.{◌≡◌, ◌==◌, ◌||◌, ◌&&◌, not, ℕ, Bool, false, IfOk, OnOk, OnErr, IsTrue};
 ghost use Rattle.jac_world.specs.World.{shown, IsAscending};
 ghost use Rattle.jac_value.specs.declared.value.Value.{Value as Cell};
 ghost use Rattle.jac_index.specs.Triples.{same_value, has_pair, IsPairAdded, IsPairRemoved};
@@ -60,13 +60,35 @@ impl ByValue {
         Ok(())
     }
 
-    /// The same pairs but this one. Takes no memory.
+    /// The same pairs but this one. A value that no record has any longer is gone. Takes no memory.
     pub fn remove(&mut self, value: &Value, id: Id)
         ensures { IsPairRemoved value.now id self.old self.new }
     {
-        if let Some(ids) = self.ids.get_mut(value) {
-            ids.remove(id);
+        if self.remove_id(value, id) {
+            self.close(value);
         }
+    }
+
+    // The same pairs but this one, and whether no record has the value any longer.
+    fn remove_id(&mut self, value: &Value, id: Id) -> bool
+        ensures removed { IsPairRemoved value.now id self.old self.new }
+        ensures none { IsTrue result → (k : ℕ) → has_pair self.new value.now k ≡ false }
+    {
+        match self.ids.get_mut(value) {
+            Some(ids) => {
+                ids.remove(id);
+                ids.is_empty()
+            }
+            None => false,
+        }
+    }
+
+    // The same pairs, without the entry of a value that no record has.
+    fn close(&mut self, value: &Value)
+        requires { (k : ℕ) → has_pair self.old value.now k ≡ false }
+        ensures { (v : Cell) (k : ℕ) → has_pair self.new v k ≡ has_pair self.old v k }
+    {
+        let _ = self.ids.remove(value);
     }
 
     /// The records that have the value, by rising id, each once.

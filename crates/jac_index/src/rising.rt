@@ -1,5 +1,5 @@
 //! Ids by rising number, each once: searched by bisection, and changed in place.
-ghost use Rattle.std.specs.Prelude.{◌≡◌, ◌==◌, ◌||◌, ◌&&◌, not, ℕ, [], OnOk, OnErr};
+ghost use Rattle.std.specs.Prelude.{◌≡◌, ◌==◌, ◌||◌, ◌&&◌, not, ℕ, [], false, OnOk, OnErr, IsTrue};
 ghost use Rattle.jac_world.specs.World.{shown, IsAscending};
 
 use jac_value::{Id, Memory};
@@ -37,6 +37,12 @@ impl RisingIds {
         ensures ascending { IsAscending self.now }
     {
         self.ids.as_slice()
+    }
+
+    pub fn is_empty(&self) -> bool
+        ensures { IsTrue result → (k : ℕ) → shown self.now k ≡ false }
+    {
+        self.ids.is_empty()
     }
 
     pub fn has(&self, id: Id) -> bool

@@ -1,5 +1,5 @@
--- Tables of which no record is altered, and the indexes that are left.
-use Rattle.std.proofs.Common.{◌≡◌, ℕ, zero, suc, ◌+◌, ◌==◌, ◌||◌, Bool, true, false, if◌then◌else◌, List, [], ◌∷◌, Option, Some, None, add-zero, refl, sym, ◌∙◌, subst, arith}
+-- Tables of which a record is altered, or none, and the indexes that are left.
+use Rattle.std.proofs.Common.{◌≡◌, ℕ, zero, suc, ◌+◌, ◌<◌, ◌==◌, ◌||◌, Bool, true, false, if◌then◌else◌, List, [], ◌∷◌, Option, Some, None, length, add-zero, zero-add, refl, ap, sym, ◌∙◌, subst, arith}
 use Rattle.jac_value.specs.Ids.{model_of_id}
 use Rattle.jac_rows.specs.declared.row.Row.{Row}
 use Rattle.jac_rows.specs.Tables.{rows_of}
@@ -13,7 +13,7 @@ neither : (b c : Bool) → (b || c) ≡ false → (b ≡ false) × (c ≡ false)
 neither true c e = absurd cc
 neither false c e = (refl, e)
 
-altered_other : (model : ℕ) (changed : List Alteration) (rows : List Row) → alters model changed ≡ false → altered model changed rows ≡ rows
+pub altered_other : (model : ℕ) (changed : List Alteration) (rows : List Row) → alters model changed ≡ false → altered model changed rows ≡ rows
 altered_other model [] rows none = refl
 altered_other model (a ∷ rest) rows none =
     let both = neither (model_of_id a.id == model) (alters model rest) none in
@@ -31,6 +31,24 @@ rows_unaltered_from first (suc model) changed (t ∷ tables) none =
 -- a change leaves the table of a model of which it alters no record
 pub rows_unaltered : (model : ℕ) (changed : List Alteration) (tables : List (List Row)) → alters model changed ≡ false → rows_of (overlaid changed tables) model ≡ rows_of tables model
 rows_unaltered model changed tables none = rows_unaltered_from 0 model changed tables (subst (λ m. alters m changed ≡ false) (omega arith) none)
+
+rows_altered_from : (first m : ℕ) (changed : List Alteration) (tables : List (List Row)) → 0 < length (rows_of tables m)
+    → rows_of (overlaid_from first changed tables) m ≡ altered (first + m) changed (rows_of tables m)
+rows_altered_from first zero changed [] some = absurd (omega (arith, some))
+rows_altered_from first (suc m) changed [] some = absurd (omega (arith, some))
+rows_altered_from first zero changed (t ∷ tables) some = rw (add-zero first) refl
+rows_altered_from first (suc m) changed (t ∷ tables) some =
+    let next : (first + 1) + m ≡ first + suc m = omega arith in
+    rows_altered_from (first + 1) m changed tables some ∙ ap (λ k. altered k changed (rows_of tables m)) next
+
+-- the table of a model after alterations, where an altered one wasn't empty
+pub altered_table : (m : ℕ) (changed : List Alteration) (tables : List (List Row)) → (alters m changed ≡ true → 0 < length (rows_of tables m))
+    → altered m changed (rows_of tables m) ≡ rows_of (overlaid changed tables) m
+altered_table m changed tables some = by_case (alters m changed) refl
+  where
+    by_case : (b : Bool) → alters m changed ≡ b → altered m changed (rows_of tables m) ≡ rows_of (overlaid changed tables) m
+    by_case true e = sym (rows_altered_from 0 m changed tables (some e) ∙ ap (λ k. altered k changed (rows_of tables m)) (zero-add m))
+    by_case false e = altered_other m changed (rows_of tables m) e ∙ sym (rows_unaltered m changed tables e)
 
 -- what is left at a model once alterations were gone through
 abbrev pub forgotten : {X : Type 0} → ℕ → List Alteration → Option X → Option X

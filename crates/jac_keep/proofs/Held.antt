@@ -1,5 +1,5 @@
 -- What is found among rows: as they are read, and as they are altered.
-use Rattle.std.proofs.Common.{◌≡◌, ◌∙◌, refl, sym, ap, ℕ, ◌==◌, nat_lt, Bool, true, false, ◌&&◌, ◌||◌, if◌then◌else◌, List, [], ◌∷◌, ◌++◌, length, arith}
+use Rattle.std.proofs.Common.{◌≡◌, ◌∙◌, refl, sym, ap, ℕ, ◌==◌, nat_lt, Bool, true, false, not, ◌&&◌, ◌||◌, if◌then◌else◌, List, [], ◌∷◌, ◌++◌, length, arith}
 use Rattle.std.specs.List.{list_any}
 use Rattle.std.proofs.lemmas.Bool.Decides.{Decides-eqb}
 use Rattle.jac_value.specs.Ids.{model_of_id}
@@ -8,7 +8,7 @@ use Rattle.jac_value.specs.declared.value.Value.{Value}
 use Rattle.jac_world.specs.World.{shown, IsRisingBy, StartsAboveBy}
 use Rattle.jac_rows.specs.declared.row.Row.{Row}
 use Rattle.jac_keep.specs.declared.alteration.Alteration.{Alteration}
-use Rattle.jac_keep.specs.Records.{with_id, before, behind, placed, AreOf}
+use Rattle.jac_keep.specs.Records.{with_id, alternatives, before, behind, placed, AreOf}
 use Rattle.jac_keep.specs.Alterations.{AreOwn, AreApart, ArePlaced, altered, overlaid}
 use Rattle.jac_keep.proofs.AlteringLaws.{placed_if, rows_of-overlaid}
 use Rattle.jac_keep.proofs.PlacingLaws.{with_id-with_id, with_id-like, with_id-placed, with_id-all_of, with_id-none_of}
@@ -76,6 +76,16 @@ module _ (f : ℕ) (v : Value) where
   holds-placed id new rows i own =
       holds-append (before id rows ++ new) (behind id rows) i
       ∙ rw (holds-append (before id rows) new i, holds-with_id (λ k. nat_lt k id) rows i, holds-own id i new own, holds-with_id (λ k. nat_lt id k) rows i) refl
+
+  rewritten_at : (id k : ℕ) (h n : Bool) → (((id == k) && n) || (not ((k == id) && h) && h)) ≡ (((nat_lt k id && h) || ((id == k) && n)) || (nat_lt id k && h))
+  rewritten_at id k h n = grind arith
+
+  -- a record's new alternatives, and what others hold
+  pub holds-rewritten : (id : ℕ) (new rows : List Row) (k : ℕ) → AreOf id new
+      → (holds_cell f v new k || (not (holds_cell f v (alternatives id rows) k) && holds_cell f v rows k)) ≡ holds_cell f v (placed id new rows) k
+  holds-rewritten id new rows k own =
+      rw (holds-own id k new own, holds-with_id (λ i. i == id) rows k)
+      (rewritten_at id k (holds_cell f v rows k) (list_any (has_cell f v) new) ∙ sym (holds-placed id new rows k own))
 
   below : (i id : ℕ) (h n : Bool) → (nat_lt i id && (((nat_lt i id && h) || ((id == i) && n)) || (nat_lt id i && h))) ≡ (h && nat_lt i id)
   below i id h n = grind arith

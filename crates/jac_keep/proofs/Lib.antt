@@ -11,3 +11,5 @@ pub mod Adding
 pub mod Forgotten
 pub mod Gathered
 pub mod Held
+pub mod Rewritten
+pub mod IndexLaws

@@ -24,7 +24,7 @@ pub tables_of_sound : (s : State) → IsSound s → AreTables s.tables
 tables_of_sound s sound = sound_tables s.number 0 s.tables sound.tables
 
 -- the rows of a model in tables
-tables_rise : (tables : List (List Row)) (model : ℕ) → AreTables tables → AreRising (rows_of tables model)
+pub tables_rise : (tables : List (List Row)) (model : ℕ) → AreTables tables → AreRising (rows_of tables model)
 tables_rise [] zero rising = tt
 tables_rise [] (suc model) rising = tt
 tables_rise (t ∷ tables) zero rising = rising.0

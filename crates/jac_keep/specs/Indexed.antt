@@ -1,5 +1,5 @@
 -- The indexes of tables that were asked for the records of a value.
-use Rattle.std.specs.Prelude.{◌≡◌, ℕ, true, List, Option, Some, None, ⊤}
+use Rattle.std.specs.Prelude.{◌≡◌, ℕ, ◌<◌, true, false, not, ◌&&◌, ◌||◌, List, length, Option, Some, None, slice_get, ⊤}
 use Rattle.std.specs.BTreeMap.{get}
 use Rattle.std.specs.Option.{is_some}
 use Rattle.std.specs.Ordering.{nat_cmp}
@@ -8,7 +8,10 @@ use Rattle.jac_rows.specs.declared.row.Row.{Row}
 use Rattle.jac_rows.specs.Tables.{rows_of}
 use Rattle.jac_index.specs.declared.by_value.ByValue.{ByValue}
 use Rattle.jac_index.specs.Triples.{has_pair}
+use Rattle.jac_keep.specs.declared.alteration.Alteration.{Alteration}
+use Rattle.jac_keep.specs.Alterations.{alters, altered}
 use Rattle.jac_keep.specs.Holding.{holds_cell}
+use Rattle.jac_keep.specs.Records.{alternatives, placed}
 use Rattle.jac_keep.specs.declared.table_index.TableIndex.{TableIndex}
 use Rattle.jac_keep.specs.declared.table_indexes.TableIndexes.{TableIndexes}
 
@@ -16,12 +19,51 @@ use Rattle.jac_keep.specs.declared.table_indexes.TableIndexes.{TableIndexes}
 abbrev pub IsByField : ℕ → List Row → ByValue → Type 0
 IsByField f rows b = (v : Value) (id : ℕ) → has_pair b v id ≡ holds_cell f v rows id
 
+abbrev pub entry_or_none : Option (Option ByValue) → Option ByValue
+entry_or_none None = None
+entry_or_none (Some entry) = entry
+
+-- the index of a field at its place, where there is one
+abbrev pub field_index : ℕ → List (Option ByValue) → Option ByValue
+field_index f fields = entry_or_none (slice_get fields f)
+
 -- where there is an index of a field it is one of the rows
 abbrev pub IsIndexOf : List Row → TableIndex → Type 0
-IsIndexOf rows t = (f : ℕ) (b : ByValue) → get nat_cmp t.fields f ≡ Some b → IsByField f rows b
+IsIndexOf rows t = (f : ℕ) (b : ByValue) → field_index f t.fields.items ≡ Some b
+    → IsByField f rows b
 
 abbrev pub IndexesField : ℕ → TableIndex → Type 0
-IndexesField f t = is_some (get nat_cmp t.fields f) ≡ true
+IndexesField f t = is_some (field_index f t.fields.items) ≡ true
+
+-- all pairs but those of the old rows, and those of the new ones
+abbrev pub IsRewritten : ℕ → List Row → List Row → ByValue → ByValue → Type 0
+IsRewritten f old new b c = (v : Value) (id : ℕ)
+    → has_pair c v id ≡ (holds_cell f v new id || (not (holds_cell f v old id) && has_pair b v id))
+
+-- the same of a field that may have no index
+abbrev pub IsFieldAfter : ℕ → List Row → List Row → Option ByValue → Option ByValue → Type 0
+IsFieldAfter f old new None after = after ≡ None
+IsFieldAfter f old new (Some b) after =
+    (c : ByValue) × ((after ≡ Some c) × IsRewritten f old new b c)
+
+-- an index of rows that have these alternatives of the record is one with the new ones in place
+abbrev pub Follows : ℕ → List Row → List Row → TableIndex → TableIndex → Type 0
+Follows id own new old after = (rows : List Row) → alternatives id rows ≡ own → IsIndexOf rows old
+    → IsIndexOf (placed id new rows) after
+
+abbrev pub KeepsFields : TableIndex → TableIndex → Type 0
+KeepsFields old new = (f : ℕ) → IndexesField f old → IndexesField f new
+
+-- what is left of the index of a table that isn't empty follows an alteration of a record of it
+abbrev pub Remains : ℕ → List Row → List Row → Option TableIndex → Option TableIndex → Type 0
+Remains id rows new before after = (u : TableIndex) → after ≡ Some u
+    → (t : TableIndex) × ((before ≡ Some t) × (Follows id (alternatives id rows) new t u
+    × (0 < length rows)))
+
+-- an index is left, with each of its fields
+abbrev pub IsIndexKept : Option TableIndex → Option TableIndex → Type 0
+IsIndexKept before after = (t : TableIndex) → before ≡ Some t
+    → (u : TableIndex) × ((after ≡ Some u) × KeepsFields t u)
 
 -- the index of a model, where there is one
 abbrev pub index_at : ℕ → TableIndexes → Option TableIndex
@@ -39,3 +81,13 @@ AreIndexesIfMade tables (Some t) = AreIndexesOf tables t
 
 abbrev pub IndexesModel : ℕ → TableIndexes → Type 0
 IndexesModel m t = is_some (index_at m t) ≡ true
+
+-- indexes after alterations of tables: where one is left it is one of the table as these leave it,
+-- and that wasn't empty if they alter it; the indexes of other tables are as they were
+pub record AreAltered (table : ℕ → List Row) (changed : List Alteration)
+    (old new : TableIndexes) : Type 0 where
+  pub right : (m : ℕ) (x : TableIndex) → index_at m new ≡ Some x
+      → IsIndexOf (altered m changed (table m)) x
+  pub some : (m : ℕ) (x : TableIndex) → index_at m new ≡ Some x → alters m changed ≡ true
+      → 0 < length (table m)
+  pub same : (m : ℕ) → alters m changed ≡ false → index_at m new ≡ index_at m old

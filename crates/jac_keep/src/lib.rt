@@ -2,7 +2,9 @@
 #![tactic(auto)]
 
 mod alteration;
+mod by_field;
 mod exchange;
+mod fields;
 mod gathering;
 mod keeper;
 mod laws;
@@ -17,6 +19,7 @@ mod splitting;
 mod stop;
 mod table_index;
 mod table_indexes;
+mod together;
 mod vault;
 mod work;
 

@@ -8,7 +8,6 @@ ghost use Rattle.jac_rows.specs.Tables.{rows_of};
 ghost use Rattle.jac_keep.specs.Records.{alternatives};
 ghost use Rattle.jac_keep.specs.Holding.{holders};
 ghost use Rattle.jac_keep.specs.Indexed.{AreIndexesOf, AreIndexesIfMade};
-ghost use Rattle.jac_keep.specs.Alterations.{overlaid};
 ghost use Rattle.jac_keep.specs.Cause.{HasCause};
 ghost use Rattle.jac_keep.specs.KeeperSeen.{Keeps, Reads};
 ghost use Rattle.jac_keep.specs.Kept.{applied};
@@ -17,9 +16,10 @@ ghost use Rattle.jac_keep.specs.Reshaping.{widened, Reshapes};
 ghost use Rattle.jac_keep.specs.Schema.{IsSchema, IsFit, empties};
 ghost use Rattle.jac_keep.specs.declared.vault.AttachFault.TheVariants.{Failed, Other};
 
-use crate::opening::{alter_tables, reshape_tables, widen};
+use crate::opening::{reshape_tables, widen};
 use crate::places::place_in;
-use crate::{Alteration, AttachFault, Change, Keeper, Stop, TableIndexes, Vault, shape_of};
+use crate::together::alter_together;
+use crate::{AttachFault, Change, Keeper, Stop, TableIndexes, Vault, shape_of};
 use jac_io::Calls;
 use jac_rows::{Row, Rows, State, Tables};
 use jac_value::{Id, Memory, Txt, Value, id_model};
@@ -36,7 +36,7 @@ pub struct MemoryKeeper {
     schema: Option<Txt>,
     name: Option<Txt>,
     state: State,
-    // Of the fields that `rows_with` was asked for, once it was; of no table that changed since.
+    // Of the fields that `rows_with` was asked for, once it was. They change with their tables.
     indexes: Option<TableIndexes>,
     fail_reads: Calls,
     fail_applies: Calls,
@@ -232,9 +232,13 @@ impl Keeper for MemoryKeeper {
         ensures kept { Keeps (seen_keeper self.old) (seen_keeper self.new) result }
     {
         self.count_apply()?;
-        alter_tables(alloc, &mut self.state.tables, &change.changed)?;
+        alter_together(
+            alloc,
+            &mut self.state.tables,
+            &mut self.indexes,
+            &change.changed,
+        )?;
         self.state.number = change.number;
-        forget(&mut self.indexes, change.changed.as_slice());
         Ok(())
     }
 }
@@ -437,17 +441,6 @@ fn take_indexes(alloc: Global, indexes: &mut Option<TableIndexes>) -> TableIndex
     match indexes.take() {
         Some(made) => made,
         None => TableIndexes::none(alloc),
-    }
-}
-
-// The indexes of the altered records' tables are gone.
-fn forget(indexes: &mut Option<TableIndexes>, changed: &[Alteration])
-    ensures { (tables : List (List Seen)) → AreIndexesIfMade tables indexes.old
-        → AreIndexesIfMade (overlaid changed.now tables) indexes.new }
-{
-    match indexes {
-        Some(made) => made.forget(changed),
-        None => (),
     }
 }
 

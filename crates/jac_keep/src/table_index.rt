@@ -1,25 +1,25 @@
 //! The indexes of one table.
-ghost use Rattle.std.specs.Prelude.{◌≡◌, ◌==◌, ◌&&◌, ◌||◌, ℕ, List, IfOk, OnOk, slice_get};
-ghost use Rattle.std.specs.Option.{option_copied};
+ghost use Rattle.std.specs.Prelude.{◌≡◌, ℕ, List, IfOk, OnOk};
 ghost use Rattle.jac_rows.specs.declared.row.Row.{Row as Seen};
-ghost use Rattle.jac_value.specs.declared.value.Value.{Value as Cell};
 ghost use Rattle.jac_world.specs.World.{shown, IsAscending};
-ghost use Rattle.jac_keep.specs.Records.{AreOrdered};
-ghost use Rattle.jac_index.specs.Triples.{has_pair};
-ghost use Rattle.jac_keep.specs.Holding.{has_cell, holds_cell, holders};
-ghost use Rattle.jac_keep.specs.Indexed.{IsByField, IsIndexOf, IndexesField};
+ghost use Rattle.jac_keep.specs.Records.{AreOf, AreOrdered, alternatives};
+ghost use Rattle.jac_keep.specs.Holding.{holds_cell, holders};
+ghost use Rattle.jac_keep.specs.Indexed.{IsIndexOf, IndexesField, Follows, KeepsFields};
 
+use crate::Alteration;
+use crate::by_field::index_of;
+use crate::fields::{alter_fields, field_of, put_in};
 use crate::gathering::rows_of_ids;
+use crate::places::place_in;
 use jac_index::ByValue;
 use jac_rows::{Row, Rows};
 use jac_value::{Ids, Memory, Value};
 use std::alloc::Global;
-use std::collections::BTreeMap;
 
-/// The records of a table by the values of the fields that were asked for.
+/// The records of a table by the values of the fields that were asked for, each at its place.
 #[derive(Debug, Drop)]
 pub struct TableIndex {
-    fields: BTreeMap<u8, ByValue>,
+    fields: Vec<Option<ByValue>>,
 }
 
 impl TableIndex {
@@ -27,7 +27,7 @@ impl TableIndex {
         ensures { (rows : List Seen) → IsIndexOf rows result }
     {
         TableIndex {
-            fields: BTreeMap::new(alloc),
+            fields: Vec::new(alloc),
         }
     }
 
@@ -57,12 +57,12 @@ impl TableIndex {
         ensures right { IsIndexOf rows.now self.new }
         ensures opened { OnOk result (IndexesField field self.new) }
     {
-        if self.fields.contains_key(&field) {
+        let place = usize::from(field);
+        if field_of(self.fields.as_slice(), place).is_some() {
             return Ok(());
         }
-        let made = index_of(alloc, rows, field)?;
-        self.fields.insert(field, made)?;
-        Ok(())
+        let made = index_of(alloc, rows, place)?;
+        put_in(&mut self.fields, place, made)
     }
 
     fn ids(&self, alloc: Global, rows: &[Row], field: u8, value: &Value) -> Result<Ids, Memory>
@@ -73,36 +73,29 @@ impl TableIndex {
         ensures ascending { IfOk result IsAscending }
     {
         let _ = rows;
-        match self.fields.get(&field) {
+        match field_of(self.fields.as_slice(), usize::from(field)) {
             Some(values) => values.find(alloc, value),
             None => unreachable!(),
         }
     }
-}
 
-// The records of the table by the values of the field.
-fn index_of(alloc: Global, rows: &[Row], field: u8) -> Result<ByValue, Memory>
-    ensures { IfOk result (IsByField field rows.now) }
-{
-    let mut values = ByValue::new(alloc);
-    'rows: for row in rows {
-        add_row(alloc, &mut values, row, field)?;
+    /// The index of the rows once the record is altered, with the same fields.
+    pub fn altered(
+        self,
+        alloc: Global,
+        rows: &[Row],
+        alteration: &Alteration,
+    ) -> Result<TableIndex, Memory>
+        requires ordered { AreOrdered rows.now }
+        requires own { AreOf alteration.now.id alteration.now.rows }
+        ensures follows { IfOk result (λ index. Follows alteration.now.id
+            (alternatives alteration.now.id rows.now) alteration.now.rows self index) }
+        ensures kept { IfOk result (λ index. KeepsFields self index) }
+    {
+        let place = place_in(rows, alteration.id);
+        let (_, from) = rows.split_at(place.start);
+        let (own, _) = from.split_at(place.count);
+        let fields = alter_fields(alloc, self.fields, own, alteration.rows.as_slice())?;
+        Ok(TableIndex { fields })
     }
-    Ok(values)
-}
-
-fn add_row(alloc: Global, values: &mut ByValue, row: &Row, field: u8) -> Result<(), Memory>
-    ensures { OnOk result ((v : Cell) (k : ℕ) → has_pair values.new v k
-        ≡ (((row.now.id == k) && has_cell field v row.now) || has_pair values.old v k)) }
-{
-    match cell_at(row, field) {
-        Some(cell) => values.add(alloc, cell, row.id),
-        None => Ok(()),
-    }
-}
-
-fn cell_at(row: &Row, field: u8) -> Option<&Value>
-    ensures { option_copied result ≡ slice_get row.now.cells field }
-{
-    row.cells.as_slice().get(usize::from(field))
 }

@@ -1,11 +1,12 @@
 //! The indexes of a state's tables.
-ghost use Rattle.std.specs.Prelude.{◌≡◌, ◌==◌, ℕ, List, None, if◌then◌else◌, IfOk, OnOk};
+ghost use Rattle.std.specs.Prelude.{◌≡◌, ◌==◌, ◌<◌, ℕ, false, List, length, Some, None, if◌then◌else◌, IfOk, OnOk};
 ghost use Rattle.jac_rows.specs.declared.row.Row.{Row as Seen};
 ghost use Rattle.jac_rows.specs.Tables.{rows_of};
-ghost use Rattle.jac_keep.specs.Records.{AreOrdered};
+ghost use Rattle.jac_value.specs.Ids.{model_of_id};
+ghost use Rattle.jac_keep.specs.Records.{AreOf, AreOrdered};
 ghost use Rattle.jac_keep.specs.Alterations.{alters, overlaid};
 ghost use Rattle.jac_keep.specs.Holding.{holders};
-ghost use Rattle.jac_keep.specs.Indexed.{index_at, AreIndexesOf, IndexesModel};
+ghost use Rattle.jac_keep.specs.Indexed.{index_at, AreIndexesOf, IndexesModel, Remains, IsIndexKept};
 
 use crate::Alteration;
 use crate::table_index::TableIndex;
@@ -81,6 +82,57 @@ impl TableIndexes {
             Some(index) => index.find(alloc, rows, field, value),
             None => unreachable!(),
         }
+    }
+
+    /// The index of the altered record's table, which had these rows, is one of the table once the
+    /// record is altered. An index of an empty table goes, and one for which memory lacks.
+    pub fn alter_one(
+        &mut self,
+        alloc: Global,
+        rows: &[Row],
+        alteration: &Alteration,
+    ) -> Result<(), Memory>
+        requires ordered { AreOrdered rows.now }
+        requires own { AreOf alteration.now.id alteration.now.rows }
+        ensures left { Remains alteration.now.id rows.now alteration.now.rows
+            (index_at (model_of_id alteration.now.id) self.old)
+            (index_at (model_of_id alteration.now.id) self.new) }
+        ensures others { (m : ℕ) → (model_of_id alteration.now.id == m) ≡ false
+            → index_at m self.new ≡ index_at m self.old }
+        ensures kept { OnOk result (0 < length rows.now
+            → IsIndexKept (index_at (model_of_id alteration.now.id) self.old)
+            (index_at (model_of_id alteration.now.id) self.new)) }
+    {
+        match self.models.remove(&id_model(alteration.id)) {
+            Some(index) => self.put_altered(alloc, index, rows, alteration),
+            None => Ok(()),
+        }
+    }
+
+    // Puts the index as it is once the record is altered, if the table isn't empty.
+    fn put_altered(
+        &mut self,
+        alloc: Global,
+        index: TableIndex,
+        rows: &[Row],
+        alteration: &Alteration,
+    ) -> Result<(), Memory>
+        requires ordered { AreOrdered rows.now }
+        requires own { AreOf alteration.now.id alteration.now.rows }
+        requires none { index_at (model_of_id alteration.now.id) self.old ≡ None }
+        ensures left { Remains alteration.now.id rows.now alteration.now.rows (Some index)
+            (index_at (model_of_id alteration.now.id) self.new) }
+        ensures others { (m : ℕ) → (model_of_id alteration.now.id == m) ≡ false
+            → index_at m self.new ≡ index_at m self.old }
+        ensures kept { OnOk result (0 < length rows.now
+            → IsIndexKept (Some index) (index_at (model_of_id alteration.now.id) self.new)) }
+    {
+        if rows.is_empty() {
+            return Ok(());
+        }
+        let after = index.altered(alloc, rows, alteration)?;
+        self.models.insert(id_model(alteration.id), after)?;
+        Ok(())
     }
 
     /// The indexes of the tables of altered records are gone. It takes no memory.

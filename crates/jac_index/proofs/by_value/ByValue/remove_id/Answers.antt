@@ -4,10 +4,10 @@ use Rattle.jac_value.specs.contracts.value.ValueOrd.TheImpl as order
 use Rattle.jac_world.specs.World.{shown}
 use Rattle.jac_index.specs.Triples.{ids_or_none}
 use Rattle.jac_index.proofs.Pairs.{pair_removed, pair_none, SetAt}
-use Rattle.jac_index.proofs.by_value.ByValue.remove.Goals as goal
+use Rattle.jac_index.proofs.by_value.ByValue.remove_id.Goals as goal
 
-pub returns-in-Some : goal.returns-in-Some
-returns-in-Some c =
+pub returns-in-Some-clause-removed : goal.returns-in-Some-clause-removed
+returns-in-Some-clause-removed c =
     let v = c.args.value.now in
     let f = get order.ghosts.cmp c.args.self.now.ids in
     let g = get order.ghosts.cmp (c.get_mut.follows.lender c.remove.new.self) in
@@ -15,8 +15,8 @@ returns-in-Some c =
     let at = λ (k : ℕ). ap (λ (o : Option (List ℕ)). shown (ids_or_none o) k) (sym c.in-Some.ensures.value) in
     pair_removed v c.args.id c.in-Some.ids.now c.remove.new.self f g set at c.remove.ensures
 
-pub returns-in_default : goal.returns-in_default
-returns-in_default c =
+pub returns-in-None-clause-removed : goal.returns-in-None-clause-removed
+returns-in-None-clause-removed c =
     let f = get order.ghosts.cmp c.args.self.now.ids in
     let g = get order.ghosts.cmp c.get_mut.follows.lender-at-none in
-    pair_none c.args.value.now c.args.id f g (ap (get order.ghosts.cmp) c.get_mut.follows.holds-at-none) (sym (rw c.in_default.is at c.get_mut.ensures.value))
+    pair_none c.args.value.now c.args.id f g (ap (get order.ghosts.cmp) c.get_mut.follows.holds-at-none) (sym (rw c.in-None.is at c.get_mut.ensures.value))

@@ -4,7 +4,7 @@ use Rattle.jac_value.specs.declared.value.Value.{Value}
 use Rattle.jac_index.specs.Triples.{has_pair, IsPairAdded}
 use Rattle.jac_index.proofs.Pairs.{on_ok}
 use Rattle.jac_keep.proofs.Adding.{cell_pair, no_cell}
-use Rattle.jac_keep.proofs.table_index.add_row.Goals as goal
+use Rattle.jac_keep.proofs.by_field.add_row.Goals as goal
 
 pub returns-in-Some : goal.returns-in-Some
 returns-in-Some c =
