@@ -129,13 +129,12 @@ fn store_text<K: Vault, M: Ledger>(
 {
     let viewer = asker_of(app, number);
     let mut work = Work::new(alloc, vault);
-    let text = state_lines(alloc, &mut work, app, &viewer, evaluations)?;
+    let text = state_lines(&mut work, app, &viewer, evaluations)?;
     Ok(text)
 }
 
 // The lines of a state: what is shown, and what stands against each other live label.
 fn state_lines<K: Keeper, M: Ledger>(
-    alloc: Global,
     work: &mut Work<'_, K>,
     app: &App,
     viewer: &Option<Id>,
@@ -147,16 +146,15 @@ fn state_lines<K: Keeper, M: Ledger>(
         (IsExplanation (application_of app.now) viewer.now (state_of K.seen work.old)) }
     ensures reads { ReadsWork K.seen work.old work.new result }
 {
-    let live = live_labels(alloc, work, app)?;
-    let shown = resolve(alloc, work, app, *viewer, evaluations)?;
+    let live = live_labels(work, app)?;
+    let shown = resolve(work, app, *viewer, evaluations)?;
     let labels = live.as_slice();
-    let text = shown_lines(alloc, work, app, viewer, &shown, labels, evaluations)?;
+    let text = shown_lines(work, app, viewer, &shown, labels, evaluations)?;
     Ok(text)
 }
 
 // What is shown, and what stands against each other one of the labels.
 fn shown_lines<K: Keeper, M: Ledger>(
-    alloc: Global,
     work: &mut Work<'_, K>,
     app: &App,
     viewer: &Option<Id>,
@@ -178,14 +176,13 @@ fn shown_lines<K: Keeper, M: Ledger>(
         viewer: *viewer,
         labels: shown,
     };
-    let found = whys(alloc, work, &scene, live, evaluations)?;
-    let text = checked_lines(alloc, work, &scene, found.as_slice(), evaluations)?;
+    let found = whys(work, &scene, live, evaluations)?;
+    let text = checked_lines(work, &scene, found.as_slice(), evaluations)?;
     Ok(text)
 }
 
 // A line for each answer that stands the test.
 fn checked_lines<K: Keeper, M: Ledger>(
-    alloc: Global,
     work: &mut Work<'_, K>,
     scene: &Scene<'_>,
     whys: &[Explanation],
@@ -198,14 +195,13 @@ fn checked_lines<K: Keeper, M: Ledger>(
         scene.now.labels.now whys.now) }
     ensures reads { ReadsWork K.seen work.old work.new result }
 {
-    let mut text = Vec::new(alloc);
+    let mut text = Vec::new(work.alloc);
     push_shown(&mut text, scene.labels)?;
-    push_checked(alloc, work, scene, whys, &mut text, evaluations)?;
+    push_checked(work, scene, whys, &mut text, evaluations)?;
     Ok(Bytes::from_vec(text))
 }
 
 fn push_checked<K: Keeper, M: Ledger>(
-    alloc: Global,
     work: &mut Work<'_, K>,
     scene: &Scene<'_>,
     whys: &[Explanation],
@@ -220,14 +216,13 @@ fn push_checked<K: Keeper, M: Ledger>(
     ensures reads { ReadsWork K.seen work.old work.new result }
 {
     'whys: for why in whys {
-        push_if_standing(alloc, work, scene, why, text, evaluations)?;
+        push_if_standing(work, scene, why, text, evaluations)?;
     }
     Ok(())
 }
 
 // The line of an answer that stands the test.
 fn push_if_standing<K: Keeper, M: Ledger>(
-    alloc: Global,
     work: &mut Work<'_, K>,
     scene: &Scene<'_>,
     why: &Explanation,
@@ -241,7 +236,7 @@ fn push_if_standing<K: Keeper, M: Ledger>(
         ++ why_line (application_of scene.now.app.now).models why.now) }
     ensures reads { ReadsWork K.seen work.old work.new result }
 {
-    let stands = check_reason(alloc, work, scene, why.hidden, &why.reason, evaluations)?;
+    let stands = check_reason(work, scene, why.hidden, &why.reason, evaluations)?;
     if !stands {
         return Ok(());
     }

@@ -85,7 +85,7 @@ pub(crate) fn shown_page<K: Keeper, M: Ledger>(
         → Rose (K.seen keeper.old).faults (K.seen keeper.new).faults }
 {
     let mut work = Work::new(alloc, keeper);
-    let shown = show_view(alloc, &mut work, visited, number, seat, evaluations)?;
+    let shown = show_view(&mut work, visited, number, seat, evaluations)?;
     Ok(shown)
 }
 
@@ -117,13 +117,12 @@ pub(crate) fn shown_lazily<K: Keeper, M: Ledger>(
         → Rose (K.seen keeper.old).faults (K.seen keeper.new).faults }
 {
     let mut work = Work::new(alloc, keeper);
-    let shown = view_lazily(alloc, &mut work, visited, number, evaluations)?;
+    let shown = view_lazily(&mut work, visited, number, evaluations)?;
     Ok(shown)
 }
 
 // The same, over a work.
 fn view_lazily<K: Keeper, M: Ledger>(
-    alloc: Global,
     work: &mut Work<'_, K>,
     visited: &Visited<'_>,
     number: u64,
@@ -145,7 +144,7 @@ fn view_lazily<K: Keeper, M: Ledger>(
 {
     let asked = &visited.ask.pairs;
     let env = bind(
-        alloc,
+        work.alloc,
         &visited.view.params,
         visited.app,
         visited.path,
@@ -158,13 +157,12 @@ fn view_lazily<K: Keeper, M: Ledger>(
         around: None,
     };
     let place = visited.place;
-    let shown = page_lazily(alloc, work, visited.app, &ctx, place, &env, evaluations)?;
+    let shown = page_lazily(work, visited.app, &ctx, place, &env, evaluations)?;
     Ok(shown)
 }
 
 // Settles the labels, and makes the page in the world that they show.
 fn show_view<K: Keeper, M: Ledger>(
-    alloc: Global,
     work: &mut Work<'_, K>,
     visited: &Visited<'_>,
     number: u64,
@@ -189,14 +187,13 @@ fn show_view<K: Keeper, M: Ledger>(
     ensures keeps { WritesWork K.seen work.old work.new result }
 {
     let viewer = &visited.ask.viewer;
-    let labels = settle_seat(alloc, work, visited.app, viewer, seat, evaluations)?;
-    let page = page_under(alloc, work, visited, number, &labels)?;
+    let labels = settle_seat(work, visited.app, viewer, seat, evaluations)?;
+    let page = page_under(work, visited, number, &labels)?;
     Ok(Labelled { page, labels })
 }
 
 // Makes the page in the world that the labels show.
 fn page_under<K: Keeper>(
-    alloc: Global,
     work: &mut Work<'_, K>,
     visited: &Visited<'_>,
     number: u64,
@@ -213,11 +210,10 @@ fn page_under<K: Keeper>(
 {
     let view = visited.view;
     let asked = &visited.ask.pairs;
-    let env = bind(alloc, &view.params, visited.app, visited.path, asked)?;
+    let env = bind(work.alloc, &view.params, visited.app, visited.path, asked)?;
     let ctx = context(visited, number);
-    let mut support = Support::empty(alloc);
+    let mut support = Support::empty(work.alloc);
     let page = run_body_at(
-        alloc,
         work,
         visited.app,
         &ctx,
@@ -281,7 +277,6 @@ pub(crate) fn stored_page<K: Keeper, L: Ledger, M: Ledger>(
 {
     let mut work = Work::new(alloc, keeper);
     let Touching { shown, touch } = settle_view(
-        alloc,
         &mut work,
         visited,
         number,
@@ -299,7 +294,6 @@ pub(crate) fn stored_page<K: Keeper, L: Ledger, M: Ledger>(
 
 // The same over a work, said of its tables alone.
 fn settle_view<K: Keeper, L: Ledger, M: Ledger>(
-    alloc: Global,
     work: &mut Work<'_, K>,
     visited: &Visited<'_>,
     number: u64,
@@ -332,14 +326,13 @@ fn settle_view<K: Keeper, L: Ledger, M: Ledger>(
 {
     settled_by_tables();
     seated_by_tables();
-    let touching = store_view(alloc, work, visited, number, seat, splits, evaluations)?;
+    let touching = store_view(work, visited, number, seat, splits, evaluations)?;
     Ok(touching)
 }
 
 // Runs the statements of the view, settles the labels on what they leave, and makes the page that
 // these show.
 fn store_view<K: Keeper, L: Ledger, M: Ledger>(
-    alloc: Global,
     work: &mut Work<'_, K>,
     visited: &Visited<'_>,
     number: u64,
@@ -373,11 +366,11 @@ fn store_view<K: Keeper, L: Ledger, M: Ledger>(
     ensures told { OnOk result (StaysTold K.seen work.old work.new) }
     ensures keeps { WritesWork K.seen work.old work.new result }
 {
-    let pieces = run_body(alloc, work, visited, number, splits)?;
-    let touch = touch_seat(alloc, work, visited, seat)?;
+    let pieces = run_body(work, visited, number, splits)?;
+    let touch = touch_seat(work, visited, seat)?;
     let viewer = &visited.ask.viewer;
-    let settled = settle_seat(alloc, work, visited.app, viewer, seat, evaluations)?;
-    let page = page_of(alloc, &pieces, &settled)?;
+    let settled = settle_seat(work, visited.app, viewer, seat, evaluations)?;
+    let page = page_of(work.alloc, &pieces, &settled)?;
     Ok(Touching {
         shown: Labelled {
             page,
@@ -389,7 +382,6 @@ fn store_view<K: Keeper, L: Ledger, M: Ledger>(
 
 // What the work may touch, of which nothing is settled any longer for who asks.
 fn touch_seat<K: Keeper>(
-    alloc: Global,
     work: &mut Work<'_, K>,
     visited: &Visited<'_>,
     seat: &mut Seat,
@@ -406,14 +398,13 @@ fn touch_seat<K: Keeper>(
     ensures reads { ReadsWork K.seen work.old work.new result }
 {
     seat_moves();
-    let touch = touch_of(alloc, work, visited.app)?;
-    seat.unsettle(alloc, &visited.ask.viewer, &touch)?;
+    let touch = touch_of(work, visited.app)?;
+    seat.unsettle(work.alloc, &visited.ask.viewer, &touch)?;
     Ok(touch)
 }
 
 // Runs the statements of the view for all assignments at once.
 fn run_body<K: Keeper, L: Ledger>(
-    alloc: Global,
     work: &mut Work<'_, K>,
     visited: &Visited<'_>,
     number: u64,
@@ -431,12 +422,11 @@ fn run_body<K: Keeper, L: Ledger>(
 {
     let view = visited.view;
     let asked = &visited.ask.pairs;
-    let mut env = bind_alike(alloc, visited.app, view, visited.path, asked)?;
-    let mut out = Out::empty(alloc);
+    let mut env = bind_alike(work.alloc, visited.app, view, visited.path, asked)?;
+    let mut out = Out::empty(work.alloc);
     let ctx = context(visited, number);
-    let everywhere = Guard::empty(alloc);
+    let everywhere = Guard::empty(work.alloc);
     exec(
-        alloc,
         work,
         visited.app,
         &ctx,

@@ -28,7 +28,6 @@ use std::sync::ledger::Ledger;
 
 /// The tuples in the order that the query asks for.
 pub(crate) fn sort<K: Keeper, L: Ledger>(
-    alloc: Global,
     work: &mut Work<'_, K>,
     app: &App,
     binders: &Binders,
@@ -47,21 +46,16 @@ pub(crate) fn sort<K: Keeper, L: Ledger>(
     match by {
         Order::Key => Ok(tuples),
         Order::Up(name, field) => {
-            sort_by(
-                alloc, work, app, binders, name, field, false, &tuples, splits,
-            )
+            sort_by(work, app, binders, name, field, false, &tuples, splits)
         }
         Order::Down(name, field) => {
-            sort_by(
-                alloc, work, app, binders, name, field, true, &tuples, splits,
-            )
+            sort_by(work, app, binders, name, field, true, &tuples, splits)
         }
     }
 }
 
 // The tuples in the order of the field of this binder's records.
 fn sort_by<K: Keeper, L: Ledger>(
-    alloc: Global,
     work: &mut Work<'_, K>,
     app: &App,
     binders: &Binders,
@@ -81,14 +75,13 @@ fn sort_by<K: Keeper, L: Ledger>(
     ensures reads { ReadsWork K.seen work.old work.new result }
 {
     let all = tuples.as_slice();
-    let keys = keys_of(alloc, work, app, binders, name, field, all, splits)?;
-    let sorted = order(alloc, tuples, &keys, down, splits)?;
+    let keys = keys_of(work, app, binders, name, field, all, splits)?;
+    let sorted = order(work.alloc, tuples, &keys, down, splits)?;
     Ok(sorted)
 }
 
 // The field of this binder's record, of each tuple.
 fn keys_of<K: Keeper, L: Ledger>(
-    alloc: Global,
     work: &mut Work<'_, K>,
     app: &App,
     binders: &Binders,
@@ -105,12 +98,10 @@ fn keys_of<K: Keeper, L: Ledger>(
     ensures length { IfOk result (λ ks. length tuples.now ≡ length ks) }
     ensures reads { ReadsWork K.seen work.old work.new result }
 {
-    let model = binder_model(alloc, binders, name)?;
-    let mut keys = Vec::new(alloc);
+    let model = binder_model(work.alloc, binders, name)?;
+    let mut keys = Vec::new(work.alloc);
     'tuples: for tuple in tuples {
-        let key = key_at(
-            alloc, work, app, binders, &model, name, field, tuple, splits,
-        )?;
+        let key = key_at(work, app, binders, &model, name, field, tuple, splits)?;
         keys.push(key)?;
     }
     Ok(Facets::from_vec(keys))
@@ -118,7 +109,6 @@ fn keys_of<K: Keeper, L: Ledger>(
 
 // The field of this binder's record, wherever the tuple holds.
 fn key_at<K: Keeper, L: Ledger>(
-    alloc: Global,
     work: &mut Work<'_, K>,
     app: &App,
     binders: &Binders,
@@ -135,17 +125,8 @@ fn key_at<K: Keeper, L: Ledger>(
         (look (bound (binders_of binders.now) tuple.now.ids []) name.now)) }
     ensures reads { ReadsWork K.seen work.old work.new result }
 {
-    let record = bound_name(alloc, binders, tuple, name)?;
-    let key = get(
-        alloc,
-        work,
-        app,
-        &tuple.guard,
-        model,
-        field,
-        &record,
-        splits,
-    )?;
+    let record = bound_name(work.alloc, binders, tuple, name)?;
+    let key = get(work, app, &tuple.guard, model, field, &record, splits)?;
     Ok(key)
 }
 

@@ -22,7 +22,6 @@ use std::sync::ledger::Ledger;
 
 // Whether the record that the value refers to is in the tables.
 pub(crate) fn stand<K: Keeper, L: Ledger>(
-    alloc: Global,
     work: &mut Work<'_, K>,
     pc: &Guard,
     value: &Facet<Value>,
@@ -35,13 +34,12 @@ pub(crate) fn stand<K: Keeper, L: Ledger>(
         (at w value.now))) }
     ensures reads { ReadsWork K.seen work.old work.new result }
 {
-    let leaves = value.leaves_under(alloc, pc)?;
-    let found = leaves_stand(alloc, work, leaves.as_slice(), splits)?;
+    let leaves = value.leaves_under(work.alloc, pc)?;
+    let found = leaves_stand(work, leaves.as_slice(), splits)?;
     Ok(found)
 }
 
 fn leaves_stand<K: Keeper, L: Ledger>(
-    alloc: Global,
     work: &mut Work<'_, K>,
     leaves: &[(Guard, Value)],
     splits: &mut Steps<L>,
@@ -54,14 +52,13 @@ fn leaves_stand<K: Keeper, L: Ledger>(
 {
     let mut found = Facet::leaf(Value::Bool(false));
     'leaves: for leaf in leaves {
-        let one = one_stands(alloc, work, &leaf.1, splits)?;
-        found = Facet::under(alloc, &leaf.0, &one, &found, splits)?;
+        let one = one_stands(work, &leaf.1, splits)?;
+        found = Facet::under(work.alloc, &leaf.0, &one, &found, splits)?;
     }
     Ok(found)
 }
 
 fn one_stands<K: Keeper, L: Ledger>(
-    alloc: Global,
     work: &mut Work<'_, K>,
     value: &Value,
     splits: &mut Steps<L>,
@@ -73,8 +70,8 @@ fn one_stands<K: Keeper, L: Ledger>(
 {
     match value {
         Value::Ref(Some(id)) => {
-            let rows = work.one(alloc, *id)?;
-            let found = any_row(alloc, rows.as_slice(), splits)?;
+            let rows = work.one(*id)?;
+            let found = any_row(work.alloc, rows.as_slice(), splits)?;
             Ok(found)
         }
         _ => Ok(Facet::leaf(Value::Bool(false))),

@@ -18,9 +18,11 @@ use std::alloc::Global;
 /// The records that a request replaced so far, each with all its alternatives.
 pub type Overlay = Alterations;
 
-/// A keeper with replaced records over it. It has a type parameter for these, so that whoever let
-/// it go knows the keeper afterwards; `Work` is the form to use.
+/// A keeper with replaced records over it, and the allocator of all that is made of them. It has a
+/// type parameter for the records, so that whoever let it go knows the keeper afterwards; `Work` is
+/// the form to use.
 pub struct WorkOver<'k, K: Keeper, O> {
+    pub alloc: Global,
     pub keeper: &'k mut K,
     pub over: O,
 }
@@ -30,9 +32,13 @@ pub type Work<'k, K> = WorkOver<'k, K, Overlay>;
 
 impl<K: Keeper, O: Drop> Drop for WorkOver<'_, K, O> {
     fn drop(self)
-        ensures { self.exit.0.now ≡ self.entry.keeper.now }
+        ensures { self.exit.1.0.now ≡ self.entry.keeper.now }
     {
-        let WorkOver { keeper: _, over: _ } = self;
+        let WorkOver {
+            alloc: _,
+            keeper: _,
+            over: _,
+        } = self;
     }
 }
 
@@ -46,45 +52,40 @@ impl<'k, K: Keeper> WorkOver<'k, K, Overlay> {
         ensures told { IsTrue (K.seen keeper.old).tells → IsTold K.seen result }
     {
         WorkOver {
+            alloc,
             keeper,
             over: Alterations::empty(alloc),
         }
     }
 
     /// All rows of the model.
-    pub fn rows(&mut self, alloc: Global, model: u8) -> Result<Rows, Stop>
+    pub fn rows(&mut self, model: u8) -> Result<Rows, Stop>
         requires { IsTrue (K.seen self.old.keeper.now).store.attached }
         ensures exact { IsTold K.seen self.new
             → IfOk result (λ rows. rows ≡ rows_of (state_of K.seen self.old).tables model) }
         ensures reads { ReadsWork K.seen self.old self.new result }
     {
-        let rows = self.keeper.rows(alloc, model)?;
-        let rows = self.over.alter(alloc, usize::from(model), rows)?;
+        let rows = self.keeper.rows(self.alloc, model)?;
+        let rows = self.over.alter(self.alloc, usize::from(model), rows)?;
         Ok(rows)
     }
 
     /// All alternatives of each record of the model of which one has the value at the field.
-    pub fn rows_with(
-        &mut self,
-        alloc: Global,
-        model: u8,
-        field: u8,
-        value: &Value,
-    ) -> Result<Rows, Stop>
+    pub fn rows_with(&mut self, model: u8, field: u8, value: &Value) -> Result<Rows, Stop>
         requires { IsTrue (K.seen self.old.keeper.now).store.attached }
         ensures exact { IsTold K.seen self.new
             → IfOk result (λ rows. rows ≡ holders field value.now
             (rows_of (state_of K.seen self.old).tables model)) }
         ensures reads { ReadsWork K.seen self.old self.new result }
     {
-        let rows = self.keeper.rows_with(alloc, model, field, value)?;
-        let masks = masked(alloc, &self.over, field, value)?;
-        let found = masks.alter(alloc, usize::from(model), rows)?;
+        let rows = self.keeper.rows_with(self.alloc, model, field, value)?;
+        let masks = masked(self.alloc, &self.over, field, value)?;
+        let found = masks.alter(self.alloc, usize::from(model), rows)?;
         Ok(found)
     }
 
     /// The alternatives of one record.
-    pub fn one(&mut self, alloc: Global, id: Id) -> Result<Rows, Stop>
+    pub fn one(&mut self, id: Id) -> Result<Rows, Stop>
         requires { IsTrue (K.seen self.old.keeper.now).store.attached }
         ensures exact { IsTold K.seen self.new
             → IfOk result (λ rows. rows ≡ alternatives id (rows_of (state_of K.seen self.old).tables
@@ -93,11 +94,11 @@ impl<'k, K: Keeper> WorkOver<'k, K, Overlay> {
     {
         match self.over.find(id) {
             Some(rows) => {
-                let rows = rows.copy(alloc)?;
+                let rows = rows.copy(self.alloc)?;
                 Ok(rows)
             }
             None => {
-                let rows = self.keeper.one(alloc, id)?;
+                let rows = self.keeper.one(self.alloc, id)?;
                 Ok(rows)
             }
         }
@@ -126,9 +127,13 @@ impl<'k, K: Keeper> WorkOver<'k, K, Overlay> {
             × (c.number ≡ number)) }
         ensures applied { IsOkAnd result (λ c. applied c (K.seen self.entry.keeper.now).state
             ≡ record (state_of K.seen self.entry) { number = number }) }
-        ensures keeper { self.exit.0.now ≡ self.entry.keeper.now }
+        ensures keeper { self.exit.1.0.now ≡ self.entry.keeper.now }
     {
-        let WorkOver { keeper: _, over } = self;
+        let WorkOver {
+            alloc: _,
+            keeper: _,
+            over,
+        } = self;
         Ok(Change {
             changed: over,
             number,

@@ -35,7 +35,6 @@ pub struct LazyPage {
 /// are settled, and the page is run under them; what the policies and the page consult is added,
 /// until nothing is. What a policy answered is remembered from run to run.
 pub fn page_lazily<K: Keeper, M: Ledger>(
-    alloc: Global,
     work: &mut Work<'_, K>,
     app: &App,
     ctx: &Ctx,
@@ -61,13 +60,12 @@ pub fn page_lazily<K: Keeper, M: Ledger>(
 {
     let body = body_at(app, view);
     let outside = in_no_loop(ctx);
-    let mut consulted = Support::empty(alloc);
-    let mut answers = Answers::empty(alloc);
+    let mut consulted = Support::empty(work.alloc);
+    let mut answers = Answers::empty(work.alloc);
     'runs: loop {
         let before = count_of(&consulted);
-        let tried = live_of(alloc, work, app, consulted.as_slice())?;
+        let tried = live_of(work, app, consulted.as_slice())?;
         let shown = settle_among(
-            alloc,
             work,
             app,
             &ctx.viewer,
@@ -76,20 +74,11 @@ pub fn page_lazily<K: Keeper, M: Ledger>(
             evaluations,
         )?;
         add_consulted(&answers, &mut consulted)?;
-        let bindings = copied(alloc, env)?;
-        let page = run_body_at(
-            alloc,
-            work,
-            app,
-            &outside,
-            &shown,
-            body,
-            bindings,
-            &mut consulted,
-        )?;
+        let bindings = copied(work.alloc, env)?;
+        let page = run_body_at(work, app, &outside, &shown, body, bindings, &mut consulted)?;
         let after = count_of(&consulted);
         if after == before {
-            let consulted = assignment_of(alloc, &consulted)?;
+            let consulted = assignment_of(work.alloc, &consulted)?;
             return Ok(LazyPage {
                 page,
                 shown,

@@ -24,14 +24,12 @@ use jac_lang::{App, Binders, Binding, Expr, PlainEnv, Query, Stmt, Stmts};
 use jac_plain::{Ctx, Page, Piece};
 use jac_value::{Ids, Txt, Value};
 use jac_world::Assignment;
-use std::alloc::Global;
 
 /// The page of statements that write nothing, run from these bindings in the world that the
 /// assignment shows. The labels that were consulted are added to the support: under each assignment
 /// that shows the same of the support, the page is the same. `this` of the context isn't asked: a
 /// statement has none.
 pub fn run_body_at<K: Keeper>(
-    alloc: Global,
     work: &mut Work<'_, K>,
     app: &App,
     ctx: &Ctx,
@@ -52,9 +50,8 @@ pub fn run_body_at<K: Keeper>(
     // A statement has no record whose policy is asked.
     let ctx = Ctx { this: None, ..*ctx };
     let mut bindings = env.into_vec();
-    let mut pieces = Vec::new(alloc);
+    let mut pieces = Vec::new(work.alloc);
     execute_all(
-        alloc,
         work,
         app,
         &ctx,
@@ -64,14 +61,13 @@ pub fn run_body_at<K: Keeper>(
         body,
         support,
     )?;
-    let page = page_of(alloc, pieces.as_slice())?;
+    let page = page_of(work.alloc, pieces.as_slice())?;
     Ok(page)
 }
 
 // Runs the statements, one after another.
 #[cycle(run)]
 fn execute_all<K: Keeper>(
-    alloc: Global,
     work: &mut Work<'_, K>,
     app: &App,
     ctx: &Ctx,
@@ -93,7 +89,7 @@ fn execute_all<K: Keeper>(
 {
     let mut left = stmts;
     'body: while let Stmts::More(first, rest) = left {
-        execute(alloc, work, app, ctx, a, env, pieces, first, support)?;
+        execute(work, app, ctx, a, env, pieces, first, support)?;
         left = rest;
     }
     Ok(())
@@ -102,7 +98,6 @@ fn execute_all<K: Keeper>(
 // Runs a statement.
 #[cycle(run)]
 fn execute<K: Keeper>(
-    alloc: Global,
     work: &mut Work<'_, K>,
     app: &App,
     ctx: &Ctx,
@@ -123,28 +118,16 @@ fn execute<K: Keeper>(
     ensures grows { Grows support.old support.new }
 {
     match stmt {
-        Stmt::Put(e) => execute_put(alloc, work, app, ctx, a, env.as_slice(), pieces, e, support),
-        Stmt::Esc(e) => execute_escape(
-            alloc,
-            work,
-            app,
-            ctx,
-            a,
-            env.as_slice(),
-            pieces,
-            e,
-            support,
-        ),
+        Stmt::Put(e) => execute_put(work, app, ctx, a, env.as_slice(), pieces, e, support),
+        Stmt::Esc(e) => execute_escape(work, app, ctx, a, env.as_slice(), pieces, e, support),
         Stmt::Let(name, e, body) => execute_let(
-            alloc, work, app, ctx, a, env, pieces, name, e, body, support,
+            work, app, ctx, a, env, pieces, name, e, body, support,
         ),
-        Stmt::Assign(name, e) => execute_assign(alloc, work, app, ctx, a, env, name, e, support),
+        Stmt::Assign(name, e) => execute_assign(work, app, ctx, a, env, name, e, support),
         Stmt::If(c, first, second) => execute_if(
-            alloc, work, app, ctx, a, env, pieces, c, first, second, support,
+            work, app, ctx, a, env, pieces, c, first, second, support,
         ),
-        Stmt::For(query, body) => execute_for(
-            alloc, work, app, ctx, a, env, pieces, query, body, support,
-        ),
+        Stmt::For(query, body) => execute_for(work, app, ctx, a, env, pieces, query, body, support),
         Stmt::Create { .. } => unreachable!(),
         Stmt::Update(_, _, _) => unreachable!(),
         Stmt::Delete(_, _) => unreachable!(),
@@ -153,7 +136,6 @@ fn execute<K: Keeper>(
             Ok(())
         }
         Stmt::Redirect(e) => execute_redirect(
-            alloc,
             work,
             app,
             ctx,
@@ -165,13 +147,12 @@ fn execute<K: Keeper>(
         ),
         // It was expanded to a block before.
         Stmt::Template(_) => Ok(()),
-        Stmt::Block(body) => execute_all(alloc, work, app, ctx, a, env, pieces, body, support),
+        Stmt::Block(body) => execute_all(work, app, ctx, a, env, pieces, body, support),
     }
 }
 
 // Adds the text of the value to the page.
 fn execute_put<K: Keeper>(
-    alloc: Global,
     work: &mut Work<'_, K>,
     app: &App,
     ctx: &Ctx,
@@ -190,14 +171,13 @@ fn execute_put<K: Keeper>(
     ensures reads { ReadsWork K.seen work.old work.new result }
     ensures grows { Grows support.old support.new }
 {
-    let value = eval(alloc, work, app, ctx, a, env, e, support)?;
-    add_text(alloc, pieces, &value)?;
+    let value = eval(work, app, ctx, a, env, e, support)?;
+    add_text(work.alloc, pieces, &value)?;
     Ok(())
 }
 
 // Adds the HTML escape of the value's text.
 fn execute_escape<K: Keeper>(
-    alloc: Global,
     work: &mut Work<'_, K>,
     app: &App,
     ctx: &Ctx,
@@ -216,14 +196,13 @@ fn execute_escape<K: Keeper>(
     ensures reads { ReadsWork K.seen work.old work.new result }
     ensures grows { Grows support.old support.new }
 {
-    let value = eval(alloc, work, app, ctx, a, env, e, support)?;
-    add_escaped(alloc, pieces, &value)?;
+    let value = eval(work, app, ctx, a, env, e, support)?;
+    add_escaped(work.alloc, pieces, &value)?;
     Ok(())
 }
 
 // Leads to the value's text.
 fn execute_redirect<K: Keeper>(
-    alloc: Global,
     work: &mut Work<'_, K>,
     app: &App,
     ctx: &Ctx,
@@ -242,14 +221,13 @@ fn execute_redirect<K: Keeper>(
     ensures reads { ReadsWork K.seen work.old work.new result }
     ensures grows { Grows support.old support.new }
 {
-    let value = eval(alloc, work, app, ctx, a, env, e, support)?;
-    add_redirect(alloc, pieces, &value)?;
+    let value = eval(work, app, ctx, a, env, e, support)?;
+    add_redirect(work.alloc, pieces, &value)?;
     Ok(())
 }
 
 // Changes the innermost binding of the name.
 fn execute_assign<K: Keeper>(
-    alloc: Global,
     work: &mut Work<'_, K>,
     app: &App,
     ctx: &Ctx,
@@ -267,7 +245,7 @@ fn execute_assign<K: Keeper>(
     ensures reads { ReadsWork K.seen work.old work.new result }
     ensures grows { Grows support.old support.new }
 {
-    let value = eval(alloc, work, app, ctx, a, env.as_slice(), e, support)?;
+    let value = eval(work, app, ctx, a, env.as_slice(), e, support)?;
     assign(env, name, value);
     Ok(())
 }
@@ -275,7 +253,6 @@ fn execute_assign<K: Keeper>(
 // The body with the name bound to the value.
 #[cycle(run)]
 fn execute_let<K: Keeper>(
-    alloc: Global,
     work: &mut Work<'_, K>,
     app: &App,
     ctx: &Ctx,
@@ -297,17 +274,14 @@ fn execute_let<K: Keeper>(
     ensures reads { ReadsWork K.seen work.old work.new result }
     ensures grows { Grows support.old support.new }
 {
-    let value = eval(alloc, work, app, ctx, a, env.as_slice(), e, support)?;
-    execute_named(
-        alloc, work, app, ctx, a, env, pieces, name, value, body, support,
-    )?;
+    let value = eval(work, app, ctx, a, env.as_slice(), e, support)?;
+    execute_named(work, app, ctx, a, env, pieces, name, value, body, support)?;
     Ok(())
 }
 
 // The body with the name bound to this.
 #[cycle(run)]
 fn execute_named<K: Keeper>(
-    alloc: Global,
     work: &mut Work<'_, K>,
     app: &App,
     ctx: &Ctx,
@@ -330,8 +304,8 @@ fn execute_named<K: Keeper>(
     ensures grows { Grows support.old support.new }
 {
     let outer = env.len();
-    bind_value(alloc, env, name, value)?;
-    execute_all(alloc, work, app, ctx, a, env, pieces, body, support)?;
+    bind_value(work.alloc, env, name, value)?;
+    execute_all(work, app, ctx, a, env, pieces, body, support)?;
     env.truncate(outer);
     Ok(())
 }
@@ -339,7 +313,6 @@ fn execute_named<K: Keeper>(
 // The one body or the other.
 #[cycle(run)]
 fn execute_if<K: Keeper>(
-    alloc: Global,
     work: &mut Work<'_, K>,
     app: &App,
     ctx: &Ctx,
@@ -363,19 +336,18 @@ fn execute_if<K: Keeper>(
     ensures reads { ReadsWork K.seen work.old work.new result }
     ensures grows { Grows support.old support.new }
 {
-    let condition = eval(alloc, work, app, ctx, a, env.as_slice(), c, support)?;
+    let condition = eval(work, app, ctx, a, env.as_slice(), c, support)?;
     if is_true(&condition) {
-        execute_all(alloc, work, app, ctx, a, env, pieces, first, support)?;
+        execute_all(work, app, ctx, a, env, pieces, first, support)?;
         return Ok(());
     }
-    execute_all(alloc, work, app, ctx, a, env, pieces, second, support)?;
+    execute_all(work, app, ctx, a, env, pieces, second, support)?;
     Ok(())
 }
 
 // The body for each answer of the query, which is asked once.
 #[cycle(run)]
 fn execute_for<K: Keeper>(
-    alloc: Global,
     work: &mut Work<'_, K>,
     app: &App,
     ctx: &Ctx,
@@ -396,11 +368,11 @@ fn execute_for<K: Keeper>(
     ensures reads { ReadsWork K.seen work.old work.new result }
     ensures grows { Grows support.old support.new }
 {
-    let answers = answers_at(alloc, work, app, ctx, a, env.as_slice(), query, support)?;
+    let answers = answers_at(work, app, ctx, a, env.as_slice(), query, support)?;
     let binders = &query.binders;
     let answers = answers.as_slice();
     execute_tuples(
-        alloc, work, app, ctx, a, env, pieces, binders, answers, body, support,
+        work, app, ctx, a, env, pieces, binders, answers, body, support,
     )?;
     Ok(())
 }
@@ -408,7 +380,6 @@ fn execute_for<K: Keeper>(
 // The body for each of the tuples.
 #[cycle(run)]
 fn execute_tuples<K: Keeper>(
-    alloc: Global,
     work: &mut Work<'_, K>,
     app: &App,
     ctx: &Ctx,
@@ -432,9 +403,7 @@ fn execute_tuples<K: Keeper>(
     ensures grows { Grows support.old support.new }
 {
     'tuples: for ids in tuples {
-        execute_bound(
-            alloc, work, app, ctx, a, env, pieces, binders, ids, body, support,
-        )?;
+        execute_bound(work, app, ctx, a, env, pieces, binders, ids, body, support)?;
     }
     Ok(())
 }
@@ -442,7 +411,6 @@ fn execute_tuples<K: Keeper>(
 // The body with the binders bound to the tuple.
 #[cycle(run)]
 fn execute_bound<K: Keeper>(
-    alloc: Global,
     work: &mut Work<'_, K>,
     app: &App,
     ctx: &Ctx,
@@ -469,8 +437,8 @@ fn execute_bound<K: Keeper>(
         ..*ctx
     };
     let outer = env.len();
-    bind_tuple(alloc, env, binders, ids)?;
-    execute_all(alloc, work, app, &ctx, a, env, pieces, body, support)?;
+    bind_tuple(work.alloc, env, binders, ids)?;
+    execute_all(work, app, &ctx, a, env, pieces, body, support)?;
     env.truncate(outer);
     Ok(())
 }

@@ -24,7 +24,6 @@ use std::alloc::Global;
 
 // Whether the record that the value refers to is in the tables.
 pub(crate) fn stand<K: Keeper>(
-    alloc: Global,
     work: &mut Work<'_, K>,
     a: &Assignment,
     value: &Value,
@@ -42,7 +41,7 @@ pub(crate) fn stand<K: Keeper>(
 {
     match value {
         Value::Ref(Some(id)) => {
-            let found = record_stands(alloc, work, a, *id, support)?;
+            let found = record_stands(work, a, *id, support)?;
             Ok(found)
         }
         _ => Ok(false),
@@ -52,7 +51,6 @@ pub(crate) fn stand<K: Keeper>(
 /// Whether the assignment shows the record. The labels that were consulted are added to the
 /// support: under each assignment that shows the same of the support, the answer is the same.
 pub fn record_stands<K: Keeper>(
-    alloc: Global,
     work: &mut Work<'_, K>,
     a: &Assignment,
     id: Id,
@@ -68,8 +66,8 @@ pub fn record_stands<K: Keeper>(
         → are_own_rows this id (rows_of (state_of K.seen work.old).tables (model_of_id id)) ≡ true
         → IsOwn this support.old → OnOk result (IsOwn this support.new) }
 {
-    let rows = work.one(alloc, id)?;
-    let found = has_row(alloc, rows.as_slice(), a, id, support)?;
+    let rows = work.one(id)?;
+    let found = has_row(work.alloc, rows.as_slice(), a, id, support)?;
     Ok(found)
 }
 

@@ -17,14 +17,9 @@ use jac_recall::Labels;
 use jac_rows::Row;
 use jac_value::{Id, Memory, label_number};
 use jac_world::Label;
-use std::alloc::Global;
 
 /// The labels of all groups of every record that has a row in the work, by rising number.
-pub fn live_labels<K: Keeper>(
-    alloc: Global,
-    work: &mut Work<'_, K>,
-    app: &App,
-) -> Result<Labels, Stop>
+pub fn live_labels<K: Keeper>(work: &mut Work<'_, K>, app: &App) -> Result<Labels, Stop>
     requires attached { IsTrue (K.seen work.old.keeper.now).store.attached }
     requires sound { IsTold K.seen work.old → HasSoundTables (state_of K.seen work.old) }
     ensures live { IsTold K.seen work.new
@@ -34,18 +29,13 @@ pub fn live_labels<K: Keeper>(
     ensures ascending { IfOk result IsAscending }
     ensures reads { ReadsWork K.seen work.old work.new result }
 {
-    let labels = collect(alloc, work, app.models.as_slice())?;
+    let labels = collect(work, app.models.as_slice())?;
     Ok(Labels::rising(labels))
 }
 
 /// Whether the label is live: its group is one of its model's, and its record has a row. No other
 /// record is asked.
-pub fn is_live<K: Keeper>(
-    alloc: Global,
-    work: &mut Work<'_, K>,
-    app: &App,
-    label: Label,
-) -> Result<bool, Stop>
+pub fn is_live<K: Keeper>(work: &mut Work<'_, K>, app: &App, label: Label) -> Result<bool, Stop>
     requires attached { IsTrue (K.seen work.old.keeper.now).store.attached }
     ensures live { IsTold K.seen work.new →
         IfOk result (λ b. b ≡ true ↔ IsLiveLabel (application_of app.now)
@@ -55,13 +45,12 @@ pub fn is_live<K: Keeper>(
     if !has_group(app, label) {
         return Ok(false);
     }
-    let rows = work.one(alloc, record_of(label))?;
+    let rows = work.one(record_of(label))?;
     Ok(can_be_seen(rows.as_slice()))
 }
 
 /// Those of the labels that are live, in their order.
 pub fn live_of<K: Keeper>(
-    alloc: Global,
     work: &mut Work<'_, K>,
     app: &App,
     labels: &[Label],
@@ -72,9 +61,9 @@ pub fn live_of<K: Keeper>(
         labels.now v.items) }
     ensures reads { ReadsWork K.seen work.old work.new result }
 {
-    let mut some = Vec::new(alloc);
+    let mut some = Vec::new(work.alloc);
     'labels: for label in labels {
-        let live = is_live(alloc, work, app, *label)?;
+        let live = is_live(work, app, *label)?;
         push_if(&mut some, live, *label)?;
     }
     Ok(some)
@@ -103,11 +92,7 @@ fn can_be_seen(rows: &[Row]) -> bool
 }
 
 // The labels of the records of all models, one model after another.
-fn collect<K: Keeper>(
-    alloc: Global,
-    work: &mut Work<'_, K>,
-    models: &[ModelDef],
-) -> Result<Vec<Label>, Stop>
+fn collect<K: Keeper>(work: &mut Work<'_, K>, models: &[ModelDef]) -> Result<Vec<Label>, Stop>
     requires attached { IsTrue (K.seen work.old.keeper.now).store.attached }
     requires sound { IsTold K.seen work.old → HasSoundTables (state_of K.seen work.old) }
     requires few { length models.now ≤ 64 }
@@ -115,10 +100,10 @@ fn collect<K: Keeper>(
         (state_of K.seen work.old).tables (length models.now) v.items) }
     ensures reads { ReadsWork K.seen work.old work.new result }
 {
-    let mut labels = Vec::new(alloc);
+    let mut labels = Vec::new(work.alloc);
     'models: for place in 0..models.len() {
         let groups = group_count(&models[place]);
-        add_model(alloc, work, &mut labels, place as u8, groups)?;
+        add_model(work, &mut labels, place as u8, groups)?;
     }
     Ok(labels)
 }
@@ -133,7 +118,6 @@ fn group_count(model: &ModelDef) -> u8
 
 // Adds the labels of the records of one model.
 fn add_model<K: Keeper>(
-    alloc: Global,
     work: &mut Work<'_, K>,
     labels: &mut Vec<Label>,
     model: u8,
@@ -151,7 +135,7 @@ fn add_model<K: Keeper>(
     if groups == 0 {
         return Ok(());
     }
-    let rows = work.rows(alloc, model)?;
+    let rows = work.rows(model)?;
     add_rows(labels, rows.as_slice(), groups)?;
     Ok(())
 }

@@ -20,13 +20,11 @@ use jac_lang::App;
 use jac_recall::{Answers, Known, signs};
 use jac_value::Id;
 use jac_world::{Assignment, Label, Steps};
-use std::alloc::Global;
 use std::sync::ledger::Ledger;
 
 /// The labels that the viewer is shown: each is allowed, and no single live label can be added. The
 /// live labels are tried in rising order, again and again until a round adds none.
 pub fn resolve<K: Keeper, M: Ledger>(
-    alloc: Global,
     work: &mut Work<'_, K>,
     app: &App,
     viewer: Option<Id>,
@@ -43,14 +41,13 @@ pub fn resolve<K: Keeper, M: Ledger>(
     ensures later { evaluations.old ≤ evaluations.new }
     ensures reads { ReadsWork K.seen work.old work.new result }
 {
-    let labels = live_labels(alloc, work, app)?;
-    let assignment = settle(alloc, work, app, &viewer, labels.as_slice(), evaluations)?;
+    let labels = live_labels(work, app)?;
+    let assignment = settle(work, app, &viewer, labels.as_slice(), evaluations)?;
     Ok(assignment)
 }
 
 // The same of the live labels, with nothing remembered before.
 fn settle<K: Keeper, M: Ledger>(
-    alloc: Global,
     work: &mut Work<'_, K>,
     app: &App,
     viewer: &Option<Id>,
@@ -68,8 +65,8 @@ fn settle<K: Keeper, M: Ledger>(
     ensures later { evaluations.old ≤ evaluations.new }
     ensures reads { ReadsWork K.seen work.old work.new result }
 {
-    let mut answers = Answers::empty(alloc);
-    let assignment = settle_among(alloc, work, app, viewer, labels, &mut answers, evaluations)?;
+    let mut answers = Answers::empty(work.alloc);
+    let assignment = settle_among(work, app, viewer, labels, &mut answers, evaluations)?;
     Ok(assignment)
 }
 
@@ -77,7 +74,6 @@ fn settle<K: Keeper, M: Ledger>(
 /// the others can be added. They are tried in their order, again and again until a round adds none.
 /// What the policies answer is remembered, and an answer that is remembered isn't asked again.
 pub fn settle_among<K: Keeper, M: Ledger>(
-    alloc: Global,
     work: &mut Work<'_, K>,
     app: &App,
     viewer: &Option<Id>,
@@ -99,10 +95,9 @@ pub fn settle_among<K: Keeper, M: Ledger>(
     ensures later { evaluations.old ≤ evaluations.new }
     ensures reads { ReadsWork K.seen work.old work.new result }
 {
-    let mut assignment = Assignment::empty(alloc);
+    let mut assignment = Assignment::empty(work.alloc);
     'rounds: loop {
         let added = try_labels(
-            alloc,
             work,
             app,
             viewer,
@@ -119,7 +114,6 @@ pub fn settle_among<K: Keeper, M: Ledger>(
 
 // Tries each label once, and says whether one was added.
 pub(crate) fn try_labels<K: Keeper, M: Ledger>(
-    alloc: Global,
     work: &mut Work<'_, K>,
     app: &App,
     viewer: &Option<Id>,
@@ -151,7 +145,7 @@ pub(crate) fn try_labels<K: Keeper, M: Ledger>(
 {
     let mut added = false;
     'labels: for label in labels {
-        let one = try_label(alloc, work, app, viewer, *label, a, answers, evaluations)?;
+        let one = try_label(work, app, viewer, *label, a, answers, evaluations)?;
         added = added | one;
     }
     Ok(added)
@@ -160,7 +154,6 @@ pub(crate) fn try_labels<K: Keeper, M: Ledger>(
 // Adds the label where it isn't shown and all are allowed once it is, and says whether it was
 // added.
 fn try_label<K: Keeper, M: Ledger>(
-    alloc: Global,
     work: &mut Work<'_, K>,
     app: &App,
     viewer: &Option<Id>,
@@ -197,7 +190,7 @@ fn try_label<K: Keeper, M: Ledger>(
         return Ok(false);
     }
     from_world(a.add(label))?;
-    let stay = may_stay(alloc, work, app, viewer, a, label, answers, evaluations)?;
+    let stay = may_stay(work, app, viewer, a, label, answers, evaluations)?;
     if !stay {
         a.remove(label);
         return Ok(false);
@@ -208,7 +201,6 @@ fn try_label<K: Keeper, M: Ledger>(
 // Whether the label that was added is allowed under the assignment, and so are those that watch it.
 // No answer of another label hangs on it.
 fn may_stay<K: Keeper, M: Ledger>(
-    alloc: Global,
     work: &mut Work<'_, K>,
     app: &App,
     viewer: &Option<Id>,
@@ -239,13 +231,12 @@ fn may_stay<K: Keeper, M: Ledger>(
     ensures reads { ReadsWork K.seen work.old work.new result }
 {
     // Most labels fail by their own policy, so it is asked first.
-    let own = asked_stays(alloc, work, app, viewer, a, label, answers, evaluations)?;
+    let own = asked_stays(work, app, viewer, a, label, answers, evaluations)?;
     if !own {
         return Ok(false);
     }
-    let watchers = answers.watchers(alloc, label)?;
+    let watchers = answers.watchers(work.alloc, label)?;
     let stay = watchers_stay(
-        alloc,
         work,
         app,
         viewer,
@@ -259,7 +250,6 @@ fn may_stay<K: Keeper, M: Ledger>(
 
 // Whether each of these labels that the assignment shows is allowed under it.
 fn watchers_stay<K: Keeper, M: Ledger>(
-    alloc: Global,
     work: &mut Work<'_, K>,
     app: &App,
     viewer: &Option<Id>,
@@ -291,7 +281,7 @@ fn watchers_stay<K: Keeper, M: Ledger>(
     ensures reads { ReadsWork K.seen work.old work.new result }
 {
     'watchers: for watcher in watchers {
-        let stays = watcher_stays(alloc, work, app, viewer, a, *watcher, answers, evaluations)?;
+        let stays = watcher_stays(work, app, viewer, a, *watcher, answers, evaluations)?;
         if !stays {
             return Ok(false);
         }
@@ -301,7 +291,6 @@ fn watchers_stay<K: Keeper, M: Ledger>(
 
 // The same of one label.
 fn watcher_stays<K: Keeper, M: Ledger>(
-    alloc: Global,
     work: &mut Work<'_, K>,
     app: &App,
     viewer: &Option<Id>,
@@ -333,13 +322,12 @@ fn watcher_stays<K: Keeper, M: Ledger>(
     if !a.shows(label) {
         return Ok(true);
     }
-    let stays = asked_stays(alloc, work, app, viewer, a, label, answers, evaluations)?;
+    let stays = asked_stays(work, app, viewer, a, label, answers, evaluations)?;
     Ok(stays)
 }
 
 // The same of one label that the assignment shows.
 fn asked_stays<K: Keeper, M: Ledger>(
-    alloc: Global,
     work: &mut Work<'_, K>,
     app: &App,
     viewer: &Option<Id>,
@@ -369,14 +357,13 @@ fn asked_stays<K: Keeper, M: Ledger>(
     ensures later { evaluations.old ≤ evaluations.new }
     ensures reads { ReadsWork K.seen work.old work.new result }
 {
-    let holds = ask(alloc, work, app, viewer, a, label, answers, evaluations)?;
+    let holds = ask(work, app, viewer, a, label, answers, evaluations)?;
     Ok(holds)
 }
 
 // Whether the label is allowed under the assignment, which shows it: as it is remembered, or asked
 // of the policy, and then remembered.
 fn ask<K: Keeper, M: Ledger>(
-    alloc: Global,
     work: &mut Work<'_, K>,
     app: &App,
     viewer: &Option<Id>,
@@ -409,9 +396,9 @@ fn ask<K: Keeper, M: Ledger>(
     match answers.recalled(a, label) {
         Some(holds) => Ok(holds),
         None => {
-            let known = evaluate(alloc, work, app, viewer, a, label, evaluations)?;
+            let known = evaluate(work, app, viewer, a, label, evaluations)?;
             let holds = known.holds;
-            remember(answers, alloc, label, known)?;
+            remember(answers, work.alloc, label, known)?;
             Ok(holds)
         }
     }
@@ -419,7 +406,6 @@ fn ask<K: Keeper, M: Ledger>(
 
 // What the policy of the label answers under the assignment, with the signs of what was consulted.
 fn evaluate<K: Keeper, M: Ledger>(
-    alloc: Global,
     work: &mut Work<'_, K>,
     app: &App,
     viewer: &Option<Id>,
@@ -438,7 +424,7 @@ fn evaluate<K: Keeper, M: Ledger>(
     ensures later { evaluations.old ≤ evaluations.new }
     ensures reads { ReadsWork K.seen work.old work.new result }
 {
-    let (holds, consulted) = allowed(alloc, work, app, *viewer, a, label, evaluations)?;
-    let when = signs(alloc, consulted.as_slice(), a)?;
+    let (holds, consulted) = allowed(work, app, *viewer, a, label, evaluations)?;
+    let when = signs(work.alloc, consulted.as_slice(), a)?;
     Ok(Known { when, holds })
 }

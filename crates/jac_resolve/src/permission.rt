@@ -17,14 +17,12 @@ use jac_plain::Ctx;
 use jac_pruned::{Support, eval_at, is_true, record_stands};
 use jac_value::{Id, id_model};
 use jac_world::{Assignment, Label, Steps};
-use std::alloc::Global;
 use std::sync::ledger::Ledger;
 
 /// Whether the record of the label stands under the assignment, and the policy of its group is true
 /// there; and the labels that were consulted for this answer, which is the same wherever they are
 /// shown as here.
 pub fn allowed<K: Keeper, M: Ledger>(
-    alloc: Global,
     work: &mut Work<'_, K>,
     app: &App,
     viewer: Option<Id>,
@@ -46,17 +44,17 @@ pub fn allowed<K: Keeper, M: Ledger>(
         (k : ℕ) → shown r.1 k ≡ true → record_of_label k ≡ record_of_label label) }
     ensures reads { ReadsWork K.seen work.old work.new result }
 {
-    let mut support = Support::empty(alloc);
+    let mut support = Support::empty(work.alloc);
     match group_of_label(app, label) {
         Some(group) => {
             let id = record_of(label);
-            let stands = record_stands(alloc, work, a, id, &mut support)?;
+            let stands = record_stands(work, a, id, &mut support)?;
             if !stands {
                 return Ok((false, support));
             }
             evaluations.tick();
             let policy = &group.policy;
-            let holds = policy_holds(alloc, work, app, viewer, a, id, policy, &mut support)?;
+            let holds = policy_holds(work, app, viewer, a, id, policy, &mut support)?;
             Ok((holds, support))
         }
         None => Ok((false, support)),
@@ -65,7 +63,6 @@ pub fn allowed<K: Keeper, M: Ledger>(
 
 // Whether the policy is true of the record under the assignment.
 fn policy_holds<K: Keeper>(
-    alloc: Global,
     work: &mut Work<'_, K>,
     app: &App,
     viewer: Option<Id>,
@@ -91,8 +88,8 @@ fn policy_holds<K: Keeper>(
         number: 0,
         around: None,
     };
-    let env = PlainEnv::empty(alloc);
-    let value = eval_at(alloc, work, app, &ctx, a, &env, policy, support)?;
+    let env = PlainEnv::empty(work.alloc);
+    let value = eval_at(work, app, &ctx, a, &env, policy, support)?;
     Ok(is_true(&value))
 }
 

@@ -24,7 +24,6 @@ use std::sync::ledger::Ledger;
 /// are those of the seat, and nothing is asked; else the labels that are linked to what is due are
 /// tried, or all live ones where these are many. What is remembered isn't asked again.
 pub fn settle_seat<K: Keeper, M: Ledger>(
-    alloc: Global,
     work: &mut Work<'_, K>,
     app: &App,
     viewer: &Option<Id>,
@@ -45,8 +44,8 @@ pub fn settle_seat<K: Keeper, M: Ledger>(
     ensures later { evaluations.old ≤ evaluations.new }
     ensures reads { ReadsWork K.seen work.old work.new result }
 {
-    settle_anew(alloc, work, app, viewer, seat, evaluations)?;
-    let labels = copy_labels(alloc, seat)?;
+    settle_anew(work, app, viewer, seat, evaluations)?;
+    let labels = copy_labels(work.alloc, seat)?;
     Ok(labels)
 }
 
@@ -63,7 +62,6 @@ fn copy_labels(alloc: Global, seat: &Seat) -> Result<Assignment, Memory>
 
 // Settles the seat, where it isn't at rest.
 fn settle_anew<K: Keeper, M: Ledger>(
-    alloc: Global,
     work: &mut Work<'_, K>,
     app: &App,
     viewer: &Option<Id>,
@@ -85,11 +83,11 @@ fn settle_anew<K: Keeper, M: Ledger>(
     if is_at_rest(seat) {
         return Ok(());
     }
-    let settled = settle_few(alloc, work, app, viewer, seat, evaluations)?;
+    let settled = settle_few(work, app, viewer, seat, evaluations)?;
     if settled {
         return Ok(());
     }
-    settle_all(alloc, work, app, viewer, seat, evaluations)?;
+    settle_all(work, app, viewer, seat, evaluations)?;
     Ok(())
 }
 
@@ -106,7 +104,6 @@ const WIDENINGS: u8 = 8;
 // are. Where what is answered links them to others, these are tried with them again, as if they had
 // been due.
 fn settle_few<K: Keeper, M: Ledger>(
-    alloc: Global,
     work: &mut Work<'_, K>,
     app: &App,
     viewer: &Option<Id>,
@@ -127,10 +124,10 @@ fn settle_few<K: Keeper, M: Ledger>(
     ensures reads { ReadsWork K.seen work.old work.new result }
 {
     'widenings: for _ in 0..WIDENINGS {
-        let Some(near) = near_due(alloc, seat)? else {
+        let Some(near) = near_due(work.alloc, seat)? else {
             return Ok(false);
         };
-        let settled = settle_near(alloc, work, app, viewer, &near, seat, evaluations)?;
+        let settled = settle_near(work, app, viewer, &near, seat, evaluations)?;
         if settled {
             return Ok(true);
         }
@@ -156,7 +153,6 @@ fn few(answers: &Answers) -> usize {
 // Tries these labels alone, and says whether no answer links them to others. Else they are due with
 // these.
 fn settle_near<K: Keeper, M: Ledger>(
-    alloc: Global,
     work: &mut Work<'_, K>,
     app: &App,
     viewer: &Option<Id>,
@@ -177,26 +173,18 @@ fn settle_near<K: Keeper, M: Ledger>(
     ensures later { evaluations.old ≤ evaluations.new }
     ensures reads { ReadsWork K.seen work.old work.new result }
 {
-    let tried = live_of(alloc, work, app, near.as_slice())?;
-    let mut rest = copy_labels(alloc, seat)?;
+    let tried = live_of(work, app, near.as_slice())?;
+    let mut rest = copy_labels(work.alloc, seat)?;
     remove_all(&mut rest, near.as_slice());
-    put_labels(seat, rest, Labels::empty(alloc));
-    let labels = fill(
-        alloc,
-        work,
-        app,
-        viewer,
-        tried.as_slice(),
-        seat,
-        evaluations,
-    )?;
-    match widened(alloc, &seat.answers, near)? {
+    put_labels(seat, rest, Labels::empty(work.alloc));
+    let labels = fill(work, app, viewer, tried.as_slice(), seat, evaluations)?;
+    match widened(work.alloc, &seat.answers, near)? {
         Some(due) => {
             put_labels(seat, labels, due);
             Ok(false)
         }
         None => {
-            put_labels(seat, labels, Labels::empty(alloc));
+            put_labels(seat, labels, Labels::empty(work.alloc));
             Ok(true)
         }
     }
@@ -205,7 +193,6 @@ fn settle_near<K: Keeper, M: Ledger>(
 // The labels of the seat, and those of these that can be added. They are tried in their order,
 // again and again until a round adds none.
 fn fill<K: Keeper, M: Ledger>(
-    alloc: Global,
     work: &mut Work<'_, K>,
     app: &App,
     viewer: &Option<Id>,
@@ -230,10 +217,9 @@ fn fill<K: Keeper, M: Ledger>(
     ensures later { evaluations.old ≤ evaluations.new }
     ensures reads { ReadsWork K.seen work.old work.new result }
 {
-    let mut labels = copy_labels(alloc, seat)?;
+    let mut labels = copy_labels(work.alloc, seat)?;
     'rounds: loop {
         let added = try_labels(
-            alloc,
             work,
             app,
             viewer,
@@ -278,7 +264,6 @@ fn has_all(among: &Labels, labels: &[Label]) -> bool
 
 // All live labels are tried, with what is remembered.
 fn settle_all<K: Keeper, M: Ledger>(
-    alloc: Global,
     work: &mut Work<'_, K>,
     app: &App,
     viewer: &Option<Id>,
@@ -297,9 +282,8 @@ fn settle_all<K: Keeper, M: Ledger>(
     ensures later { evaluations.old ≤ evaluations.new }
     ensures reads { ReadsWork K.seen work.old work.new result }
 {
-    let live = live_labels(alloc, work, app)?;
+    let live = live_labels(work, app)?;
     let labels = settle_among(
-        alloc,
         work,
         app,
         viewer,
@@ -307,7 +291,7 @@ fn settle_all<K: Keeper, M: Ledger>(
         &mut seat.answers,
         evaluations,
     )?;
-    put_labels(seat, labels, Labels::empty(alloc));
+    put_labels(seat, labels, Labels::empty(work.alloc));
     Ok(())
 }
 

@@ -26,7 +26,7 @@ use std::alloc::Global;
 /// What the replaced records of the work may touch: the labels of each, and those whose policies
 /// rest on one, as it was or as it is. A policy is told by its text, and costs nothing more where
 /// it is evaluated.
-pub fn touch_of<K: Keeper>(alloc: Global, work: &mut Work<'_, K>, app: &App) -> Result<Touch, Stop>
+pub fn touch_of<K: Keeper>(work: &mut Work<'_, K>, app: &App) -> Result<Touch, Stop>
     requires attached { IsTrue (K.seen work.old.keeper.now).store.attached }
     requires sound { IsTrue (K.seen work.old.keeper.now).tells
         → IsSound (K.seen work.old.keeper.now).state }
@@ -35,10 +35,10 @@ pub fn touch_of<K: Keeper>(alloc: Global, work: &mut Work<'_, K>, app: &App) -> 
         (λ w. project_at w (state_of K.seen work.old)) t viewer) }
     ensures reads { ReadsWork K.seen work.old work.new result }
 {
-    let mut rows = Vec::new(alloc);
-    add_altered(alloc, work.keeper, work.over.as_slice(), &mut rows)?;
+    let mut rows = Vec::new(work.alloc);
+    add_altered(work.alloc, work.keeper, work.over.as_slice(), &mut rows)?;
     let touch = touch_among(
-        alloc,
+        work.alloc,
         work.keeper,
         app,
         work.over.as_slice(),

@@ -25,7 +25,6 @@ use std::sync::ledger::Ledger;
 
 /// The values that are set, each with its field's number. A field that the model hasn't falls away.
 pub(crate) fn read_sets<K: Keeper, L: Ledger>(
-    alloc: Global,
     work: &mut Work<'_, K>,
     app: &App,
     ctx: &Ctx,
@@ -46,12 +45,10 @@ pub(crate) fn read_sets<K: Keeper, L: Ledger>(
         model)) s) }
     ensures reads { ReadsWork K.seen work.old work.new result }
 {
-    let mut sets = Vec::new(alloc);
+    let mut sets = Vec::new(work.alloc);
     let mut left = cells;
     'cells: while let Publics::More(first, rest) = left {
-        read_set(
-            alloc, work, app, ctx, env, pc, model, first, &mut sets, splits,
-        )?;
+        read_set(work, app, ctx, env, pc, model, first, &mut sets, splits)?;
         left = rest;
     }
     Ok(Sets::from_vec(sets))
@@ -59,7 +56,6 @@ pub(crate) fn read_sets<K: Keeper, L: Ledger>(
 
 // Adds the value that is set, if the model has the field.
 fn read_set<K: Keeper, L: Ledger>(
-    alloc: Global,
     work: &mut Work<'_, K>,
     app: &App,
     ctx: &Ctx,
@@ -87,14 +83,13 @@ fn read_set<K: Keeper, L: Ledger>(
     let Some(field) = field_of(app, model, &set.field) else {
         return Ok(());
     };
-    let value = eval(alloc, work, app, ctx, env, pc, &set.value, splits)?;
+    let value = eval(work, app, ctx, env, pc, &set.value, splits)?;
     sets.push((field, value))?;
     Ok(())
 }
 
 /// The cells of a new record: the values that are set, and defaults.
 pub(crate) fn new_cells<K: Keeper, L: Ledger>(
-    alloc: Global,
     work: &mut Work<'_, K>,
     app: &App,
     ctx: &Ctx,
@@ -116,8 +111,8 @@ pub(crate) fn new_cells<K: Keeper, L: Ledger>(
         ≡ length (fields_at (application_of app.now).models model)) }
     ensures reads { ReadsWork K.seen work.old work.new result }
 {
-    let sets = read_sets(alloc, work, app, ctx, env, pc, model, cells, splits)?;
-    let mut made = defaults(alloc, app, model)?;
+    let sets = read_sets(work, app, ctx, env, pc, model, cells, splits)?;
+    let mut made = defaults(work.alloc, app, model)?;
     put_sets(&mut made, sets.into_vec());
     Ok(Facets::from_vec(made))
 }

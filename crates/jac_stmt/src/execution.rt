@@ -28,7 +28,6 @@ use jac_query::Tuple;
 use jac_value::{Ids, Txt, Value};
 use jac_world::{Guard, Steps};
 use jac_write::{create, delete, update};
-use std::alloc::Global;
 use std::sync::ledger::Ledger;
 
 /// Runs the statements, one after another, wherever the path condition holds. Elsewhere all stays
@@ -36,7 +35,6 @@ use std::sync::ledger::Ledger;
 /// the loop that the statements stand in, and none outside of loops. After a refusal the names and
 /// the pieces may hold a part of what was run.
 pub fn exec<K: Keeper, L: Ledger>(
-    alloc: Global,
     work: &mut Work<'_, K>,
     app: &App,
     ctx: &Ctx,
@@ -59,14 +57,13 @@ pub fn exec<K: Keeper, L: Ledger>(
 {
     // A statement has no record whose policy is asked.
     let ctx = Ctx { this: None, ..*ctx };
-    execute_all(alloc, work, app, &ctx, env, out, pc, stmts, splits)?;
+    execute_all(work, app, &ctx, env, out, pc, stmts, splits)?;
     Ok(())
 }
 
 // Runs the statements, one after another.
 #[cycle(exec)]
 fn execute_all<K: Keeper, L: Ledger>(
-    alloc: Global,
     work: &mut Work<'_, K>,
     app: &App,
     ctx: &Ctx,
@@ -90,7 +87,7 @@ fn execute_all<K: Keeper, L: Ledger>(
 {
     let mut left = stmts;
     'body: while let Stmts::More(first, rest) = left {
-        execute(alloc, work, app, ctx, env, out, pc, first, splits)?;
+        execute(work, app, ctx, env, out, pc, first, splits)?;
         left = rest;
     }
     Ok(())
@@ -99,7 +96,6 @@ fn execute_all<K: Keeper, L: Ledger>(
 // Runs a statement.
 #[cycle(exec)]
 fn execute<K: Keeper, L: Ledger>(
-    alloc: Global,
     work: &mut Work<'_, K>,
     app: &App,
     ctx: &Ctx,
@@ -122,22 +118,16 @@ fn execute<K: Keeper, L: Ledger>(
     ensures keeps { WritesWork K.seen work.old work.new result }
 {
     match stmt {
-        Stmt::Put(e) => execute_put(alloc, work, app, ctx, env, out, pc, e, splits),
-        Stmt::Esc(e) => execute_escape(alloc, work, app, ctx, env, out, pc, e, splits),
+        Stmt::Put(e) => execute_put(work, app, ctx, env, out, pc, e, splits),
+        Stmt::Esc(e) => execute_escape(work, app, ctx, env, out, pc, e, splits),
         Stmt::Let(name, e, body) => {
-            execute_let(alloc, work, app, ctx, env, out, pc, name, e, body, splits)
+            execute_let(work, app, ctx, env, out, pc, name, e, body, splits)
         }
-        Stmt::Assign(name, e) => {
-            execute_assign(alloc, work, app, ctx, env, out, pc, name, e, splits)
-        }
+        Stmt::Assign(name, e) => { execute_assign(work, app, ctx, env, out, pc, name, e, splits) }
         Stmt::If(c, first, second) => {
-            execute_if(
-                alloc, work, app, ctx, env, out, pc, c, first, second, splits,
-            )
+            execute_if(work, app, ctx, env, out, pc, c, first, second, splits)
         }
-        Stmt::For(query, body) => {
-            execute_for(alloc, work, app, ctx, env, out, pc, query, body, splits)
-        }
+        Stmt::For(query, body) => { execute_for(work, app, ctx, env, out, pc, query, body, splits) }
         Stmt::Create {
             name,
             model,
@@ -146,27 +136,26 @@ fn execute<K: Keeper, L: Ledger>(
             body,
         } => {
             execute_create(
-                alloc, work, app, ctx, env, out, pc, name, model, *site, cells, body, splits,
+                work, app, ctx, env, out, pc, name, model, *site, cells, body, splits,
             )
         }
         Stmt::Update(model, e, cells) => {
-            execute_update(alloc, work, app, ctx, env, pc, model, e, cells, splits)?;
+            execute_update(work, app, ctx, env, pc, model, e, cells, splits)?;
             Ok(())
         }
         Stmt::Delete(model, e) => {
-            execute_delete(alloc, work, app, ctx, env, pc, model, e, splits)?;
+            execute_delete(work, app, ctx, env, pc, model, e, splits)?;
             Ok(())
         }
-        Stmt::Missing => execute_missing(alloc, work, app, ctx, env, out, pc, splits),
-        Stmt::Redirect(e) => execute_redirect(alloc, work, app, ctx, env, out, pc, e, splits),
+        Stmt::Missing => execute_missing(work, app, ctx, env, out, pc, splits),
+        Stmt::Redirect(e) => execute_redirect(work, app, ctx, env, out, pc, e, splits),
         Stmt::Template(_) => unreachable!(),
-        Stmt::Block(body) => execute_all(alloc, work, app, ctx, env, out, pc, body, splits),
+        Stmt::Block(body) => execute_all(work, app, ctx, env, out, pc, body, splits),
     }
 }
 
 // Adds the text of the value to the page.
 fn execute_put<K: Keeper, L: Ledger>(
-    alloc: Global,
     work: &mut Work<'_, K>,
     app: &App,
     ctx: &Ctx,
@@ -185,14 +174,13 @@ fn execute_put<K: Keeper, L: Ledger>(
     ensures told { OnOk result (StaysTold K.seen work.old work.new) }
     ensures keeps { WritesWork K.seen work.old work.new result }
 {
-    let value = eval(alloc, work, app, ctx, env, pc, e, splits)?;
-    add_value(alloc, out, pc, &value, Form::Text)?;
+    let value = eval(work, app, ctx, env, pc, e, splits)?;
+    add_value(work.alloc, out, pc, &value, Form::Text)?;
     Ok(())
 }
 
 // Adds the HTML escape of the value's text.
 fn execute_escape<K: Keeper, L: Ledger>(
-    alloc: Global,
     work: &mut Work<'_, K>,
     app: &App,
     ctx: &Ctx,
@@ -211,14 +199,13 @@ fn execute_escape<K: Keeper, L: Ledger>(
     ensures told { OnOk result (StaysTold K.seen work.old work.new) }
     ensures keeps { WritesWork K.seen work.old work.new result }
 {
-    let value = eval(alloc, work, app, ctx, env, pc, e, splits)?;
-    add_value(alloc, out, pc, &value, Form::Escaped)?;
+    let value = eval(work, app, ctx, env, pc, e, splits)?;
+    add_value(work.alloc, out, pc, &value, Form::Escaped)?;
     Ok(())
 }
 
 // Leads to the value's text.
 fn execute_redirect<K: Keeper, L: Ledger>(
-    alloc: Global,
     work: &mut Work<'_, K>,
     app: &App,
     ctx: &Ctx,
@@ -237,14 +224,13 @@ fn execute_redirect<K: Keeper, L: Ledger>(
     ensures told { OnOk result (StaysTold K.seen work.old work.new) }
     ensures keeps { WritesWork K.seen work.old work.new result }
 {
-    let value = eval(alloc, work, app, ctx, env, pc, e, splits)?;
-    add_value(alloc, out, pc, &value, Form::Location)?;
+    let value = eval(work, app, ctx, env, pc, e, splits)?;
+    add_value(work.alloc, out, pc, &value, Form::Location)?;
     Ok(())
 }
 
 // Makes the page one that isn't there.
 fn execute_missing<K: Keeper, L: Ledger>(
-    alloc: Global,
     work: &mut Work<'_, K>,
     app: &App,
     ctx: &Ctx,
@@ -261,13 +247,12 @@ fn execute_missing<K: Keeper, L: Ledger>(
     ensures keeps { WritesWork K.seen work.old work.new result }
 {
     let _ = work;
-    add_missing(alloc, out, pc)?;
+    add_missing(work.alloc, out, pc)?;
     Ok(())
 }
 
 // Changes the innermost binding of the name.
 fn execute_assign<K: Keeper, L: Ledger>(
-    alloc: Global,
     work: &mut Work<'_, K>,
     app: &App,
     ctx: &Ctx,
@@ -287,15 +272,14 @@ fn execute_assign<K: Keeper, L: Ledger>(
     ensures told { OnOk result (StaysTold K.seen work.old work.new) }
     ensures keeps { WritesWork K.seen work.old work.new result }
 {
-    let value = eval(alloc, work, app, ctx, env, pc, e, splits)?;
-    assign(alloc, env, pc, name, &value, splits)?;
+    let value = eval(work, app, ctx, env, pc, e, splits)?;
+    assign(work.alloc, env, pc, name, &value, splits)?;
     Ok(())
 }
 
 // The body with the name bound to the value.
 #[cycle(exec)]
 fn execute_let<K: Keeper, L: Ledger>(
-    alloc: Global,
     work: &mut Work<'_, K>,
     app: &App,
     ctx: &Ctx,
@@ -319,17 +303,14 @@ fn execute_let<K: Keeper, L: Ledger>(
     ensures told { OnOk result (StaysTold K.seen work.old work.new) }
     ensures keeps { WritesWork K.seen work.old work.new result }
 {
-    let value = eval(alloc, work, app, ctx, env, pc, e, splits)?;
-    execute_named(
-        alloc, work, app, ctx, env, out, pc, name, value, body, splits,
-    )?;
+    let value = eval(work, app, ctx, env, pc, e, splits)?;
+    execute_named(work, app, ctx, env, out, pc, name, value, body, splits)?;
     Ok(())
 }
 
 // The body with the name bound to this.
 #[cycle(exec)]
 fn execute_named<K: Keeper, L: Ledger>(
-    alloc: Global,
     work: &mut Work<'_, K>,
     app: &App,
     ctx: &Ctx,
@@ -355,9 +336,9 @@ fn execute_named<K: Keeper, L: Ledger>(
     ensures keeps { WritesWork K.seen work.old work.new result }
 {
     let outer = env.as_slice().len();
-    let name = name.copy(alloc)?;
+    let name = name.copy(work.alloc)?;
     env.push(name, value)?;
-    execute_all(alloc, work, app, ctx, env, out, pc, body, splits)?;
+    execute_all(work, app, ctx, env, out, pc, body, splits)?;
     env.cut(outer);
     Ok(())
 }
@@ -366,7 +347,6 @@ fn execute_named<K: Keeper, L: Ledger>(
 // that value.
 #[cycle(exec)]
 fn execute_if<K: Keeper, L: Ledger>(
-    alloc: Global,
     work: &mut Work<'_, K>,
     app: &App,
     ctx: &Ctx,
@@ -392,19 +372,16 @@ fn execute_if<K: Keeper, L: Ledger>(
     ensures told { OnOk result (StaysTold K.seen work.old work.new) }
     ensures keeps { WritesWork K.seen work.old work.new result }
 {
-    let condition = eval(alloc, work, app, ctx, env, pc, c, splits)?;
-    let leaves = condition.leaves_under(alloc, pc)?;
+    let condition = eval(work, app, ctx, env, pc, c, splits)?;
+    let leaves = condition.leaves_under(work.alloc, pc)?;
     let leaves = leaves.as_slice();
-    execute_leaves(
-        alloc, work, app, ctx, env, out, leaves, first, second, splits,
-    )?;
+    execute_leaves(work, app, ctx, env, out, leaves, first, second, splits)?;
     Ok(())
 }
 
 // A body for each of the values.
 #[cycle(exec)]
 fn execute_leaves<K: Keeper, L: Ledger>(
-    alloc: Global,
     work: &mut Work<'_, K>,
     app: &App,
     ctx: &Ctx,
@@ -431,7 +408,7 @@ fn execute_leaves<K: Keeper, L: Ledger>(
 {
     'leaves: for leaf in leaves {
         execute_leaf(
-            alloc, work, app, ctx, env, out, &leaf.0, &leaf.1, first, second, splits,
+            work, app, ctx, env, out, &leaf.0, &leaf.1, first, second, splits,
         )?;
     }
     Ok(())
@@ -440,7 +417,6 @@ fn execute_leaves<K: Keeper, L: Ledger>(
 // The body for this value of the condition.
 #[cycle(exec)]
 fn execute_leaf<K: Keeper, L: Ledger>(
-    alloc: Global,
     work: &mut Work<'_, K>,
     app: &App,
     ctx: &Ctx,
@@ -468,17 +444,16 @@ fn execute_leaf<K: Keeper, L: Ledger>(
     ensures keeps { WritesWork K.seen work.old work.new result }
 {
     if is_true(value) {
-        execute_all(alloc, work, app, ctx, env, out, pc, first, splits)?;
+        execute_all(work, app, ctx, env, out, pc, first, splits)?;
         return Ok(());
     }
-    execute_all(alloc, work, app, ctx, env, out, pc, second, splits)?;
+    execute_all(work, app, ctx, env, out, pc, second, splits)?;
     Ok(())
 }
 
 // The body for each answer of the query, which is asked once.
 #[cycle(exec)]
 fn execute_for<K: Keeper, L: Ledger>(
-    alloc: Global,
     work: &mut Work<'_, K>,
     app: &App,
     ctx: &Ctx,
@@ -501,19 +476,16 @@ fn execute_for<K: Keeper, L: Ledger>(
     ensures told { OnOk result (StaysTold K.seen work.old work.new) }
     ensures keeps { WritesWork K.seen work.old work.new result }
 {
-    let answers = tuples(alloc, work, app, ctx, env, pc, query, splits)?;
+    let answers = tuples(work, app, ctx, env, pc, query, splits)?;
     let binders = &query.binders;
     let answers = answers.as_slice();
-    execute_tuples(
-        alloc, work, app, ctx, env, out, pc, binders, answers, body, splits,
-    )?;
+    execute_tuples(work, app, ctx, env, out, pc, binders, answers, body, splits)?;
     Ok(())
 }
 
 // The body for each of the tuples.
 #[cycle(exec)]
 fn execute_tuples<K: Keeper, L: Ledger>(
-    alloc: Global,
     work: &mut Work<'_, K>,
     app: &App,
     ctx: &Ctx,
@@ -539,9 +511,7 @@ fn execute_tuples<K: Keeper, L: Ledger>(
     ensures keeps { WritesWork K.seen work.old work.new result }
 {
     'tuples: for tuple in tuples {
-        execute_tuple(
-            alloc, work, app, ctx, env, out, pc, binders, tuple, body, splits,
-        )?;
+        execute_tuple(work, app, ctx, env, out, pc, binders, tuple, body, splits)?;
     }
     Ok(())
 }
@@ -549,7 +519,6 @@ fn execute_tuples<K: Keeper, L: Ledger>(
 // The body with the binders bound to the tuple, wherever that holds too.
 #[cycle(exec)]
 fn execute_tuple<K: Keeper, L: Ledger>(
-    alloc: Global,
     work: &mut Work<'_, K>,
     app: &App,
     ctx: &Ctx,
@@ -575,12 +544,12 @@ fn execute_tuple<K: Keeper, L: Ledger>(
     ensures told { OnOk result (StaysTold K.seen work.old work.new) }
     ensures keeps { WritesWork K.seen work.old work.new result }
 {
-    match from_world(pc.meet(alloc, &tuple.guard))? {
+    match from_world(pc.meet(work.alloc, &tuple.guard))? {
         None => Ok(()),
         Some(within) => {
             let ids = &tuple.ids;
             execute_bound(
-                alloc, work, app, ctx, env, out, &within, binders, ids, body, splits,
+                work, app, ctx, env, out, &within, binders, ids, body, splits,
             )?;
             Ok(())
         }
@@ -590,7 +559,6 @@ fn execute_tuple<K: Keeper, L: Ledger>(
 // The body with the binders bound to these records, in the loop around them.
 #[cycle(exec)]
 fn execute_bound<K: Keeper, L: Ledger>(
-    alloc: Global,
     work: &mut Work<'_, K>,
     app: &App,
     ctx: &Ctx,
@@ -618,8 +586,8 @@ fn execute_bound<K: Keeper, L: Ledger>(
 {
     let outer = env.as_slice().len();
     let ctx = looped(ctx, ids);
-    bind_tuple(alloc, env, binders, ids)?;
-    execute_all(alloc, work, app, &ctx, env, out, pc, body, splits)?;
+    bind_tuple(work.alloc, env, binders, ids)?;
+    execute_all(work, app, &ctx, env, out, pc, body, splits)?;
     env.cut(outer);
     Ok(())
 }
@@ -627,7 +595,6 @@ fn execute_bound<K: Keeper, L: Ledger>(
 // A new record, and the body with the name bound to it; nothing where no model has the name.
 #[cycle(exec)]
 fn execute_create<K: Keeper, L: Ledger>(
-    alloc: Global,
     work: &mut Work<'_, K>,
     app: &App,
     ctx: &Ctx,
@@ -660,7 +627,7 @@ fn execute_create<K: Keeper, L: Ledger>(
         return Ok(());
     };
     execute_made(
-        alloc, work, app, ctx, env, out, pc, name, model, site, cells, body, splits,
+        work, app, ctx, env, out, pc, name, model, site, cells, body, splits,
     )?;
     Ok(())
 }
@@ -668,7 +635,6 @@ fn execute_create<K: Keeper, L: Ledger>(
 // A new record of this model, and the body with the name bound to it.
 #[cycle(exec)]
 fn execute_made<K: Keeper, L: Ledger>(
-    alloc: Global,
     work: &mut Work<'_, K>,
     app: &App,
     ctx: &Ctx,
@@ -703,19 +669,16 @@ fn execute_made<K: Keeper, L: Ledger>(
     ensures keeps { WritesWork K.seen work.old work.new result }
 {
     let _pairs = pc.pairs();
-    let cells = new_cells(alloc, work, app, ctx, env, pc, model, cells, splits)?;
+    let cells = new_cells(work, app, ctx, env, pc, model, cells, splits)?;
     let id = new_id(app, ctx, model, site);
-    create(alloc, work, app, pc, id, &cells, splits)?;
+    create(work, app, pc, id, &cells, splits)?;
     let made = Facet::leaf(Value::Ref(Some(id)));
-    execute_named(
-        alloc, work, app, ctx, env, out, pc, name, made, body, splits,
-    )?;
+    execute_named(work, app, ctx, env, out, pc, name, made, body, splits)?;
     Ok(())
 }
 
 // Changes the record that the value refers to; nothing where no model has the name.
 fn execute_update<K: Keeper, L: Ledger>(
-    alloc: Global,
     work: &mut Work<'_, K>,
     app: &App,
     ctx: &Ctx,
@@ -740,15 +703,14 @@ fn execute_update<K: Keeper, L: Ledger>(
     let Some(model) = model_number(app, model) else {
         return Ok(());
     };
-    let target = eval(alloc, work, app, ctx, env, pc, e, splits)?;
-    let sets = read_sets(alloc, work, app, ctx, env, pc, model, cells, splits)?;
-    update(alloc, work, app, pc, model, &target, &sets, splits)?;
+    let target = eval(work, app, ctx, env, pc, e, splits)?;
+    let sets = read_sets(work, app, ctx, env, pc, model, cells, splits)?;
+    update(work, app, pc, model, &target, &sets, splits)?;
     Ok(())
 }
 
 // Takes the record away that the value refers to; nothing where no model has the name.
 fn execute_delete<K: Keeper, L: Ledger>(
-    alloc: Global,
     work: &mut Work<'_, K>,
     app: &App,
     ctx: &Ctx,
@@ -772,8 +734,8 @@ fn execute_delete<K: Keeper, L: Ledger>(
     let Some(model) = model_number(app, model) else {
         return Ok(());
     };
-    let target = eval(alloc, work, app, ctx, env, pc, e, splits)?;
-    delete(alloc, work, pc, model, &target)?;
+    let target = eval(work, app, ctx, env, pc, e, splits)?;
+    delete(work, pc, model, &target)?;
     Ok(())
 }
 

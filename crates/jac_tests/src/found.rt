@@ -31,7 +31,7 @@ fn value_at(alloc: Global, a: &Assignment, text: &str) -> Option<Value> {
     let mut work = Work::new(alloc, &mut keeper);
     let mut support = Support::empty(alloc);
     let env = PlainEnv::empty(alloc);
-    eval_at(alloc, &mut work, &app, &ctx, a, &env, &e, &mut support).ok()
+    eval_at(&mut work, &app, &ctx, a, &env, &e, &mut support).ok()
 }
 
 fn is_number(found: Option<Value>, number: i64) -> bool {

@@ -45,9 +45,9 @@ fn found_in_work(alloc: Global, keeper: &mut Finder) -> Result<(usize, usize), S
 {
     let title = Value::Text(Txt::from_str(alloc, "raid")?);
     let mut work = Work::new(alloc, keeper);
-    let before = work.rows_with(alloc, 1, 0, &title)?;
+    let before = work.rows_with(1, 0, &title)?;
     work.replace(Id(12289), Rows::empty(alloc))?;
-    let after = work.rows_with(alloc, 1, 0, &title)?;
+    let after = work.rows_with(1, 0, &title)?;
     Ok((before.as_slice().len(), after.as_slice().len()))
 }
 
@@ -106,7 +106,7 @@ fn answers_over<L: Ledger>(
     let mut work = Work::new(alloc, keeper);
     let env = Env::empty(alloc);
     let pc = Guard::empty(alloc);
-    let answers = tuples(alloc, &mut work, app, &nobody(), &env, &pc, query, splits)?;
+    let answers = tuples(&mut work, app, &nobody(), &env, &pc, query, splits)?;
     Ok(answers)
 }
 

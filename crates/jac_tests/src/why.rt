@@ -94,7 +94,7 @@ fn found<L: Ledger>(
         viewer: None,
         labels,
     };
-    why(alloc, &mut work, &scene, hidden, evaluations).ok()
+    why(&mut work, &scene, hidden, evaluations).ok()
 }
 
 // Whether the reason stands against the second note.
@@ -112,7 +112,7 @@ fn stands<L: Ledger>(
         viewer: None,
         labels,
     };
-    check_reason(alloc, &mut work, &scene, Label(65536), reason, evaluations).ok()
+    check_reason(&mut work, &scene, Label(65536), reason, evaluations).ok()
 }
 
 fn is_none(found: Option<Option<Reason>>) -> bool {

@@ -25,7 +25,6 @@ use std::sync::ledger::Ledger;
 /// What stands against a hidden label: of the labels that are shown and this one, the least that
 /// isn't allowed under them. There is none exactly where all are allowed.
 pub fn why<K: Keeper, M: Ledger>(
-    alloc: Global,
     work: &mut Work<'_, K>,
     scene: &Scene<'_>,
     hidden: Label,
@@ -37,18 +36,17 @@ pub fn why<K: Keeper, M: Ledger>(
     ensures later { evaluations.old ≤ evaluations.new }
     ensures reads { ReadsWork K.seen work.old work.new result }
 {
-    let beside = with_label(alloc, scene.labels, hidden)?;
+    let beside = with_label(work.alloc, scene.labels, hidden)?;
     let labels = beside.as_slice();
     let app = scene.app;
     let viewer = &scene.viewer;
-    let first = find_forbidden(alloc, work, app, viewer, &beside, labels, evaluations)?;
+    let first = find_forbidden(work, app, viewer, &beside, labels, evaluations)?;
     Ok(as_reason(first))
 }
 
 /// Whether the reason stands against a hidden label: whether its label is one of those that are
 /// shown and this one, has this model and this group, and isn't allowed under them.
 pub fn check_reason<K: Keeper, M: Ledger>(
-    alloc: Global,
     work: &mut Work<'_, K>,
     scene: &Scene<'_>,
     hidden: Label,
@@ -61,7 +59,7 @@ pub fn check_reason<K: Keeper, M: Ledger>(
     ensures later { evaluations.old ≤ evaluations.new }
     ensures reads { ReadsWork K.seen work.old work.new result }
 {
-    let beside = with_label(alloc, scene.labels, hidden)?;
+    let beside = with_label(work.alloc, scene.labels, hidden)?;
     if !beside.shows(reason.label) {
         return Ok(false);
     }
@@ -69,22 +67,13 @@ pub fn check_reason<K: Keeper, M: Ledger>(
         return Ok(false);
     }
     let app = scene.app;
-    let holds = ask(
-        alloc,
-        work,
-        app,
-        scene.viewer,
-        &beside,
-        reason.label,
-        evaluations,
-    )?;
+    let holds = ask(work, app, scene.viewer, &beside, reason.label, evaluations)?;
     Ok(!holds)
 }
 
 /// The live labels that aren't shown, in their order, with what stands against each. Where those
 /// that are shown are all allowed, each label costs no more than those that consulted it.
 pub fn whys<K: Keeper, M: Ledger>(
-    alloc: Global,
     work: &mut Work<'_, K>,
     scene: &Scene<'_>,
     live: &[Label],
@@ -99,14 +88,13 @@ pub fn whys<K: Keeper, M: Ledger>(
     ensures later { evaluations.old ≤ evaluations.new }
     ensures reads { ReadsWork K.seen work.old work.new result }
 {
-    let watchers = watchers(alloc, work, scene, evaluations)?;
-    let whys = watched_whys(alloc, work, scene, live, &watchers, evaluations)?;
+    let watchers = watchers(work, scene, evaluations)?;
+    let whys = watched_whys(work, scene, live, &watchers, evaluations)?;
     Ok(whys)
 }
 
 // The same, by who watches which label.
 fn watched_whys<K: Keeper, M: Ledger>(
-    alloc: Global,
     work: &mut Work<'_, K>,
     scene: &Scene<'_>,
     live: &[Label],
@@ -123,16 +111,15 @@ fn watched_whys<K: Keeper, M: Ledger>(
     ensures later { evaluations.old ≤ evaluations.new }
     ensures reads { ReadsWork K.seen work.old work.new result }
 {
-    let mut whys = Vec::new(alloc);
+    let mut whys = Vec::new(work.alloc);
     'labels: for label in live {
-        add_why(alloc, work, scene, *label, watchers, &mut whys, evaluations)?;
+        add_why(work, scene, *label, watchers, &mut whys, evaluations)?;
     }
     Ok(whys)
 }
 
 // What stands against the label, where it isn't shown.
 fn add_why<K: Keeper, M: Ledger>(
-    alloc: Global,
     work: &mut Work<'_, K>,
     scene: &Scene<'_>,
     label: Label,
@@ -153,14 +140,13 @@ fn add_why<K: Keeper, M: Ledger>(
     if scene.labels.shows(label) {
         return Ok(());
     }
-    let reason = watched_why(alloc, work, scene, label, watchers, evaluations)?;
+    let reason = watched_why(work, scene, label, watchers, evaluations)?;
     push_why(whys, label, reason)?;
     Ok(())
 }
 
 // What stands against a label: only it, and those that watch it, are asked.
 fn watched_why<K: Keeper, M: Ledger>(
-    alloc: Global,
     work: &mut Work<'_, K>,
     scene: &Scene<'_>,
     label: Label,
@@ -177,12 +163,12 @@ fn watched_why<K: Keeper, M: Ledger>(
     ensures later { evaluations.old ≤ evaluations.new }
     ensures reads { ReadsWork K.seen work.old work.new result }
 {
-    let beside = with_label(alloc, scene.labels, label)?;
-    let asked = watchers.asked(alloc, label)?;
+    let beside = with_label(work.alloc, scene.labels, label)?;
+    let asked = watchers.asked(work.alloc, label)?;
     let labels = asked.as_slice();
     let app = scene.app;
     let viewer = &scene.viewer;
-    let first = find_forbidden(alloc, work, app, viewer, &beside, labels, evaluations)?;
+    let first = find_forbidden(work, app, viewer, &beside, labels, evaluations)?;
     // Labels that are read ascend.
     let _ = scene.labels.as_slice();
     Ok(as_reason(first))
@@ -190,7 +176,6 @@ fn watched_why<K: Keeper, M: Ledger>(
 
 // Which of the labels that are shown consulted which others.
 fn watchers<K: Keeper, M: Ledger>(
-    alloc: Global,
     work: &mut Work<'_, K>,
     scene: &Scene<'_>,
     evaluations: &mut Steps<M>,
@@ -201,16 +186,15 @@ fn watchers<K: Keeper, M: Ledger>(
     ensures later { evaluations.old ≤ evaluations.new }
     ensures reads { ReadsWork K.seen work.old work.new result }
 {
-    let mut watchers = Watchers::empty(alloc);
+    let mut watchers = Watchers::empty(work.alloc);
     'labels: for label in scene.labels.as_slice() {
-        add_watcher(alloc, work, scene, *label, &mut watchers, evaluations)?;
+        add_watcher(work, scene, *label, &mut watchers, evaluations)?;
     }
     Ok(watchers)
 }
 
 // The label watches all that its policy consults.
 fn add_watcher<K: Keeper, M: Ledger>(
-    alloc: Global,
     work: &mut Work<'_, K>,
     scene: &Scene<'_>,
     label: Label,
@@ -224,16 +208,8 @@ fn add_watcher<K: Keeper, M: Ledger>(
     ensures reads { ReadsWork K.seen work.old work.new result }
 {
     let shown = scene.labels;
-    let (_, consulted) = allowed(
-        alloc,
-        work,
-        scene.app,
-        scene.viewer,
-        shown,
-        label,
-        evaluations,
-    )?;
-    watchers.watch(alloc, label, consulted.as_slice())?;
+    let (_, consulted) = allowed(work, scene.app, scene.viewer, shown, label, evaluations)?;
+    watchers.watch(work.alloc, label, consulted.as_slice())?;
     Ok(())
 }
 
@@ -252,7 +228,6 @@ fn push_why(
 
 // The first of the labels that isn't allowed under the assignment.
 fn find_forbidden<K: Keeper, M: Ledger>(
-    alloc: Global,
     work: &mut Work<'_, K>,
     app: &App,
     viewer: &Option<Id>,
@@ -268,7 +243,7 @@ fn find_forbidden<K: Keeper, M: Ledger>(
     ensures reads { ReadsWork K.seen work.old work.new result }
 {
     'labels: for label in labels {
-        let holds = ask(alloc, work, app, *viewer, a, *label, evaluations)?;
+        let holds = ask(work, app, *viewer, a, *label, evaluations)?;
         if !holds {
             return Ok(Some(*label));
         }
@@ -278,7 +253,6 @@ fn find_forbidden<K: Keeper, M: Ledger>(
 
 // Whether the label is allowed under the assignment.
 fn ask<K: Keeper, M: Ledger>(
-    alloc: Global,
     work: &mut Work<'_, K>,
     app: &App,
     viewer: Option<Id>,
@@ -293,7 +267,7 @@ fn ask<K: Keeper, M: Ledger>(
     ensures later { evaluations.old ≤ evaluations.new }
     ensures reads { ReadsWork K.seen work.old work.new result }
 {
-    let (holds, _) = allowed(alloc, work, app, viewer, a, label, evaluations)?;
+    let (holds, _) = allowed(work, app, viewer, a, label, evaluations)?;
     Ok(holds)
 }
 

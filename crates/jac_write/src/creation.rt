@@ -65,7 +65,6 @@ fn with_new_record<L: Ledger>(
 
 // Makes a record wherever the guard holds.
 fn make_under<K: Keeper, L: Ledger>(
-    alloc: Global,
     work: &mut Work<'_, K>,
     app: &App,
     guard: &Guard,
@@ -92,11 +91,11 @@ fn make_under<K: Keeper, L: Ledger>(
 {
     sound_after_change();
     let model = id_model(id);
-    let standing = work.one(alloc, id)?;
+    let standing = work.one(id)?;
     let cells = cells.as_slice();
     let standing = standing.into_vec();
-    let rows = with_new_record(alloc, app, guard, model, id, cells, standing, splits)?;
-    let merged = merged_rows(alloc, rows)?;
+    let rows = with_new_record(work.alloc, app, guard, model, id, cells, standing, splits)?;
+    let merged = merged_rows(work.alloc, rows)?;
     work.replace(id, merged)?;
     Ok(())
 }
@@ -105,7 +104,6 @@ fn make_under<K: Keeper, L: Ledger>(
 /// cell of another kind than its field's counts as the default of that kind. Where a group hides
 /// the model's records, the record is made only where its label for that group is shown.
 pub fn create<K: Keeper, L: Ledger>(
-    alloc: Global,
     work: &mut Work<'_, K>,
     app: &App,
     pc: &Guard,
@@ -129,9 +127,9 @@ pub fn create<K: Keeper, L: Ledger>(
         → OnOk result (KeepsOrMerges (state_of K.seen work.old) (state_of K.seen work.new)) }
     ensures keeps { WritesWork K.seen work.old work.new result }
 {
-    match kept_under(alloc, app, pc, id)? {
+    match kept_under(work.alloc, app, pc, id)? {
         Some(guard) => {
-            make_under(alloc, work, app, &guard, id, cells, splits)?;
+            make_under(work, app, &guard, id, cells, splits)?;
             Ok(())
         }
         None => Ok(()),

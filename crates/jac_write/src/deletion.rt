@@ -13,15 +13,9 @@ use jac_facet::Facet;
 use jac_keep::{Keeper, Stop, Work, sound_after_change};
 use jac_value::{Id, Value, id_model};
 use jac_world::Guard;
-use std::alloc::Global;
 
 // Takes the alternatives of a record away where the guard holds.
-fn delete_alternatives<K: Keeper>(
-    alloc: Global,
-    work: &mut Work<'_, K>,
-    guard: &Guard,
-    id: Id,
-) -> Result<(), Stop>
+fn delete_alternatives<K: Keeper>(work: &mut Work<'_, K>, guard: &Guard, id: Id) -> Result<(), Stop>
     requires attached { IsTrue (K.seen work.old.keeper.now).store.attached }
     requires a_table { IsTrue (K.seen work.old.keeper.now).tells
         → model_of_id id < length (K.seen work.old.keeper.now).state.tables }
@@ -35,19 +29,18 @@ fn delete_alternatives<K: Keeper>(
     ensures keeps { WritesWork K.seen work.old work.new result }
 {
     sound_after_change();
-    let rows = work.one(alloc, id)?;
+    let rows = work.one(id)?;
     if rows.as_slice().is_empty() {
         return Ok(());
     }
-    let kept = outside(alloc, guard, id, rows.as_slice())?;
-    let merged = merged_rows(alloc, kept)?;
+    let kept = outside(work.alloc, guard, id, rows.as_slice())?;
+    let merged = merged_rows(work.alloc, kept)?;
     work.replace(id, merged)?;
     Ok(())
 }
 
 // Takes the record away where the guard holds; nothing where it is none of the model.
 fn delete_record<K: Keeper>(
-    alloc: Global,
     work: &mut Work<'_, K>,
     guard: &Guard,
     model: u8,
@@ -67,13 +60,12 @@ fn delete_record<K: Keeper>(
     if id_model(id) != model {
         return Ok(());
     }
-    delete_alternatives(alloc, work, guard, id)?;
+    delete_alternatives(work, guard, id)?;
     Ok(())
 }
 
 // Takes the record that the value refers to away where the guard holds.
 fn delete_where<K: Keeper>(
-    alloc: Global,
     work: &mut Work<'_, K>,
     guard: &Guard,
     model: u8,
@@ -92,7 +84,7 @@ fn delete_where<K: Keeper>(
 {
     match target {
         Value::Ref(Some(id)) => {
-            delete_record(alloc, work, guard, model, *id)?;
+            delete_record(work, guard, model, *id)?;
             Ok(())
         }
         _ => Ok(()),
@@ -100,7 +92,6 @@ fn delete_where<K: Keeper>(
 }
 
 fn delete_leaves<K: Keeper>(
-    alloc: Global,
     work: &mut Work<'_, K>,
     model: u8,
     leaves: &[(Guard, Value)],
@@ -117,7 +108,7 @@ fn delete_leaves<K: Keeper>(
     ensures keeps { WritesWork K.seen work.old work.new result }
 {
     'leaves: for leaf in leaves {
-        delete_where(alloc, work, &leaf.0, model, &leaf.1)?;
+        delete_where(work, &leaf.0, model, &leaf.1)?;
     }
     Ok(())
 }
@@ -125,7 +116,6 @@ fn delete_leaves<K: Keeper>(
 /// Takes the record that the target refers to away, wherever the path condition holds. Nothing
 /// happens where the target is no record of the model, or one that isn't there.
 pub fn delete<K: Keeper>(
-    alloc: Global,
     work: &mut Work<'_, K>,
     pc: &Guard,
     model: u8,
@@ -142,7 +132,7 @@ pub fn delete<K: Keeper>(
         → OnOk result (KeepsOrMerges (state_of K.seen work.old) (state_of K.seen work.new)) }
     ensures keeps { WritesWork K.seen work.old work.new result }
 {
-    let leaves = target.leaves_under(alloc, pc)?;
-    delete_leaves(alloc, work, model, leaves.as_slice())?;
+    let leaves = target.leaves_under(work.alloc, pc)?;
+    delete_leaves(work, model, leaves.as_slice())?;
     Ok(())
 }

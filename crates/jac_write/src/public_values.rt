@@ -122,7 +122,7 @@ fn value_in<L: Ledger>(
     let ctx = asked_of(id);
     let env = Env::empty(alloc);
     let everywhere = Guard::empty(alloc);
-    let facet = eval(alloc, &mut work, app, &ctx, &env, &everywhere, e, splits)?;
+    let facet = eval(&mut work, app, &ctx, &env, &everywhere, e, splits)?;
     let nothing = Assignment::empty(alloc);
     let value = facet.at(&nothing).copy(alloc)?;
     Ok(value)

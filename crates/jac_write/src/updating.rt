@@ -67,7 +67,6 @@ fn remade_rows<L: Ledger>(
 
 // Changes the alternatives of a record where the guard holds.
 fn update_alternatives<K: Keeper, L: Ledger>(
-    alloc: Global,
     work: &mut Work<'_, K>,
     app: &App,
     guard: &Guard,
@@ -94,20 +93,19 @@ fn update_alternatives<K: Keeper, L: Ledger>(
     ensures keeps { WritesWork K.seen work.old work.new result }
 {
     sound_after_change();
-    let rows = work.one(alloc, id)?;
+    let rows = work.one(id)?;
     let rows = rows.as_slice();
     if rows.is_empty() {
         return Ok(());
     }
-    let remade = remade_rows(alloc, app, guard, model, id, sets, rows, splits)?;
-    let merged = merged_rows(alloc, remade)?;
+    let remade = remade_rows(work.alloc, app, guard, model, id, sets, rows, splits)?;
+    let merged = merged_rows(work.alloc, remade)?;
     work.replace(id, merged)?;
     Ok(())
 }
 
 // Changes the record where the guard holds; nothing where the id is none of the model.
 fn update_record<K: Keeper, L: Ledger>(
-    alloc: Global,
     work: &mut Work<'_, K>,
     app: &App,
     guard: &Guard,
@@ -135,13 +133,12 @@ fn update_record<K: Keeper, L: Ledger>(
     if !is_id(id.0, model) {
         return Ok(());
     }
-    update_alternatives(alloc, work, app, guard, model, id, sets, splits)?;
+    update_alternatives(work, app, guard, model, id, sets, splits)?;
     Ok(())
 }
 
 // Changes the record that the value refers to where the guard holds.
 fn update_where<K: Keeper, L: Ledger>(
-    alloc: Global,
     work: &mut Work<'_, K>,
     app: &App,
     guard: &Guard,
@@ -166,7 +163,7 @@ fn update_where<K: Keeper, L: Ledger>(
 {
     match target {
         Value::Ref(Some(id)) => {
-            update_record(alloc, work, app, guard, model, *id, sets, splits)?;
+            update_record(work, app, guard, model, *id, sets, splits)?;
             Ok(())
         }
         _ => Ok(()),
@@ -174,7 +171,6 @@ fn update_where<K: Keeper, L: Ledger>(
 }
 
 fn update_leaves<K: Keeper, L: Ledger>(
-    alloc: Global,
     work: &mut Work<'_, K>,
     app: &App,
     model: u8,
@@ -197,7 +193,7 @@ fn update_leaves<K: Keeper, L: Ledger>(
     ensures keeps { WritesWork K.seen work.old work.new result }
 {
     'leaves: for leaf in leaves {
-        update_where(alloc, work, app, &leaf.0, model, &leaf.1, sets, splits)?;
+        update_where(work, app, &leaf.0, model, &leaf.1, sets, splits)?;
     }
     Ok(())
 }
@@ -205,7 +201,6 @@ fn update_leaves<K: Keeper, L: Ledger>(
 /// Changes the cells of the record that the target refers to, wherever the path condition holds.
 /// Nothing happens where the target is no record of the model, or one that isn't there.
 pub fn update<K: Keeper, L: Ledger>(
-    alloc: Global,
     work: &mut Work<'_, K>,
     app: &App,
     pc: &Guard,
@@ -229,7 +224,7 @@ pub fn update<K: Keeper, L: Ledger>(
         → OnOk result (KeepsOrMerges (state_of K.seen work.old) (state_of K.seen work.new)) }
     ensures keeps { WritesWork K.seen work.old work.new result }
 {
-    let leaves = target.leaves_under(alloc, pc)?;
-    update_leaves(alloc, work, app, model, leaves.as_slice(), sets, splits)?;
+    let leaves = target.leaves_under(work.alloc, pc)?;
+    update_leaves(work, app, model, leaves.as_slice(), sets, splits)?;
     Ok(())
 }
