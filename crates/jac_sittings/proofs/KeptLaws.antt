@@ -56,16 +56,13 @@ in_last x [] = inl refl
 in_last x (y ∷ ys) = inr (in_last x ys)
 
 -- room was made and one was put
-pub kept_more : (x : Sitting) (old room new : List Sitting) → (room ≡ old) ⊎ (room ≡ [])
+pub kept_more : (x : Sitting) (old room new : List Sitting) → ((s : Sitting) → IsOneOf s room → IsOneOf s old)
     → (new ≡ room ++ x ∷ []) ⊎ (new ≡ room) → (s : Sitting) → IsOneOf s new → (s ≡ x) ⊎ IsOneOf s old
-kept_more x old room new (inl same) (inl put) s h = in_put s x old (rw (put, same) at h)
-kept_more x old room new (inl same) (inr still) s h = inr (rw (still, same) at h)
-kept_more x old room new (inr none) (inl put) s h = elim (in_put s x [] (rw (put, none) at h)) [
+kept_more x old room new left (inl put) s h = elim (in_put s x room (rw put at h)) [
   | inl is ↦ inl is
-  | inr nothing ↦ absurd nothing
+  | inr was ↦ inr (left s was)
 ]
-kept_more x old room new (inr none) (inr still) s h =
-    let nothing : ⊥ = rw (still, none) at h in absurd nothing
+kept_more x old room new left (inr still) s h = inr (left s (rw still at h))
 
 unsettled_of : (touch : Touch) (all : List Sitting) (x y : Sitting) → IsOneOf x all → y.viewer ≡ x.viewer → Unsettles touch x.viewer x.seat y.seat
     → WasUnsettled touch all y

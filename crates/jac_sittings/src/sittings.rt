@@ -14,7 +14,7 @@ use std::mem::replace;
 const VIEWERS: usize = 64;
 
 /// So many labels may have been asked for all that is kept.
-const ASKED: usize = 1 << 17;
+const ASKED: usize = 1 << 18;
 
 /// What was settled for somebody.
 #[derive(Debug, Drop)]
@@ -28,6 +28,8 @@ pub struct Sitting {
 #[derive(Debug, Drop)]
 pub struct Sittings {
     sittings: Vec<Sitting>,
+    /// How many were put in, by which it is chosen who is dropped.
+    puts: usize,
 }
 
 impl Model for Sittings {
@@ -50,6 +52,7 @@ impl Sittings {
     {
         Sittings {
             sittings: Vec::new(alloc),
+            puts: 0,
         }
     }
 
@@ -62,13 +65,16 @@ impl Sittings {
     }
 
     /// Keeps the seat for the viewer, whose seat was taken out before. Beyond 64 viewers, and
-    /// beyond 2^17 labels that were asked for all of them, all others are dropped. For want of
-    /// memory the seat itself is.
+    /// beyond 2^18 labels that were asked for all of them, others are dropped one by one until
+    /// there is room, each time another one by chance: of more viewers who look in turn than there
+    /// is room for, some find what they left, where the longest unused one would always be the one
+    /// that looks next. For want of memory the seat itself is dropped.
     pub fn put(&mut self, viewer: Option<Id>, seat: Seat)
         ensures { (s : Sitting) → IsOneOf s self.new
             → (s ≡ sitting_of viewer seat) ⊎ IsOneOf s self.old }
     {
-        put_in(&mut self.sittings, Sitting { viewer, seat });
+        self.puts = self.puts.wrapping_add(1);
+        put_in(&mut self.sittings, Sitting { viewer, seat }, self.puts);
     }
 
     /// Makes due for each viewer what the change may have touched. For want of memory all are
@@ -120,21 +126,40 @@ fn is_same_viewer(one: &Option<Id>, other: &Option<Id>) -> bool
     }
 }
 
-fn put_in(sittings: &mut Vec<Sitting>, sitting: Sitting)
+fn put_in(sittings: &mut Vec<Sitting>, sitting: Sitting, puts: usize)
     ensures { (s : Sitting) → IsOneOf s sittings.new.items
         → (s ≡ sitting) ⊎ IsOneOf s sittings.old.items }
 {
-    make_room(sittings, &sitting.seat);
+    make_room(sittings, &sitting.seat, puts);
     push(sittings, sitting);
 }
 
-// Where there are too many, or too much was asked for them, it is emptied.
-fn make_room(sittings: &mut Vec<Sitting>, seat: &Seat)
-    ensures { (sittings.new.items ≡ sittings.old.items) ⊎ (sittings.new.items ≡ []) }
+// While there are too many, or too much was asked for them, one of them is dropped.
+fn make_room(sittings: &mut Vec<Sitting>, seat: &Seat, puts: usize)
+    ensures { (s : Sitting) → IsOneOf s sittings.new.items → IsOneOf s sittings.old.items }
 {
-    if sittings.len() >= VIEWERS || asked_for(sittings.as_slice(), seat) > ASKED {
-        sittings.clear();
+    'room: while !sittings.is_empty() && is_full(sittings.as_slice(), seat) {
+        drop_one(sittings, spread(puts));
     }
+}
+
+fn is_full(sittings: &[Sitting], seat: &Seat) -> bool {
+    sittings.len() >= VIEWERS || asked_for(sittings, seat) > ASKED
+}
+
+// Drops the one at this place, counted round and round.
+fn drop_one(sittings: &mut Vec<Sitting>, place: usize)
+    requires some { 0 < length sittings.old.items }
+    ensures fewer { length sittings.new.items < length sittings.old.items }
+    ensures left { (s : Sitting) → IsOneOf s sittings.new.items → IsOneOf s sittings.old.items }
+{
+    let place = place % sittings.len();
+    sittings.remove(place);
+}
+
+// Numbers that follow each other, far from each other (Knuth, multiplicative hashing).
+fn spread(number: usize) -> usize {
+    number.wrapping_mul(0x9E37_79B9_7F4A_7C15) >> 32
 }
 
 // How many labels were asked for all of them and for this one.
