@@ -43,16 +43,19 @@ PLAIN = CALENDAR % b''
 WITH_NOTES = CALENDAR % b' (model Note (fields (body text)))'
 SCHEMA = '(schema (model User (fields (name text)) (groups))' \
          ' (model Event (fields (title text) (host (ref User)) (open bool)) (groups (title)))%s)'
-# a reminder is made around each event, and a draft is there for the event's host alone
+# a reminder is made around each event, a draft is there for the event's host alone, and one group guards two fields
 SHAPED = (CALENDAR % b''' (model Remind nested (fields (about (ref Event))))
  (model Draft (fields (of (ref Event)))
-  (group hides (policy (eq (get Event host (get Draft of this)) viewer))))''').rstrip()[:-1] + b'''
+  (group hides (policy (eq (get Event host (get Draft of this)) viewer))))
+ (model Badge (fields (front text) (back text))
+  (group (guards (front "") (back "")) (policy (live viewer))))''').rstrip()[:-1] + b'''
  (view post "/remind" (params)
   (for (from ((e Event)) true key) (create r Remind (set (about e)))))
  (view post "/draft" (params (e (ref Event))) (create d Draft (set (of e)))))
 '''
 SHAPES = ' (model Remind nested (fields (about (ref Event))) (groups))' \
-         ' (model Draft (fields (of (ref Event))) (groups hides))'
+         ' (model Draft (fields (of (ref Event))) (groups hides))' \
+         ' (model Badge (fields (front text) (back text)) (groups (front back)))'
 STORED = SCHEMA % ''
 WANTED = SCHEMA % ' (model Note (fields (body text)) (groups))'
 STORY = b'ask - POST "/join" "name=Ann"\nask - POST "/join" "name=Bob"\nask 4096 POST "/add" "title=raid&open=0"\n'
