@@ -21,7 +21,7 @@ use crate::parameters::bind_alike;
 use jac_keep::{Change, Keeper, Stop, Work};
 use jac_lazy::{LazyPage, page_lazily};
 use jac_plain::{Ctx, Page};
-use jac_pruned::{Support, run_body_at};
+use jac_pruned::{At, Support, run_body_at};
 use jac_recall::{Seat, Touch};
 use jac_resolve::{seat_moves, seated_by_tables, settle_seat, settled_by_tables};
 use jac_rests::touch_of;
@@ -213,15 +213,12 @@ fn page_under<K: Keeper>(
     let env = bind(work.alloc, &view.params, visited.app, visited.path, asked)?;
     let ctx = context(visited, number);
     let mut support = Support::empty(work.alloc);
-    let page = run_body_at(
-        work,
-        visited.app,
-        &ctx,
-        labels,
-        &view.body,
-        env,
-        &mut support,
-    )?;
+    let at = At {
+        app: visited.app,
+        ctx: &ctx,
+        assignment: labels,
+    };
+    let page = run_body_at(work, &at, &view.body, env, &mut support)?;
     Ok(page)
 }
 

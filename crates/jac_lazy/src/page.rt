@@ -14,7 +14,7 @@ use crate::consulted::assignment_of;
 use jac_keep::{Keeper, Stop, Work};
 use jac_lang::{App, Binding, PlainEnv, Stmts};
 use jac_plain::{Ctx, Page};
-use jac_pruned::{Support, run_body_at};
+use jac_pruned::{At, Support, run_body_at};
 use jac_recall::Answers;
 use jac_resolve::{add_consulted, live_of, settle_among};
 use jac_value::Memory;
@@ -75,7 +75,12 @@ pub fn page_lazily<K: Keeper, M: Ledger>(
         )?;
         add_consulted(&answers, &mut consulted)?;
         let bindings = copied(work.alloc, env)?;
-        let page = run_body_at(work, app, &outside, &shown, body, bindings, &mut consulted)?;
+        let at = At {
+            app,
+            ctx: &outside,
+            assignment: &shown,
+        };
+        let page = run_body_at(work, &at, body, bindings, &mut consulted)?;
         let after = count_of(&consulted);
         if after == before {
             let consulted = assignment_of(work.alloc, &consulted)?;

@@ -13,6 +13,8 @@ use Rattle.jac_plain.specs.declared.page.Piece.{Piece}
 use Rattle.jac_plain.specs.Requests.{page_of}
 use Rattle.jac_plain.specs.Statements.{Setting, Run, leaves_all, loop_of}
 use Rattle.jac_pruned.specs.Consulted.{Agrees}
+use Rattle.jac_pruned.specs.declared.fixed.At.{At}
+use Rattle.jac_pruned.specs.declared.progress.Progress.{Progress}
 
 -- what stays the same through a run, under an assignment
 abbrev pub setting_at : App → Ctx → (ℕ → Bool) → Setting
@@ -42,11 +44,10 @@ abbrev pub IsMade : Page → Type 0
 IsMade p = (pieces : List Piece) × (p ≡ page_of pieces)
 
 -- under each assignment that agrees on the labels of the support, the run is what the step leaves
-abbrev pub Runs : List ℕ → List ℕ → ((ℕ → Bool) → Run → Run) → State → List Binding → List Piece
-    → List Binding → List Piece → Type 0
-Runs support a step s env pieces env_left pieces_left =
-    (w : ℕ → Bool) → Agrees support (shown a) w → run_in w s env_left pieces_left
-    ≡ step w (run_in w s env pieces)
+abbrev pub Runs : List ℕ → At → ((ℕ → Bool) → Run → Run) → State → Progress → Progress → Type 0
+Runs support at step s old new =
+    (w : ℕ → Bool) → Agrees support (shown at.assignment.now) w
+    → run_in w s new.env.items new.pieces.items ≡ step w (run_in w s old.env.items old.pieces.items)
 
 abbrev mutual
   -- the statement writes nothing

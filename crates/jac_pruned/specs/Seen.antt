@@ -1,13 +1,20 @@
 -- The world that an assignment shows of a state.
-use Rattle.std.specs.Prelude.{ℕ, Bool}
+use Rattle.std.specs.Prelude.{◌≡◌, ℕ, Bool, List}
+use Rattle.jac_value.specs.declared.value.Value.{Value}
+use Rattle.jac_world.specs.World.{shown}
 use Rattle.jac_lang.specs.declared.application.App.{App}
+use Rattle.jac_lang.specs.declared.bindings.Binding.{Binding}
 use Rattle.jac_lang.specs.Mirror.{application_of}
+use Rattle.jac_lang.specs.Syntax.{Application, Expression}
 use Rattle.jac_rows.specs.Project.{project_at}
 use Rattle.jac_rows.specs.declared.plain.PlainRow.{PlainRow}
 use Rattle.jac_rows.specs.declared.row.Row.{Row}
 use Rattle.jac_rows.specs.declared.state.State.{State}
 use Rattle.jac_plain.specs.declared.context.Ctx.{Ctx}
+use Rattle.jac_plain.specs.Expressions.{mean}
 use Rattle.jac_plain.specs.World.{World}
+use Rattle.jac_pruned.specs.Consulted.{Agrees}
+use Rattle.jac_pruned.specs.declared.fixed.At.{At}
 
 -- what an expression is read in under an assignment
 abbrev pub world_at : App → Ctx → State → (ℕ → Bool) → World
@@ -18,6 +25,19 @@ world_at app ctx s w =
       viewer = ctx.viewer;
       tables = (project_at w s).tables;
     }
+
+-- the application of an evaluation
+abbrev pub app_at : At → Application
+app_at at = application_of at.app.now
+
+-- what its expressions are read in under an assignment
+abbrev pub seen_at : At → State → (ℕ → Bool) → World
+seen_at at s w = world_at at.app.now at.ctx.now s w
+
+-- under each assignment that shows the same of the support, the value is the expression's
+abbrev pub MeansAt : List ℕ → At → State → Expression → List Binding → Value → Type 0
+MeansAt support at s e env v = (w : ℕ → Bool) → Agrees support (shown at.assignment.now) w
+    → v ≡ mean (seen_at at s w) e env
 
 -- a row that an assignment shows, without its guard
 abbrev pub seen_row : Row → PlainRow

@@ -5,14 +5,17 @@
 mod alike;
 mod assigning;
 mod binding;
+mod candidate;
 mod choosing;
 mod evaluation;
+mod fixed;
 mod memory;
 mod naming;
 mod operations;
 mod page;
 mod pieces;
 mod product;
+mod progress;
 mod reading;
 mod run;
 mod sorting;
@@ -22,6 +25,7 @@ mod texts;
 mod wanting;
 
 pub use evaluation::eval_at;
+pub use fixed::At;
 pub use jac_lang::PlainEnv;
 pub use jac_plain::{Ctx, Page};
 pub use operations::is_true;

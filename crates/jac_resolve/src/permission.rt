@@ -14,7 +14,7 @@ ghost use Rattle.jac_resolve.specs.Rounds.{worlds_of};
 use jac_keep::{Keeper, Stop, Work};
 use jac_lang::{App, Expr, Group, ModelDef, Models, PlainEnv};
 use jac_plain::Ctx;
-use jac_pruned::{Support, eval_at, is_true, record_stands};
+use jac_pruned::{At, Support, eval_at, is_true, record_stands};
 use jac_value::{Id, id_model};
 use jac_world::{Assignment, Label, Steps};
 use std::sync::ledger::Ledger;
@@ -89,7 +89,12 @@ fn policy_holds<K: Keeper>(
         around: None,
     };
     let env = PlainEnv::empty(work.alloc);
-    let value = eval_at(work, app, &ctx, a, &env, policy, support)?;
+    let at = At {
+        app,
+        ctx: &ctx,
+        assignment: a,
+    };
+    let value = eval_at(work, &at, &env, policy, support)?;
     Ok(is_true(&value))
 }
 

@@ -1,14 +1,14 @@
 use Rattle.std.proofs.Common.{◌∙◌, ap}
 use Rattle.jac_keep.specs.Worked.{state_of}
 use Rattle.jac_plain.specs.World.{got_of}
-use Rattle.jac_pruned.specs.Seen.{world_at}
+use Rattle.jac_pruned.specs.Seen.{seen_at}
 use Rattle.jac_pruned.specs.Own.{reads_own, table_at}
 use Rattle.jac_pruned.proofs.reading.get.Goals as goal
 
 pub returns-in_ok-read-in-Some-clause-value : goal.returns-in_ok-read-in-Some-clause-value
-returns-in_ok-read-in-Some-clause-value g c told ctx w agree =
-    c.in_ok-read-in-Some.ensures.value told ctx w agree
-    ∙ ap (λ place. got_of (world_at c.args.app.now ctx (state_of g.K.Keeper.seen c.args.work.now) w) place c.args.field.now c.args.value.now) c.in-Some.ensures.place
+returns-in_ok-read-in-Some-clause-value g c told w agree =
+    c.in_ok-read-in-Some.ensures.value told w agree
+    ∙ ap (λ place. got_of (seen_at c.args.at.now (state_of g.K.Keeper.seen c.args.work.now) w) place c.args.field.now c.args.value.now) c.in-Some.ensures.place
 
 pub returns-in_ok-read-in-Some-clause-own : goal.returns-in_ok-read-in-Some-clause-own
 returns-in_ok-read-in-Some-clause-own g c told this reads own =

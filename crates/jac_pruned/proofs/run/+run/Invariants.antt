@@ -19,10 +19,10 @@ invariant-execute_all-body g l =
       reading : AreReading (statements_of l.left);
       grown : Grows l.fn.support l.support;
       read : LoopOver k.seen l.fn.work l.work
-          ((w : ℕ → Bool) → Agrees l.support (shown l.a) w →
-          let setting = setting_at l.app l.ctx w in
+          ((w : ℕ → Bool) → Agrees l.support (shown l.at.assignment.now) w →
+          let setting = setting_at l.at.app.now l.at.ctx.now w in
           let s = state_of k.seen l.fn.work in
-          leaves_all setting (statements_of l.left) (run_in w s l.env.items l.pieces.items) ≡ leaves_all setting (statements_of l.stmts) (run_in w s l.fn.env.items l.fn.pieces.items));
+          leaves_all setting (statements_of l.left) (run_in w s l.run.env.items l.run.pieces.items) ≡ leaves_all setting (statements_of l.stmts) (run_in w s l.fn.run.env.items l.fn.run.pieces.items));
     }
 
 -- what the tuples that are left leave from here, all leave from the start
@@ -32,11 +32,11 @@ invariant-execute_tuples-tuples g l =
     record {
       grown : Grows l.fn.support l.support;
       read : LoopOver k.seen l.fn.work l.work
-          ((w : ℕ → Bool) → Agrees l.support (shown l.a) w →
-          let body = λ (ids : List ℕ). leaves_all (setting_around l.app l.ctx ids w) (statements_of l.body) in
+          ((w : ℕ → Bool) → Agrees l.support (shown l.at.assignment.now) w →
+          let body = λ (ids : List ℕ). leaves_all (setting_around l.at.app.now l.at.ctx.now ids w) (statements_of l.body) in
           let bs = binders_of l.binders in
           let s = state_of k.seen l.fn.work in
-          for_each bs body (drop l.ids-index l.tuples) (run_in w s l.env.items l.pieces.items) ≡ for_each bs body l.tuples (run_in w s l.fn.env.items l.fn.pieces.items));
+          for_each bs body (drop l.ids-index l.tuples) (run_in w s l.run.env.items l.run.pieces.items) ≡ for_each bs body l.tuples (run_in w s l.fn.run.env.items l.fn.run.pieces.items));
     }
 
 abbrev pub decreases-execute_all : goal.decreases-execute_all
