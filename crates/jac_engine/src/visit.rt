@@ -18,6 +18,7 @@ ghost use Rattle.jac_engine.specs.Views.{IsMade, IsReady, SettlesView, ShowsView
 
 use crate::lookup::Visited;
 use crate::parameters::bind_alike;
+use jac_expr::Here;
 use jac_keep::{Change, Keeper, Stop, Work};
 use jac_lazy::{LazyPage, page_lazily};
 use jac_plain::{Ctx, Page};
@@ -26,7 +27,7 @@ use jac_recall::{Seat, Touch};
 use jac_resolve::{seat_moves, seated_by_tables, settle_seat, settled_by_tables};
 use jac_rests::touch_of;
 use jac_route::bind;
-use jac_stmt::{Out, exec, page_of};
+use jac_stmt::{Frame, Out, exec, page_of};
 use jac_world::{Assignment, Guard, Steps};
 use std::alloc::Global;
 use std::sync::ledger::Ledger;
@@ -419,19 +420,17 @@ fn run_body<K: Keeper, L: Ledger>(
 {
     let view = visited.view;
     let asked = &visited.ask.pairs;
-    let mut env = bind_alike(work.alloc, visited.app, view, visited.path, asked)?;
-    let mut out = Out::empty(work.alloc);
+    let env = bind_alike(work.alloc, visited.app, view, visited.path, asked)?;
+    let out = Out::empty(work.alloc);
+    let mut frame = Frame { env, out };
     let ctx = context(visited, number);
     let everywhere = Guard::empty(work.alloc);
-    exec(
-        work,
-        visited.app,
-        &ctx,
-        &mut env,
-        &mut out,
-        &everywhere,
-        &view.body,
-        splits,
-    )?;
+    let here = Here {
+        app: visited.app,
+        ctx: &ctx,
+        pc: &everywhere,
+    };
+    exec(work, &here, &mut frame, &view.body, splits)?;
+    let Frame { env: _, out } = frame;
     Ok(out)
 }

@@ -12,6 +12,7 @@ use Rattle.jac_rows.specs.declared.state.State.{State}
 use Rattle.jac_plain.specs.declared.context.Ctx.{Ctx}
 use Rattle.jac_plain.specs.Expressions.{binding, mean}
 use Rattle.jac_plain.specs.World.{World}
+use Rattle.jac_expr.specs.declared.here.Here.{Here}
 
 -- the world that an assignment shows
 abbrev pub world_at : App → Ctx → State → (ℕ → Bool) → World
@@ -23,13 +24,16 @@ world_at app ctx s w =
       tables = (project_at w s).tables;
     }
 
+-- the world that an assignment shows here
+abbrev pub world_here : Here → State → (ℕ → Bool) → World
+world_here here s w = world_at here.app.now here.ctx.now s w
+
 -- the bindings that an assignment shows
 abbrev pub env_at : (ℕ → Bool) → List (List ℕ × Shape Value) → List Binding
 env_at w [] = []
 env_at w (b ∷ bs) = binding b.0 (at w b.1) ∷ env_at w bs
 
 -- wherever the path condition holds the facet shows the value of the expression
-abbrev pub Means : App → Ctx → State → List (List ℕ × Shape Value) → List (ℕ × Bool) → Expression
-    → Shape Value → Type 0
-Means app ctx s env pc e f = (w : ℕ → Bool) → holds w pc ≡ true
-    → at w f ≡ mean (world_at app ctx s w) e (env_at w env)
+abbrev pub Means : Here → State → List (List ℕ × Shape Value) → Expression → Shape Value → Type 0
+Means here s env e f = (w : ℕ → Bool) → holds w here.pc.now ≡ true
+    → at w f ≡ mean (world_here here s w) e (env_at w env)

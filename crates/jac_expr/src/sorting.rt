@@ -26,6 +26,14 @@ use jac_world::Steps;
 use std::alloc::Global;
 use std::sync::ledger::Ledger;
 
+/// What tuples are put in order by: a field of this binder's records.
+#[derive(Clone, Copy)]
+struct Key<'k> {
+    binders: &'k Binders,
+    name: &'k Txt,
+    field: &'k Txt,
+}
+
 /// The tuples in the order that the query asks for.
 pub(crate) fn sort<K: Keeper, L: Ledger>(
     work: &mut Work<'_, K>,
@@ -46,10 +54,20 @@ pub(crate) fn sort<K: Keeper, L: Ledger>(
     match by {
         Order::Key => Ok(tuples),
         Order::Up(name, field) => {
-            sort_by(work, app, binders, name, field, false, &tuples, splits)
+            let key = Key {
+                binders,
+                name,
+                field,
+            };
+            sort_by(work, app, &key, false, &tuples, splits)
         }
         Order::Down(name, field) => {
-            sort_by(work, app, binders, name, field, true, &tuples, splits)
+            let key = Key {
+                binders,
+                name,
+                field,
+            };
+            sort_by(work, app, &key, true, &tuples, splits)
         }
     }
 }
@@ -58,9 +76,7 @@ pub(crate) fn sort<K: Keeper, L: Ledger>(
 fn sort_by<K: Keeper, L: Ledger>(
     work: &mut Work<'_, K>,
     app: &App,
-    binders: &Binders,
-    name: &Txt,
-    field: &Txt,
+    key: &Key<'_>,
     down: bool,
     tuples: &Tuples,
     splits: &mut Steps<L>,
@@ -68,14 +84,14 @@ fn sort_by<K: Keeper, L: Ledger>(
     requires { IsTrue (K.seen work.old.keeper.now).store.attached }
     ensures sorted { IsTold K.seen work.new → IfOk result (λ ts. (ctx : Context) (w : ℕ → Bool)
         → live w ts ≡ sorted (value_less down)
-        (key_of (world_at app.now ctx (state_of K.seen work.old) w) (binders_of binders.now)
-        name.now field.now) (live w tuples.now)) }
+        (key_of (world_at app.now ctx (state_of K.seen work.old) w) (binders_of key.now.binders.now)
+        key.now.name.now key.now.field.now) (live w tuples.now)) }
     ensures ids { IfOk result (λ ts. (p : List ℕ → Bool) → all_ids p tuples.now ≡ true
         → all_ids p ts ≡ true) }
     ensures reads { ReadsWork K.seen work.old work.new result }
 {
     let all = tuples.as_slice();
-    let keys = keys_of(work, app, binders, name, field, all, splits)?;
+    let keys = keys_of(work, app, key, all, splits)?;
     let sorted = order(work.alloc, tuples, &keys, down, splits)?;
     Ok(sorted)
 }
@@ -84,25 +100,23 @@ fn sort_by<K: Keeper, L: Ledger>(
 fn keys_of<K: Keeper, L: Ledger>(
     work: &mut Work<'_, K>,
     app: &App,
-    binders: &Binders,
-    name: &Txt,
-    field: &Txt,
+    key: &Key<'_>,
     tuples: &[Tuple],
     splits: &mut Steps<L>,
 ) -> Result<Facets<Value>, Stop>
     requires { IsTrue (K.seen work.old.keeper.now).store.attached }
     ensures keys { IsTold K.seen work.new → IfOk result (λ ks. (ctx : Context) (w : ℕ → Bool)
         → marked w tuples.now ks ≡ each_with
-        (key_of (world_at app.now ctx (state_of K.seen work.old) w) (binders_of binders.now)
-        name.now field.now) (live w tuples.now)) }
+        (key_of (world_at app.now ctx (state_of K.seen work.old) w) (binders_of key.now.binders.now)
+        key.now.name.now key.now.field.now) (live w tuples.now)) }
     ensures length { IfOk result (λ ks. length tuples.now ≡ length ks) }
     ensures reads { ReadsWork K.seen work.old work.new result }
 {
-    let model = binder_model(work.alloc, binders, name)?;
+    let model = binder_model(work.alloc, key.binders, key.name)?;
     let mut keys = Vec::new(work.alloc);
     'tuples: for tuple in tuples {
-        let key = key_at(work, app, binders, &model, name, field, tuple, splits)?;
-        keys.push(key)?;
+        let value = key_at(work, app, key, &model, tuple, splits)?;
+        keys.push(value)?;
     }
     Ok(Facets::from_vec(keys))
 }
@@ -111,23 +125,22 @@ fn keys_of<K: Keeper, L: Ledger>(
 fn key_at<K: Keeper, L: Ledger>(
     work: &mut Work<'_, K>,
     app: &App,
-    binders: &Binders,
+    key: &Key<'_>,
     model: &Txt,
-    name: &Txt,
-    field: &Txt,
     tuple: &Tuple,
     splits: &mut Steps<L>,
 ) -> Result<Facet<Value>, Stop>
     requires { IsTrue (K.seen work.old.keeper.now).store.attached }
     ensures key { IsTold K.seen work.new → IfOk result (λ f. (ctx : Context) (w : ℕ → Bool)
         → holds w tuple.now.guard ≡ true
-        → at w f ≡ got (world_at app.now ctx (state_of K.seen work.old) w) model.now field.now
-        (look (bound (binders_of binders.now) tuple.now.ids []) name.now)) }
+        → at w f ≡ got (world_at app.now ctx (state_of K.seen work.old) w) model.now
+        key.now.field.now (look (bound (binders_of key.now.binders.now) tuple.now.ids [])
+        key.now.name.now)) }
     ensures reads { ReadsWork K.seen work.old work.new result }
 {
-    let record = bound_name(work.alloc, binders, tuple, name)?;
-    let key = get(work, app, &tuple.guard, model, field, &record, splits)?;
-    Ok(key)
+    let record = bound_name(work.alloc, key.binders, tuple, key.name)?;
+    let value = get(work, app, &tuple.guard, model, key.field, &record, splits)?;
+    Ok(value)
 }
 
 // The record of the binder of this name.

@@ -17,9 +17,9 @@ use Rattle.jac_plain.specs.Making.{MayRunAll, MayEach}
 use Rattle.jac_plain.specs.Statements.{Setting, Run, world_of, value_in, choose, for_each, leaves_all}
 use Rattle.jac_query.specs.Live.{live}
 use Rattle.jac_query.specs.declared.tuple.Tuple.{Tuple}
-use Rattle.jac_expr.specs.Seen.{env_at, world_at, Means}
+use Rattle.jac_expr.specs.Seen.{env_at, world_at}
 use Rattle.jac_stmt.specs.Runs.{faceted, run_at, setting_at, setting_around, Executes, RanEach, RunsEach, after_each, MayAll, chosen_at, MayChooseAt, bound_at, MayBindAt, live_under}
-use Rattle.jac_stmt.proofs.RunLaws.{value_here, sound_too}
+use Rattle.jac_stmt.proofs.RunLaws.{MeansAt, value_here, sound_too}
 
 -- one value, where the path condition holds
 module _ {X : Type 0} (step : X → Run → Run) (May : X → Run → Type 0) where
@@ -41,7 +41,7 @@ module _ {X : Type 0} (step : X → Run → Run) (May : X → Run → Type 0) wh
 
 pub branches : (app : App) (ctx : Ctx) (e : Expression) (first second : Statements) (pc : List (ℕ × Bool)) (start old new : State) (env env2 : List (List ℕ × Shape Value)) (out out2 : List (List (ℕ × Bool) × Piece))
     (value : Shape Value) (leaves : List (List (ℕ × Bool) × Value))
-    → ctx.this ≡ None → old ≡ start → Means app ctx start env pc e value
+    → ctx.this ≡ None → old ≡ start → MeansAt app ctx start env pc e value
     → ((w : ℕ → Bool) → seen w leaves ≡ (if holds w pc then at w value ∷ [] else []))
     → RunsEach (chosen_at app ctx first second) (MayChooseAt app ctx first second) (λ w. seen w leaves) (faceted old env out) (faceted new env2 out2)
     → Executes app ctx (Statement.branch e first second) pc (faceted start env out) (faceted new env2 out2)

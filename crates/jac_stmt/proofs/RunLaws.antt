@@ -17,12 +17,16 @@ use Rattle.jac_plain.specs.declared.page.Piece.{Piece}
 use Rattle.jac_plain.specs.Expressions.{mean, binding}
 use Rattle.jac_plain.specs.Making.{MayRun, with_env}
 use Rattle.jac_plain.specs.Statements.{Run, value_in, with_piece, cut_to, scoped, assigned, leaves}
-use Rattle.jac_expr.specs.Seen.{env_at, world_at, Means}
+use Rattle.jac_expr.specs.Seen.{env_at, world_at}
 use Rattle.jac_expr.proofs.Names.{env_at-append}
 use Rattle.jac_write.specs.Writes.{PlainTables, numbered, Written, Writes}
 use Rattle.jac_stmt.specs.Pages.{piece_of}
 use Rattle.jac_stmt.specs.Runs.{Faceted, faceted, run_at, setting_at, Ran, Runs, Executes}
 use Rattle.jac_stmt.specs.declared.pieces.Form.{Form}
+
+-- wherever the path condition holds the facet shows the value of the expression
+abbrev pub MeansAt : App → Ctx → State → List (List ℕ × Shape Value) → List (ℕ × Bool) → Expression → Shape Value → Type 0
+MeansAt app ctx s env pc e f = (w : ℕ → Bool) → holds w pc ≡ true → at w f ≡ mean (world_at app ctx s w) e (env_at w env)
 
 -- an expression is read in the run's world, since a statement has no record
 pub value_here : (app : App) (ctx : Ctx) (s : State) (env : List (List ℕ × Shape Value)) (out : List (List (ℕ × Bool) × Piece)) (e : Expression) (w : ℕ → Bool)
@@ -73,7 +77,7 @@ adds_piece app ctx s pc old new env out out2 piece same is added =
 pub adds_value : (app : App) (ctx : Ctx) (form : Form) (s : Statement) (e : Expression) (pc : List (ℕ × Bool)) (old new : State) (env : List (List ℕ × Shape Value)) (out out2 : List (List (ℕ × Bool) × Piece)) (value : Shape Value)
     → ctx.this ≡ None
     → ((w : ℕ → Bool) (r : Run) → leaves (setting_at app ctx w) s r ≡ with_piece (piece_of form (value_in (setting_at app ctx w) e r)) r)
-    → new ≡ old → Means app ctx old env pc e value
+    → new ≡ old → MeansAt app ctx old env pc e value
     → ((w : ℕ → Bool) → seen w out2 ≡ seen w out ++ (if holds w pc then piece_of form (at w value) ∷ [] else []))
     → Executes app ctx s pc (faceted old env out) (faceted new env out2)
 adds_value app ctx form s e pc old new env out out2 value none is same means added =
@@ -90,7 +94,7 @@ env_if true step r changed env2 e is = ap (λ es. with_env es r) e ∙ sym (is r
 env_if false step r changed env2 e is = ap (λ es. with_env es r) e
 
 pub assigns : (app : App) (ctx : Ctx) (name : List ℕ) (e : Expression) (pc : List (ℕ × Bool)) (old new : State) (env env2 : List (List ℕ × Shape Value)) (out : List (List (ℕ × Bool) × Piece)) (value : Shape Value)
-    → ctx.this ≡ None → new ≡ old → Means app ctx old env pc e value
+    → ctx.this ≡ None → new ≡ old → MeansAt app ctx old env pc e value
     → ((w : ℕ → Bool) → env_at w env2 ≡ (if holds w pc then assigned name (at w value) (env_at w env) else env_at w env))
     → Executes app ctx (Statement.assign name e) pc (faceted old env out) (faceted new env2 out)
 assigns app ctx name e pc old new env env2 out value none same means changed =

@@ -22,13 +22,13 @@ use Rattle.jac_plain.specs.Records.{drafted, default_cells, plain_row, shielded,
 use Rattle.jac_plain.specs.Statements.{Run, value_in, around_id, is_kept, with_made, created_cells, created, updated_cells, updated, deleted, leaves, leaves_all}
 use Rattle.jac_plain.specs.World.{record_with}
 use Rattle.jac_plain.proofs.MadeIds.{form_of, form_made}
-use Rattle.jac_expr.specs.Seen.{env_at, world_at, Means}
+use Rattle.jac_expr.specs.Seen.{env_at, world_at}
 use Rattle.jac_expr.specs.Tupled.{all_at}
 use Rattle.jac_write.specs.Writes.{Writes, Creates, fitted_from, tables_made, sets_at, remade_cells, tables_remade}
 use Rattle.jac_stmt.specs.Drafts.{placed_sets}
 use Rattle.jac_stmt.specs.Runs.{faceted, run_at, setting_at, Runs, Executes, named_at, MayNameAt}
 use Rattle.jac_stmt.proofs.DraftLaws.{drafted-placed, is_set-placed}
-use Rattle.jac_stmt.proofs.RunLaws.{value_here, nothing_runs, written_ran, sound_too, write_runs, then_runs}
+use Rattle.jac_stmt.proofs.RunLaws.{MeansAt, value_here, nothing_runs, written_ran, sound_too, write_runs, then_runs}
 
 -- all expressions are read in the run's world
 values_here : (app : App) (ctx : Ctx) (s : State) (env : List (List ℕ × Shape Value)) (out : List (List (ℕ × Bool) × Piece)) (w : ℕ → Bool) → ctx.this ≡ None
@@ -44,7 +44,7 @@ deletes_none app ctx name e pc s env out none =
     (λ w held. ap (λ m. deleted m (value_in (setting_at app ctx w) e (run_at w (faceted s env out))) (run_at w (faceted s env out))) none)
 
 pub deletes : (app : App) (ctx : Ctx) (name : List ℕ) (e : Expression) (pc : List (ℕ × Bool)) (m : ℕ) (start old new : State) (env : List (List ℕ × Shape Value)) (out : List (List (ℕ × Bool) × Piece)) (target : Shape Value)
-    → ctx.this ≡ None → model_place (application_of app).models name ≡ Some m → old ≡ start → Means app ctx start env pc e target
+    → ctx.this ≡ None → model_place (application_of app).models name ≡ Some m → old ≡ start → MeansAt app ctx start env pc e target
     → Writes (λ w. tables_after m (at w target) without) pc old new
     → Executes app ctx (Statement.delete name e) pc (faceted start env out) (faceted new env out)
 deletes app ctx name e pc m start old new env out target none place same means write =
@@ -74,7 +74,7 @@ cells_remade models w m id value_of sets put placed =
 
 pub updates : (app : App) (ctx : Ctx) (name : List ℕ) (e : Expression) (sets : List Assigned) (pc : List (ℕ × Bool)) (m : ℕ) (start old new : State) (env : List (List ℕ × Shape Value)) (out : List (List (ℕ × Bool) × Piece))
     (target : Shape Value) (put : List (ℕ × Shape Value))
-    → ctx.this ≡ None → model_place (application_of app).models name ≡ Some m → old ≡ start → Means app ctx start env pc e target
+    → ctx.this ≡ None → model_place (application_of app).models name ≡ Some m → old ≡ start → MeansAt app ctx start env pc e target
     → ((w : ℕ → Bool) → holds w pc ≡ true → sets_at w put ≡ placed_sets (fields_at (application_of app).models m) (λ x. mean (world_at app ctx start w) x (env_at w env)) sets)
     → Writes (λ w. tables_remade (application_of app).models w m (at w target) (sets_at w put)) pc old new
     → Executes app ctx (Statement.update name e sets) pc (faceted start env out) (faceted new env out)

@@ -18,8 +18,10 @@ use Rattle.jac_plain.specs.Making.{MayRun, MayRunAll, MayChoose, with_env}
 use Rattle.jac_plain.specs.Statements.{Setting, Run, choose, scoped, with_binding, loop_of, leaves, leaves_all}
 use Rattle.jac_query.specs.Live.{live}
 use Rattle.jac_query.specs.declared.tuple.Tuple.{Tuple}
+use Rattle.jac_expr.specs.declared.here.Here.{Here}
 use Rattle.jac_expr.specs.Seen.{env_at}
 use Rattle.jac_write.specs.Writes.{numbered}
+use Rattle.jac_stmt.specs.declared.frame.Frame.{Frame}
 
 -- a run under all assignments: the state of its work, the names in scope, and the pieces under
 -- their guards
@@ -30,6 +32,9 @@ pub record Faceted : Type 0 where
 
 abbrev pub faceted : State → List (List ℕ × Shape Value) → List (List (ℕ × Bool) × Piece) → Faceted
 faceted s env out = record { state = s; env = env; out = out }
+
+abbrev pub run_over : State → Frame → Faceted
+run_over s frame = faceted s frame.env frame.out
 
 -- the run that an assignment shows
 abbrev pub run_at : (ℕ → Bool) → Faceted → Run
@@ -48,6 +53,9 @@ setting_at app ctx w = record {
   number = ctx.number;
   around = ctx.around;
 }
+
+abbrev pub setting_here : Here → (ℕ → Bool) → Setting
+setting_here here w = setting_at here.app.now here.ctx.now w
 
 -- the same for the body of a loop, at one of its answers
 abbrev pub setting_around : App → Ctx → List ℕ → (ℕ → Bool) → Setting
@@ -78,6 +86,13 @@ abbrev pub ExecutesAll : App → Ctx → Statements → List (ℕ × Bool) → F
 ExecutesAll app ctx ss pc old new =
     Runs (λ w. leaves_all (setting_at app ctx w) ss) (λ n w. MayRunAll n (setting_at app ctx w) ss)
     (λ w. holds w pc) old new
+
+-- the same of a statement that stands here
+abbrev pub ExecutesHere : Here → Statement → Faceted → Faceted → Type 0
+ExecutesHere here s old new = Executes here.app.now here.ctx.now s here.pc.now old new
+
+abbrev pub ExecutesAllHere : Here → Statements → Faceted → Faceted → Type 0
+ExecutesAllHere here ss old new = ExecutesAll here.app.now here.ctx.now ss here.pc.now old new
 
 abbrev mutual
   -- no template stands in the statement, and the ids that its creates give are ids

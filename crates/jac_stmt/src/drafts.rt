@@ -1,6 +1,6 @@
 //! The cells that a create or an update sets.
 ghost use Rattle.std.specs.Prelude.{◌≡◌, ◌<◌, ◌≤◌, [], ◌∷◌, ◌++◌, ℕ, Bool, true, length, slice_get, slice_set, Some, All, IfOk, OnOk, IsTrue};
-ghost use Rattle.jac_expr.specs.Seen.{env_at, world_at};
+ghost use Rattle.jac_expr.specs.Seen.{env_at, world_here};
 ghost use Rattle.jac_expr.specs.Tupled.{all_at};
 ghost use Rattle.jac_facet.specs.Shape.{Shape, at};
 ghost use Rattle.jac_keep.specs.Worked.{state_of, IsTold, ReadsWork};
@@ -13,12 +13,12 @@ ghost use Rattle.jac_world.specs.World.{holds};
 ghost use Rattle.jac_write.specs.Writes.{fitted_from, sets_at};
 ghost use Rattle.jac_stmt.specs.Drafts.{placed_sets, put_raw};
 
-use jac_expr::{Ctx, Env, eval};
+use jac_expr::{Env, Here, eval};
 use jac_facet::{Facet, Facets};
 use jac_keep::{Keeper, Stop, Work};
 use jac_lang::{App, ModelDef, Public, Publics, field_of, kind_of};
 use jac_value::{Memory, Value, default_of};
-use jac_world::{Guard, Steps};
+use jac_world::Steps;
 use jac_write::Sets;
 use std::alloc::Global;
 use std::sync::ledger::Ledger;
@@ -26,29 +26,28 @@ use std::sync::ledger::Ledger;
 /// The values that are set, each with its field's number. A field that the model hasn't falls away.
 pub(crate) fn read_sets<K: Keeper, L: Ledger>(
     work: &mut Work<'_, K>,
-    app: &App,
-    ctx: &Ctx,
+    here: &Here<'_>,
     env: &Env,
-    pc: &Guard,
     model: u8,
     cells: &Publics,
     splits: &mut Steps<L>,
 ) -> Result<Sets, Stop>
     requires attached { IsTrue (K.seen work.old.keeper.now).store.attached }
-    requires model { model < length app.now.models }
-    ensures sets { IsTold K.seen work.new → IfOk result (λ s. (w : ℕ → Bool) → holds w pc.now ≡ true
-        → sets_at w s ≡ placed_sets (fields_at (application_of app.now).models model)
-        (λ e. mean (world_at app.now ctx.now (state_of K.seen work.old) w) e (env_at w env.now))
+    requires model { model < length here.now.app.now.models }
+    ensures sets { IsTold K.seen work.new → IfOk result (λ s. (w : ℕ → Bool)
+        → holds w here.now.pc.now ≡ true
+        → sets_at w s ≡ placed_sets (fields_at (application_of here.now.app.now).models model)
+        (λ e. mean (world_here here.now (state_of K.seen work.old) w) e (env_at w env.now))
         (assigned_of cells.now)) }
     ensures fields { IfOk result
-        (λ s. All (λ (x : ℕ × Shape Plain). x.0 < length (fields_at (application_of app.now).models
-        model)) s) }
+        (λ s. All (λ (x : ℕ × Shape Plain). x.0 < length (fields_at
+        (application_of here.now.app.now).models model)) s) }
     ensures reads { ReadsWork K.seen work.old work.new result }
 {
     let mut sets = Vec::new(work.alloc);
     let mut left = cells;
     'cells: while let Publics::More(first, rest) = left {
-        read_set(work, app, ctx, env, pc, model, first, &mut sets, splits)?;
+        read_set(work, here, env, model, first, &mut sets, splits)?;
         left = rest;
     }
     Ok(Sets::from_vec(sets))
@@ -57,33 +56,32 @@ pub(crate) fn read_sets<K: Keeper, L: Ledger>(
 // Adds the value that is set, if the model has the field.
 fn read_set<K: Keeper, L: Ledger>(
     work: &mut Work<'_, K>,
-    app: &App,
-    ctx: &Ctx,
+    here: &Here<'_>,
     env: &Env,
-    pc: &Guard,
     model: u8,
     set: &Public,
     sets: &mut Vec<(u8, Facet<Value>)>,
     splits: &mut Steps<L>,
 ) -> Result<(), Stop>
     requires attached { IsTrue (K.seen work.old.keeper.now).store.attached }
-    requires model { model < length app.now.models }
+    requires model { model < length here.now.app.now.models }
     requires fields { All (λ (x : ℕ × Shape Plain). x.0
-        < length (fields_at (application_of app.now).models model)) sets.old.items }
-    ensures sets { IsTold K.seen work.new → OnOk result ((w : ℕ → Bool) → holds w pc.now ≡ true
+        < length (fields_at (application_of here.now.app.now).models model)) sets.old.items }
+    ensures sets { IsTold K.seen work.new → OnOk result ((w : ℕ → Bool) → holds w here.now.pc.now
+        ≡ true
         → sets_at w sets.new.items ≡ sets_at w sets.old.items ++ placed_sets
-        (fields_at (application_of app.now).models model)
-        (λ e. mean (world_at app.now ctx.now (state_of K.seen work.old) w) e (env_at w env.now))
+        (fields_at (application_of here.now.app.now).models model)
+        (λ e. mean (world_here here.now (state_of K.seen work.old) w) e (env_at w env.now))
         (one_assigned_of set.now ∷ [])) }
     ensures fields { OnOk result
-        (All (λ (x : ℕ × Shape Plain). x.0 < length (fields_at (application_of app.now).models
-        model)) sets.new.items) }
+        (All (λ (x : ℕ × Shape Plain). x.0 < length (fields_at
+        (application_of here.now.app.now).models model)) sets.new.items) }
     ensures reads { ReadsWork K.seen work.old work.new result }
 {
-    let Some(field) = field_of(app, model, &set.field) else {
+    let Some(field) = field_of(here.app, model, &set.field) else {
         return Ok(());
     };
-    let value = eval(work, app, ctx, env, pc, &set.value, splits)?;
+    let value = eval(work, here, env, &set.value, splits)?;
     sets.push((field, value))?;
     Ok(())
 }
@@ -91,28 +89,26 @@ fn read_set<K: Keeper, L: Ledger>(
 /// The cells of a new record: the values that are set, and defaults.
 pub(crate) fn new_cells<K: Keeper, L: Ledger>(
     work: &mut Work<'_, K>,
-    app: &App,
-    ctx: &Ctx,
+    here: &Here<'_>,
     env: &Env,
-    pc: &Guard,
     model: u8,
     cells: &Publics,
     splits: &mut Steps<L>,
 ) -> Result<Facets<Value>, Stop>
     requires attached { IsTrue (K.seen work.old.keeper.now).store.attached }
-    requires model { model < length app.now.models }
-    ensures cells { let models = (application_of app.now).models in IsTold K.seen work.new
-        → IfOk result (λ cs. (w : ℕ → Bool) → holds w pc.now ≡ true
+    requires model { model < length here.now.app.now.models }
+    ensures cells { let models = (application_of here.now.app.now).models in IsTold K.seen work.new
+        → IfOk result (λ cs. (w : ℕ → Bool) → holds w here.now.pc.now ≡ true
         → fitted_from models (fields_at models model) 0 (all_at w cs) ≡ drafted models
-        (fields_at models model) (λ e. mean (world_at app.now ctx.now (state_of K.seen work.old) w)
+        (fields_at models model) (λ e. mean (world_here here.now (state_of K.seen work.old) w)
         e (env_at w env.now)) (assigned_of cells.now)
         (default_cells models (fields_at models model))) }
     ensures each_field { IfOk result (λ cs. length cs
-        ≡ length (fields_at (application_of app.now).models model)) }
+        ≡ length (fields_at (application_of here.now.app.now).models model)) }
     ensures reads { ReadsWork K.seen work.old work.new result }
 {
-    let sets = read_sets(work, app, ctx, env, pc, model, cells, splits)?;
-    let mut made = defaults(work.alloc, app, model)?;
+    let sets = read_sets(work, here, env, model, cells, splits)?;
+    let mut made = defaults(work.alloc, here.app, model)?;
     put_sets(&mut made, sets.into_vec());
     Ok(Facets::from_vec(made))
 }

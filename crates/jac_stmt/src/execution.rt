@@ -12,15 +12,15 @@ ghost use Rattle.jac_plain.specs.Making.{MayCreate, MayRunAll};
 ghost use Rattle.jac_plain.specs.Statements.{created, leaves_all};
 ghost use Rattle.jac_world.specs.World.{holds};
 ghost use Rattle.jac_write.specs.Writes.{StaysTold};
-ghost use Rattle.jac_stmt.specs.Runs.{faceted, setting_at, Executes, ExecutesAll, Runs, RunsEach, IsRunnable, AreRunnable, bound_at, MayBindAt, chosen_at, MayChooseAt, named_at, MayNameAt, live_under};
+ghost use Rattle.jac_stmt.specs.Runs.{faceted, run_over, setting_here, ExecutesHere, ExecutesAllHere, Runs, RunsEach, IsRunnable, AreRunnable, bound_at, MayBindAt, chosen_at, MayChooseAt, named_at, MayNameAt, live_under};
 
-use crate::Out;
+use crate::Frame;
 use crate::assigning::assign;
 use crate::drafts::{new_cells, read_sets};
 use crate::loops::{looped, new_id};
 use crate::memory::from_world;
 use crate::pieces::{Form, add_missing, add_value};
-use jac_expr::{Ctx, Env, bind_tuple, eval, is_true, tuples};
+use jac_expr::{Ctx, Env, Here, bind_tuple, eval, is_true, tuples};
 use jac_facet::Facet;
 use jac_keep::{Keeper, Stop, Work};
 use jac_lang::{App, Binders, Expr, Publics, Query, Stmt, Stmts, model_of};
@@ -30,34 +30,45 @@ use jac_world::{Guard, Steps};
 use jac_write::{create, delete, update};
 use std::sync::ledger::Ledger;
 
+/// A statement that makes a record.
+#[derive(Clone, Copy)]
+struct Creation<'s> {
+    name: &'s Txt,
+    model: &'s Txt,
+    site: u8,
+    cells: &'s Publics,
+    body: &'s Stmts,
+}
+
 /// Runs the statements, one after another, wherever the path condition holds. Elsewhere all stays
 /// as it was. `this` of the context isn't asked: a statement has none. `around` is the record of
 /// the loop that the statements stand in, and none outside of loops. After a refusal the names and
 /// the pieces may hold a part of what was run.
 pub fn exec<K: Keeper, L: Ledger>(
     work: &mut Work<'_, K>,
-    app: &App,
-    ctx: &Ctx,
-    env: &mut Env,
-    out: &mut Out,
-    pc: &Guard,
+    here: &Here<'_>,
+    frame: &mut Frame,
     stmts: &Stmts,
     splits: &mut Steps<L>,
 ) -> Result<(), Stop>
     requires attached { IsTrue (K.seen work.old.keeper.now).store.attached }
     requires tables { IsTrue (K.seen work.old.keeper.now).tells
-        → length app.now.models ≤ length (K.seen work.old.keeper.now).state.tables }
-    requires runnable { AreRunnable ctx.now.number (statements_of stmts.now) }
+        → length here.now.app.now.models ≤ length (K.seen work.old.keeper.now).state.tables }
+    requires runnable { AreRunnable here.now.ctx.now.number (statements_of stmts.now) }
     ensures left { IsTold K.seen work.new
-        → OnOk result (ExecutesAll app.now ctx.now (statements_of stmts.now) pc.now
-        (faceted (state_of K.seen work.old) env.old out.old) (faceted (state_of K.seen work.new)
-        env.new out.new)) }
+        → OnOk result (ExecutesAllHere here.now (statements_of stmts.now)
+        (run_over (state_of K.seen work.old) frame.old)
+        (run_over (state_of K.seen work.new) frame.new)) }
     ensures told { OnOk result (StaysTold K.seen work.old work.new) }
     ensures keeps { WritesWork K.seen work.old work.new result }
 {
     // A statement has no record whose policy is asked.
-    let ctx = Ctx { this: None, ..*ctx };
-    execute_all(work, app, &ctx, env, out, pc, stmts, splits)?;
+    let ctx = Ctx {
+        this: None,
+        ..*here.ctx
+    };
+    let here = Here { ctx: &ctx, ..*here };
+    execute_all(work, &here, frame, stmts, splits)?;
     Ok(())
 }
 
@@ -65,29 +76,26 @@ pub fn exec<K: Keeper, L: Ledger>(
 #[cycle(exec)]
 fn execute_all<K: Keeper, L: Ledger>(
     work: &mut Work<'_, K>,
-    app: &App,
-    ctx: &Ctx,
-    env: &mut Env,
-    out: &mut Out,
-    pc: &Guard,
+    here: &Here<'_>,
+    frame: &mut Frame,
     stmts: &Stmts,
     splits: &mut Steps<L>,
 ) -> Result<(), Stop>
     requires attached { IsTrue (K.seen work.old.keeper.now).store.attached }
     requires tables { IsTrue (K.seen work.old.keeper.now).tells
-        → length app.now.models ≤ length (K.seen work.old.keeper.now).state.tables }
-    requires no_record { ctx.now.this ≡ None }
-    requires runnable { AreRunnable ctx.now.number (statements_of stmts.now) }
+        → length here.now.app.now.models ≤ length (K.seen work.old.keeper.now).state.tables }
+    requires no_record { here.now.ctx.now.this ≡ None }
+    requires runnable { AreRunnable here.now.ctx.now.number (statements_of stmts.now) }
     ensures left { IsTold K.seen work.new
-        → OnOk result (ExecutesAll app.now ctx.now (statements_of stmts.now) pc.now
-        (faceted (state_of K.seen work.old) env.old out.old) (faceted (state_of K.seen work.new)
-        env.new out.new)) }
+        → OnOk result (ExecutesAllHere here.now (statements_of stmts.now)
+        (run_over (state_of K.seen work.old) frame.old)
+        (run_over (state_of K.seen work.new) frame.new)) }
     ensures told { OnOk result (StaysTold K.seen work.old work.new) }
     ensures keeps { WritesWork K.seen work.old work.new result }
 {
     let mut left = stmts;
     'body: while let Stmts::More(first, rest) = left {
-        execute(work, app, ctx, env, out, pc, first, splits)?;
+        execute(work, here, frame, first, splits)?;
         left = rest;
     }
     Ok(())
@@ -97,37 +105,30 @@ fn execute_all<K: Keeper, L: Ledger>(
 #[cycle(exec)]
 fn execute<K: Keeper, L: Ledger>(
     work: &mut Work<'_, K>,
-    app: &App,
-    ctx: &Ctx,
-    env: &mut Env,
-    out: &mut Out,
-    pc: &Guard,
+    here: &Here<'_>,
+    frame: &mut Frame,
     stmt: &Stmt,
     splits: &mut Steps<L>,
 ) -> Result<(), Stop>
     requires attached { IsTrue (K.seen work.old.keeper.now).store.attached }
     requires tables { IsTrue (K.seen work.old.keeper.now).tells
-        → length app.now.models ≤ length (K.seen work.old.keeper.now).state.tables }
-    requires no_record { ctx.now.this ≡ None }
-    requires runnable { IsRunnable ctx.now.number (statement_of stmt.now) }
+        → length here.now.app.now.models ≤ length (K.seen work.old.keeper.now).state.tables }
+    requires no_record { here.now.ctx.now.this ≡ None }
+    requires runnable { IsRunnable here.now.ctx.now.number (statement_of stmt.now) }
     ensures left { IsTold K.seen work.new
-        → OnOk result (Executes app.now ctx.now (statement_of stmt.now) pc.now
-        (faceted (state_of K.seen work.old) env.old out.old) (faceted (state_of K.seen work.new)
-        env.new out.new)) }
+        → OnOk result (ExecutesHere here.now (statement_of stmt.now)
+        (run_over (state_of K.seen work.old) frame.old)
+        (run_over (state_of K.seen work.new) frame.new)) }
     ensures told { OnOk result (StaysTold K.seen work.old work.new) }
     ensures keeps { WritesWork K.seen work.old work.new result }
 {
     match stmt {
-        Stmt::Put(e) => execute_put(work, app, ctx, env, out, pc, e, splits),
-        Stmt::Esc(e) => execute_escape(work, app, ctx, env, out, pc, e, splits),
-        Stmt::Let(name, e, body) => {
-            execute_let(work, app, ctx, env, out, pc, name, e, body, splits)
-        }
-        Stmt::Assign(name, e) => { execute_assign(work, app, ctx, env, out, pc, name, e, splits) }
-        Stmt::If(c, first, second) => {
-            execute_if(work, app, ctx, env, out, pc, c, first, second, splits)
-        }
-        Stmt::For(query, body) => { execute_for(work, app, ctx, env, out, pc, query, body, splits) }
+        Stmt::Put(e) => execute_put(work, here, frame, e, splits),
+        Stmt::Esc(e) => execute_escape(work, here, frame, e, splits),
+        Stmt::Let(name, e, body) => { execute_let(work, here, frame, name, e, body, splits) }
+        Stmt::Assign(name, e) => { execute_assign(work, here, frame, name, e, splits) }
+        Stmt::If(c, first, second) => { execute_if(work, here, frame, c, first, second, splits) }
+        Stmt::For(query, body) => { execute_for(work, here, frame, query, body, splits) }
         Stmt::Create {
             name,
             model,
@@ -135,145 +136,135 @@ fn execute<K: Keeper, L: Ledger>(
             cells,
             body,
         } => {
-            execute_create(
-                work, app, ctx, env, out, pc, name, model, *site, cells, body, splits,
-            )
+            let creation = Creation {
+                name,
+                model,
+                site: *site,
+                cells,
+                body,
+            };
+            execute_create(work, here, frame, &creation, splits)
         }
         Stmt::Update(model, e, cells) => {
-            execute_update(work, app, ctx, env, pc, model, e, cells, splits)?;
+            execute_update(work, here, &frame.env, model, e, cells, splits)?;
             Ok(())
         }
         Stmt::Delete(model, e) => {
-            execute_delete(work, app, ctx, env, pc, model, e, splits)?;
+            execute_delete(work, here, &frame.env, model, e, splits)?;
             Ok(())
         }
-        Stmt::Missing => execute_missing(work, app, ctx, env, out, pc, splits),
-        Stmt::Redirect(e) => execute_redirect(work, app, ctx, env, out, pc, e, splits),
+        Stmt::Missing => execute_missing(work, here, frame, splits),
+        Stmt::Redirect(e) => execute_redirect(work, here, frame, e, splits),
         Stmt::Template(_) => unreachable!(),
-        Stmt::Block(body) => execute_all(work, app, ctx, env, out, pc, body, splits),
+        Stmt::Block(body) => execute_all(work, here, frame, body, splits),
     }
 }
 
 // Adds the text of the value to the page.
 fn execute_put<K: Keeper, L: Ledger>(
     work: &mut Work<'_, K>,
-    app: &App,
-    ctx: &Ctx,
-    env: &Env,
-    out: &mut Out,
-    pc: &Guard,
+    here: &Here<'_>,
+    frame: &mut Frame,
     e: &Expr,
     splits: &mut Steps<L>,
 ) -> Result<(), Stop>
     requires attached { IsTrue (K.seen work.old.keeper.now).store.attached }
-    requires no_record { ctx.now.this ≡ None }
+    requires no_record { here.now.ctx.now.this ≡ None }
     ensures left { IsTold K.seen work.new
-        → OnOk result (Executes app.now ctx.now (Statement.put (expression_of e.now)) pc.now
-        (faceted (state_of K.seen work.old) env.now out.old) (faceted (state_of K.seen work.new)
-        env.now out.new)) }
+        → OnOk result (ExecutesHere here.now (Statement.put (expression_of e.now))
+        (run_over (state_of K.seen work.old) frame.old)
+        (run_over (state_of K.seen work.new) frame.new)) }
     ensures told { OnOk result (StaysTold K.seen work.old work.new) }
     ensures keeps { WritesWork K.seen work.old work.new result }
 {
-    let value = eval(work, app, ctx, env, pc, e, splits)?;
-    add_value(work.alloc, out, pc, &value, Form::Text)?;
+    let value = eval(work, here, &frame.env, e, splits)?;
+    add_value(work.alloc, &mut frame.out, here.pc, &value, Form::Text)?;
     Ok(())
 }
 
 // Adds the HTML escape of the value's text.
 fn execute_escape<K: Keeper, L: Ledger>(
     work: &mut Work<'_, K>,
-    app: &App,
-    ctx: &Ctx,
-    env: &Env,
-    out: &mut Out,
-    pc: &Guard,
+    here: &Here<'_>,
+    frame: &mut Frame,
     e: &Expr,
     splits: &mut Steps<L>,
 ) -> Result<(), Stop>
     requires attached { IsTrue (K.seen work.old.keeper.now).store.attached }
-    requires no_record { ctx.now.this ≡ None }
+    requires no_record { here.now.ctx.now.this ≡ None }
     ensures left { IsTold K.seen work.new
-        → OnOk result (Executes app.now ctx.now (Statement.escape (expression_of e.now)) pc.now
-        (faceted (state_of K.seen work.old) env.now out.old) (faceted (state_of K.seen work.new)
-        env.now out.new)) }
+        → OnOk result (ExecutesHere here.now (Statement.escape (expression_of e.now))
+        (run_over (state_of K.seen work.old) frame.old)
+        (run_over (state_of K.seen work.new) frame.new)) }
     ensures told { OnOk result (StaysTold K.seen work.old work.new) }
     ensures keeps { WritesWork K.seen work.old work.new result }
 {
-    let value = eval(work, app, ctx, env, pc, e, splits)?;
-    add_value(work.alloc, out, pc, &value, Form::Escaped)?;
+    let value = eval(work, here, &frame.env, e, splits)?;
+    add_value(work.alloc, &mut frame.out, here.pc, &value, Form::Escaped)?;
     Ok(())
 }
 
 // Leads to the value's text.
 fn execute_redirect<K: Keeper, L: Ledger>(
     work: &mut Work<'_, K>,
-    app: &App,
-    ctx: &Ctx,
-    env: &Env,
-    out: &mut Out,
-    pc: &Guard,
+    here: &Here<'_>,
+    frame: &mut Frame,
     e: &Expr,
     splits: &mut Steps<L>,
 ) -> Result<(), Stop>
     requires attached { IsTrue (K.seen work.old.keeper.now).store.attached }
-    requires no_record { ctx.now.this ≡ None }
+    requires no_record { here.now.ctx.now.this ≡ None }
     ensures left { IsTold K.seen work.new
-        → OnOk result (Executes app.now ctx.now (Statement.redirect (expression_of e.now)) pc.now
-        (faceted (state_of K.seen work.old) env.now out.old) (faceted (state_of K.seen work.new)
-        env.now out.new)) }
+        → OnOk result (ExecutesHere here.now (Statement.redirect (expression_of e.now))
+        (run_over (state_of K.seen work.old) frame.old)
+        (run_over (state_of K.seen work.new) frame.new)) }
     ensures told { OnOk result (StaysTold K.seen work.old work.new) }
     ensures keeps { WritesWork K.seen work.old work.new result }
 {
-    let value = eval(work, app, ctx, env, pc, e, splits)?;
-    add_value(work.alloc, out, pc, &value, Form::Location)?;
+    let value = eval(work, here, &frame.env, e, splits)?;
+    add_value(work.alloc, &mut frame.out, here.pc, &value, Form::Location)?;
     Ok(())
 }
 
 // Makes the page one that isn't there.
 fn execute_missing<K: Keeper, L: Ledger>(
     work: &mut Work<'_, K>,
-    app: &App,
-    ctx: &Ctx,
-    env: &Env,
-    out: &mut Out,
-    pc: &Guard,
+    here: &Here<'_>,
+    frame: &mut Frame,
     splits: &mut Steps<L>,
 ) -> Result<(), Stop>
     ensures left { IsTold K.seen work.new
-        → OnOk result (Executes app.now ctx.now Statement.missing pc.now
-        (faceted (state_of K.seen work.old) env.now out.old) (faceted (state_of K.seen work.new)
-        env.now out.new)) }
+        → OnOk result (ExecutesHere here.now Statement.missing
+        (run_over (state_of K.seen work.old) frame.old)
+        (run_over (state_of K.seen work.new) frame.new)) }
     ensures told { OnOk result (StaysTold K.seen work.old work.new) }
     ensures keeps { WritesWork K.seen work.old work.new result }
 {
     let _ = work;
-    add_missing(work.alloc, out, pc)?;
+    add_missing(work.alloc, &mut frame.out, here.pc)?;
     Ok(())
 }
 
 // Changes the innermost binding of the name.
 fn execute_assign<K: Keeper, L: Ledger>(
     work: &mut Work<'_, K>,
-    app: &App,
-    ctx: &Ctx,
-    env: &mut Env,
-    out: &mut Out,
-    pc: &Guard,
+    here: &Here<'_>,
+    frame: &mut Frame,
     name: &Txt,
     e: &Expr,
     splits: &mut Steps<L>,
 ) -> Result<(), Stop>
     requires attached { IsTrue (K.seen work.old.keeper.now).store.attached }
-    requires no_record { ctx.now.this ≡ None }
+    requires no_record { here.now.ctx.now.this ≡ None }
     ensures left { IsTold K.seen work.new
-        → OnOk result (Executes app.now ctx.now (Statement.assign name.now (expression_of e.now))
-        pc.now (faceted (state_of K.seen work.old) env.old out.old)
-        (faceted (state_of K.seen work.new) env.new out.new)) }
+        → OnOk result (ExecutesHere here.now (Statement.assign name.now (expression_of e.now))
+        (run_over (state_of K.seen work.old) frame.old)
+        (run_over (state_of K.seen work.new) frame.new)) }
     ensures told { OnOk result (StaysTold K.seen work.old work.new) }
     ensures keeps { WritesWork K.seen work.old work.new result }
 {
-    let value = eval(work, app, ctx, env, pc, e, splits)?;
-    assign(work.alloc, env, pc, name, &value, splits)?;
+    let value = eval(work, here, &frame.env, e, splits)?;
+    assign(work.alloc, &mut frame.env, here.pc, name, &value, splits)?;
     Ok(())
 }
 
@@ -281,11 +272,8 @@ fn execute_assign<K: Keeper, L: Ledger>(
 #[cycle(exec)]
 fn execute_let<K: Keeper, L: Ledger>(
     work: &mut Work<'_, K>,
-    app: &App,
-    ctx: &Ctx,
-    env: &mut Env,
-    out: &mut Out,
-    pc: &Guard,
+    here: &Here<'_>,
+    frame: &mut Frame,
     name: &Txt,
     e: &Expr,
     body: &Stmts,
@@ -293,18 +281,18 @@ fn execute_let<K: Keeper, L: Ledger>(
 ) -> Result<(), Stop>
     requires attached { IsTrue (K.seen work.old.keeper.now).store.attached }
     requires tables { IsTrue (K.seen work.old.keeper.now).tells
-        → length app.now.models ≤ length (K.seen work.old.keeper.now).state.tables }
-    requires no_record { ctx.now.this ≡ None }
-    requires runnable { AreRunnable ctx.now.number (statements_of body.now) }
+        → length here.now.app.now.models ≤ length (K.seen work.old.keeper.now).state.tables }
+    requires no_record { here.now.ctx.now.this ≡ None }
+    requires runnable { AreRunnable here.now.ctx.now.number (statements_of body.now) }
     ensures left { IsTold K.seen work.new
-        → OnOk result (Executes app.now ctx.now (Statement.bind name.now (expression_of e.now)
-        (statements_of body.now)) pc.now (faceted (state_of K.seen work.old) env.old out.old)
-        (faceted (state_of K.seen work.new) env.new out.new)) }
+        → OnOk result (ExecutesHere here.now (Statement.bind name.now (expression_of e.now)
+        (statements_of body.now)) (run_over (state_of K.seen work.old) frame.old)
+        (run_over (state_of K.seen work.new) frame.new)) }
     ensures told { OnOk result (StaysTold K.seen work.old work.new) }
     ensures keeps { WritesWork K.seen work.old work.new result }
 {
-    let value = eval(work, app, ctx, env, pc, e, splits)?;
-    execute_named(work, app, ctx, env, out, pc, name, value, body, splits)?;
+    let value = eval(work, here, &frame.env, e, splits)?;
+    execute_named(work, here, frame, name, value, body, splits)?;
     Ok(())
 }
 
@@ -312,11 +300,8 @@ fn execute_let<K: Keeper, L: Ledger>(
 #[cycle(exec)]
 fn execute_named<K: Keeper, L: Ledger>(
     work: &mut Work<'_, K>,
-    app: &App,
-    ctx: &Ctx,
-    env: &mut Env,
-    out: &mut Out,
-    pc: &Guard,
+    here: &Here<'_>,
+    frame: &mut Frame,
     name: &Txt,
     value: Facet<Value>,
     body: &Stmts,
@@ -324,22 +309,23 @@ fn execute_named<K: Keeper, L: Ledger>(
 ) -> Result<(), Stop>
     requires attached { IsTrue (K.seen work.old.keeper.now).store.attached }
     requires tables { IsTrue (K.seen work.old.keeper.now).tells
-        → length app.now.models ≤ length (K.seen work.old.keeper.now).state.tables }
-    requires no_record { ctx.now.this ≡ None }
-    requires runnable { AreRunnable ctx.now.number (statements_of body.now) }
+        → length here.now.app.now.models ≤ length (K.seen work.old.keeper.now).state.tables }
+    requires no_record { here.now.ctx.now.this ≡ None }
+    requires runnable { AreRunnable here.now.ctx.now.number (statements_of body.now) }
     ensures left { IsTold K.seen work.new
-        → OnOk result (Runs (named_at app.now ctx.now name.now (λ w. at w value)
-        (statements_of body.now)) (MayNameAt app.now ctx.now name.now (λ w. at w value)
-        (statements_of body.now)) (λ w. holds w pc.now) (faceted (state_of K.seen work.old) env.old
-        out.old) (faceted (state_of K.seen work.new) env.new out.new)) }
+        → OnOk result (Runs (named_at here.now.app.now here.now.ctx.now name.now (λ w. at w value)
+        (statements_of body.now)) (MayNameAt here.now.app.now here.now.ctx.now name.now
+        (λ w. at w value) (statements_of body.now)) (λ w. holds w here.now.pc.now)
+        (run_over (state_of K.seen work.old) frame.old)
+        (run_over (state_of K.seen work.new) frame.new)) }
     ensures told { OnOk result (StaysTold K.seen work.old work.new) }
     ensures keeps { WritesWork K.seen work.old work.new result }
 {
-    let outer = env.as_slice().len();
+    let outer = frame.env.as_slice().len();
     let name = name.copy(work.alloc)?;
-    env.push(name, value)?;
-    execute_all(work, app, ctx, env, out, pc, body, splits)?;
-    env.cut(outer);
+    frame.env.push(name, value)?;
+    execute_all(work, here, frame, body, splits)?;
+    frame.env.cut(outer);
     Ok(())
 }
 
@@ -348,11 +334,8 @@ fn execute_named<K: Keeper, L: Ledger>(
 #[cycle(exec)]
 fn execute_if<K: Keeper, L: Ledger>(
     work: &mut Work<'_, K>,
-    app: &App,
-    ctx: &Ctx,
-    env: &mut Env,
-    out: &mut Out,
-    pc: &Guard,
+    here: &Here<'_>,
+    frame: &mut Frame,
     c: &Expr,
     first: &Stmts,
     second: &Stmts,
@@ -360,22 +343,22 @@ fn execute_if<K: Keeper, L: Ledger>(
 ) -> Result<(), Stop>
     requires attached { IsTrue (K.seen work.old.keeper.now).store.attached }
     requires tables { IsTrue (K.seen work.old.keeper.now).tells
-        → length app.now.models ≤ length (K.seen work.old.keeper.now).state.tables }
-    requires no_record { ctx.now.this ≡ None }
-    requires first { AreRunnable ctx.now.number (statements_of first.now) }
-    requires second { AreRunnable ctx.now.number (statements_of second.now) }
+        → length here.now.app.now.models ≤ length (K.seen work.old.keeper.now).state.tables }
+    requires no_record { here.now.ctx.now.this ≡ None }
+    requires first { AreRunnable here.now.ctx.now.number (statements_of first.now) }
+    requires second { AreRunnable here.now.ctx.now.number (statements_of second.now) }
     ensures left { IsTold K.seen work.new
-        → OnOk result (Executes app.now ctx.now (Statement.branch (expression_of c.now)
-        (statements_of first.now) (statements_of second.now)) pc.now
-        (faceted (state_of K.seen work.old) env.old out.old) (faceted (state_of K.seen work.new)
-        env.new out.new)) }
+        → OnOk result (ExecutesHere here.now (Statement.branch (expression_of c.now)
+        (statements_of first.now) (statements_of second.now))
+        (run_over (state_of K.seen work.old) frame.old)
+        (run_over (state_of K.seen work.new) frame.new)) }
     ensures told { OnOk result (StaysTold K.seen work.old work.new) }
     ensures keeps { WritesWork K.seen work.old work.new result }
 {
-    let condition = eval(work, app, ctx, env, pc, c, splits)?;
-    let leaves = condition.leaves_under(work.alloc, pc)?;
+    let condition = eval(work, here, &frame.env, c, splits)?;
+    let leaves = condition.leaves_under(work.alloc, here.pc)?;
     let leaves = leaves.as_slice();
-    execute_leaves(work, app, ctx, env, out, leaves, first, second, splits)?;
+    execute_leaves(work, here, frame, leaves, first, second, splits)?;
     Ok(())
 }
 
@@ -383,10 +366,8 @@ fn execute_if<K: Keeper, L: Ledger>(
 #[cycle(exec)]
 fn execute_leaves<K: Keeper, L: Ledger>(
     work: &mut Work<'_, K>,
-    app: &App,
-    ctx: &Ctx,
-    env: &mut Env,
-    out: &mut Out,
+    here: &Here<'_>,
+    frame: &mut Frame,
     leaves: &[(Guard, Value)],
     first: &Stmts,
     second: &Stmts,
@@ -394,22 +375,26 @@ fn execute_leaves<K: Keeper, L: Ledger>(
 ) -> Result<(), Stop>
     requires attached { IsTrue (K.seen work.old.keeper.now).store.attached }
     requires tables { IsTrue (K.seen work.old.keeper.now).tells
-        → length app.now.models ≤ length (K.seen work.old.keeper.now).state.tables }
-    requires no_record { ctx.now.this ≡ None }
-    requires first { AreRunnable ctx.now.number (statements_of first.now) }
-    requires second { AreRunnable ctx.now.number (statements_of second.now) }
+        → length here.now.app.now.models ≤ length (K.seen work.old.keeper.now).state.tables }
+    requires no_record { here.now.ctx.now.this ≡ None }
+    requires first { AreRunnable here.now.ctx.now.number (statements_of first.now) }
+    requires second { AreRunnable here.now.ctx.now.number (statements_of second.now) }
     ensures left { IsTold K.seen work.new
-        → OnOk result (RunsEach (chosen_at app.now ctx.now (statements_of first.now)
-        (statements_of second.now)) (MayChooseAt app.now ctx.now (statements_of first.now)
-        (statements_of second.now)) (λ w. seen w leaves.now) (faceted (state_of K.seen work.old)
-        env.old out.old) (faceted (state_of K.seen work.new) env.new out.new)) }
+        → OnOk result (RunsEach (chosen_at here.now.app.now here.now.ctx.now
+        (statements_of first.now) (statements_of second.now))
+        (MayChooseAt here.now.app.now here.now.ctx.now (statements_of first.now)
+        (statements_of second.now)) (λ w. seen w leaves.now)
+        (run_over (state_of K.seen work.old) frame.old)
+        (run_over (state_of K.seen work.new) frame.new)) }
     ensures told { OnOk result (StaysTold K.seen work.old work.new) }
     ensures keeps { WritesWork K.seen work.old work.new result }
 {
     'leaves: for leaf in leaves {
-        execute_leaf(
-            work, app, ctx, env, out, &leaf.0, &leaf.1, first, second, splits,
-        )?;
+        let inside = Here {
+            pc: &leaf.0,
+            ..*here
+        };
+        execute_leaf(work, &inside, frame, &leaf.1, first, second, splits)?;
     }
     Ok(())
 }
@@ -418,11 +403,8 @@ fn execute_leaves<K: Keeper, L: Ledger>(
 #[cycle(exec)]
 fn execute_leaf<K: Keeper, L: Ledger>(
     work: &mut Work<'_, K>,
-    app: &App,
-    ctx: &Ctx,
-    env: &mut Env,
-    out: &mut Out,
-    pc: &Guard,
+    here: &Here<'_>,
+    frame: &mut Frame,
     value: &Value,
     first: &Stmts,
     second: &Stmts,
@@ -430,24 +412,25 @@ fn execute_leaf<K: Keeper, L: Ledger>(
 ) -> Result<(), Stop>
     requires attached { IsTrue (K.seen work.old.keeper.now).store.attached }
     requires tables { IsTrue (K.seen work.old.keeper.now).tells
-        → length app.now.models ≤ length (K.seen work.old.keeper.now).state.tables }
-    requires no_record { ctx.now.this ≡ None }
-    requires first { AreRunnable ctx.now.number (statements_of first.now) }
-    requires second { AreRunnable ctx.now.number (statements_of second.now) }
+        → length here.now.app.now.models ≤ length (K.seen work.old.keeper.now).state.tables }
+    requires no_record { here.now.ctx.now.this ≡ None }
+    requires first { AreRunnable here.now.ctx.now.number (statements_of first.now) }
+    requires second { AreRunnable here.now.ctx.now.number (statements_of second.now) }
     ensures left { IsTold K.seen work.new
-        → OnOk result (Runs (λ w. chosen_at app.now ctx.now (statements_of first.now)
-        (statements_of second.now) w value.now) (λ n w. MayChooseAt app.now ctx.now
-        (statements_of first.now) (statements_of second.now) n w value.now) (λ w. holds w pc.now)
-        (faceted (state_of K.seen work.old) env.old out.old) (faceted (state_of K.seen work.new)
-        env.new out.new)) }
+        → OnOk result (Runs (λ w. chosen_at here.now.app.now here.now.ctx.now
+        (statements_of first.now) (statements_of second.now) w value.now)
+        (λ n w. MayChooseAt here.now.app.now here.now.ctx.now (statements_of first.now)
+        (statements_of second.now) n w value.now) (λ w. holds w here.now.pc.now)
+        (run_over (state_of K.seen work.old) frame.old)
+        (run_over (state_of K.seen work.new) frame.new)) }
     ensures told { OnOk result (StaysTold K.seen work.old work.new) }
     ensures keeps { WritesWork K.seen work.old work.new result }
 {
     if is_true(value) {
-        execute_all(work, app, ctx, env, out, pc, first, splits)?;
+        execute_all(work, here, frame, first, splits)?;
         return Ok(());
     }
-    execute_all(work, app, ctx, env, out, pc, second, splits)?;
+    execute_all(work, here, frame, second, splits)?;
     Ok(())
 }
 
@@ -455,31 +438,28 @@ fn execute_leaf<K: Keeper, L: Ledger>(
 #[cycle(exec)]
 fn execute_for<K: Keeper, L: Ledger>(
     work: &mut Work<'_, K>,
-    app: &App,
-    ctx: &Ctx,
-    env: &mut Env,
-    out: &mut Out,
-    pc: &Guard,
+    here: &Here<'_>,
+    frame: &mut Frame,
     query: &Query,
     body: &Stmts,
     splits: &mut Steps<L>,
 ) -> Result<(), Stop>
     requires attached { IsTrue (K.seen work.old.keeper.now).store.attached }
     requires tables { IsTrue (K.seen work.old.keeper.now).tells
-        → length app.now.models ≤ length (K.seen work.old.keeper.now).state.tables }
-    requires no_record { ctx.now.this ≡ None }
-    requires runnable { AreRunnable ctx.now.number (statements_of body.now) }
+        → length here.now.app.now.models ≤ length (K.seen work.old.keeper.now).state.tables }
+    requires no_record { here.now.ctx.now.this ≡ None }
+    requires runnable { AreRunnable here.now.ctx.now.number (statements_of body.now) }
     ensures left { IsTold K.seen work.new
-        → OnOk result (Executes app.now ctx.now (Statement.each (question_of query.now)
-        (statements_of body.now)) pc.now (faceted (state_of K.seen work.old) env.old out.old)
-        (faceted (state_of K.seen work.new) env.new out.new)) }
+        → OnOk result (ExecutesHere here.now (Statement.each (question_of query.now)
+        (statements_of body.now)) (run_over (state_of K.seen work.old) frame.old)
+        (run_over (state_of K.seen work.new) frame.new)) }
     ensures told { OnOk result (StaysTold K.seen work.old work.new) }
     ensures keeps { WritesWork K.seen work.old work.new result }
 {
-    let answers = tuples(work, app, ctx, env, pc, query, splits)?;
+    let answers = tuples(work, here, &frame.env, query, splits)?;
     let binders = &query.binders;
     let answers = answers.as_slice();
-    execute_tuples(work, app, ctx, env, out, pc, binders, answers, body, splits)?;
+    execute_tuples(work, here, frame, binders, answers, body, splits)?;
     Ok(())
 }
 
@@ -487,11 +467,8 @@ fn execute_for<K: Keeper, L: Ledger>(
 #[cycle(exec)]
 fn execute_tuples<K: Keeper, L: Ledger>(
     work: &mut Work<'_, K>,
-    app: &App,
-    ctx: &Ctx,
-    env: &mut Env,
-    out: &mut Out,
-    pc: &Guard,
+    here: &Here<'_>,
+    frame: &mut Frame,
     binders: &Binders,
     tuples: &[Tuple],
     body: &Stmts,
@@ -499,19 +476,20 @@ fn execute_tuples<K: Keeper, L: Ledger>(
 ) -> Result<(), Stop>
     requires attached { IsTrue (K.seen work.old.keeper.now).store.attached }
     requires tables { IsTrue (K.seen work.old.keeper.now).tells
-        → length app.now.models ≤ length (K.seen work.old.keeper.now).state.tables }
-    requires no_record { ctx.now.this ≡ None }
-    requires runnable { AreRunnable ctx.now.number (statements_of body.now) }
+        → length here.now.app.now.models ≤ length (K.seen work.old.keeper.now).state.tables }
+    requires no_record { here.now.ctx.now.this ≡ None }
+    requires runnable { AreRunnable here.now.ctx.now.number (statements_of body.now) }
     ensures left { IsTold K.seen work.new
-        → OnOk result (RunsEach (bound_at app.now ctx.now (binders_of binders.now)
-        (statements_of body.now)) (MayBindAt app.now ctx.now (binders_of binders.now)
-        (statements_of body.now)) (live_under pc.now tuples.now) (faceted (state_of K.seen work.old)
-        env.old out.old) (faceted (state_of K.seen work.new) env.new out.new)) }
+        → OnOk result (RunsEach (bound_at here.now.app.now here.now.ctx.now (binders_of binders.now)
+        (statements_of body.now)) (MayBindAt here.now.app.now here.now.ctx.now
+        (binders_of binders.now) (statements_of body.now)) (live_under here.now.pc.now tuples.now)
+        (run_over (state_of K.seen work.old) frame.old)
+        (run_over (state_of K.seen work.new) frame.new)) }
     ensures told { OnOk result (StaysTold K.seen work.old work.new) }
     ensures keeps { WritesWork K.seen work.old work.new result }
 {
     'tuples: for tuple in tuples {
-        execute_tuple(work, app, ctx, env, out, pc, binders, tuple, body, splits)?;
+        execute_tuple(work, here, frame, binders, tuple, body, splits)?;
     }
     Ok(())
 }
@@ -520,11 +498,8 @@ fn execute_tuples<K: Keeper, L: Ledger>(
 #[cycle(exec)]
 fn execute_tuple<K: Keeper, L: Ledger>(
     work: &mut Work<'_, K>,
-    app: &App,
-    ctx: &Ctx,
-    env: &mut Env,
-    out: &mut Out,
-    pc: &Guard,
+    here: &Here<'_>,
+    frame: &mut Frame,
     binders: &Binders,
     tuple: &Tuple,
     body: &Stmts,
@@ -532,25 +507,28 @@ fn execute_tuple<K: Keeper, L: Ledger>(
 ) -> Result<(), Stop>
     requires attached { IsTrue (K.seen work.old.keeper.now).store.attached }
     requires tables { IsTrue (K.seen work.old.keeper.now).tells
-        → length app.now.models ≤ length (K.seen work.old.keeper.now).state.tables }
-    requires no_record { ctx.now.this ≡ None }
-    requires runnable { AreRunnable ctx.now.number (statements_of body.now) }
+        → length here.now.app.now.models ≤ length (K.seen work.old.keeper.now).state.tables }
+    requires no_record { here.now.ctx.now.this ≡ None }
+    requires runnable { AreRunnable here.now.ctx.now.number (statements_of body.now) }
     ensures left { IsTold K.seen work.new
-        → OnOk result (Runs (λ w. bound_at app.now ctx.now (binders_of binders.now)
-        (statements_of body.now) w tuple.now.ids) (λ n w. MayBindAt app.now ctx.now
-        (binders_of binders.now) (statements_of body.now) n w tuple.now.ids)
-        (λ w. holds w pc.now && holds w tuple.now.guard) (faceted (state_of K.seen work.old) env.old
-        out.old) (faceted (state_of K.seen work.new) env.new out.new)) }
+        → OnOk result (Runs (λ w. bound_at here.now.app.now here.now.ctx.now
+        (binders_of binders.now) (statements_of body.now) w tuple.now.ids)
+        (λ n w. MayBindAt here.now.app.now here.now.ctx.now (binders_of binders.now)
+        (statements_of body.now) n w tuple.now.ids) (λ w. holds w here.now.pc.now && holds w
+        tuple.now.guard) (run_over (state_of K.seen work.old) frame.old)
+        (run_over (state_of K.seen work.new) frame.new)) }
     ensures told { OnOk result (StaysTold K.seen work.old work.new) }
     ensures keeps { WritesWork K.seen work.old work.new result }
 {
-    match from_world(pc.meet(work.alloc, &tuple.guard))? {
+    match from_world(here.pc.meet(work.alloc, &tuple.guard))? {
         None => Ok(()),
         Some(within) => {
+            let inside = Here {
+                pc: &within,
+                ..*here
+            };
             let ids = &tuple.ids;
-            execute_bound(
-                work, app, ctx, env, out, &within, binders, ids, body, splits,
-            )?;
+            execute_bound(work, &inside, frame, binders, ids, body, splits)?;
             Ok(())
         }
     }
@@ -560,11 +538,8 @@ fn execute_tuple<K: Keeper, L: Ledger>(
 #[cycle(exec)]
 fn execute_bound<K: Keeper, L: Ledger>(
     work: &mut Work<'_, K>,
-    app: &App,
-    ctx: &Ctx,
-    env: &mut Env,
-    out: &mut Out,
-    pc: &Guard,
+    here: &Here<'_>,
+    frame: &mut Frame,
     binders: &Binders,
     ids: &Ids,
     body: &Stmts,
@@ -572,23 +547,25 @@ fn execute_bound<K: Keeper, L: Ledger>(
 ) -> Result<(), Stop>
     requires attached { IsTrue (K.seen work.old.keeper.now).store.attached }
     requires tables { IsTrue (K.seen work.old.keeper.now).tells
-        → length app.now.models ≤ length (K.seen work.old.keeper.now).state.tables }
-    requires no_record { ctx.now.this ≡ None }
-    requires runnable { AreRunnable ctx.now.number (statements_of body.now) }
+        → length here.now.app.now.models ≤ length (K.seen work.old.keeper.now).state.tables }
+    requires no_record { here.now.ctx.now.this ≡ None }
+    requires runnable { AreRunnable here.now.ctx.now.number (statements_of body.now) }
     ensures left { IsTold K.seen work.new
-        → OnOk result (Runs (λ w. bound_at app.now ctx.now (binders_of binders.now)
-        (statements_of body.now) w ids.now) (λ n w. MayBindAt app.now ctx.now
-        (binders_of binders.now) (statements_of body.now) n w ids.now) (λ w. holds w pc.now)
-        (faceted (state_of K.seen work.old) env.old out.old) (faceted (state_of K.seen work.new)
-        env.new out.new)) }
+        → OnOk result (Runs (λ w. bound_at here.now.app.now here.now.ctx.now
+        (binders_of binders.now) (statements_of body.now) w ids.now)
+        (λ n w. MayBindAt here.now.app.now here.now.ctx.now (binders_of binders.now)
+        (statements_of body.now) n w ids.now) (λ w. holds w here.now.pc.now)
+        (run_over (state_of K.seen work.old) frame.old)
+        (run_over (state_of K.seen work.new) frame.new)) }
     ensures told { OnOk result (StaysTold K.seen work.old work.new) }
     ensures keeps { WritesWork K.seen work.old work.new result }
 {
-    let outer = env.as_slice().len();
-    let ctx = looped(ctx, ids);
-    bind_tuple(work.alloc, env, binders, ids)?;
-    execute_all(work, app, &ctx, env, out, pc, body, splits)?;
-    env.cut(outer);
+    let outer = frame.env.as_slice().len();
+    let ctx = looped(here.ctx, ids);
+    bind_tuple(work.alloc, &mut frame.env, binders, ids)?;
+    let inside = Here { ctx: &ctx, ..*here };
+    execute_all(work, &inside, frame, body, splits)?;
+    frame.env.cut(outer);
     Ok(())
 }
 
@@ -596,39 +573,31 @@ fn execute_bound<K: Keeper, L: Ledger>(
 #[cycle(exec)]
 fn execute_create<K: Keeper, L: Ledger>(
     work: &mut Work<'_, K>,
-    app: &App,
-    ctx: &Ctx,
-    env: &mut Env,
-    out: &mut Out,
-    pc: &Guard,
-    name: &Txt,
-    model: &Txt,
-    site: u8,
-    cells: &Publics,
-    body: &Stmts,
+    here: &Here<'_>,
+    frame: &mut Frame,
+    creation: &Creation<'_>,
     splits: &mut Steps<L>,
 ) -> Result<(), Stop>
     requires attached { IsTrue (K.seen work.old.keeper.now).store.attached }
     requires tables { IsTrue (K.seen work.old.keeper.now).tells
-        → length app.now.models ≤ length (K.seen work.old.keeper.now).state.tables }
-    requires no_record { ctx.now.this ≡ None }
-    requires numbered { 0 < ctx.now.number }
-    requires in_range { ctx.now.number < 2 ^ 40 }
-    requires site { site < 64 }
-    requires runnable { AreRunnable ctx.now.number (statements_of body.now) }
+        → length here.now.app.now.models ≤ length (K.seen work.old.keeper.now).state.tables }
+    requires no_record { here.now.ctx.now.this ≡ None }
+    requires numbered { 0 < here.now.ctx.now.number }
+    requires in_range { here.now.ctx.now.number < 2 ^ 40 }
+    requires site { creation.now.site < 64 }
+    requires runnable { AreRunnable here.now.ctx.now.number (statements_of creation.now.body.now) }
     ensures left { IsTold K.seen work.new
-        → OnOk result (Executes app.now ctx.now (Statement.create name.now model.now site
-        (assigned_of cells.now) (statements_of body.now)) pc.now (faceted (state_of K.seen work.old)
-        env.old out.old) (faceted (state_of K.seen work.new) env.new out.new)) }
+        → OnOk result (ExecutesHere here.now (Statement.create creation.now.name.now
+        creation.now.model.now creation.now.site (assigned_of creation.now.cells.now)
+        (statements_of creation.now.body.now)) (run_over (state_of K.seen work.old) frame.old)
+        (run_over (state_of K.seen work.new) frame.new)) }
     ensures told { OnOk result (StaysTold K.seen work.old work.new) }
     ensures keeps { WritesWork K.seen work.old work.new result }
 {
-    let Some(model) = model_number(app, model) else {
+    let Some(model) = model_number(here.app, creation.model) else {
         return Ok(());
     };
-    execute_made(
-        work, app, ctx, env, out, pc, name, model, site, cells, body, splits,
-    )?;
+    execute_made(work, here, frame, creation, model, splits)?;
     Ok(())
 }
 
@@ -636,54 +605,56 @@ fn execute_create<K: Keeper, L: Ledger>(
 #[cycle(exec)]
 fn execute_made<K: Keeper, L: Ledger>(
     work: &mut Work<'_, K>,
-    app: &App,
-    ctx: &Ctx,
-    env: &mut Env,
-    out: &mut Out,
-    pc: &Guard,
-    name: &Txt,
+    here: &Here<'_>,
+    frame: &mut Frame,
+    creation: &Creation<'_>,
     model: u8,
-    site: u8,
-    cells: &Publics,
-    body: &Stmts,
     splits: &mut Steps<L>,
 ) -> Result<(), Stop>
     requires attached { IsTrue (K.seen work.old.keeper.now).store.attached }
     requires tables { IsTrue (K.seen work.old.keeper.now).tells
-        → length app.now.models ≤ length (K.seen work.old.keeper.now).state.tables }
-    requires no_record { ctx.now.this ≡ None }
-    requires numbered { 0 < ctx.now.number }
-    requires in_range { ctx.now.number < 2 ^ 40 }
-    requires site { site < 64 }
-    requires model { model < length app.now.models }
+        → length here.now.app.now.models ≤ length (K.seen work.old.keeper.now).state.tables }
+    requires no_record { here.now.ctx.now.this ≡ None }
+    requires numbered { 0 < here.now.ctx.now.number }
+    requires in_range { here.now.ctx.now.number < 2 ^ 40 }
+    requires site { creation.now.site < 64 }
+    requires model { model < length here.now.app.now.models }
     requires few { model < 64 }
-    requires runnable { AreRunnable ctx.now.number (statements_of body.now) }
+    requires runnable { AreRunnable here.now.ctx.now.number (statements_of creation.now.body.now) }
     ensures left { IsTold K.seen work.new
-        → OnOk result (Runs (λ w. created (setting_at app.now ctx.now w) name.now (Some model) site
-        (assigned_of cells.now) (leaves_all (setting_at app.now ctx.now w)
-        (statements_of body.now))) (λ n w. MayCreate n (setting_at app.now ctx.now w) name.now
-        (Some model) site (assigned_of cells.now) (MayRunAll n (setting_at app.now ctx.now w)
-        (statements_of body.now))) (λ w. holds w pc.now) (faceted (state_of K.seen work.old) env.old
-        out.old) (faceted (state_of K.seen work.new) env.new out.new)) }
+        → OnOk result (Runs (λ w. created (setting_here here.now w) creation.now.name.now
+        (Some model) creation.now.site (assigned_of creation.now.cells.now)
+        (leaves_all (setting_here here.now w) (statements_of creation.now.body.now)))
+        (λ n w. MayCreate n (setting_here here.now w) creation.now.name.now (Some model)
+        creation.now.site (assigned_of creation.now.cells.now)
+        (MayRunAll n (setting_here here.now w) (statements_of creation.now.body.now)))
+        (λ w. holds w here.now.pc.now) (run_over (state_of K.seen work.old) frame.old)
+        (run_over (state_of K.seen work.new) frame.new)) }
     ensures told { OnOk result (StaysTold K.seen work.old work.new) }
     ensures keeps { WritesWork K.seen work.old work.new result }
 {
-    let _pairs = pc.pairs();
-    let cells = new_cells(work, app, ctx, env, pc, model, cells, splits)?;
-    let id = new_id(app, ctx, model, site);
-    create(work, app, pc, id, &cells, splits)?;
+    let _pairs = here.pc.pairs();
+    let cells = new_cells(work, here, &frame.env, model, creation.cells, splits)?;
+    let id = new_id(here.app, here.ctx, model, creation.site);
+    create(work, here.app, here.pc, id, &cells, splits)?;
     let made = Facet::leaf(Value::Ref(Some(id)));
-    execute_named(work, app, ctx, env, out, pc, name, made, body, splits)?;
+    execute_named(
+        work,
+        here,
+        frame,
+        creation.name,
+        made,
+        creation.body,
+        splits,
+    )?;
     Ok(())
 }
 
 // Changes the record that the value refers to; nothing where no model has the name.
 fn execute_update<K: Keeper, L: Ledger>(
     work: &mut Work<'_, K>,
-    app: &App,
-    ctx: &Ctx,
+    here: &Here<'_>,
     env: &Env,
-    pc: &Guard,
     model: &Txt,
     e: &Expr,
     cells: &Publics,
@@ -691,51 +662,48 @@ fn execute_update<K: Keeper, L: Ledger>(
 ) -> Result<(), Stop>
     requires attached { IsTrue (K.seen work.old.keeper.now).store.attached }
     requires tables { IsTrue (K.seen work.old.keeper.now).tells
-        → length app.now.models ≤ length (K.seen work.old.keeper.now).state.tables }
-    requires no_record { ctx.now.this ≡ None }
+        → length here.now.app.now.models ≤ length (K.seen work.old.keeper.now).state.tables }
+    requires no_record { here.now.ctx.now.this ≡ None }
     ensures left { IsTold K.seen work.new → OnOk result ((out : List (List (ℕ × Bool) × Piece))
-        → Executes app.now ctx.now (Statement.update model.now (expression_of e.now)
-        (assigned_of cells.now)) pc.now (faceted (state_of K.seen work.old) env.now out)
+        → ExecutesHere here.now (Statement.update model.now (expression_of e.now)
+        (assigned_of cells.now)) (faceted (state_of K.seen work.old) env.now out)
         (faceted (state_of K.seen work.new) env.now out)) }
     ensures told { OnOk result (StaysTold K.seen work.old work.new) }
     ensures keeps { WritesWork K.seen work.old work.new result }
 {
-    let Some(model) = model_number(app, model) else {
+    let Some(model) = model_number(here.app, model) else {
         return Ok(());
     };
-    let target = eval(work, app, ctx, env, pc, e, splits)?;
-    let sets = read_sets(work, app, ctx, env, pc, model, cells, splits)?;
-    update(work, app, pc, model, &target, &sets, splits)?;
+    let target = eval(work, here, env, e, splits)?;
+    let sets = read_sets(work, here, env, model, cells, splits)?;
+    update(work, here.app, here.pc, model, &target, &sets, splits)?;
     Ok(())
 }
 
 // Takes the record away that the value refers to; nothing where no model has the name.
 fn execute_delete<K: Keeper, L: Ledger>(
     work: &mut Work<'_, K>,
-    app: &App,
-    ctx: &Ctx,
+    here: &Here<'_>,
     env: &Env,
-    pc: &Guard,
     model: &Txt,
     e: &Expr,
     splits: &mut Steps<L>,
 ) -> Result<(), Stop>
     requires attached { IsTrue (K.seen work.old.keeper.now).store.attached }
     requires tables { IsTrue (K.seen work.old.keeper.now).tells
-        → length app.now.models ≤ length (K.seen work.old.keeper.now).state.tables }
-    requires no_record { ctx.now.this ≡ None }
+        → length here.now.app.now.models ≤ length (K.seen work.old.keeper.now).state.tables }
+    requires no_record { here.now.ctx.now.this ≡ None }
     ensures left { IsTold K.seen work.new → OnOk result ((out : List (List (ℕ × Bool) × Piece))
-        → Executes app.now ctx.now (Statement.delete model.now (expression_of e.now)) pc.now
-        (faceted (state_of K.seen work.old) env.now out) (faceted (state_of K.seen work.new) env.now
-        out)) }
+        → ExecutesHere here.now (Statement.delete model.now (expression_of e.now)) (faceted
+        (state_of K.seen work.old) env.now out) (faceted (state_of K.seen work.new) env.now out)) }
     ensures told { OnOk result (StaysTold K.seen work.old work.new) }
     ensures keeps { WritesWork K.seen work.old work.new result }
 {
-    let Some(model) = model_number(app, model) else {
+    let Some(model) = model_number(here.app, model) else {
         return Ok(());
     };
-    let target = eval(work, app, ctx, env, pc, e, splits)?;
-    delete(work, pc, model, &target)?;
+    let target = eval(work, here, env, e, splits)?;
+    delete(work, here.pc, model, &target)?;
     Ok(())
 }
 

@@ -5,6 +5,7 @@
 mod assigning;
 mod drafts;
 mod execution;
+mod frame;
 mod loops;
 mod memory;
 mod out;
@@ -12,6 +13,7 @@ mod page;
 mod pieces;
 
 pub use execution::exec;
+pub use frame::Frame;
 pub use jac_plain::{Page, Piece};
 pub use out::Out;
 pub use page::page_of;

@@ -4,7 +4,7 @@ ghost use Rattle.std.specs.Prelude.{◌≡◌, ◌<◌, IsTrue};
 
 use crate::finder::{Finder, memory, new_finder};
 use crate::texts::{CALENDAR, app};
-use jac_expr::{Ctx, Env, tuples};
+use jac_expr::{Ctx, Env, Here, tuples};
 use jac_forms::query_of;
 use jac_keep::{Keeper, MemoryKeeper, Stop, Work};
 use jac_lang::{App, Query};
@@ -106,7 +106,13 @@ fn answers_over<L: Ledger>(
     let mut work = Work::new(alloc, keeper);
     let env = Env::empty(alloc);
     let pc = Guard::empty(alloc);
-    let answers = tuples(&mut work, app, &nobody(), &env, &pc, query, splits)?;
+    let ctx = nobody();
+    let here = Here {
+        app,
+        ctx: &ctx,
+        pc: &pc,
+    };
+    let answers = tuples(&mut work, &here, &env, query, splits)?;
     Ok(answers)
 }
 

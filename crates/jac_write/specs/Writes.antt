@@ -7,6 +7,7 @@ use Rattle.jac_facet.specs.Leaves.{seen}
 use Rattle.jac_facet.specs.Shape.{Shape, at}
 use Rattle.jac_lang.specs.declared.field_kinds.Field.{Field}
 use Rattle.jac_lang.specs.Lookup.{fields_at, kind_at}
+use Rattle.jac_lang.specs.Mirror.{application_of}
 use Rattle.jac_lang.specs.Syntax.{Entity}
 use Rattle.jac_merged.specs.Merged.{AreMerged}
 use Rattle.jac_plain.specs.Expressions.{stands}
@@ -24,6 +25,11 @@ use Rattle.jac_keep.specs.Records.{alternatives}
 use Rattle.jac_keep.specs.Worked.{IsTold}
 use Rattle.jac_keep.specs.declared.alteration.Alterations.{Alterations}
 use Rattle.jac_keep.specs.declared.work.WorkOver.{WorkOver}
+use Rattle.jac_write.specs.declared.subject.Subject.{Subject}
+
+-- the models of the application that the record is of
+abbrev pub models_for : Subject → List Entity
+models_for subject = (application_of subject.app.now).models
 
 -- the alternatives of each record are those that were, or no two of them can be joined
 abbrev pub KeepsOrMerges : State → State → Type 0

@@ -8,7 +8,7 @@ ghost use Rattle.jac_keep.specs.Worked.{state_of, IsTold, WritesWork};
 ghost use Rattle.jac_plain.specs.Records.{plain_row, tables_with};
 ghost use Rattle.jac_rows.specs.declared.row.Row.{Row as Seen};
 ghost use Rattle.jac_world.specs.World.{holds};
-ghost use Rattle.jac_write.specs.Writes.{Creates, KeepsOrMerges, StaysTold, cells_at, made_cells, tables_made};
+ghost use Rattle.jac_write.specs.Writes.{Creates, KeepsOrMerges, StaysTold, cells_at, made_cells, tables_made, models_for};
 
 use crate::alternatives::put_rows;
 use crate::drafts::new_drafts;
@@ -16,6 +16,7 @@ use crate::hiding::kept_under;
 use crate::merged::merged_rows;
 use crate::named::Named;
 use crate::stored::add_stored;
+use crate::subject::Subject;
 use jac_facet::{Facet, Facets};
 use jac_keep::{Keeper, Stop, Work, sound_after_change};
 use jac_lang::App;
@@ -28,38 +29,27 @@ use std::sync::ledger::Ledger;
 // The alternatives of a new record, behind those that stand.
 fn with_new_record<L: Ledger>(
     alloc: Global,
-    app: &App,
+    subject: &Subject<'_>,
     pc: &Guard,
-    model: u8,
-    id: Id,
     cells: &[Facet<Value>],
     standing: Vec<Row>,
     splits: &mut Steps<L>,
 ) -> Result<Vec<Row>, Memory>
-    requires model { model < length app.now.models }
-    requires id { is_id_of id model ≡ true }
-    requires each_field { length cells.now ≡ length (fields_at (application_of app.now).models
-        model) }
-    ensures own { IfOk result (λ v. All (λ (r : Seen). r.id ≡ id) v.items) }
+    requires model { subject.now.model < length subject.now.app.now.models }
+    requires id { is_id_of subject.now.id subject.now.model ≡ true }
+    requires each_field { length cells.now ≡ length (fields_at (models_for subject.now)
+        subject.now.model) }
+    ensures own { IfOk result (λ v. All (λ (r : Seen). r.id ≡ subject.now.id) v.items) }
     ensures shown { IfOk result (λ v. (w : ℕ → Bool)
         → cells_at w v.items ≡ cells_at w standing.items ++ (if holds w pc.now
-        then made_cells (application_of app.now).models w model id (all_at w cells.now) ∷ []
-        else [])) }
+        then made_cells (models_for subject.now) w subject.now.model subject.now.id
+        (all_at w cells.now) ∷ [] else [])) }
 {
-    let drafts = new_drafts(alloc, app, pc, model, id, cells, splits)?;
+    let drafts = new_drafts(alloc, subject, pc, cells, splits)?;
     let mut rows = Vec::new(alloc);
-    put_rows(id, standing, &mut rows)?;
+    put_rows(subject.id, standing, &mut rows)?;
     let drafts = drafts.as_slice();
-    add_stored(
-        alloc,
-        app,
-        model,
-        id,
-        Named::Every,
-        drafts,
-        &mut rows,
-        splits,
-    )?;
+    add_stored(alloc, subject, Named::Every, drafts, &mut rows, splits)?;
     Ok(rows)
 }
 
@@ -94,7 +84,8 @@ fn make_under<K: Keeper, L: Ledger>(
     let standing = work.one(id)?;
     let cells = cells.as_slice();
     let standing = standing.into_vec();
-    let rows = with_new_record(work.alloc, app, guard, model, id, cells, standing, splits)?;
+    let subject = Subject { app, model, id };
+    let rows = with_new_record(work.alloc, &subject, guard, cells, standing, splits)?;
     let merged = merged_rows(work.alloc, rows)?;
     work.replace(id, merged)?;
     Ok(())

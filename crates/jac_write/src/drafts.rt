@@ -3,21 +3,21 @@ ghost use Rattle.std.specs.Prelude.{◌≡◌, ◌<◌, ◌∷◌, [], ℕ, Bool
 ghost use Rattle.jac_facet.specs.Shape.{Shape, at};
 ghost use Rattle.jac_expr.specs.Tupled.{all_at};
 ghost use Rattle.jac_lang.specs.Lookup.{fields_at, kind_at};
-ghost use Rattle.jac_lang.specs.Mirror.{application_of};
 ghost use Rattle.jac_plain.specs.Records.{fitting};
 ghost use Rattle.jac_rows.specs.declared.row.Row.{Row as Seen};
 ghost use Rattle.jac_value.specs.declared.value.Value.{Value as Plain};
 ghost use Rattle.jac_world.specs.World.{holds};
 ghost use Rattle.jac_write.specs.Drafts.{with_cell};
-ghost use Rattle.jac_write.specs.Writes.{cells_at, fitted_from, put_in, sets_at};
+ghost use Rattle.jac_write.specs.Writes.{cells_at, fitted_from, put_in, sets_at, models_for};
 
 use crate::alternatives::put_row;
 use crate::cells::{Spot, with_facet};
 use crate::fit::fitted;
 use crate::memory::from_world;
 use crate::schema::field_count;
+use crate::subject::Subject;
 use jac_facet::Facet;
-use jac_lang::{App, kind_of};
+use jac_lang::kind_of;
 use jac_rows::Row;
 use jac_value::{Cells, Id, Kind, Memory, Value};
 use jac_world::{Guard, Steps};
@@ -59,61 +59,53 @@ fn fitted_facet<L: Ledger>(
 // The alternatives with what the facet shows in this spot, as the field holds it.
 fn with_field<L: Ledger>(
     alloc: Global,
-    app: &App,
-    model: u8,
+    subject: &Subject<'_>,
     field: u8,
-    id: Id,
     rows: &[Row],
     spot: Spot,
     facet: &Facet<Value>,
     splits: &mut Steps<L>,
 ) -> Result<Vec<Row>, Memory>
-    requires model { model < length app.now.models }
-    requires field { field < length (fields_at (application_of app.now).models model) }
-    ensures own { IfOk result (λ v. All (λ (r : Seen). r.id ≡ id) v.items) }
-    ensures shown { let models = (application_of app.now).models in IfOk result (λ v. (w : ℕ → Bool)
+    requires model { subject.now.model < length subject.now.app.now.models }
+    requires field { field < length (fields_at (models_for subject.now) subject.now.model) }
+    ensures own { IfOk result (λ v. All (λ (r : Seen). r.id ≡ subject.now.id) v.items) }
+    ensures shown { let models = models_for subject.now in IfOk result (λ v. (w : ℕ → Bool)
         → cells_at w v.items
-        ≡ map (with_cell spot (fitting (kind_at models (fields_at models model) field)
+        ≡ map (with_cell spot (fitting (kind_at models (fields_at models subject.now.model) field)
         (at w facet.now))) (cells_at w rows.now)) }
 {
-    let facet = fitted_facet(alloc, kind_of(app, model, field), facet, splits)?;
-    let rows = with_facet(alloc, id, rows, spot, &facet)?;
+    let facet = fitted_facet(
+        alloc,
+        kind_of(subject.app, subject.model, field),
+        facet,
+        splits,
+    )?;
+    let rows = with_facet(alloc, subject.id, rows, spot, &facet)?;
     Ok(rows)
 }
 
 /// The cells of a new record, for each field what its facet shows where the guard holds.
 pub(crate) fn new_drafts<L: Ledger>(
     alloc: Global,
-    app: &App,
+    subject: &Subject<'_>,
     guard: &Guard,
-    model: u8,
-    id: Id,
     cells: &[Facet<Value>],
     splits: &mut Steps<L>,
 ) -> Result<Vec<Row>, Memory>
-    requires model { model < length app.now.models }
-    requires each_field { length cells.now ≡ length (fields_at (application_of app.now).models
-        model) }
-    ensures own { IfOk result (λ v. All (λ (r : Seen). r.id ≡ id) v.items) }
-    ensures shown { let models = (application_of app.now).models in IfOk result (λ v. (w : ℕ → Bool)
+    requires model { subject.now.model < length subject.now.app.now.models }
+    requires each_field { length cells.now ≡ length (fields_at (models_for subject.now)
+        subject.now.model) }
+    ensures own { IfOk result (λ v. All (λ (r : Seen). r.id ≡ subject.now.id) v.items) }
+    ensures shown { let models = models_for subject.now in IfOk result (λ v. (w : ℕ → Bool)
         → cells_at w v.items ≡ (if holds w guard.now
-        then fitted_from models (fields_at models model) 0 (all_at w cells.now) ∷ [] else [])) }
+        then fitted_from models (fields_at models subject.now.model) 0 (all_at w cells.now) ∷ []
+        else [])) }
 {
-    let mut drafts = without_cells(alloc, id, guard)?;
-    'fields: for field in 0..field_count(app, model) {
+    let mut drafts = without_cells(alloc, subject.id, guard)?;
+    'fields: for field in 0..field_count(subject.app, subject.model) {
         let facet = &cells[usize::from(field)];
         let rows = drafts.as_slice();
-        drafts = with_field(
-            alloc,
-            app,
-            model,
-            field,
-            id,
-            rows,
-            Spot::Behind,
-            facet,
-            splits,
-        )?;
+        drafts = with_field(alloc, subject, field, rows, Spot::Behind, facet, splits)?;
     }
     Ok(drafts)
 }
@@ -121,37 +113,25 @@ pub(crate) fn new_drafts<L: Ledger>(
 /// The alternatives with the sets put in, one after another.
 pub(crate) fn with_sets<L: Ledger>(
     alloc: Global,
-    app: &App,
-    model: u8,
-    id: Id,
+    subject: &Subject<'_>,
     sets: &[(u8, Facet<Value>)],
     rows: Vec<Row>,
     splits: &mut Steps<L>,
 ) -> Result<Vec<Row>, Memory>
-    requires model { model < length app.now.models }
+    requires model { subject.now.model < length subject.now.app.now.models }
     requires fields { All (λ (s : ℕ × Shape Plain). s.0
-        < length (fields_at (application_of app.now).models model)) sets.now }
-    requires own { All (λ (r : Seen). r.id ≡ id) rows.items }
-    ensures own { IfOk result (λ v. All (λ (r : Seen). r.id ≡ id) v.items) }
-    ensures shown { let models = (application_of app.now).models in IfOk result (λ v. (w : ℕ → Bool)
-        → cells_at w v.items ≡ map (put_in models (fields_at models model) (sets_at w sets.now))
-        (cells_at w rows.items)) }
+        < length (fields_at (models_for subject.now) subject.now.model)) sets.now }
+    requires own { All (λ (r : Seen). r.id ≡ subject.now.id) rows.items }
+    ensures own { IfOk result (λ v. All (λ (r : Seen). r.id ≡ subject.now.id) v.items) }
+    ensures shown { let models = models_for subject.now in IfOk result (λ v. (w : ℕ → Bool)
+        → cells_at w v.items ≡ map (put_in models (fields_at models subject.now.model)
+        (sets_at w sets.now)) (cells_at w rows.items)) }
 {
     let mut drafts = rows;
     'sets: for set in sets {
         let field = set.0;
         let rows = drafts.as_slice();
-        drafts = with_field(
-            alloc,
-            app,
-            model,
-            field,
-            id,
-            rows,
-            Spot::At(field),
-            &set.1,
-            splits,
-        )?;
+        drafts = with_field(alloc, subject, field, rows, Spot::At(field), &set.1, splits)?;
     }
     Ok(drafts)
 }

@@ -15,6 +15,7 @@ use crate::merged::merged_rows;
 use crate::named::{Named, is_from};
 use crate::schema::group_that_hides;
 use crate::stored::add_stored;
+use crate::subject::Subject;
 use jac_lang::App;
 use jac_rows::{Row, Rows};
 use jac_value::{Id, Memory, label_number};
@@ -46,11 +47,10 @@ pub fn regrouped<L: Ledger>(
     let staying = within(alloc, &guard, id, drafts)?;
     let staying = staying.as_slice();
     let mut stored = Vec::new(alloc);
+    let subject = Subject { app, model, id };
     add_stored(
         alloc,
-        app,
-        model,
-        id,
+        &subject,
         Named::From(first),
         staying,
         &mut stored,

@@ -16,6 +16,7 @@ mod public_values;
 mod schema;
 mod sets;
 mod stored;
+mod subject;
 mod updating;
 
 pub use creation::create;

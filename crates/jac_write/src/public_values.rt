@@ -13,7 +13,7 @@ ghost use Rattle.jac_write.specs.Writes.{only};
 
 use crate::fit::fitted;
 use crate::schema::expression_of_field;
-use jac_expr::{Ctx, Env, eval};
+use jac_expr::{Ctx, Env, Here, eval};
 use jac_io::Calls;
 use jac_keep::{MemoryKeeper, Stop, Work};
 use jac_lang::{App, Expr, kind_of};
@@ -122,7 +122,12 @@ fn value_in<L: Ledger>(
     let ctx = asked_of(id);
     let env = Env::empty(alloc);
     let everywhere = Guard::empty(alloc);
-    let facet = eval(&mut work, app, &ctx, &env, &everywhere, e, splits)?;
+    let here = Here {
+        app,
+        ctx: &ctx,
+        pc: &everywhere,
+    };
+    let facet = eval(&mut work, &here, &env, e, splits)?;
     let nothing = Assignment::empty(alloc);
     let value = facet.at(&nothing).copy(alloc)?;
     Ok(value)

@@ -2,13 +2,12 @@
 ghost use Rattle.std.specs.Prelude.{◌≡◌, ◌<◌, ◌∷◌, [], ◌++◌, ◌&&◌, ℕ, Bool, true, length, map, slice_get, Some, if◌then◌else◌, All, IfOk, OnOk};
 ghost use Rattle.jac_facet.specs.Shape.{at};
 ghost use Rattle.jac_lang.specs.Lookup.{fields_at};
-ghost use Rattle.jac_lang.specs.Mirror.{application_of};
 ghost use Rattle.jac_plain.specs.Records.{is_hidden, public_cell, shielded};
 ghost use Rattle.jac_rows.specs.declared.row.Row.{Row as Seen};
 ghost use Rattle.jac_value.specs.Ids.{is_id_of};
 ghost use Rattle.jac_world.specs.World.{holds};
 ghost use Rattle.jac_write.specs.Drafts.{hides, named_by, stored_at};
-ghost use Rattle.jac_write.specs.Writes.{cells_at};
+ghost use Rattle.jac_write.specs.Writes.{cells_at, models_for};
 
 use crate::alternatives::put_rows;
 use crate::cells::{Spot, with_facet};
@@ -16,38 +15,39 @@ use crate::drafts::without_cells;
 use crate::named::{Named, is_named};
 use crate::public_values::public_value;
 use crate::schema::{field_count, guarding_group};
+use crate::subject::Subject;
 use jac_facet::Facet;
-use jac_lang::App;
 use jac_rows::Row;
-use jac_value::{Cells, Id, Memory, Value, label_number};
+use jac_value::{Cells, Memory, Value, label_number};
 use jac_world::{Label, Steps};
 use std::alloc::Global;
 use std::sync::ledger::Ledger;
 
 // The label of the group that guards the field.
-fn label_of_field(app: &App, model: u8, id: Id, field: u8) -> Option<Label>
-    requires model { model < length app.now.models }
-    requires field { field < length (fields_at (application_of app.now).models model) }
-    requires id { is_id_of id model ≡ true }
-    ensures { (w : ℕ → Bool) → hides w result ≡ is_hidden (application_of app.now).models w model id
-        field }
+fn label_of_field(subject: &Subject<'_>, field: u8) -> Option<Label>
+    requires model { subject.now.model < length subject.now.app.now.models }
+    requires field { field < length (fields_at (models_for subject.now) subject.now.model) }
+    requires id { is_id_of subject.now.id subject.now.model ≡ true }
+    ensures { (w : ℕ → Bool) → hides w result ≡ is_hidden (models_for subject.now) w
+        subject.now.model subject.now.id field }
 {
-    match guarding_group(app, model, field) {
-        Some(group) => Some(Label(label_number(id, group))),
+    match guarding_group(subject.app, subject.model, field) {
+        Some(group) => Some(Label(label_number(subject.id, group))),
         None => None,
     }
 }
 
 // The label that hides the field, where the write names it and a group guards it.
-fn label_if_named(app: &App, model: u8, id: Id, named: Named<'_>, field: u8) -> Option<Label>
-    requires model { model < length app.now.models }
-    requires field { field < length (fields_at (application_of app.now).models model) }
-    requires id { is_id_of id model ≡ true }
-    ensures { (w : ℕ → Bool) → hides w result ≡ (named_by (application_of app.now).models model w
-        named.entry field && is_hidden (application_of app.now).models w model id field) }
+fn label_if_named(subject: &Subject<'_>, named: Named<'_>, field: u8) -> Option<Label>
+    requires model { subject.now.model < length subject.now.app.now.models }
+    requires field { field < length (fields_at (models_for subject.now) subject.now.model) }
+    requires id { is_id_of subject.now.id subject.now.model ≡ true }
+    ensures { (w : ℕ → Bool) → hides w result ≡ (named_by (models_for subject.now) subject.now.model
+        w named.entry field && is_hidden (models_for subject.now) w subject.now.model subject.now.id
+        field) }
 {
-    if is_named(app, model, named, field) {
-        return label_of_field(app, model, id, field);
+    if is_named(subject.app, subject.model, named, field) {
+        return label_of_field(subject, field);
     }
     None
 }
@@ -56,23 +56,30 @@ fn label_if_named(app: &App, model: u8, id: Id, named: Named<'_>, field: u8) -> 
 // hidden.
 fn parted_cell<L: Ledger>(
     alloc: Global,
-    app: &App,
-    model: u8,
-    id: Id,
+    subject: &Subject<'_>,
     draft: &Cells,
     field: u8,
     cell: &Value,
     label: Label,
     splits: &mut Steps<L>,
 ) -> Result<Facet<Value>, Memory>
-    requires model { model < length app.now.models }
-    requires field { field < length (fields_at (application_of app.now).models model) }
-    requires id { is_id_of id model ≡ true }
+    requires model { subject.now.model < length subject.now.app.now.models }
+    requires field { field < length (fields_at (models_for subject.now) subject.now.model) }
+    requires id { is_id_of subject.now.id subject.now.model ≡ true }
     requires cell { slice_get draft.now field ≡ Some cell.now }
     ensures { IfOk result (λ s. (w : ℕ → Bool) → at w s ≡ (if w label then cell.now
-        else public_cell (application_of app.now).models model id draft.now field cell.now)) }
+        else public_cell (models_for subject.now) subject.now.model subject.now.id draft.now field
+        cell.now)) }
 {
-    let public = public_value(alloc, app, model, id, draft, field, splits)?;
+    let public = public_value(
+        alloc,
+        subject.app,
+        subject.model,
+        subject.id,
+        draft,
+        field,
+        splits,
+    )?;
     let cell = cell.copy(alloc)?;
     let parted = Facet::split(alloc, label, Facet::leaf(cell), Facet::leaf(public), splits)?;
     Ok(parted)
@@ -83,26 +90,24 @@ fn parted_cell<L: Ledger>(
 #[tactic(auto, using(crate::proofs::DraftLaws::parted_at))]
 fn stored_field<L: Ledger>(
     alloc: Global,
-    app: &App,
-    model: u8,
-    id: Id,
+    subject: &Subject<'_>,
     named: Named<'_>,
     draft: &Cells,
     field: u8,
     cell: &Value,
     splits: &mut Steps<L>,
 ) -> Result<Facet<Value>, Memory>
-    requires model { model < length app.now.models }
-    requires field { field < length (fields_at (application_of app.now).models model) }
-    requires id { is_id_of id model ≡ true }
+    requires model { subject.now.model < length subject.now.app.now.models }
+    requires field { field < length (fields_at (models_for subject.now) subject.now.model) }
+    requires id { is_id_of subject.now.id subject.now.model ≡ true }
     requires cell { slice_get draft.now field ≡ Some cell.now }
-    ensures { IfOk result (λ s. (w : ℕ → Bool) → at w s ≡ stored_at (application_of app.now).models
-        w model id (named_by (application_of app.now).models model w named.entry) draft.now field
-        cell.now) }
+    ensures { IfOk result (λ s. (w : ℕ → Bool) → at w s ≡ stored_at (models_for subject.now)
+        w subject.now.model subject.now.id (named_by (models_for subject.now) subject.now.model w
+        named.entry) draft.now field cell.now) }
 {
-    match label_if_named(app, model, id, named, field) {
+    match label_if_named(subject, named, field) {
         Some(label) => {
-            let parted = parted_cell(alloc, app, model, id, draft, field, cell, label, splits)?;
+            let parted = parted_cell(alloc, subject, draft, field, cell, label, splits)?;
             Ok(parted)
         }
         None => {
@@ -116,25 +121,23 @@ fn stored_field<L: Ledger>(
 #[tactic(auto, using(crate::proofs::SchemaLaws::past_stored))]
 fn stored_cell<L: Ledger>(
     alloc: Global,
-    app: &App,
-    model: u8,
-    id: Id,
+    subject: &Subject<'_>,
     named: Named<'_>,
     draft: &Cells,
     field: usize,
     cell: &Value,
     splits: &mut Steps<L>,
 ) -> Result<Facet<Value>, Memory>
-    requires model { model < length app.now.models }
-    requires id { is_id_of id model ≡ true }
+    requires model { subject.now.model < length subject.now.app.now.models }
+    requires id { is_id_of subject.now.id subject.now.model ≡ true }
     requires cell { slice_get draft.now field ≡ Some cell.now }
-    ensures { IfOk result (λ s. (w : ℕ → Bool) → at w s ≡ stored_at (application_of app.now).models
-        w model id (named_by (application_of app.now).models model w named.entry) draft.now field
-        cell.now) }
+    ensures { IfOk result (λ s. (w : ℕ → Bool) → at w s ≡ stored_at (models_for subject.now)
+        w subject.now.model subject.now.id (named_by (models_for subject.now) subject.now.model w
+        named.entry) draft.now field cell.now) }
 {
-    if field < usize::from(field_count(app, model)) {
+    if field < usize::from(field_count(subject.app, subject.model)) {
         let field = field as u8;
-        let stored = stored_field(alloc, app, model, id, named, draft, field, cell, splits)?;
+        let stored = stored_field(alloc, subject, named, draft, field, cell, splits)?;
         return Ok(stored);
     }
     let cell = cell.copy(alloc)?;
@@ -145,62 +148,48 @@ fn stored_cell<L: Ledger>(
 #[tactic(auto, using(crate::proofs::DraftLaws::stored_begun))]
 fn stored_draft<L: Ledger>(
     alloc: Global,
-    app: &App,
-    model: u8,
-    id: Id,
+    subject: &Subject<'_>,
     named: Named<'_>,
     draft: &Row,
     splits: &mut Steps<L>,
 ) -> Result<Vec<Row>, Memory>
-    requires model { model < length app.now.models }
-    requires id { is_id_of id model ≡ true }
-    ensures own { IfOk result (λ v. All (λ (r : Seen). r.id ≡ id) v.items) }
+    requires model { subject.now.model < length subject.now.app.now.models }
+    requires id { is_id_of subject.now.id subject.now.model ≡ true }
+    ensures own { IfOk result (λ v. All (λ (r : Seen). r.id ≡ subject.now.id) v.items) }
     ensures shown { IfOk result (λ v. (w : ℕ → Bool)
-        → cells_at w v.items ≡ map (shielded (application_of app.now).models w model id
-        (named_by (application_of app.now).models model w named.entry))
+        → cells_at w v.items ≡ map (shielded (models_for subject.now) w subject.now.model
+        subject.now.id (named_by (models_for subject.now) subject.now.model w named.entry))
         (cells_at w (draft.now ∷ []))) }
 {
-    let mut stored = without_cells(alloc, id, &draft.guard)?;
+    let mut stored = without_cells(alloc, subject.id, &draft.guard)?;
     let cells = draft.cells.as_slice();
     'fields: for field in 0..cells.len() {
         let cell = &cells[field];
-        let cell = stored_cell(
-            alloc,
-            app,
-            model,
-            id,
-            named,
-            &draft.cells,
-            field,
-            cell,
-            splits,
-        )?;
-        stored = with_facet(alloc, id, stored.as_slice(), Spot::Behind, &cell)?;
+        let cell = stored_cell(alloc, subject, named, &draft.cells, field, cell, splits)?;
+        stored = with_facet(alloc, subject.id, stored.as_slice(), Spot::Behind, &cell)?;
     }
     Ok(stored)
 }
 
 fn add_stored_draft<L: Ledger>(
     alloc: Global,
-    app: &App,
-    model: u8,
-    id: Id,
+    subject: &Subject<'_>,
     named: Named<'_>,
     draft: &Row,
     out: &mut Vec<Row>,
     splits: &mut Steps<L>,
 ) -> Result<(), Memory>
-    requires model { model < length app.now.models }
-    requires id { is_id_of id model ≡ true }
-    requires own { All (λ (r : Seen). r.id ≡ id) out.old.items }
-    ensures own { OnOk result (All (λ (r : Seen). r.id ≡ id) out.new.items) }
+    requires model { subject.now.model < length subject.now.app.now.models }
+    requires id { is_id_of subject.now.id subject.now.model ≡ true }
+    requires own { All (λ (r : Seen). r.id ≡ subject.now.id) out.old.items }
+    ensures own { OnOk result (All (λ (r : Seen). r.id ≡ subject.now.id) out.new.items) }
     ensures shown { OnOk result ((w : ℕ → Bool) → cells_at w out.new.items ≡ cells_at w
-        out.old.items ++ map (shielded (application_of app.now).models w model id
-        (named_by (application_of app.now).models model w named.entry))
+        out.old.items ++ map (shielded (models_for subject.now) w subject.now.model subject.now.id
+        (named_by (models_for subject.now) subject.now.model w named.entry))
         (cells_at w (draft.now ∷ []))) }
 {
-    let stored = stored_draft(alloc, app, model, id, named, draft, splits)?;
-    put_rows(id, stored, out)?;
+    let stored = stored_draft(alloc, subject, named, draft, splits)?;
+    put_rows(subject.id, stored, out)?;
     Ok(())
 }
 
@@ -209,24 +198,23 @@ fn add_stored_draft<L: Ledger>(
 #[tactic(auto, using(crate::proofs::DraftLaws::each_row_mapped))]
 pub(crate) fn add_stored<L: Ledger>(
     alloc: Global,
-    app: &App,
-    model: u8,
-    id: Id,
+    subject: &Subject<'_>,
     named: Named<'_>,
     drafts: &[Row],
     out: &mut Vec<Row>,
     splits: &mut Steps<L>,
 ) -> Result<(), Memory>
-    requires model { model < length app.now.models }
-    requires id { is_id_of id model ≡ true }
-    requires own { All (λ (r : Seen). r.id ≡ id) out.old.items }
-    ensures own { OnOk result (All (λ (r : Seen). r.id ≡ id) out.new.items) }
+    requires model { subject.now.model < length subject.now.app.now.models }
+    requires id { is_id_of subject.now.id subject.now.model ≡ true }
+    requires own { All (λ (r : Seen). r.id ≡ subject.now.id) out.old.items }
+    ensures own { OnOk result (All (λ (r : Seen). r.id ≡ subject.now.id) out.new.items) }
     ensures shown { OnOk result ((w : ℕ → Bool) → cells_at w out.new.items ≡ cells_at w
-        out.old.items ++ map (shielded (application_of app.now).models w model id
-        (named_by (application_of app.now).models model w named.entry)) (cells_at w drafts.now)) }
+        out.old.items ++ map (shielded (models_for subject.now) w subject.now.model subject.now.id
+        (named_by (models_for subject.now) subject.now.model w named.entry))
+        (cells_at w drafts.now)) }
 {
     'drafts: for draft in drafts {
-        add_stored_draft(alloc, app, model, id, named, draft, out, splits)?;
+        add_stored_draft(alloc, subject, named, draft, out, splits)?;
     }
     Ok(())
 }

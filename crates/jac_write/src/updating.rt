@@ -10,7 +10,7 @@ ghost use Rattle.jac_plain.specs.Records.{changed};
 ghost use Rattle.jac_rows.specs.Tables.{rows_of};
 ghost use Rattle.jac_rows.specs.declared.row.Row.{Row as Seen};
 ghost use Rattle.jac_world.specs.World.{holds};
-ghost use Rattle.jac_write.specs.Writes.{Writes, WritesEach, KeepsOrMerges, StaysTold, cells_at, remade_cells, sets_at, tables_remade};
+ghost use Rattle.jac_write.specs.Writes.{Writes, WritesEach, KeepsOrMerges, StaysTold, cells_at, remade_cells, sets_at, tables_remade, models_for};
 
 use crate::Sets;
 use crate::alternatives::{outside, within};
@@ -18,6 +18,7 @@ use crate::drafts::with_sets;
 use crate::merged::merged_rows;
 use crate::named::Named;
 use crate::stored::add_stored;
+use crate::subject::Subject;
 use jac_facet::Facet;
 use jac_keep::{Keeper, Stop, Work, sound_after_change};
 use jac_lang::App;
@@ -31,32 +32,28 @@ use std::sync::ledger::Ledger;
 // with the sets put in.
 fn remade_rows<L: Ledger>(
     alloc: Global,
-    app: &App,
+    subject: &Subject<'_>,
     guard: &Guard,
-    model: u8,
-    id: Id,
     sets: &Sets,
     rows: &[Row],
     splits: &mut Steps<L>,
 ) -> Result<Vec<Row>, Memory>
-    requires model { model < length app.now.models }
+    requires model { subject.now.model < length subject.now.app.now.models }
     requires fields { All (λ (s : ℕ × Shape Plain). s.0
-        < length (fields_at (application_of app.now).models model)) sets.now }
-    requires id { is_id_of id model ≡ true }
-    ensures own { IfOk result (λ v. All (λ (r : Seen). r.id ≡ id) v.items) }
+        < length (fields_at (models_for subject.now) subject.now.model)) sets.now }
+    requires id { is_id_of subject.now.id subject.now.model ≡ true }
+    ensures own { IfOk result (λ v. All (λ (r : Seen). r.id ≡ subject.now.id) v.items) }
     ensures shown { IfOk result (λ v. (w : ℕ → Bool) → cells_at w v.items ≡ (if holds w guard.now
-        then map (remade_cells (application_of app.now).models w model id (sets_at w sets.now))
-        (cells_at w rows.now) else cells_at w rows.now)) }
+        then map (remade_cells (models_for subject.now) w subject.now.model subject.now.id
+        (sets_at w sets.now)) (cells_at w rows.now) else cells_at w rows.now)) }
 {
-    let mut remade = outside(alloc, guard, id, rows)?;
-    let inner = within(alloc, guard, id, rows)?;
-    let drafts = with_sets(alloc, app, model, id, sets.as_slice(), inner, splits)?;
+    let mut remade = outside(alloc, guard, subject.id, rows)?;
+    let inner = within(alloc, guard, subject.id, rows)?;
+    let drafts = with_sets(alloc, subject, sets.as_slice(), inner, splits)?;
     let drafts = drafts.as_slice();
     add_stored(
         alloc,
-        app,
-        model,
-        id,
+        subject,
         Named::Set(sets),
         drafts,
         &mut remade,
@@ -98,7 +95,8 @@ fn update_alternatives<K: Keeper, L: Ledger>(
     if rows.is_empty() {
         return Ok(());
     }
-    let remade = remade_rows(work.alloc, app, guard, model, id, sets, rows, splits)?;
+    let subject = Subject { app, model, id };
+    let remade = remade_rows(work.alloc, &subject, guard, sets, rows, splits)?;
     let merged = merged_rows(work.alloc, remade)?;
     work.replace(id, merged)?;
     Ok(())

@@ -6,5 +6,5 @@ use Rattle.jac_expr.proofs.sorting.key_at.Goals as goal
 
 pub returns-clause-key : goal.returns-clause-key
 returns-clause-key g c told ctx w held =
-    c.in_ok-key.ensures.value told ctx w held
-    ∙ ap (got (world_at c.args.app.now ctx (state_of g.K.Keeper.seen c.args.work.now) w) c.args.model.now c.args.field.now) (c.in_ok-record.ensures w)
+    c.in_ok-value.ensures.value told ctx w held
+    ∙ ap (got (world_at c.args.app.now ctx (state_of g.K.Keeper.seen c.args.work.now) w) c.args.model.now c.args.key.now.field.now) (c.in_ok-record.ensures w)

@@ -19,6 +19,6 @@ invariant-tuples g l =
       counted : length l.keys.items ≡ l.tuple-index;
       read : LoopOver k.seen l.fn.work l.work
           ((ctx : Ctx) (w : ℕ → Bool) →
-          let key : List ℕ → Value = key_of (world_at l.app ctx (state_of k.seen l.fn.work) w) (binders_of l.binders) l.name l.field in
+          let key : List ℕ → Value = key_of (world_at l.app ctx (state_of k.seen l.fn.work) w) (binders_of l.key.binders.now) l.key.name.now l.key.field.now in
           marked w l.tuples l.keys.items ++ each_with key (live w (drop l.tuple-index l.tuples)) ≡ each_with key (live w l.tuples));
     }

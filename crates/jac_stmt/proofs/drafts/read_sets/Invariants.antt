@@ -1,6 +1,6 @@
 use Rattle.std.proofs.Common.{◌≡◌, ◌++◌, ◌<◌, IsTrue, ℕ, Bool, true, length, All}
 use Rattle.jac_expr.proofs.Working.{LoopOver}
-use Rattle.jac_expr.specs.Seen.{env_at, world_at}
+use Rattle.jac_expr.specs.Seen.{env_at, world_here}
 use Rattle.jac_facet.specs.Shape.{Shape}
 use Rattle.jac_keep.specs.Worked.{state_of}
 use Rattle.jac_lang.specs.Lookup.{fields_at}
@@ -15,9 +15,9 @@ use Rattle.jac_stmt.proofs.drafts.read_sets.Given as goal
 abbrev pub invariant-cells : goal.invariant-cells
 invariant-cells g l =
     let k = g.K.Keeper in
-    let fields = fields_at (application_of l.app).models l.model in
+    let fields = fields_at (application_of l.here.app.now).models l.model in
     IsTrue (k.seen l.work.keeper.now).store.attached
     × All (λ (x : ℕ × Shape Value). x.0 < length fields) l.sets.items
     × LoopOver k.seen l.fn.work l.work
-    ((w : ℕ → Bool) → holds w l.pc ≡ true → sets_at w l.sets.items ++ placed_sets fields (λ e. mean (world_at l.app l.ctx (state_of k.seen l.fn.work) w) e (env_at w l.env)) (assigned_of l.left)
-    ≡ placed_sets fields (λ e. mean (world_at l.app l.ctx (state_of k.seen l.fn.work) w) e (env_at w l.env)) (assigned_of l.cells))
+    ((w : ℕ → Bool) → holds w l.here.pc.now ≡ true → sets_at w l.sets.items ++ placed_sets fields (λ e. mean (world_here l.here (state_of k.seen l.fn.work) w) e (env_at w l.env)) (assigned_of l.left)
+    ≡ placed_sets fields (λ e. mean (world_here l.here (state_of k.seen l.fn.work) w) e (env_at w l.env)) (assigned_of l.cells))

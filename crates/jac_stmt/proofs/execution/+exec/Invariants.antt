@@ -16,27 +16,27 @@ abbrev pub invariant-execute_all-body : goal.invariant-execute_all-body
 invariant-execute_all-body g l =
     let k = g.K.Keeper in
     (size-Stmts l.left ≤ size-Stmts l.stmts)
-    × AreRunnable l.ctx.number (statements_of l.left)
-    × LoopRuns k.seen l.fn.work l.work (length l.app.models)
-    (IsGoing (λ w. leaves_all (setting_at l.app l.ctx w) (statements_of l.stmts)) (λ w. leaves_all (setting_at l.app l.ctx w) (statements_of l.left))
-    (λ n w. MayRunAll n (setting_at l.app l.ctx w) (statements_of l.stmts)) (λ n w. MayRunAll n (setting_at l.app l.ctx w) (statements_of l.left)) (λ w. holds w l.pc)
-    (faceted (state_of k.seen l.fn.work) l.fn.env l.fn.out) (faceted (state_of k.seen l.work) l.env l.out))
+    × AreRunnable l.here.ctx.now.number (statements_of l.left)
+    × LoopRuns k.seen l.fn.work l.work (length l.here.app.now.models)
+    (IsGoing (λ w. leaves_all (setting_at l.here.app.now l.here.ctx.now w) (statements_of l.stmts)) (λ w. leaves_all (setting_at l.here.app.now l.here.ctx.now w) (statements_of l.left))
+    (λ n w. MayRunAll n (setting_at l.here.app.now l.here.ctx.now w) (statements_of l.stmts)) (λ n w. MayRunAll n (setting_at l.here.app.now l.here.ctx.now w) (statements_of l.left)) (λ w. holds w l.here.pc.now)
+    (faceted (state_of k.seen l.fn.work) l.fn.frame.env l.fn.frame.out) (faceted (state_of k.seen l.work) l.frame.env l.frame.out))
 
 abbrev pub invariant-execute_leaves-leaves : goal.invariant-execute_leaves-leaves
 invariant-execute_leaves-leaves g l =
     let k = g.K.Keeper in
-    LoopRuns k.seen l.fn.work l.work (length l.app.models)
-    (IsRunningEach (chosen_at l.app l.ctx (statements_of l.first) (statements_of l.second)) (MayChooseAt l.app l.ctx (statements_of l.first) (statements_of l.second))
+    LoopRuns k.seen l.fn.work l.work (length l.here.app.now.models)
+    (IsRunningEach (chosen_at l.here.app.now l.here.ctx.now (statements_of l.first) (statements_of l.second)) (MayChooseAt l.here.app.now l.here.ctx.now (statements_of l.first) (statements_of l.second))
     (λ w. seen w l.leaves) (λ w. seen w (drop l.leaf-index l.leaves))
-    (faceted (state_of k.seen l.fn.work) l.fn.env l.fn.out) (faceted (state_of k.seen l.work) l.env l.out))
+    (faceted (state_of k.seen l.fn.work) l.fn.frame.env l.fn.frame.out) (faceted (state_of k.seen l.work) l.frame.env l.frame.out))
 
 abbrev pub invariant-execute_tuples-tuples : goal.invariant-execute_tuples-tuples
 invariant-execute_tuples-tuples g l =
     let k = g.K.Keeper in
-    LoopRuns k.seen l.fn.work l.work (length l.app.models)
-    (IsRunningEach (bound_at l.app l.ctx (binders_of l.binders) (statements_of l.body)) (MayBindAt l.app l.ctx (binders_of l.binders) (statements_of l.body))
-    (live_under l.pc l.tuples) (live_under l.pc (drop l.tuple-index l.tuples))
-    (faceted (state_of k.seen l.fn.work) l.fn.env l.fn.out) (faceted (state_of k.seen l.work) l.env l.out))
+    LoopRuns k.seen l.fn.work l.work (length l.here.app.now.models)
+    (IsRunningEach (bound_at l.here.app.now l.here.ctx.now (binders_of l.binders) (statements_of l.body)) (MayBindAt l.here.app.now l.here.ctx.now (binders_of l.binders) (statements_of l.body))
+    (live_under l.here.pc.now l.tuples) (live_under l.here.pc.now (drop l.tuple-index l.tuples))
+    (faceted (state_of k.seen l.fn.work) l.fn.frame.env l.fn.frame.out) (faceted (state_of k.seen l.work) l.frame.env l.frame.out))
 
 abbrev pub decreases-execute_all : goal.decreases-execute_all
 decreases-execute_all g l = 8 * size-Stmts l.stmts.now
@@ -72,7 +72,7 @@ abbrev pub decreases-execute_bound : goal.decreases-execute_bound
 decreases-execute_bound g l = 8 * size-Stmts l.body.now + 1
 
 abbrev pub decreases-execute_create : goal.decreases-execute_create
-decreases-execute_create g l = 8 * size-Stmts l.body.now + 3
+decreases-execute_create g l = 8 * size-Stmts l.creation.now.body.now + 3
 
 abbrev pub decreases-execute_made : goal.decreases-execute_made
-decreases-execute_made g l = 8 * size-Stmts l.body.now + 2
+decreases-execute_made g l = 8 * size-Stmts l.creation.now.body.now + 2

@@ -10,6 +10,6 @@ use Rattle.jac_write.proofs.drafts.new_drafts.Given as goal
 
 abbrev pub invariant-fields : goal.invariant-fields
 invariant-fields g l =
-    All (λ (r : Row). r.id ≡ l.id) l.drafts.items
-    × ((w : ℕ → Bool) → finished (fitted_from (application_of l.app).models (fields_at (application_of l.app).models l.model) l.field (all_at w (drop l.field l.cells))) (cells_at w l.drafts.items)
-    ≡ (if holds w l.guard then fitted_from (application_of l.app).models (fields_at (application_of l.app).models l.model) 0 (all_at w l.cells) ∷ [] else []))
+    All (λ (r : Row). r.id ≡ l.subject.id) l.drafts.items
+    × ((w : ℕ → Bool) → finished (fitted_from (application_of l.subject.app.now).models (fields_at (application_of l.subject.app.now).models l.subject.model) l.field (all_at w (drop l.field l.cells))) (cells_at w l.drafts.items)
+    ≡ (if holds w l.guard then fitted_from (application_of l.subject.app.now).models (fields_at (application_of l.subject.app.now).models l.subject.model) 0 (all_at w l.cells) ∷ [] else []))

@@ -9,6 +9,6 @@ use Rattle.jac_write.proofs.stored.add_stored.Given as goal
 
 abbrev pub invariant-drafts : goal.invariant-drafts
 invariant-drafts g l =
-    All (λ (r : Row). r.id ≡ l.id) l.out.items
-    × ((w : ℕ → Bool) → cells_at w l.out.items ++ each_row w (shielded (application_of l.app).models w l.model l.id (named_by (application_of l.app).models l.model w l.named)) (drop l.draft-index l.drafts)
-    ≡ cells_at w l.fn.out.items ++ map (shielded (application_of l.app).models w l.model l.id (named_by (application_of l.app).models l.model w l.named)) (cells_at w l.drafts))
+    All (λ (r : Row). r.id ≡ l.subject.id) l.out.items
+    × ((w : ℕ → Bool) → cells_at w l.out.items ++ each_row w (shielded (application_of l.subject.app.now).models w l.subject.model l.subject.id (named_by (application_of l.subject.app.now).models l.subject.model w l.named)) (drop l.draft-index l.drafts)
+    ≡ cells_at w l.fn.out.items ++ map (shielded (application_of l.subject.app.now).models w l.subject.model l.subject.id (named_by (application_of l.subject.app.now).models l.subject.model w l.named)) (cells_at w l.drafts))

@@ -9,7 +9,7 @@ pub fields-preserved : goal.fields-preserved
 fields-preserved g c = (
   c.in_ok-stored-2.ensures.own,
   λ w.
-      cell_stored (entities_of c.args.app.now.models) w c.args.model c.args.id (named_by (entities_of c.args.app.now.models) c.args.model w c.args.named) c.args.draft.now.cells c.index-cells-field.result c.in_ok-cell.cell
+      cell_stored (entities_of c.args.subject.now.app.now.models) w c.args.subject.now.model c.args.subject.now.id (named_by (entities_of c.args.subject.now.app.now.models) c.args.subject.now.model w c.args.named) c.args.draft.now.cells c.index-cells-field.result c.in_ok-cell.cell
       c.fields.field c.fields.stored.items c.as_slice.result.now c.in_ok-stored-2.stored.items (rw c.as_slice-cells.ensures at c.index-cells-field.is)
       (rw c.as_slice-cells.ensures at c.fields-test.true) c.as_slice.ensures.value (c.in_ok-cell.ensures w) (c.in_ok-stored-2.ensures.shown w)
       ∙ c.fields.invariant.1 w,
@@ -17,6 +17,6 @@ fields-preserved g c = (
 
 pub returns-clause-shown : goal.returns-clause-shown
 returns-clause-shown g c w =
-    sym (stored_done (entities_of c.args.app.now.models) w c.args.model c.args.id (named_by (entities_of c.args.app.now.models) c.args.model w c.args.named) c.args.draft.now.cells c.fields.field (cells_at w c.fields.stored.items)
+    sym (stored_done (entities_of c.args.subject.now.app.now.models) w c.args.subject.now.model c.args.subject.now.id (named_by (entities_of c.args.subject.now.app.now.models) c.args.subject.now.model w c.args.named) c.args.draft.now.cells c.fields.field (cells_at w c.fields.stored.items)
     (rw c.as_slice-cells.ensures at c.fields-test.false))
     ∙ c.fields.invariant.1 w

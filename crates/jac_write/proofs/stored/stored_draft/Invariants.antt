@@ -9,6 +9,6 @@ use Rattle.jac_write.proofs.stored.stored_draft.Given as goal
 
 abbrev pub invariant-fields : goal.invariant-fields
 invariant-fields g l =
-    All (λ (r : Row). r.id ≡ l.id) l.stored.items
-    × ((w : ℕ → Bool) → finished (each_cell (stored_at (application_of l.app).models w l.model l.id (named_by (application_of l.app).models l.model w l.named) l.draft.cells) l.field (drop l.field l.draft.cells)) (cells_at w l.stored.items)
-    ≡ map (shielded (application_of l.app).models w l.model l.id (named_by (application_of l.app).models l.model w l.named)) (cells_at w (l.draft ∷ [])))
+    All (λ (r : Row). r.id ≡ l.subject.id) l.stored.items
+    × ((w : ℕ → Bool) → finished (each_cell (stored_at (application_of l.subject.app.now).models w l.subject.model l.subject.id (named_by (application_of l.subject.app.now).models l.subject.model w l.named) l.draft.cells) l.field (drop l.field l.draft.cells)) (cells_at w l.stored.items)
+    ≡ map (shielded (application_of l.subject.app.now).models w l.subject.model l.subject.id (named_by (application_of l.subject.app.now).models l.subject.model w l.named)) (cells_at w (l.draft ∷ [])))

@@ -8,12 +8,12 @@ use Rattle.jac_write.proofs.updating.remade_rows.Goals as goal
 
 pub returns-clause-shown : goal.returns-clause-shown
 returns-clause-shown g c w =
-    let models = entities_of c.args.app.now.models in
-    let fields = fields_at models c.args.model in
+    let models = entities_of c.args.subject.now.app.now.models in
+    let fields = fields_at models c.args.subject.now.model in
     let sets = sets_at w c.args.sets.now in
     let outer = cells_at w c.in_ok-remade.remade.items in
     let inner = cells_at w c.in_ok-inner.inner.items in
-    let store = shielded models w c.args.model c.args.id (is_put sets) in
+    let store = shielded models w c.args.subject.now.model c.args.subject.now.id (is_put sets) in
     remade w c.args.guard.now (put_in models fields sets) store (cells_at w c.args.rows.now) outer inner (cells_at w c.in_ok-drafts.drafts.items)
     (cells_at w c.add_stored.new.out.items) (c.in_ok-remade.ensures.shown w) (c.in_ok-inner.ensures.shown w)
     (c.in_ok-drafts.ensures.shown w ∙ ap (λ ss. map (put_in models fields (sets_at w ss)) inner) c.as_slice.ensures)
