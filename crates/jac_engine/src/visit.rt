@@ -368,7 +368,7 @@ fn store_view<K: Keeper, L: Ledger, M: Ledger>(
     let touch = touch_seat(work, visited, seat)?;
     let viewer = &visited.ask.viewer;
     let settled = settle_seat(work, visited.app, viewer, seat, evaluations)?;
-    let page = page_of(work.alloc, &pieces, &settled)?;
+    let page = page_of(work.alloc, pieces, &settled)?;
     Ok(Touching {
         shown: Labelled {
             page,

@@ -7,9 +7,9 @@ ghost use Rattle.jac_facet.specs.Leaves.{seen};
 ghost use Rattle.jac_plain.specs.Expressions.{is_true, pick, two};
 ghost use Rattle.jac_expr.specs.Leafed.{last_by};
 
-use crate::operations::is_true;
 use jac_facet::Facet;
 use jac_lang::Op;
+use jac_plain::is_true;
 use jac_value::{Memory, Value};
 use jac_world::{Guard, Steps};
 use std::alloc::Global;

@@ -21,5 +21,4 @@ pub use binding::bind_tuple;
 pub use env::Env;
 pub use evaluation::{eval, tuples};
 pub use here::Here;
-pub use jac_plain::Ctx;
-pub use operations::is_true;
+pub use jac_plain::{Ctx, is_true};

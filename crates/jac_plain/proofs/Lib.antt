@@ -7,3 +7,4 @@ pub mod LoopLaws
 pub mod KeptLaws
 pub mod GoodLaws
 pub mod NewLaws
+pub mod Locations

@@ -7,3 +7,4 @@ pub mod Requests
 pub mod Reading
 pub mod Making
 pub mod Policies
+pub mod Pieces

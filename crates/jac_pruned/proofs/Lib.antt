@@ -4,7 +4,6 @@ pub mod Going
 pub mod Growing
 pub mod Joining
 pub mod Keyed
-pub mod Locations
 pub mod Names
 pub mod Owning
 pub mod Places

@@ -16,13 +16,11 @@ use crate::assigning::assign;
 use crate::binding::{bind_tuple, bind_value, loop_of};
 use crate::evaluation::{answers_at, eval};
 use crate::fixed::At;
-use crate::operations::is_true;
-use crate::page::page_of;
-use crate::pieces::{add_escaped, add_missing, add_redirect, add_text};
+use crate::pieces::{add_missing, add_value};
 use crate::progress::Progress;
 use jac_keep::{Keeper, Stop, Work};
 use jac_lang::{Binders, Expr, PlainEnv, Query, Stmt, Stmts};
-use jac_plain::{Ctx, Page};
+use jac_plain::{Ctx, Form, Page, is_true, page_of};
 use jac_value::{Ids, Txt, Value};
 
 /// The page of statements that write nothing, run from these bindings in the world that the
@@ -146,7 +144,7 @@ fn execute_put<K: Keeper>(
     ensures grows { Grows support.old support.new }
 {
     let value = eval(work, at, run.env.as_slice(), e, support)?;
-    add_text(work.alloc, &mut run.pieces, &value)?;
+    add_value(work.alloc, &mut run.pieces, &value, Form::Text)?;
     Ok(())
 }
 
@@ -168,7 +166,7 @@ fn execute_escape<K: Keeper>(
     ensures grows { Grows support.old support.new }
 {
     let value = eval(work, at, run.env.as_slice(), e, support)?;
-    add_escaped(work.alloc, &mut run.pieces, &value)?;
+    add_value(work.alloc, &mut run.pieces, &value, Form::Escaped)?;
     Ok(())
 }
 
@@ -190,7 +188,7 @@ fn execute_redirect<K: Keeper>(
     ensures grows { Grows support.old support.new }
 {
     let value = eval(work, at, run.env.as_slice(), e, support)?;
-    add_redirect(work.alloc, &mut run.pieces, &value)?;
+    add_value(work.alloc, &mut run.pieces, &value, Form::Location)?;
     Ok(())
 }
 

@@ -1,4 +1,3 @@
-pub mod PageLaws
 pub mod RunLaws
 pub mod PlaceLaws
 pub mod DraftLaws

@@ -20,9 +20,9 @@ use Rattle.jac_plain.specs.Statements.{Run, value_in, with_piece, cut_to, scoped
 use Rattle.jac_expr.specs.Seen.{env_at, world_at}
 use Rattle.jac_expr.proofs.Names.{env_at-append}
 use Rattle.jac_write.specs.Writes.{PlainTables, numbered, Written, Writes}
-use Rattle.jac_stmt.specs.Pages.{piece_of}
+use Rattle.jac_plain.specs.Pieces.{piece_of}
 use Rattle.jac_stmt.specs.Runs.{Faceted, faceted, run_at, setting_at, Ran, Runs, Executes}
-use Rattle.jac_stmt.specs.declared.pieces.Form.{Form}
+use Rattle.jac_plain.specs.declared.pieces.Form.{Form}
 
 -- wherever the path condition holds the facet shows the value of the expression
 abbrev pub MeansAt : App → Ctx → State → List (List ℕ × Shape Value) → List (ℕ × Bool) → Expression → Shape Value → Type 0

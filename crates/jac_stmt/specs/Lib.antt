@@ -1,4 +1,3 @@
 pub mod Drafts
-pub mod Pages
 pub mod Runs
 pub mod Places

@@ -2,7 +2,7 @@ use Rattle.std.proofs.Common.{refl}
 use Rattle.jac_keep.specs.Worked.{state_of}
 use Rattle.jac_lang.specs.Mirror.{expression_of}
 use Rattle.jac_lang.specs.Syntax.{Statement}
-use Rattle.jac_stmt.specs.declared.pieces.Form.TheVariants as form
+use Rattle.jac_plain.specs.declared.pieces.Form.TheVariants as form
 use Rattle.jac_stmt.proofs.RunLaws.{adds_value}
 use Rattle.jac_stmt.proofs.execution.execute_redirect.Goals as goal
 

@@ -1,7 +1,7 @@
 use Rattle.std.proofs.Common.{◌≡◌, ℕ, Bool, ◌++◌, map}
 use Rattle.std.specs.Vec.Iter.{into_iter_items}
 use Rattle.jac_facet.specs.Leaves.{seen}
-use Rattle.jac_stmt.specs.Pages.{piece_of}
+use Rattle.jac_plain.specs.Pieces.{piece_of}
 use Rattle.jac_stmt.proofs.pieces.add_leaves.Given as goal
 
 abbrev pub invariant-leaves : goal.invariant-leaves

@@ -1,8 +1,8 @@
 use Rattle.std.proofs.Common.{arith}
 use Rattle.std.proofs.lemmas.List.Elements.{All-from_get_or}
 use Rattle.percent_encoding.proofs.PercentLemmas.{IsByte}
-use Rattle.jac_stmt.proofs.PageLaws.{location_escapes}
-use Rattle.jac_stmt.proofs.page.escape.Goals as goal
+use Rattle.jac_plain.proofs.Locations.{location_escapes}
+use Rattle.jac_plain.proofs.pages.escape.Goals as goal
 
 pub returns : goal.returns
 returns c =

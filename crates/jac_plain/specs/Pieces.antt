@@ -5,8 +5,8 @@ use Rattle.jac_plain.specs.declared.page.Piece.{Piece}
 use Rattle.jac_plain.specs.declared.page.Piece.TheVariants as piece
 use Rattle.jac_plain.specs.Expressions.{bytes_of}
 use Rattle.jac_plain.specs.Statements.{html}
-use Rattle.jac_stmt.specs.declared.pieces.Form.{Form}
-use Rattle.jac_stmt.specs.declared.pieces.Form.TheVariants as form
+use Rattle.jac_plain.specs.declared.pieces.Form.{Form}
+use Rattle.jac_plain.specs.declared.pieces.Form.TheVariants as form
 
 abbrev pub piece_of : Form → Value → Piece
 piece_of form.Text v = piece.Added (value_text v)

@@ -3,7 +3,7 @@ ghost use Rattle.std.specs.Prelude.{◌≡◌, ◌++◌, ◌∷◌, [], None, If
 ghost use Rattle.std.specs.Option.{option_copied, option_map};
 ghost use Rattle.jac_plain.specs.Requests.{location, body_of, is_missing, redirect_of, found_page, page_of as page_made};
 
-use jac_plain::{Page, Piece};
+use crate::{Page, Piece};
 use jac_value::{Bytes, Memory, Txt};
 use percent_encoding::{AsciiSet, CONTROLS, ascii_set, percent_encode};
 use std::alloc::Global;
@@ -12,7 +12,7 @@ use std::alloc::Global;
 const ESCAPED: AsciiSet = ascii_set!(CONTROLS.add(b' '));
 
 /// The page of the pieces.
-pub(crate) fn page_of(alloc: Global, pieces: &[Piece]) -> Result<Page, Memory>
+pub fn page_of(alloc: Global, pieces: &[Piece]) -> Result<Page, Memory>
     ensures { IfOk result (λ p. p ≡ page_made pieces.now) }
 {
     let body = join_body(alloc, pieces)?;

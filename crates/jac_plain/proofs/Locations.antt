@@ -6,7 +6,7 @@ use Rattle.percent_encoding.specs.AsciiSet.{should_percent_encode}
 use Rattle.percent_encoding.specs.Percent.{percent_encode, percent_encode_byte, encode_byte}
 use Rattle.percent_encoding.proofs.PercentLemmas.{IsByte}
 use Rattle.jac_plain.specs.Requests.{location}
-use Rattle.jac_pruned.specs.declared.page.TheConstants.{ESCAPED}
+use Rattle.jac_plain.specs.declared.pages.TheConstants.{ESCAPED}
 
 abbrev is_visible : ℕ → Bool
 is_visible b = nat_le 0x21 b && nat_le b 0x7E

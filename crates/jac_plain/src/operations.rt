@@ -1,4 +1,4 @@
-//! Operations on values.
+//! Operations on values, in one world.
 ghost use Rattle.std.specs.Prelude.{◌≡◌, IfSome};
 ghost use Rattle.jac_value.specs.declared.value.Value.{Value as Seen};
 ghost use Rattle.jac_plain.specs.Expressions.{int_of, is_true, less_of, two};
@@ -6,7 +6,8 @@ ghost use Rattle.jac_plain.specs.Expressions.{int_of, is_true, less_of, two};
 use jac_lang::Op;
 use jac_value::Value;
 
-pub(crate) fn two_values(op: Op, first: &Value, second: &Value) -> Value
+/// The value of an operation of two operands.
+pub fn two_values(op: Op, first: &Value, second: &Value) -> Value
     ensures { result ≡ two op first.now second.now }
 {
     match op {
@@ -22,7 +23,7 @@ pub(crate) fn two_values(op: Op, first: &Value, second: &Value) -> Value
 
 /// The result where the first operand decides it: a false one of `and`, a true one of `or`. The
 /// other operand is then not asked for, and what it would consult isn't.
-pub(crate) fn decided(op: Op, first: &Value) -> Option<Value>
+pub fn decided(op: Op, first: &Value) -> Option<Value>
     ensures { IfSome result (λ v. (second : Seen) → v ≡ two op first.now second) }
 {
     match op {
