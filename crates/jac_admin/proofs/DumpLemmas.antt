@@ -3,7 +3,7 @@ use Rattle.std.proofs.Common.{◌≡◌, ◌≤◌, ◌⊎◌, inl, inr, ◌∙�
 use Rattle.std.specs.Option.{option_map}
 use Rattle.std.proofs.lemmas.Option.{slice_get-map}
 use Rattle.jac_io.specs.Seen.{FilesSeen, SinkSeen}
-use Rattle.jac_world.specs.World.{holds, shown}
+use Rattle.jac_world.specs.World.{holds, shown_by}
 use Rattle.jac_lang.specs.declared.application.App.{App}
 use Rattle.jac_lang.specs.declared.schema.ModelDef.{ModelDef}
 use Rattle.jac_lang.specs.Mirror.{application_of, entities_of, entity_of}
@@ -157,7 +157,7 @@ module _ (files : Span FilesSeen) (out audit later : SinkSeen) (keeper : Span Ke
         application = application_read (commands.Dump dumping) files (span out out) (span audit later) keeper app sessions events read;
         no_audit = refl;
         unaimed = λ told. ap (λ (s : SinkSeen). s.aims) barred.aims;
-        ends = unattached_ends dumping.db app (shown dumping.labels) (span out out) keeper ending barred.attaches;
+        ends = unattached_ends dumping.db app (shown_by dumping.labels) (span out out) keeper ending barred.attaches;
       }))
 
   pub dump_halted : IsHalted (commands.Dump dumping) files (span audit later) keeper ending
@@ -171,7 +171,7 @@ module _ (files : Span FilesSeen) (out audit later : SinkSeen) (keeper : Span Ke
 pub dump_ended : (files : Span FilesSeen) (out_before out_after audit later : SinkSeen) (before opened after : KeeperSeen) (dumping : Dumping) (w : ℕ → Bool)
     (app : Application) (sessions : List Session) (events : List ℕ) (result : Result (Unit {0}) Ending)
     → HasBegun (commands.Dump dumping) files (span audit later) (span before opened) app sessions events
-    → ((k : ℕ) → w k ≡ shown dumping.labels k) → IsLeft opened after → Closed (span out_before out_after) (EndsRead app w (span out_before out_after) (span opened after) result)
+    → ((k : ℕ) → w k ≡ shown_by dumping.labels k) → IsLeft opened after → Closed (span out_before out_after) (EndsRead app w (span out_before out_after) (span opened after) result)
     → WentAimed (sinks out_before out_after audit later) (EndsDump (sight_of files (span out_before out_after) (span audit later) (span before after)) (commands.Dump dumping) result)
 dump_ended files out_before out_after audit later before opened after dumping w app sessions events result begun same left closed =
     let out = span out_before out_after in
@@ -187,7 +187,7 @@ dump_ended files out_before out_after audit later before opened after dumping w 
         application = application_read (commands.Dump dumping) files out (span audit later) (span before after) app sessions events begun.read;
         no_audit = refl;
         unaimed = λ told. ap (λ (s : SinkSeen). s.aims) begun.aims;
-        ends = same_shown (λ (v : ℕ → Bool). EndsDumping dumping.db app v out (span before after) result closed.put) w (shown dumping.labels) same
+        ends = same_shown (λ (v : ℕ → Bool). EndsDumping dumping.db app v out (span before after) result closed.put) w (shown_by dumping.labels) same
             (read_ends dumping.db app w out before opened after begun.attaches left result closed.put closed.holds);
       });
     }

@@ -11,7 +11,7 @@ use Rattle.jac_plain.specs.Policies.{AreAllowed, IsSettled}
 use Rattle.jac_keep.specs.KeeperSeen.{KeeperSeen, IsLeft}
 use Rattle.jac_keep.specs.Schema.{IsFit}
 use Rattle.jac_keep.proofs.SoundLaws.{sound_if_good}
-use Rattle.jac_resolve.specs.Rounds.{worlds_of, AreLive, HasSoundTables}
+use Rattle.jac_resolve.specs.Rounds.{AreLive, HasSoundTables}
 use Rattle.jac_route.specs.declared.sessions.Session.{Session}
 use Rattle.jac_words.specs.declared.words.Command.TheVariants as commands
 use Rattle.jac_words.specs.declared.words.Explaining.{Explaining}
@@ -24,6 +24,7 @@ use Rattle.jac_ending.specs.Ending.{Closed}
 use Rattle.jac_ending.specs.Outset.{sight_of, AreFilesRead, HasBegun, IsBarred, IsHalted, IsStoppedAiming}
 use Rattle.jac_ending.proofs.OutsetLemmas.{application_read, idle_behind, idle_with}
 use Rattle.jac_admin.specs.Explain.{asker_of, why_line, why_lines, whys_text, scene_with, IsExplanation, EndsExplained, EndsExplain}
+use Rattle.jac_plain.specs.Shown.{worlds_of}
 
 -- a state that fits has sound tables
 pub sound_tables : (app : Application) (s : State) → IsFit (shapes_of app) s → HasSoundTables s

@@ -15,15 +15,15 @@ use Rattle.jac_rows.specs.Good.{ModelShape}
 use Rattle.jac_rows.specs.Project.{project_at}
 use Rattle.jac_rows.specs.declared.state.State.{State}
 use Rattle.jac_keep.specs.KeeperSeen.{KeeperSeen, Store, IsLeft}
-use Rattle.jac_keep.specs.Kept.{applied}
-use Rattle.jac_keep.specs.Reshaping.{widened, Reshapes}
+use Rattle.jac_keep.specs.Kept.{changed_state}
+use Rattle.jac_keep.specs.Reshaping.{widened_state, Reshapes}
 use Rattle.jac_keep.specs.Schema.{IsSchema, IsFit}
 use Rattle.jac_keep.specs.declared.alteration.Alteration.{Alteration}
 use Rattle.jac_keep.specs.declared.alteration.Change.{Change}
 use Rattle.jac_keep.specs.declared.stop.Stop.{Stop}
 use Rattle.jac_opening.specs.Application.{schema_text}
 use Rattle.jac_upgrade.specs.Changed.{AreIdsOf, changed_ids}
-use Rattle.jac_upgrade.specs.Upgraded.{upgraded}
+use Rattle.jac_upgrade.specs.Upgraded.{upgraded_state}
 use Rattle.jac_admin.specs.Upgrade.{IsUpgraded}
 use Rattle.jac_admin.proofs.DumpLemmas.{left_then}
 use Rattle.jac_serving.specs.Outside.{span}
@@ -75,19 +75,19 @@ module _ (old new : Application) (before middle : KeeperSeen) (change : Change) 
     (left : IsLeft before middle) (text : schema ≡ schema_text new)
     (is_schema : IsSchema (schema_text new) (shapes_of new))
     (fit : IsTrue middle.tells →
-    IsFit (shapes_of new) (widened (length new.models) (applied change before.state))) where
+    IsFit (shapes_of new) (widened_state (length new.models) (changed_state change before.state))) where
   schema_is : IsSchema schema (shapes_of new)
   schema_is = subst (λ (t : List ℕ). IsSchema t (shapes_of new)) (sym text) is_schema
 
   pub reshape_fits : (shapes : List ModelShape) × IsSchema schema shapes
-      × (IsTrue middle.tells → IsFit shapes (widened (length shapes) (applied change middle.state)))
+      × (IsTrue middle.tells → IsFit shapes (widened_state (length shapes) (changed_state change middle.state)))
   reshape_fits = (
     shapes_of new,
     schema_is,
     λ told.
-        subst (λ (n : ℕ). IsFit (shapes_of new) (widened n (applied change middle.state)))
+        subst (λ (n : ℕ). IsFit (shapes_of new) (widened_state n (changed_state change middle.state)))
         (sym (length_shapes new))
-        (subst (λ (s : State). IsFit (shapes_of new) (widened (length new.models) (applied change s)))
+        (subst (λ (s : State). IsFit (shapes_of new) (widened_state (length new.models) (changed_state change s)))
         (sym (left.same_state told)) (fit told)),
   )
 
@@ -100,15 +100,15 @@ module _ (old new : Application) (before middle : KeeperSeen) (change : Change) 
     pub upgraded_if_done : Reshapes middle after change schema (Ok tt)
         → (IsTrue middle.tells → AreIdsOf before.state (changed_ids change.changed))
         → (IsTrue middle.tells → (w : ℕ → Bool) →
-        project_at w (widened (length new.models) (applied change before.state))
-        ≡ upgraded w old.models new.models (project_at w before.state))
+        project_at w (widened_state (length new.models) (changed_state change before.state))
+        ≡ upgraded_state w old.models new.models (project_at w before.state))
         → IsUpgraded old new (span before after) (length change.changed)
     upgraded_if_done r names shows =
-        let state : IsTrue after.tells → after.state ≡ widened (length new.models) (applied change before.state) =
+        let state : IsTrue after.tells → after.state ≡ widened_state (length new.models) (changed_state change before.state) =
         λ told.
         r.ok.state told (shapes_of new) schema_is
-        ∙ ap (λ (n : ℕ). widened n (applied change middle.state)) (length_shapes new)
-        ∙ ap (λ (s : State). widened (length new.models) (applied change s)) (left.same_state (r.told told)) in
+        ∙ ap (λ (n : ℕ). widened_state n (changed_state change middle.state)) (length_shapes new)
+        ∙ ap (λ (s : State). widened_state (length new.models) (changed_state change s)) (left.same_state (r.told told)) in
         record {
           later = omega (arith, left.later, r.cause.later);
           store =

@@ -5,8 +5,8 @@ use Rattle.jac_io.specs.Faults.{Rose}
 use Rattle.jac_io.specs.Seen.{SinkSeen}
 use Rattle.jac_value.specs.declared.value.Value.{Value}
 use Rattle.jac_value.specs.declared.value.Value.TheVariants as values
-use Rattle.jac_value.specs.Quoted.{quoted}
-use Rattle.jac_world.specs.World.{shown}
+use Rattle.jac_value.specs.Quoted.{quoted_bytes}
+use Rattle.jac_world.specs.World.{shown_by}
 use Rattle.jac_lang.specs.declared.field_kinds.Field.{Field}
 use Rattle.jac_lang.specs.Syntax.{Entity, Application}
 use Rattle.jac_rows.specs.declared.plain.PlainRow.{PlainRow}
@@ -31,7 +31,7 @@ use Rattle.jac_ending.specs.Early.{IsEndedEarly}
 -- a number in decimal, a text in quotes, a word for a truth, and the id of a reference or `none`
 abbrev pub cell_text : Value → List ℕ
 cell_text (values.Int i) = signed_decimal i
-cell_text (values.Text t) = quoted t
+cell_text (values.Text t) = quoted_bytes t
 cell_text (values.Bool true) = codes "true"
 cell_text (values.Bool false) = codes "false"
 cell_text (values.Ref None) = codes "none"
@@ -68,9 +68,9 @@ dump_text app s = tables_text app.models 0 s.tables ++ number_line s.number
 -- ---- the steps
 
 -- the labels that are shown
-abbrev pub labels_in : Command → List ℕ
-labels_in (commands.Dump dumping) = dumping.labels
-labels_in command = []
+abbrev pub labels_dumped : Command → List ℕ
+labels_dumped (commands.Dump dumping) = dumping.labels
+labels_dumped command = []
 
 -- the text is that of what the store tells, as the assignment shows it
 abbrev pub IsDumpOf : Application → (ℕ → Bool) → KeeperSeen → List ℕ → Type 0
@@ -118,7 +118,8 @@ pub record IsDumping (seen : Sight) (command : Command) (result : Result (Unit {
   pub application : HasApplication seen command app
   pub no_audit : audit_bytes ≡ []
   pub unaimed : IsTrue seen.audit.after.tells → seen.audit.after.aims ≡ seen.audit.before.aims
-  pub ends : EndsDumping (db_of command) app (shown (labels_in command)) seen.out seen.keeper result
+  pub ends : EndsDumping (db_of command) app (shown_by (labels_dumped command)) seen.out seen.keeper
+      result
       out_bytes
 
 -- what the steps of a dump put, and why they ended

@@ -5,11 +5,11 @@ use Rattle.jac_io.specs.Seen.{SinkSeen}
 use Rattle.jac_value.specs.Ids.{record_of_label}
 use Rattle.jac_world.specs.World.{IsAscending}
 use Rattle.jac_lang.specs.Syntax.{Application, Entity}
-use Rattle.jac_check.specs.Causes.{name_in}
+use Rattle.jac_check.specs.Causes.{entity_name}
 use Rattle.jac_rows.specs.declared.state.State.{State}
 use Rattle.jac_plain.specs.Policies.{IsSettled}
 use Rattle.jac_keep.specs.KeeperSeen.{KeeperSeen, IsLeft}
-use Rattle.jac_resolve.specs.Rounds.{worlds_of, AreLive}
+use Rattle.jac_resolve.specs.Rounds.{AreLive}
 use Rattle.jac_replies.specs.Spelled.{labels_text}
 use Rattle.jac_route.specs.Parameters.{viewer_of}
 use Rattle.jac_words.specs.declared.words.Command.{Command}
@@ -26,7 +26,8 @@ use Rattle.jac_ending.specs.Attached.{AttachesAs}
 use Rattle.jac_ending.specs.Early.{IsEndedEarly}
 use Rattle.jac_ending.specs.Ending.{PutsText}
 use Rattle.jac_ending.specs.Files.{Sight, HasApplication}
-use Rattle.jac_admin.specs.Upgrade.{IsUnmoved, IsKept}
+use Rattle.jac_admin.specs.Upgrade.{IsStoreUnmoved, IsKept}
+use Rattle.jac_plain.specs.Shown.{worlds_of}
 
 -- ---- the lines
 
@@ -38,7 +39,7 @@ shown_line labels = codes "shown " ++ (labels_text labels ++ codes "\n")
 abbrev pub reason_text : List Entity → Reason → List ℕ
 reason_text models r =
     decimal r.label
-    ++ (codes " " ++ (name_in (slice_get models r.model)
+    ++ (codes " " ++ (entity_name (slice_get models r.model)
     ++ (codes " " ++ (decimal (record_of_label r.label) ++ (codes " " ++ decimal r.group)))))
 
 -- a label that isn't shown, and what stands against it
@@ -85,7 +86,8 @@ asker_in (commands.Why explaining) app = asker_of app explaining.viewer
 asker_in command app = None
 
 -- the text of what the store tells was put, or the front of it
-pub record IsAnswered (app : Application) (viewer : Option ℕ) (out : Span SinkSeen) (k : KeeperSeen)
+pub record IsTextExplained (app : Application) (viewer : Option ℕ) (out : Span SinkSeen)
+    (k : KeeperSeen)
     (result : Result (Unit {0}) Ending) (put : List ℕ) : Type 0 where
   pub text : List ℕ
   pub explains : IsTrue k.tells → IsExplanation app viewer k.state text
@@ -96,7 +98,7 @@ pub record IsAnswered (app : Application) (viewer : Option ℕ) (out : Span Sink
 abbrev pub EndsExplained : Application → Option ℕ → Span SinkSeen → Span KeeperSeen
     → Result (Unit {0}) Ending → List ℕ → Type 0
 EndsExplained app viewer out k result put =
-    IsAnswered app viewer out k.after result put ⊎ IsKept k result put
+    IsTextExplained app viewer out k.after result put ⊎ IsKept k result put
 
 -- a store was attached and read, which left it as it was
 pub record IsExplained (db : Option (List ℕ)) (app : Application) (viewer : Option ℕ)
@@ -111,7 +113,7 @@ pub record IsExplained (db : Option (List ℕ)) (app : Application) (viewer : Op
 abbrev pub EndsExplaining : Option (List ℕ) → Application → Option ℕ → Span SinkSeen
     → Span KeeperSeen → Result (Unit {0}) Ending → List ℕ → Type 0
 EndsExplaining db app viewer out k result put =
-    IsUnmoved db app k result put ⊎ IsExplained db app viewer out k result put
+    IsStoreUnmoved db app k result put ⊎ IsExplained db app viewer out k result put
 
 -- the application was read, and its store was asked; the audit was left alone
 pub record IsExplaining (seen : Sight) (command : Command) (result : Result (Unit {0}) Ending)

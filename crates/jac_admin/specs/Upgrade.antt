@@ -4,7 +4,7 @@ use Rattle.jac_io.specs.Faults.{Rose}
 use Rattle.jac_io.specs.Seen.{SinkSeen}
 use Rattle.jac_lang.specs.Lookup.{fields_at}
 use Rattle.jac_lang.specs.Syntax.{Application, Entity}
-use Rattle.jac_check.specs.Causes.{name_in}
+use Rattle.jac_check.specs.Causes.{entity_name}
 use Rattle.jac_rows.specs.Project.{project_at}
 use Rattle.jac_plain.specs.Models.{shapes_of}
 use Rattle.jac_plain.specs.Records.{name_in as field_name_in}
@@ -17,7 +17,7 @@ use Rattle.jac_serving.specs.Keeping.{IsStill}
 use Rattle.jac_serving.specs.Outside.{Span, span}
 use Rattle.jac_upgrade.specs.Changed.{AreIdsOf}
 use Rattle.jac_upgrade.specs.Extends.{models_lack}
-use Rattle.jac_upgrade.specs.Upgraded.{upgraded}
+use Rattle.jac_upgrade.specs.Upgraded.{upgraded_state}
 use Rattle.jac_upgrade.specs.declared.fault.UpgradeFault.{UpgradeFault}
 use Rattle.jac_upgrade.specs.declared.fault.UpgradeFault.TheVariants as lacks
 use Rattle.jac_ending.specs.declared.ending.Ending.{Ending}
@@ -33,14 +33,14 @@ use Rattle.jac_ending.specs.Files.{Sight, HasApplication, HasNext}
 -- `group NAME G` of the first
 abbrev pub lack_line : List Entity → UpgradeFault → List ℕ
 lack_line models (lacks.Model m) =
-    codes "upgrade: model " ++ (name_in (slice_get models m) ++ 10 ∷ [])
+    codes "upgrade: model " ++ (entity_name (slice_get models m) ++ 10 ∷ [])
 lack_line models (lacks.Field m f) =
     codes "upgrade: field "
-    ++ (name_in (slice_get models m)
+    ++ (entity_name (slice_get models m)
     ++ (codes " " ++ (field_name_in (slice_get (fields_at models m) f) ++ 10 ∷ [])))
 lack_line models (lacks.Group m g) =
     codes "upgrade: group "
-    ++ (name_in (slice_get models m) ++ (codes " " ++ (decimal g ++ 10 ∷ [])))
+    ++ (entity_name (slice_get models m) ++ (codes " " ++ (decimal g ++ 10 ∷ [])))
 
 -- how many records were brought to the second application
 abbrev pub upgraded_line : ℕ → List ℕ
@@ -61,7 +61,7 @@ pub record IsLacking (old new : Application) (k : Span KeeperSeen)
   pub still : IsStill k
 
 -- the store was not attached for the first application, and is as it was
-pub record IsUnmoved (db : Option (List ℕ)) (old : Application) (k : Span KeeperSeen)
+pub record IsStoreUnmoved (db : Option (List ℕ)) (old : Application) (k : Span KeeperSeen)
     (result : Result (Unit {0}) Ending) (put : List ℕ) : Type 0 where
   pub ending : Ending
   pub ended : result ≡ Err ending
@@ -76,7 +76,8 @@ pub record IsUpgraded (old new : Application) (k : Span KeeperSeen) (count : ℕ
   pub store : k.after.store ≡ record k.before.store { schema = Some (schema_text new) }
   pub told : IsTrue k.after.tells → IsTrue k.before.tells
   pub worlds : IsTrue k.after.tells → (w : ℕ → Bool) →
-      project_at w k.after.state ≡ upgraded w old.models new.models (project_at w k.before.state)
+      project_at w k.after.state ≡ upgraded_state w old.models new.models
+      (project_at w k.before.state)
   pub fit : IsTrue k.after.tells → IsFit (shapes_of new) k.after.state
   pub counted : IsTrue k.after.tells →
       (ids : List ℕ) × AreIdsOf k.before.state ids × (count ≡ length ids)
@@ -115,7 +116,7 @@ pub record IsMoved (db : Option (List ℕ)) (old new : Application) (out : Span 
 abbrev pub EndsMoving : Option (List ℕ) → Application → Application → Span SinkSeen
     → Span KeeperSeen → Result (Unit {0}) Ending → List ℕ → Type 0
 EndsMoving db old new out k result put =
-    IsUnmoved db old k result put ⊎ IsMoved db old new out k result put
+    IsStoreUnmoved db old k result put ⊎ IsMoved db old new out k result put
 
 -- how the steps behind both files end: the store is attached where the second application extends
 -- the first

@@ -3,12 +3,12 @@ ghost use Rattle.std.specs.Prelude.{◌≡◌, ◌≤◌, ◌++◌, false, true,
 ghost use Rattle.std.specs.List.{list_all};
 ghost use Rattle.jac_io.specs.Faults.{Rose};
 ghost use Rattle.jac_lang.specs.Mirror.{application_of, entities_of};
-ghost use Rattle.jac_check.specs.Causes.{name_in};
+ghost use Rattle.jac_check.specs.Causes.{entity_name};
 ghost use Rattle.jac_keep.specs.KeeperSeen.{IsLeft};
 ghost use Rattle.jac_keep.specs.Worked.{state_of, IsTold, ReadsWork};
 ghost use Rattle.jac_keep.specs.declared.stop.Stop.TheVariants.{Keeper as Failing};
 ghost use Rattle.jac_plain.specs.Policies.{AreAllowed};
-ghost use Rattle.jac_resolve.specs.Rounds.{worlds_of, HasSoundTables};
+ghost use Rattle.jac_resolve.specs.Rounds.{HasSoundTables};
 ghost use Rattle.jac_replies.specs.Spelled.{labels_text, more_labels};
 ghost use Rattle.jac_words.specs.declared.words.Command.TheVariants as commands;
 ghost use Rattle.jac_serving.specs.Outside.{IsPut, WentAimed, span, sinks};
@@ -17,6 +17,7 @@ ghost use Rattle.jac_why.specs.Whys.{all_whys, is_standing};
 ghost use Rattle.jac_ending.specs.Files.{sight};
 ghost use Rattle.jac_ending.specs.Ending.{Closed};
 ghost use Rattle.jac_admin.specs.Explain.{asker_of, shown_line, reason_text, why_line, why_lines, whys_text, scene_with, IsExplanation, EndsExplained, EndsExplain};
+ghost use Rattle.jac_plain.specs.Shown.{worlds_of};
 
 use itoa::Buffer;
 use jac_ending::{Ending, Opening, open_store};
@@ -316,7 +317,7 @@ fn push_number(text: &mut Vec<u8>, number: u128) -> Result<(), Memory>
 // The name of the model at this place.
 #[tactic(auto, using(jac_check::proofs::NameAt::name_found, jac_check::proofs::NameAt::name_missing))]
 fn model_name(models: &[ModelDef], model: u8) -> &str
-    ensures { result.now ≡ name_in (slice_get (entities_of models.now) model) }
+    ensures { result.now ≡ entity_name (slice_get (entities_of models.now) model) }
 {
     let place = usize::from(model);
     if place < models.len() {

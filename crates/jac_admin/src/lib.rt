@@ -1,10 +1,10 @@
 //! The commands on a store that serve nobody.
 #![tactic(auto)]
 
-mod dumping;
+mod dump_command;
 mod hidden;
-mod upgrading;
+mod upgrade_command;
 
-pub use dumping::dump;
+pub use dump_command::dump;
 pub use hidden::explain;
-pub use upgrading::upgrade;
+pub use upgrade_command::upgrade;

@@ -35,7 +35,7 @@ use Rattle.jac_opening.proofs.OpeningLemmas.{some_same}
 use Rattle.jac_app.specs.Run.{Ends, Runs, IsSource, Sources, ComesFor, CanAttach, usage_line}
 use Rattle.jac_demo.specs.Calendar.{calendar_text}
 use Rattle.jac_app.specs.declared.summary.Summary.{Summary}
-use Rattle.jac_world.specs.World.{shown}
+use Rattle.jac_world.specs.World.{shown_by}
 use Rattle.jac_admin.specs.Dump.{EndsDumping}
 use Rattle.jac_app.proofs.LaterLemmas.{comes_later}
 use Rattle.jac_app.proofs.ServerLemmas.{a_connection_failed}
@@ -257,7 +257,7 @@ module _ {L : Type 0} (line : L → LinkSeen) (seen : Sight) (door : Span (DoorS
   cause_of_ending (commands.Demo n) out audit ending is (inr h, uncalled) = cause_of_counting n h.app out audit ending is h.calendar h.ends
   cause_of_ending (commands.Dump dumping) out audit ending is (inl h, uncalled, unsplit) = cause_of_opening (commands.Dump dumping) ending (λ bytes read. read) (λ there bytes read. absurd (none_there there)) is h.0
   cause_of_ending (commands.Dump dumping) out audit ending is (inr h, uncalled, unsplit) =
-      cause_of_dumping (commands.Dump dumping) h.app (shown dumping.labels) out ending is h.application h.ends
+      cause_of_dumping (commands.Dump dumping) h.app (shown_by dumping.labels) out ending is h.application h.ends
   cause_of_ending (commands.Upgrade upgrading) out audit ending is (inl h, uncalled) =
       cause_of_opening (commands.Upgrade upgrading) ending (λ bytes read. inl read) (λ there bytes read. inr read) is h.0
   cause_of_ending (commands.Why explaining) out audit ending is (inl h, uncalled, unsplit) =

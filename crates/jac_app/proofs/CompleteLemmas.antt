@@ -20,7 +20,7 @@ use Rattle.jac_opening.specs.Refusal.{IsRefusedBy}
 use Rattle.jac_keep.specs.KeeperSeen.{KeeperSeen}
 use Rattle.jac_upgrade.specs.Extends.{models_lack}
 use Rattle.jac_upgrade.specs.declared.fault.UpgradeFault.{UpgradeFault}
-use Rattle.jac_admin.specs.Upgrade.{lack_line, upgraded_line, IsUnmoved, IsKept, EndsReshaping, EndsMoving, EndsUpgrade}
+use Rattle.jac_admin.specs.Upgrade.{lack_line, upgraded_line, IsStoreUnmoved, IsKept, EndsReshaping, EndsMoving, EndsUpgrade}
 use Rattle.jac_admin.specs.Explain.{asker_in, EndsExplained, EndsExplaining, EndsExplain}
 use Rattle.jac_ending.specs.Attached.{AttachesAs}
 use Rattle.jac_serving.specs.Outside.{Span, span, AWriteFailed}
@@ -34,7 +34,7 @@ use Rattle.jac_app.specs.Held.{held_of}
 use Rattle.jac_app.specs.Replay.{EndsReplay}
 use Rattle.jac_app.specs.Server.{EndsServer}
 use Rattle.jac_app.specs.Check.{EndsCheck, checked_text}
-use Rattle.jac_world.specs.World.{shown as shown_labels}
+use Rattle.jac_world.specs.World.{shown_by as shown_labels}
 use Rattle.jac_admin.specs.Dump.{EndsDump, EndsDumping}
 use Rattle.jac_app.specs.Demo.{EndsDemo, EndsCounting, EndsTallying, PutsSummary, summary_line}
 use Rattle.jac_app.specs.Run.{Ends, Runs, IsCompleted, CanHaveSessions, CanOpen, CanReplay, CanServe, CanCheck, CanDemo, CanDump, CanExplain, CanUpgrade, Extends}
@@ -350,7 +350,7 @@ not_attached db app k (endings.SessionsRefused line) h = absurd h
 completed_so : (ending cause : Ending) → ◌≡◌ {A = Result (Unit {0}) Ending} (Err ending) (Err cause) → IsCompleted (status_of cause) → IsCompleted (status_of ending)
 completed_so ending cause same h = subst (λ (e : Ending). IsCompleted (status_of e)) (sym (same_ending ending cause same)) h
 
-not_moved_from : (db : Option (List ℕ)) (app : Application) (k : Span KeeperSeen) (put : List ℕ) (ending : Ending) → IsUnmoved db app k (Err ending) put → IsCompleted (status_of ending)
+not_moved_from : (db : Option (List ℕ)) (app : Application) (k : Span KeeperSeen) (put : List ℕ) (ending : Ending) → IsStoreUnmoved db app k (Err ending) put → IsCompleted (status_of ending)
 not_moved_from db app k put ending h = completed_so ending h.ending h.ended (not_attached db app k h.ending h.attaches)
 
 -- and so does one that was kept

@@ -28,11 +28,11 @@ use Rattle.jac_ending.specs.declared.ending.Ending.TheVariants as endings
 use Rattle.jac_app.specs.declared.summary.Summary.{Summary}
 use Rattle.jac_app.specs.declared.summary.Tally.{Tally}
 use Rattle.jac_desk.specs.Asked.{ask_in}
-use Rattle.jac_app.specs.Demo.{asks_by, bytes_in, labels_shown, labels_in, summary_of, tally_of, counted, IsCounted, PutsTally, TalliesAsk, TearsAsk, TalliesLine, Tallied, TalliedTorn, Tallies, IsTalliedOn, EndsTallying, IsTold, EndsCounting, summary_line, demo_script}
+use Rattle.jac_app.specs.Demo.{asks_by, bytes_in, labels_shown, labels_in, summary_of, tally_of, summary_after, IsCounted, PutsTally, TalliesAsk, TearsAsk, TalliesLine, Tallied, TalliedTorn, Tallies, IsTalliedOn, EndsTallying, IsDemoTold, EndsCounting, summary_line, demo_script}
 use Rattle.jac_replies.specs.Failed.{status_of_stop}
-use Rattle.jac_desk.specs.Log.{hearing}
-use Rattle.jac_serving.specs.Answering.{Entry, IsHeardBy}
-use Rattle.jac_serving.specs.Log.{Brings, method_of, audit_line, audited}
+use Rattle.jac_desk.specs.Log.{application_hearing}
+use Rattle.jac_serving.specs.Answering.{LogEntry, IsHeardBy}
+use Rattle.jac_serving.specs.Log.{Brings, method_of, audit_line, audit_lines}
 use Rattle.jac_replies.specs.Spelled.{audit_text}
 use Rattle.jac_serving.specs.Keeping.{Holding, holding_of, keepers}
 use Rattle.jac_serving.specs.Outside.{Span, span, sinks, IsFront, IsPut, Went, WentAimed, WentTo}
@@ -95,18 +95,18 @@ sum_one x = omega arith
 sum_more : (first rest one all : ℕ) → rest + one ≡ all → (first + rest) + one ≡ first + all
 sum_more first rest one all h = omega (arith, h)
 
-asks_push : (method : List ℕ) (log : List Entry) (entry : Entry)
+asks_push : (method : List ℕ) (log : List LogEntry) (entry : LogEntry)
     → asks_by method log + (if bytes_eq (method_of entry.subject) method then 1 else 0) ≡ asks_by method (log ++ entry ∷ [])
 asks_push method [] entry = sum_one (if bytes_eq (method_of entry.subject) method then 1 else 0)
 asks_push method (first ∷ log) entry =
     sum_more (if bytes_eq (method_of first.subject) method then 1 else 0) (asks_by method log) (if bytes_eq (method_of entry.subject) method then 1 else 0) (asks_by method (log ++ entry ∷ []))
     (asks_push method log entry)
 
-bytes_push : (log : List Entry) (entry : Entry) → bytes_in log + length entry.answer.body ≡ bytes_in (log ++ entry ∷ [])
+bytes_push : (log : List LogEntry) (entry : LogEntry) → bytes_in log + length entry.answer.body ≡ bytes_in (log ++ entry ∷ [])
 bytes_push [] entry = sum_one (length entry.answer.body)
 bytes_push (first ∷ log) entry = sum_more (length first.answer.body) (bytes_in log) (length entry.answer.body) (bytes_in (log ++ entry ∷ [])) (bytes_push log entry)
 
-labels_push : (log : List Entry) (entry : Entry)
+labels_push : (log : List LogEntry) (entry : LogEntry)
     → labels_in log + (if bytes_eq (method_of entry.subject) (codes "GET") then labels_shown entry.answer.shown else 0) ≡ labels_in (log ++ entry ∷ [])
 labels_push [] entry = sum_one (if bytes_eq (method_of entry.subject) (codes "GET") then labels_shown entry.answer.shown else 0)
 labels_push (first ∷ log) entry =
@@ -115,7 +115,7 @@ labels_push (first ∷ log) entry =
     (labels_push log entry)
 
 -- a log in numbers, with one more entry
-summary_push : (log : List Entry) (entry : Entry) → counted (summary_of log) (method_of entry.subject) (tally_of entry.answer) ≡ summary_of (log ++ entry ∷ [])
+summary_push : (log : List LogEntry) (entry : LogEntry) → summary_after (summary_of log) (method_of entry.subject) (tally_of entry.answer) ≡ summary_of (log ++ entry ∷ [])
 summary_push log entry =
     let asks = sym (length-append log (entry ∷ [])) in
     let posts = asks_push (codes "POST") log entry in
@@ -128,12 +128,12 @@ summary_push log entry =
 pub record Tallying (app : Application) (k : Span Holding) (bytes : List ℕ) (left : Option (List ℕ)) (summary : Summary) (audit : List ℕ) : Type 0 where
   pub lines : ℕ
   pub events : List Event
-  pub log : List Entry
+  pub log : List LogEntry
   pub text : List ℕ
   pub script : served_before events (script_from (parts_left 10 left) (lines + 1) (λ c. false)) ≡ script_of bytes
   pub entries : AreEntries false app k log
   pub brought : Brings (answering_of false app []) no_connections 0 events log text no_connections
-  pub audit_text : audit ≡ audited log
+  pub audit_text : audit ≡ audit_lines log
   pub summary_is : summary ≡ summary_of log
 
 pub tally_start : (app : Application) (a : Holding) (bytes : List ℕ) (summary : Summary) → summary ≡ summary_of [] → (IsTrue a.keeper.tells → IsStart app a.keeper.state)
@@ -158,7 +158,7 @@ written_next {app} {k} {bytes} {left} p line rest written parts is =
     ap (λ (o : Option (Option Event)). served_before p.events (script_step (p.lines + 1) o (λ c. false) (script_from rest (p.lines + 1 + 1)))) (sym is)
     ∙ ap (λ (ls : List (List ℕ)). served_before p.events (script_from ls (p.lines + 1) (λ c. false))) (sym parts) ∙ p.script
 
-asks_counted : (summary : Summary) (log : List Entry) → summary ≡ summary_of log → length log ≡ summary.asks
+asks_counted : (summary : Summary) (log : List LogEntry) → summary ≡ summary_of log → length log ≡ summary.asks
 asks_counted summary log is = sym (ap (λ (s : Summary). s.asks) is)
 
 -- a request was answered and counted
@@ -167,7 +167,7 @@ tally_more : (app : Application) (a b c : Holding) (bytes : List ℕ) (left afte
     → Tallying app (span a b) bytes left summary audit → parts_left 10 left ≡ line ∷ parts_left 10 after
     → line_of line ≡ Some (Some (Asking viewer method path query body))
     → TalliesAsk app (span b c) summary.asks (ask_in app viewer method path query body) (Ok tally) au
-    → Tallying app (span a c) bytes after (counted summary method tally) (audit ++ au)
+    → Tallying app (span a c) bytes after (summary_after summary method tally) (audit ++ au)
 tally_more app a b c bytes left after summary audit line au viewer method path query body tally p parts is h =
     let event = Asking viewer method path query body in
     let answer = h.0 in
@@ -185,7 +185,7 @@ tally_more app a b c bytes left after summary audit line au viewer method path q
       brought = brings-push (answering_of false app []) p.events no_connections no_connections 0 p.log (entry ∷ []) p.text event p.brought (answer, refl);
       audit_text = audited_more p.log (entry ∷ []) summary.asks audit au asks p.audit_text (h.2 ∙ sym (append-nil (audit_line (summary.asks + 1) entry)));
       summary_is =
-          ap (λ (s : Summary). counted s method tally) p.summary_is ∙ ap (λ (t : Tally). counted (summary_of p.log) method t) h.3
+          ap (λ (s : Summary). summary_after s method tally) p.summary_is ∙ ap (λ (t : Tally). summary_after (summary_of p.log) method t) h.3
           ∙ summary_push p.log entry;
     }
 
@@ -258,7 +258,7 @@ tally_torn app a b c bytes left after summary audit line au viewer method path q
       more = au;
       served =
           is_served_by true (answering_of false app []) a c (script_of bytes).events (p.log ++ entry ∷ [])
-          (subst (λ (es : List Event). IsHeardBy true (hearing app []) es (p.log ++ entry ∷ [])) (sym all)
+          (subst (λ (es : List Event). IsHeardBy true (application_hearing app []) es (p.log ++ entry ∷ [])) (sym all)
           (brings-begun (answering_of false app []) p.events unserved event no_connections no_connections 0 p.log (entry ∷ []) p.text p.brought (inr (answer, refl))))
           (entries-then false app a b c p.log (entry ∷ []) p.entries (entries-one false app b c entry h.1));
       torn = subst (λ (n : ℕ). IsFront au (audit_line (n + 1) entry)) (sym (asks_counted summary p.log p.summary_is)) h.2;
@@ -342,7 +342,7 @@ no_fault X summary is = absurd cc
 module _ (out_before out_after audit_before audit_after : SinkSeen) (app : Application) (k : Span Holding) (count : ℕ) where
   pub told_whole : (summary : Summary) (done : Unit {0}) → WentTo (span audit_before audit_after) (EndsTallying app k count (Ok summary))
       → IsPut {E = Failed} (span out_before out_after) (summary_line summary) (Ok done)
-      → Went (sinks out_before out_after audit_before audit_after) (IsTold (sinks out_before out_after audit_before audit_after) app k count (Ok tt))
+      → Went (sinks out_before out_after audit_before audit_after) (IsDemoTold (sinks out_before out_after audit_before audit_after) app k count (Ok tt))
   told_whole summary done went put = record {
     out = put.put;
     audit = went.put;
@@ -355,7 +355,7 @@ module _ (out_before out_after audit_before audit_after : SinkSeen) (app : Appli
 
   pub told_torn : (summary : Summary) (failed : Failed) → WentTo (span audit_before audit_after) (EndsTallying app k count (Ok summary))
       → IsPut {E = Failed} (span out_before out_after) (summary_line summary) (Err failed)
-      → Went (sinks out_before out_after audit_before audit_after) (IsTold (sinks out_before out_after audit_before audit_after) app k count (Err endings.WriteFault))
+      → Went (sinks out_before out_after audit_before audit_after) (IsDemoTold (sinks out_before out_after audit_before audit_after) app k count (Err endings.WriteFault))
   told_torn summary failed went put = record {
     out = put.put;
     audit = went.put;
@@ -369,7 +369,7 @@ module _ (out_before out_after audit_before audit_after : SinkSeen) (app : Appli
 pub told_none : (out audit_before audit_after : SinkSeen) (app : Application) (k : Span Holding) (count : ℕ) (ending : Ending)
     → WentTo (span audit_before audit_after) (EndsTallying app k count (Err ending))
     → (◌≡◌ {A = Result Summary Ending} (Err ending) (Err endings.WriteFault) → Rose audit_before.faults audit_after.faults)
-    → Went (sinks out out audit_before audit_after) (IsTold (sinks out out audit_before audit_after) app k count (Err ending))
+    → Went (sinks out out audit_before audit_after) (IsDemoTold (sinks out out audit_before audit_after) app k count (Err ending))
 told_none out audit_before audit_after app k count ending went rose = record {
   out = [];
   audit = went.put;
@@ -382,8 +382,8 @@ told_none out audit_before audit_after app k count ending went rose = record {
 
 -- the steps behind the aim, seen from before it
 pub told_behind : (out_before out_after audit_before audit_aimed audit_after : SinkSeen) (app : Application) (k : Span Holding) (count : ℕ) (result : Result (Unit {0}) Ending) (out audit : List ℕ)
-    → audit_before.faults ≤ audit_aimed.faults → IsTold (sinks out_before out_after audit_aimed audit_after) app k count result out audit
-    → IsTold (sinks out_before out_after audit_before audit_after) app k count result out audit
+    → audit_before.faults ≤ audit_aimed.faults → IsDemoTold (sinks out_before out_after audit_aimed audit_after) app k count result out audit
+    → IsDemoTold (sinks out_before out_after audit_before audit_after) app k count result out audit
 told_behind out_before out_after audit_before audit_aimed audit_after app k count result out audit later h = record {
   ended = h.ended;
   ends = h.ends;

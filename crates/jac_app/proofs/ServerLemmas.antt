@@ -19,11 +19,11 @@ use Rattle.jac_ending.specs.Files.{Sight, sinks_of, HasApplication, HasSessions,
 use Rattle.jac_ending.specs.Attached.{AttachesAs}
 use Rattle.jac_ending.specs.Early.{IsEndedEarly}
 use Rattle.jac_ending.specs.Outset.{sight_of, AreFilesRead, EndsAim, HasBegun, IsBarred, IsHalted, IsStoppedAiming}
-use Rattle.jac_links.specs.Door.{Visit, IsEnding, AreLinksServed}
-use Rattle.jac_serving.specs.Answering.{Answering, Entry}
+use Rattle.jac_links.specs.Door.{LinkVisit, IsEnding, AreLinksServed}
+use Rattle.jac_serving.specs.Answering.{Answering, LogEntry}
 use Rattle.jac_serving.specs.Keeping.{Holding, holding_of, keepers}
 use Rattle.jac_app.specs.Held.{held_of}
-use Rattle.jac_app.specs.Server.{served_line, halted, EndsConnections, IsListenedAt, EndsDoor, IsServedAt, EndsAttached, EndsAimed, EndsServer}
+use Rattle.jac_app.specs.Server.{served_line, ending_of_halt, EndsConnections, IsListenedAt, EndsDoor, IsServedAt, EndsAttached, EndsAimed, EndsServer}
 use Rattle.jac_serving.proofs.OutsideLemmas.{Lasts-none, Took-none, Rose-widen, FailsWithin, fails_behind, Went-none}
 use Rattle.jac_ending.proofs.EndingLemmas.{is_attached, went_aimed, WentAimed-on}
 use Rattle.jac_ending.proofs.OutsetLemmas.{application_read, ended_early, idle_behind, memory_early}
@@ -59,7 +59,7 @@ module _ {L : Type 0} (line : L → LinkSeen) (x : Answering) where
 
   halted_as : (most : ℕ) (door : Span (DoorSeen L)) (k : Span Holding) (halt : DoorHalt) (s : Sinks) (audit : List ℕ)
       → (◌≡◌ {A = Result Tally DoorHalt} (Err halt) (Err halts.Write) → HasFaulted s.audit) → AreLinksServed line x most door k (Err halt) audit
-      → EndsConnections line x most door k (Err (halted halt)) s [] audit
+      → EndsConnections line x most door k (Err (ending_of_halt halt)) s [] audit
   halted_as most door k halts.Door s audit rose h = (h, refl)
   halted_as most door k halts.Write s audit rose h = inl (h, refl, rose refl)
   halted_as most door k halts.Memory s audit rose h = (h, refl)
@@ -68,7 +68,7 @@ module _ {L : Type 0} (line : L → LinkSeen) (x : Answering) where
   pub served_part : (most : ℕ) (door : Span (DoorSeen L)) (k : Span Holding) (out audit_before audit_after : SinkSeen) (halt : DoorHalt)
       → (◌≡◌ {A = Result Tally DoorHalt} (Err halt) (Err halts.Write) → HasFaulted (span audit_before audit_after))
       → WentTo (span audit_before audit_after) (AreLinksServed line x most door k (Err halt))
-      → WentWith (sinks out out audit_before audit_after) (EndsConnections line x most door k (Err (halted halt)))
+      → WentWith (sinks out out audit_before audit_after) (EndsConnections line x most door k (Err (ending_of_halt halt)))
   served_part most door k out audit_before audit_after halt rose went = record {
     out = [];
     audit = went.put;
@@ -90,7 +90,7 @@ module _ {L : Type 0} (line : L → LinkSeen) (app : Application) (sessions : Li
   -- ---- behind a listening
 
   module _ (da db dc : DoorSeen L) (serving : Serving) (done : Unit {0}) (heard : Listens da db serving.port (Ok done)) (lasts : DoorLasts db dc) (same_port : IsTrue dc.tells → dc.port ≡ db.port) where
-    ending_from : (most : ℕ) (visits : List (Visit L)) (last : Option (Visit L)) (log : List Entry) (result : Result Tally DoorHalt)
+    ending_from : (most : ℕ) (visits : List (LinkVisit L)) (last : Option (LinkVisit L)) (log : List LogEntry) (result : Result Tally DoorHalt)
         → IsEnding most (span db dc) visits last log result → IsEnding most (span da dc) visits last log result
     ending_from most visits last log (Ok tally) h = h
     ending_from most visits last log (Err halts.Door) h = (h.0, Rose-widen da.faults db.faults dc.faults dc.faults heard.lasts.later (omega arith) h.1)
@@ -104,7 +104,7 @@ module _ {L : Type 0} (line : L → LinkSeen) (app : Application) (sessions : Li
       last = s.last;
       log = s.log;
       came = λ told. sym (heard.same_coming (lasts.told told)) ∙ s.came told;
-      returned = λ told. s.returned told ∙ ap (λ (l : List L). l ++ map (λ (visit : Visit L). visit.gone) s.visits) (heard.same_returned (lasts.told told));
+      returned = λ told. s.returned told ∙ ap (λ (l : List L). l ++ map (λ (visit : LinkVisit L). visit.gone) s.visits) (heard.same_returned (lasts.told told));
       visited = s.visited;
       whole = s.whole;
       entries = s.entries;

@@ -26,8 +26,8 @@ use Rattle.jac_ending.specs.Ending.{PutsText}
 use Rattle.jac_app.specs.Held.{IsUnstarted, IsLeftAlone}
 use Rattle.jac_ending.specs.Files.{IsAimed, IsUnopened}
 use Rattle.jac_serving.specs.Keeping.{Holding, holding_of, keepers, IsStill}
-use Rattle.jac_serving.specs.Answering.{Entry}
-use Rattle.jac_serving.specs.Log.{method_of, audit_line, audited}
+use Rattle.jac_serving.specs.Answering.{LogEntry}
+use Rattle.jac_serving.specs.Log.{method_of, audit_line, audit_lines}
 use Rattle.jac_replies.specs.Spelled.{audit_text}
 use Rattle.jac_serving.specs.Outside.{Span, span, Sinks, IsFront}
 use Rattle.jac_ending.specs.Attached.{IsAttached, IsOther}
@@ -36,13 +36,13 @@ use Rattle.jac_desk.specs.Answered.{IsAnswerMade, IsEntryOf, answering_of}
 use Rattle.jac_serving.specs.Serve.{IsServed}
 
 -- how many entries are of requests by this method
-abbrev pub asks_by : List ℕ → List Entry → ℕ
+abbrev pub asks_by : List ℕ → List LogEntry → ℕ
 asks_by method [] = 0
 asks_by method (entry ∷ log) = (if bytes_eq (method_of entry.subject) method then 1 else 0)
     + asks_by method log
 
 -- how many bytes their bodies have
-abbrev pub bytes_in : List Entry → ℕ
+abbrev pub bytes_in : List LogEntry → ℕ
 bytes_in [] = 0
 bytes_in (entry ∷ log) = length entry.answer.body + bytes_in log
 
@@ -52,13 +52,13 @@ labels_shown None = 0
 labels_shown (Some labels) = length labels
 
 -- how many labels the audit lines of the pages of GET name
-abbrev pub labels_in : List Entry → ℕ
+abbrev pub labels_in : List LogEntry → ℕ
 labels_in [] = 0
 labels_in (entry ∷ log) = (if bytes_eq (method_of entry.subject) (codes "GET")
     then labels_shown entry.answer.shown else 0) + labels_in log
 
 -- a log in numbers
-abbrev pub summary_of : List Entry → Summary
+abbrev pub summary_of : List LogEntry → Summary
 summary_of log = record {
   asks = length log;
   posts = asks_by (codes "POST") log;
@@ -72,8 +72,8 @@ abbrev pub tally_of : Answer → Tally
 tally_of answer = record { bytes = length answer.body; labels = labels_shown answer.shown }
 
 -- one more request of this method was answered
-abbrev pub counted : Summary → List ℕ → Tally → Summary
-counted summary method tally = record {
+abbrev pub summary_after : Summary → List ℕ → Tally → Summary
+summary_after summary method tally = record {
   asks = summary.asks + 1;
   posts = summary.posts + (if bytes_eq method (codes "POST") then 1 else 0);
   gets = summary.gets + (if bytes_eq method (codes "GET") then 1 else 0);
@@ -133,7 +133,7 @@ abbrev pub TalliesBy : Application → Span Holding → Summary → List ℕ →
     → Result Summary DemoFault → List ℕ → Type 0
 TalliesBy app k summary method ask (Ok new) audit =
     (tally : Tally) × TalliesAsk app k summary.asks ask (Ok tally) audit
-    × (new ≡ counted summary method tally)
+    × (new ≡ summary_after summary method tally)
 TalliesBy app k summary method ask (Err faults.Write) audit = TearsAsk app k summary.asks ask audit
 TalliesBy app k summary method ask (Err faults.Memory) audit = ⊥
 
@@ -158,27 +158,27 @@ TalliesLine app k summary (Some (Some event)) result audit = TalliesEvent app k 
 -- these events were served, or, where it may stop early, the first of them; the audit has the lines
 -- of the log
 pub record Tallied (early : Bool) (app : Application) (k : Span Holding) (events : List Event)
-    (log : List Entry) (audit : List ℕ) : Type 0 where
+    (log : List LogEntry) (audit : List ℕ) : Type 0 where
   pub served : IsServed early (answering_of false app []) k events log
-  pub audit_text : audit ≡ audited log
+  pub audit_text : audit ≡ audit_lines log
 
 -- the first events were served, and the audit line of the last of these was torn
 pub record TalliedTorn (app : Application) (k : Span Holding) (events : List Event)
     (audit : List ℕ) : Type 0 where
-  pub log : List Entry
-  pub entry : Entry
+  pub log : List LogEntry
+  pub entry : LogEntry
   pub more : List ℕ
   pub served : IsServed true (answering_of false app []) k events (log ++ entry ∷ [])
   pub torn : IsFront more (audit_line (length log + 1) entry)
-  pub audit_text : audit ≡ audited log ++ more
+  pub audit_text : audit ≡ audit_lines log ++ more
 
 -- how serving a script in silence ends
 abbrev pub Tallies : Application → Span Holding → Script → Result Summary DemoFault → List ℕ
     → Type 0
 Tallies app k script (Ok summary) audit =
-    (script.refused ≡ None) × ((log : List Entry) × Tallied false app k script.events log audit
+    (script.refused ≡ None) × ((log : List LogEntry) × Tallied false app k script.events log audit
     × (summary ≡ summary_of log))
-Tallies app k script (Err faults.Memory) audit = (log : List Entry)
+Tallies app k script (Err faults.Memory) audit = (log : List LogEntry)
     × Tallied true app k script.events log audit
 Tallies app k script (Err faults.Write) audit = TalliedTorn app k script.events audit
 
@@ -215,7 +215,7 @@ PutsSummary out (Ok summary) result put = PutsText out (summary_line summary) re
 PutsSummary out (Err ending) result put = (result ≡ Err ending) × (put ≡ [])
 
 -- the requests were counted, and their summary is told
-pub record IsTold (s : Sinks) (app : Application) (k : Span Holding) (count : ℕ)
+pub record IsDemoTold (s : Sinks) (app : Application) (k : Span Holding) (count : ℕ)
     (result : Result (Unit {0}) Ending) (out audit : List ℕ) : Type 0 where
   pub ended : Result Summary Ending
   pub ends : EndsTallying app k count ended audit
@@ -233,7 +233,8 @@ pub record IsUnaimed (s : Sinks) (k : Span Holding) (result : Result (Unit {0}) 
 abbrev pub EndsCounting : Sinks → Application → Span Holding → ℕ → Result (Unit {0}) Ending → List ℕ
     → List ℕ → Type 0
 EndsCounting s app k count result out audit =
-    IsUnaimed s k result out audit ⊎ (IsAimed None s.audit × IsTold s app k count result out audit)
+    IsUnaimed s k result out audit ⊎ (IsAimed None s.audit
+    × IsDemoTold s app k count result out audit)
 
 -- the calendar was read, and the requests were answered
 pub record IsDemo (s : Sinks) (k : Span Holding) (count : ℕ) (result : Result (Unit {0}) Ending)

@@ -29,10 +29,10 @@ served_line tally = codes "served " ++ decimal tally.connections ++ codes " conn
     ++ decimal tally.replies ++ codes " replies\n"
 
 -- why serving a door that halted ends the command
-abbrev pub halted : DoorHalt → Ending
-halted halts.Door = endings.DoorFault
-halted halts.Write = endings.WriteFault
-halted halts.Memory = endings.Memory
+abbrev pub ending_of_halt : DoorHalt → Ending
+ending_of_halt halts.Door = endings.DoorFault
+ending_of_halt halts.Write = endings.WriteFault
+ending_of_halt halts.Memory = endings.Memory
 
 -- how serving so many connections at most ends, with the line that tells how many there were: a put
 -- failed on the audit, within a connection, or all were served and it was that of this line

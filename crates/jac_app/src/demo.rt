@@ -17,12 +17,12 @@ ghost use Rattle.jac_desk.specs.Answered.{AreSeated, answering};
 ghost use Rattle.jac_desk.specs.Asked.{ask_in};
 ghost use Rattle.jac_desk.specs.Seen.{whose, desk_seen};
 ghost use Rattle.jac_calendar.specs.Asking.{IsAsking};
-ghost use Rattle.jac_app.specs.Demo.{EndsCounting, EndsDemo, EndsTallying, IsBounded, IsCounted, IsTold, PutsTally, Tallies, TalliesAsk, TalliesEvent, TalliesLine, demo_script, tally_of};
+ghost use Rattle.jac_app.specs.Demo.{EndsCounting, EndsDemo, EndsTallying, IsBounded, IsCounted, IsDemoTold, PutsTally, Tallies, TalliesAsk, TalliesEvent, TalliesLine, demo_script, tally_of};
 ghost use Rattle.jac_replies.specs.Failed.{status_of_stop};
 ghost use Rattle.jac_ending.specs.Files.{IsUnopened};
 ghost use Rattle.jac_serving.specs.Line.{lines_of};
 ghost use Rattle.jac_replies.specs.Spelled.{audit_rest, audit_text};
-ghost use Rattle.jac_serving.specs.Desk.{MayServe, Keeps, kept};
+ghost use Rattle.jac_serving.specs.Desk.{MayServe, KeepsDesk, kept};
 ghost use Rattle.jac_serving.specs.Keeping.{holding_of};
 ghost use Rattle.jac_serving.specs.Outside.{Went, WentAimed, WentTo, sinks, span};
 ghost use Rattle.jac_serving.specs.Script.{script_of};
@@ -208,7 +208,7 @@ fn tally_ask<U: AuditSink, K: Keeper, L: Ledger, M: Ledger>(
         (ask_in (whose desk.old).app asking.now.viewer asking.now.method.now
         asking.now.path.now asking.now.query.now asking.now.body.now) result) }
     ensures cause { OnErr result (Rose (U.seen audit.old).faults (U.seen audit.new).faults) }
-    ensures keeps { Keeps answering (desk_seen K.seen desk.old) (desk_seen K.seen desk.new) }
+    ensures keeps { KeepsDesk answering (desk_seen K.seen desk.old) (desk_seen K.seen desk.new) }
 {
     let service = desk.service;
     match count_ask(desk, asking) {
@@ -241,7 +241,7 @@ fn tally_event<U: AuditSink, K: Keeper, L: Ledger, M: Ledger>(
         → Rose (U.seen audit.old).faults (U.seen audit.new).faults }
     ensures bounded { IfOk result (λ more. IsBounded more) }
     ensures count { IfOk result (λ more. more.asks ≤ summary.asks + 1) }
-    ensures keeps { Keeps answering (desk_seen K.seen desk.old) (desk_seen K.seen desk.new) }
+    ensures keeps { KeepsDesk answering (desk_seen K.seen desk.old) (desk_seen K.seen desk.new) }
 {
     match event {
         Event::Ask {
@@ -287,7 +287,7 @@ fn tally_line<U: AuditSink, K: Keeper, L: Ledger, M: Ledger>(
         → Rose (U.seen audit.old).faults (U.seen audit.new).faults }
     ensures bounded { IfOk result (λ more. IsBounded more) }
     ensures count { IfOk result (λ more. more.asks ≤ summary.asks + 1) }
-    ensures keeps { Keeps answering (desk_seen K.seen desk.old) (desk_seen K.seen desk.new) }
+    ensures keeps { KeepsDesk answering (desk_seen K.seen desk.old) (desk_seen K.seen desk.new) }
 {
     match read_line(desk.alloc, line) {
         Ok(Some(event)) => tally_event(desk, summary, &event, audit),
@@ -313,7 +313,7 @@ fn tally_events<U: AuditSink, K: Keeper, L: Ledger, M: Ledger>(
         result) }
     ensures cause { result ≡ Err DemoFault.Write
         → Rose (U.seen audit.old).faults (U.seen audit.new).faults }
-    ensures keeps { Keeps answering (desk_seen K.seen desk.old) (desk_seen K.seen desk.new) }
+    ensures keeps { KeepsDesk answering (desk_seen K.seen desk.old) (desk_seen K.seen desk.new) }
 {
     let mut summary = none_counted();
     let mut left = Some(bytes);
@@ -344,7 +344,7 @@ fn serve_calendar<U: AuditSink, K: Keeper, L: Ledger, M: Ledger>(
         result) }
     ensures cause { result ≡ Err DemoFault.Write
         → Rose (U.seen audit.old).faults (U.seen audit.new).faults }
-    ensures keeps { Keeps answering (desk_seen K.seen desk.old) (desk_seen K.seen desk.new) }
+    ensures keeps { KeepsDesk answering (desk_seen K.seen desk.old) (desk_seen K.seen desk.new) }
 {
     match demo_events(desk.alloc, count) {
         Ok(events) => tally_events(desk, events.as_slice(), audit),
@@ -448,7 +448,7 @@ fn tell_attached<O: Sink, U: AuditSink, K: Vault, L: Ledger, M: Ledger>(
     requires schema { IsSchema schema (shapes_of (application_of service.now)) }
     ensures told { Went (sinks (O.seen out.old) (O.seen out.new) (U.seen audit.old)
         (U.seen audit.new))
-        (IsTold (sinks (O.seen out.old) (O.seen out.new) (U.seen audit.old) (U.seen audit.new))
+        (IsDemoTold (sinks (O.seen out.old) (O.seen out.new) (U.seen audit.old) (U.seen audit.new))
         (application_of service.now)
         (span (holding_of (K.seen vault.old) counts.old.splits.now)
         (holding_of (K.seen vault.new) counts.new.splits.now)) count result) }

@@ -1,7 +1,7 @@
 ghost use Rattle.std.specs.Prelude.{◌≡◌, ◌<◌, ◌^◌, length, IsTrue, false};
 ghost use Rattle.jac_lang.specs.Mirror.{application_of};
 ghost use Rattle.jac_engine.specs.Start.{IsStart};
-ghost use Rattle.jac_serving.specs.Desk.{MayServe, Keeps, kept};
+ghost use Rattle.jac_serving.specs.Desk.{MayServe, KeepsDesk, kept};
 ghost use Rattle.jac_serving.specs.Keeping.{holding_of};
 ghost use Rattle.jac_desk.specs.Answered.{answering, answering_of};
 ghost use Rattle.jac_desk.specs.Seen.{desk_seen};
@@ -50,7 +50,7 @@ fn serve_script<O: Sink, U: AuditSink, K: Vault, L: Ledger, M: Ledger>(
         (EndsServed (answering_of desk.old.lazy (application_of desk.old.service.now)
         desk.old.sessions.now) (kept (desk_seen K.seen desk.old) (desk_seen K.seen desk.new))
         (script_of events.now) result) }
-    ensures keeps { Keeps answering (desk_seen K.seen desk.old) (desk_seen K.seen desk.new) }
+    ensures keeps { KeepsDesk answering (desk_seen K.seen desk.old) (desk_seen K.seen desk.new) }
 {
     match serve_events(desk, events.as_slice(), out, audit) {
         Ok(()) => Ok(()),

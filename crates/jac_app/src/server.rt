@@ -3,13 +3,13 @@ ghost use Rattle.std.specs.Prelude.{◌≡◌, IsTrue, false};
 ghost use Rattle.jac_io.specs.Linked.{DoorLasts};
 ghost use Rattle.jac_lang.specs.Mirror.{application_of};
 ghost use Rattle.jac_engine.specs.Start.{IsStart};
-ghost use Rattle.jac_serving.specs.Desk.{MayServe, Keeps, kept};
+ghost use Rattle.jac_serving.specs.Desk.{MayServe, KeepsDesk, kept};
 ghost use Rattle.jac_desk.specs.Answered.{answering, answering_of};
 ghost use Rattle.jac_desk.specs.Seen.{desk_seen};
 ghost use Rattle.jac_serving.specs.Keeping.{holding_of};
 ghost use Rattle.jac_serving.specs.Outside.{IsPut, WentAimed, WentWith, span, sinks};
 ghost use Rattle.jac_ending.specs.Files.{sight};
-ghost use Rattle.jac_app.specs.Server.{served_line, halted, EndsConnections, EndsDoor, EndsServer};
+ghost use Rattle.jac_app.specs.Server.{served_line, ending_of_halt, EndsConnections, EndsDoor, EndsServer};
 
 use crate::counts::Counts;
 use itoa::Buffer;
@@ -27,7 +27,7 @@ use std::alloc::Global;
 use std::sync::ledger::Ledger;
 
 fn halted(halt: DoorHalt) -> Ending
-    ensures { result ≡ halted halt }
+    ensures { result ≡ ending_of_halt halt }
 {
     match halt {
         DoorHalt::Door => Ending::DoorFault,
@@ -72,7 +72,7 @@ fn serve_connections<O: Sink, U: AuditSink, K: Keeper, D: Door, L: Ledger, M: Le
     ensures lasts { DoorLasts (D.seen door.old) (D.seen door.new) }
     ensures same_port { IsTrue (D.seen door.new).tells → (D.seen door.new).port
         ≡ (D.seen door.old).port }
-    ensures keeps { Keeps answering (desk_seen K.seen desk.old) (desk_seen K.seen desk.new) }
+    ensures keeps { KeepsDesk answering (desk_seen K.seen desk.old) (desk_seen K.seen desk.new) }
 {
     match serve_links(desk, serving.count, door, audit) {
         Ok(tally) => match put_served(out, tally) {
@@ -99,7 +99,7 @@ fn serve_door<O: Sink, U: AuditSink, K: Keeper, D: Door, L: Ledger, M: Ledger>(
         serving.now (span (D.seen door.old) (D.seen door.new))
         (kept (desk_seen K.seen desk.old) (desk_seen K.seen desk.new)) result) }
     ensures lasts { DoorLasts (D.seen door.old) (D.seen door.new) }
-    ensures keeps { Keeps answering (desk_seen K.seen desk.old) (desk_seen K.seen desk.new) }
+    ensures keeps { KeepsDesk answering (desk_seen K.seen desk.old) (desk_seen K.seen desk.new) }
 {
     match door.listen(serving.port) {
         Ok(()) => serve_connections(desk, serving, out, audit, door),

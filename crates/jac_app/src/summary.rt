@@ -1,7 +1,7 @@
 //! What a demo counts.
 ghost use Rattle.std.specs.Prelude.{◌≡◌, ◌<◌, ◌-◌, ◌^◌, [], None, if◌then◌else◌};
 ghost use Rattle.jac_replies.specs.Refused.{refusal};
-ghost use Rattle.jac_app.specs.Demo.{IsBounded, summary_of, counted, tally_of, labels_shown, counts_text, sizes_text, summary_line};
+ghost use Rattle.jac_app.specs.Demo.{IsBounded, summary_of, summary_after, tally_of, labels_shown, counts_text, sizes_text, summary_line};
 ghost use Rattle.jac_replies.specs.Failed.{status_of_stop};
 ghost use Rattle.jac_serving.specs.Outside.{IsPut, span};
 
@@ -48,7 +48,7 @@ pub fn none_counted() -> Summary
 pub fn counted(summary: Summary, method: &[u8], tally: Tally) -> Summary
     requires few { summary.asks < 2 ^ 64 - 1 }
     requires bounded { IsBounded summary }
-    ensures more { result ≡ counted summary method.now tally }
+    ensures more { result ≡ summary_after summary method.now tally }
     ensures bounded { IsBounded result }
 {
     let is_post = method == b"POST".as_slice();

@@ -9,9 +9,9 @@ use Rattle.jac_rows.specs.declared.row.Row.{Row}
 use Rattle.jac_rows.specs.declared.state.State.{State}
 use Rattle.jac_keep.specs.declared.alteration.Alteration.{Alteration}
 use Rattle.jac_keep.specs.declared.alteration.Change.{Change}
-use Rattle.jac_keep.specs.Alterations.{alters, altered}
+use Rattle.jac_keep.specs.Alterations.{alters, altered_rows}
 use Rattle.jac_keep.specs.KeeperSeen.{KeeperSeen}
-use Rattle.jac_keep.specs.Kept.{applied}
+use Rattle.jac_keep.specs.Kept.{changed_state}
 use Rattle.jac_keep.specs.Records.{AreOrdered, with_id, alternatives}
 use Rattle.jac_keep.proofs.Bisection.{own_through}
 use Rattle.jac_keep.proofs.Forgotten.{altered_other, altered_table}
@@ -20,13 +20,13 @@ use Rattle.jac_keep.proofs.SoundLaws.{rows_of_sound}
 use Rattle.jac_cached.specs.Held.{held, IsAfter, IsLater, IsTableIn, AreHeld}
 
 table_after : (old new : State) (change : Change) (m : ℕ) (before : Option (List Row)) (rows : List Row) → ((table : List Row) → before ≡ Some table → IsTableIn old m table)
-    → IsSound new → new ≡ applied change old → IsAfter m change.changed before rows → IsTableIn new m rows
+    → IsSound new → new ≡ changed_state change old → IsAfter m change.changed before rows → IsTableIn new m rows
 table_after old new change m before rows tables sound same after =
     let was : after.old ≡ rows_of old.tables m = (tables after.old after.was).same in
     record {
       sound = sound;
       same = after.same
-          ∙ ap (altered m change.changed) was
+          ∙ ap (altered_rows m change.changed) was
           ∙ altered_table m change.changed old.tables (λ hit. subst (λ (t : List Row). 0 < length t) was (after.some hit))
           ∙ sym (ap (λ (s : State). rows_of s.tables m) same);
     }
@@ -34,7 +34,7 @@ table_after old new change m before rows tables sound same after =
 -- what is held after the alterations of a change that was applied
 pub held_after : (old new : KeeperSeen) (change : Change) (before after : List (Option (List Row))) → AreHeld old before
     → ((m : ℕ) → IsLater m change.changed (held m before) (held m after)) → (IsTrue new.tells → IsTrue old.tells) → (IsTrue new.tells → IsSound new.state)
-    → (IsTrue new.tells → new.state ≡ applied change old.state) → AreHeld new after
+    → (IsTrue new.tells → new.state ≡ changed_state change old.state) → AreHeld new after
 held_after old new change before after are later told_before good exact = record {
   shown = λ told m rows is.
       table_after old.state new.state change m (held m before) rows (are.shown (told_before told) m) (good told) (exact told) ((later m).left rows is);

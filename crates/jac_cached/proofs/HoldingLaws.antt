@@ -7,7 +7,7 @@ use Rattle.jac_rows.specs.declared.row.Row.{Row}
 use Rattle.jac_keep.specs.declared.alteration.Alteration.{Alteration}
 use Rattle.jac_keep.specs.declared.table_index.TableIndex.{TableIndex}
 use Rattle.jac_keep.specs.declared.table_indexes.TableIndexes.{TableIndexes}
-use Rattle.jac_keep.specs.Alterations.{alters, altered}
+use Rattle.jac_keep.specs.Alterations.{alters, altered_rows}
 use Rattle.jac_keep.specs.Indexed.{index_at, IsIndexOf, AreIndexesOf, AreAltered}
 use Rattle.jac_keep.specs.Records.{AreOrdered, are_in_order}
 use Rattle.jac_keep.proofs.OrderLaws.{ordered_if_tested}
@@ -52,9 +52,9 @@ indexed_none false before after old mid x same kept indexed is =
     subst (λ (t : Option (List Row)). IsIndexOf (rows_or_none t) x) (sym (same refl)) (indexed (sym (kept refl) ∙ is))
 
 indexed_some : (m : ℕ) (changed : List Alteration) (before : Option (List Row)) (rows : List Row) (x : TableIndex) → IsAfter m changed before rows
-    → IsIndexOf (altered m changed (rows_or_none before)) x → IsIndexOf rows x
+    → IsIndexOf (altered_rows m changed (rows_or_none before)) x → IsIndexOf rows x
 indexed_some m changed before rows x after right =
-    subst (λ (r : List Row). IsIndexOf r x) (ap (λ t. altered m changed (rows_or_none t)) after.was ∙ sym after.same) right
+    subst (λ (r : List Row). IsIndexOf r x) (ap (λ t. altered_rows m changed (rows_or_none t)) after.was ∙ sym after.same) right
 
 module _ (changed : List Alteration) (before after : List (Option (List Row))) (old mid new : TableIndexes) (holding : IsHolding before old)
     (same : (m : ℕ) → alters m changed ≡ false → held m after ≡ held m before) (later : (m : ℕ) → IsLater m changed (held m before) (held m after))

@@ -5,7 +5,7 @@ use Rattle.jac_rows.specs.Tables.{rows_of, rows_or_none}
 use Rattle.jac_rows.specs.declared.row.Row.{Row}
 use Rattle.jac_rows.specs.declared.state.State.{State}
 use Rattle.jac_keep.specs.declared.alteration.Alteration.{Alteration}
-use Rattle.jac_keep.specs.Alterations.{alters, altered}
+use Rattle.jac_keep.specs.Alterations.{alters, altered_rows}
 use Rattle.jac_keep.specs.declared.table_index.TableIndex.{TableIndex}
 use Rattle.jac_keep.specs.declared.table_indexes.TableIndexes.{TableIndexes}
 use Rattle.jac_keep.specs.Indexed.{index_at, IsIndexOf}
@@ -46,7 +46,7 @@ pub record IsAfter (model : ℕ) (changed : List Alteration) (before : Option (L
     (rows : List Row) : Type 0 where
   pub old : List Row
   pub was : before ≡ Some old
-  pub same : rows ≡ altered model changed old
+  pub same : rows ≡ altered_rows model changed old
   pub some : alters model changed ≡ true → 0 < length old
 
 -- a table that is still held after alterations is as they leave it

@@ -6,10 +6,10 @@ ghost use Rattle.jac_rows.specs.Tables.{rows_of};
 ghost use Rattle.jac_keep.specs.Records.{alternatives};
 ghost use Rattle.jac_keep.specs.Holding.{holders};
 ghost use Rattle.jac_keep.specs.KeeperSeen.{Keeps, Reads};
-ghost use Rattle.jac_keep.specs.Kept.{applied};
+ghost use Rattle.jac_keep.specs.Kept.{changed_state};
 ghost use Rattle.jac_keep.specs.Schema.{IsSchema, IsFit};
 ghost use Rattle.jac_keep.specs.Attaching.{Attaches};
-ghost use Rattle.jac_keep.specs.Reshaping.{widened, Reshapes};
+ghost use Rattle.jac_keep.specs.Reshaping.{widened_state, Reshapes};
 
 use crate::held::HeldTables;
 use crate::places::own_rows;

@@ -9,9 +9,10 @@ use Rattle.std.specs.Fmt.{digits}
 use Rattle.std.specs.List.{All, list_all, position_or_len, slice_index, slice_split}
 use Rattle.std.specs.Option.{option_map}
 use Rattle.std.specs.Str.{is_utf8}
+use Rattle.std.proofs.lemmas.Bool.{and_from}
 use Rattle.jac_demo.specs.Requests.{viewer_number, open_digit, join_line, add_line, list_line, demo_line, lines_from, demo_text}
-use Rattle.jac_events.specs.Lines.{viewer_of, is_method, is_target, asked, ask_of, line_of}
-use Rattle.jac_events.specs.Words.{word_at, unquoted, with_byte}
+use Rattle.jac_events.specs.Lines.{viewer_of_word, is_method, is_path_target, request_of_parts, ask_of, line_of}
+use Rattle.jac_events.specs.Words.{word_at, read_quoted, with_byte}
 use Rattle.jac_calendar.specs.Asking.{IsAsking, AreAsking}
 
 -- a byte that stands for itself in a word and between quotes
@@ -29,10 +30,6 @@ and_right : (a b : Bool) → (a && b) ≡ true → b ≡ true
 and_right true b h = h
 and_right false b h = absurd cc
 
-and_both : (a b : Bool) → a ≡ true → b ≡ true → (a && b) ≡ true
-and_both true b h k = k
-and_both false b h k = absurd cc
-
 not_space : (b : ℕ) → is_quiet b ≡ true → (b == 32) ≡ false
 not_space b h = grind (arith, nat_tests)
 
@@ -47,12 +44,12 @@ not_feed b h = grind (arith, nat_tests)
 
 all_append : (test : ℕ → Bool) (xs ys : List ℕ) → list_all test xs ≡ true → list_all test ys ≡ true → list_all test (xs ++ ys) ≡ true
 all_append test [] ys one two = two
-all_append test (x ∷ xs) ys one two = and_both (test x) (list_all test (xs ++ ys)) (and_left (test x) (list_all test xs) one) (all_append test xs ys (and_right (test x) (list_all test xs) one) two)
+all_append test (x ∷ xs) ys one two = and_from (test x) (list_all test (xs ++ ys)) (and_left (test x) (list_all test xs) one) (all_append test xs ys (and_right (test x) (list_all test xs) one) two)
 
 inside : (xs : List ℕ) → list_all is_quiet xs ≡ true → list_all is_inside xs ≡ true
 inside [] h = refl
 inside (x ∷ xs) h =
-    and_both (is_inside x) (list_all is_inside xs)
+    and_from (is_inside x) (list_all is_inside xs)
     (ap not (not_feed x (and_left (is_quiet x) (list_all is_quiet xs) h)))
     (inside xs (and_right (is_quiet x) (list_all is_quiet xs) h))
 
@@ -89,7 +86,7 @@ word_front w rest h =
     ∙ (λ i. Some (front i, behind i))
 
 -- what stands up to the closing quote
-unquoted_front : (w rest : List ℕ) → list_all is_quiet w ≡ true → unquoted (w ++ 34 ∷ rest) ≡ Some (w, rest)
+unquoted_front : (w rest : List ℕ) → list_all is_quiet w ≡ true → read_quoted (w ++ 34 ∷ rest) ≡ Some (w, rest)
 unquoted_front [] rest h = refl
 unquoted_front (x ∷ w) rest h =
     let quiet = and_left (is_quiet x) (list_all is_quiet w) h in
@@ -105,11 +102,11 @@ record AreParts (viewer method target body : List ℕ) (number : Option ℕ) : T
   quiet_method : list_all is_quiet method ≡ true
   quiet_target : list_all is_quiet target ≡ true
   quiet_body : list_all is_quiet body ≡ true
-  numbered : viewer_of viewer ≡ Some number
-  named : (is_method method && is_target target) ≡ true
+  numbered : viewer_of_word viewer ≡ Some number
+  named : (is_method method && is_path_target target) ≡ true
 
 ask_written : (viewer method target body : List ℕ) (number : Option ℕ) → AreParts viewer method target body number
-    → ask_of (ask_text viewer method target body) ≡ Some (asked number method target body)
+    → ask_of (ask_text viewer method target body) ≡ Some (request_of_parts number method target body)
 ask_written viewer method target body number p =
     let behind_target = 32 ∷ (34 ∷ (body ++ 34 ∷ [])) in
     let behind_method = 34 ∷ (target ++ 34 ∷ behind_target) in
@@ -122,7 +119,7 @@ ask_written viewer method target body number p =
       p.named,
     ) refl
 
-line_asking : (rest : List ℕ) (viewer : Option ℕ) (method target body : List ℕ) → ask_of rest ≡ Some (asked viewer method target body)
+line_asking : (rest : List ℕ) (viewer : Option ℕ) (method target body : List ℕ) → ask_of rest ≡ Some (request_of_parts viewer method target body)
     → IsAsking (line_of (codes "ask" ++ 32 ∷ rest))
 line_asking rest viewer method target body is = rw (word_front (codes "ask") rest refl, is) tt
 
@@ -154,7 +151,7 @@ quiet_digit : (d : ℕ) → d < 10 → is_quiet (48 + d) ≡ true
 quiet_digit d h = grind (arith, nat_tests)
 
 quiet_one : (d : ℕ) → d < 10 → list_all is_quiet ((48 + d) ∷ []) ≡ true
-quiet_one d h = and_both (is_quiet (48 + d)) true (quiet_digit d h) refl
+quiet_one d h = and_from (is_quiet (48 + d)) true (quiet_digit d h) refl
 
 quiet_decimal : (n : ℕ) → n < 2 ^ 64 → list_all is_quiet (decimal n) ≡ true
 quiet_decimal n h =
@@ -166,7 +163,7 @@ quiet_decimal n h =
 record IsViewer (word : List ℕ) : Type 0 where
   number : Option ℕ
   quiet : list_all is_quiet word ≡ true
-  numbered : viewer_of word ≡ Some number
+  numbered : viewer_of_word word ≡ Some number
 
 viewer_4096 : IsViewer (decimal 4096)
 unfolding digits

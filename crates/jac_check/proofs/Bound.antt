@@ -3,7 +3,7 @@ use Rattle.std.proofs.Common.{◌≡◌, refl, sym, ap, ◌∙◌, ℕ, Bool, tr
 use Rattle.jac_value.specs.declared.value.Kind.{Kind}
 use Rattle.jac_lang.specs.Lookup.{same_text}
 use Rattle.jac_check.specs.declared.names.Meaning.{Meaning}
-use Rattle.jac_check.specs.Scope.{Named, named, innermost, meaning_of}
+use Rattle.jac_check.specs.Scope.{Named, scope_name, innermost, meaning_of}
 
 abbrev or_found : Option Meaning → Option Meaning → Option Meaning
 or_found None d = d
@@ -29,11 +29,11 @@ innermost-or : (d : Option Meaning) (ns : List Named) (x : List ℕ) → innermo
 innermost-or d [] x = refl
 innermost-or d (n ∷ ns) x = or-step (same_text n.name x) d n.meaning ns x (innermost-or d ns x) (innermost-or (Some n.meaning) ns x)
 
-pub bound-hit : (ns : List Named) (y x : List ℕ) (k : Kind) (by_let : Bool) → same_text y x ≡ true → Some (named y k by_let).meaning ≡ meaning_of (ns ++ named y k by_let ∷ []) x
-bound-hit ns y x k by_let same = sym (innermost-append None ns (named y k by_let ∷ []) x ∙ rw same refl)
+pub bound-hit : (ns : List Named) (y x : List ℕ) (k : Kind) (by_let : Bool) → same_text y x ≡ true → Some (scope_name y k by_let).meaning ≡ meaning_of (ns ++ scope_name y k by_let ∷ []) x
+bound-hit ns y x k by_let same = sym (innermost-append None ns (scope_name y k by_let ∷ []) x ∙ rw same refl)
 
-pub bound-miss : (ns : List Named) (y x : List ℕ) (k : Kind) (by_let : Bool) → same_text y x ≡ false → meaning_of ns x ≡ meaning_of (ns ++ named y k by_let ∷ []) x
-bound-miss ns y x k by_let same = sym (innermost-append None ns (named y k by_let ∷ []) x ∙ rw same refl)
+pub bound-miss : (ns : List Named) (y x : List ℕ) (k : Kind) (by_let : Bool) → same_text y x ≡ false → meaning_of ns x ≡ meaning_of (ns ++ scope_name y k by_let ∷ []) x
+bound-miss ns y x k by_let same = sym (innermost-append None ns (scope_name y k by_let ∷ []) x ∙ rw same refl)
 
 pub bound-within : (ns more : List Named) (x : List ℕ) (m : Meaning) → Some m ≡ meaning_of more x → Some m ≡ meaning_of (ns ++ more) x
 bound-within ns more x m h =

@@ -9,11 +9,11 @@ use Rattle.jac_lang.specs.declared.queries.Binder.{Binder}
 use Rattle.jac_lang.specs.declared.queries.Order.{Order}
 use Rattle.jac_lang.specs.declared.queries.Order.TheVariants as orders
 use Rattle.jac_lang.specs.Lookup.{same_text, model_place, field_place}
-use Rattle.jac_lang.specs.Syntax.{Entity, Expression, Expressions}
+use Rattle.jac_lang.specs.Syntax.{Entity, Expression, Expressions, is_this}
 use Rattle.jac_check.specs.declared.names.Meaning.{Meaning}
-use Rattle.jac_check.specs.Scope.{Scope, within, fields_of, field_kind, is_one_of, reference_to, is_this}
-use Rattle.jac_check.specs.Kinds.{given, has, are_alike, are_both, refers, kind_of_two, is_model, is_field, is_place, are_binders, is_sort_key, is_order, is_query, kind_of, are_texts}
-use Rattle.jac_check.specs.Verdict.{Reason, Verdict, ◌before◌, fault_if, fault_unless, fault_in, judged, not_a, not_reference, is_ordered, is_reference}
+use Rattle.jac_check.specs.Scope.{Scope, within, fields_of, field_kind, is_one_of, reference_to}
+use Rattle.jac_check.specs.Kinds.{kind_if, has, are_alike, are_both, refers, kind_of_two, is_model, is_field, is_place, are_binders, is_sort_key, is_order, is_query, kind_of, are_texts}
+use Rattle.jac_check.specs.Verdict.{Reason, Verdict, ◌before◌, fault_if, fault_unless, fault_in, verdict_by, not_a, not_reference, is_ordered, is_reference}
 use Rattle.jac_check.specs.NameFaults.{fault_unplaced, unknown_model, unknown_field, unknown_place, binder_fault, sorted_fault, order_fault, named_kind, viewer_kind, this_kind}
 use Rattle.jac_check.specs.Expressions.{both_are, two_verdict, pick_verdict, verdict, parts_inside, parts_kinds}
 
@@ -25,23 +25,23 @@ pub and_false : (b : Bool) → (b && false) ≡ false
 and_false true = refl
 and_false false = refl
 
-given_none : (b : Bool) → given b None ≡ None
+given_none : (b : Bool) → kind_if b None ≡ None
 given_none true = refl
 given_none false = refl
 
-given_and : (b : Bool) (k : Option Kind) → given (b && false) k ≡ None
+given_and : (b : Bool) (k : Option Kind) → kind_if (b && false) k ≡ None
 given_and true k = refl
 given_and false k = refl
 
-given_if : (o : Option Reason) (k : Kind) → given (is_none o) (Some k) ≡ kind_judged (judged o k)
+given_if : (o : Option Reason) (k : Kind) → kind_if (is_none o) (Some k) ≡ kind_judged (verdict_by o k)
 given_if None k = refl
 given_if (Some cause) k = refl
 
-given_unless : (b : Bool) (cause : Reason) (k : Kind) → given b (Some k) ≡ kind_judged (judged (fault_unless b cause) k)
+given_unless : (b : Bool) (cause : Reason) (k : Kind) → kind_if b (Some k) ≡ kind_judged (verdict_by (fault_unless b cause) k)
 given_unless true cause k = refl
 given_unless false cause k = refl
 
-given_two : (b c : Bool) (first second : Reason) (k : Kind) → given (b && c) (Some k) ≡ kind_judged (judged (fault_unless b first before fault_unless c second) k)
+given_two : (b c : Bool) (first second : Reason) (k : Kind) → kind_if (b && c) (Some k) ≡ kind_judged (verdict_by (fault_unless b first before fault_unless c second) k)
 given_two false c first second k = refl
 given_two true c first second k = given_unless c second k
 
@@ -105,7 +105,7 @@ pub has-kind : (want : Kind) (v : Verdict) → has want (kind_judged v) ≡ (is_
 has-kind want (Verdict.fault cause) = refl
 has-kind want (Verdict.kind k) = none_unless (ghosts.eq k want) _
 
-both-kinds : (want k : Kind) (a b : Verdict) → given (are_both want (kind_judged a) (kind_judged b)) (Some k) ≡ kind_judged (both_are want k a b)
+both-kinds : (want k : Kind) (a b : Verdict) → kind_if (are_both want (kind_judged a) (kind_judged b)) (Some k) ≡ kind_judged (both_are want k a b)
 both-kinds want k (Verdict.fault cause) b = refl
 both-kinds want k (Verdict.kind i) (Verdict.fault cause) = given_and (ghosts.eq i want) (Some k)
 both-kinds want k (Verdict.kind i) (Verdict.kind j) = given_two (ghosts.eq i want) (ghosts.eq j want) _ _ k
@@ -123,21 +123,21 @@ two-kinds op.Lt (Verdict.fault cause) b = refl
 two-kinds op.Lt (Verdict.kind i) (Verdict.fault cause) = given_and (is_ordered i) (Some Kind.Bool)
 two-kinds op.Lt (Verdict.kind i) (Verdict.kind j) = given_two (is_ordered i) (ghosts.eq j i) _ _ Kind.Bool
 
-not-kind : (v : Verdict) → given (has Kind.Bool (kind_judged v)) (Some Kind.Bool) ≡ kind_judged (judged (fault_in v before not_a Kind.Bool v) Kind.Bool)
+not-kind : (v : Verdict) → kind_if (has Kind.Bool (kind_judged v)) (Some Kind.Bool) ≡ kind_judged (verdict_by (fault_in v before not_a Kind.Bool v) Kind.Bool)
 not-kind (Verdict.fault cause) = refl
 not-kind (Verdict.kind k) = given_unless (ghosts.eq k Kind.Bool) _ Kind.Bool
 
-str-kind : (v : Verdict) → given (is_some (kind_judged v)) (Some Kind.Text) ≡ kind_judged (judged (fault_in v) Kind.Text)
+str-kind : (v : Verdict) → kind_if (is_some (kind_judged v)) (Some Kind.Text) ≡ kind_judged (verdict_by (fault_in v) Kind.Text)
 str-kind (Verdict.fault cause) = refl
 str-kind (Verdict.kind k) = refl
 
-live-kind : (public : Bool) (cause : Reason) (v : Verdict) → given (not public && refers (kind_judged v)) (Some Kind.Bool) ≡ kind_judged (judged (fault_if public cause before fault_in v before not_reference v) Kind.Bool)
+live-kind : (public : Bool) (cause : Reason) (v : Verdict) → kind_if (not public && refers (kind_judged v)) (Some Kind.Bool) ≡ kind_judged (verdict_by (fault_if public cause before fault_in v before not_reference v) Kind.Bool)
 live-kind true cause v = refl
 live-kind false cause (Verdict.fault d) = refl
 live-kind false cause (Verdict.kind k) = given_unless (is_reference k) _ Kind.Bool
 
 get-kind : (public this : Bool) (cause : Reason) (o : Option Reason) (want k : Kind) (v : Verdict)
-    → given ((not public || this) && (is_none o && has want (kind_judged v))) (Some k) ≡ kind_judged (judged (fault_if (public && not this) cause before o before fault_in v before not_a want v) k)
+    → kind_if ((not public || this) && (is_none o && has want (kind_judged v))) (Some k) ≡ kind_judged (verdict_by (fault_if (public && not this) cause before o before fault_in v before not_a want v) k)
 get-kind true false cause o want k v = refl
 get-kind true true cause (Some d) want k v = refl
 get-kind true true cause None want k (Verdict.fault d) = refl
@@ -146,19 +146,19 @@ get-kind false this cause (Some d) want k v = refl
 get-kind false this cause None want k (Verdict.fault d) = refl
 get-kind false this cause None want k (Verdict.kind j) = given_unless (ghosts.eq j want) _ k
 
-pick-kind : (c a b : Verdict) → given (has Kind.Bool (kind_judged c) && are_alike (kind_judged a) (kind_judged b)) (kind_judged a) ≡ kind_judged (pick_verdict c a b)
+pick-kind : (c a b : Verdict) → kind_if (has Kind.Bool (kind_judged c) && are_alike (kind_judged a) (kind_judged b)) (kind_judged a) ≡ kind_judged (pick_verdict c a b)
 pick-kind (Verdict.fault cause) a b = refl
 pick-kind (Verdict.kind h) (Verdict.fault cause) b = given_none _
 pick-kind (Verdict.kind h) (Verdict.kind i) (Verdict.fault cause) = given_and (ghosts.eq h Kind.Bool) (Some i)
 pick-kind (Verdict.kind h) (Verdict.kind i) (Verdict.kind j) = given_two (ghosts.eq h Kind.Bool) (ghosts.eq j i) _ _ i
 
-name-kind : (public : Bool) (o : Option Meaning) (x : List ℕ) → given (not public) (option_map (λ (m : Meaning). m.kind) o) ≡ kind_judged (if public then Verdict.fault (Reason.not_here x) else named_kind o x)
+name-kind : (public : Bool) (o : Option Meaning) (x : List ℕ) → kind_if (not public) (option_map (λ (m : Meaning). m.kind) o) ≡ kind_judged (if public then Verdict.fault (Reason.not_here x) else named_kind o x)
 name-kind true o x = refl
 name-kind false None x = refl
 name-kind false (Some m) x = refl
 
 viewer-kind : (public : Bool) (ms : List Entity) (o : Option (List ℕ)) (cause : Reason)
-    → given (not public) (option_map (reference_to ms) o) ≡ kind_judged (if public then Verdict.fault cause else viewer_kind ms o)
+    → kind_if (not public) (option_map (reference_to ms) o) ≡ kind_judged (if public then Verdict.fault cause else viewer_kind ms o)
 viewer-kind true ms o cause = refl
 viewer-kind false ms None cause = refl
 viewer-kind false ms (Some m) cause = refl
@@ -177,15 +177,15 @@ query-step false cause None (Some d) (Verdict.kind k) = and_false (ghosts.eq k K
 query-step false cause None None (Verdict.kind k) = and_unless (ghosts.eq k Kind.Bool) _
 
 sum-step : (public : Bool) (cause : Reason) (names order : Option Reason) (v e : Verdict)
-    → given ((not public && (is_none names && (has Kind.Bool (kind_judged v) && is_none order))) && has Kind.Int (kind_judged e)) (Some Kind.Int)
-    ≡ kind_judged (judged (((fault_if public cause before names) before fault_in v before order) before fault_in e before not_a Kind.Bool v before not_a Kind.Int e) Kind.Int)
+    → kind_if ((not public && (is_none names && (has Kind.Bool (kind_judged v) && is_none order))) && has Kind.Int (kind_judged e)) (Some Kind.Int)
+    ≡ kind_judged (verdict_by (((fault_if public cause before names) before fault_in v before order) before fault_in e before not_a Kind.Bool v before not_a Kind.Int e) Kind.Int)
 sum-step true cause names order v e = refl
 sum-step false cause (Some d) order v e = refl
 sum-step false cause None order (Verdict.fault d) e = refl
-sum-step false cause None (Some d) (Verdict.kind k) e = ap (λ (b : Bool). given (b && has Kind.Int (kind_judged e)) (Some Kind.Int)) (and_false (ghosts.eq k Kind.Bool))
+sum-step false cause None (Some d) (Verdict.kind k) e = ap (λ (b : Bool). kind_if (b && has Kind.Int (kind_judged e)) (Some Kind.Int)) (and_false (ghosts.eq k Kind.Bool))
 sum-step false cause None None (Verdict.kind k) (Verdict.fault d) = given_and (ghosts.eq k Kind.Bool && true) (Some Kind.Int)
 sum-step false cause None None (Verdict.kind k) (Verdict.kind j) =
-    ap (λ (b : Bool). given (b && ghosts.eq j Kind.Int) (Some Kind.Int)) (and_true (ghosts.eq k Kind.Bool)) ∙ given_two (ghosts.eq k Kind.Bool) (ghosts.eq j Kind.Int) _ _ Kind.Int
+    ap (λ (b : Bool). kind_if (b && ghosts.eq j Kind.Int) (Some Kind.Int)) (and_true (ghosts.eq k Kind.Bool)) ∙ given_two (ghosts.eq k Kind.Bool) (ghosts.eq j Kind.Int) _ _ Kind.Int
 
 -- a query with the verdict on its condition
 pub query-well : (s : Scope) (bs : List Binder) (o : Order) (v : Verdict)
@@ -195,10 +195,10 @@ query-well s bs o v =
     ∙ ap (λ (b : Bool). not s.is_public && (is_none (binder_fault s.models [] bs) && (has Kind.Bool (kind_judged v) && b))) (order-well s.models bs o)
 
 query-kind : (s : Scope) (word : Reason) (bs : List Binder) (o : Order) (v : Verdict) (k : Kind)
-    → given (is_query s bs o (kind_judged v)) (Some k)
-    ≡ kind_judged (judged (((fault_if s.is_public word before binder_fault s.models [] bs) before fault_in v before order_fault s.models bs o) before not_a Kind.Bool v) k)
+    → kind_if (is_query s bs o (kind_judged v)) (Some k)
+    ≡ kind_judged (verdict_by (((fault_if s.is_public word before binder_fault s.models [] bs) before fault_in v before order_fault s.models bs o) before not_a Kind.Bool v) k)
 query-kind s word bs o v k =
-    ap (λ (b : Bool). given b (Some k)) (query-well s bs o v ∙ query-step s.is_public word (binder_fault s.models [] bs) (order_fault s.models bs o) v)
+    ap (λ (b : Bool). kind_if b (Some k)) (query-well s bs o v ∙ query-step s.is_public word (binder_fault s.models [] bs) (order_fault s.models bs o) v)
     ∙ given_if (((fault_if s.is_public word before binder_fault s.models [] bs) before fault_in v before order_fault s.models bs o) before not_a Kind.Bool v) k
 
 pub parts-step : (p q x y : Bool) → ((p && x) && (q && y)) ≡ ((p && q) && (x && y))
@@ -212,15 +212,15 @@ mutual
   kinds-law s (Expression.int i) = refl
   kinds-law s (Expression.text t) = refl
   kinds-law s (Expression.bool b) = refl
-  kinds-law s (Expression.none_of m) = ap (λ (b : Bool). given b (Some (reference_to s.models m))) (model-known s.models m) ∙ given_if (unknown_model s.models m) (reference_to s.models m)
+  kinds-law s (Expression.none_of m) = ap (λ (b : Bool). kind_if b (Some (reference_to s.models m))) (model-known s.models m) ∙ given_if (unknown_model s.models m) (reference_to s.models m)
   kinds-law s (Expression.name x) = name-kind s.is_public _ x
   kinds-law s Expression.this = this-known s.this
   kinds-law s Expression.viewer = viewer-kind s.is_public s.models s.viewers _
   kinds-law s (Expression.get m f e) =
       let want = reference_to s.models m in
       let k = field_kind s.models (fields_of s.models m) f in
-      ap (λ (o : Option Kind). given ((not s.is_public || is_this e) && (is_place s.models m f && has want o)) (Some k)) (kinds-law s e)
-      ∙ ap (λ (b : Bool). given ((not s.is_public || is_this e) && (b && has want (kind_judged (verdict s e)))) (Some k)) (place-known s.models m f)
+      ap (λ (o : Option Kind). kind_if ((not s.is_public || is_this e) && (is_place s.models m f && has want o)) (Some k)) (kinds-law s e)
+      ∙ ap (λ (b : Bool). kind_if ((not s.is_public || is_this e) && (b && has want (kind_judged (verdict s e)))) (Some k)) (place-known s.models m f)
       ∙ get-kind s.is_public (is_this e) _ (unknown_place s.models m f) want k (verdict s e)
   kinds-law s (Expression.live e) = rw (kinds-law s e) (live-kind s.is_public _ (verdict s e))
   kinds-law s (Expression.two o a b) = rw (kinds-law s a, kinds-law s b) (two-kinds o (verdict s a) (verdict s b))
@@ -231,9 +231,9 @@ mutual
   kinds-law s (Expression.count bs c o) = rw (kinds-law (within bs s) c) (query-kind s _ bs o (verdict (within bs s) c) Kind.Int)
   kinds-law s (Expression.sum bs c o e) =
       let inner = within bs s in
-      ap (λ (k : Option Kind). given (is_query s bs o k && has Kind.Int (kind_of inner e)) (Some Kind.Int)) (kinds-law inner c)
-      ∙ ap (λ (k : Option Kind). given (is_query s bs o (kind_judged (verdict inner c)) && has Kind.Int k) (Some Kind.Int)) (kinds-law inner e)
-      ∙ ap (λ (b : Bool). given (b && has Kind.Int (kind_judged (verdict inner e))) (Some Kind.Int)) (query-well s bs o (verdict inner c))
+      ap (λ (k : Option Kind). kind_if (is_query s bs o k && has Kind.Int (kind_of inner e)) (Some Kind.Int)) (kinds-law inner c)
+      ∙ ap (λ (k : Option Kind). kind_if (is_query s bs o (kind_judged (verdict inner c)) && has Kind.Int k) (Some Kind.Int)) (kinds-law inner e)
+      ∙ ap (λ (b : Bool). kind_if (b && has Kind.Int (kind_judged (verdict inner e))) (Some Kind.Int)) (query-well s bs o (verdict inner c))
       ∙ sum-step s.is_public _ (binder_fault s.models [] bs) (order_fault s.models bs o) (verdict inner c) (verdict inner e)
   kinds-law s (Expression.any_of bs c o) = rw (kinds-law (within bs s) c) (query-kind s _ bs o (verdict (within bs s) c) Kind.Bool)
   kinds-law s (Expression.first bs c o) = rw (kinds-law (within bs s) c) (query-kind s _ bs o (verdict (within bs s) c) _)

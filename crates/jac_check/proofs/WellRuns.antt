@@ -6,7 +6,7 @@ use Rattle.jac_value.specs.declared.value.Kind.{Kind}
 use Rattle.jac_lang.specs.Syntax.{Statement, Statements, Page, Application}
 use Rattle.jac_check.specs.Scope.{Standing, bind, loop_within, reference_to, page_standing}
 use Rattle.jac_check.specs.Well.{kind_here, is_statement, is_body, are_pages, is_well}
-use Rattle.jac_check.specs.Runnable.{is_runnable, are_runnable, IsRunnable, AreRunnable}
+use Rattle.jac_check.specs.Runnable.{is_runnable, are_runnable, IsRunnablePage, HasRunnableViews}
 
 both_true : (p q : Bool) → (p && q) ≡ true → (p ≡ true) × (q ≡ true)
 both_true true q h = (refl, h)
@@ -46,12 +46,12 @@ mutual
       let parts = both_true (is_statement st s) (is_body st ss) h in
       two_true _ _ (statement-runs st s parts.0) (body-runs st ss parts.1)
 
-views-run : (app : Application) (vs : List Page) → are_pages app vs ≡ true → All (IsRunnable app.models) vs
-views-run app [] h = All-nil (IsRunnable app.models)
+views-run : (app : Application) (vs : List Page) → are_pages app vs ≡ true → All (IsRunnablePage app.models) vs
+views-run app [] h = All-nil (IsRunnablePage app.models)
 views-run app (v ∷ vs) h =
     let parts = both_true _ (are_pages app vs) h in
     let body = both_true _ (is_body (page_standing app v) v.body) (both_true _ _ parts.0).1 in
-    All-cons (IsRunnable app.models) v vs (body-runs (page_standing app v) v.body body.1) (views-run app vs parts.1)
+    All-cons (IsRunnablePage app.models) v vs (body-runs (page_standing app v) v.body body.1) (views-run app vs parts.1)
 
-pub well-runs : (app : Application) → IsTrue (is_well app) → AreRunnable app
+pub well-runs : (app : Application) → IsTrue (is_well app) → HasRunnableViews app
 well-runs app h = views-run app app.views (both_true _ (are_pages app app.views) (both_true _ _ h).1).1

@@ -15,16 +15,16 @@ use Rattle.jac_check.specs.declared.fault.Wanted.{Wanted}
 use Rattle.jac_check.specs.declared.fault.Wanted.TheVariants as wanted
 use Rattle.jac_check.specs.Verdict.{Reason}
 
-abbrev pub name_in : Option Entity → List ℕ
-name_in None = []
-name_in (Some m) = m.name
+abbrev pub entity_name : Option Entity → List ℕ
+entity_name None = []
+entity_name (Some m) = m.name
 
 -- the kind as the text names it: a reference has the name of its model
 abbrev pub kind_name_of : List Entity → Kind → KindName
 kind_name_of ms kinds.Int = names.Int
 kind_name_of ms kinds.Text = names.Text
 kind_name_of ms kinds.Bool = names.Bool
-kind_name_of ms (kinds.Ref m) = names.Ref (name_in (slice_get ms m))
+kind_name_of ms (kinds.Ref m) = names.Ref (entity_name (slice_get ms m))
 
 abbrev pub wanted_of : List Entity → Expected → Wanted
 wanted_of ms (expected.One k) = wanted.One (kind_name_of ms k)
@@ -42,8 +42,8 @@ cause_of ms (Reason.loop_wanted x) = causes.LoopWanted x
 cause_of ms Reason.viewer_in_public = causes.ViewerInPublic
 cause_of ms (Reason.not_here x) = causes.NotHere x
 
-abbrev pub located : List Entity → Place → Reason → CheckFault
-located ms place reason = record { place = place; cause = cause_of ms reason }
+abbrev pub fault_at_place : List Entity → Place → Reason → CheckFault
+fault_at_place ms place reason = record { place = place; cause = cause_of ms reason }
 
 abbrev pub fault_at : List Entity → Place → Option Reason → Option CheckFault
-fault_at ms place reason = option_map (located ms place) reason
+fault_at ms place reason = option_map (fault_at_place ms place) reason

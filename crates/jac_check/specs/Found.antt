@@ -7,7 +7,7 @@ use Rattle.jac_check.specs.declared.fault.Place.TheVariants as places
 use Rattle.jac_check.specs.declared.found.Found.{Found}
 use Rattle.jac_check.specs.declared.found.Spot.{Spot}
 use Rattle.jac_check.specs.declared.found.Spot.TheVariants as spots
-use Rattle.jac_check.specs.Causes.{located}
+use Rattle.jac_check.specs.Causes.{fault_at_place}
 use Rattle.jac_check.specs.Mirror.{reason_of}
 
 abbrev pub place_of : Spot → Place
@@ -17,8 +17,8 @@ place_of (spots.View number) = places.View number
 
 -- the fault among these models
 abbrev pub found_of : List Entity → Found → CheckFault
-found_of ms f = located ms (place_of f.place) (reason_of f.cause)
+found_of ms f = fault_at_place ms (place_of f.place) (reason_of f.cause)
 
-abbrev pub first_of : {A : Type 0} → List Entity → Result A Found → Option CheckFault
-first_of ms (Ok a) = None
-first_of ms (Err f) = Some (found_of ms f)
+abbrev pub first_check_fault : {A : Type 0} → List Entity → Result A Found → Option CheckFault
+first_check_fault ms (Ok a) = None
+first_check_fault ms (Err f) = Some (found_of ms f)

@@ -10,15 +10,15 @@ use Rattle.jac_lang.specs.declared.queries.Binder.{Binder}
 use Rattle.jac_lang.specs.declared.queries.Order.{Order}
 use Rattle.jac_lang.specs.declared.queries.Order.TheVariants as orders
 use Rattle.jac_lang.specs.Lookup.{same_text, model_place, field_place}
-use Rattle.jac_lang.specs.Syntax.{Entity, Expression, Expressions}
+use Rattle.jac_lang.specs.Syntax.{Entity, Expression, Expressions, is_this}
 use Rattle.jac_check.specs.declared.names.Meaning.{Meaning}
 use Rattle.jac_check.specs.Verdict.{is_ordered, is_reference}
-use Rattle.jac_check.specs.Scope.{Scope, meaning_of, within, reference_to, fields_of, field_kind, first_kind, is_this, is_one_of}
+use Rattle.jac_check.specs.Scope.{Scope, meaning_of, within, reference_to, fields_of, field_kind, first_kind, is_one_of}
 
 -- the kind, where the test is passed
-abbrev pub given : Bool → Option Kind → Option Kind
-given true k = k
-given false k = None
+abbrev pub kind_if : Bool → Option Kind → Option Kind
+kind_if true k = k
+kind_if false k = None
 
 abbrev pub has : Kind → Option Kind → Bool
 has want None = false
@@ -40,13 +40,13 @@ is_sorted None = false
 is_sorted (Some k) = is_ordered k
 
 abbrev pub kind_of_two : Op → Option Kind → Option Kind → Option Kind
-kind_of_two op.Add a b = given (are_both Kind.Int a b) (Some Kind.Int)
-kind_of_two op.Sub a b = given (are_both Kind.Int a b) (Some Kind.Int)
-kind_of_two op.Mul a b = given (are_both Kind.Int a b) (Some Kind.Int)
-kind_of_two op.Eq a b = given (are_alike a b) (Some Kind.Bool)
-kind_of_two op.Lt a b = given (is_sorted a && are_alike a b) (Some Kind.Bool)
-kind_of_two op.And a b = given (are_both Kind.Bool a b) (Some Kind.Bool)
-kind_of_two op.Or a b = given (are_both Kind.Bool a b) (Some Kind.Bool)
+kind_of_two op.Add a b = kind_if (are_both Kind.Int a b) (Some Kind.Int)
+kind_of_two op.Sub a b = kind_if (are_both Kind.Int a b) (Some Kind.Int)
+kind_of_two op.Mul a b = kind_if (are_both Kind.Int a b) (Some Kind.Int)
+kind_of_two op.Eq a b = kind_if (are_alike a b) (Some Kind.Bool)
+kind_of_two op.Lt a b = kind_if (is_sorted a && are_alike a b) (Some Kind.Bool)
+kind_of_two op.And a b = kind_if (are_both Kind.Bool a b) (Some Kind.Bool)
+kind_of_two op.Or a b = kind_if (are_both Kind.Bool a b) (Some Kind.Bool)
 
 abbrev pub is_model : List Entity → List ℕ → Bool
 is_model ms m = is_some (model_place ms m)
@@ -85,30 +85,31 @@ abbrev mutual
   kind_of s (Expression.int i) = Some Kind.Int
   kind_of s (Expression.text t) = Some Kind.Text
   kind_of s (Expression.bool b) = Some Kind.Bool
-  kind_of s (Expression.none_of m) = given (is_model s.models m) (Some (reference_to s.models m))
-  kind_of s (Expression.name x) = given (not s.is_public) (option_map (λ (m : Meaning). m.kind)
+  kind_of s (Expression.none_of m) = kind_if (is_model s.models m) (Some (reference_to s.models m))
+  kind_of s (Expression.name x) = kind_if (not s.is_public) (option_map (λ (m : Meaning). m.kind)
       (meaning_of s.names x))
   kind_of s Expression.this = s.this
-  kind_of s Expression.viewer = given (not s.is_public) (option_map (reference_to s.models)
+  kind_of s Expression.viewer = kind_if (not s.is_public) (option_map (reference_to s.models)
       s.viewers)
   kind_of s (Expression.get m f e) =
-      given ((not s.is_public || is_this e) && (is_place s.models m f && has
+      kind_if ((not s.is_public || is_this e) && (is_place s.models m f && has
       (reference_to s.models m) (kind_of s e)))
       (Some (field_kind s.models (fields_of s.models m) f))
-  kind_of s (Expression.live e) = given (not s.is_public && refers (kind_of s e)) (Some Kind.Bool)
+  kind_of s (Expression.live e) = kind_if (not s.is_public && refers (kind_of s e)) (Some Kind.Bool)
   kind_of s (Expression.two o a b) = kind_of_two o (kind_of s a) (kind_of s b)
-  kind_of s (Expression.negated e) = given (has Kind.Bool (kind_of s e)) (Some Kind.Bool)
-  kind_of s (Expression.cat es) = given (are_texts s es) (Some Kind.Text)
-  kind_of s (Expression.str e) = given (is_some (kind_of s e)) (Some Kind.Text)
-  kind_of s (Expression.pick c a b) = given (has Kind.Bool (kind_of s c) && are_alike (kind_of s a)
+  kind_of s (Expression.negated e) = kind_if (has Kind.Bool (kind_of s e)) (Some Kind.Bool)
+  kind_of s (Expression.cat es) = kind_if (are_texts s es) (Some Kind.Text)
+  kind_of s (Expression.str e) = kind_if (is_some (kind_of s e)) (Some Kind.Text)
+  kind_of s (Expression.pick c a b) = kind_if (has Kind.Bool (kind_of s c) && are_alike
+      (kind_of s a)
       (kind_of s b)) (kind_of s a)
-  kind_of s (Expression.count bs c o) = given (is_query s bs o (kind_of (within bs s) c))
+  kind_of s (Expression.count bs c o) = kind_if (is_query s bs o (kind_of (within bs s) c))
       (Some Kind.Int)
-  kind_of s (Expression.sum bs c o e) = given (is_query s bs o (kind_of (within bs s) c) && has
+  kind_of s (Expression.sum bs c o e) = kind_if (is_query s bs o (kind_of (within bs s) c) && has
       Kind.Int (kind_of (within bs s) e)) (Some Kind.Int)
-  kind_of s (Expression.any_of bs c o) = given (is_query s bs o (kind_of (within bs s) c))
+  kind_of s (Expression.any_of bs c o) = kind_if (is_query s bs o (kind_of (within bs s) c))
       (Some Kind.Bool)
-  kind_of s (Expression.first bs c o) = given (is_query s bs o (kind_of (within bs s) c))
+  kind_of s (Expression.first bs c o) = kind_if (is_query s bs o (kind_of (within bs s) c))
       (Some (first_kind s bs))
 
   -- each part of a `cat` is a text

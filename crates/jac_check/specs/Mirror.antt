@@ -14,7 +14,7 @@ use Rattle.jac_check.specs.declared.queries.Seen.{Seen}
 use Rattle.jac_check.specs.declared.queries.Seen.TheVariants as seen
 use Rattle.jac_check.specs.declared.scope.Scope.{Scope as Borrowed}
 use Rattle.jac_check.specs.declared.statements.Standing.{Standing as BorrowedStanding}
-use Rattle.jac_check.specs.Scope.{Named, Scope, Standing, named, named_fields, named_binders}
+use Rattle.jac_check.specs.Scope.{Named, Scope, Standing, scope_name, named_fields, named_binders}
 use Rattle.jac_check.specs.Verdict.{Reason, Verdict}
 
 abbrev pub reason_of : Cause → Reason
@@ -38,7 +38,7 @@ fault_of (Err c) = Some (reason_of c)
 abbrev pub names_of : List Entity → Names → List Named
 names_of ms names.Nothing = []
 names_of ms (names.Params fields) = named_fields ms fields.now
-names_of ms (names.Bound' x k by_let p outer) = names_of ms outer ++ named x.now k by_let ∷ []
+names_of ms (names.Bound' x k by_let p outer) = names_of ms outer ++ scope_name x.now k by_let ∷ []
 names_of ms (names.Binders' bs p outer) = names_of ms outer ++ named_binders ms (binders_of bs.now)
 
 abbrev pub seen_of : Seen → List (List ℕ)

@@ -32,8 +32,8 @@ abbrev mutual
   are_runnable get models loops (Statements.more s ss) = is_runnable get models loops s &&
       are_runnable get models loops ss
 
-abbrev pub IsRunnable : List Entity → Page → Type 0
-IsRunnable models v = IsTrue (are_runnable (is_get v.method) models Loops.none v.body)
+abbrev pub IsRunnablePage : List Entity → Page → Type 0
+IsRunnablePage models v = IsTrue (are_runnable (is_get v.method) models Loops.none v.body)
 
-abbrev pub AreRunnable : Application → Type 0
-AreRunnable app = All (IsRunnable app.models) app.views
+abbrev pub HasRunnableViews : Application → Type 0
+HasRunnableViews app = All (IsRunnablePage app.models) app.views

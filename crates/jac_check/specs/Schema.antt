@@ -8,20 +8,20 @@ use Rattle.jac_lang.specs.Syntax.{Assigned, FieldGroup, Entity}
 use Rattle.jac_tree.specs.Plain.{PlainTree, PlainTrees}
 
 -- `(WORD ..)`
-abbrev pub headed : List ℕ → PlainTrees → PlainTree
-headed word ts = PlainTree.list (PlainTrees.more (PlainTree.atom word) ts)
+abbrev pub headed_list : List ℕ → PlainTrees → PlainTree
+headed_list word ts = PlainTree.list (PlainTrees.more (PlainTree.atom word) ts)
 
 -- `int`, `text`, `bool` or `(ref NAME)`
 abbrev pub kind_tree : KindName → PlainTree
 kind_tree kinds.Int = PlainTree.atom (codes "int")
 kind_tree kinds.Text = PlainTree.atom (codes "text")
 kind_tree kinds.Bool = PlainTree.atom (codes "bool")
-kind_tree (kinds.Ref model) = headed (codes "ref") (PlainTrees.more (PlainTree.atom model)
+kind_tree (kinds.Ref model) = headed_list (codes "ref") (PlainTrees.more (PlainTree.atom model)
     PlainTrees.none)
 
 -- `(NAME KIND)`
 abbrev pub field_tree : Field → PlainTree
-field_tree f = headed f.name (PlainTrees.more (kind_tree f.kind) PlainTrees.none)
+field_tree f = headed_list f.name (PlainTrees.more (kind_tree f.kind) PlainTrees.none)
 
 abbrev pub field_trees : List Field → PlainTrees
 field_trees [] = PlainTrees.none
@@ -43,16 +43,16 @@ group_trees (g ∷ groups) = PlainTrees.more (group_tree g) (group_trees groups)
 
 -- `(fields (NAME KIND) ..)`
 abbrev pub fields_tree : List Field → PlainTree
-fields_tree fields = headed (codes "fields") (field_trees fields)
+fields_tree fields = headed_list (codes "fields") (field_trees fields)
 
 -- `(groups GROUP ..)`
 abbrev pub groups_tree : List FieldGroup → PlainTree
-groups_tree groups = headed (codes "groups") (group_trees groups)
+groups_tree groups = headed_list (codes "groups") (group_trees groups)
 
 -- the atom `nested`, where the model is
-abbrev pub nested_before : Bool → PlainTrees → PlainTrees
-nested_before true ts = PlainTrees.more (PlainTree.atom (codes "nested")) ts
-nested_before false ts = ts
+abbrev pub nested_atom_before : Bool → PlainTrees → PlainTrees
+nested_atom_before true ts = PlainTrees.more (PlainTree.atom (codes "nested")) ts
+nested_atom_before false ts = ts
 
 -- `(fields ..) (groups ..)`
 abbrev pub list_trees : Entity → PlainTrees
@@ -61,8 +61,8 @@ list_trees m = PlainTrees.more (fields_tree m.fields) (PlainTrees.more (groups_t
 
 -- `(model NAME nested? (fields ..) (groups ..))`
 abbrev pub model_tree : Entity → PlainTree
-model_tree m = headed (codes "model") (PlainTrees.more (PlainTree.atom m.name)
-    (nested_before m.nested (list_trees m)))
+model_tree m = headed_list (codes "model") (PlainTrees.more (PlainTree.atom m.name)
+    (nested_atom_before m.nested (list_trees m)))
 
 abbrev pub model_trees : List Entity → PlainTrees
 model_trees [] = PlainTrees.none
@@ -70,4 +70,4 @@ model_trees (m ∷ models) = PlainTrees.more (model_tree m) (model_trees models)
 
 -- `(schema (model NAME nested? (fields (NAME KIND) ..) (groups GROUP ..)) ..)`
 abbrev pub schema_tree : List Entity → PlainTree
-schema_tree models = headed (codes "schema") (model_trees models)
+schema_tree models = headed_list (codes "schema") (model_trees models)

@@ -35,8 +35,8 @@ pub record Standing : Type 0 where
   pub is_get : Bool
   pub loops : Loops
 
-abbrev pub named : List ℕ → Kind → Bool → Named
-named x k by_let = record { name = x; meaning = record { kind = k; by_let = by_let } }
+abbrev pub scope_name : List ℕ → Kind → Bool → Named
+scope_name x k by_let = record { name = x; meaning = record { kind = k; by_let = by_let } }
 
 -- the innermost of the names, which stands last
 abbrev pub innermost : Option Meaning → List Named → List ℕ → Option Meaning
@@ -69,11 +69,11 @@ field_kind ms fs f = kind_placed ms fs (field_place fs f)
 -- parameters and binders as names that are bound
 abbrev pub named_fields : List Entity → List Field → List Named
 named_fields ms [] = []
-named_fields ms (f ∷ fs) = named f.name (kind_named ms f.kind) false ∷ named_fields ms fs
+named_fields ms (f ∷ fs) = scope_name f.name (kind_named ms f.kind) false ∷ named_fields ms fs
 
 abbrev pub named_binders : List Entity → List Binder → List Named
 named_binders ms [] = []
-named_binders ms (b ∷ bs) = named b.name (reference_to ms b.model) false ∷ named_binders ms bs
+named_binders ms (b ∷ bs) = scope_name b.name (reference_to ms b.model) false ∷ named_binders ms bs
 
 -- the scope with a query's binders behind the names
 abbrev pub within : List Binder → Scope → Scope
@@ -83,10 +83,6 @@ within bs s = record s { names = s.names ++ named_binders s.models bs }
 abbrev pub first_kind : Scope → List Binder → Kind
 first_kind s [] = Kind.Ref (length s.models)
 first_kind s (b ∷ bs) = reference_to s.models b.model
-
-abbrev pub is_this : Expression → Bool
-is_this Expression.this = true
-is_this e = false
 
 -- the scope of the expressions of a statement: no record is `this`, and nothing is public
 abbrev pub scope_at : Standing → Scope
@@ -100,7 +96,7 @@ scope_at st = record {
 
 -- where the statements stand in which a name is bound, and those of a `for`
 abbrev pub bind : Standing → List ℕ → Kind → Bool → Standing
-bind st x k by_let = record st { names = st.names ++ named x k by_let ∷ [] }
+bind st x k by_let = record st { names = st.names ++ scope_name x k by_let ∷ [] }
 
 abbrev pub loop_within : List Binder → Standing → Standing
 loop_within bs st = record st {

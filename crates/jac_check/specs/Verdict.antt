@@ -39,9 +39,9 @@ abbrev pub fault_in : Verdict → Option Reason
 fault_in (Verdict.kind k) = None
 fault_in (Verdict.fault reason) = Some reason
 
-abbrev pub judged : Option Reason → Kind → Verdict
-judged None k = Verdict.kind k
-judged (Some reason) k = Verdict.fault reason
+abbrev pub verdict_by : Option Reason → Kind → Verdict
+verdict_by None k = Verdict.kind k
+verdict_by (Some reason) k = Verdict.fault reason
 
 abbrev pub kind_wanted : Kind → Kind → Option Reason
 kind_wanted want have = fault_unless (ghosts.eq have want) (Reason.wrong_kind (expected.One want)

@@ -1,11 +1,11 @@
 ghost use Rattle.std.specs.Prelude.{◌≡◌, ◌<◌, ◌^◌, [], length, Some, None, IfOk, IfErr, IfSome, IsNone, IsTrue};
 ghost use Rattle.jac_lang.specs.Mirror.{application_of, entities_of, pages_of};
-ghost use Rattle.jac_tree.specs.Printed.{printed};
+ghost use Rattle.jac_tree.specs.Printed.{printed_tree};
 ghost use Rattle.jac_check.specs.Schema.{schema_tree};
 ghost use Rattle.jac_check.specs.Well.{is_well};
 ghost use Rattle.jac_check.specs.Applications.{first_fault, models_fault, pages_fault, viewers_fault, is_fault};
 ghost use Rattle.jac_check.specs.Mirror.{fault_of};
-ghost use Rattle.jac_check.specs.Found.{first_of};
+ghost use Rattle.jac_check.specs.Found.{first_check_fault};
 
 use crate::cause::Cause;
 use crate::fault::{CheckCause, CheckFault, Place};
@@ -54,7 +54,7 @@ impl Checked {
     /// The schema text of the application.
     pub fn schema(&self, alloc: Global) -> Result<Txt, Memory>
         ensures { IfOk result
-            (λ text. text ≡ printed (schema_tree (application_of self.now).models)) }
+            (λ text. text ≡ printed_tree (schema_tree (application_of self.now).models)) }
     {
         let schema = schema_of(alloc, self.app.models.as_slice())?;
         Ok(schema)
@@ -95,7 +95,7 @@ fn owned_fault(alloc: Global, app: &App) -> Option<CheckFault>
 
 fn first_fault(app: &App) -> Result<(), Found<'_>>
     requires few { length app.now.views < 2 ^ 32 }
-    ensures { let a = application_of app.now in first_of a.models result ≡ first_fault a }
+    ensures { let a = application_of app.now in first_check_fault a.models result ≡ first_fault a }
 {
     fault_at(app, Spot::Viewer, viewers_fault(app))?;
     models_fault(app, app.models.as_slice())?;
@@ -112,7 +112,8 @@ fn viewers_fault(app: &App) -> Result<(), Cause<'_>>
 }
 
 fn models_fault<'a>(app: &App, models: &'a [ModelDef]) -> Result<(), Found<'a>>
-    ensures { let a = application_of app.now in first_of a.models result ≡ models_fault a []
+    ensures { let a = application_of app.now in first_check_fault a.models result
+        ≡ models_fault a []
         (entities_of models.now) }
 {
     for i in 0..models.len() {
@@ -128,7 +129,7 @@ fn models_fault<'a>(app: &App, models: &'a [ModelDef]) -> Result<(), Found<'a>>
 
 fn pages_fault<'a>(app: &App, views: &'a [View]) -> Result<(), Found<'a>>
     requires few { length views.now < 2 ^ 32 }
-    ensures { let a = application_of app.now in first_of a.models result ≡ pages_fault a 0
+    ensures { let a = application_of app.now in first_check_fault a.models result ≡ pages_fault a 0
         (pages_of views.now) }
 {
     let mut number: u32 = 0;

@@ -3,10 +3,11 @@
 ghost use Rattle.std.specs.Prelude.{◌≡◌, None, codes};
 ghost use Rattle.jac_lang.specs.Mirror.{expression_of, expressions_of, binders_of};
 ghost use Rattle.jac_value.specs.declared.value.Kind.{Kind};
-ghost use Rattle.jac_check.specs.Scope.{is_this, within};
-ghost use Rattle.jac_check.specs.Verdict.{judged, ◌before◌};
+ghost use Rattle.jac_check.specs.Scope.{within};
+ghost use Rattle.jac_check.specs.Verdict.{verdict_by, ◌before◌};
 ghost use Rattle.jac_check.specs.Expressions.{verdict, parts_inside, parts_kinds};
 ghost use Rattle.jac_check.specs.Mirror.{scope_of, verdict_of, fault_of};
+ghost use Rattle.jac_lang.specs.Syntax.{is_this};
 
 use crate::cause::Cause;
 use crate::forms::{
@@ -87,7 +88,8 @@ pub(crate) fn judge_within<'a>(
 #[cycle(judge)]
 fn judge_cat<'a>(parts: &'a Exprs, scope: &Scope<'_>) -> Result<Kind, Cause<'a>>
     ensures { let es = expressions_of parts.now in verdict_of result
-        ≡ judged (parts_inside (scope_of scope.now) es before parts_kinds (scope_of scope.now) es)
+        ≡ verdict_by (parts_inside (scope_of scope.now) es before parts_kinds
+        (scope_of scope.now) es)
         Kind.Text }
 {
     let mut texts = Ok(());

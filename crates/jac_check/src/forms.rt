@@ -3,7 +3,7 @@ ghost use Rattle.std.specs.Prelude.{◌≡◌, IfOk};
 ghost use Rattle.jac_lang.specs.Mirror.{application_of};
 ghost use Rattle.jac_lang.specs.Mirror.{binders_of, question_of};
 ghost use Rattle.jac_check.specs.Scope.{first_kind};
-ghost use Rattle.jac_check.specs.Verdict.{Verdict, judged};
+ghost use Rattle.jac_check.specs.Verdict.{Verdict, verdict_by};
 ghost use Rattle.jac_check.specs.NameFaults.{name_verdict, this_kind, viewer_verdict};
 ghost use Rattle.jac_check.specs.Expressions.{both_are, two_verdict, none_verdict, get_verdict, live_verdict, not_verdict, str_verdict, pick_verdict, asked_inside, asked_fault, sum_verdict};
 ghost use Rattle.jac_check.specs.Mirror.{fault_of, verdict_of, scope_of};
@@ -189,7 +189,7 @@ pub(crate) fn asked_verdict<'a>(
     kind: Kind,
 ) -> Result<Kind, Cause<'a>>
     ensures { let q = question_of query.now in verdict_of result
-        ≡ judged (asked_fault (scope_of scope.now) word.now q.binders q.order
+        ≡ verdict_by (asked_fault (scope_of scope.now) word.now q.binders q.order
         (verdict_of cond.entry)) kind }
 {
     asked_fault(scope, word, query, cond)?;

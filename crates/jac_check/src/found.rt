@@ -1,10 +1,10 @@
 //! A fault with its place, as it is found and as it is answered.
 ghost use Rattle.std.specs.Prelude.{◌≡◌, IfOk, IsTrue, slice_get};
 ghost use Rattle.jac_lang.specs.Mirror.{application_of, entities_of};
-ghost use Rattle.jac_check.specs.Causes.{fault_at, kind_name_of, name_in, located, cause_of, wanted_of};
+ghost use Rattle.jac_check.specs.Causes.{fault_at, kind_name_of, entity_name, fault_at_place, cause_of, wanted_of};
 ghost use Rattle.jac_check.specs.Applications.{is_fault};
 ghost use Rattle.jac_check.specs.Mirror.{reason_of, fault_of};
-ghost use Rattle.jac_check.specs.Found.{place_of, found_of, first_of};
+ghost use Rattle.jac_check.specs.Found.{place_of, found_of, first_check_fault};
 
 use crate::cause::{Cause, Expected};
 use crate::fault::{CheckCause, CheckFault, Place, Wanted};
@@ -31,7 +31,8 @@ pub(crate) fn fault_at<'a>(
     place: Spot<'a>,
     cause: Result<(), Cause<'a>>,
 ) -> Result<(), Found<'a>>
-    ensures { let models = (application_of app.now).models in first_of models result ≡ fault_at
+    ensures { let models = (application_of app.now).models in first_check_fault models result
+        ≡ fault_at
         models (place_of place.entry) (fault_of cause.entry) }
 {
     match cause {
@@ -55,7 +56,8 @@ pub(crate) fn own(alloc: Global, app: &App, found: &Found<'_>) -> CheckFault
 }
 
 fn own_at(alloc: Global, app: &App, place: Place, cause: &Cause<'_>) -> CheckFault
-    ensures { IsTrue (is_fault result.cause) → result ≡ located (application_of app.now).models
+    ensures { IsTrue (is_fault result.cause) → result ≡ fault_at_place
+        (application_of app.now).models
         place (reason_of cause.now) }
 {
     match own_cause(alloc, app, cause) {
@@ -142,7 +144,7 @@ fn own_kind(alloc: Global, app: &App, kind: &Kind) -> Result<KindName, Memory>
 // The name of the model at this place.
 #[tactic(auto, using(crate::proofs::NameAt::name_found, crate::proofs::NameAt::name_missing))]
 fn own_name(alloc: Global, models: &[ModelDef], model: u8) -> Result<Txt, Memory>
-    ensures { IfOk result (λ t. t ≡ name_in (slice_get (entities_of models.now) model)) }
+    ensures { IfOk result (λ t. t ≡ entity_name (slice_get (entities_of models.now) model)) }
 {
     let place = usize::from(model);
     if place < models.len() {

@@ -1,7 +1,7 @@
 ghost use Rattle.std.specs.Prelude.{◌≡◌, is_none, IsTrue};
 ghost use Rattle.jac_lang.specs.Syntax.{Application};
 ghost use Rattle.jac_check.specs.Well.{is_well};
-ghost use Rattle.jac_check.specs.Runnable.{AreRunnable};
+ghost use Rattle.jac_check.specs.Runnable.{HasRunnableViews};
 ghost use Rattle.jac_check.specs.Applications.{first_fault};
 
 /// A law: an application is well exactly where it has no fault.
@@ -12,5 +12,5 @@ pub fn well_without_fault()
 /// A law: the views of a well application may be run. None that answers GET writes, no record is
 /// created inside of a `for`, and no template is left.
 pub fn well_is_runnable()
-    ensures { (app : Application) → IsTrue (is_well app) → AreRunnable app }
+    ensures { (app : Application) → IsTrue (is_well app) → HasRunnableViews app }
 {}

@@ -2,8 +2,8 @@ ghost use Rattle.std.specs.Prelude.{◌≡◌, ◌++◌, OnOk, IfOk};
 ghost use Rattle.std.specs.String.{string_bytes};
 ghost use Rattle.jac_lang.specs.Mirror.{assigned_of, entities_of, entity_of, field_group_of, groups_of};
 ghost use Rattle.jac_tree.specs.Plain.{PlainTree};
-ghost use Rattle.jac_tree.specs.Printed.{printed, printed_after};
-ghost use Rattle.jac_check.specs.Schema.{field_tree, field_trees, fields_tree, group_trees, group_tree, groups_tree, guard_trees, list_trees, nested_before, kind_tree, model_tree, model_trees, schema_tree};
+ghost use Rattle.jac_tree.specs.Printed.{printed_tree, printed_after};
+ghost use Rattle.jac_check.specs.Schema.{field_tree, field_trees, fields_tree, group_trees, group_tree, groups_tree, guard_trees, list_trees, nested_atom_before, kind_tree, model_tree, model_trees, schema_tree};
 
 use jac_lang::{Field, Group, KindName, ModelDef, Publics};
 use jac_value::{Memory, Txt};
@@ -11,7 +11,7 @@ use std::alloc::Global;
 
 /// The schema text of models.
 pub fn schema_of(alloc: Global, models: &[ModelDef]) -> Result<Txt, Memory>
-    ensures { IfOk result (λ text. text ≡ printed (schema_tree (entities_of models.now))) }
+    ensures { IfOk result (λ text. text ≡ printed_tree (schema_tree (entities_of models.now))) }
 {
     let mut text = String::new(alloc);
     put_schema(models, &mut text)?;
@@ -19,7 +19,7 @@ pub fn schema_of(alloc: Global, models: &[ModelDef]) -> Result<Txt, Memory>
 }
 
 fn put_schema(models: &[ModelDef], to: &mut String) -> Result<(), Memory>
-    ensures { OnOk result (string_bytes to.new ≡ string_bytes to.old ++ printed
+    ensures { OnOk result (string_bytes to.new ≡ string_bytes to.old ++ printed_tree
         (schema_tree (entities_of models.now))) }
 {
     to.push_str("(schema")?;
@@ -40,7 +40,7 @@ fn put_models(models: &[ModelDef], to: &mut String) -> Result<(), Memory>
 }
 
 fn put_model(model: &ModelDef, to: &mut String) -> Result<(), Memory>
-    ensures { OnOk result (string_bytes to.new ≡ string_bytes to.old ++ printed
+    ensures { OnOk result (string_bytes to.new ≡ string_bytes to.old ++ printed_tree
         (model_tree (entity_of model.now))) }
 {
     to.push_str("(model ")?;
@@ -53,7 +53,7 @@ fn put_model(model: &ModelDef, to: &mut String) -> Result<(), Memory>
 // What follows a model's name.
 fn put_parts(model: &ModelDef, to: &mut String) -> Result<(), Memory>
     ensures { OnOk result (string_bytes to.new ≡ string_bytes to.old ++ printed_after
-        (nested_before model.now.nested (list_trees (entity_of model.now)))) }
+        (nested_atom_before model.now.nested (list_trees (entity_of model.now)))) }
 {
     if model.nested {
         to.push_str(" nested")?;
@@ -75,7 +75,7 @@ fn put_lists(model: &ModelDef, to: &mut String) -> Result<(), Memory>
 }
 
 fn put_fields(fields: &[Field], to: &mut String) -> Result<(), Memory>
-    ensures { OnOk result (string_bytes to.new ≡ string_bytes to.old ++ printed
+    ensures { OnOk result (string_bytes to.new ≡ string_bytes to.old ++ printed_tree
         (fields_tree fields.now)) }
 {
     to.push_str("(fields")?;
@@ -96,7 +96,7 @@ fn put_each_field(fields: &[Field], to: &mut String) -> Result<(), Memory>
 }
 
 fn put_field(field: &Field, to: &mut String) -> Result<(), Memory>
-    ensures { OnOk result (string_bytes to.new ≡ string_bytes to.old ++ printed
+    ensures { OnOk result (string_bytes to.new ≡ string_bytes to.old ++ printed_tree
         (field_tree field.now)) }
 {
     to.push('(')?;
@@ -108,7 +108,7 @@ fn put_field(field: &Field, to: &mut String) -> Result<(), Memory>
 }
 
 fn put_kind(kind: &KindName, to: &mut String) -> Result<(), Memory>
-    ensures { OnOk result (string_bytes to.new ≡ string_bytes to.old ++ printed
+    ensures { OnOk result (string_bytes to.new ≡ string_bytes to.old ++ printed_tree
         (kind_tree kind.now)) }
 {
     match kind {
@@ -121,7 +121,7 @@ fn put_kind(kind: &KindName, to: &mut String) -> Result<(), Memory>
 }
 
 fn put_reference(model: &Txt, to: &mut String) -> Result<(), Memory>
-    ensures { OnOk result (string_bytes to.new ≡ string_bytes to.old ++ printed
+    ensures { OnOk result (string_bytes to.new ≡ string_bytes to.old ++ printed_tree
         (kind_tree (KindName.Ref model.now))) }
 {
     to.push_str("(ref ")?;
@@ -131,7 +131,7 @@ fn put_reference(model: &Txt, to: &mut String) -> Result<(), Memory>
 }
 
 fn put_groups(groups: &[Group], to: &mut String) -> Result<(), Memory>
-    ensures { OnOk result (string_bytes to.new ≡ string_bytes to.old ++ printed
+    ensures { OnOk result (string_bytes to.new ≡ string_bytes to.old ++ printed_tree
         (groups_tree (groups_of groups.now))) }
 {
     to.push_str("(groups")?;
@@ -152,7 +152,7 @@ fn put_each_group(groups: &[Group], to: &mut String) -> Result<(), Memory>
 }
 
 fn put_group(group: &Group, to: &mut String) -> Result<(), Memory>
-    ensures { OnOk result (string_bytes to.new ≡ string_bytes to.old ++ printed
+    ensures { OnOk result (string_bytes to.new ≡ string_bytes to.old ++ printed_tree
         (group_tree (field_group_of group.now))) }
 {
     if group.hides {
@@ -165,7 +165,7 @@ fn put_group(group: &Group, to: &mut String) -> Result<(), Memory>
 
 // The fields that a group guards.
 fn put_guarded(guards: &Publics, to: &mut String) -> Result<(), Memory>
-    ensures { OnOk result (string_bytes to.new ≡ string_bytes to.old ++ printed
+    ensures { OnOk result (string_bytes to.new ≡ string_bytes to.old ++ printed_tree
         (PlainTree.list (guard_trees (assigned_of guards.now)))) }
 {
     to.push('(')?;

@@ -1,6 +1,6 @@
 //! Views: their parameters, the names of their paths, their statements.
 ghost use Rattle.std.specs.Prelude.{◌≡◌};
-ghost use Rattle.jac_lang.specs.Mirror.{application_of, page_of};
+ghost use Rattle.jac_lang.specs.Mirror.{application_of, page_of_view};
 ghost use Rattle.jac_check.specs.Scope.{is_get};
 ghost use Rattle.jac_check.specs.Applications.{page_fault};
 ghost use Rattle.jac_check.specs.Mirror.{fault_of};
@@ -14,7 +14,7 @@ use crate::statements::{Standing, body_fault};
 use jac_lang::{App, Verb, View};
 
 pub(crate) fn page_fault<'a>(app: &App, view: &'a View) -> Result<(), Cause<'a>>
-    ensures { fault_of result ≡ page_fault (application_of app.now) (page_of view.now) }
+    ensures { fault_of result ≡ page_fault (application_of app.now) (page_of_view view.now) }
 {
     fields_fault(app, view.params.as_slice())?;
     path_fault(view.params.as_slice(), view.path.as_str())?;

@@ -3,8 +3,8 @@
 //! cut to such records has the same tuples.
 #![tactic(auto)]
 
-mod asking;
 mod laws;
+mod questions;
 
-pub use asking::{Asked, asked_of};
 pub use laws::{found_at, narrower};
+pub use questions::{Asked, asked_of};

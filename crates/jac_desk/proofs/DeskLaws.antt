@@ -3,7 +3,7 @@ use Rattle.std.proofs.Common.{◌≡◌, sym, subst, refl, IsTrue}
 use Rattle.jac_rows.specs.declared.state.State.{State}
 use Rattle.jac_serving.specs.Answering.{IsAnswering}
 use Rattle.jac_engine.specs.Start.{IsStart}
-use Rattle.jac_serving.specs.Desk.{DeskSeen, Keeps}
+use Rattle.jac_serving.specs.Desk.{DeskSeen, KeepsDesk}
 use Rattle.jac_desk.specs.Answered.{DeskOf, AreSeated, answering}
 use Rattle.jac_desk.proofs.EntriesLemmas.{entries-none, entries-one, entries-then}
 use Rattle.jac_desk.proofs.EntryLemmas.{is_wanting}
@@ -22,10 +22,10 @@ lawful of = record {
 -- behind an answer that was made, and where none was, a desk may serve again
 module _ (before after : DeskSeen DeskOf) (same : after.of ≡ before.of) (stays : after.holding.keeper.store ≡ before.holding.keeper.store)
     (settled : AreSeated before.of.app after.holding.keeper after.sittings) where
-  pub keeps-made : (IsTrue after.holding.keeper.tells → IsStart before.of.app after.holding.keeper.state) → Keeps answering before after
+  pub keeps-made : (IsTrue after.holding.keeper.tells → IsStart before.of.app after.holding.keeper.state) → KeepsDesk answering before after
   keeps-made start = record { same = same; store = stays; ready = start; settled = settled }
 
   pub keeps-failed : (IsTrue before.holding.keeper.tells → IsStart before.of.app before.holding.keeper.state)
       → (IsTrue after.holding.keeper.tells → after.holding.keeper.state ≡ before.holding.keeper.state)
-      → (IsTrue after.holding.keeper.tells → IsTrue before.holding.keeper.tells) → Keeps answering before after
+      → (IsTrue after.holding.keeper.tells → IsTrue before.holding.keeper.tells) → KeepsDesk answering before after
   keeps-failed start left told = keeps-made (λ tells. subst (λ (s : State). IsStart before.of.app s) (sym (left tells)) (start (told tells)))

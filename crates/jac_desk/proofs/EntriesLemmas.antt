@@ -5,36 +5,36 @@ use Rattle.jac_lang.specs.Syntax.{Application}
 use Rattle.jac_rows.specs.Project.{project_at}
 use Rattle.jac_rows.specs.declared.plain.PlainState.{PlainState}
 use Rattle.jac_plain.specs.Requests.{Worlds}
-use Rattle.jac_engine.specs.Prepared.{worlds_of}
 use Rattle.jac_engine.specs.Start.{IsStart}
 use Rattle.jac_serving.specs.Keeping.{Grew, Holding}
-use Rattle.jac_serving.specs.Answering.{Entry}
+use Rattle.jac_serving.specs.Answering.{LogEntry}
 use Rattle.jac_desk.specs.Log.{AreFormed, AreAnswered, after_entry, after_log, is_unstored, is_unsplit, faults_in}
 use Rattle.jac_serving.specs.Outside.{span}
 use Rattle.jac_desk.specs.Answered.{IsEntryOf, AreEntries}
+use Rattle.jac_plain.specs.Shown.{worlds_of}
 
-after_log-append : (w : ℕ → Bool) (app : Application) (xs ys : List Entry) (t : PlainState) → after_log w app (xs ++ ys) t ≡ after_log w app ys (after_log w app xs t)
+after_log-append : (w : ℕ → Bool) (app : Application) (xs ys : List LogEntry) (t : PlainState) → after_log w app (xs ++ ys) t ≡ after_log w app ys (after_log w app xs t)
 after_log-append w app [] ys t = refl
 after_log-append w app (x ∷ xs) ys t = after_log-append w app xs ys (after_entry w app x t)
 
-formed-append : (lazy : Bool) (app : Application) (xs ys : List Entry) → AreFormed lazy app xs → AreFormed lazy app ys → AreFormed lazy app (xs ++ ys)
+formed-append : (lazy : Bool) (app : Application) (xs ys : List LogEntry) → AreFormed lazy app xs → AreFormed lazy app ys → AreFormed lazy app (xs ++ ys)
 formed-append lazy app [] ys one two = two
 formed-append lazy app (x ∷ xs) ys one two = (one.0, formed-append lazy app xs ys one.1 two)
 
-answered-append : (lazy : Bool) (app : Application) (worlds : Worlds) (xs ys : List Entry)
+answered-append : (lazy : Bool) (app : Application) (worlds : Worlds) (xs ys : List LogEntry)
     → AreAnswered lazy app worlds xs → AreAnswered lazy app (λ w. after_log w app xs (worlds w)) ys → AreAnswered lazy app worlds (xs ++ ys)
 answered-append lazy app worlds [] ys one two = two
 answered-append lazy app worlds (x ∷ xs) ys one two = (one.0, answered-append lazy app (λ w. after_entry w app x (worlds w)) xs ys one.1 two)
 
 -- where no answer of two logs came with a change, none did in either, and so for splits
-unstored-append : (app : Application) (xs ys : List Entry) → is_unstored app (xs ++ ys) ≡ true → (is_unstored app xs ≡ true) × (is_unstored app ys ≡ true)
+unstored-append : (app : Application) (xs ys : List LogEntry) → is_unstored app (xs ++ ys) ≡ true → (is_unstored app xs ≡ true) × (is_unstored app ys ≡ true)
 unstored-append app [] ys h = (refl, h)
 unstored-append app (x ∷ xs) ys h =
     let parts = and_parts _ _ h in
     let rest = unstored-append app xs ys parts.1 in
     (and_from _ _ parts.0 rest.0, rest.1)
 
-unsplit-append : (app : Application) (xs ys : List Entry) → is_unsplit app (xs ++ ys) ≡ true → (is_unsplit app xs ≡ true) × (is_unsplit app ys ≡ true)
+unsplit-append : (app : Application) (xs ys : List LogEntry) → is_unsplit app (xs ++ ys) ≡ true → (is_unsplit app xs ≡ true) × (is_unsplit app ys ≡ true)
 unsplit-append app [] ys h = (refl, h)
 unsplit-append app (x ∷ xs) ys h =
     let parts = and_parts _ _ h in
@@ -46,7 +46,7 @@ not_alone : (b : Bool) → (not b && true) ≡ true → b ≡ false
 not_alone true h = absurd cc
 not_alone false h = refl
 
-faults_in-append : (xs ys : List Entry) → faults_in (xs ++ ys) ≡ faults_in xs + faults_in ys
+faults_in-append : (xs ys : List LogEntry) → faults_in (xs ++ ys) ≡ faults_in xs + faults_in ys
 faults_in-append [] ys = omega arith
 faults_in-append (x ∷ xs) ys = omega (arith, faults_in-append xs ys)
 
@@ -66,7 +66,7 @@ entries-none lazy app a start = record {
   faults = omega arith;
 }
 
-pub entries-one : (lazy : Bool) (app : Application) (a b : Holding) (entry : Entry)
+pub entries-one : (lazy : Bool) (app : Application) (a b : Holding) (entry : LogEntry)
     → IsEntryOf lazy app (span a b) entry.subject entry.answer → AreEntries lazy app (span a b) (entry ∷ [])
 entries-one lazy app a b entry one = record {
   formed = (one.formed, tt);
@@ -81,12 +81,12 @@ entries-one lazy app a b entry one = record {
 }
 
 -- the worlds before, as the log leaves them
-worlds_before : (app : Application) (a b : Holding) (log : List Entry)
+worlds_before : (app : Application) (a b : Holding) (log : List LogEntry)
     → ((w : ℕ → Bool) → project_at w b.keeper.state ≡ after_log w app log (project_at w a.keeper.state))
     → worlds_of b.keeper.state ≡ (λ (w : ℕ → Bool). after_log w app log (project_at w a.keeper.state))
 worlds_before app a b log same = λ i w. same w i
 
-pub entries-then : (lazy : Bool) (app : Application) (a b c : Holding) (xs ys : List Entry)
+pub entries-then : (lazy : Bool) (app : Application) (a b c : Holding) (xs ys : List LogEntry)
     → AreEntries lazy app (span a b) xs → AreEntries lazy app (span b c) ys → AreEntries lazy app (span a c) (xs ++ ys)
 entries-then lazy app a b c xs ys one two = record {
   formed = formed-append lazy app xs ys one.formed two.formed;

@@ -15,13 +15,13 @@ use Rattle.jac_keep.specs.declared.alteration.Change.{Change}
 use Rattle.jac_keep.specs.declared.stop.Stop.{Stop}
 use Rattle.jac_keep.specs.declared.stop.Stop.TheVariants as stops
 use Rattle.jac_plain.specs.Models.{shapes_of}
-use Rattle.jac_keep.specs.Kept.{applied}
+use Rattle.jac_keep.specs.Kept.{changed_state}
 use Rattle.jac_engine.specs.Answers.{IsSomePage, IsSomeLazyPage, HasFormOf, HasFormBy, HasForm, left_by, stores}
 use Rattle.jac_replies.specs.Refused.{refusal}
 use Rattle.jac_route.specs.Found.{found}
 use Rattle.jac_route.specs.declared.lookup.Found.{Found}
 use Rattle.jac_route.specs.declared.lookup.Found.TheVariants as founds
-use Rattle.jac_engine.specs.Prepared.{applied_if, worlds_of}
+use Rattle.jac_engine.specs.Prepared.{applied_if}
 use Rattle.jac_engine.specs.Start.{IsStart}
 use Rattle.jac_replies.specs.declared.answer.Answer.{Answer}
 use Rattle.jac_replies.specs.declared.answer.Ask.{Ask}
@@ -32,13 +32,14 @@ use Rattle.jac_hub.specs.Refusals.{is_refusal}
 use Rattle.jac_desk.specs.declared.answer.Via.{Via}
 use Rattle.jac_replies.specs.Failed.{status_of_stop}
 use Rattle.jac_serving.specs.Keeping.{Grew, Holding}
-use Rattle.jac_serving.specs.Answering.{Subject, is_failure}
-use Rattle.jac_desk.specs.Log.{HasFailed, IsAnswer, IsFormed, may_split, left_of, refused_with, is_fault}
+use Rattle.jac_serving.specs.Answering.{LogSubject, is_failure}
+use Rattle.jac_desk.specs.Log.{HasFailed, IsAnswer, IsFormed, may_split, left_of, refused_with, is_fault_answer}
 use Rattle.jac_serving.specs.Outside.{Span}
 use Rattle.jac_desk.specs.Answered.{IsAnswerMade, IsEntryOf}
+use Rattle.jac_plain.specs.Shown.{worlds_of}
 
 -- what leaves a start may be stored
-pub sound_if : (app : Application) (s : State) (change : Option Change) → IsStart app (applied_if change s) → IfSome change (λ c. IsSound (applied c s))
+pub sound_if : (app : Application) (s : State) (change : Option Change) → IsStart app (applied_if change s) → IfSome change (λ c. IsSound (changed_state c s))
 sound_if app s None start = tt
 sound_if app s (Some change) start = start.sound
 
@@ -119,7 +120,7 @@ no_fault_status false false true h = refl
 no_fault_status false false false h = refl
 
 -- what stands for no failure stands for no fault
-no_fault : (a : Answer) → is_failure a ≡ false → is_fault a ≡ false
+no_fault : (a : Answer) → is_failure a ≡ false → is_fault_answer a ≡ false
 no_fault a h = no_fault_status (a.status == 500) (a.status == 503) (is_none a.shown) h
 
 grew_by_none : (before now : ℕ) (fault : Bool) → fault ≡ false → before ≤ now → Grew before (if fault then 1 else 0) now
@@ -151,7 +152,7 @@ left_without (founds.WrongMethod allow) w app ask t = refl
 left_without (founds.View n pairs) w app ask t = refl
 
 grew_if : (before now : ℕ) (stop : Stop) → before ≤ now → (stop ≡ stops.Keeper → Rose before now)
-    → Grew before (if is_fault (refusal (status_of_stop stop) None) then 1 else 0) now
+    → Grew before (if is_fault_answer (refusal (status_of_stop stop) None) then 1 else 0) now
 grew_if before now stops.Keeper later rose = let r = rose refl in omega (arith, r)
 grew_if before now stops.Memory later rose = omega (arith, later)
 
@@ -182,7 +183,7 @@ is_failed lazy app k ask close stop same reading told start later rose = record 
 }
 
 -- memory ran out, and the keeper wasn't called
-pub is_wanting : (lazy : Bool) (app : Application) (k : Holding) (subject : Subject) → IsFormed lazy app subject (refusal 500 None)
+pub is_wanting : (lazy : Bool) (app : Application) (k : Holding) (subject : LogSubject) → IsFormed lazy app subject (refusal 500 None)
     → ((worlds : Worlds) → IsAnswer lazy app worlds subject (refusal 500 None))
     → ((w : ℕ → Bool) (t : PlainState) → left_of w app subject (refusal 500 None) t ≡ t) → (IsTrue k.keeper.tells → IsStart app k.keeper.state)
     → IsEntryOf lazy app (record { before = k; after = k }) subject (refusal 500 None)

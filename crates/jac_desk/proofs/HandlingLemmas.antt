@@ -24,12 +24,12 @@ use Rattle.jac_desk.specs.Asked.{request_in}
 use Rattle.jac_replies.specs.Failed.{status_of_stop}
 use Rattle.jac_serving.specs.Answering.{is_failure}
 use Rattle.jac_desk.specs.Log.{refused_with}
-use Rattle.jac_replies.specs.Spelled.{spelled, audit_text}
+use Rattle.jac_replies.specs.Spelled.{spelled_bytes, audit_text}
 use Rattle.jac_engine.specs.Answers.{stores}
 use Rattle.jac_serving.specs.Keeping.{Holding}
 use Rattle.jac_serving.specs.Outside.{span}
 use Rattle.jac_desk.specs.Answered.{IsAnswerMade, IsRefusalSent, answering_of}
-use Rattle.jac_serving.specs.Serve.{handled, sent_on, sent_audit}
+use Rattle.jac_serving.specs.Serve.{Handles, sent_on, sent_audit}
 use Rattle.jac_desk.proofs.EntryLemmas.{is_made, is_failed, is_wanting, is_refused, servable}
 
 either : (a b : Bool) (P : Type 0) → (a || b) ≡ true → (a ≡ true → P) → (b ≡ true → P) → P
@@ -77,12 +77,12 @@ refusal_goes_on status named = grind (arith, nat_tests)
 
 -- what is refused is told so, or memory ran out
 pub refused-handled : (spelling : Spelling) (lazy : Bool) (app : Application) (sessions : List Session) (k : Holding) (c status : ℕ) (sent : Sent) → is_refusal status ≡ true
-    → (IsTrue k.keeper.tells → IsStart app k.keeper.state) → IsRefusalSent spelling c status sent → handled spelling (answering_of lazy app sessions) k c (Refused status) sent k
-refused-handled spelling lazy app sessions k c status sent named start (inl is) = subst (λ (s : Sent). handled spelling (answering_of lazy app sessions) k c (Refused status) s k) (sym is) (
+    → (IsTrue k.keeper.tells → IsStart app k.keeper.state) → IsRefusalSent spelling c status sent → Handles spelling (answering_of lazy app sessions) k c (Refused status) sent k
+refused-handled spelling lazy app sessions k c status sent named start (inl is) = subst (λ (s : Sent). Handles spelling (answering_of lazy app sessions) k c (Refused status) s k) (sym is) (
   refused_with status,
   record { line = refl; audit = λ n. refl; closing = sym (refusal_goes_on status named); entry = is_refused lazy app k status named start },
 )
-refused-handled spelling lazy app sessions k c status sent named start (inr is) = subst (λ (s : Sent). handled spelling (answering_of lazy app sessions) k c (Refused status) s k) (sym is) (
+refused-handled spelling lazy app sessions k c status sent named start (inr is) = subst (λ (s : Sent). Handles spelling (answering_of lazy app sessions) k c (Refused status) s k) (sym is) (
   refusal 500 None,
   record { line = refl; audit = λ n. refl; closing = refl; entry = is_wanting lazy app k (refused status) (inl refl) (λ worlds. inl refl) (λ w t. refl) start },
 )
@@ -91,7 +91,7 @@ refused-handled spelling lazy app sessions k c status sent named start (inr is) 
 pub request-handled : (spelling : Spelling) (lazy : Bool) (app : Application) (sessions : List Session) (a b : Holding) (c : ℕ) (request : Request) (reply audit : List ℕ) (sent : Sent)
     → IsAnswerMade lazy app (span a b) (ways.Connection c request.close spelling) (request_in app sessions request) reply audit
     → (IsTrue b.keeper.tells → IsTrue a.keeper.tells) → a.keeper.faults ≤ b.keeper.faults
-    → sent ≡ Made reply audit false → handled spelling (answering_of lazy app sessions) a c (Whole request) sent b
+    → sent ≡ Made reply audit false → Handles spelling (answering_of lazy app sessions) a c (Whole request) sent b
 request-handled spelling lazy app sessions a b c request reply audit sent made told later is = (
   made.answer,
   record {
@@ -103,8 +103,8 @@ request-handled spelling lazy app sessions a b c request reply audit sent made t
 )
 
 failed_bytes : (spelling : Spelling) (stop : Stop) (close : Bool) (c : ℕ) (head : Bool)
-    → spelled spelling c (reply_bytes (status_of_stop stop) None None [] false head true)
-    ≡ spelled spelling c (reply_bytes (status_of_stop stop) None None (refusal (status_of_stop stop) None).body false head (close || is_failure (refusal (status_of_stop stop) None)))
+    → spelled_bytes spelling c (reply_bytes (status_of_stop stop) None None [] false head true)
+    ≡ spelled_bytes spelling c (reply_bytes (status_of_stop stop) None None (refusal (status_of_stop stop) None).body false head (close || is_failure (refusal (status_of_stop stop) None)))
 failed_bytes spelling stops.Keeper true c head = refl
 failed_bytes spelling stops.Keeper false c head = refl
 failed_bytes spelling stops.Memory true c head = refl
@@ -120,14 +120,14 @@ pub failed-handled : (spelling : Spelling) (lazy : Bool) (app : Application) (se
     → (IsTrue b.keeper.tells → b.keeper.state ≡ a.keeper.state) → (stores app (request_in app sessions request) ≡ false → b.splits ≡ a.splits)
     → (IsTrue b.keeper.tells → IsTrue a.keeper.tells) → (IsTrue a.keeper.tells → IsStart app a.keeper.state)
     → a.keeper.faults ≤ b.keeper.faults → (stop ≡ stops.Keeper → Rose a.keeper.faults b.keeper.faults)
-    → handled spelling (answering_of lazy app sessions) a c (Whole request) (Still status head viewer) b
+    → Handles spelling (answering_of lazy app sessions) a c (Whole request) (Still status head viewer) b
 failed-handled spelling lazy app sessions a b c request stop status head viewer is is_head looks same reading told start later rose = (
   refusal (status_of_stop stop) None,
   record {
     line =
-        ap (λ (s : ℕ). spelled spelling c (reply_bytes s None None [] false head true)) is
+        ap (λ (s : ℕ). spelled_bytes spelling c (reply_bytes s None None [] false head true)) is
         ∙ failed_bytes spelling stop request.close c head
-        ∙ ap (λ (h : Bool). spelled spelling c (reply_bytes (status_of_stop stop) None None (refusal (status_of_stop stop) None).body false h (request.close || is_failure (refusal (status_of_stop stop) None)))) is_head;
+        ∙ ap (λ (h : Bool). spelled_bytes spelling c (reply_bytes (status_of_stop stop) None None (refusal (status_of_stop stop) None).body false h (request.close || is_failure (refusal (status_of_stop stop) None)))) is_head;
     audit = λ n. ap (λ (s : ℕ). audit_text n s viewer None None) is ∙ ap (λ (v : Option ℕ). audit_text n (status_of_stop stop) v None None) looks;
     closing = failed_closes stop;
     entry = is_failed lazy app (span a b) (request_in app sessions request) request.close stop same reading told start later rose;

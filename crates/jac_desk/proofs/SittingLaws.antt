@@ -14,13 +14,14 @@ use Rattle.jac_recall.specs.Seats.{IsEmptySeat, Unsettles}
 use Rattle.jac_recall.specs.Touched.{IsCovered}
 use Rattle.jac_resolve.specs.Seated.{IsSeated}
 use Rattle.jac_replies.specs.declared.answer.Ask.{Ask}
-use Rattle.jac_engine.specs.Answers.{IsAnswerTo, left}
-use Rattle.jac_engine.specs.Prepared.{IsPrepared, applied_if, worlds_of}
+use Rattle.jac_engine.specs.Answers.{IsAnswerTo, world_left}
+use Rattle.jac_engine.specs.Prepared.{IsPrepared, applied_if}
 use Rattle.jac_engine.specs.Start.{IsStart}
 use Rattle.jac_engine.specs.declared.answer.Prepared.{Prepared}
 use Rattle.jac_sittings.specs.Kept.{IsOneOf, sitting_of}
 use Rattle.jac_sittings.specs.declared.sittings.Sitting.{Sitting}
 use Rattle.jac_desk.specs.Answered.{DeskOf, AreSeated, AreTouched, AreUnsettledIf, IsPutBack}
+use Rattle.jac_plain.specs.Shown.{worlds_of}
 
 none_in : {P : Type 0} (s : Sitting) (sittings : List Sitting) → sittings ≡ [] → IsOneOf s sittings → P
 none_in s sittings none is = let nothing : ⊥ = subst (λ (xs : List Sitting). IsOneOf s xs) none is in absurd nothing
@@ -122,7 +123,7 @@ prepared_after lazy a b app ask p tells told same is = record {
   form = is.form;
   stored = is.stored;
   answered = λ on. subst (λ (s : State). IsAnswerTo lazy app (worlds_of s) ask p.answer) (sym (same (told on))) (is.answered on);
-  worlds = λ on w. subst (λ (s : State). project_at w (applied_if p.change s) ≡ left w app ask p.answer (project_at w s)) (sym (same (told on))) (is.worlds on w);
+  worlds = λ on w. subst (λ (s : State). project_at w (applied_if p.change s) ≡ world_left w app ask p.answer (project_at w s)) (sym (same (told on))) (is.worlds on w);
   start = λ on. subst (λ (s : State). IsStart app (applied_if p.change s)) (sym (same (told on))) (is.start on);
   good = λ on. subst (λ (s : State). IsGood (shapes_of app) s → IsGood (shapes_of app) (applied_if p.change s)) (sym (same (told on))) (is.good on);
 }

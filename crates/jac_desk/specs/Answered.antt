@@ -5,8 +5,8 @@ use Rattle.jac_rows.specs.Good.{IsGood}
 use Rattle.jac_rows.specs.Project.{project_at}
 use Rattle.jac_keep.specs.KeeperSeen.{KeeperSeen}
 use Rattle.jac_plain.specs.Models.{shapes_of}
-use Rattle.jac_engine.specs.Answers.{IsAnswerTo, HasForm, left, is_stored}
-use Rattle.jac_engine.specs.Prepared.{IsTouchOf, worlds_of}
+use Rattle.jac_engine.specs.Answers.{IsAnswerTo, HasForm, world_left, is_stored}
+use Rattle.jac_engine.specs.Prepared.{IsTouchOf}
 use Rattle.jac_engine.specs.Start.{IsStart}
 use Rattle.jac_http.specs.Replies.{reply_bytes}
 use Rattle.jac_hub.specs.declared.sent.Sent.{Sent}
@@ -17,7 +17,7 @@ use Rattle.jac_replies.specs.declared.answer.Answer.{Answer}
 use Rattle.jac_replies.specs.declared.answer.Ask.{Ask}
 use Rattle.jac_replies.specs.declared.reply.Spelling.{Spelling}
 use Rattle.jac_replies.specs.declared.reply.Spelling.TheVariants as spellings
-use Rattle.jac_replies.specs.Spelled.{spelled, audit_rest}
+use Rattle.jac_replies.specs.Spelled.{spelled_bytes, audit_rest}
 use Rattle.jac_route.specs.declared.sessions.Session.{Session}
 use Rattle.jac_recall.specs.declared.seat.Seat.{Seat}
 use Rattle.jac_recall.specs.declared.touch.Touch.{Touch}
@@ -26,7 +26,7 @@ use Rattle.jac_rows.specs.declared.state.State.{State}
 use Rattle.jac_keep.specs.declared.alteration.Change.{Change}
 use Rattle.jac_sittings.specs.Kept.{AreUnsettled, IsOneOf, sitting_of}
 use Rattle.jac_sittings.specs.declared.sittings.Sitting.{Sitting}
-use Rattle.jac_serving.specs.Answering.{Subject, Entry, Answering}
+use Rattle.jac_serving.specs.Answering.{LogSubject, LogEntry, Answering}
 use Rattle.jac_serving.specs.Desk.{DeskSeen}
 use Rattle.jac_serving.specs.Keeping.{Grew, Holding, holding_of}
 use Rattle.jac_serving.specs.Log.{reply_on}
@@ -34,7 +34,8 @@ use Rattle.jac_serving.specs.Outside.{Span}
 use Rattle.jac_desk.specs.declared.answer.Via.{Via}
 use Rattle.jac_desk.specs.declared.answer.Via.TheVariants as ways
 use Rattle.jac_desk.specs.Asked.{ask_in, request_in}
-use Rattle.jac_desk.specs.Log.{IsAnswer, IsFormed, AreFormed, AreAnswered, left_of, after_log, is_stored_for, may_split, is_unstored, is_unsplit, faults_in, is_fault}
+use Rattle.jac_desk.specs.Log.{IsAnswer, IsFormed, AreFormed, AreAnswered, left_of, after_log, is_stored_for, may_split, is_unstored, is_unsplit, faults_in, is_fault_answer}
+use Rattle.jac_plain.specs.Shown.{worlds_of}
 
 abbrev pub source_of : Via → Source
 source_of ways.Line = asked
@@ -58,7 +59,7 @@ pub record IsAnswerMade (lazy : Bool) (app : Application) (k : Span Holding) (vi
       → IsAnswerTo lazy app (worlds_of k.before.keeper.state) ask answer
   pub worlds : IsTrue k.after.keeper.tells → (w : ℕ → Bool)
       → project_at w k.after.keeper.state
-      ≡ left w app ask answer (project_at w k.before.keeper.state)
+      ≡ world_left w app ask answer (project_at w k.before.keeper.state)
   pub goes_on : IsTrue k.after.keeper.tells → IsStart app k.after.keeper.state
   pub good : IsTrue k.after.keeper.tells → IsGood (shapes_of app) k.before.keeper.state
       → IsGood (shapes_of app) k.after.keeper.state
@@ -70,7 +71,7 @@ pub record IsAnswerMade (lazy : Bool) (app : Application) (k : Span Holding) (vi
   pub audit_made : audit ≡ audit_rest answer.status ask.viewer answer.shown answer.consulted
 
 -- the subject has this answer, and what that leaves
-pub record IsEntryOf (lazy : Bool) (app : Application) (k : Span Holding) (subject : Subject)
+pub record IsEntryOf (lazy : Bool) (app : Application) (k : Span Holding) (subject : LogSubject)
     (answer : Answer) : Type 0 where
   pub formed : IsFormed lazy app subject answer
   pub told : IsTrue k.after.keeper.tells → IsTrue k.before.keeper.tells
@@ -87,10 +88,11 @@ pub record IsEntryOf (lazy : Bool) (app : Application) (k : Span Holding) (subje
   pub unstored : IsTrue k.after.keeper.tells → is_stored_for app subject answer ≡ false
       → k.after.keeper.state ≡ k.before.keeper.state
   pub unsplit : may_split app subject answer ≡ false → k.after.splits ≡ k.before.splits
-  pub faults : Grew k.before.keeper.faults (if is_fault answer then 1 else 0) k.after.keeper.faults
+  pub faults : Grew k.before.keeper.faults (if is_fault_answer answer then 1
+      else 0) k.after.keeper.faults
 
 -- some subjects were answered one after another
-pub record AreEntries (lazy : Bool) (app : Application) (k : Span Holding) (log : List Entry)
+pub record AreEntries (lazy : Bool) (app : Application) (k : Span Holding) (log : List LogEntry)
     : Type 0 where
   pub formed : AreFormed lazy app log
   pub told : IsTrue k.after.keeper.tells → IsTrue k.before.keeper.tells
@@ -109,7 +111,7 @@ pub record AreEntries (lazy : Bool) (app : Application) (k : Span Holding) (log 
 -- what is sent for what is refused with this status, unless memory runs out
 abbrev pub IsRefusalSent : Spelling → ℕ → ℕ → Sent → Type 0
 IsRefusalSent spelling c status sent =
-    (sent ≡ Made (spelled spelling c (reply_bytes status None None [] false false true))
+    (sent ≡ Made (spelled_bytes spelling c (reply_bytes status None None [] false false true))
     (audit_rest status None None None) false)
     ⊎ (sent ≡ fixed_500)
 

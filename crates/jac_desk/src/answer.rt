@@ -5,7 +5,7 @@ ghost use Rattle.jac_keep.specs.KeeperSeen.{Reads};
 ghost use Rattle.jac_recall.specs.Seats.{IsEmptySeat};
 ghost use Rattle.jac_resolve.specs.Seated.{IsSeated};
 ghost use Rattle.jac_engine.specs.Answers.{stores};
-ghost use Rattle.jac_engine.specs.Prepared.{IsPrepared, applied_if, worlds_of};
+ghost use Rattle.jac_engine.specs.Prepared.{IsPrepared, applied_if};
 ghost use Rattle.jac_engine.specs.Start.{IsStart};
 ghost use Rattle.jac_sittings.specs.Kept.{IsOneOf, sitting_of};
 ghost use Rattle.jac_sittings.specs.declared.sittings.Sitting.{Sitting};
@@ -17,6 +17,7 @@ ghost use Rattle.jac_serving.specs.Log.{reply_on};
 ghost use Rattle.jac_replies.specs.Spelled.{audit_rest};
 ghost use Rattle.jac_desk.specs.Answered.{source_of, close_of, spelling_of, IsAnswerMade, AreSeated, AreTouched, AreUnsettledIf, IsPutBack};
 ghost use Rattle.jac_desk.specs.Seen.{whose, desk_seen};
+ghost use Rattle.jac_plain.specs.Shown.{worlds_of};
 
 use crate::handler::Answerer;
 use jac_engine::{Prepared, Seated, commit, prepare, prepare_seated};

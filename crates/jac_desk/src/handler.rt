@@ -6,12 +6,12 @@ ghost use Rattle.jac_http.specs.Replies.{reply_bytes};
 ghost use Rattle.jac_hub.specs.declared.handler.Heard.TheVariants.{Whole as whole_heard};
 ghost use Rattle.jac_hub.specs.declared.hub.Turn.TheVariants.{Idle};
 ghost use Rattle.jac_hub.specs.declared.sent.Sent.TheVariants.{Made as made_sent};
-ghost use Rattle.jac_hub.specs.Hub.{seen, Nexts, left};
+ghost use Rattle.jac_hub.specs.Hub.{hub_seen, Nexts, puts_left};
 ghost use Rattle.jac_hub.specs.Refusals.{is_refusal};
-ghost use Rattle.jac_replies.specs.Spelled.{spelled, audit_rest};
+ghost use Rattle.jac_replies.specs.Spelled.{spelled_bytes, audit_rest};
 ghost use Rattle.jac_engine.specs.Answers.{stores};
-ghost use Rattle.jac_serving.specs.Desk.{MayServe, Keeps, kept};
-ghost use Rattle.jac_serving.specs.Serve.{handled};
+ghost use Rattle.jac_serving.specs.Desk.{MayServe, KeepsDesk, kept};
+ghost use Rattle.jac_serving.specs.Serve.{Handles};
 ghost use Rattle.jac_desk.specs.Answered.{IsAnswerMade, IsRefusalSent, AreSeated, answering};
 ghost use Rattle.jac_desk.specs.Asked.{ask_in, request_in};
 ghost use Rattle.jac_desk.specs.Seen.{whose, desk_seen};
@@ -70,16 +70,16 @@ impl<K: Keeper, L: Ledger, M: Ledger> Drop for Answerer<'_, '_, '_, '_, '_, '_, 
 }
 
 impl<K: Keeper, L: Ledger, M: Ledger> Handler for Answerer<'_, '_, '_, '_, '_, '_, K, L, M> {
-    ghost use Rattle.jac_serving.specs.Desk.{MayServe, Keeps};
-    ghost use Rattle.jac_serving.specs.Serve.{handled};
+    ghost use Rattle.jac_serving.specs.Desk.{MayServe, KeepsDesk};
+    ghost use Rattle.jac_serving.specs.Serve.{Handles};
     ghost use Rattle.jac_desk.specs.Answered.{answering};
     ghost use Rattle.jac_desk.specs.Seen.{whose, desk_seen};
 
     ghost ready = { λ a. MayServe answering (desk_seen K.seen a) };
 
     ghost handles = { λ before conn heard sent after.
-        Keeps answering (desk_seen K.seen before) (desk_seen K.seen after)
-        × handled before.spelling (answering (whose before)) (desk_seen K.seen before).holding
+        KeepsDesk answering (desk_seen K.seen before) (desk_seen K.seen after)
+        × Handles before.spelling (answering (whose before)) (desk_seen K.seen before).holding
         conn heard sent (desk_seen K.seen after).holding };
 
     fn handle(&mut self, conn: u32, heard: &Heard) -> Sent {
@@ -138,12 +138,13 @@ fn ask_hub<K: Keeper, L: Ledger, M: Ledger>(
     hub: &mut Hub,
 ) -> Option<HubOut>
     requires { MayServe answering (desk_seen K.seen desk.old) }
-    ensures next { Nexts IsTaken (handled desk.old.spelling (answering (whose desk.old)))
-        (seen hub.old) (seen hub.old).turn result (seen hub.new)
+    ensures next { Nexts IsTaken (Handles desk.old.spelling (answering (whose desk.old)))
+        (hub_seen hub.old) (hub_seen hub.old).turn result (hub_seen hub.new)
         (desk_seen K.seen desk.old).holding (desk_seen K.seen desk.new).holding }
-    ensures idle { result ≡ None → (seen hub.new).turn ≡ Idle }
-    ensures nearer { IfSome result (λ out. left (seen hub.new) < left (seen hub.old)) }
-    ensures keeps { Keeps answering (desk_seen K.seen desk.old) (desk_seen K.seen desk.new) }
+    ensures idle { result ≡ None → (hub_seen hub.new).turn ≡ Idle }
+    ensures nearer { IfSome result (λ out. puts_left (hub_seen hub.new) < puts_left
+        (hub_seen hub.old)) }
+    ensures keeps { KeepsDesk answering (desk_seen K.seen desk.old) (desk_seen K.seen desk.new) }
 {
     let alloc = desk.alloc;
     hub.next(alloc, desk)
@@ -229,10 +230,10 @@ fn answer_request<K: Keeper, L: Ledger, M: Ledger>(
     request: &Request,
 ) -> Sent
     requires { MayServe answering (desk_seen K.seen desk.old) }
-    ensures handled { handled desk.old.spelling (answering (whose desk.old))
+    ensures handled { Handles desk.old.spelling (answering (whose desk.old))
         (desk_seen K.seen desk.old).holding conn (whole_heard request.now) result
         (desk_seen K.seen desk.new).holding }
-    ensures keeps { Keeps answering (desk_seen K.seen desk.old) (desk_seen K.seen desk.new) }
+    ensures keeps { KeepsDesk answering (desk_seen K.seen desk.old) (desk_seen K.seen desk.new) }
 {
     match request_lines(desk, conn, request) {
         Ok(lines) => made(lines),
@@ -272,7 +273,8 @@ fn answer_refused(alloc: Global, spelling: Spelling, conn: u32, status: u16) -> 
 fn refused_lines(alloc: Global, spelling: Spelling, conn: u32, status: u16) -> Result<Lines, Memory>
     requires refusal { is_refusal status ≡ true }
     ensures reply { IfOk result (λ lines.
-        lines.reply ≡ spelled spelling conn (reply_bytes status None None [] false false true)) }
+        lines.reply ≡ spelled_bytes spelling conn (reply_bytes status None None [] false false
+        true)) }
     ensures audit { IfOk result (λ lines. lines.audit ≡ audit_rest status None None None) }
 {
     let reply = refusal_reply(alloc, spelling, conn, status)?;

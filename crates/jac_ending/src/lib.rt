@@ -1,14 +1,14 @@
 //! How a command ends, the files that it reads before, and the store that it attaches.
 #![tactic(auto)]
 
-mod attaching;
+mod attachment;
 mod ending;
 mod files;
 mod names;
 mod outset;
 mod status;
 
-pub use attaching::attach;
+pub use attachment::attach;
 pub use ending::{Ending, put_fault, status_of};
 pub use files::{open_app, open_next, read_app, read_file, read_sessions};
 pub use names::{copy_name, named};

@@ -10,7 +10,7 @@ ghost use Rattle.jac_serving.specs.Outside.{span};
 ghost use Rattle.jac_words.specs.Commands.{db_of, file_of, name_of};
 ghost use Rattle.jac_ending.specs.Outset.{command_in, AreFilesRead, BeginsAs, EndsAim, EndsAiming, EndsReading, HasEvents, IsEventless, OpensAs};
 
-use crate::attaching::attach;
+use crate::attachment::attach;
 use crate::ending::Ending;
 use crate::files::{read_app, read_file, read_sessions};
 use crate::names::{copy_name, named};

@@ -3,7 +3,7 @@ use Rattle.std.proofs.Common.{◌≡◌, ◌<◌, ◌≤◌, ◌+◌, ◌^◌, r
 use Rattle.std.specs.Prelude.{slice_get}
 use Rattle.jac_lang.specs.Syntax.{Page as View, Application}
 use Rattle.jac_lang.specs.declared.pages.Verb.TheVariants as verbs
-use Rattle.jac_world.specs.World.{shown}
+use Rattle.jac_world.specs.World.{shown_by}
 use Rattle.jac_rows.specs.Project.{project_at}
 use Rattle.jac_rows.specs.declared.plain.PlainRow.{PlainRow}
 use Rattle.jac_rows.specs.declared.plain.PlainState.{PlainState}
@@ -17,14 +17,14 @@ use Rattle.jac_plain.proofs.GoodLaws.{flat_after}
 use Rattle.jac_keep.specs.declared.alteration.Alteration.{Alteration}
 use Rattle.jac_keep.specs.declared.alteration.Change.{Change}
 use Rattle.jac_keep.specs.Alterations.{overlaid_from}
-use Rattle.jac_keep.specs.Kept.{applied}
+use Rattle.jac_keep.specs.Kept.{changed_state}
 use Rattle.jac_lang.specs.declared.bindings.Binding.{Binding}
 use Rattle.jac_lazy.specs.Steady.{IsPageOf, IsSteady}
 use Rattle.jac_replies.specs.declared.answer.Answer.{Answer}
 use Rattle.jac_replies.specs.declared.answer.Ask.{Ask}
 use Rattle.jac_route.specs.Parameters.{parameters}
 use Rattle.jac_engine.specs.Answers.{visit_of, page_answer, lazy_answer, IsLazyPage, worlds_after}
-use Rattle.jac_engine.specs.Prepared.{AreCovered, worlds_of}
+use Rattle.jac_engine.specs.Prepared.{AreCovered}
 use Rattle.jac_recall.specs.declared.touch.Touch.{Touch}
 use Rattle.jac_opening.specs.Served.{is_served_body}
 use Rattle.jac_engine.specs.Start.{IsStart}
@@ -34,6 +34,7 @@ use Rattle.jac_recall.specs.declared.seat.Seat.{Seat}
 use Rattle.jac_resolve.specs.Seated.{IsSeated}
 use Rattle.jac_engine.proofs.ServedLaws.{storing}
 use Rattle.jac_engine.proofs.ViewLaws.{ordered, may_show, may_store, sound_now, sound_next}
+use Rattle.jac_plain.specs.Shown.{worlds_of}
 
 length_overlaid : (k : ℕ) (c : List Alteration) (ts : List (List Row)) → length (overlaid_from k c ts) ≡ length ts
 length_overlaid k c [] = refl
@@ -41,7 +42,7 @@ length_overlaid k c (t ∷ ts) = ap suc (length_overlaid (k + 1) c ts)
 
 -- the page of the run is the interpreter's
 ran_page : (app : Application) (v : View) (ask : Ask) (place n : ℕ) (s : State) (labels : List ℕ) → slice_get app.views place ≡ Some v → n ≡ s.number
-    → page_of (ran_by (shown labels) app v ask n s).pieces ≡ page (shown labels) app (project_at (shown labels) s) (visit_of app ask place)
+    → page_of (ran_by (shown_by labels) app v ask n s).pieces ≡ page (shown_by labels) app (project_at (shown_by labels) s) (visit_of app ask place)
 ran_page app v ask place n s labels is_view is_number = rw (is_view, is_number) refl
 
 ran_after : (w : ℕ → Bool) (app : Application) (v : View) (ask : Ask) (place n : ℕ) (s : State) → slice_get app.views place ≡ Some v → v.method ≡ verbs.Post → n ≡ s.number
@@ -51,7 +52,7 @@ ran_after w app v ask place n s is_view is_post is_number = rw (is_view, is_post
 -- the page of a view of GET
 pub page_shown : (app : Application) (v : View) (ask : Ask) (place n : ℕ) (s : State) (labels : List ℕ) (p : Page) → slice_get app.views place ≡ Some v → is_served_body app.models verbs.Get v.body ≡ true
     → n ≡ s.number → IsStart app s → ShowsView app v ask n s labels p
-    → page_answer labels p ≡ page_answer labels (page (shown labels) app (project_at (shown labels) s) (visit_of app ask place))
+    → page_answer labels p ≡ page_answer labels (page (shown_by labels) app (project_at (shown_by labels) s) (visit_of app ask place))
 page_shown app v ask place n s labels p is_view served is_number start shows =
     ap (page_answer labels) (shows.page n (sound_now s n start.sound is_number) (may_show n app v ask n s served) ∙ ran_page app v ask place n s labels is_view is_number)
 
@@ -73,7 +74,7 @@ lazily_shown app worlds visit labels consulted p answer is steady shows = record
 -- the page of a view of POST
 pub page_stored : (app : Application) (v : View) (ask : Ask) (place n : ℕ) (s : State) (labels : List ℕ) (p : Page) → slice_get app.views place ≡ Some v → is_served_body app.models verbs.Post v.body ≡ true
     → n ≡ s.number → n < 2 ^ 40 → IsStart app s → length app.models ≤ 64 → ShowsView app v ask n s labels p
-    → page_answer labels p ≡ page_answer labels (page (shown labels) app (project_at (shown labels) s) (visit_of app ask place))
+    → page_answer labels p ≡ page_answer labels (page (shown_by labels) app (project_at (shown_by labels) s) (visit_of app ask place))
 page_stored app v ask place n s labels p is_view served is_number few start most shows =
     ap (page_answer labels) (shows.page (n + 1) (sound_next s n start.sound is_number few) (may_store app v ask n s served start most is_number few) ∙ ran_page app v ask place n s labels is_view is_number)
 
@@ -88,11 +89,11 @@ flat_left w app v ask place n s is_view served is_number few start most =
 
 -- the change of a run stores what the interpreter leaves, in every world
 pub change_stored : (app : Application) (v : View) (ask : Ask) (place n : ℕ) (s : State) (change : Change) → slice_get app.views place ≡ Some v → v.method ≡ verbs.Post
-    → is_served_body app.models verbs.Post v.body ≡ true → n ≡ s.number → n < 2 ^ 40 → IsStart app s → length app.models ≤ 64 → change.number ≡ n + 1 → LeavesTables app v ask n s (applied change s).tables
+    → is_served_body app.models verbs.Post v.body ≡ true → n ≡ s.number → n < 2 ^ 40 → IsStart app s → length app.models ≤ 64 → change.number ≡ n + 1 → LeavesTables app v ask n s (changed_state change s).tables
     → Stores app s (visit_of app ask place) change
 change_stored app v ask place n s change is_view is_post served is_number few start most next leaves =
     let ran = leaves.ran (n + 1) (sound_next s n start.sound is_number few) (may_store app v ask n s served start most is_number few) in
-    let left : (w : ℕ → Bool) → project_at w (applied change s) ≡ after w app (project_at w s) (visit_of app ask place) = λ w.
+    let left : (w : ℕ → Bool) → project_at w (changed_state change s) ≡ after w app (project_at w s) (visit_of app ask place) = λ w.
     ap (λ (ts : List (List PlainRow)). record { tables = ts; number = change.number }) (ran.left w)
     ∙ ap (λ (i : ℕ). record { tables = (ran_by w app v ask n s).tables; number = i }) next
     ∙ ran_after w app v ask place n s is_view is_post is_number in
@@ -108,7 +109,7 @@ change_stored app v ask place n s change is_view is_post served is_number few st
 
 -- labels that are settled on the state after a change are so in the worlds that the request leaves
 pub settled_after : (app : Application) (s : State) (ask : Ask) (place : ℕ) (change : Change) (labels : List ℕ) → Stores app s (visit_of app ask place) change
-    → IsSettled app (worlds_of (applied change s)) ask.viewer labels → IsSettled app (worlds_after app (worlds_of s) (visit_of app ask place)) ask.viewer labels
+    → IsSettled app (worlds_of (changed_state change s)) ask.viewer labels → IsSettled app (worlds_after app (worlds_of s) (visit_of app ask place)) ask.viewer labels
 settled_after app s ask place change labels stores settled =
     subst (λ (worlds : Worlds). IsSettled app worlds ask.viewer labels) (λ i w. stores.worlds w i) settled
 

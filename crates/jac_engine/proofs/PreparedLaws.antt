@@ -17,7 +17,7 @@ use Rattle.jac_route.specs.Found.{found}
 use Rattle.jac_route.specs.declared.lookup.Found.{Found}
 use Rattle.jac_route.specs.declared.lookup.Found.TheVariants as founds
 use Rattle.jac_route.specs.declared.pairs.Pair.{Pair}
-use Rattle.jac_engine.specs.Prepared.{IsPrepared, applied_if, worlds_of}
+use Rattle.jac_engine.specs.Prepared.{IsPrepared, applied_if}
 use Rattle.jac_opening.specs.Served.{are_served}
 use Rattle.jac_engine.specs.Start.{IsStart}
 use Rattle.jac_engine.specs.Viewed.{IsPreparedBy, IsPreparedFor}
@@ -25,6 +25,7 @@ use Rattle.jac_engine.proofs.ServedLaws.{sited_view, placed_view}
 use Rattle.jac_replies.specs.declared.answer.Answer.{Answer}
 use Rattle.jac_replies.specs.declared.answer.Ask.{Ask}
 use Rattle.jac_engine.specs.declared.answer.Prepared.{Prepared}
+use Rattle.jac_plain.specs.Shown.{worlds_of}
 
 -- the answer is a page, made under these labels
 record HasLabels (answer : Answer) : Type 0 where

@@ -1,7 +1,7 @@
 -- What the views of a served application keep: what they ask of a run, and where their creates stand.
 use Rattle.std.proofs.Common.{◌≡◌, refl, arith, zero, suc, ℕ, ◌<◌, ◌^◌, ◌&&◌, nat_lt, Bool, true, false, List, [], ◌∷◌, Option, Some, None}
 use Rattle.std.specs.Prelude.{slice_get, is_some}
-use Rattle.std.proofs.lemmas.Bool.{and_parts}
+use Rattle.std.proofs.lemmas.Bool.{and_parts, and_from, ltb-true}
 use Rattle.jac_lang.specs.Loops.{Loops, behind_for, is_placed, are_placed}
 use Rattle.jac_lang.specs.Syntax.{Entity, Statement, Statements, Page as View, Application}
 use Rattle.jac_lang.specs.Written.{sites_in, sites}
@@ -12,15 +12,9 @@ use Rattle.jac_plain.specs.Making.{are_apart}
 use Rattle.jac_plain.specs.Reading.{is_reading, are_reading}
 use Rattle.jac_plain.specs.Requests.{body_in}
 use Rattle.jac_stmt.specs.Runs.{IsRunnable, AreRunnable}
-use Rattle.jac_opening.specs.Served.{is_untemplated, are_untemplated, behind_sites, have_own_sites, is_served_body, is_served_view, are_served_views, are_served}
+use Rattle.jac_opening.specs.Served.{behind_sites, have_own_sites, is_served_body, is_served_view, are_served_views, are_served}
 use Rattle.jac_engine.proofs.SiteLaws.{are_below, below, below_parts, apart}
-
-both_true : (a b : Bool) → a ≡ true → b ≡ true → (a && b) ≡ true
-both_true true b one two = two
-both_true false b one two = one
-
-lt_of_test : (a b : ℕ) → nat_lt a b ≡ true → a < b
-lt_of_test a b e = grind (arith, e)
+use Rattle.jac_lang.specs.Untemplated.{is_untemplated, are_untemplated}
 
 mutual
   -- what creates at one of 64 sites runs while there are numbers
@@ -36,7 +30,7 @@ mutual
   writing_runs n (Statement.each q body) some few t h = all_writing_run n body some few t h
   writing_runs n (Statement.create x m site cells body) some few t h =
       let sited = and_parts (nat_lt site 64) (are_sited body) h in
-      (some, few, lt_of_test site 64 sited.0, all_writing_run n body some few t sited.1)
+      (some, few, ltb-true site 64 sited.0, all_writing_run n body some few t sited.1)
   writing_runs n (Statement.update m e cells) some few t h = tt
   writing_runs n (Statement.delete m e) some few t h = tt
   writing_runs n Statement.missing some few t h = tt
@@ -60,7 +54,7 @@ mutual
   reading_sited (Statement.assign x e) h = refl
   reading_sited (Statement.branch c first second) h =
       let parts = and_parts (are_reading first) (are_reading second) h in
-      both_true (are_sited first) (are_sited second) (all_reading_sited first parts.0) (all_reading_sited second parts.1)
+      and_from (are_sited first) (are_sited second) (all_reading_sited first parts.0) (all_reading_sited second parts.1)
   reading_sited (Statement.each q body) h = all_reading_sited body h
   reading_sited (Statement.create x m site cells body) h = cc
   reading_sited (Statement.update m e cells) h = refl
@@ -74,7 +68,7 @@ mutual
   all_reading_sited Statements.none h = refl
   all_reading_sited (Statements.more s rest) h =
       let parts = and_parts (is_reading s) (are_reading rest) h in
-      both_true (is_sited s) (are_sited rest) (reading_sited s parts.0) (all_reading_sited rest parts.1)
+      and_from (is_sited s) (are_sited rest) (reading_sited s parts.0) (all_reading_sited rest parts.1)
 
 mutual
   -- and so wherever it may
@@ -85,7 +79,7 @@ mutual
   reading_placed models loops (Statement.assign x e) h = refl
   reading_placed models loops (Statement.branch c first second) h =
       let parts = and_parts (are_reading first) (are_reading second) h in
-      both_true (are_placed models loops first) (are_placed models loops second) (all_reading_placed models loops first parts.0) (all_reading_placed models loops second parts.1)
+      and_from (are_placed models loops first) (are_placed models loops second) (all_reading_placed models loops first parts.0) (all_reading_placed models loops second parts.1)
   reading_placed models loops (Statement.each q body) h = all_reading_placed models (behind_for models q.binders loops) body h
   reading_placed models loops (Statement.create x m site cells body) h = cc
   reading_placed models loops (Statement.update m e cells) h = refl
@@ -99,7 +93,7 @@ mutual
   all_reading_placed models loops Statements.none h = refl
   all_reading_placed models loops (Statements.more s rest) h =
       let parts = and_parts (is_reading s) (are_reading rest) h in
-      both_true (is_placed models loops s) (are_placed models loops rest) (reading_placed models loops s parts.0) (all_reading_placed models loops rest parts.1)
+      and_from (is_placed models loops s) (are_placed models loops rest) (reading_placed models loops s parts.0) (all_reading_placed models loops rest parts.1)
 
 mutual
   below_sited : (s : Statement) → are_below (sites_in s) ≡ true → is_sited s ≡ true
@@ -109,11 +103,11 @@ mutual
   below_sited (Statement.assign x e) h = refl
   below_sited (Statement.branch c first second) h =
       let parts = below_parts (sites first) (sites second) h in
-      both_true (are_sited first) (are_sited second) (all_below_sited first parts.0) (all_below_sited second parts.1)
+      and_from (are_sited first) (are_sited second) (all_below_sited first parts.0) (all_below_sited second parts.1)
   below_sited (Statement.each q body) h = all_below_sited body h
   below_sited (Statement.create x m site cells body) h =
       let parts = and_parts (nat_lt site 64) (are_below (sites body)) h in
-      both_true (nat_lt site 64) (are_sited body) parts.0 (all_below_sited body parts.1)
+      and_from (nat_lt site 64) (are_sited body) parts.0 (all_below_sited body parts.1)
   below_sited (Statement.update m e cells) h = refl
   below_sited (Statement.delete m e) h = refl
   below_sited Statement.missing h = refl
@@ -125,7 +119,7 @@ mutual
   all_below_sited Statements.none h = refl
   all_below_sited (Statements.more s rest) h =
       let parts = below_parts (sites_in s) (sites rest) h in
-      both_true (is_sited s) (are_sited rest) (below_sited s parts.0) (all_below_sited rest parts.1)
+      and_from (is_sited s) (are_sited rest) (below_sited s parts.0) (all_below_sited rest parts.1)
 
 -- what a body of a POST keeps
 pub record IsStoring (models : List Entity) (body : Statements) : Type 0 where

@@ -1,7 +1,7 @@
 -- The sites of creates, which rise: each is its own, and one of 64.
 use Rattle.std.proofs.Common.{◌≡◌, refl, arith, ℕ, ◌+◌, ◌<◌, ◌≤◌, ◌==◌, ◌&&◌, ◌||◌, not, nat_le, nat_lt, Bool, true, false, if◌then◌else◌, List, [], ◌∷◌, ◌++◌, None}
 use Rattle.std.specs.Prelude.{is_some}
-use Rattle.std.proofs.lemmas.Bool.{and_parts}
+use Rattle.std.proofs.lemmas.Bool.{and_parts, and_from}
 use Rattle.std.proofs.lemmas.Bool.Decides.{nat_tests}
 use Rattle.jac_plain.specs.Making.{is_among, are_apart}
 use Rattle.jac_opening.specs.Served.{behind_sites}
@@ -52,21 +52,17 @@ abbrev pub are_below : List ℕ → Bool
 are_below [] = true
 are_below (x ∷ xs) = nat_lt x 64 && are_below xs
 
-both_below : (a b : Bool) → a ≡ true → b ≡ true → (a && b) ≡ true
-both_below true b h g = g
-both_below false b h g = h
-
 pub below : (next : ℕ) (xs : List ℕ) → Rise next xs → are_below xs ≡ true
 below next [] h = refl
 below next (x ∷ xs) h =
     let parts = rises next x xs h in
-    both_below (nat_lt x 64) (are_below xs) parts.below (below (x + 1) xs parts.rest)
+    and_from (nat_lt x 64) (are_below xs) parts.below (below (x + 1) xs parts.rest)
 
 below_first : (xs ys : List ℕ) → are_below (xs ++ ys) ≡ true → are_below xs ≡ true
 below_first [] ys h = refl
 below_first (x ∷ xs) ys h =
     let parts = and_parts (nat_lt x 64) (are_below (xs ++ ys)) h in
-    both_below (nat_lt x 64) (are_below xs) parts.0 (below_first xs ys parts.1)
+    and_from (nat_lt x 64) (are_below xs) parts.0 (below_first xs ys parts.1)
 
 below_second : (xs ys : List ℕ) → are_below (xs ++ ys) ≡ true → are_below ys ≡ true
 below_second [] ys h = h

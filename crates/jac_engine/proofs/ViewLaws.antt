@@ -10,7 +10,7 @@ use Rattle.jac_lang.specs.declared.application.App.{App}
 use Rattle.jac_lang.specs.declared.bindings.Binding.{Binding}
 use Rattle.jac_lang.specs.declared.queries.Binder.{Binder}
 use Rattle.jac_lang.specs.declared.pages.Verb.TheVariants as verbs
-use Rattle.jac_world.specs.World.{holds, shown}
+use Rattle.jac_world.specs.World.{holds, shown_by}
 use Rattle.jac_rows.specs.Good.{ArePlainRows, IsMade, AreSound, IsSound}
 use Rattle.jac_rows.specs.Project.{rows_at, project_at}
 use Rattle.jac_rows.specs.Tables.{rows_of}
@@ -21,21 +21,22 @@ use Rattle.jac_plain.specs.declared.context.Ctx.{Ctx}
 use Rattle.jac_plain.specs.declared.page.Page.{Page}
 use Rattle.jac_plain.specs.Expressions.{answers, bound, binding, is_true}
 use Rattle.jac_plain.specs.Making.{AreMadeBefore, MayChoose, MayEach, MayRun, MayRunAll, with_env}
-use Rattle.jac_plain.specs.Models.{AreOrdered}
+use Rattle.jac_plain.specs.Models.{HaveRisingIds}
 use Rattle.jac_plain.specs.Reading.{is_reading, are_reading}
-use Rattle.jac_plain.specs.Statements.{Setting, Run, world_of, value_in, scoped, loop_of, leaves, leaves_all}
+use Rattle.jac_plain.specs.Statements.{Setting, Run, world_of, value_in, scoped_run, loop_of, leaves, leaves_all}
 use Rattle.jac_plain.proofs.NewLaws.{creates_new, absent_before_number}
 use Rattle.jac_keep.proofs.SoundLaws.{sound-applied}
 use Rattle.jac_keep.proofs.WorkLaws.{overlaid_none}
 use Rattle.jac_pruned.specs.Runs.{page_ran}
 use Rattle.jac_route.specs.Parameters.{parameters}
-use Rattle.jac_write.specs.Writes.{numbered}
+use Rattle.jac_write.specs.Writes.{numbered_tables}
 use Rattle.jac_write.proofs.RecordLaws.{rising_at}
-use Rattle.jac_opening.specs.Served.{are_untemplated, is_served_body}
+use Rattle.jac_opening.specs.Served.{is_served_body}
 use Rattle.jac_engine.specs.Start.{IsStart}
-use Rattle.jac_engine.specs.Views.{setting_in, begun, MayRunView, IsReady, ShowsView}
+use Rattle.jac_engine.specs.Views.{setting_in, begun_view, MayRunView, IsReady, ShowsView}
 use Rattle.jac_replies.specs.declared.answer.Ask.{Ask}
 use Rattle.jac_engine.proofs.ServedLaws.{storing}
+use Rattle.jac_lang.specs.Untemplated.{are_untemplated}
 
 -- rows that an assignment shows of rows that were made before
 before_if : (n : ℕ) (b : Bool) (r : PlainRow) (rows : List PlainRow) → number_of_id r.id < n → AllByRecursion (λ (q : PlainRow). number_of_id q.id < n) rows
@@ -65,13 +66,13 @@ ordered_tables w n model zero (t ∷ ts) h = rising_at w t h.0
 ordered_tables w n model (suc i) (t ∷ ts) h = ordered_tables w n (model + 1) i ts h.2
 
 -- and each assignment shows its records in order
-pub ordered : (w : ℕ → Bool) (s : State) → IsSound s → AreOrdered (project_at w s).tables
+pub ordered : (w : ℕ → Bool) (s : State) → IsSound s → HaveRisingIds (project_at w s).tables
 ordered w s sound m = ordered_tables w s.number 0 m s.tables sound.tables
 
 each_may : (bs : List Binder) (body : List ℕ → Run → Run) (May : List ℕ → Run → Type 0) → ((ids : List ℕ) (r : Run) → May ids r) → (tuples : List (List ℕ)) (r : Run)
     → MayEach bs body May tuples r
 each_may bs body May may [] r = tt
-each_may bs body May may (ids ∷ tuples) r = (may ids (with_env (bound bs ids r.env) r), each_may bs body May may tuples (scoped (bound bs ids r.env) (body ids) r))
+each_may bs body May may (ids ∷ tuples) r = (may ids (with_env (bound bs ids r.env) r), each_may bs body May may tuples (scoped_run (bound bs ids r.env) (body ids) r))
 
 choose_may : (c : Bool) (First Second : Run → Type 0) (r : Run) → First r → Second r → MayChoose c First Second r
 choose_may true First Second r one other = one
@@ -107,7 +108,7 @@ mutual
 -- a view that writes nothing asks nothing
 pub may_show : (next : ℕ) (app : Application) (v : View) (ask : Ask) (n : ℕ) (s : State) → is_served_body app.models verbs.Get v.body ≡ true → MayRunView next app v ask n s
 may_show next app v ask n s h w =
-    all_reading_may next (setting_in w app ask n) v.body (and_parts (are_untemplated v.body) (are_reading v.body) h).1 (begun w app v ask s)
+    all_reading_may next (setting_in w app ask n) v.body (and_parts (are_untemplated v.body) (are_reading v.body) h).1 (begun_view w app v ask s)
 
 -- what a view of POST creates is new in a state that requests are answered on, in the request of its next number
 pub may_store : (app : Application) (v : View) (ask : Ask) (n : ℕ) (s : State) → is_served_body app.models verbs.Post v.body ≡ true → IsStart app s → length app.models ≤ 64 → n ≡ s.number → n < 2 ^ 40
@@ -116,15 +117,15 @@ may_store app v ask n s h start most is few w =
     let keeps = storing app.models v.body h in
     let least = start.sound.next.0 in
     let some : 0 < n = omega (arith, least, is) in
-    creates_new (n + 1) (setting_in w app ask n) v.body (begun w app v ask s) some few (omega arith) most keeps.sited keeps.apart keeps.placed (ordered w s start.sound) (start.flat w)
+    creates_new (n + 1) (setting_in w app ask n) v.body (begun_view w app v ask s) some few (omega arith) most keeps.sited keeps.apart keeps.placed (ordered w s start.sound) (start.flat w)
     (absent_before_number app.models n (sites v.body) (project_at w s).tables some few (made_before w n s start.sound is))
 
 -- a sound state is sound with its own number
-pub sound_now : (s : State) (n : ℕ) → IsSound s → n ≡ s.number → IsSound (numbered n s)
+pub sound_now : (s : State) (n : ℕ) → IsSound s → n ≡ s.number → IsSound (numbered_tables n s)
 sound_now s n sound is = rw is sound
 
 -- and with the next one, while there are numbers
-pub sound_next : (s : State) (n : ℕ) → IsSound s → n ≡ s.number → n < 2 ^ 40 → IsSound (numbered (n + 1) s)
+pub sound_next : (s : State) (n : ℕ) → IsSound s → n ≡ s.number → n < 2 ^ 40 → IsSound (numbered_tables (n + 1) s)
 sound_next s n sound is few =
     rw (overlaid_none s.tables) at (sound-applied (record { changed = []; number = n + 1 }) s sound (omega (arith, is)) (omega (arith, few)) tt)
 
@@ -140,7 +141,7 @@ ready_to_store app v ask n s served start most is few =
 
 -- a page of a run in the one world that the labels show
 pub shows_view : (app : App) (v : View) (ask : Ask) (ctx : Ctx) (s now : State) (labels : List ℕ) (env : List Binding) (p : Page) → ctx.viewer ≡ ask.viewer → ctx.around ≡ None → now ≡ s
-    → env ≡ parameters (application_of app).models v.params ask.pairs → p ≡ page_ran app ctx (shown labels) now env v.body
+    → env ≡ parameters (application_of app).models v.params ask.pairs → p ≡ page_ran app ctx (shown_by labels) now env v.body
     → ShowsView (application_of app) v ask ctx.number s labels p
 shows_view app v ask ctx s now labels env p asks outside same bound made = record {
   page = λ next sound may. rw (← asks, ← same, ← bound) (rw outside at made);

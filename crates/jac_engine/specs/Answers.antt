@@ -1,6 +1,6 @@
 -- What answers a request: the ordinary interpreter's page in a world, or a refusal.
 use Rattle.std.specs.Prelude.{◌≡◌, ℕ, ◌<◌, ◌^◌, ◌⊎◌, ◌++◌, Bool, true, false, Option, Some, None, List, [], codes, slice_get}
-use Rattle.jac_world.specs.World.{shown, IsAscending}
+use Rattle.jac_world.specs.World.{shown_by, IsAscending}
 use Rattle.jac_lang.specs.declared.field_kinds.Field.{Field}
 use Rattle.jac_lang.specs.declared.pages.Verb.{Verb}
 use Rattle.jac_lang.specs.declared.pages.Verb.TheVariants as verbs
@@ -64,7 +64,8 @@ visit_of app ask n = record {
 pub record IsPage (app : Application) (before after : Worlds) (visit : Visit)
     (answer : Answer) : Type 0 where
   pub labels : List ℕ
-  pub made : answer ≡ page_answer labels (page (shown labels) app (before (shown labels)) visit)
+  pub made : answer ≡ page_answer labels (page (shown_by labels) app (before
+      (shown_by labels)) visit)
   pub settled : IsSettled app after visit.viewer labels
 
 -- a page for which the labels alone were resolved that it and their policies consulted: these
@@ -75,7 +76,7 @@ pub record IsLazyPage
   pub labels : List ℕ
   pub consulted : List ℕ
   pub steady : IsSteady app worlds visit.viewer consulted labels
-  pub made : (w : ℕ → Bool) → Agrees consulted (shown labels) w
+  pub made : (w : ℕ → Bool) → Agrees consulted (shown_by labels) w
       → answer ≡ lazy_answer labels consulted (page w app (worlds w) visit)
 
 -- a GET's page; the flag says that only what is consulted is resolved
@@ -90,15 +91,15 @@ worlds_after app worlds visit w = after w app (worlds w) visit
 abbrev pub HasNoNumber : Worlds → Type 0
 HasNoNumber worlds = (w : ℕ → Bool) → (worlds w).number ≡ 2 ^ 40
 
-abbrev pub HasNumber : Worlds → Type 0
-HasNumber worlds = (w : ℕ → Bool) → (worlds w).number < 2 ^ 40
+abbrev pub HasNextNumber : Worlds → Type 0
+HasNextNumber worlds = (w : ℕ → Bool) → (worlds w).number < 2 ^ 40
 
 -- a POST's page, while there are numbers; where there are none it is refused
 abbrev pub IsAnswerOf : Bool → Verb → Application → Worlds → Visit → Answer → Type 0
 IsAnswerOf lazy verbs.Get app worlds visit answer = IsShownPage lazy app worlds visit answer
 IsAnswerOf lazy verbs.Post app worlds visit answer =
     ((answer ≡ refusal 507 None) × HasNoNumber worlds)
-    ⊎ (HasNumber worlds × IsPage app worlds (worlds_after app worlds visit) visit answer)
+    ⊎ (HasNextNumber worlds × IsPage app worlds (worlds_after app worlds visit) visit answer)
 
 -- by what the request finds
 abbrev pub IsAnswerBy : Bool → Found → Application → Worlds → Ask → Answer → Type 0
@@ -159,8 +160,8 @@ left_by (founds.View n pairs) w app ask (Some labels) t =
     after w app t (visit_of app (asked_with pairs ask) n)
 
 -- what an answer leaves of the world of an assignment: what its view leaves, where it is a page
-abbrev pub left : (ℕ → Bool) → Application → Ask → Answer → PlainState → PlainState
-left w app ask answer t = left_by (found app ask.method ask.path) w app ask answer.shown t
+abbrev pub world_left : (ℕ → Bool) → Application → Ask → Answer → PlainState → PlainState
+world_left w app ask answer t = left_by (found app ask.method ask.path) w app ask answer.shown t
 
 abbrev pub is_post : Verb → Bool
 is_post verbs.Get = false

@@ -7,8 +7,8 @@ use Rattle.jac_rows.specs.declared.state.State.{State}
 use Rattle.jac_plain.specs.Models.{shapes_of}
 use Rattle.jac_plain.specs.Requests.{Worlds}
 use Rattle.jac_keep.specs.declared.alteration.Change.{Change}
-use Rattle.jac_keep.specs.Kept.{applied}
-use Rattle.jac_engine.specs.Answers.{IsAnswerTo, HasForm, left, is_stored}
+use Rattle.jac_keep.specs.Kept.{changed_state}
+use Rattle.jac_engine.specs.Answers.{IsAnswerTo, HasForm, world_left, is_stored}
 use Rattle.jac_engine.specs.Start.{IsStart}
 use Rattle.jac_replies.specs.declared.answer.Ask.{Ask}
 use Rattle.jac_engine.specs.declared.answer.Prepared.{Prepared}
@@ -16,15 +16,12 @@ use Rattle.jac_engine.specs.declared.answer.Seated.{Seated}
 use Rattle.jac_recall.specs.Touched.{IsCovered}
 use Rattle.jac_recall.specs.declared.touch.Touch.{Touch}
 use Rattle.jac_resolve.specs.Seated.{IsSeated}
+use Rattle.jac_plain.specs.Shown.{worlds_of}
 
 -- the state after a change, if there is one
 abbrev pub applied_if : Option Change → State → State
 applied_if None s = s
-applied_if (Some change) s = applied change s
-
--- the world that each assignment shows of a state
-abbrev pub worlds_of : State → Worlds
-worlds_of s w = project_at w s
+applied_if (Some change) s = changed_state change s
 
 -- what answers a request on a state; where the state is told, the answer is the interpreter's in
 -- its worlds, and what is to be stored shows under every assignment what the interpreter leaves,
@@ -35,7 +32,7 @@ pub record IsPrepared
   pub stored : is_some p.change ≡ is_stored app ask p.answer
   pub answered : IsTrue tells → IsAnswerTo lazy app (worlds_of s) ask p.answer
   pub worlds : IsTrue tells → (w : ℕ → Bool)
-      → project_at w (applied_if p.change s) ≡ left w app ask p.answer (project_at w s)
+      → project_at w (applied_if p.change s) ≡ world_left w app ask p.answer (project_at w s)
   pub start : IsTrue tells → IsStart app (applied_if p.change s)
   pub good : IsTrue tells → IsGood (shapes_of app) s
       → IsGood (shapes_of app) (applied_if p.change s)
@@ -49,7 +46,7 @@ AreCovered app s later touch = (viewer : Option ℕ)
 abbrev pub IsTouchOf : Application → State → Option Change → Option Touch → Type 0
 IsTouchOf app s None touch = ⊤
 IsTouchOf app s (Some change) None = ⊥
-IsTouchOf app s (Some change) (Some touch) = AreCovered app s (applied change s) touch
+IsTouchOf app s (Some change) (Some touch) = AreCovered app s (changed_state change s) touch
 
 -- what was settled for who asks is so behind the change, which has its touch
 pub record KeepsSeat (tells : Bool) (app : Application) (s : State) (viewer : Option ℕ)

@@ -7,18 +7,18 @@ use Rattle.jac_rows.specs.Project.{project_at}
 use Rattle.jac_rows.specs.declared.state.State.{State}
 use Rattle.jac_plain.specs.Requests.{Visit, method_in, after}
 use Rattle.jac_keep.specs.declared.alteration.Change.{Change}
-use Rattle.jac_keep.specs.Kept.{applied}
+use Rattle.jac_keep.specs.Kept.{changed_state}
 use Rattle.jac_route.specs.declared.lookup.Found.{Found}
 use Rattle.jac_route.specs.declared.lookup.Found.TheVariants as founds
 use Rattle.jac_engine.specs.Answers.{IsPage, IsShownPage, IsSomePage, IsSomeShownPage, allow_text, asked_with, visit_of, worlds_after}
 use Rattle.jac_replies.specs.Refused.{refusal}
-use Rattle.jac_engine.specs.Prepared.{worlds_of}
 use Rattle.jac_engine.specs.Start.{IsStart}
 use Rattle.jac_replies.specs.declared.answer.Ask.{Ask}
 use Rattle.jac_engine.specs.declared.answer.Prepared.{Prepared}
+use Rattle.jac_plain.specs.Shown.{worlds_of}
 
-abbrev pub refused : ℕ → Option (List ℕ) → Prepared
-refused status allow = record { answer = refusal status allow; change = None }
+abbrev pub prepared_refusal : ℕ → Option (List ℕ) → Prepared
+prepared_refusal status allow = record { answer = refusal status allow; change = None }
 
 -- a GET changes nothing
 pub record IsShown
@@ -30,17 +30,18 @@ pub record IsShown
 
 -- a POST without a page: the numbers are used up
 pub record IsFull (tells : Bool) (s : State) (p : Prepared) : Type 0 where
-  pub refusal : p ≡ refused 507 None
+  pub refusal : p ≡ prepared_refusal 507 None
   pub full : IsTrue tells → s.number ≡ 2 ^ 40
 
 -- what a POST's change leaves is, under every assignment, what the interpreter leaves
 pub record Stores (app : Application) (s : State) (visit : Visit) (change : Change) : Type 0 where
   pub room : s.number < 2 ^ 40
-  pub worlds : (w : ℕ → Bool) → project_at w (applied change s) ≡ after w app (project_at w s) visit
-  pub start : IsStart app (applied change s)
+  pub worlds : (w : ℕ → Bool) → project_at w (changed_state change s) ≡ after w app
+      (project_at w s) visit
+  pub start : IsStart app (changed_state change s)
 
 -- a POST with a page
-pub record IsStored (tells : Bool) (app : Application) (s : State) (visit : Visit)
+pub record IsPageStored (tells : Bool) (app : Application) (s : State) (visit : Visit)
     (p : Prepared) : Type 0 where
   pub change : Change
   pub changes : p.change ≡ Some change
@@ -51,12 +52,13 @@ pub record IsStored (tells : Bool) (app : Application) (s : State) (visit : Visi
 
 abbrev pub IsPreparedBy : Bool → Verb → Bool → Application → State → Visit → Prepared → Type 0
 IsPreparedBy lazy verbs.Get tells app s visit p = IsShown lazy tells app s visit p
-IsPreparedBy lazy verbs.Post tells app s visit p = IsFull tells s p ⊎ IsStored tells app s visit p
+IsPreparedBy lazy verbs.Post tells app s visit p = IsFull tells s p
+    ⊎ IsPageStored tells app s visit p
 
 abbrev pub IsPreparedFor : Bool → Found → Bool → Application → State → Ask → Prepared → Type 0
-IsPreparedFor lazy founds.NoRoute tells app s ask p = p ≡ refused 404 None
+IsPreparedFor lazy founds.NoRoute tells app s ask p = p ≡ prepared_refusal 404 None
 IsPreparedFor lazy (founds.WrongMethod allow) tells app s ask p =
-    p ≡ refused 405 (Some (allow_text allow.get allow.post))
+    p ≡ prepared_refusal 405 (Some (allow_text allow.get allow.post))
 IsPreparedFor lazy (founds.View n pairs) tells app s ask p =
     IsPreparedBy lazy (method_in (slice_get app.views n)) tells app s
     (visit_of app (asked_with pairs ask) n) p

@@ -1,6 +1,6 @@
 -- The run of a view, in the world of each assignment.
 use Rattle.std.specs.Prelude.{◌≡◌, ℕ, Bool, Option, List, [], map, None}
-use Rattle.jac_facet.specs.Leaves.{seen}
+use Rattle.jac_facet.specs.Leaves.{leaves_seen}
 use Rattle.jac_lang.specs.Syntax.{Page as View, Application}
 use Rattle.jac_rows.specs.Good.{IsSound}
 use Rattle.jac_rows.specs.Project.{rows_at, project_at}
@@ -12,14 +12,15 @@ use Rattle.jac_plain.specs.Making.{MayRunAll}
 use Rattle.jac_plain.specs.Requests.{page_of}
 use Rattle.jac_plain.specs.Statements.{Setting, Run, leaves_all}
 use Rattle.jac_route.specs.Parameters.{parameters}
-use Rattle.jac_write.specs.Writes.{numbered}
-use Rattle.jac_world.specs.World.{shown}
+use Rattle.jac_write.specs.Writes.{numbered_tables}
+use Rattle.jac_world.specs.World.{shown_by}
 use Rattle.jac_replies.specs.declared.answer.Ask.{Ask}
 use Rattle.jac_plain.specs.Policies.{IsSettled}
 use Rattle.jac_recall.specs.declared.seat.Seat.{Seat}
 use Rattle.jac_recall.specs.declared.touch.Touch.{Touch}
 use Rattle.jac_resolve.specs.Seated.{IsSeated}
-use Rattle.jac_engine.specs.Prepared.{AreCovered, worlds_of}
+use Rattle.jac_engine.specs.Prepared.{AreCovered}
+use Rattle.jac_plain.specs.Shown.{worlds_of}
 
 -- what stays the same through the run in the request of this number
 abbrev pub setting_in : (ℕ → Bool) → Application → Ask → ℕ → Setting
@@ -27,8 +28,8 @@ setting_in w app ask number =
     record { models = app.models; shown = w; viewer = ask.viewer; number = number; around = None }
 
 -- where the run begins: the tables that the assignment shows, and the parameters
-abbrev pub begun : (ℕ → Bool) → Application → View → Ask → State → Run
-begun w app v ask s = record {
+abbrev pub begun_view : (ℕ → Bool) → Application → View → Ask → State → Run
+begun_view w app v ask s = record {
   tables = (project_at w s).tables;
   env = parameters app.models v.params ask.pairs;
   pieces = [];
@@ -36,12 +37,13 @@ begun w app v ask s = record {
 
 -- the interpreter's run of the view's statements
 abbrev pub ran_by : (ℕ → Bool) → Application → View → Ask → ℕ → State → Run
-ran_by w app v ask number s = leaves_all (setting_in w app ask number) v.body (begun w app v ask s)
+ran_by w app v ask number s = leaves_all (setting_in w app ask number) v.body
+    (begun_view w app v ask s)
 
 -- what the view creates is new, in each world
 abbrev pub MayRunView : ℕ → Application → View → Ask → ℕ → State → Type 0
 MayRunView next app v ask number s = (w : ℕ → Bool)
-    → MayRunAll next (setting_in w app ask number) v.body (begun w app v ask s)
+    → MayRunAll next (setting_in w app ask number) v.body (begun_view w app v ask s)
 
 -- each assignment shows of these tables what the interpreter leaves, and they are sound with this
 -- next number
@@ -53,32 +55,30 @@ pub record RanTables (next : ℕ) (app : Application) (v : View) (ask : Ask) (nu
 -- the run leaves tables and pieces, where the state is sound and what the view creates is new
 pub record RunsView (app : Application) (v : View) (ask : Ask) (number : ℕ) (old : State)
     (left : List (List Row)) (out : List (List (ℕ × Bool) × Piece)) : Type 0 where
-  pub tables : (next : ℕ) → IsSound (numbered next old) → MayRunView next app v ask number old
+  pub tables : (next : ℕ) → IsSound (numbered_tables next old)
+      → MayRunView next app v ask number old
       → RanTables next app v ask number old left
-  pub pieces : (next : ℕ) → IsSound (numbered next old) → MayRunView next app v ask number old
-      → (w : ℕ → Bool) → seen w out ≡ (ran_by w app v ask number old).pieces
+  pub pieces : (next : ℕ) → IsSound (numbered_tables next old)
+      → MayRunView next app v ask number old
+      → (w : ℕ → Bool) → leaves_seen w out ≡ (ran_by w app v ask number old).pieces
 
 pub record LeavesTables (app : Application) (v : View) (ask : Ask) (number : ℕ) (old : State)
     (tables : List (List Row)) : Type 0 where
-  pub ran : (next : ℕ) → IsSound (numbered next old) → MayRunView next app v ask number old
+  pub ran : (next : ℕ) → IsSound (numbered_tables next old) → MayRunView next app v ask number old
       → RanTables next app v ask number old tables
 
 -- the page under these labels is the one of the interpreter's run
 pub record ShowsView (app : Application) (v : View) (ask : Ask) (number : ℕ) (old : State)
     (labels : List ℕ) (p : Page) : Type 0 where
-  pub page : (next : ℕ) → IsSound (numbered next old) → MayRunView next app v ask number old
-      → p ≡ page_of (ran_by (shown labels) app v ask number old).pieces
+  pub page : (next : ℕ) → IsSound (numbered_tables next old) → MayRunView next app v ask number old
+      → p ≡ page_of (ran_by (shown_by labels) app v ask number old).pieces
 
 -- the state is sound with a next number for which what the view creates is new
 pub record IsReady (app : Application) (v : View) (ask : Ask) (number : ℕ)
     (s : State) : Type 0 where
   pub next : ℕ
-  pub sound : IsSound (numbered next s)
+  pub sound : IsSound (numbered_tables next s)
   pub new : MayRunView next app v ask number s
-
--- the page of some pieces
-abbrev pub IsMade : Page → Type 0
-IsMade p = (pieces : List Piece) × (p ≡ page_of pieces)
 
 -- over the tables, whatever the next number, the labels are settled, and what was settled for the
 -- viewer is; and what lies between them and the old state is touched

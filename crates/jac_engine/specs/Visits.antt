@@ -1,6 +1,6 @@
 -- A request that found a view, as the ordinary interpreter takes it.
 use Rattle.std.specs.Prelude.{ℕ, Option}
-use Rattle.jac_lang.specs.Mirror.{application_of, page_of}
+use Rattle.jac_lang.specs.Mirror.{application_of, page_of_view}
 use Rattle.jac_lang.specs.Syntax.{Page as View, Application}
 use Rattle.jac_plain.specs.Requests.{Visit}
 use Rattle.jac_replies.specs.declared.answer.Ask.{Ask}
@@ -18,7 +18,7 @@ abbrev pub visit_at : Visited → Visit
 visit_at visited = visit_of (app_of visited) (request_at visited) visited.place
 
 abbrev pub found_view : Visited → View
-found_view visited = page_of visited.view.now
+found_view visited = page_of_view visited.view.now
 
 abbrev pub viewer_at : Visited → Option ℕ
 viewer_at visited = visited.ask.now.viewer

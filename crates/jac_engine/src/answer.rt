@@ -1,21 +1,22 @@
 ghost use Rattle.std.specs.Prelude.{◌≡◌, ◌<◌, ◌≤◌, false, true, length, slice_get, IfOk, IsNone, OnOk, OnErr, IfSome, IsTrue, Some, None};
-ghost use Rattle.jac_lang.specs.Mirror.{application_of, page_of, statements_of};
+ghost use Rattle.jac_lang.specs.Mirror.{application_of, page_of_view, statements_of};
 ghost use Rattle.jac_lang.specs.declared.pages.Verb.TheVariants as verbs;
 ghost use Rattle.jac_plain.specs.Requests.{method_in};
 ghost use Rattle.jac_world.specs.World.{IsAscending};
 ghost use Rattle.jac_keep.specs.Cause.{HasCause};
 ghost use Rattle.jac_keep.specs.KeeperSeen.{Reads};
-ghost use Rattle.jac_keep.specs.Kept.{applied};
+ghost use Rattle.jac_keep.specs.Kept.{changed_state};
 ghost use Rattle.jac_rows.specs.Good.{IsSound};
 ghost use Rattle.jac_route.specs.Found.{found, IsWithin};
 ghost use Rattle.jac_route.specs.Routes.{AreRoutes};
 ghost use Rattle.jac_engine.specs.Answers.{page_answer, lazy_answer, is_post, stores};
 ghost use Rattle.jac_resolve.specs.Seated.{IsSeated};
-ghost use Rattle.jac_engine.specs.Prepared.{IsPrepared, IsTouchOf, KeepsSeat, applied_if, worlds_of};
+ghost use Rattle.jac_engine.specs.Prepared.{IsPrepared, IsTouchOf, KeepsSeat, applied_if};
 ghost use Rattle.jac_opening.specs.Served.{are_served, is_served_body};
 ghost use Rattle.jac_engine.specs.Start.{IsStart};
 ghost use Rattle.jac_engine.specs.Visits.{app_of, visit_at, viewer_at};
 ghost use Rattle.jac_engine.specs.Viewed.{IsPreparedBy, IsPreparedFor, IsShown};
+ghost use Rattle.jac_plain.specs.Shown.{worlds_of};
 
 use crate::lookup::{Visited, view_at};
 use crate::refusal::{refuse, refuse_method};
@@ -255,7 +256,7 @@ fn answer_view<K: Keeper, L: Ledger, M: Ledger>(
         → IsStart (app_of visited.now) (K.seen keeper.old).state }
     requires within { visited.now.place < length visited.now.app.now.views }
     requires view { slice_get (app_of visited.now).views visited.now.place
-        ≡ Some (page_of visited.now.view.now) }
+        ≡ Some (page_of_view visited.now.view.now) }
     requires seated { IsTrue (K.seen keeper.old).tells → IsSeated (app_of visited.now)
         (worlds_of (K.seen keeper.old).state) (viewer_at visited.now) manner.seat }
     ensures prepared { IfOk result (λ r. IsPreparedBy manner.lazy
@@ -294,7 +295,7 @@ fn show_by<K: Keeper, M: Ledger>(
         → IsStart (app_of visited.now) (K.seen keeper.old).state }
     requires within { visited.now.place < length visited.now.app.now.views }
     requires view { slice_get (app_of visited.now).views visited.now.place
-        ≡ Some (page_of visited.now.view.now) }
+        ≡ Some (page_of_view visited.now.view.now) }
     requires served { is_served_body (app_of visited.now).models verbs.Get
         (statements_of visited.now.view.now.body) ≡ true }
     requires seated { IsTrue (K.seen keeper.old).tells → IsSeated (app_of visited.now)
@@ -325,7 +326,7 @@ fn show<K: Keeper, M: Ledger>(
     requires start { IsTrue (K.seen keeper.old).tells
         → IsStart (app_of visited.now) (K.seen keeper.old).state }
     requires view { slice_get (app_of visited.now).views visited.now.place
-        ≡ Some (page_of visited.now.view.now) }
+        ≡ Some (page_of_view visited.now.view.now) }
     requires served { is_served_body (app_of visited.now).models verbs.Get
         (statements_of visited.now.view.now.body) ≡ true }
     requires seated { IsTrue (K.seen keeper.old).tells → IsSeated (app_of visited.now)
@@ -359,7 +360,7 @@ fn show_lazily<K: Keeper, M: Ledger>(
     requires attached { IsTrue (K.seen keeper.old).store.attached }
     requires within { visited.now.place < length visited.now.app.now.views }
     requires view { slice_get (app_of visited.now).views visited.now.place
-        ≡ Some (page_of visited.now.view.now) }
+        ≡ Some (page_of_view visited.now.view.now) }
     requires served { is_served_body (app_of visited.now).models verbs.Get
         (statements_of visited.now.view.now.body) ≡ true }
     ensures shown { IfOk result (IsShown true (K.seen keeper.new).tells
@@ -387,7 +388,7 @@ fn store<K: Keeper, L: Ledger, M: Ledger>(
     requires start { IsTrue (K.seen keeper.old).tells
         → IsStart (app_of visited.now) (K.seen keeper.old).state }
     requires view { slice_get (app_of visited.now).views visited.now.place
-        ≡ Some (page_of visited.now.view.now) }
+        ≡ Some (page_of_view visited.now.view.now) }
     requires method { visited.now.view.now.method ≡ verbs.Post }
     requires served { is_served_body (app_of visited.now).models verbs.Post
         (statements_of visited.now.view.now.body) ≡ true }
@@ -481,7 +482,7 @@ fn lazy_answer_of(made: LazyPage) -> Answer
 pub fn commit<K: Keeper>(alloc: Global, keeper: &mut K, prepared: Prepared) -> Result<Answer, Stop>
     requires attached { IsTrue (K.seen keeper.old).store.attached }
     requires good { IsTrue (K.seen keeper.old).tells
-        → IfSome prepared.change (λ c. IsSound (applied c (K.seen keeper.old).state)) }
+        → IfSome prepared.change (λ c. IsSound (changed_state c (K.seen keeper.old).state)) }
     ensures answer { IfOk result (λ a. a ≡ prepared.answer) }
     ensures applied { IsTrue (K.seen keeper.new).tells → OnOk result ((K.seen keeper.new).state
         ≡ applied_if prepared.change (K.seen keeper.old).state) }

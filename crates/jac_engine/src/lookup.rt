@@ -1,6 +1,6 @@
 //! The view at a place.
 ghost use Rattle.std.specs.Prelude.{◌≡◌, ◌<◌, length, slice_get, Some};
-ghost use Rattle.jac_lang.specs.Mirror.{application_of, page_of};
+ghost use Rattle.jac_lang.specs.Mirror.{application_of, page_of_view};
 
 use jac_lang::{App, View};
 use jac_replies::Ask;
@@ -22,7 +22,7 @@ pub(crate) struct Visited<'v> {
 #[tactic(auto, using(jac_opening::proofs::PlaceLaws::page_at))]
 pub(crate) fn view_at(app: &App, number: u32) -> &View
     requires { number < length app.now.views }
-    ensures { slice_get (application_of app.now).views number ≡ Some (page_of result.now) }
+    ensures { slice_get (application_of app.now).views number ≡ Some (page_of_view result.now) }
 {
     view_among(app.views.as_slice(), number as usize)
 }

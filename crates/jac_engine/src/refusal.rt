@@ -2,7 +2,7 @@
 ghost use Rattle.std.specs.Prelude.{◌≡◌, Some, IfOk};
 ghost use Rattle.jac_engine.specs.Answers.{allow_text};
 ghost use Rattle.jac_replies.specs.Refused.{reason, fixed_body};
-ghost use Rattle.jac_engine.specs.Viewed.{refused};
+ghost use Rattle.jac_engine.specs.Viewed.{prepared_refusal};
 
 use crate::Prepared;
 use jac_replies::Answer;
@@ -12,7 +12,7 @@ use std::alloc::Global;
 
 /// The refusal of a method that a path hasn't.
 pub(crate) fn refuse_method(alloc: Global, allow: Allow) -> Result<Prepared, Memory>
-    ensures { IfOk result (λ p. p ≡ refused 405 (Some (allow_text allow.get allow.post))) }
+    ensures { IfOk result (λ p. p ≡ prepared_refusal 405 (Some (allow_text allow.get allow.post))) }
 {
     let methods = Txt::from_str(alloc, methods(allow.get, allow.post))?;
     let prepared = refuse(alloc, 405, Some(methods))?;
@@ -21,7 +21,7 @@ pub(crate) fn refuse_method(alloc: Global, allow: Allow) -> Result<Prepared, Mem
 
 /// An answer of this status, whose body is its reason.
 pub(crate) fn refuse(alloc: Global, status: u16, allow: Option<Txt>) -> Result<Prepared, Memory>
-    ensures { IfOk result (λ p. p ≡ refused status allow) }
+    ensures { IfOk result (λ p. p ≡ prepared_refusal status allow) }
 {
     let body = body_of(alloc, status)?;
     Ok(Prepared {

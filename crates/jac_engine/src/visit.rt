@@ -2,19 +2,21 @@
 ghost use Rattle.std.specs.Prelude.{◌≡◌, ◌<◌, ◌≤◌, ◌+◌, ◌^◌, true, length, slice_get, IfOk, OnOk, IsErrOf, IsTrue, Some};
 ghost use Rattle.jac_io.specs.Faults.{Rose};
 ghost use Rattle.jac_keep.specs.KeeperSeen.{IsLeft};
-ghost use Rattle.jac_keep.specs.Kept.{applied};
+ghost use Rattle.jac_keep.specs.Kept.{changed_state};
 ghost use Rattle.jac_keep.specs.Worked.{state_of, IsTold, ReadsWork, WritesWork};
-ghost use Rattle.jac_lang.specs.Mirror.{page_of as view_of, statements_of};
+ghost use Rattle.jac_lang.specs.Mirror.{page_of_view as view_of, statements_of};
 ghost use Rattle.jac_rows.specs.Good.{IsSound};
 ghost use Rattle.jac_stmt.specs.Runs.{AreRunnable};
 ghost use Rattle.jac_write.specs.Writes.{StaysTold};
 ghost use Rattle.jac_plain.specs.Policies.{IsSettled};
 ghost use Rattle.jac_plain.specs.Reading.{are_reading};
 ghost use Rattle.jac_resolve.specs.Seated.{IsSeated};
-ghost use Rattle.jac_engine.specs.Prepared.{worlds_of, AreCovered};
+ghost use Rattle.jac_engine.specs.Prepared.{AreCovered};
 ghost use Rattle.jac_engine.specs.Visits.{app_of, found_view, request_at, viewer_at, visit_at};
 ghost use Rattle.jac_lazy.specs.Steady.{IsPageOf, IsSteady};
-ghost use Rattle.jac_engine.specs.Views.{IsMade, IsReady, SettlesView, ShowsView, LeavesTables, RunsView};
+ghost use Rattle.jac_engine.specs.Views.{IsReady, SettlesView, ShowsView, LeavesTables, RunsView};
+ghost use Rattle.jac_plain.specs.Shown.{worlds_of};
+ghost use Rattle.jac_pruned.specs.Runs.{IsPageMade};
 
 use crate::lookup::Visited;
 use crate::parameters::bind_alike;
@@ -71,7 +73,7 @@ pub(crate) fn shown_page<K: Keeper, M: Ledger>(
         (found_view visited.now) (request_at visited.now) number (K.seen keeper.old).state }
     requires seated { IsTrue (K.seen keeper.old).tells → IsSeated (app_of visited.now)
         (worlds_of (K.seen keeper.old).state) (viewer_at visited.now) seat.old }
-    ensures made { IfOk result (λ x. IsMade x.page) }
+    ensures made { IfOk result (λ x. IsPageMade x.page) }
     ensures page { IsTrue (K.seen keeper.new).tells → IfOk result (λ x. ShowsView
         (app_of visited.now) (found_view visited.now) (request_at visited.now) number
         (K.seen keeper.old).state x.labels x.page) }
@@ -112,7 +114,7 @@ pub(crate) fn shown_lazily<K: Keeper, M: Ledger>(
         → IfOk result (λ it. IsPageOf (app_of visited.now)
         (worlds_of (K.seen keeper.old).state) it.consulted it.shown
         (visit_at visited.now) it.page) }
-    ensures made { IfOk result (λ it. IsMade it.page) }
+    ensures made { IfOk result (λ it. IsPageMade it.page) }
     ensures left { IsLeft (K.seen keeper.old) (K.seen keeper.new) }
     ensures rose { IsErrOf result Stop.Keeper
         → Rose (K.seen keeper.old).faults (K.seen keeper.new).faults }
@@ -140,7 +142,7 @@ fn view_lazily<K: Keeper, M: Ledger>(
     ensures page { IsTold K.seen work.new → IfOk result (λ it. IsPageOf (app_of visited.now)
         (worlds_of (state_of K.seen work.old)) it.consulted it.shown
         (visit_at visited.now) it.page) }
-    ensures made { IfOk result (λ it. IsMade it.page) }
+    ensures made { IfOk result (λ it. IsPageMade it.page) }
     ensures reads { ReadsWork K.seen work.old work.new result }
 {
     let asked = &visited.ask.pairs;
@@ -176,7 +178,7 @@ fn show_view<K: Keeper, M: Ledger>(
         (request_at visited.now) number (state_of K.seen work.old) }
     requires seated { IsTold K.seen work.old → IsSeated (app_of visited.now)
         (worlds_of (state_of K.seen work.old)) (viewer_at visited.now) seat.old }
-    ensures made { IfOk result (λ x. IsMade x.page) }
+    ensures made { IfOk result (λ x. IsPageMade x.page) }
     ensures page { IsTold K.seen work.new → IfOk result (λ x. ShowsView (app_of visited.now)
         (found_view visited.now) (request_at visited.now) number (state_of K.seen work.old)
         x.labels x.page) }
@@ -202,7 +204,7 @@ fn page_under<K: Keeper>(
 ) -> Result<Page, Stop>
     requires attached { IsTrue (K.seen work.old.keeper.now).store.attached }
     requires reading { are_reading (statements_of visited.now.view.now.body) ≡ true }
-    ensures made { IfOk result IsMade }
+    ensures made { IfOk result IsPageMade }
     ensures page { IsTold K.seen work.new → IfOk result (ShowsView (app_of visited.now)
         (found_view visited.now) (request_at visited.now) number (state_of K.seen work.old)
         labels.now) }
@@ -258,16 +260,16 @@ pub(crate) fn stored_page<K: Keeper, L: Ledger, M: Ledger>(
         (found_view visited.now) (request_at visited.now) number (K.seen keeper.old).state }
     requires seated { IsTrue (K.seen keeper.old).tells → IsSeated (app_of visited.now)
         (worlds_of (K.seen keeper.old).state) (viewer_at visited.now) seat.old }
-    ensures made { IfOk result (λ x. IsMade x.shown.page) }
+    ensures made { IfOk result (λ x. IsPageMade x.shown.page) }
     ensures page { IsTrue (K.seen keeper.new).tells → IfOk result (λ x. ShowsView
         (app_of visited.now) (found_view visited.now) (request_at visited.now) number
         (K.seen keeper.old).state x.shown.labels x.shown.page) }
     ensures settles { IsTrue (K.seen keeper.new).tells → IfOk result (λ x. SettlesView
         (app_of visited.now) (viewer_at visited.now) (K.seen keeper.old).state
-        (applied x.change (K.seen keeper.old).state).tables x.shown.labels seat.new x.touch) }
+        (changed_state x.change (K.seen keeper.old).state).tables x.shown.labels seat.new x.touch) }
     ensures stored { IsTrue (K.seen keeper.new).tells → IfOk result (λ x. LeavesTables
         (app_of visited.now) (found_view visited.now) (request_at visited.now) number
-        (K.seen keeper.old).state (applied x.change (K.seen keeper.old).state).tables) }
+        (K.seen keeper.old).state (changed_state x.change (K.seen keeper.old).state).tables) }
     ensures number { IfOk result (λ x. x.change.number ≡ number + 1) }
     ensures left { IsLeft (K.seen keeper.old) (K.seen keeper.new) }
     ensures rose { IsErrOf result Stop.Keeper
@@ -309,7 +311,7 @@ fn settle_view<K: Keeper, L: Ledger, M: Ledger>(
         (request_at visited.now) number (state_of K.seen work.old) }
     requires seated { IsTrue (K.seen work.old.keeper.now).tells → IsSeated (app_of visited.now)
         (worlds_of (K.seen work.old.keeper.now).state) (viewer_at visited.now) seat.old }
-    ensures made { IfOk result (λ x. IsMade x.shown.page) }
+    ensures made { IfOk result (λ x. IsPageMade x.shown.page) }
     ensures page { IsTold K.seen work.new → IfOk result (λ x. ShowsView (app_of visited.now)
         (found_view visited.now) (request_at visited.now) number (state_of K.seen work.old)
         x.shown.labels x.shown.page) }
@@ -348,7 +350,7 @@ fn store_view<K: Keeper, L: Ledger, M: Ledger>(
         (request_at visited.now) number (state_of K.seen work.old) }
     requires seated { IsTrue (K.seen work.old.keeper.now).tells → IsSeated (app_of visited.now)
         (worlds_of (K.seen work.old.keeper.now).state) (viewer_at visited.now) seat.old }
-    ensures made { IfOk result (λ x. IsMade x.shown.page) }
+    ensures made { IfOk result (λ x. IsPageMade x.shown.page) }
     ensures page { IsTold K.seen work.new → IfOk result (λ x. ShowsView (app_of visited.now)
         (found_view visited.now) (request_at visited.now) number (state_of K.seen work.old)
         x.shown.labels x.shown.page) }

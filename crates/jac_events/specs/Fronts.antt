@@ -1,15 +1,15 @@
 -- A quoted text, by what stands at its front.
 use Rattle.std.specs.Prelude.{ℕ, ◌<◌, ◌++◌, Option, Some, None, List, [], length}
 use Rattle.std.specs.Option.{option_map}
-use Rattle.jac_events.specs.Words.{with_byte, unquoted}
+use Rattle.jac_events.specs.Words.{with_byte, read_quoted}
 use Rattle.jac_events.specs.declared.quoted.Front.{Front}
 use Rattle.jac_events.specs.declared.quoted.Front.TheVariants.{Byte, End, Bad}
 
 -- what is read of a text that begins with this
-abbrev pub continued : Front → Option (List ℕ × List ℕ)
-continued (Byte b rest) = with_byte b (unquoted rest.now)
-continued (End rest) = Some ([], rest.now)
-continued Bad = None
+abbrev pub front_read : Front → Option (List ℕ × List ℕ)
+front_read (Byte b rest) = with_byte b (read_quoted rest.now)
+front_read (End rest) = Some ([], rest.now)
+front_read Bad = None
 
 -- what follows it is shorter than this
 abbrev pub IsShorter : Front → ℕ → Type 0
@@ -18,5 +18,5 @@ IsShorter (End rest) n = length rest.now < n
 IsShorter Bad n = Unit {0}
 
 -- content that was read already, before what is read of the rest
-abbrev pub prefixed : List ℕ → Option (List ℕ × List ℕ) → Option (List ℕ × List ℕ)
-prefixed before read = option_map (λ p. (before ++ p.0, p.1)) read
+abbrev pub with_front : List ℕ → Option (List ℕ × List ℕ) → Option (List ℕ × List ℕ)
+with_front before read = option_map (λ p. (before ++ p.0, p.1)) read

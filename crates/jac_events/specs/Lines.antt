@@ -8,22 +8,23 @@ use Rattle.std.specs.Str.Parse.{digits_value}
 use Rattle.jac_events.specs.Words.{word_at, after_byte, quoted_at}
 use Rattle.jac_events.specs.declared.event.Event.{Event}
 use Rattle.jac_events.specs.declared.event.Event.TheVariants.{Ask, Begin, Piece, Finish}
+use Rattle.jac_value.specs.Paths.{is_nil}
 
 -- a number below the limit, of 1 to `most` decimal digits
-abbrev pub number_of : ℕ → ℕ → List ℕ → Option ℕ
-number_of most limit word =
+abbrev pub number_below : ℕ → ℕ → List ℕ → Option ℕ
+number_below most limit word =
     if nat_lt 0 (length word) && nat_le (length word) most && list_all is_ascii_digit word && nat_lt
     (digits_value 10 word) limit
     then Some (digits_value 10 word) else None
 
 -- a viewer's number, or `-` for nobody
-abbrev pub viewer_of : List ℕ → Option (Option ℕ)
-viewer_of word = if bytes_eq word (codes "-") then Some None
-    else option_map (λ n. Some n) (number_of 39 (2 ^ 128) word)
+abbrev pub viewer_of_word : List ℕ → Option (Option ℕ)
+viewer_of_word word = if bytes_eq word (codes "-") then Some None
+    else option_map (λ n. Some n) (number_below 39 (2 ^ 128) word)
 
 -- the number of a connection
 abbrev pub conn_of : List ℕ → Option ℕ
-conn_of word = number_of 10 (2 ^ 32) word
+conn_of word = number_below 10 (2 ^ 32) word
 
 -- 1 to 15 upper-case letters
 abbrev pub is_method : List ℕ → Bool
@@ -31,17 +32,13 @@ is_method word = nat_lt 0 (length word) && nat_le (length word) 15 && list_all i
     word
 
 -- a text that begins with `/`
-abbrev pub is_target : List ℕ → Bool
-is_target bytes = bytes_eq (take 1 bytes) (codes "/") && is_utf8 bytes
-
-abbrev pub is_nil : List ℕ → Bool
-is_nil [] = true
-is_nil (b ∷ bytes) = false
+abbrev pub is_path_target : List ℕ → Bool
+is_path_target bytes = bytes_eq (take 1 bytes) (codes "/") && is_utf8 bytes
 
 -- the request of these parts: the path is what stands before the target's first `?`, the query what
 -- follows it
-abbrev pub asked : Option ℕ → List ℕ → List ℕ → List ℕ → Event
-asked viewer method target body = Ask viewer method (before_first (λ b. b == 63) target)
+abbrev pub request_of_parts : Option ℕ → List ℕ → List ℕ → List ℕ → Event
+request_of_parts viewer method target body = Ask viewer method (before_first (λ b. b == 63) target)
     (after_first (λ b. b == 63) target) body
 
 -- behind `ask`: `VIEWER METHOD "TARGET" "BODY"`
@@ -53,9 +50,9 @@ ask_of rest =
     option_and_then (λ rest.
     option_and_then (λ body.
     option_and_then (λ number.
-    if is_method method.0 && is_target target.0 && is_nil body.1
-    then Some (asked number method.0 target.0 body.0) else None)
-    (viewer_of viewer.0))
+    if is_method method.0 && is_path_target target.0 && is_nil body.1
+    then Some (request_of_parts number method.0 target.0 body.0) else None)
+    (viewer_of_word viewer.0))
     (quoted_at rest))
     (after_byte 32 target.1))
     (quoted_at method.1))

@@ -25,33 +25,34 @@ with_byte b read = option_map (λ p. (b ∷ p.0, p.1)) read
 
 abbrev mutual
   -- the content up to the closing quote, and what follows that quote
-  pub unquoted : List ℕ → Option (List ℕ × List ℕ)
-  unquoted [] = None
-  unquoted (c ∷ bytes) =
+  pub read_quoted : List ℕ → Option (List ℕ × List ℕ)
+  read_quoted [] = None
+  read_quoted (c ∷ bytes) =
       if c == 34 then Some ([], bytes) else
-      if c == 92 then unescaped bytes else
+      if c == 92 then read_escape bytes else
       if c == 10 then None else
-      with_byte c (unquoted bytes)
+      with_byte c (read_quoted bytes)
 
   -- the same behind a backslash: `\n`, `\r`, `\\`, `\"` and `\xHH`
-  pub unescaped : List ℕ → Option (List ℕ × List ℕ)
-  unescaped [] = None
-  unescaped (c ∷ bytes) =
-      if c == 110 then with_byte 10 (unquoted bytes) else
-      if c == 114 then with_byte 13 (unquoted bytes) else
-      if c == 92 then with_byte 92 (unquoted bytes) else
-      if c == 34 then with_byte 34 (unquoted bytes) else
-      if c == 120 then unhexed bytes else
+  pub read_escape : List ℕ → Option (List ℕ × List ℕ)
+  read_escape [] = None
+  read_escape (c ∷ bytes) =
+      if c == 110 then with_byte 10 (read_quoted bytes) else
+      if c == 114 then with_byte 13 (read_quoted bytes) else
+      if c == 92 then with_byte 92 (read_quoted bytes) else
+      if c == 34 then with_byte 34 (read_quoted bytes) else
+      if c == 120 then read_hex bytes else
       None
 
   -- the same behind `\x`
-  pub unhexed : List ℕ → Option (List ℕ × List ℕ)
-  unhexed [] = None
-  unhexed (h ∷ []) = None
-  unhexed (h ∷ (l ∷ bytes)) =
-      option_and_then (λ high. option_and_then (λ low. with_byte (16 * high + low) (unquoted bytes))
+  pub read_hex : List ℕ → Option (List ℕ × List ℕ)
+  read_hex [] = None
+  read_hex (h ∷ []) = None
+  read_hex (h ∷ (l ∷ bytes)) =
+      option_and_then (λ high. option_and_then (λ low. with_byte (16 * high + low)
+      (read_quoted bytes))
       (hex_value l)) (hex_value h)
 
 -- the content of a quoted text that stands first, and what follows it
 abbrev pub quoted_at : List ℕ → Option (List ℕ × List ℕ)
-quoted_at bytes = option_and_then unquoted (after_byte 34 bytes)
+quoted_at bytes = option_and_then read_quoted (after_byte 34 bytes)

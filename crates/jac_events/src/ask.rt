@@ -2,7 +2,7 @@ ghost use Rattle.std.specs.Prelude.{◌≡◌, ◌==◌, ◌<◌, true, IfOk, If
 ghost use Rattle.std.specs.Char.{is_ascii_uppercase};
 ghost use Rattle.std.specs.List.{list_all, before_first, after_first};
 ghost use Rattle.std.specs.Str.{IsUtf8, bytes_eq, is_utf8};
-ghost use Rattle.jac_events.specs.Lines.{is_method, is_target, asked, ask_of};
+ghost use Rattle.jac_events.specs.Lines.{is_method, is_path_target, request_of_parts, ask_of};
 
 use crate::Event;
 use crate::numbers::viewer_number;
@@ -54,7 +54,7 @@ fn is_upper_case(word: &[u8]) -> bool
 }
 
 fn is_target(bytes: &[u8]) -> bool
-    ensures { result ≡ is_target bytes.now }
+    ensures { result ≡ is_path_target bytes.now }
 {
     has_slash(bytes) && is_text(bytes)
 }
@@ -86,8 +86,8 @@ fn make_ask(
     body: Bytes,
 ) -> Result<Event, Memory>
     requires method { is_method method.now ≡ true }
-    requires target { is_target target.now ≡ true }
-    ensures { IfOk result (λ event. event ≡ asked viewer method.now target.now body) }
+    requires target { is_path_target target.now ≡ true }
+    ensures { IfOk result (λ event. event ≡ request_of_parts viewer method.now target.now body) }
 {
     let (path, query) = path_and_query(target);
     let method = text(alloc, method)?;

@@ -2,13 +2,13 @@ ghost use Rattle.std.specs.Prelude.{◌≡◌, ◌<◌, ◌^◌, nat_lt, true, i
 ghost use Rattle.std.specs.Char.{is_ascii_digit};
 ghost use Rattle.std.specs.List.{list_all};
 ghost use Rattle.std.specs.Str.Parse.{digits_value};
-ghost use Rattle.jac_events.specs.Lines.{number_of, viewer_of, conn_of};
+ghost use Rattle.jac_events.specs.Lines.{number_below, viewer_of_word, conn_of};
 
 use std::str::from_utf8;
 
 /// A viewer's number, or `-` for nobody.
 pub fn viewer_number(word: &[u8]) -> Option<Option<u128>>
-    ensures { result ≡ viewer_of word.now }
+    ensures { result ≡ viewer_of_word word.now }
 {
     if word == b"-".as_slice() {
         Some(None)
@@ -37,7 +37,7 @@ fn small(number: u128) -> Option<u32>
 }
 
 fn number(word: &[u8], most: usize) -> Option<u128>
-    ensures { result ≡ number_of most (2 ^ 128) word.now }
+    ensures { result ≡ number_below most (2 ^ 128) word.now }
 {
     if word.is_empty() || word.len() > most || !is_digits(word) {
         None

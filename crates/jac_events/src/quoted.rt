@@ -1,7 +1,7 @@
 ghost use Rattle.std.specs.Prelude.{◌≡◌, ◌<◌, IfOk, IfSome, length};
 ghost use Rattle.std.specs.Option.{option_map};
-ghost use Rattle.jac_events.specs.Words.{hex_value, unquoted, unescaped, unhexed, quoted_at};
-ghost use Rattle.jac_events.specs.Fronts.{continued, IsShorter};
+ghost use Rattle.jac_events.specs.Words.{hex_value, read_quoted, read_escape, read_hex, quoted_at};
+ghost use Rattle.jac_events.specs.Fronts.{front_read, IsShorter};
 
 use crate::words::behind;
 use jac_value::{Bytes, Memory};
@@ -29,7 +29,7 @@ pub fn quoted(alloc: Global, bytes: &[u8]) -> Result<Option<(Bytes, &[u8])>, Mem
 }
 
 fn content(alloc: Global, bytes: &[u8]) -> Result<Option<(Bytes, &[u8])>, Memory>
-    ensures { IfOk result (λ read. option_map (λ p. (p.0, p.1.now)) read ≡ unquoted bytes.now) }
+    ensures { IfOk result (λ read. option_map (λ p. (p.0, p.1.now)) read ≡ read_quoted bytes.now) }
 {
     let mut made = Vec::new(alloc);
     let mut left = bytes;
@@ -46,7 +46,7 @@ fn content(alloc: Global, bytes: &[u8]) -> Result<Option<(Bytes, &[u8])>, Memory
 }
 
 fn front_of(bytes: &[u8]) -> Front<'_>
-    ensures read { unquoted bytes.now ≡ continued result }
+    ensures read { read_quoted bytes.now ≡ front_read result }
     ensures shorter { IsShorter result (length bytes.now) }
 {
     match bytes.split_first() {
@@ -59,7 +59,7 @@ fn front_of(bytes: &[u8]) -> Front<'_>
 }
 
 fn escaped(bytes: &[u8]) -> Front<'_>
-    ensures read { unescaped bytes.now ≡ continued result }
+    ensures read { read_escape bytes.now ≡ front_read result }
     ensures shorter { IsShorter result (length bytes.now) }
 {
     match bytes.split_first() {
@@ -73,7 +73,7 @@ fn escaped(bytes: &[u8]) -> Front<'_>
 }
 
 fn hexed(bytes: &[u8]) -> Front<'_>
-    ensures read { unhexed bytes.now ≡ continued result }
+    ensures read { read_hex bytes.now ≡ front_read result }
     ensures shorter { IsShorter result (length bytes.now) }
 {
     match bytes {

@@ -13,16 +13,7 @@ use Rattle.jac_plain.specs.declared.context.Ctx.{Ctx}
 use Rattle.jac_plain.specs.Expressions.{binding, mean}
 use Rattle.jac_plain.specs.World.{World}
 use Rattle.jac_expr.specs.declared.here.Here.{Here}
-
--- the world that an assignment shows
-abbrev pub world_at : App → Ctx → State → (ℕ → Bool) → World
-world_at app ctx s w =
-    record {
-      models = (application_of app).models;
-      this = ctx.this;
-      viewer = ctx.viewer;
-      tables = (project_at w s).tables;
-    }
+use Rattle.jac_plain.specs.Shown.{world_at}
 
 -- the world that an assignment shows here
 abbrev pub world_here : Here → State → (ℕ → Bool) → World

@@ -3,18 +3,18 @@
 #![tactic(auto)]
 
 mod binding;
-mod choosing;
+mod choice;
 mod env;
 mod evaluation;
 mod here;
-mod marking;
-mod naming;
+mod marks;
 mod operations;
+mod order;
+mod presence;
 mod product;
 mod reading;
-mod searching;
-mod sorting;
-mod standing;
+mod scope;
+mod search;
 mod texts;
 
 pub use binding::bind_tuple;

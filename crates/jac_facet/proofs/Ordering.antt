@@ -1,7 +1,7 @@
 use Rattle.std.proofs.Common.{◌≡◌, ℕ, ◌&&◌, ◌||◌, Bool, true, false, not, if◌then◌else◌, List, [], ◌∷◌, ◌++◌, refl, ap, ◌∙◌}
 use mathlib.Core.Bool.{beq}
 use Rattle.jac_world.specs.World.{holds}
-use Rattle.jac_facet.specs.Leaves.{seen, meets, before, order_after}
+use Rattle.jac_facet.specs.Leaves.{leaves_seen, meets, is_shown_before, order_after}
 
 before_cons : (a b mv mw o n r : Bool) → r ≡ (if mv || mw then o else n) → (if a then not b else (if b then false else r)) ≡ (if (a || mv) || (b || mw) then (if a then not b else (if b then false else o)) else n)
 before_cons true b mv mw o n r e = refl
@@ -23,18 +23,18 @@ module _ {T : Type 0} where
   seen_both true x xs ys zs e = ap (λ l. x ∷ l) e
   seen_both false x xs ys zs e = e
 
-  pub seen-push : (w : ℕ → Bool) (ps : List (List (ℕ × Bool) × T)) (p : List (ℕ × Bool) × T) → seen w (ps ++ p ∷ []) ≡ seen w ps ++ if◌then◌else◌ {A = List T} (holds w p.0) (p.1 ∷ []) []
+  pub seen-push : (w : ℕ → Bool) (ps : List (List (ℕ × Bool) × T)) (p : List (ℕ × Bool) × T) → leaves_seen w (ps ++ p ∷ []) ≡ leaves_seen w ps ++ if◌then◌else◌ {A = List T} (holds w p.0) (p.1 ∷ []) []
   seen-push w [] p = refl
-  seen-push w (q ∷ ps) p = seen_both (holds w q.0) q.1 (seen w ps) (seen w (ps ++ p ∷ [])) _ (seen-push w ps p)
+  seen-push w (q ∷ ps) p = seen_both (holds w q.0) q.1 (leaves_seen w ps) (leaves_seen w (ps ++ p ∷ [])) _ (seen-push w ps p)
 
   -- with more guards behind
-  pub before-append : (v w : ℕ → Bool) (old ps : List (List (ℕ × Bool) × T)) → before v w (old ++ ps) ≡ (if meets v old || meets w old then before v w old else before v w ps)
+  pub before-append : (v w : ℕ → Bool) (old ps : List (List (ℕ × Bool) × T)) → is_shown_before v w (old ++ ps) ≡ (if meets v old || meets w old then is_shown_before v w old else is_shown_before v w ps)
   before-append v w [] ps = refl
-  before-append v w (q ∷ old) ps = before_cons (holds v q.0) (holds w q.0) (meets v old) (meets w old) (before v w old) (before v w ps) (before v w (old ++ ps)) (before-append v w old ps)
+  before-append v w (q ∷ old) ps = before_cons (holds v q.0) (holds w q.0) (meets v old) (meets w old) (is_shown_before v w old) (is_shown_before v w ps) (is_shown_before v w (old ++ ps)) (before-append v w old ps)
 
-  pub before_none : (v w : ℕ → Bool) (ps : List (List (ℕ × Bool) × T)) → meets v ps ≡ false → before v w ps ≡ false
+  pub before_none : (v w : ℕ → Bool) (ps : List (List (ℕ × Bool) × T)) → meets v ps ≡ false → is_shown_before v w ps ≡ false
   before_none v w [] e = refl
-  before_none v w (q ∷ ps) e = none_before (holds v q.0) (holds w q.0) (meets v ps) (before v w ps) e (before_none v w ps)
+  before_none v w (q ∷ ps) e = none_before (holds v q.0) (holds w q.0) (meets v ps) (is_shown_before v w ps) e (before_none v w ps)
 
 pub leaf_order : (mv mw hv hw o n : Bool) → n ≡ (if mv || mw then o else (if hv then not hw else (if hw then false else false))) → n ≡ order_after mv mw hv hw o false
 leaf_order true mw hv hw o n e = e

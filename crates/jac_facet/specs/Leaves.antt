@@ -10,19 +10,20 @@ IsWhere g k b (Some m) = (w : ℕ → Bool) → holds w m ≡ (holds w g && beq 
 
 module _ {T : Type 0} where
   -- the values whose guards hold, in order
-  abbrev pub seen : (ℕ → Bool) → List (List (ℕ × Bool) × T) → List T
-  seen w [] = []
-  seen w (p ∷ ps) = if holds w p.0 then p.1 ∷ seen w ps else seen w ps
+  abbrev pub leaves_seen : (ℕ → Bool) → List (List (ℕ × Bool) × T) → List T
+  leaves_seen w [] = []
+  leaves_seen w (p ∷ ps) = if holds w p.0 then p.1 ∷ leaves_seen w ps else leaves_seen w ps
 
   -- a guard of the list holds
   abbrev pub meets : (ℕ → Bool) → List (List (ℕ × Bool) × T) → Bool
   meets w ps = list_any (λ p. holds w p.0) ps
 
   -- the first guard that holds under v stands before the first that holds under w
-  abbrev pub before : (ℕ → Bool) → (ℕ → Bool) → List (List (ℕ × Bool) × T) → Bool
-  before v w [] = false
-  before v w (p ∷ ps) = if holds v p.0 then not (holds w p.0) else (if holds w p.0 then false
-      else before v w ps)
+  abbrev pub is_shown_before : (ℕ → Bool) → (ℕ → Bool) → List (List (ℕ × Bool) × T) → Bool
+  is_shown_before v w [] = false
+  is_shown_before v w (p ∷ ps) = if holds v p.0 then not (holds w p.0) else (if holds w p.0
+      then false
+      else is_shown_before v w ps)
 
 -- whether v's guard stands before w's once more guards were added: as before where an old guard
 -- holds under either; else by the new guards, where they hold under both

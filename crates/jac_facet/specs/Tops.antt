@@ -11,6 +11,7 @@ IsLeast i j None = (i ≡ None) × (j ≡ None)
 IsLeast i j (Some k) = UpTo k i × UpTo k j × ((i ≡ Some k) ⊎ (j ≡ Some k))
 
 -- the smaller of two labels, if it is below the limit
-abbrev pub IsBefore : Option ℕ → Option ℕ → ℕ → Option ℕ → Type 0
-IsBefore i j limit None = UpTo limit i × UpTo limit j
-IsBefore i j limit (Some k) = (k < limit) × UpTo k i × UpTo k j × ((i ≡ Some k) ⊎ (j ≡ Some k))
+abbrev pub IsSmallerLabel : Option ℕ → Option ℕ → ℕ → Option ℕ → Type 0
+IsSmallerLabel i j limit None = UpTo limit i × UpTo limit j
+IsSmallerLabel i j limit (Some k) = (k < limit) × UpTo k i × UpTo k j × ((i ≡ Some k) ⊎ (j
+    ≡ Some k))

@@ -1,5 +1,5 @@
 ghost use Rattle.std.specs.Prelude.{◌≡◌, ◌≢◌, ℕ, ◌+◌, ◌<◌, ◌≤◌, Bool, false, if◌then◌else◌, Some, None, IfOk, IfSome, IsTrue, ◌↔◌};
-ghost use Rattle.jac_world.specs.World.{shown};
+ghost use Rattle.jac_world.specs.World.{shown_by};
 ghost use Rattle.jac_facet.specs.Shape.{Shape, one, at, top, depth, Above, IsOrdered, has_label};
 ghost use Rattle.jac_facet.specs.Tops.{UpTo};
 
@@ -97,7 +97,7 @@ impl<T: Leaf> Facet<T> {
     }
 
     pub fn at(&self, assignment: &Assignment) -> &T
-        ensures { result.now ≡ at (shown assignment.now) self.now }
+        ensures { result.now ≡ at (shown_by assignment.now) self.now }
     {
         match &self.node {
             Node::Leaf(value) => value,

@@ -2,7 +2,7 @@ ghost use Rattle.std.specs.Prelude.{◌≡◌, ℕ, Bool, true, ◌&&◌, ◌||�
 ghost use mathlib.Core.Bool.{beq};
 ghost use Rattle.jac_world.specs.World.{holds};
 ghost use Rattle.jac_facet.specs.Shape.{at, higher};
-ghost use Rattle.jac_facet.specs.Leaves.{seen, meets, before, order_after, IsWhere};
+ghost use Rattle.jac_facet.specs.Leaves.{leaves_seen, meets, is_shown_before, order_after, IsWhere};
 
 use crate::facet::Node;
 use crate::memory::from_world;
@@ -15,10 +15,10 @@ impl<T: Leaf> Facet<T> {
     /// The values that the facet can have where the guard holds, each with the guard under which it
     /// has it: under each assignment at most one. High sides come first.
     pub fn leaves_under(&self, alloc: Global, guard: &Guard) -> Result<Leaves<T>, Memory>
-        ensures seen { IfOk result (λ ps. (w : ℕ → Bool) → seen w ps ≡ (if holds w guard.now
+        ensures seen { IfOk result (λ ps. (w : ℕ → Bool) → leaves_seen w ps ≡ (if holds w guard.now
             then at w self.now ∷ [] else [])) }
         ensures order { IfOk result (λ ps. (v w : ℕ → Bool) → holds v guard.now ≡ true
-            → holds w guard.now ≡ true → before v w ps ≡ higher v w self.now) }
+            → holds w guard.now ≡ true → is_shown_before v w ps ≡ higher v w self.now) }
     {
         let mut out = Vec::new(alloc);
         self.add_leaves(alloc, guard, &mut out)?;
@@ -32,13 +32,15 @@ impl<T: Leaf> Facet<T> {
         guard: &Guard,
         out: &mut Vec<(Guard, T)>,
     ) -> Result<(), Memory>
-        ensures seen { OnOk result ((w : ℕ → Bool) → seen w out.new.items ≡ seen w out.old.items
+        ensures seen { OnOk result ((w : ℕ → Bool) → leaves_seen w out.new.items
+            ≡ leaves_seen w out.old.items
             ++ (if holds w guard.now then at w self.now ∷ [] else [])) }
         ensures meets { OnOk result ((w : ℕ → Bool)
             → meets w out.new.items ≡ (meets w out.old.items || holds w guard.now)) }
-        ensures order { OnOk result ((v w : ℕ → Bool) → before v w out.new.items ≡ order_after
+        ensures order { OnOk result ((v w : ℕ → Bool) → is_shown_before v w out.new.items
+            ≡ order_after
             (meets v out.old.items) (meets w out.old.items) (holds v guard.now) (holds w guard.now)
-            (before v w out.old.items) (higher v w self.now)) }
+            (is_shown_before v w out.old.items) (higher v w self.now)) }
     {
         match &self.node {
             Node::Leaf(value) => {
@@ -63,14 +65,16 @@ impl<T: Leaf> Facet<T> {
         sign: bool,
         out: &mut Vec<(Guard, T)>,
     ) -> Result<(), Memory>
-        ensures seen { OnOk result ((w : ℕ → Bool) → seen w out.new.items ≡ seen w out.old.items
+        ensures seen { OnOk result ((w : ℕ → Bool) → leaves_seen w out.new.items
+            ≡ leaves_seen w out.old.items
             ++ (if holds w guard.now && beq sign (w label) then at w self.now ∷ [] else [])) }
         ensures meets { OnOk result ((w : ℕ → Bool)
             → meets w out.new.items
             ≡ (meets w out.old.items || (holds w guard.now && beq sign (w label)))) }
-        ensures order { OnOk result ((v w : ℕ → Bool) → before v w out.new.items ≡ order_after
+        ensures order { OnOk result ((v w : ℕ → Bool) → is_shown_before v w out.new.items
+            ≡ order_after
             (meets v out.old.items) (meets w out.old.items) (holds v guard.now && beq sign
-            (v label)) (holds w guard.now && beq sign (w label)) (before v w out.old.items)
+            (v label)) (holds w guard.now && beq sign (w label)) (is_shown_before v w out.old.items)
             (higher v w self.now)) }
     {
         match guard_where(alloc, guard, label, sign)? {

@@ -2,7 +2,7 @@ ghost use Rattle.std.specs.Prelude.{◌≡◌, ◌≢◌, ℕ, ◌+◌, ◌<◌,
 ghost use mathlib.Core.Bool.{beq};
 ghost use Rattle.jac_world.specs.World.{holds, has_pair, IsRising, StartsAbove};
 ghost use Rattle.jac_facet.specs.Shape.{at, top, Above, has_label};
-ghost use Rattle.jac_facet.specs.Tops.{IsBefore};
+ghost use Rattle.jac_facet.specs.Tops.{IsSmallerLabel};
 
 use crate::combine::first_label;
 use crate::facet::MOST_LABELS;
@@ -169,7 +169,7 @@ fn label_before<T: Leaf, U: Leaf>(
     second: &Facet<U>,
     limit: Label,
 ) -> Option<Label>
-    ensures { IsBefore (top first.now) (top second.now) limit result }
+    ensures { IsSmallerLabel (top first.now) (top second.now) limit result }
 {
     match first_label(first, second) {
         Some(label) if label < limit => Some(label),

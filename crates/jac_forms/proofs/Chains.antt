@@ -4,10 +4,10 @@ use Rattle.std.specs.Prelude.{IfSome, if◌then◌else◌}
 use Rattle.std.specs.List.{All}
 use Rattle.std.proofs.lemmas.Bool.Decides.{nat_tests}
 use Rattle.std.proofs.lemmas.List.Elements.{All-nil, All-cons}
-use Rattle.jac_tree.specs.Plain.{PlainTree, PlainTrees}
+use Rattle.jac_tree.specs.Plain.{PlainTree, PlainTrees, count}
 use Rattle.jac_forms.specs.Places.{child}
-use Rattle.jac_forms.specs.Reads.{Read, got, refused, read_map, read_and_then, up_to, behind, got_where}
-use Rattle.jac_forms.specs.Names.{count, each_in_trees}
+use Rattle.jac_forms.specs.Reads.{Read, got, refused, read_map, read_and_then, up_to, read_behind, got_where}
+use Rattle.jac_forms.specs.Names.{each_in_trees}
 use Rattle.jac_forms.specs.declared.fault.FormFault.{FormFault}
 use Rattle.jac_forms.specs.declared.fault.FormFault.TheVariants as faults
 use Rattle.jac_forms.specs.declared.fault.Want.{Want}
@@ -19,7 +19,7 @@ IfGot (got x) P = P x
 IfGot (refused fault) P = Unit {0}
 
 -- P of what is read of the trees behind a head
-pub after : {A : Type 0} (P : A → Type 0) (want : Want) (at : List ℕ) (read : PlainTrees → Read A) (o : Option PlainTrees) → ((ts : PlainTrees) → IfGot (read ts) P) → IfGot (behind want at read o) P
+pub after : {A : Type 0} (P : A → Type 0) (want : Want) (at : List ℕ) (read : PlainTrees → Read A) (o : Option PlainTrees) → ((ts : PlainTrees) → IfGot (read ts) P) → IfGot (read_behind want at read o) P
 after P want at read None k = tt
 after P want at read (Some ts) k = k ts
 

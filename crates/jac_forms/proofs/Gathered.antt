@@ -5,7 +5,7 @@ use Rattle.jac_lang.specs.Syntax.{Entity}
 use Rattle.jac_tree.specs.Plain.{PlainTree, PlainTrees}
 use Rattle.jac_forms.specs.Places.{child}
 use Rattle.jac_forms.specs.Reads.{Read, got, refused, read_map}
-use Rattle.jac_forms.specs.Applications.{Items, items, after_model, is_headed, headed, items_in_trees, entity_in_tree}
+use Rattle.jac_forms.specs.Applications.{Items, items, after_model, is_headed, headed_count, items_in_trees, entity_in_tree}
 
 -- models, before those of the items
 abbrev pub models_before : List Entity → Items → Items
@@ -15,7 +15,7 @@ models_before ms is = items (ms ++ is.models) is.views
 abbrev pub gathered : List Entity → List ℕ → ℕ → PlainTrees → Read Items
 gathered done at k ts = read_map (models_before done) (items_in_trees at k ts)
 
-pub headed-more : (word : List ℕ) (t : PlainTree) (ts : PlainTrees) → is_headed word t ≡ true → headed word (PlainTrees.more t ts) ≡ headed word ts + 1
+pub headed-more : (word : List ℕ) (t : PlainTree) (ts : PlainTrees) → is_headed word t ≡ true → headed_count word (PlainTrees.more t ts) ≡ headed_count word ts + 1
 headed-more word t ts head = rw head refl
 
 -- the tree `t`, which is child k, is the model `m`

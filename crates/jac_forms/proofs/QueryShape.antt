@@ -1,8 +1,7 @@
 -- A query of the shape that it should have.
 use Rattle.std.proofs.Common.{◌≡◌, ℕ, List, true, refl}
 use Rattle.std.specs.Prelude.{codes}
-use Rattle.jac_tree.specs.Plain.{PlainTree, PlainTrees}
-use Rattle.jac_forms.specs.Names.{is_word}
+use Rattle.jac_tree.specs.Plain.{PlainTree, PlainTrees, is_word}
 use Rattle.jac_forms.specs.Places.{child}
 use Rattle.jac_forms.specs.Expressions.{question_in_tree, question_if, has_few, binders_in_tree, expression_in_tree, order_in_tree}
 

@@ -12,17 +12,17 @@ use Rattle.jac_lang.specs.declared.field_kinds.KindName.TheVariants as kinds
 use Rattle.jac_lang.specs.declared.pages.Verb.{Verb}
 use Rattle.jac_lang.specs.Syntax.{Assigned, FieldGroup, Page, Application}
 use Rattle.jac_lang.specs.Written.{IsName, IsWrittenExpression, IsWrittenAssigned, IsWrittenKind, IsWrittenField, IsWrittenGroup, IsWrittenModel, IsWrittenView, IsWritten, sites}
-use Rattle.jac_tree.specs.Plain.{PlainTree, PlainTrees}
+use Rattle.jac_tree.specs.Plain.{PlainTree, PlainTrees, count, is_word}
 use Rattle.jac_forms.specs.Places.{child}
-use Rattle.jac_forms.specs.Reads.{Read, got, read_map, read_and_then, behind}
+use Rattle.jac_forms.specs.Reads.{Read, got, read_map, read_and_then, read_behind}
 use Rattle.jac_forms.specs.declared.fault.FormFault.TheVariants as faults
 use Rattle.jac_forms.specs.declared.fault.Want.{Want}
 use Rattle.jac_forms.specs.declared.fault.Want.TheVariants as wants
 use Rattle.jac_forms.specs.declared.fault.What.TheVariants as whats
-use Rattle.jac_forms.specs.Names.{count, is_word, name_in_tree, tail_of, each_in_trees}
+use Rattle.jac_forms.specs.Names.{name_in_tree, tail_of, each_in_trees}
 use Rattle.jac_forms.specs.Expressions.{one_in_trees}
 use Rattle.jac_forms.specs.Statements.{Body, assigned_in_tree, statements_in_trees, creates}
-use Rattle.jac_forms.specs.Applications.{plain_kind_of, one_name_in_trees, kind_in_tree, field, field_in_tree, few_fields, fields_in_tree, params_in_tree, some_guards, guards_in_tree, policy_in_tree, Guarding, guarding, guarding_in_tree, group, group_in_trees, group_in_tree, entity, entity_behind, entity_in_trees, entity_in_tree, method_in_tree, path_in_tree, page, page_in_trees, page_in_tree, is_headed, headed, Items, items, after_model, items_in_trees, application, viewer_in_tree, with_viewer, application_of_items, application_in_trees, application_in_tree}
+use Rattle.jac_forms.specs.Applications.{plain_kind_of, one_name_in_trees, kind_in_tree, field, field_in_tree, few_fields, fields_in_tree, params_in_tree, some_guards, guards_in_tree, policy_in_tree, Guarding, guarding, guarding_in_tree, group, group_in_trees, group_in_tree, entity, entity_behind, entity_in_trees, entity_in_tree, method_in_tree, path_in_tree, page_form, page_in_trees, page_in_tree, is_headed, headed_count, Items, items, after_model, items_in_trees, application, viewer_in_tree, with_viewer, application_of_items, application_in_trees, application_in_tree}
 use Rattle.jac_forms.proofs.Chains.{IfGot, after, placed, freely, chained, mapped, weaker, where_true, where_false, either, within, each}
 use Rattle.jac_forms.proofs.Spans.{spans-few}
 use Rattle.jac_forms.proofs.WrittenExpressions.{name-written, one-written}
@@ -43,9 +43,9 @@ one_name-written want at (PlainTrees.more t PlainTrees.none) = name-written (chi
 one_name-written want at PlainTrees.none = tt
 one_name-written want at (PlainTrees.more t (PlainTrees.more u ts)) = tt
 
-reference-written : (at : List ℕ) (t : PlainTree) → IfGot (read_map kinds.Ref (behind wants.Kind at (one_name_in_trees wants.Kind at) (tail_of (codes "ref") t))) IsWrittenKind
+reference-written : (at : List ℕ) (t : PlainTree) → IfGot (read_map kinds.Ref (read_behind wants.Kind at (one_name_in_trees wants.Kind at) (tail_of (codes "ref") t))) IsWrittenKind
 reference-written at t =
-    mapped IsName IsWrittenKind kinds.Ref (behind wants.Kind at (one_name_in_trees wants.Kind at) (tail_of (codes "ref") t))
+    mapped IsName IsWrittenKind kinds.Ref (read_behind wants.Kind at (one_name_in_trees wants.Kind at) (tail_of (codes "ref") t))
     (after IsName wants.Kind at (one_name_in_trees wants.Kind at) (tail_of (codes "ref") t) (one_name-written wants.Kind at)) (λ name h. h)
 
 kind-written : (at : List ℕ) (t : PlainTree) → IfGot (kind_in_tree at t) IsWrittenKind
@@ -145,7 +145,7 @@ path-written at (PlainTree.atom a) = tt
 path-written at (PlainTree.text x) = where_true IsPath (is_path x) (got x) (faults.Form at wants.Path) (λ e. e)
 path-written at (PlainTree.list ts) = tt
 
-page-written : (at : List ℕ) (method : Verb) (path : List ℕ) (params : List Field) (body : Body) → IsPath path → All IsWrittenField params → AreNumbered 0 body → IfGot (page at method path params body) IsWrittenView
+page-written : (at : List ℕ) (method : Verb) (path : List ℕ) (params : List Field) (body : Body) → IsPath path → All IsWrittenField params → AreNumbered 0 body → IfGot (page_form at method path params body) IsWrittenView
 page-written at method path params body h k l =
     where_true IsWrittenView (nat_le body.next 64) (got (record { method = method; path = path; params = params; body = body.statements })) (faults.TooMany at whats.Sites (creates body.statements)) (λ e.
     let few : body.next ≤ 64 = grind (arith, nat_tests) in
@@ -154,10 +154,10 @@ page-written at method path params body h k l =
 
 page_parts-written : (at : List ℕ) (ts : PlainTrees) → IfGot (page_in_trees at ts) IsWrittenView
 page_parts-written at (PlainTrees.more m (PlainTrees.more p (PlainTrees.more ps ss))) =
-    freely IsWrittenView (λ method. read_and_then (λ path. read_and_then (λ params. read_and_then (page at method path params) (statements_in_trees at 4 ss 0)) (params_in_tree (child at 3) ps)) (path_in_tree (child at 2) p)) (method_in_tree (child at 1) m) (λ method.
-    chained IsPath IsWrittenView (λ path. read_and_then (λ params. read_and_then (page at method path params) (statements_in_trees at 4 ss 0)) (params_in_tree (child at 3) ps)) (path_in_tree (child at 2) p) (path-written (child at 2) p) (λ path h.
-    chained (All IsWrittenField) IsWrittenView (λ params. read_and_then (page at method path params) (statements_in_trees at 4 ss 0)) (params_in_tree (child at 3) ps) (params-written (child at 3) ps) (λ params k.
-    chained (AreNumbered 0) IsWrittenView (page at method path params) (statements_in_trees at 4 ss 0) (statements-written at 4 ss 0) (λ body l. page-written at method path params body h k l))))
+    freely IsWrittenView (λ method. read_and_then (λ path. read_and_then (λ params. read_and_then (page_form at method path params) (statements_in_trees at 4 ss 0)) (params_in_tree (child at 3) ps)) (path_in_tree (child at 2) p)) (method_in_tree (child at 1) m) (λ method.
+    chained IsPath IsWrittenView (λ path. read_and_then (λ params. read_and_then (page_form at method path params) (statements_in_trees at 4 ss 0)) (params_in_tree (child at 3) ps)) (path_in_tree (child at 2) p) (path-written (child at 2) p) (λ path h.
+    chained (All IsWrittenField) IsWrittenView (λ params. read_and_then (page_form at method path params) (statements_in_trees at 4 ss 0)) (params_in_tree (child at 3) ps) (params-written (child at 3) ps) (λ params k.
+    chained (AreNumbered 0) IsWrittenView (page_form at method path params) (statements_in_trees at 4 ss 0) (statements-written at 4 ss 0) (λ body l. page-written at method path params body h k l))))
 page_parts-written at PlainTrees.none = tt
 page_parts-written at (PlainTrees.more m PlainTrees.none) = tt
 page_parts-written at (PlainTrees.more m (PlainTrees.more p PlainTrees.none)) = tt
@@ -179,25 +179,25 @@ views-written at j most ts =
     mapped (AreViews ts) (AreItems most) (items []) (each_in_trees page_in_tree at j ts) (each IsWrittenView page_in_tree view-written at j ts) (λ vs h.
     record { few = omega arith; models = All-nil IsWrittenModel; views = h.0 })
 
-headed-most : (t : PlainTree) (ts : PlainTrees) → headed (codes "model") ts ≤ headed (codes "model") (PlainTrees.more t ts)
+headed-most : (t : PlainTree) (ts : PlainTrees) → headed_count (codes "model") ts ≤ headed_count (codes "model") (PlainTrees.more t ts)
 headed-most t ts = split (is_headed (codes "model") t) refl
   where
-    split : (b : Bool) → is_headed (codes "model") t ≡ b → headed (codes "model") ts ≤ headed (codes "model") (PlainTrees.more t ts)
+    split : (b : Bool) → is_headed (codes "model") t ≡ b → headed_count (codes "model") ts ≤ headed_count (codes "model") (PlainTrees.more t ts)
     split true e = rw e (omega arith)
     split false e = rw e (omega arith)
 
-pub items-written : (at : List ℕ) (j : ℕ) (ts : PlainTrees) → IfGot (items_in_trees at j ts) (AreItems (headed (codes "model") ts))
+pub items-written : (at : List ℕ) (j : ℕ) (ts : PlainTrees) → IfGot (items_in_trees at j ts) (AreItems (headed_count (codes "model") ts))
 items-written at j PlainTrees.none = record { few = omega arith; models = All-nil IsWrittenModel; views = All-nil IsWrittenView }
 items-written at j (PlainTrees.more t ts) = split (is_headed (codes "model") t) refl (items-written at (j + 1) ts)
   where
-    split : (b : Bool) → is_headed (codes "model") t ≡ b → IfGot (items_in_trees at (j + 1) ts) (AreItems (headed (codes "model") ts))
-        → IfGot (items_in_trees at j (PlainTrees.more t ts)) (AreItems (headed (codes "model") (PlainTrees.more t ts)))
+    split : (b : Bool) → is_headed (codes "model") t ≡ b → IfGot (items_in_trees at (j + 1) ts) (AreItems (headed_count (codes "model") ts))
+        → IfGot (items_in_trees at j (PlainTrees.more t ts)) (AreItems (headed_count (codes "model") (PlainTrees.more t ts)))
     split true e rest = rw e (
-        chained IsWrittenModel (AreItems (headed (codes "model") ts + 1)) (λ m. read_map (after_model m) (items_in_trees at (j + 1) ts)) (entity_in_tree (child at j) t) (entity-written (child at j) t) (λ m h.
-        mapped (AreItems (headed (codes "model") ts)) (AreItems (headed (codes "model") ts + 1)) (after_model m) (items_in_trees at (j + 1) ts) rest (λ is k.
+        chained IsWrittenModel (AreItems (headed_count (codes "model") ts + 1)) (λ m. read_map (after_model m) (items_in_trees at (j + 1) ts)) (entity_in_tree (child at j) t) (entity-written (child at j) t) (λ m h.
+        mapped (AreItems (headed_count (codes "model") ts)) (AreItems (headed_count (codes "model") ts + 1)) (after_model m) (items_in_trees at (j + 1) ts) rest (λ is k.
         let n = k.few in
         record { few = omega arith; models = All-cons IsWrittenModel m is.models h k.models; views = k.views })))
-    split false e rest = rw e (views-written at j (headed (codes "model") ts) (PlainTrees.more t ts))
+    split false e rest = rw e (views-written at j (headed_count (codes "model") ts) (PlainTrees.more t ts))
 
 -- an application of few views is written
 abbrev IsMostly : Application → Type 0
@@ -212,17 +212,17 @@ made-written most viewer o small h k =
 viewer-written : (at : List ℕ) (t : PlainTree) → IfGot (viewer_in_tree at t) IsName
 viewer-written at t = after IsName wants.Item at (one_name_in_trees wants.Item at) (tail_of (codes "viewer") t) (one_name-written wants.Item at)
 
-parts-written : (at : List ℕ) (ts : PlainTrees) → headed (codes "model") ts ≤ 64 → IfGot (application_of_items at ts) IsMostly
+parts-written : (at : List ℕ) (ts : PlainTrees) → headed_count (codes "model") ts ≤ 64 → IfGot (application_of_items at ts) IsMostly
 parts-written at PlainTrees.none small = made-written 0 None (items_in_trees at 1 PlainTrees.none) (omega arith) tt (items-written at 1 PlainTrees.none)
 parts-written at (PlainTrees.more t ts) small =
     let fewer = headed-most t ts in
     either IsMostly (is_headed (codes "viewer") t) (read_and_then (with_viewer at ts) (viewer_in_tree (child at 1) t)) _
     (chained IsName IsMostly (with_viewer at ts) (viewer_in_tree (child at 1) t) (viewer-written (child at 1) t) (λ name h.
-    made-written (headed (codes "model") ts) (Some name) (items_in_trees at 2 ts) (omega (arith, fewer, small)) h (items-written at 2 ts)))
-    (made-written (headed (codes "model") (PlainTrees.more t ts)) None (items_in_trees at 1 (PlainTrees.more t ts)) small tt (items-written at 1 (PlainTrees.more t ts)))
+    made-written (headed_count (codes "model") ts) (Some name) (items_in_trees at 2 ts) (omega (arith, fewer, small)) h (items-written at 2 ts)))
+    (made-written (headed_count (codes "model") (PlainTrees.more t ts)) None (items_in_trees at 1 (PlainTrees.more t ts)) small tt (items-written at 1 (PlainTrees.more t ts)))
 
 all-written : (at : List ℕ) (ts : PlainTrees) → IfGot (application_in_trees at ts) IsMostly
-all-written at ts = within IsMostly whats.Models at 64 (headed (codes "model") ts) (application_of_items at ts) (parts-written at ts)
+all-written at ts = within IsMostly whats.Models at 64 (headed_count (codes "model") ts) (application_of_items at ts) (parts-written at ts)
 
 pub application-written : (at : List ℕ) (t : PlainTree) → IfGot (application_in_tree at t) IsMostly
 application-written at t = after IsMostly wants.App at (application_in_trees at) (tail_of (codes "app") t) (all-written at)

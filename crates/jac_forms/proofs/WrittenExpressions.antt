@@ -13,20 +13,20 @@ use Rattle.jac_lang.specs.declared.queries.Order.{Order}
 use Rattle.jac_lang.specs.declared.queries.Order.TheVariants as orders
 use Rattle.jac_lang.specs.Syntax.{Expression, Expressions}
 use Rattle.jac_lang.specs.Written.{IsName, IsWrittenBinder, AreBinders, IsWrittenOrder, IsWrittenExpression, AreWrittenExpressions, IsWrittenQuestion}
-use Rattle.jac_tree.specs.Plain.{PlainTree, PlainTrees}
+use Rattle.jac_tree.specs.Plain.{PlainTree, PlainTrees, count, is_word}
 use Rattle.jac_forms.specs.Places.{child}
 use Rattle.jac_forms.specs.Reads.{Read, got, read_map, read_and_then, up_to}
 use Rattle.jac_forms.specs.declared.fault.FormFault.TheVariants as faults
 use Rattle.jac_forms.specs.declared.fault.Want.{Want}
 use Rattle.jac_forms.specs.declared.fault.Want.TheVariants as wants
 use Rattle.jac_forms.specs.declared.fault.What.TheVariants as whats
-use Rattle.jac_forms.specs.Names.{count, is_word, name_in_tree, named}
-use Rattle.jac_forms.specs.Expressions.{number_or_name, atom_expression, binder, binder_in_tree, binders_in_trees, some_binders, binders_in_tree, has_few, SortKey, sort_key, key_of, rising, falling, sorting_in_trees, order_in_tree, question, question_if, counted, summed, asked, first_of, none_in_trees, Operands, form_of, expression_of_form, expression_in_tree, expression_in_list, one_in_trees, two_in_trees, pick_in_trees, get_in_trees, expressions_in_trees, query_in_trees, sum_in_trees, question_in_tree, operands_of}
+use Rattle.jac_forms.specs.Names.{name_in_tree, name_read}
+use Rattle.jac_forms.specs.Expressions.{number_or_name, atom_expression, binder, binder_in_tree, binders_in_trees, some_binders, binders_in_tree, has_few, SortKey, sort_key, key_of_sort, rising, falling, sorting_in_trees, order_in_tree, question, question_if, count_expression, sum_expression, any_expression, first_expression, none_in_trees, Operands, form_of, expression_of_form, expression_in_tree, expression_in_list, one_in_trees, two_in_trees, pick_in_trees, get_in_trees, expressions_in_trees, query_in_trees, sum_in_trees, question_in_tree, operands_of}
 use Rattle.jac_forms.specs.declared.words.Form.{Form}
 use Rattle.jac_forms.specs.declared.words.Form.TheVariants as forms
 use Rattle.jac_forms.proofs.Chains.{IfGot, chained, mapped, weaker, where_true, where_false, either, within}
 
-pub named-written : (want : Want) (at : List ℕ) (a : List ℕ) → IfGot (named want at a) IsName
+pub named-written : (want : Want) (at : List ℕ) (a : List ℕ) → IfGot (name_read want at a) IsName
 named-written want at a = where_true IsName (is_name a) (got a) (faults.Form at want) (λ e. e)
 
 pub name-written : (at : List ℕ) (t : PlainTree) → IfGot (name_in_tree at t) IsName
@@ -66,16 +66,16 @@ query_binders-written most at (PlainTree.list ts) = some-written most at ts
 abbrev IsKey : SortKey → Type 0
 IsKey key = IsName key.binder × IsName key.field
 
-key-written : (at : List ℕ) (x f : PlainTree) → IfGot (key_of at x f) IsKey
+key-written : (at : List ℕ) (x f : PlainTree) → IfGot (key_of_sort at x f) IsKey
 key-written at x f =
     chained IsName IsKey (λ name. read_map (sort_key name) (name_in_tree (child at 2) f)) (name_in_tree (child at 1) x) (name-written (child at 1) x) (λ name h.
     mapped IsName IsKey (sort_key name) (name_in_tree (child at 2) f) (name-written (child at 2) f) (λ field k. (h, k)))
 
 sorting-written : (at : List ℕ) (ts : PlainTrees) → IfGot (sorting_in_trees at ts) IsWrittenOrder
 sorting-written at (PlainTrees.more w (PlainTrees.more x (PlainTrees.more f PlainTrees.none))) =
-    either IsWrittenOrder (is_word (codes "up") w) (read_map rising (key_of at x f)) _
-    (mapped IsKey IsWrittenOrder rising (key_of at x f) (key-written at x f) (λ key h. h))
-    (where_true IsWrittenOrder (is_word (codes "down") w) (read_map falling (key_of at x f)) (faults.Form at wants.Order) (λ _. mapped IsKey IsWrittenOrder falling (key_of at x f) (key-written at x f) (λ key h. h)))
+    either IsWrittenOrder (is_word (codes "up") w) (read_map rising (key_of_sort at x f)) _
+    (mapped IsKey IsWrittenOrder rising (key_of_sort at x f) (key-written at x f) (λ key h. h))
+    (where_true IsWrittenOrder (is_word (codes "down") w) (read_map falling (key_of_sort at x f)) (faults.Form at wants.Order) (λ _. mapped IsKey IsWrittenOrder falling (key_of_sort at x f) (key-written at x f) (λ key h. h)))
 sorting-written at ts = tt
 
 order-written : (at : List ℕ) (t : PlainTree) → IfGot (order_in_tree at t) IsWrittenOrder
@@ -85,7 +85,7 @@ order-written at (PlainTree.list ts) = sorting-written at ts
 
 number_or_name-written : (at : List ℕ) (a : List ℕ) (o : Option ℤ) → IfGot (number_or_name at a o) IsWrittenExpression
 number_or_name-written at a (Some i) = tt
-number_or_name-written at a None = mapped IsName IsWrittenExpression Expression.name (named wants.Expression at a) (named-written wants.Expression at a) (λ x h. h)
+number_or_name-written at a None = mapped IsName IsWrittenExpression Expression.name (name_read wants.Expression at a) (named-written wants.Expression at a) (λ x h. h)
 
 atom-written : (at : List ℕ) (a : List ℕ) → IfGot (atom_expression at a) IsWrittenExpression
 atom-written at a =
@@ -126,10 +126,10 @@ form-written at (Some forms.Not) operands h = mapped IsWrittenExpression IsWritt
 form-written at (Some forms.Cat) operands h = mapped AreWrittenExpressions IsWrittenExpression Expression.cat operands.parts h.parts (λ x k. k)
 form-written at (Some forms.Str) operands h = mapped IsWrittenExpression IsWrittenExpression Expression.str operands.one h.one (λ x k. k)
 form-written at (Some forms.Pick) operands h = h.pick
-form-written at (Some forms.Count) operands h = mapped (IsWrittenQuestion 1) IsWrittenExpression counted (operands.asked 1) (h.asked 1) (λ x k. k)
+form-written at (Some forms.Count) operands h = mapped (IsWrittenQuestion 1) IsWrittenExpression count_expression (operands.asked 1) (h.asked 1) (λ x k. k)
 form-written at (Some forms.Sum) operands h = h.sum
-form-written at (Some forms.AnyOf) operands h = mapped (IsWrittenQuestion 3) IsWrittenExpression asked (operands.asked 3) (h.asked 3) (λ x k. k)
-form-written at (Some forms.First) operands h = mapped (IsWrittenQuestion 3) IsWrittenExpression first_of (operands.asked 3) (h.asked 3) (λ x k. k)
+form-written at (Some forms.AnyOf) operands h = mapped (IsWrittenQuestion 3) IsWrittenExpression any_expression (operands.asked 3) (h.asked 3) (λ x k. k)
+form-written at (Some forms.First) operands h = mapped (IsWrittenQuestion 3) IsWrittenExpression first_expression (operands.asked 3) (h.asked 3) (λ x k. k)
 
 mutual
   pub expression-written : (at : List ℕ) (t : PlainTree) → IfGot (expression_in_tree at t) IsWrittenExpression
@@ -197,8 +197,8 @@ mutual
 
   sum-written : (at : List ℕ) (ts : PlainTrees) → IfGot (sum_in_trees at ts) IsWrittenExpression
   sum-written at (PlainTrees.more q (PlainTrees.more e PlainTrees.none)) =
-      chained (IsWrittenQuestion 1) IsWrittenExpression (λ asked. read_map (summed asked) (expression_in_tree (child at 2) e)) (question_in_tree 1 (child at 1) q) (from-written 1 (child at 1) q) (λ x h.
-      mapped IsWrittenExpression IsWrittenExpression (summed x) (expression_in_tree (child at 2) e) (expression-written (child at 2) e) (λ y k. (h.0, h.1, h.2, k)))
+      chained (IsWrittenQuestion 1) IsWrittenExpression (λ any_expression. read_map (sum_expression any_expression) (expression_in_tree (child at 2) e)) (question_in_tree 1 (child at 1) q) (from-written 1 (child at 1) q) (λ x h.
+      mapped IsWrittenExpression IsWrittenExpression (sum_expression x) (expression_in_tree (child at 2) e) (expression-written (child at 2) e) (λ y k. (h.0, h.1, h.2, k)))
   sum-written at PlainTrees.none = tt
   sum-written at (PlainTrees.more q PlainTrees.none) = tt
   sum-written at (PlainTrees.more q (PlainTrees.more e (PlainTrees.more d ts))) = tt

@@ -4,14 +4,14 @@ use Rattle.std.specs.Prelude.{codes}
 use Rattle.std.specs.List.{All}
 use Rattle.jac_lang.specs.Syntax.{Statement}
 use Rattle.jac_lang.specs.Written.{IsName, IsWrittenExpression, IsWrittenQuestion, IsWrittenAssigned, IsWrittenStatement, AreWrittenStatements, sites_in, sites}
-use Rattle.jac_tree.specs.Plain.{PlainTree, PlainTrees}
+use Rattle.jac_tree.specs.Plain.{PlainTree, PlainTrees, count}
 use Rattle.jac_forms.specs.Places.{child}
 use Rattle.jac_forms.specs.Reads.{read_map, read_and_then}
 use Rattle.jac_forms.specs.declared.fault.Want.{Want}
 use Rattle.jac_forms.specs.declared.fault.Want.TheVariants as wants
-use Rattle.jac_forms.specs.Names.{count, name_in_tree, tail_of, each_in_trees}
+use Rattle.jac_forms.specs.Names.{name_in_tree, tail_of, each_in_trees}
 use Rattle.jac_forms.specs.Expressions.{expression_in_tree, one_in_trees, question_in_tree}
-use Rattle.jac_forms.specs.Statements.{assigned, assigned_in_tree, set_in_tree, assign_in_trees, update_in_trees, delete_in_trees, missing_in_trees, template_in_trees, single_in_trees, Numbered, Body, next_site, numbered, bind, branch, each, create, before_body, Operands, step_of, statement_of_step, statement_in_tree, statement_in_list, bind_in_trees, branch_in_trees, each_of_query, create_in_trees, body_in_tree, statements_in_trees, operands_of}
+use Rattle.jac_forms.specs.Statements.{assigned_field, assigned_in_tree, set_in_tree, assign_in_trees, update_in_trees, delete_in_trees, missing_in_trees, template_in_trees, single_in_trees, Numbered, Body, next_site, numbered_statement, bind_statement, branch, each, create, before_body, StatementOperands, step_of, statement_of_step, statement_in_tree, statement_in_list, bind_in_trees, branch_in_trees, each_of_query, create_in_trees, body_in_tree, statements_in_trees, statement_operands}
 use Rattle.jac_forms.specs.declared.steps.Single.{Single}
 use Rattle.jac_forms.specs.declared.steps.Single.TheVariants as singles
 use Rattle.jac_forms.specs.declared.steps.Step.{Step}
@@ -22,8 +22,8 @@ use Rattle.jac_forms.proofs.WrittenExpressions.{name-written, expression-written
 
 pub assigned-written : (want : Want) (at : List ℕ) (t : PlainTree) → IfGot (assigned_in_tree want at t) IsWrittenAssigned
 assigned-written want at (PlainTree.list (PlainTrees.more f (PlainTrees.more e PlainTrees.none))) =
-    chained IsName IsWrittenAssigned (λ field. read_map (assigned field) (expression_in_tree (child at 1) e)) (name_in_tree (child at 0) f) (name-written (child at 0) f) (λ field h.
-    mapped IsWrittenExpression IsWrittenAssigned (assigned field) (expression_in_tree (child at 1) e) (expression-written (child at 1) e) (λ value k. (h, k)))
+    chained IsName IsWrittenAssigned (λ field. read_map (assigned_field field) (expression_in_tree (child at 1) e)) (name_in_tree (child at 0) f) (name-written (child at 0) f) (λ field h.
+    mapped IsWrittenExpression IsWrittenAssigned (assigned_field field) (expression_in_tree (child at 1) e) (expression-written (child at 1) e) (λ value k. (h, k)))
 assigned-written want at t = tt
 
 pub all-assigned : (want : Want) (at : List ℕ) (ts : PlainTrees) → IfGot (each_in_trees (assigned_in_tree want) at 1 ts) (λ cells. All IsWrittenAssigned cells × (length cells ≡ count ts))
@@ -83,17 +83,17 @@ abbrev pub AreNumbered : ℕ → Body → Type 0
 AreNumbered n b = AreWrittenStatements b.statements × Spans n b.next (sites b.statements)
 
 -- what stands behind the head, in each way that some statement takes it
-record AreOperands (operands : Operands) : Type 0 where
+record AreOperands (operands : StatementOperands) : Type 0 where
   single : (one : Single) → IfGot (operands.single one) IsPlainStep
   bind : (n : ℕ) → IfGot (operands.bind n) (IsNumbered n)
   branch : (n : ℕ) → IfGot (operands.branch n) (IsNumbered n)
   each : (n : ℕ) → IfGot (operands.each n) (IsNumbered n)
   create : (n : ℕ) → IfGot (operands.create n) (IsNumbered n)
 
-step-written : (at : List ℕ) (step : Option Step) (operands : Operands) (n : ℕ) → AreOperands operands → IfGot (statement_of_step at step operands n) (IsNumbered n)
+step-written : (at : List ℕ) (step : Option Step) (operands : StatementOperands) (n : ℕ) → AreOperands operands → IfGot (statement_of_step at step operands n) (IsNumbered n)
 step-written at None operands n h = tt
 step-written at (Some (steps.Single single)) operands n h =
-    mapped IsPlainStep (IsNumbered n) (numbered n) (operands.single single) (h.single single) (λ s k. (k.0, spans-none n (sites_in s) k.1))
+    mapped IsPlainStep (IsNumbered n) (numbered_statement n) (operands.single single) (h.single single) (λ s k. (k.0, spans-none n (sites_in s) k.1))
 step-written at (Some steps.Let) operands n h = h.bind n
 step-written at (Some steps.If) operands n h = h.branch n
 step-written at (Some steps.For) operands n h = h.each n
@@ -108,7 +108,7 @@ mutual
   list-written : (at : List ℕ) (ts : PlainTrees) (n : ℕ) → IfGot (statement_in_list at ts n) (IsNumbered n)
   list-written at PlainTrees.none n = tt
   list-written at (PlainTrees.more head ts) n =
-      step-written at (step_of head) (operands_of at ts) n (record {
+      step-written at (step_of head) (statement_operands at ts) n (record {
         single = single-written at ts;
         bind = bind-written at ts;
         branch = branch-written at ts;
@@ -118,9 +118,9 @@ mutual
 
   bind-written : (at : List ℕ) (ts : PlainTrees) (n : ℕ) → IfGot (bind_in_trees at ts n) (IsNumbered n)
   bind-written at (PlainTrees.more x (PlainTrees.more e ss)) n =
-      chained IsName (IsNumbered n) (λ name. read_and_then (λ value. read_map (bind name value) (statements_in_trees at 3 ss n)) (expression_in_tree (child at 2) e)) (name_in_tree (child at 1) x) (name-written (child at 1) x) (λ name h.
-      chained IsWrittenExpression (IsNumbered n) (λ value. read_map (bind name value) (statements_in_trees at 3 ss n)) (expression_in_tree (child at 2) e) (expression-written (child at 2) e) (λ value k.
-      mapped (AreNumbered n) (IsNumbered n) (bind name value) (statements_in_trees at 3 ss n) (statements-written at 3 ss n) (λ body l. ((h, k, l.0), l.1))))
+      chained IsName (IsNumbered n) (λ name. read_and_then (λ value. read_map (bind_statement name value) (statements_in_trees at 3 ss n)) (expression_in_tree (child at 2) e)) (name_in_tree (child at 1) x) (name-written (child at 1) x) (λ name h.
+      chained IsWrittenExpression (IsNumbered n) (λ value. read_map (bind_statement name value) (statements_in_trees at 3 ss n)) (expression_in_tree (child at 2) e) (expression-written (child at 2) e) (λ value k.
+      mapped (AreNumbered n) (IsNumbered n) (bind_statement name value) (statements_in_trees at 3 ss n) (statements-written at 3 ss n) (λ body l. ((h, k, l.0), l.1))))
   bind-written at PlainTrees.none n = tt
   bind-written at (PlainTrees.more x PlainTrees.none) n = tt
 

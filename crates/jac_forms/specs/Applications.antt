@@ -7,11 +7,11 @@ use Rattle.jac_lang.specs.declared.field_kinds.KindName.{KindName}
 use Rattle.jac_lang.specs.declared.field_kinds.KindName.TheVariants as kinds
 use Rattle.jac_lang.specs.declared.pages.Verb.{Verb}
 use Rattle.jac_lang.specs.declared.pages.Verb.TheVariants as verbs
-use Rattle.jac_tree.specs.Plain.{PlainTree, PlainTrees}
+use Rattle.jac_tree.specs.Plain.{PlainTree, PlainTrees, count, is_word}
 use Rattle.jac_value.specs.Paths.{is_path}
 use Rattle.jac_forms.specs.Places.{child}
-use Rattle.jac_forms.specs.Reads.{Read, got, wrong, many, read_map, read_and_then, up_to, got_where, behind, value_of}
-use Rattle.jac_forms.specs.Names.{count, is_word, name_in_tree, tail_of, each_in_trees}
+use Rattle.jac_forms.specs.Reads.{Read, got, wrong, many, read_map, read_and_then, up_to, got_where, read_behind, value_of}
+use Rattle.jac_forms.specs.Names.{name_in_tree, tail_of, each_in_trees}
 use Rattle.jac_forms.specs.Expressions.{one_in_trees}
 use Rattle.jac_forms.specs.Statements.{Body, assigned_in_tree, statements_in_trees, creates}
 use Rattle.jac_forms.specs.declared.fault.Want.{Want}
@@ -33,7 +33,7 @@ one_name_in_trees want at ts = wrong want at
 -- a kind: one of those words, or `(ref NAME)`
 abbrev pub kind_in_tree : List ℕ → PlainTree → Read KindName
 kind_in_tree at (PlainTree.atom a) = got_where wants.Kind at (plain_kind_of a)
-kind_in_tree at t = read_map kinds.Ref (behind wants.Kind at (one_name_in_trees wants.Kind at)
+kind_in_tree at t = read_map kinds.Ref (read_behind wants.Kind at (one_name_in_trees wants.Kind at)
     (tail_of (codes "ref") t))
 
 abbrev pub field : List ℕ → KindName → Field
@@ -52,11 +52,11 @@ few_fields at ts = up_to whats.Fields at 32 (count ts) (each_in_trees (field_in_
     1 ts)
 
 abbrev pub fields_in_tree : List ℕ → PlainTree → Read (List Field)
-fields_in_tree at t = behind wants.Fields at (few_fields at) (tail_of (codes "fields") t)
+fields_in_tree at t = read_behind wants.Fields at (few_fields at) (tail_of (codes "fields") t)
 
 -- `(params field ..)`
 abbrev pub params_in_tree : List ℕ → PlainTree → Read (List Field)
-params_in_tree at t = behind wants.Params at (each_in_trees (field_in_tree wants.Param) at 1)
+params_in_tree at t = read_behind wants.Params at (each_in_trees (field_in_tree wants.Param) at 1)
     (tail_of (codes "params") t)
 
 -- one or more guards
@@ -66,11 +66,11 @@ some_guards at ts = if nat_le (count ts) 0 then wrong wants.Guard at
 
 -- `(guards (NAME expression)+)`
 abbrev pub guards_in_tree : List ℕ → PlainTree → Read (List Assigned)
-guards_in_tree at t = behind wants.Guard at (some_guards at) (tail_of (codes "guards") t)
+guards_in_tree at t = read_behind wants.Guard at (some_guards at) (tail_of (codes "guards") t)
 
 -- `(policy expression)`
 abbrev pub policy_in_tree : List ℕ → PlainTree → Read Expression
-policy_in_tree at t = behind wants.Policy at (one_in_trees wants.Policy at)
+policy_in_tree at t = read_behind wants.Policy at (one_in_trees wants.Policy at)
     (tail_of (codes "policy") t)
 
 -- what a group guards: fields, each with its public value, or the whole record
@@ -98,7 +98,7 @@ group_in_trees at (PlainTrees.more gs (PlainTrees.more p PlainTrees.none)) =
 group_in_trees at ts = wrong wants.Group at
 
 abbrev pub group_in_tree : List ℕ → PlainTree → Read FieldGroup
-group_in_tree at t = behind wants.Group at (group_in_trees at) (tail_of (codes "group") t)
+group_in_tree at t = read_behind wants.Group at (group_in_trees at) (tail_of (codes "group") t)
 
 abbrev pub entity : List ℕ → Bool → List Field → List FieldGroup → Entity
 entity name nested fields groups = record {
@@ -125,7 +125,7 @@ entity_in_trees at (PlainTrees.more x (PlainTrees.more n ts)) =
 entity_in_trees at ts = wrong wants.Item at
 
 abbrev pub entity_in_tree : List ℕ → PlainTree → Read Entity
-entity_in_tree at t = behind wants.Item at (entity_in_trees at) (tail_of (codes "model") t)
+entity_in_tree at t = read_behind wants.Item at (entity_in_trees at) (tail_of (codes "model") t)
 
 -- `get` or `post`
 abbrev pub method_in_tree : List ℕ → PlainTree → Read Verb
@@ -138,8 +138,8 @@ path_in_tree at (PlainTree.text x) = if is_path x then got x else wrong wants.Pa
 path_in_tree at t = wrong wants.Path at
 
 -- a view of at most 64 sites
-abbrev pub page : List ℕ → Verb → List ℕ → List Field → Body → Read Page
-page at method path params body =
+abbrev pub page_form : List ℕ → Verb → List ℕ → List Field → Body → Read Page
+page_form at method path params body =
     if nat_le body.next 64 then got (record {
       method = method;
       path = path;
@@ -151,13 +151,13 @@ page at method path params body =
 abbrev pub page_in_trees : List ℕ → PlainTrees → Read Page
 page_in_trees at (PlainTrees.more m (PlainTrees.more p (PlainTrees.more ps ss))) =
     read_and_then (λ method. read_and_then
-    (λ path. read_and_then (λ params. read_and_then (page at method path params)
+    (λ path. read_and_then (λ params. read_and_then (page_form at method path params)
     (statements_in_trees at 4 ss 0)) (params_in_tree (child at 3) ps))
     (path_in_tree (child at 2) p)) (method_in_tree (child at 1) m)
 page_in_trees at ts = wrong wants.Item at
 
 abbrev pub page_in_tree : List ℕ → PlainTree → Read Page
-page_in_tree at t = behind wants.Item at (page_in_trees at) (tail_of (codes "view") t)
+page_in_tree at t = read_behind wants.Item at (page_in_trees at) (tail_of (codes "view") t)
 
 -- a list with this word as its head
 abbrev pub is_headed : List ℕ → PlainTree → Bool
@@ -165,9 +165,10 @@ is_headed word (PlainTree.list (PlainTrees.more w ts)) = is_word word w
 is_headed word t = false
 
 -- how many of the trees are such lists
-abbrev pub headed : List ℕ → PlainTrees → ℕ
-headed word PlainTrees.none = 0
-headed word (PlainTrees.more t ts) = if is_headed word t then headed word ts + 1 else headed word ts
+abbrev pub headed_count : List ℕ → PlainTrees → ℕ
+headed_count word PlainTrees.none = 0
+headed_count word (PlainTrees.more t ts) = if is_headed word t then headed_count word ts + 1
+    else headed_count word ts
 
 -- the models and views of an application
 pub record Items : Type 0 where
@@ -194,7 +195,7 @@ application viewer is = record { viewer = viewer; models = is.models; views = is
 
 -- `(viewer NAME)`
 abbrev pub viewer_in_tree : List ℕ → PlainTree → Read (List ℕ)
-viewer_in_tree at t = behind wants.Item at (one_name_in_trees wants.Item at)
+viewer_in_tree at t = read_behind wants.Item at (one_name_in_trees wants.Item at)
     (tail_of (codes "viewer") t)
 
 abbrev pub with_viewer : List ℕ → PlainTrees → List ℕ → Read Application
@@ -211,12 +212,13 @@ application_of_items at (PlainTrees.more t ts) =
 
 -- at most 64 models
 abbrev pub application_in_trees : List ℕ → PlainTrees → Read Application
-application_in_trees at ts = up_to whats.Models at 64 (headed (codes "model") ts)
+application_in_trees at ts = up_to whats.Models at 64 (headed_count (codes "model") ts)
     (application_of_items at ts)
 
 -- `(app (viewer NAME)? model .. view ..)`
 abbrev pub application_in_tree : List ℕ → PlainTree → Read Application
-application_in_tree at t = behind wants.App at (application_in_trees at) (tail_of (codes "app") t)
+application_in_tree at t = read_behind wants.App at (application_in_trees at) (tail_of
+    (codes "app") t)
 
 -- the application that a tree writes
 abbrev pub application_of_tree : PlainTree → Option Application

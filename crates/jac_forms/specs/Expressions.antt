@@ -7,11 +7,11 @@ use Rattle.jac_lang.specs.declared.expressions.Op.TheVariants as ops
 use Rattle.jac_lang.specs.declared.queries.Binder.{Binder}
 use Rattle.jac_lang.specs.declared.queries.Order.{Order}
 use Rattle.jac_lang.specs.declared.queries.Order.TheVariants as orders
-use Rattle.jac_tree.specs.Plain.{PlainTree, PlainTrees}
+use Rattle.jac_tree.specs.Plain.{PlainTree, PlainTrees, count, is_word}
 use Rattle.jac_value.specs.Values.{integer_of}
 use Rattle.jac_forms.specs.Places.{child}
 use Rattle.jac_forms.specs.Reads.{Read, got, wrong, read_map, read_and_then, up_to, value_of}
-use Rattle.jac_forms.specs.Names.{count, is_word, name_in_tree, named}
+use Rattle.jac_forms.specs.Names.{name_in_tree, name_read}
 use Rattle.jac_forms.specs.declared.fault.Want.{Want}
 use Rattle.jac_forms.specs.declared.fault.Want.TheVariants as wants
 use Rattle.jac_forms.specs.declared.fault.What.TheVariants as whats
@@ -66,7 +66,7 @@ form_of t = None
 -- an atom as an expression: a reserved word, an integer or a name
 abbrev pub number_or_name : List ℕ → List ℕ → Option ℤ → Read Expression
 number_or_name at a (Some i) = got (Expression.int i)
-number_or_name at a None = read_map Expression.name (named wants.Expression at a)
+number_or_name at a None = read_map Expression.name (name_read wants.Expression at a)
 
 abbrev pub atom_expression : List ℕ → List ℕ → Read Expression
 atom_expression at a =
@@ -120,8 +120,8 @@ pub record SortKey : Type 0 where
 abbrev pub sort_key : List ℕ → List ℕ → SortKey
 sort_key x f = record { binder = x; field = f }
 
-abbrev pub key_of : List ℕ → PlainTree → PlainTree → Read SortKey
-key_of at x f = read_and_then (λ name. read_map (sort_key name) (name_in_tree (child at 2) f))
+abbrev pub key_of_sort : List ℕ → PlainTree → PlainTree → Read SortKey
+key_of_sort at x f = read_and_then (λ name. read_map (sort_key name) (name_in_tree (child at 2) f))
     (name_in_tree (child at 1) x)
 
 abbrev pub rising : SortKey → Order
@@ -133,8 +133,9 @@ falling key = orders.Down key.binder key.field
 -- `(up NAME NAME)` or `(down NAME NAME)`
 abbrev pub sorting_in_trees : List ℕ → PlainTrees → Read Order
 sorting_in_trees at (PlainTrees.more w (PlainTrees.more x (PlainTrees.more f PlainTrees.none))) =
-    if is_word (codes "up") w then read_map rising (key_of at x f) else if is_word (codes "down") w
-    then read_map falling (key_of at x f) else wrong wants.Order at
+    if is_word (codes "up") w then read_map rising (key_of_sort at x f) else if is_word
+    (codes "down") w
+    then read_map falling (key_of_sort at x f) else wrong wants.Order at
 sorting_in_trees at ts = wrong wants.Order at
 
 -- `key`, or a field of a binder, rising or falling
@@ -153,17 +154,17 @@ question_if bs c o =
     read_and_then (λ binders. read_and_then (λ cond. read_map (question binders cond) o) c) bs
 
 -- the forms with a query
-abbrev pub counted : Question → Expression
-counted q = Expression.count q.binders q.cond q.order
+abbrev pub count_expression : Question → Expression
+count_expression q = Expression.count q.binders q.cond q.order
 
-abbrev pub summed : Question → Expression → Expression
-summed q e = Expression.sum q.binders q.cond q.order e
+abbrev pub sum_expression : Question → Expression → Expression
+sum_expression q e = Expression.sum q.binders q.cond q.order e
 
-abbrev pub asked : Question → Expression
-asked q = Expression.any_of q.binders q.cond q.order
+abbrev pub any_expression : Question → Expression
+any_expression q = Expression.any_of q.binders q.cond q.order
 
-abbrev pub first_of : Question → Expression
-first_of q = Expression.first q.binders q.cond q.order
+abbrev pub first_expression : Question → Expression
+first_expression q = Expression.first q.binders q.cond q.order
 
 -- `(none NAME)`
 abbrev pub none_in_trees : List ℕ → PlainTrees → Read Expression
@@ -193,10 +194,10 @@ expression_of_form at (Some forms.Not) operands = read_map Expression.negated op
 expression_of_form at (Some forms.Cat) operands = read_map Expression.cat operands.parts
 expression_of_form at (Some forms.Str) operands = read_map Expression.str operands.one
 expression_of_form at (Some forms.Pick) operands = operands.pick
-expression_of_form at (Some forms.Count) operands = read_map counted (operands.asked 1)
+expression_of_form at (Some forms.Count) operands = read_map count_expression (operands.asked 1)
 expression_of_form at (Some forms.Sum) operands = operands.sum
-expression_of_form at (Some forms.AnyOf) operands = read_map asked (operands.asked 3)
-expression_of_form at (Some forms.First) operands = read_map first_of (operands.asked 3)
+expression_of_form at (Some forms.AnyOf) operands = read_map any_expression (operands.asked 3)
+expression_of_form at (Some forms.First) operands = read_map first_expression (operands.asked 3)
 
 -- Each definition takes the path of its tree; one of operands takes the path of the list that they
 -- stand in, where they are the children from 1 on.
@@ -265,7 +266,8 @@ abbrev mutual
   -- a query of one binder and an expression
   pub sum_in_trees : List ℕ → PlainTrees → Read Expression
   sum_in_trees at (PlainTrees.more q (PlainTrees.more e PlainTrees.none)) =
-      read_and_then (λ asked. read_map (summed asked) (expression_in_tree (child at 2) e))
+      read_and_then (λ any_expression. read_map (sum_expression any_expression) (expression_in_tree
+      (child at 2) e))
       (question_in_tree 1 (child at 1) q)
   sum_in_trees at ts = wrong wants.Expression at
 

@@ -1,23 +1,12 @@
 -- Words, names, and lists of trees.
 use Rattle.std.specs.Prelude.{ℕ, ◌+◌, Bool, false, if◌then◌else◌, Option, Some, None, List, [], ◌∷◌}
 use Rattle.std.specs.Str.{bytes_eq}
-use Rattle.jac_tree.specs.Plain.{PlainTree, PlainTrees}
+use Rattle.jac_tree.specs.Plain.{PlainTree, PlainTrees, is_word}
 use Rattle.jac_value.specs.Names.{is_name}
 use Rattle.jac_forms.specs.Places.{child}
 use Rattle.jac_forms.specs.Reads.{Read, got, wrong, read_map, read_and_then, value_of}
 use Rattle.jac_forms.specs.declared.fault.Want.{Want}
 use Rattle.jac_forms.specs.declared.fault.Want.TheVariants as wants
-
--- how many trees stand in a list
-abbrev pub count : PlainTrees → ℕ
-count PlainTrees.none = 0
-count (PlainTrees.more t ts) = count ts + 1
-
--- the tree is this word, as an atom
-abbrev pub is_word : List ℕ → PlainTree → Bool
-is_word word (PlainTree.atom a) = bytes_eq a word
-is_word word (PlainTree.text x) = false
-is_word word (PlainTree.list ts) = false
 
 -- the trees of a list behind its head, where that is this word
 abbrev pub tail_of : List ℕ → PlainTree → Option PlainTrees
@@ -35,12 +24,12 @@ each_in_trees read at k (PlainTrees.more t ts) =
     (read (child at k) t)
 
 -- the bytes, where they are a name
-abbrev pub named : Want → List ℕ → List ℕ → Read (List ℕ)
-named want at a = if is_name a then got a else wrong want at
+abbrev pub name_read : Want → List ℕ → List ℕ → Read (List ℕ)
+name_read want at a = if is_name a then got a else wrong want at
 
 -- the name that a tree is
 abbrev pub name_in_tree : List ℕ → PlainTree → Read (List ℕ)
-name_in_tree at (PlainTree.atom a) = named wants.Name at a
+name_in_tree at (PlainTree.atom a) = name_read wants.Name at a
 name_in_tree at t = wrong wants.Name at
 
 -- the same, where no fault is asked

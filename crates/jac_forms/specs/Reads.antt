@@ -36,10 +36,10 @@ got_where want at (Some x) = got x
 got_where want at None = wrong want at
 
 -- what is read of the trees behind a head, where it is there
-abbrev pub behind : {A : Type 0} → Want → List ℕ → (PlainTrees → Read A) → Option PlainTrees
+abbrev pub read_behind : {A : Type 0} → Want → List ℕ → (PlainTrees → Read A) → Option PlainTrees
     → Read A
-behind want at read (Some ts) = read ts
-behind want at read None = wrong want at
+read_behind want at read (Some ts) = read ts
+read_behind want at read None = wrong want at
 
 -- the value, where there is no fault
 abbrev pub value_of : {A : Type 0} → Read A → Option A

@@ -4,7 +4,7 @@ use Rattle.std.specs.Str.{bytes_eq}
 use Rattle.jac_lang.specs.Syntax.{Expression, Question, Assigned, Statement, Statements}
 use Rattle.jac_tree.specs.Plain.{PlainTree, PlainTrees}
 use Rattle.jac_forms.specs.Places.{child}
-use Rattle.jac_forms.specs.Reads.{Read, got, wrong, read_map, read_and_then, behind}
+use Rattle.jac_forms.specs.Reads.{Read, got, wrong, read_map, read_and_then, read_behind}
 use Rattle.jac_forms.specs.Names.{name_in_tree, tail_of, each_in_trees}
 use Rattle.jac_forms.specs.Expressions.{expression_in_tree, one_in_trees, question_in_tree}
 use Rattle.jac_forms.specs.declared.fault.Want.{Want}
@@ -46,19 +46,19 @@ abbrev pub step_of : PlainTree → Option Step
 step_of (PlainTree.atom a) = step_of_word a
 step_of t = None
 
-abbrev pub assigned : List ℕ → Expression → Assigned
-assigned field value = record { field = field; value = value }
+abbrev pub assigned_field : List ℕ → Expression → Assigned
+assigned_field field value = record { field = field; value = value }
 
 -- `(NAME expression)`; what is none is a fault of `want`
 abbrev pub assigned_in_tree : Want → List ℕ → PlainTree → Read Assigned
 assigned_in_tree want at (PlainTree.list (PlainTrees.more f (PlainTrees.more e PlainTrees.none))) =
-    read_and_then (λ field. read_map (assigned field) (expression_in_tree (child at 1) e))
+    read_and_then (λ field. read_map (assigned_field field) (expression_in_tree (child at 1) e))
     (name_in_tree (child at 0) f)
 assigned_in_tree want at t = wrong want at
 
 -- `(set (NAME expression) ..)`
 abbrev pub set_in_tree : List ℕ → PlainTree → Read (List Assigned)
-set_in_tree at t = behind wants.Set at (each_in_trees (assigned_in_tree wants.Cell) at 1)
+set_in_tree at t = read_behind wants.Set at (each_in_trees (assigned_in_tree wants.Cell) at 1)
     (tail_of (codes "set") t)
 
 -- a name and an expression
@@ -118,29 +118,29 @@ pub record Body : Type 0 where
 abbrev pub next_site : ℕ → ℕ
 next_site n = min (n + 1) 65
 
-abbrev pub numbered : ℕ → Statement → Numbered
-numbered n s = record { statement = s; next = n }
+abbrev pub numbered_statement : ℕ → Statement → Numbered
+numbered_statement n s = record { statement = s; next = n }
 
 abbrev pub body : ℕ → Statements → Body
 body n ss = record { statements = ss; next = n }
 
-abbrev pub bind : List ℕ → Expression → Body → Numbered
-bind x e b = numbered b.next (Statement.bind x e b.statements)
+abbrev pub bind_statement : List ℕ → Expression → Body → Numbered
+bind_statement x e b = numbered_statement b.next (Statement.bind x e b.statements)
 
 abbrev pub branch : Expression → Body → Body → Numbered
-branch c a b = numbered b.next (Statement.branch c a.statements b.statements)
+branch c a b = numbered_statement b.next (Statement.branch c a.statements b.statements)
 
 abbrev pub each : Question → Body → Numbered
-each q b = numbered b.next (Statement.each q b.statements)
+each q b = numbered_statement b.next (Statement.each q b.statements)
 
 abbrev pub create : List ℕ → List ℕ → ℕ → List Assigned → Body → Numbered
-create x m n cells b = numbered b.next (Statement.create x m n cells b.statements)
+create x m n cells b = numbered_statement b.next (Statement.create x m n cells b.statements)
 
 abbrev pub before_body : Statement → Body → Body
 before_body s b = body b.next (Statements.more s b.statements)
 
 -- what stands behind the head, read in each way that some statement takes it
-pub record Operands : Type 0 where
+pub record StatementOperands : Type 0 where
   pub single : Single → Read Statement
   pub bind : ℕ → Read Numbered
   pub branch : ℕ → Read Numbered
@@ -148,9 +148,9 @@ pub record Operands : Type 0 where
   pub create : ℕ → Read Numbered
 
 -- a statement whose first site would be n
-abbrev pub statement_of_step : List ℕ → Option Step → Operands → ℕ → Read Numbered
+abbrev pub statement_of_step : List ℕ → Option Step → StatementOperands → ℕ → Read Numbered
 statement_of_step at None operands n = wrong wants.Statement at
-statement_of_step at (Some (steps.Single single)) operands n = read_map (numbered n)
+statement_of_step at (Some (steps.Single single)) operands n = read_map (numbered_statement n)
     (operands.single single)
 statement_of_step at (Some steps.Let) operands n = operands.bind n
 statement_of_step at (Some steps.If) operands n = operands.branch n
@@ -179,7 +179,7 @@ abbrev mutual
   -- a name, an expression and statements
   pub bind_in_trees : List ℕ → PlainTrees → ℕ → Read Numbered
   bind_in_trees at (PlainTrees.more x (PlainTrees.more e ss)) n =
-      read_and_then (λ name. read_and_then (λ value. read_map (bind name value)
+      read_and_then (λ name. read_and_then (λ value. read_map (bind_statement name value)
       (statements_in_trees at 3 ss n)) (expression_in_tree (child at 2) e))
       (name_in_tree (child at 1) x)
   bind_in_trees at ts n = wrong wants.Statement at
@@ -221,8 +221,8 @@ abbrev mutual
       read_and_then (λ first. read_map (before_body first.statement) (statements_in_trees at (k + 1)
       ts first.next)) (statement_in_tree (child at k) t n)
 
-abbrev pub operands_of : List ℕ → PlainTrees → Operands
-operands_of at ts = record {
+abbrev pub statement_operands : List ℕ → PlainTrees → StatementOperands
+statement_operands at ts = record {
   single = single_in_trees at ts;
   bind = bind_in_trees at ts;
   branch = branch_in_trees at ts;

@@ -2,7 +2,7 @@ ghost use Rattle.std.specs.Prelude.{◌≡◌, ◌<◌, ◌≤◌, ◌^◌, [], 
 ghost use Rattle.jac_lang.specs.Mirror.{entities_of, pages_of, application_of};
 ghost use Rattle.jac_lang.specs.Written.{IsWritten};
 ghost use Rattle.jac_tree.specs.Mirror.{plain, plain_all};
-ghost use Rattle.jac_forms.specs.Applications.{application_in_tree, application_in_trees, application_of_items, application_of_tree, headed, is_headed, items, items_in_trees, page_in_tree, viewer_in_tree};
+ghost use Rattle.jac_forms.specs.Applications.{application_in_tree, application_in_trees, application_of_items, application_of_tree, headed_count, is_headed, items, items_in_trees, page_in_tree, viewer_in_tree};
 ghost use Rattle.jac_forms.specs.Names.{each_in_trees};
 ghost use Rattle.jac_forms.specs.Places.{path_of};
 ghost use Rattle.jac_forms.specs.Reads.{got, refused};
@@ -64,7 +64,7 @@ fn read_app(alloc: Global, place: &Place<'_>, trees: &Trees) -> Result<App, Form
 
 // The models are the lists whose head is `model`, wherever they stand.
 fn count_models(trees: &Trees) -> Result<u64, Memory>
-    ensures { IfOk result (λ number. number ≡ headed (codes "model") (plain_all trees.now)) }
+    ensures { IfOk result (λ number. number ≡ headed_count (codes "model") (plain_all trees.now)) }
 {
     let mut number: u64 = 0;
     let mut left = trees;
@@ -87,7 +87,7 @@ fn is_headed(tree: &Tree, word: &[u8]) -> bool
 }
 
 fn read_viewer_and_items(alloc: Global, place: &Place<'_>, trees: &Trees) -> Result<App, FormFault>
-    requires { headed (codes "model") (plain_all trees.now) ≤ 64 }
+    requires { headed_count (codes "model") (plain_all trees.now) ≤ 64 }
     ensures value { IfOk result (λ a. application_of_items (path_of place.now) (plain_all trees.now)
         ≡ got (application_of a)) }
     ensures few { IfOk result (λ a. length a.views < 2 ^ 32) }
@@ -135,7 +135,7 @@ fn read_items(
     first: u32,
     trees: &Trees,
 ) -> Result<Items, FormFault>
-    requires { headed (codes "model") (plain_all trees.now) ≤ 64 }
+    requires { headed_count (codes "model") (plain_all trees.now) ≤ 64 }
     ensures value { IfOk result (λ is. items_in_trees (path_of place.now) first
         (plain_all trees.now) ≡ got (items (entities_of is.models) (pages_of is.views))) }
     ensures few { IfOk result (λ is. length is.views < 2 ^ 32) }

@@ -1,10 +1,11 @@
 ghost use Rattle.std.specs.Prelude.{◌≡◌, ◌≤◌, IfOk, IfErr, IsTrue, length};
 ghost use Rattle.jac_tree.specs.Mirror.{plain, plain_all};
 ghost use Rattle.jac_forms.specs.Applications.{few_fields, field_in_tree, fields_in_tree, kind_in_tree, one_name_in_trees, params_in_tree, plain_kind_of};
-ghost use Rattle.jac_forms.specs.Names.{count, each_in_trees};
+ghost use Rattle.jac_forms.specs.Names.{each_in_trees};
 ghost use Rattle.jac_forms.specs.Places.{path_of};
 ghost use Rattle.jac_forms.specs.Reads.{got, refused};
 ghost use Rattle.jac_forms.specs.Refusal.{refuses};
+ghost use Rattle.jac_tree.specs.Plain.{count};
 
 use crate::names::{count, is_up_to, next_number, read_name};
 use crate::place::Place;

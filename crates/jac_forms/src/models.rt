@@ -2,10 +2,11 @@ ghost use Rattle.std.specs.Prelude.{◌≡◌, IfOk, IfErr, IsTrue, nat_le};
 ghost use Rattle.jac_lang.specs.Mirror.{assigned_of, expression_of, field_group_of, groups_of, entity_of};
 ghost use Rattle.jac_tree.specs.Mirror.{plain, plain_all};
 ghost use Rattle.jac_forms.specs.Applications.{entity_behind, entity_in_tree, entity_in_trees, group_in_tree, group_in_trees, guarding, guarding_in_tree, guards_in_tree, policy_in_tree, some_guards};
-ghost use Rattle.jac_forms.specs.Names.{count, each_in_trees};
+ghost use Rattle.jac_forms.specs.Names.{each_in_trees};
 ghost use Rattle.jac_forms.specs.Places.{path_of};
 ghost use Rattle.jac_forms.specs.Reads.{got, refused};
 ghost use Rattle.jac_forms.specs.Refusal.{refuses};
+ghost use Rattle.jac_tree.specs.Plain.{count};
 
 use crate::assigned::read_assigned;
 use crate::expressions::read_only;

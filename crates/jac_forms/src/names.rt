@@ -1,9 +1,10 @@
 ghost use Rattle.std.specs.Prelude.{◌≡◌, ◌+◌, ◌<◌, ◌^◌, IfOk, IfErr, IsTrue, nat_le};
 ghost use Rattle.jac_tree.specs.Mirror.{plain, plain_all};
-ghost use Rattle.jac_forms.specs.Names.{count, name_in_tree};
+ghost use Rattle.jac_forms.specs.Names.{name_in_tree};
 ghost use Rattle.jac_forms.specs.Places.{path_of};
 ghost use Rattle.jac_forms.specs.Reads.{got, refused};
 ghost use Rattle.jac_forms.specs.Refusal.{refuses};
+ghost use Rattle.jac_tree.specs.Plain.{count};
 
 use crate::place::Place;
 use crate::{FormFault, Want};

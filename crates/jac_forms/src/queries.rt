@@ -1,7 +1,7 @@
 ghost use Rattle.std.specs.Prelude.{◌≡◌, IfOk, IfErr, IsTrue};
 ghost use Rattle.jac_lang.specs.Mirror.{binders_of};
 ghost use Rattle.jac_tree.specs.Mirror.{plain, plain_all};
-ghost use Rattle.jac_forms.specs.Expressions.{binder_in_tree, binders_in_tree, binders_in_trees, has_few, key_of, most_binders, order_in_tree, some_binders, sort_key, sorting_in_trees};
+ghost use Rattle.jac_forms.specs.Expressions.{binder_in_tree, binders_in_tree, binders_in_trees, has_few, key_of_sort, most_binders, order_in_tree, some_binders, sort_key, sorting_in_trees};
 ghost use Rattle.jac_forms.specs.Places.{path_of};
 ghost use Rattle.jac_forms.specs.Reads.{got, refused};
 ghost use Rattle.jac_forms.specs.Refusal.{refuses};
@@ -180,10 +180,10 @@ fn read_key(
     binder: &Tree,
     field: &Tree,
 ) -> Result<(Txt, Txt), FormFault>
-    ensures value { IfOk result (λ key. key_of (path_of place.now) (plain binder.now)
+    ensures value { IfOk result (λ key. key_of_sort (path_of place.now) (plain binder.now)
         (plain field.now) ≡ got (sort_key key.0 key.1)) }
     ensures fault { IfErr result (λ f. IsTrue (refuses f)
-        → key_of (path_of place.now) (plain binder.now) (plain field.now) ≡ refused f) }
+        → key_of_sort (path_of place.now) (plain binder.now) (plain field.now) ≡ refused f) }
 {
     let binder = read_name(alloc, &place.child(1), binder)?;
     let field = read_name(alloc, &place.child(2), field)?;

@@ -1,7 +1,7 @@
 ghost use Rattle.std.specs.Prelude.{◌≡◌, Some, IfOk, IfErr, IsTrue};
 ghost use Rattle.jac_lang.specs.Mirror.{statement_of, statements_of};
 ghost use Rattle.jac_tree.specs.Mirror.{plain, plain_all};
-ghost use Rattle.jac_forms.specs.Statements.{assign_in_trees, bind_in_trees, body, body_in_tree, branch_in_trees, create_in_trees, delete_in_trees, each_of_query, missing_in_trees, next_site, numbered, operands_of, single_in_trees, statement_in_list, statement_in_tree, statement_of_step, statements_in_trees, template_in_trees, update_in_trees};
+ghost use Rattle.jac_forms.specs.Statements.{assign_in_trees, bind_in_trees, body, body_in_tree, branch_in_trees, create_in_trees, delete_in_trees, each_of_query, missing_in_trees, next_site, numbered_statement, statement_operands, single_in_trees, statement_in_list, statement_in_tree, statement_of_step, statements_in_trees, template_in_trees, update_in_trees};
 ghost use Rattle.jac_forms.specs.Places.{path_of};
 ghost use Rattle.jac_forms.specs.Reads.{got, refused};
 ghost use Rattle.jac_forms.specs.Refusal.{refuses};
@@ -53,7 +53,7 @@ fn read_stmt(
     tree: &Tree,
 ) -> Result<Stmt, FormFault>
     ensures value { IfOk result (λ s. statement_in_tree (path_of place.now) (plain tree.now)
-        sites.old ≡ got (numbered sites.new (statement_of s))) }
+        sites.old ≡ got (numbered_statement sites.new (statement_of s))) }
     ensures fault { IfErr result (λ f. IsTrue (refuses f) → statement_in_tree (path_of place.now)
         (plain tree.now) sites.old ≡ refused f) }
 {
@@ -75,7 +75,7 @@ fn read_list(
     trees: &Trees,
 ) -> Result<Stmt, FormFault>
     ensures value { IfOk result (λ s. statement_in_list (path_of place.now) (plain_all trees.now)
-        sites.old ≡ got (numbered sites.new (statement_of s))) }
+        sites.old ≡ got (numbered_statement sites.new (statement_of s))) }
     ensures fault { IfErr result (λ f. IsTrue (refuses f) → statement_in_list (path_of place.now)
         (plain_all trees.now) sites.old ≡ refused f) }
 {
@@ -100,10 +100,10 @@ fn read_step(
     operands: &Trees,
 ) -> Result<Stmt, FormFault>
     ensures value { IfOk result (λ s. statement_of_step (path_of place.now) (Some step)
-        (operands_of (path_of place.now) (plain_all operands.now)) sites.old
-        ≡ got (numbered sites.new (statement_of s))) }
+        (statement_operands (path_of place.now) (plain_all operands.now)) sites.old
+        ≡ got (numbered_statement sites.new (statement_of s))) }
     ensures fault { IfErr result (λ f. IsTrue (refuses f) → statement_of_step (path_of place.now)
-        (Some step) (operands_of (path_of place.now) (plain_all operands.now)) sites.old
+        (Some step) (statement_operands (path_of place.now) (plain_all operands.now)) sites.old
         ≡ refused f) }
 {
     match step {
@@ -138,7 +138,7 @@ fn read_let(
     operands: &Trees,
 ) -> Result<Stmt, FormFault>
     ensures value { IfOk result (λ s. bind_in_trees (path_of place.now) (plain_all operands.now)
-        sites.old ≡ got (numbered sites.new (statement_of s))) }
+        sites.old ≡ got (numbered_statement sites.new (statement_of s))) }
     ensures fault { IfErr result (λ f. IsTrue (refuses f) → bind_in_trees (path_of place.now)
         (plain_all operands.now) sites.old ≡ refused f) }
 {
@@ -162,7 +162,7 @@ fn read_if(
     operands: &Trees,
 ) -> Result<Stmt, FormFault>
     ensures value { IfOk result (λ s. branch_in_trees (path_of place.now) (plain_all operands.now)
-        sites.old ≡ got (numbered sites.new (statement_of s))) }
+        sites.old ≡ got (numbered_statement sites.new (statement_of s))) }
     ensures fault { IfErr result (λ f. IsTrue (refuses f) → branch_in_trees (path_of place.now)
         (plain_all operands.now) sites.old ≡ refused f) }
 {
@@ -192,7 +192,7 @@ fn read_for(
     operands: &Trees,
 ) -> Result<Stmt, FormFault>
     ensures value { IfOk result (λ s. each_of_query (path_of place.now) (plain_all operands.now)
-        sites.old ≡ got (numbered sites.new (statement_of s))) }
+        sites.old ≡ got (numbered_statement sites.new (statement_of s))) }
     ensures fault { IfErr result (λ f. IsTrue (refuses f) → each_of_query (path_of place.now)
         (plain_all operands.now) sites.old ≡ refused f) }
 {
@@ -212,7 +212,7 @@ fn read_create(
     operands: &Trees,
 ) -> Result<Stmt, FormFault>
     ensures value { IfOk result (λ s. create_in_trees (path_of place.now) (plain_all operands.now)
-        sites.old ≡ got (numbered sites.new (statement_of s))) }
+        sites.old ≡ got (numbered_statement sites.new (statement_of s))) }
     ensures fault { IfErr result (λ f. IsTrue (refuses f) → create_in_trees (path_of place.now)
         (plain_all operands.now) sites.old ≡ refused f) }
 {

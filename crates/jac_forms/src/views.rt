@@ -1,5 +1,5 @@
 ghost use Rattle.std.specs.Prelude.{◌≡◌, IfOk, IfErr, IsTrue};
-ghost use Rattle.jac_lang.specs.Mirror.{page_of};
+ghost use Rattle.jac_lang.specs.Mirror.{page_of_view};
 ghost use Rattle.jac_tree.specs.Mirror.{plain, plain_all};
 ghost use Rattle.jac_forms.specs.Applications.{method_in_tree, page_in_tree, page_in_trees, path_in_tree};
 ghost use Rattle.jac_forms.specs.Places.{path_of};
@@ -19,7 +19,7 @@ use std::alloc::Global;
 
 pub fn read_view(alloc: Global, place: &Place<'_>, tree: &Tree) -> Result<View, FormFault>
     ensures value { IfOk result (λ v. page_in_tree (path_of place.now) (plain tree.now)
-        ≡ got (page_of v)) }
+        ≡ got (page_of_view v)) }
     ensures fault { IfErr result (λ f. IsTrue (refuses f) → page_in_tree (path_of place.now)
         (plain tree.now) ≡ refused f) }
 {
@@ -35,7 +35,7 @@ pub fn read_view(alloc: Global, place: &Place<'_>, tree: &Tree) -> Result<View, 
 // The sites are counted behind the statements, so a fault inside of them comes first.
 fn read_parts(alloc: Global, place: &Place<'_>, parts: &Trees) -> Result<View, FormFault>
     ensures value { IfOk result (λ v. page_in_trees (path_of place.now) (plain_all parts.now)
-        ≡ got (page_of v)) }
+        ≡ got (page_of_view v)) }
     ensures fault { IfErr result (λ f. IsTrue (refuses f) → page_in_trees (path_of place.now)
         (plain_all parts.now) ≡ refused f) }
 {

@@ -2,7 +2,8 @@ ghost use Rattle.std.specs.Prelude.{◌≡◌};
 ghost use Rattle.std.specs.Option.{option_map};
 ghost use Rattle.jac_tree.specs.Mirror.{plain, plain_all};
 ghost use Rattle.jac_forms.specs.Expressions.{asking_of, form_of, form_of_word, op_of, plain_form_of};
-ghost use Rattle.jac_forms.specs.Names.{is_word, tail_of};
+ghost use Rattle.jac_forms.specs.Names.{tail_of};
+ghost use Rattle.jac_tree.specs.Plain.{is_word};
 
 use jac_lang::Op;
 use jac_tree::{Tree, Trees};

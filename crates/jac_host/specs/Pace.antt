@@ -1,17 +1,17 @@
 -- How long the host waits for what a connection brings.
 use Rattle.std.specs.Prelude.{ℕ}
 use Rattle.std.specs.declared.time.Instant.{Instant}
-use Rattle.jac_host.specs.declared.framing.Spot.{Spot}
-use Rattle.jac_host.specs.declared.framing.Spot.TheVariants.{Between, Name, Length, Line, Body}
+use Rattle.jac_host.specs.declared.frames.Spot.{Spot}
+use Rattle.jac_host.specs.declared.frames.Spot.TheVariants.{Between, Name, Length, Line, Body}
 use Rattle.jac_host.specs.declared.pace.Pace.{Pace}
 use Rattle.jac_host.specs.declared.pace.Phase.{Phase}
 use Rattle.jac_host.specs.declared.pace.Phase.TheVariants.{Fresh, Kept, Within}
 
 -- for how many nanoseconds: a tenth of a second, a fiftieth, and three seconds
-abbrev pub allowed : Phase → ℕ
-allowed Fresh = 100_000_000
-allowed Kept = 20_000_000
-allowed Within = 3_000_000_000
+abbrev pub time_allowed : Phase → ℕ
+time_allowed Fresh = 100_000_000
+time_allowed Kept = 20_000_000
+time_allowed Within = 3_000_000_000
 
 -- when the request began whose bytes were taken now: earlier, where some of it had come before
 abbrev pub begun_in : Phase → Instant → Instant → Instant
@@ -19,8 +19,8 @@ begun_in Fresh since now = now
 begun_in Kept since now = now
 begun_in Within since now = since
 
-abbrev pub begun_by : Pace → Instant → Instant
-begun_by pace now = begun_in pace.phase pace.since now
+abbrev pub phase_began : Pace → Instant → Instant
+phase_began pace now = begun_in pace.phase pace.since now
 
 -- what is waited for behind a reply, by where the bytes stand
 abbrev pub phase_behind : Spot → Phase

@@ -4,7 +4,7 @@
 
 mod faults;
 mod files;
-mod framing;
+mod frames;
 mod net;
 mod pace;
 #[cfg(test)]

@@ -3,9 +3,9 @@
 ghost use Rattle.std.specs.Prelude.{◌≡◌, ◌-◌};
 ghost use Rattle.std.specs.Time.{instant_nanos};
 ghost use Rattle.std.specs.Duration.{as_nanos};
-ghost use Rattle.jac_host.specs.Pace.{allowed, begun_by, phase_behind};
+ghost use Rattle.jac_host.specs.Pace.{time_allowed, phase_began, phase_behind};
 
-use crate::framing::{Spot, spot_behind};
+use crate::frames::{Spot, spot_behind};
 use std::time::{Duration, Instant};
 
 // How long a new connection may bring nothing. A browser opens some ahead, and sends its request a
@@ -54,7 +54,7 @@ impl Pace {
     /// Bytes were taken: the first of a request begin its time, and no later ones.
     pub(crate) fn took(&mut self, bytes: &[u8], now: Instant)
         ensures phase { self.new.phase ≡ Phase.Within }
-        ensures since { self.new.since ≡ begun_by self.old now }
+        ensures since { self.new.since ≡ phase_began self.old now }
     {
         match self.phase {
             Phase::Within => {}
@@ -77,7 +77,7 @@ impl Pace {
 
     /// How long it is waited for from now on.
     pub(crate) fn left(&self, now: Instant) -> Duration
-        ensures { as_nanos result ≡ allowed self.now.phase - (instant_nanos now - instant_nanos
+        ensures { as_nanos result ≡ time_allowed self.now.phase - (instant_nanos now - instant_nanos
             self.now.since) }
     {
         let allowed = match self.phase {

@@ -3,12 +3,12 @@ use Rattle.std.proofs.Common.{◌≡◌, refl, ℕ, Bool, true, false, true≢fa
 use Rattle.jac_io.specs.Faults.{Rose}
 use Rattle.jac_keep.specs.KeeperSeen.{KeeperSeen, Store, Keeps, Reads}
 use Rattle.jac_keep.specs.KeeperState.{KeeperState, seen_keeper}
-use Rattle.jac_keep.specs.Attaching.{Attaches, Opens, IsRefused}
+use Rattle.jac_keep.specs.Attaching.{Attaches, OpensStore, IsRefused}
 use Rattle.jac_keep.specs.Reshaping.{Reshapes}
 use Rattle.jac_keep.specs.declared.alteration.Change.{Change}
 use Rattle.jac_keep.specs.declared.stop.Stop.{Stop}
 use Rattle.jac_keep.specs.declared.vault.AttachFault.{AttachFault}
-use Rattle.jac_sqlkeep.specs.Kept.{Kept, seen_kept, untouched}
+use Rattle.jac_sqlkeep.specs.Kept.{Kept, seen_kept, untouched_keeper}
 use Rattle.jac_hostkeep.specs.HostSeen.{seen_memory, seen_one, IsHost}
 
 -- ---- memory is called
@@ -62,7 +62,7 @@ module _ (old : KeeperSeen) (untold : old.tells ≡ false) where
   never : {A : Type 0} → IsTrue old.tells → A
   never told = absurd (true≢false (sym told ∙ untold))
 
-  opens_now : (before new : KeeperSeen) (name : Option (List ℕ)) (schema : List ℕ) (result : Result (Unit {0}) AttachFault) → OnOk result (Opens before new name schema) → OnOk result (Opens old new name schema)
+  opens_now : (before new : KeeperSeen) (name : Option (List ℕ)) (schema : List ℕ) (result : Result (Unit {0}) AttachFault) → OnOk result (OpensStore before new name schema) → OnOk result (OpensStore old new name schema)
   opens_now before new name schema (Err e) opens = tt
   opens_now before new name schema (Ok done) opens = record {
     attached = opens.attached;
@@ -74,7 +74,7 @@ module _ (old : KeeperSeen) (untold : old.tells ≡ false) where
     made = λ told then. never then;
   }
 
-untold_file : (old : KeeperSeen) (f : Kept) (result : Result (Unit {0}) AttachFault) → OnErr result (IsRefused (seen_kept untouched) (seen_kept f)) → OnErr result (IsRefused old (seen_kept f))
+untold_file : (old : KeeperSeen) (f : Kept) (result : Result (Unit {0}) AttachFault) → OnErr result (IsRefused (seen_kept untouched_keeper) (seen_kept f)) → OnErr result (IsRefused old (seen_kept f))
 untold_file old f (Ok done) refused = tt
 untold_file old f (Err e) refused = absurd (true≢false (sym refused.told))
 
@@ -86,14 +86,14 @@ unattached_file f attached (Err e) was same = same ∙ sym was
 -- a file is attached in place of memory
 pub file_attached : (memory : KeeperState) (file : Option Kept) (f : Kept) (name : Option (List ℕ)) (schema : List ℕ) (result : Result (Unit {0}) AttachFault)
     → IsHost memory file → (seen_one memory file).store.called ≡ false
-    → Attaches (seen_kept untouched) (seen_kept f) name schema result → Attaches (seen_one memory file) (seen_kept f) name schema result
+    → Attaches (seen_kept untouched_keeper) (seen_kept f) name schema result → Attaches (seen_one memory file) (seen_kept f) name schema result
 file_attached memory (Some g) f name schema result host first attaches = absurd (let called = host.called in cc)
 file_attached memory None f name schema result host first attaches =
     let unused : memory.faults ≡ 0 = host.unused first in
     record {
       later = omega (arith, unused);
       called = attaches.called;
-      ok = opens_now (seen_memory memory) (host.detached first) (seen_kept untouched) (seen_kept f) name schema result attaches.ok;
+      ok = opens_now (seen_memory memory) (host.detached first) (seen_kept untouched_keeper) (seen_kept f) name schema result attaches.ok;
       err = λ told. untold_file (seen_memory memory) f result (attaches.err told);
       unattached = unattached_file f memory.store.attached result (host.detached first) attaches.unattached;
       rose = λ failed. subst (λ (n : ℕ). Rose n f.faults) (sym unused) (attaches.rose failed);
@@ -107,7 +107,7 @@ untold_memory memory new (Ok done) detached same told = tt
 untold_memory memory new (Err e) detached same told = absurd (true≢false (sym told ∙ (same ∙ detached)))
 
 opens_fit : (memory new : KeeperState) (name : Option (List ℕ)) (schema : List ℕ) (result : Result (Unit {0}) AttachFault)
-    → OnOk result (Opens (seen_keeper memory) (seen_keeper new) name schema) → OnOk result (Opens (seen_keeper memory) (seen_memory new) name schema)
+    → OnOk result (OpensStore (seen_keeper memory) (seen_keeper new) name schema) → OnOk result (OpensStore (seen_keeper memory) (seen_memory new) name schema)
 opens_fit memory new name schema (Err e) opens = tt
 opens_fit memory new name schema (Ok done) opens = record {
   attached = opens.attached;

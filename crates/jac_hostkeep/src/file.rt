@@ -41,12 +41,12 @@ impl Drop for FileKeeper {
 }
 
 impl FileKeeper {
-    ghost use Rattle.jac_sqlkeep.specs.Kept.{untouched};
+    ghost use Rattle.jac_sqlkeep.specs.Kept.{untouched_keeper};
 
     /// A keeper that wasn't attached yet. Where it makes no files it opens those alone that are
     /// there.
     pub fn new(rt: HostRuntime, makes: bool) -> FileKeeper
-        ensures { result ≡ untouched }
+        ensures { result ≡ untouched_keeper }
     {
         FileKeeper {
             rt,

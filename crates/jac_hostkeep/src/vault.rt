@@ -1,5 +1,5 @@
 ghost use Rattle.std.specs.Prelude.{◌≡◌, None, [], false};
-ghost use Rattle.jac_keep.specs.KeeperState.{IsStored, unopened};
+ghost use Rattle.jac_keep.specs.KeeperState.{IsStored, unattached_store};
 
 use crate::FileKeeper;
 use jac_cached::CachedKeeper;
@@ -38,7 +38,7 @@ impl HostVault {
         ensures { result ≡ record {
           memory = record {
             state = state;
-            store = unopened None;
+            store = unattached_store None;
             fail_reads = [];
             fail_applies = [];
             reads = 0;

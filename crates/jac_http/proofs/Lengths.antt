@@ -4,10 +4,10 @@ use Rattle.std.specs.Option.{option_map, unwrap_or, is_none}
 use Rattle.std.proofs.lemmas.Bool.Decides.{nat_tests}
 use Rattle.jac_http.specs.Heads.{HeadParts}
 use Rattle.jac_http.specs.Parts.{is_target}
-use Rattle.jac_http.specs.Requests.{first_row, refusal, stated_length_of, body_length, lacks_host, has_coding, posts_no_form}
+use Rattle.jac_http.specs.Requests.{first_status, refusal_status, stated_length_of, body_length, lacks_host, has_coding, posts_no_form}
 
 limit_fails : (a b c d e f g : Bool)
-    → first_row ((a, 431) ∷ (b, 400) ∷ (c, 400) ∷ (d, 501) ∷ (e, 400) ∷ (f, 413) ∷ (g, 415) ∷ []) ≡ None → f ≡ false
+    → first_status ((a, 431) ∷ (b, 400) ∷ (c, 400) ∷ (d, 501) ∷ (e, 400) ∷ (f, 413) ∷ (g, 415) ∷ []) ≡ None → f ≡ false
 limit_fails true b c d e f g h = cc
 limit_fails false true c d e f g h = cc
 limit_fails false false true d e f g h = cc
@@ -20,7 +20,7 @@ not_cut : (o : Option ℕ) → nat_lt 65536 (unwrap_or o 0) ≡ false → unwrap
 not_cut None e = refl
 not_cut (Some n) e = grind (arith, nat_tests, e)
 
-pub unrefused_length : (head : HeadParts) → refusal head ≡ None → unwrap_or (option_map (min 65537) (stated_length_of head)) 0 ≡ body_length head
+pub unrefused_length : (head : HeadParts) → refusal_status head ≡ None → unwrap_or (option_map (min 65537) (stated_length_of head)) 0 ≡ body_length head
 unrefused_length head h =
     not_cut (stated_length_of head)
     (limit_fails (nat_lt 64 (length head.headers)) (not (is_target head.target)) (lacks_host head) (has_coding head) (is_none (stated_length_of head))

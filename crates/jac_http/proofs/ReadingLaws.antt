@@ -8,7 +8,7 @@ use Rattle.jac_http.specs.declared.taken.Request.{Request}
 use Rattle.jac_http.specs.declared.taken.Taken.{Taken}
 use Rattle.jac_http.specs.declared.taken.Taken.TheVariants.{More, Whole, Refused}
 use Rattle.jac_http.specs.Heads.{HeadParts, parts_of, ends_blank, head_from, head_in}
-use Rattle.jac_http.specs.Requests.{IsTaken, IsTakenAt, IsAnswered, without_head, answer_to, answer_by, refusal, body_length, request_of}
+use Rattle.jac_http.specs.Requests.{IsTaken, IsTakenAt, IsAnswered, without_head, answer_to, answer_by, refusal_status, body_length, request_of}
 use Rattle.jac_http.specs.Reading.{IsReading, AreRead}
 
 -- ---- answers apart
@@ -124,7 +124,7 @@ by_stays None parts used rest following other =
 
 answered_stays : (front rest following : List ℕ) (answer : Taken) → answer ≢ More → IsAnswered front rest answer → IsAnswered front (rest ++ following) answer
 answered_stays front rest following answer other (inl (head, is, e)) =
-    let stays = by_stays (refusal (parts_of head)) (parts_of head) (length front) rest following (λ more. other (e ∙ more)) in
+    let stays = by_stays (refusal_status (parts_of head)) (parts_of head) (length front) rest following (λ more. other (e ∙ more)) in
     inl (head, is, e ∙ sym stays)
 answered_stays front rest following answer other (inr none) = inr none
 
@@ -161,7 +161,7 @@ within_at None bytes request used is e = absurd (no_request (nat_lt (length byte
 within_at (Some front) bytes request used is (inl (head, of, e)) =
     let fits = front_within bytes front is in
     let cut = length-drop (length front) bytes in
-    let within = used_within (refusal (parts_of head)) (parts_of head) (length front) (drop (length front) bytes) request used e in
+    let within = used_within (refusal_status (parts_of head)) (parts_of head) (length front) (drop (length front) bytes) request used e in
     omega (arith, fits, cut, within)
 within_at (Some front) bytes request used is (inr (none, e)) = absurd (refused_other 400 request used (sym e))
 

@@ -8,7 +8,7 @@ use Rattle.std.proofs.lemmas.List.{drop-drop, drop_all, get_or_past}
 use Rattle.std.proofs.lemmas.List.Sums.{prefix_len-le-length, passes_at_first}
 use Rattle.std.proofs.lemmas.Str.{IsUtf8-nil, IsUtf8-take, IsUtf8-drop, IsUtf8-from_ascii, IsCharBoundary-end, IsCharBoundary-before_ascii, IsCharBoundary-from_rest}
 use Rattle.httparse.specs.Grammar.{is_token_byte, IsToken}
-use Rattle.jac_http.specs.Parts.{ends_authority, behind_authority, path_or_root, path_of}
+use Rattle.jac_http.specs.Parts.{ends_authority, behind_authority, path_or_root, path_of_target}
 
 token_byte : (b : ℕ) → is_token_byte b ≡ true → b < 128
 unfolding is_token_byte
@@ -63,7 +63,7 @@ unfolding lib.Utf8.encode
 root_utf8 [] text = (47 ∷ [], (refl, refl))
 root_utf8 (b ∷ bytes) text = text
 
-pub path_utf8 : (t : List ℕ) → IsUtf8 t → IsUtf8 (path_of t)
+pub path_utf8 : (t : List ℕ) → IsUtf8 t → IsUtf8 (path_of_target t)
 path_utf8 t text =
     let behind : IsUtf8 (behind_authority t) = behind_by t (starts_with ◌==◌ t (codes "/")) text in
     root_utf8 (before_first (λ b. b == 63) (behind_authority t))

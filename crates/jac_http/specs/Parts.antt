@@ -23,8 +23,8 @@ without_blanks [] = []
 without_blanks (b ∷ bytes) = if is_blank b then without_blanks bytes else b ∷ bytes
 
 -- without the blanks at both ends
-unfoldable pub trimmed : List ℕ → List ℕ
-trimmed bytes = reverse (without_blanks (reverse (without_blanks bytes)))
+unfoldable pub stripped_of_blanks : List ℕ → List ℕ
+stripped_of_blanks bytes = reverse (without_blanks (reverse (without_blanks bytes)))
 
 -- what is found first
 abbrev pub first_some : (List ℕ → Option (List ℕ)) → List (List ℕ) → Option (List ℕ)
@@ -44,7 +44,8 @@ stated_length (value ∷ second ∷ more) = None
 
 -- a media type, without its parameters, is another than that of a form
 abbrev pub is_no_form : List ℕ → Bool
-is_no_form value = not (str_eq_ignore_ascii_case (trimmed (before_first (λ b. b == 59) value))
+is_no_form value = not (str_eq_ignore_ascii_case (stripped_of_blanks (before_first
+    (λ b. b == 59) value))
     (codes "application/x-www-form-urlencoded"))
 
 -- the first Content-Type is another than that of a form
@@ -54,7 +55,8 @@ has_no_form (value ∷ more) = is_no_form value
 
 -- an item of the list is `close`
 abbrev pub is_closing : List ℕ → Bool
-is_closing value = list_any (λ item. str_eq_ignore_ascii_case (trimmed item) (codes "close"))
+is_closing value = list_any (λ item. str_eq_ignore_ascii_case (stripped_of_blanks item)
+    (codes "close"))
     (slice_split (λ b. b == 44) value)
 
 -- a path, or an address that begins with http://
@@ -76,8 +78,8 @@ abbrev pub path_or_root : List ℕ → List ℕ
 path_or_root [] = codes "/"
 path_or_root (b ∷ bytes) = b ∷ bytes
 
-abbrev pub path_of : List ℕ → List ℕ
-path_of target = path_or_root (before_first (λ b. b == 63) (behind_authority target))
+abbrev pub path_of_target : List ℕ → List ℕ
+path_of_target target = path_or_root (before_first (λ b. b == 63) (behind_authority target))
 
 abbrev pub query_of : List ℕ → List ℕ
 query_of target = after_first (λ b. b == 63) (behind_authority target)
@@ -90,7 +92,8 @@ session_value piece =
 
 -- the first pair of a Cookie header that is so
 abbrev pub session_in : List ℕ → Option (List ℕ)
-session_in value = first_some (λ piece. session_value (trimmed piece)) (slice_split (λ b. b == 59)
+session_in value = first_some (λ piece. session_value (stripped_of_blanks piece)) (slice_split
+    (λ b. b == 59)
     value)
 
 abbrev pub is_token_byte : ℕ → Bool

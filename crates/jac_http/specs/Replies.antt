@@ -37,8 +37,8 @@ media_type page = if page then codes "text/html; charset=utf-8"
     else codes "text/plain; charset=utf-8"
 
 -- without a page the status is the body
-abbrev pub body_of : ℕ → List ℕ → Bool → List ℕ
-body_of status body page = if page then body else status_text status ++ codes "\n"
+abbrev pub reply_body : ℕ → List ℕ → Bool → List ℕ
+reply_body status body page = if page then body else status_text status ++ codes "\n"
 
 unfoldable pub status_line : ℕ → List ℕ
 status_line status = codes "HTTP/1.1 " ++ status_text status ++ codes "\r\n"
@@ -56,7 +56,7 @@ further_lines location allow close =
 abbrev pub reply_bytes : ℕ → Option (List ℕ) → Option (List ℕ) → List ℕ → Bool → Bool → Bool
     → List ℕ
 reply_bytes status location allow body page head close =
-    let content = body_of status body page in
+    let content = reply_body status body page in
     status_line status ++ content_lines page (length content) ++ further_lines location allow close
     ++ codes "\r\n"
     ++ (if head then [] else content)

@@ -7,7 +7,7 @@ use Rattle.jac_http.specs.declared.taken.Request.{Request}
 use Rattle.jac_http.specs.declared.taken.Taken.{Taken}
 use Rattle.jac_http.specs.declared.taken.Taken.TheVariants.{More, Whole, Refused}
 use Rattle.jac_http.specs.Heads.{HeadParts, parts_of, head_in}
-use Rattle.jac_http.specs.Parts.{values_of, stated_length, has_no_form, is_closing, is_target, path_of, query_of, token_of}
+use Rattle.jac_http.specs.Parts.{values_of, stated_length, has_no_form, is_closing, is_target, path_of_target, query_of, token_of}
 
 abbrev pub stated_length_of : HeadParts → Option ℕ
 stated_length_of head = stated_length (values_of (codes "content-length") head.headers)
@@ -29,13 +29,13 @@ posts_no_form head =
     (values_of (codes "content-type") head.headers)
 
 -- the status of the first row whose test holds
-abbrev pub first_row : List (Bool × ℕ) → Option ℕ
-first_row [] = None
-first_row (row ∷ rows) = if row.0 then Some row.1 else first_row rows
+abbrev pub first_status : List (Bool × ℕ) → Option ℕ
+first_status [] = None
+first_status (row ∷ rows) = if row.0 then Some row.1 else first_status rows
 
 -- with what a head is refused
-abbrev pub refusal : HeadParts → Option ℕ
-refusal head = first_row (
+abbrev pub refusal_status : HeadParts → Option ℕ
+refusal_status head = first_status (
     (nat_lt 64 (length head.headers), 431)
     ∷ (not (is_target head.target), 400)
     ∷ (lacks_host head, 400)
@@ -51,7 +51,7 @@ closes head = head.minor == 0 || list_any is_closing (values_of (codes "connecti
 abbrev pub request_of : HeadParts → List ℕ → Request
 request_of head body = record {
   method = head.method;
-  path = path_of head.target;
+  path = path_of_target head.target;
   query = query_of head.target;
   body = body;
   token = token_of (values_of (codes "cookie") head.headers);
@@ -70,7 +70,7 @@ answer_by None head used rest = with_body head used rest
 
 -- the answer to a head of so many bytes, and what follows it
 abbrev pub answer_to : HeadParts → ℕ → List ℕ → Taken
-answer_to head used rest = answer_by (refusal head) head used rest
+answer_to head used rest = answer_by (refusal_status head) head used rest
 
 -- the bytes are a head of the grammar, and nothing else
 abbrev pub IsHead : List ℕ → RequestHead → Type 0

@@ -2,7 +2,7 @@ ghost use Rattle.std.specs.Prelude.{◌≡◌, ◌&&◌, ◌∷◌, [], min, nat
 ghost use Rattle.std.specs.Option.{option_map};
 ghost use Rattle.std.specs.Str.{bytes_eq};
 ghost use Rattle.jac_http.specs.Parts.{has_no_form, values_of};
-ghost use Rattle.jac_http.specs.Requests.{stated_length_of, lacks_host, has_coding, first_row, refusal, body_length, posts_no_form};
+ghost use Rattle.jac_http.specs.Requests.{stated_length_of, lacks_host, has_coding, first_status, refusal_status, body_length, posts_no_form};
 ghost use Rattle.jac_http.specs.Shown.{parts_shown};
 
 use crate::head::Head;
@@ -14,7 +14,7 @@ use std::alloc::Global;
 
 /// With what a head is refused, where it is.
 pub(crate) fn refusal(alloc: Global, head: &Head) -> Result<Option<u16>, Memory>
-    ensures { IfOk result (λ r. r ≡ refusal (parts_shown head.now)) }
+    ensures { IfOk result (λ r. r ≡ refusal_status (parts_shown head.now)) }
 {
     if head.headers.len() > 64 {
         return Ok(Some(431));
@@ -63,7 +63,7 @@ pub(crate) fn stated_length_of(alloc: Global, head: &Head) -> Result<Option<usiz
 fn body_refusal(alloc: Global, head: &Head, length: usize) -> Result<Option<u16>, Memory>
     requires { option_map (min 65537) (stated_length_of (parts_shown head.now)) ≡ Some length }
     ensures { IfOk result
-        (λ r. r ≡ first_row ((nat_lt 65536 (body_length (parts_shown head.now)), 413)
+        (λ r. r ≡ first_status ((nat_lt 65536 (body_length (parts_shown head.now)), 413)
         ∷ (posts_no_form (parts_shown head.now), 415) ∷ [])) }
 {
     if length > 65_536 {

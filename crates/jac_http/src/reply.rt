@@ -1,6 +1,6 @@
 ghost use Rattle.std.specs.Prelude.{◌≡◌, ◌++◌, [], false, true, None, if◌then◌else◌, IfOk, OnOk, IsSome, codes, decimal, length};
 ghost use Rattle.std.specs.Option.{option_copied};
-ghost use Rattle.jac_http.specs.Replies.{phrase_of, status_text, field_line, field_line_if, media_type, body_of, status_line, content_lines, further_lines, reply_bytes, status_of_fixed};
+ghost use Rattle.jac_http.specs.Replies.{phrase_of, status_text, field_line, field_line_if, media_type, reply_body, status_line, content_lines, further_lines, reply_bytes, status_of_fixed};
 
 use http::StatusCode;
 use itoa::Buffer;

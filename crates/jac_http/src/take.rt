@@ -1,6 +1,6 @@
 ghost use Rattle.std.specs.Prelude.{◌≡◌, ◌+◌, ◌^◌, ◌<◌, ◌≤◌, length, take, None, IsUtf8, codes, IfOk};
 ghost use Rattle.jac_http.specs.Parts.{values_of, token_of};
-ghost use Rattle.jac_http.specs.Requests.{IsTaken, IsAnswered, without_head, answer_to, refusal, with_body, body_length, closes, request_of};
+ghost use Rattle.jac_http.specs.Requests.{IsTaken, IsAnswered, without_head, answer_to, refusal_status, with_body, body_length, closes, request_of};
 ghost use Rattle.jac_http.specs.Shown.{parts_shown};
 
 use crate::blank::head_in;
@@ -73,7 +73,7 @@ fn answer_to(alloc: Global, head: &Head, used: usize, rest: &[u8]) -> Result<Tak
 }
 
 fn with_body(alloc: Global, head: &Head, used: usize, rest: &[u8]) -> Result<Taken, Memory>
-    requires unrefused { refusal (parts_shown head.now) ≡ None }
+    requires unrefused { refusal_status (parts_shown head.now) ≡ None }
     requires room { used + length rest.now < 2 ^ 64 }
     ensures { IfOk result (λ taken. taken ≡ with_body (parts_shown head.now) used rest.now) }
 {
@@ -89,7 +89,7 @@ fn with_body(alloc: Global, head: &Head, used: usize, rest: &[u8]) -> Result<Tak
 }
 
 fn body_length(alloc: Global, head: &Head) -> Result<usize, Memory>
-    requires { refusal (parts_shown head.now) ≡ None }
+    requires { refusal_status (parts_shown head.now) ≡ None }
     ensures { IfOk result (λ n. n ≡ body_length (parts_shown head.now)) }
 {
     let length = stated_length_of(alloc, head)?;

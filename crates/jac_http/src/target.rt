@@ -1,7 +1,7 @@
 ghost use Rattle.std.specs.Prelude.{◌≡◌, ◌==◌, ◌<◌, length, position, take, drop, codes, IfOk, IfSome};
 ghost use Rattle.std.specs.List.{position_or_len, before_first, after_first};
 ghost use Rattle.std.specs.Str.{str_eq_ignore_ascii_case};
-ghost use Rattle.jac_http.specs.Parts.{is_target, ends_authority, behind_authority, path_or_root, path_of, query_of};
+ghost use Rattle.jac_http.specs.Parts.{is_target, ends_authority, behind_authority, path_or_root, path_of_target, query_of};
 
 use crate::words::{is_same_word, place_of};
 use jac_value::{Bytes, Memory, Txt};
@@ -23,7 +23,7 @@ fn has_scheme(target: &[u8]) -> bool
 
 /// The path, which is `/` where the target has none.
 pub(crate) fn path_of(alloc: Global, target: &str) -> Result<Txt, Memory>
-    ensures { IfOk result (λ t. t ≡ path_of target.now) }
+    ensures { IfOk result (λ t. t ≡ path_of_target target.now) }
 {
     let path = from_utf8(path_in(target.as_bytes())).unwrap();
     let path = Txt::from_str(alloc, path)?;
@@ -31,7 +31,7 @@ pub(crate) fn path_of(alloc: Global, target: &str) -> Result<Txt, Memory>
 }
 
 fn path_in(target: &[u8]) -> &[u8]
-    ensures { result.now ≡ path_of target.now }
+    ensures { result.now ≡ path_of_target target.now }
 {
     path_or_root(before_query(behind_authority(target)))
 }

@@ -4,7 +4,7 @@ ghost use Rattle.std.specs.List.{list_any, list_all, before_first};
 ghost use Rattle.std.specs.Str.{str_eq_ignore_ascii_case};
 ghost use Rattle.std.specs.Option.{option_map, option_copied};
 ghost use Rattle.std.specs.Str.Parse.{digits_value};
-ghost use Rattle.jac_http.specs.Parts.{is_number, stated_length, is_no_form, has_no_form, is_closing, session_value, session_in, is_token, is_token_byte, first_some, token_of, trimmed};
+ghost use Rattle.jac_http.specs.Parts.{is_number, stated_length, is_no_form, has_no_form, is_closing, session_value, session_in, is_token, is_token_byte, first_some, token_of, stripped_of_blanks};
 
 use crate::words::{is_same_word, parts, place_of, trimmed};
 use jac_value::Memory;
@@ -107,7 +107,8 @@ fn is_closing(alloc: Global, value: &[u8]) -> Result<bool, Memory>
 }
 
 fn has_close(items: &[&[u8]]) -> bool
-    ensures { result ≡ list_any (λ item. str_eq_ignore_ascii_case (trimmed item) (codes "close"))
+    ensures { result ≡ list_any (λ item. str_eq_ignore_ascii_case (stripped_of_blanks item)
+        (codes "close"))
         (map (λ v. v.now) items.now) }
 {
     'items: for item in items {
@@ -155,7 +156,7 @@ fn session_in(alloc: Global, cookie: &[u8]) -> Result<Option<&[u8]>, Memory>
 }
 
 fn session_among<'v>(pieces: &[&'v [u8]]) -> Option<&'v [u8]>
-    ensures { option_copied result ≡ first_some (λ piece. session_value (trimmed piece))
+    ensures { option_copied result ≡ first_some (λ piece. session_value (stripped_of_blanks piece))
         (map (λ v. v.now) pieces.now) }
 {
     'pieces: for piece in pieces {

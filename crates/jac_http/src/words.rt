@@ -1,7 +1,7 @@
 ghost use Rattle.std.specs.Prelude.{◌≡◌, ◌==◌, ◌<◌, length, position, reverse, map, IfOk, IfSome};
 ghost use Rattle.std.specs.List.{slice_split};
 ghost use Rattle.std.specs.Str.{str_eq_ignore_ascii_case};
-ghost use Rattle.jac_http.specs.Parts.{is_blank, without_blanks, trimmed};
+ghost use Rattle.jac_http.specs.Parts.{is_blank, without_blanks, stripped_of_blanks};
 
 use std::alloc::{AllocError, Global};
 
@@ -12,9 +12,9 @@ pub(crate) fn is_same_word(word: &[u8], other: &[u8]) -> bool
 }
 
 /// Without the spaces and tabs at both ends.
-#[tactic(auto, unfolding(crate::specs::Parts::trimmed))]
+#[tactic(auto, unfolding(crate::specs::Parts::stripped_of_blanks))]
 pub(crate) fn trimmed(bytes: &[u8]) -> &[u8]
-    ensures { result.now ≡ trimmed bytes.now }
+    ensures { result.now ≡ stripped_of_blanks bytes.now }
 {
     without_last_blanks(without_first_blanks(bytes))
 }

@@ -6,7 +6,7 @@ use Rattle.jac_events.specs.declared.event.Event.{Event}
 use Rattle.jac_events.specs.declared.event.Event.TheVariants.{Ask, Begin, Piece, Finish}
 use Rattle.jac_http.specs.Reading.{IsReading}
 use Rattle.jac_hub.specs.Hearing.{Source, asked, connection, Subject, whole, Entry, Hearing}
-use Rattle.jac_hub.specs.Heard.{Connection, Connections, set_at, with_bytes, with_entry, after_entry, after_entries, after_event, after_both, is_closed, IsNext, AreBrought, PieceBrings, IsBroughtBy, IsHeardFrom}
+use Rattle.jac_hub.specs.Heard.{Connection, Connections, set_at, with_bytes, with_entry, connections_after, after_entries, after_event, after_both, is_closed, IsNextEntry, AreBrought, PieceBrings, IsBroughtBy, IsHeardFrom}
 use Rattle.jac_hub.specs.Alike.{content, IsHeardAlike}
 use Rattle.jac_hub.proofs.Standing.{with_entries, set-same, set-set, AreOf, after-one, brought-of}
 use Rattle.jac_hub.proofs.Longer.{entries-append, entries-bytes, bytes-twice, of-append, brought-end, brought-joined, closed-longer, closed-spent}
@@ -19,16 +19,16 @@ pub content-earlier : {I A : Type 0} (log : List (Entry I A)) → map content (m
 content-earlier [] = refl
 content-earlier {I = I} {A = A} (entry ∷ log) = ap (λ (l : List (Source × Subject I × A)). content entry ∷ l) (content-earlier log)
 
-earlier_by : {I A : Type 0} (h : Hearing I A) (s : Source) (entry : Entry I A) (known : Connections I) → after_entry h s (earlier entry) known ≡ after_entry h s entry known
+earlier_by : {I A : Type 0} (h : Hearing I A) (s : Source) (entry : Entry I A) (known : Connections I) → connections_after h s (earlier entry) known ≡ connections_after h s entry known
 earlier_by h asked entry known = refl
 earlier_by h (connection c) entry known = refl
 
 pub after-earlier : {I A : Type 0} (h : Hearing I A) (log : List (Entry I A)) (known : Connections I) → after_entries h (map earlier log) known ≡ after_entries h log known
 after-earlier h [] known = refl
 after-earlier h (entry ∷ log) known =
-    ap (after_entries h (map earlier log)) (earlier_by h entry.source entry known) ∙ after-earlier h log (after_entry h entry.source entry known)
+    ap (after_entries h (map earlier log)) (earlier_by h entry.source entry known) ∙ after-earlier h log (connections_after h entry.source entry known)
 
-next_earlier : {I A : Type 0} (h : Hearing I A) (n c : ℕ) (one : Connection I) (entry : Entry I A) → IsNext h (n + 1) c one entry → IsNext h n c one (earlier entry)
+next_earlier : {I A : Type 0} (h : Hearing I A) (n c : ℕ) (one : Connection I) (entry : Entry I A) → IsNextEntry h (n + 1) c one entry → IsNextEntry h n c one (earlier entry)
 next_earlier h n c one entry next = record {
   place = omega (arith, next.place);
   source = next.source;

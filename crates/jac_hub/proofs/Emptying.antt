@@ -9,10 +9,10 @@ use Rattle.jac_hub.specs.declared.hub.HubOut.TheVariants.{Reply, Closed}
 use Rattle.jac_hub.specs.declared.hub.Turn.{Turn}
 use Rattle.jac_hub.specs.declared.hub.Turn.TheVariants.{Idle, Serving, Breaking, Closing, Done}
 use Rattle.jac_hub.specs.Hearing.{connection, broken, Entry, Hearing}
-use Rattle.jac_hub.specs.Heard.{Connection, set_at, with_entry, is_closed, IsNext, IsNextIn, AreBrought}
+use Rattle.jac_hub.specs.Heard.{Connection, set_at, with_entry, is_closed, IsNextEntry, IsNextIn, AreBrought}
 use Rattle.jac_hub.specs.Channel.{ChannelSeen, shut, fixed_500}
 use Rattle.jac_hub.specs.Hub.{HubSeen, with_channel, out_of, turn_behind, NextServing, NextBreaking, Nexts}
-use Rattle.jac_hub.specs.Served.{IsLike, IsLikeAfter, IsEmptied, closing, IsAnswered, AreAnswered}
+use Rattle.jac_hub.specs.Served.{IsLike, IsLikeAfter, IsEmptied, closing, IsEntryAnswered, AreEntriesAnswered}
 use Rattle.jac_hub.proofs.Standing.{with_entries, set-same, set-set}
 use Rattle.jac_hub.proofs.Following.{Tells, Gave, GaveReply, next-gave}
 
@@ -37,7 +37,7 @@ pub record Empties {I A H : Type 0} (h : Hearing I A) (told : H → ℕ → Hear
   pub mine : List (Entry I A)
   pub replies : List HubOut
   pub brought : AreBrought h n c known mine
-  pub answered : AreAnswered h told memory before mine replies after
+  pub answered : AreEntriesAnswered h told memory before mine replies after
   pub put : outs ≡ replies ++ closing c (is_closed (with_entries h mine known))
   pub later : ChannelSeen
   pub like : IsLikeAfter h later (with_entries h mine known)
@@ -80,8 +80,8 @@ module _ {I A H : Type 0} (h : Hearing I A) (handles : H → ℕ → Heard → S
 -- one reply, behind which the connection is closed
 closes_behind : {I A H : Type 0} (h : Hearing I A) (handles : H → ℕ → Heard → Sent → H → Type 0) (told : H → ℕ → Heard → Sent → H → A → Type 0) (memory : A)
     (n c : ℕ) (known : Connection I) (entry : Entry I A) (sent : Sent) (channel : ChannelSeen) (hub between_hub new : HubSeen) (out : HubOut) (outs : List HubOut)
-    (before between after : H) → IsNext h n c known entry → (with_entry h entry known).ended ≡ true → channel.closed ≡ true
-    → IsAnswered h told memory c entry.subject entry.answer sent before between → out ≡ Reply c sent
+    (before between after : H) → IsNextEntry h n c known entry → (with_entry h entry known).ended ≡ true → channel.closed ≡ true
+    → IsEntryAnswered h told memory c entry.subject entry.answer sent before between → out ≡ Reply c sent
     → between_hub ≡ with_channel c (Some channel) (Closing c) hub → IsEmptied h.reads handles between_hub outs new between after
     → Empties h told memory n c known hub (out ∷ outs) new before after
 closes_behind h handles told memory n c known entry sent channel hub between_hub new out outs before between after next ended closed answered is made rest =
@@ -104,8 +104,8 @@ closes_behind h handles told memory n c known entry sent channel hub between_hub
 -- what follows one reply, behind which the connection is served on
 goes_on : {I A H : Type 0} (h : Hearing I A) (told : H → ℕ → Heard → Sent → H → A → Type 0) (memory : A)
     (n c : ℕ) (known : Connection I) (entry : Entry I A) (sent : Sent) (channel : ChannelSeen) (hub between_hub new : HubSeen) (out : HubOut) (outs : List HubOut)
-    (before between after : H) → IsNext h n c known entry
-    → IsAnswered h told memory c entry.subject entry.answer sent before between → out ≡ Reply c sent
+    (before between after : H) → IsNextEntry h n c known entry
+    → IsEntryAnswered h told memory c entry.subject entry.answer sent before between → out ≡ Reply c sent
     → between_hub ≡ with_channel c (Some channel) (Serving c) hub → Empties h told memory n c (with_entry h entry known) between_hub outs new between after
     → Empties h told memory n c known hub (out ∷ outs) new before after
 goes_on h told memory n c known entry sent channel hub between_hub new out outs before between after next answered is made rest = record {
@@ -217,6 +217,6 @@ breaking-empties {I = I} {A = A} h handles told memory n c (out ∷ outs) hub ne
     subst (λ (o : Option ChannelSeen). (between ≡ before) × NextBreaking hub c o (Some out) between_hub) at
     (subst (λ (t : Turn). Nexts h.reads handles hub t (Some out) between_hub before between) turn next) in
     let entry : Entry I A = record { place = n; source = connection c; subject = broken; answer = memory } in
-    let is_next : IsNext h n c known entry = record { place = refl; source = refl; open_still = open_still; subject = next_in } in
+    let is_next : IsNextEntry h n c known entry = record { place = refl; source = refl; open_still = open_still; subject = next_in } in
     closes_behind h handles told memory n c known entry fixed_500 (shut channel) hub between_hub new out outs before between after
     is_next (rw open_still refl) refl (e.0, refl, refl) (some_same out (Reply c fixed_500) e.1.0) e.1.1 rest

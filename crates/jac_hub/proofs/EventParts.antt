@@ -11,7 +11,7 @@ use Rattle.jac_hub.specs.declared.hub.HubOut.TheVariants.{Closed}
 use Rattle.jac_hub.specs.declared.hub.Turn.TheVariants.{Idle}
 use Rattle.jac_hub.specs.Hearing.{broken, Entry, Hearing}
 use Rattle.jac_hub.specs.Heard.{Connection, Connections, with_bytes, after_both, is_closed, IsNextIn, AreBrought, PieceBrings, PieceBegins, IsBroughtBy, IsBegunBy}
-use Rattle.jac_hub.specs.Channel.{ChannelSeen, grown}
+use Rattle.jac_hub.specs.Channel.{ChannelSeen, channel_with}
 use Rattle.jac_hub.specs.Hub.{HubSeen, StepsBegin, StepsPiece, StepsFinish, Steps}
 use Rattle.jac_hub.specs.Served.{IsLike, AreLike, IsGiven, closing, closings, IsServedInPart}
 use Rattle.jac_hub.proofs.Standing.{with_entries, set-same, brought-of}
@@ -86,15 +86,15 @@ pieces_part h law handles told memory n c tells bytes (Some channel) known resul
     let b = begun-too h old.channels known c channel like at in
     let open_before : is_closed b.one ≡ false = sym b.like.0 ∙ open_still in
     piece_part h told memory n c bytes b.one known outs before after b.is open_before
-    (serving-gives h handles told memory n c tells outs stepped new (grown bytes channel) (with_bytes bytes b.one) before after
-    (ap (λ (l : HubSeen). l.turn) made) (ap (λ (l : HubSeen). l.channels c) made ∙ set-same c (Some (grown bytes channel)) old.channels)
+    (serving-gives h handles told memory n c tells outs stepped new (channel_with bytes channel) (with_bytes bytes b.one) before after
+    (ap (λ (l : HubSeen). l.turn) made) (ap (λ (l : HubSeen). l.channels c) made ∙ set-same c (Some (channel_with bytes channel)) old.channels)
     (grown-like h law channel b.one bytes (b.like.1 open_before)) open_still given)
 pieces_part h law handles told memory n c tells bytes (Some channel) known result old stepped new outs before after idle like at (inr (inr (open_still, lost, made))) given =
     let b = begun-too h old.channels known c channel like at in
     let open_before : is_closed b.one ≡ false = sym b.like.0 ∙ open_still in
     let was : IsLike h channel b.one = b.like.1 open_before in
     let now = grown-like h law channel b.one bytes was in
-    let next_in : IsNextIn h (with_bytes bytes b.one) broken = ((grown bytes channel).unused, (grown bytes channel).unused, now.unused, refl) in
+    let next_in : IsNextIn h (with_bytes bytes b.one) broken = ((channel_with bytes channel).unused, (channel_with bytes channel).unused, now.unused, refl) in
     piece_part h told memory n c bytes b.one known outs before after b.is open_before
     (breaking-gives h handles told memory n c outs stepped new channel (with_bytes bytes b.one) before after
     (ap (λ (l : HubSeen). l.turn) made) (ap (λ (l : HubSeen). l.channels c) made ∙ at) next_in (sym was.closed ∙ open_still) given)

@@ -12,10 +12,10 @@ use Rattle.jac_hub.specs.declared.hub.HubFault.TheVariants.{Memory}
 use Rattle.jac_hub.specs.declared.hub.HubOut.{HubOut}
 use Rattle.jac_hub.specs.declared.hub.Turn.TheVariants.{Idle, Done}
 use Rattle.jac_hub.specs.Hearing.{broken, Entry, Hearing}
-use Rattle.jac_hub.specs.Heard.{Connection, Connections, new_connection, begun, set_at, with_bytes, after_event, after_entries, after_both, is_closed, IsNextIn, PieceBrings, IsBroughtBy}
-use Rattle.jac_hub.specs.Channel.{LIMIT, ChannelSeen, new_channel, grown}
+use Rattle.jac_hub.specs.Heard.{Connection, Connections, new_connection, begun_connection, set_at, with_bytes, after_event, after_entries, after_both, is_closed, IsNextIn, PieceBrings, IsBroughtBy}
+use Rattle.jac_hub.specs.Channel.{LIMIT, ChannelSeen, new_channel, channel_with}
 use Rattle.jac_hub.specs.Hub.{HubSeen, StepsBegin, StepsPiece, StepsFinish, Steps}
-use Rattle.jac_hub.specs.Served.{IsLike, IsLikeAfter, AreLikeAt, AreLike, IsEmptied, is_shut, closing, closings, IsLost, IsServed}
+use Rattle.jac_hub.specs.Served.{IsLike, IsLikeAfter, AreLikeAt, AreLike, IsEmptied, is_shut, closing, closings, IsLost, IsBrought}
 use Rattle.jac_hub.proofs.Standing.{with_entries, set-same, set-set, AreOf, after-one, brought-of}
 use Rattle.jac_hub.proofs.Longer.{closed-longer}
 use Rattle.jac_hub.proofs.Following.{Tells, grown-like, new-like}
@@ -73,7 +73,7 @@ begun_like h = (refl, λ open_still. new-like h)
 brings_nothing : {I A H : Type 0} (h : Hearing I A) (told : H → ℕ → Heard → Sent → H → A → Type 0) (memory : A) (n : ℕ) (event : Event) (known after_known : Connections I)
     (channels : ℕ → Option ChannelSeen) (hub new : HubSeen) (outs : List HubOut) (before after : H)
     → IsBroughtBy h n event known [] → after_event event known ≡ after_known → closings event known after_known ≡ [] → AreLike h channels after_known
-    → hub.channels ≡ channels → GaveOnly [] hub outs new before after → IsServed h told memory n event known outs new before after
+    → hub.channels ≡ channels → GaveOnly [] hub outs new before after → IsBrought h told memory n event known outs new before after
 brings_nothing {I = I} h told memory n event known after_known channels hub new outs before after brought is quiet like same gave = record {
   mine = [];
   brought = brought;
@@ -90,7 +90,7 @@ brings_nothing {I = I} h told memory n event known after_known channels hub new 
 refused_event : {I A H : Type 0} (h : Hearing I A) (handles : H → ℕ → Heard → Sent → H → Type 0) (told : H → ℕ → Heard → Sent → H → A → Type 0) (memory : A) (n : ℕ)
     (event : Event) (known : Connections I) (old stepped new : HubSeen) (outs : List HubOut) (before after : H) → old.turn ≡ Idle → AreLike h old.channels known
     → stepped ≡ old → IsBroughtBy h n event known [] → after_event event known ≡ known → closings event known known ≡ []
-    → IsEmptied h.reads handles stepped outs new before after → IsServed h told memory n event known outs new before after
+    → IsEmptied h.reads handles stepped outs new before after → IsBrought h told memory n event known outs new before after
 refused_event h handles told memory n event known old stepped new outs before after idle like same brought is quiet emptied =
     brings_nothing h told memory n event known known old.channels stepped new outs before after brought is quiet like (ap (λ (l : HubSeen). l.channels) same)
     (idle-empties h handles outs stepped new before after (ap (λ (l : HubSeen). l.turn) same ∙ idle) emptied)
@@ -100,7 +100,7 @@ taken_event : {I A H : Type 0} (h : Hearing I A) (handles : H → ℕ → Heard 
     (event : Event) (known after_known : Connections I) (channels : ℕ → Option ChannelSeen) (stepped new : HubSeen) (outs : List HubOut) (before after : H)
     → stepped ≡ record { channels = channels; turn = Done } → IsBroughtBy h n event known [] → after_event event known ≡ after_known
     → closings event known after_known ≡ [] → AreLike h channels after_known
-    → IsEmptied h.reads handles stepped outs new before after → IsServed h told memory n event known outs new before after
+    → IsEmptied h.reads handles stepped outs new before after → IsBrought h told memory n event known outs new before after
 taken_event h handles told memory n event known after_known channels stepped new outs before after made brought is quiet like emptied =
     brings_nothing h told memory n event known after_known channels stepped new outs before after brought is quiet like (ap (λ (l : HubSeen). l.channels) made)
     (done-empties h handles outs stepped new before after (ap (λ (l : HubSeen). l.turn) made) emptied)
@@ -110,10 +110,10 @@ taken_event h handles told memory n event known after_known channels stepped new
 begin_served : {I A H : Type 0} (h : Hearing I A) (handles : H → ℕ → Heard → Sent → H → Type 0) (told : H → ℕ → Heard → Sent → H → A → Type 0) (memory : A) (n c : ℕ)
     (o : Option ChannelSeen) (known : Connections I) (result : Result (Unit {0}) HubFault) (old stepped new : HubSeen) (outs : List HubOut) (before after : H)
     → old.turn ≡ Idle → AreLike h old.channels known → old.channels c ≡ o → StepsBegin old c o result stepped → (result ≡ Err Memory → ⊥)
-    → IsEmptied h.reads handles stepped outs new before after → IsServed h told memory n (Begin c) known outs new before after
+    → IsEmptied h.reads handles stepped outs new before after → IsBrought h told memory n (Begin c) known outs new before after
 begin_served {I = I} h handles told memory n c None known result old stepped new outs before after idle like at (inl (ok, made)) kept emptied =
     let is : after_event (Begin c) known ≡ set_at c (Some new_connection) known =
-    ap (λ (o : Option (Connection I)). set_at c (begun o) known) (none-too h old.channels known c like at) in
+    ap (λ (o : Option (Connection I)). set_at c (begun_connection o) known) (none-too h old.channels known c like at) in
     taken_event h handles told memory n (Begin c) known (set_at c (Some new_connection) known) (set_at c (Some new_channel) old.channels) stepped new outs before after
     made refl is refl (set_like h old.channels known c (Some new_channel) (Some new_connection) like (begun_like h)) emptied
 begin_served h handles told memory n c None known result old stepped new outs before after idle like at (inr (memory_out, same)) kept emptied =
@@ -121,13 +121,13 @@ begin_served h handles told memory n c None known result old stepped new outs be
 begin_served {I = I} h handles told memory n c (Some channel) known result old stepped new outs before after idle like at (refused, same) kept emptied =
     let b = begun-too h old.channels known c channel like at in
     let is : after_event (Begin c) known ≡ known =
-    ap (λ (o : Option (Connection I)). set_at c (begun o) known) b.is ∙ set_known c (Some b.one) known b.is in
+    ap (λ (o : Option (Connection I)). set_at c (begun_connection o) known) b.is ∙ set_known c (Some b.one) known b.is in
     refused_event h handles told memory n (Begin c) known old stepped new outs before after idle like same refl is refl emptied
 
 finish_served : {I A H : Type 0} (h : Hearing I A) (handles : H → ℕ → Heard → Sent → H → Type 0) (told : H → ℕ → Heard → Sent → H → A → Type 0) (memory : A) (n c : ℕ)
     (o : Option ChannelSeen) (known : Connections I) (result : Result (Unit {0}) HubFault) (old stepped new : HubSeen) (outs : List HubOut) (before after : H)
     → old.turn ≡ Idle → AreLike h old.channels known → old.channels c ≡ o → StepsFinish old c o result stepped
-    → IsEmptied h.reads handles stepped outs new before after → IsServed h told memory n (Finish c) known outs new before after
+    → IsEmptied h.reads handles stepped outs new before after → IsBrought h told memory n (Finish c) known outs new before after
 finish_served h handles told memory n c None known result old stepped new outs before after idle like at (refused, same) emptied =
     refused_event h handles told memory n (Finish c) known old stepped new outs before after idle like same refl
     (set_known c None known (none-too h old.channels known c like at)) refl emptied
@@ -157,7 +157,7 @@ piece-closings {I = I} h c bytes one known mine is open_still all =
 piece_served : {I A H : Type 0} (h : Hearing I A) (told : H → ℕ → Heard → Sent → H → A → Type 0) (memory : A) (n c : ℕ) (bytes : List ℕ)
     (one : Connection I) (known : Connections I) (channels : ℕ → Option ChannelSeen) (hub new : HubSeen) (outs : List HubOut) (before after : H)
     → AreLike h channels known → known c ≡ Some one → is_closed one ≡ false → ((x : Option ChannelSeen) → set_at c x hub.channels ≡ set_at c x channels)
-    → Empties h told memory n c (with_bytes bytes one) hub outs new before after → IsServed h told memory n (Piece c bytes) known outs new before after
+    → Empties h told memory n c (with_bytes bytes one) hub outs new before after → IsBrought h told memory n (Piece c bytes) known outs new before after
 piece_served {I = I} h told memory n c bytes one known channels hub new outs before after like is open_still others e =
     let now : Connection I = with_entries h e.mine (with_bytes bytes one) in
     let all = brought-of h n c (with_bytes bytes one) e.mine e.brought in
@@ -179,7 +179,7 @@ pieces_served : {I A H : Type 0} (h : Hearing I A) → IsReading h.reads → (ha
     (memory : A) (n c : ℕ) → Tells h handles told → (bytes : List ℕ)
     (o : Option ChannelSeen) (known : Connections I) (result : Result (Unit {0}) HubFault) (old stepped new : HubSeen) (outs : List HubOut) (before after : H)
     → old.turn ≡ Idle → AreLike h old.channels known → old.channels c ≡ o → StepsPiece old c bytes o result stepped
-    → IsEmptied h.reads handles stepped outs new before after → IsServed h told memory n (Piece c bytes) known outs new before after
+    → IsEmptied h.reads handles stepped outs new before after → IsBrought h told memory n (Piece c bytes) known outs new before after
 pieces_served {I = I} h law handles told memory n c tells bytes None known result old stepped new outs before after idle like at (refused, same) emptied =
     let none : known c ≡ None = none-too h old.channels known c like at in
     let is : after_event (Piece c bytes) known ≡ known =
@@ -207,16 +207,16 @@ pieces_served h law handles told memory n c tells bytes (Some channel) known res
     let open_before : is_closed b.one ≡ false = sym b.like.0 ∙ open_still in
     let now = grown-like h law channel b.one bytes (b.like.1 open_before) in
     let others : (x : Option ChannelSeen) → set_at c x stepped.channels ≡ set_at c x old.channels =
-    λ x. ap (λ (l : HubSeen). set_at c x l.channels) made ∙ set-set c x (Some (grown bytes channel)) old.channels in
+    λ x. ap (λ (l : HubSeen). set_at c x l.channels) made ∙ set-set c x (Some (channel_with bytes channel)) old.channels in
     piece_served h told memory n c bytes b.one known old.channels stepped new outs before after like b.is open_before others
-    (serving-empties h handles told memory n c tells outs stepped new (grown bytes channel) (with_bytes bytes b.one) before after
-    (ap (λ (l : HubSeen). l.turn) made) (ap (λ (l : HubSeen). l.channels c) made ∙ set-same c (Some (grown bytes channel)) old.channels) now open_still emptied)
+    (serving-empties h handles told memory n c tells outs stepped new (channel_with bytes channel) (with_bytes bytes b.one) before after
+    (ap (λ (l : HubSeen). l.turn) made) (ap (λ (l : HubSeen). l.channels c) made ∙ set-same c (Some (channel_with bytes channel)) old.channels) now open_still emptied)
 pieces_served h law handles told memory n c tells bytes (Some channel) known result old stepped new outs before after idle like at (inr (inr (open_still, lost, made))) emptied =
     let b = begun-too h old.channels known c channel like at in
     let open_before : is_closed b.one ≡ false = sym b.like.0 ∙ open_still in
     let was : IsLike h channel b.one = b.like.1 open_before in
     let now = grown-like h law channel b.one bytes was in
-    let next_in : IsNextIn h (with_bytes bytes b.one) broken = ((grown bytes channel).unused, (grown bytes channel).unused, now.unused, refl) in
+    let next_in : IsNextIn h (with_bytes bytes b.one) broken = ((channel_with bytes channel).unused, (channel_with bytes channel).unused, now.unused, refl) in
     piece_served h told memory n c bytes b.one known old.channels stepped new outs before after like b.is open_before
     (λ x. ap (λ (l : HubSeen). set_at c x l.channels) made)
     (breaking-empties h handles told memory n c outs stepped new channel (with_bytes bytes b.one) before after
@@ -227,7 +227,7 @@ pub event-served : {I A H : Type 0} (h : Hearing I A) → IsReading h.reads → 
     (memory : A) (n : ℕ) → Tells h handles told
     → (event : Event) (known : Connections I) (result : Result (Unit {0}) HubFault) (old stepped new : HubSeen) (outs : List HubOut) (before after : H)
     → old.turn ≡ Idle → AreLike h old.channels known → Steps old event result stepped → (IsLost event result → ⊥)
-    → IsEmptied h.reads handles stepped outs new before after → IsServed h told memory n event known outs new before after
+    → IsEmptied h.reads handles stepped outs new before after → IsBrought h told memory n event known outs new before after
 event-served h law handles told memory n tells (Ask viewer method path query body) known result old stepped new outs before after idle like steps kept emptied =
     absurd steps
 event-served h law handles told memory n tells (Begin c) known result old stepped new outs before after idle like steps kept emptied =

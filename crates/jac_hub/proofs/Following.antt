@@ -10,16 +10,16 @@ use Rattle.jac_hub.specs.declared.sent.Sent.{Sent}
 use Rattle.jac_hub.specs.declared.channel.Given.{Given}
 use Rattle.jac_hub.specs.declared.channel.Given.TheVariants.{Reply as GivenReply, Closed as GivenClosed}
 use Rattle.jac_hub.specs.Hearing.{connection, Subject, whole, refused, broken, Entry, Hearing}
-use Rattle.jac_hub.specs.Heard.{Connection, new_connection, with_bytes, is_closing, with_entry, is_closed, counted, StandsAt, StandAt, IsNext, AreBrought}
-use Rattle.jac_hub.specs.Channel.{LIMIT, ChannelSeen, new_channel, grown, fixed_500, Waits, AnswersFront, NextOfChannel}
-use Rattle.jac_hub.specs.Served.{IsLike, IsLikeAfter, IsAnswered, Agrees}
+use Rattle.jac_hub.specs.Heard.{Connection, new_connection, with_bytes, may_close, with_entry, is_closed, bytes_counted, StandsAt, StandAt, IsNextEntry, AreBrought}
+use Rattle.jac_hub.specs.Channel.{LIMIT, ChannelSeen, new_channel, channel_with, fixed_500, Waits, AnswersFront, NextOfChannel}
+use Rattle.jac_hub.specs.Served.{IsLike, IsLikeAfter, IsEntryAnswered, AgreesSent}
 use Rattle.jac_hub.proofs.Reading.{stand-longer, stand-push}
 
 -- each answer of a handler, whose relation is `handles`, is told with an answer that agrees
 abbrev pub Tells : {I A H : Type 0} → Hearing I A → (H → ℕ → Heard → Sent → H → Type 0) → (H → ℕ → Heard → Sent → H → A → Type 0) → Type 0
 Tells {A = A} {H = H} h handles told =
     (before after : H) (c : ℕ) (heard : Heard) (sent : Sent) → handles before c heard sent after
-    → (answer : A) × told before c heard sent after answer × Agrees h heard sent answer
+    → (answer : A) × told before c heard sent after answer × AgreesSent h heard sent answer
 
 take_past : (n : ℕ) (xs ys : List ℕ) → take n (xs ++ ys) ≡ take n xs ++ take (n - length xs) ys
 take_past zero xs ys = let z : zero - length xs ≡ zero = omega arith in rw z refl
@@ -33,19 +33,19 @@ room_left l n = omega arith
 
 -- the bytes of a piece that count stand behind those that are unused
 pub grown-like : {I A : Type 0} (h : Hearing I A) → IsReading h.reads → (channel : ChannelSeen) (known : Connection I) (bytes : List ℕ)
-    → IsLike h channel known → IsLike h (grown bytes channel) (with_bytes bytes known)
+    → IsLike h channel known → IsLike h (channel_with bytes channel) (with_bytes bytes known)
 grown-like h law channel known bytes like =
     let room : LIMIT - channel.taken ≡ LIMIT - length known.bytes = ap (λ (k : ℕ). LIMIT - k) like.taken ∙ room_left LIMIT (length known.bytes) in
     let new : List ℕ = take (LIMIT - length known.bytes) bytes in
     let cut : take (LIMIT - channel.taken) bytes ≡ new = ap (λ (k : ℕ). take k bytes) room in
-    let all : counted (with_bytes bytes known) ≡ counted known ++ new = take_past LIMIT known.bytes bytes in
-    let moved : StandAt h known.heard (counted (with_bytes bytes known)) (channel.unused ++ new) =
-    subst (λ (b : List ℕ). StandAt h known.heard b (channel.unused ++ new)) (sym all) (stand-longer h law known.heard (counted known) channel.unused new like.unused) in
+    let all : bytes_counted (with_bytes bytes known) ≡ bytes_counted known ++ new = take_past LIMIT known.bytes bytes in
+    let moved : StandAt h known.heard (bytes_counted (with_bytes bytes known)) (channel.unused ++ new) =
+    subst (λ (b : List ℕ). StandAt h known.heard b (channel.unused ++ new)) (sym all) (stand-longer h law known.heard (bytes_counted known) channel.unused new like.unused) in
     let size : channel.taken + length (take (LIMIT - channel.taken) bytes) ≡ min LIMIT (length (known.bytes ++ bytes)) =
     omega (arith, like.taken, length-take (LIMIT - channel.taken) bytes, length-append known.bytes bytes) in
     record {
       taken = size;
-      unused = subst (λ (b : List ℕ). StandAt h known.heard (counted (with_bytes bytes known)) (channel.unused ++ b)) (sym cut) moved;
+      unused = subst (λ (b : List ℕ). StandAt h known.heard (bytes_counted (with_bytes bytes known)) (channel.unused ++ b)) (sym cut) moved;
       closed = like.closed;
     }
 
@@ -73,14 +73,14 @@ new-like h = record { taken = small LIMIT; unused = none LIMIT; closed = refl }
 
 -- an entry that a connection gets, and how both stand behind it
 pub record GetsNext {I A : Type 0} (h : Hearing I A) (n c : ℕ) (known : Connection I) (entry : Entry I A) (later : ChannelSeen) : Type 0 where
-  pub next : IsNext h n c known entry
+  pub next : IsNextEntry h n c known entry
   pub like : IsLike h later (with_entry h entry known)
 
 -- a subject at the front of what is unused is the next; behind it `rest` is unused
 gets_next : {I A : Type 0} (h : Hearing I A) (n c : ℕ) (channel : ChannelSeen) (known : Connection I) (subject : Subject I) (rest : List ℕ) (answer : A)
     → IsLike h channel known → channel.closed ≡ false → StandsAt h subject channel.unused rest
     → let entry : Entry I A = record { place = n; source = connection c; subject = subject; answer = answer } in
-    GetsNext h n c known entry (record { unused = rest; taken = channel.taken; closed = is_closing h entry })
+    GetsNext h n c known entry (record { unused = rest; taken = channel.taken; closed = may_close h entry })
 gets_next h n c channel known subject rest answer like open_still stands =
     let still_open : known.ended ≡ false = sym like.closed ∙ open_still in
     record {
@@ -92,7 +92,7 @@ gets_next h n c channel known subject rest answer like open_still stands =
       };
       like = record {
         taken = like.taken;
-        unused = stand-push h known.heard subject (counted known) channel.unused rest like.unused stands;
+        unused = stand-push h known.heard subject (bytes_counted known) channel.unused rest like.unused stands;
         closed = rw still_open refl;
       };
     }
@@ -102,7 +102,7 @@ pub record GaveReply {I A H : Type 0} (h : Hearing I A) (told : H → ℕ → He
     (sent : Sent) (later : ChannelSeen) (before after : H) : Type 0 where
   pub entry : Entry I A
   pub gets : GetsNext h n c known entry later
-  pub answered : IsAnswered h told memory c entry.subject entry.answer sent before after
+  pub answered : IsEntryAnswered h told memory c entry.subject entry.answer sent before after
 
 pub record GaveNoReply {I A H : Type 0} (h : Hearing I A) (n c : ℕ) (known : Connection I) (closed : Bool) (later : ChannelSeen) (before after : H) : Type 0 where
   pub same : after ≡ before
@@ -154,7 +154,7 @@ read_gave {I = I} {A = A} h handles told memory n c channel known (Whole request
     let subject : Subject I = whole (h.wants request) request.close in
     let entry : Entry I A = record { place = n; source = connection c; subject = subject; answer = t.0 } in
     let gets = gets_next h n c channel known subject (drop used channel.unused) t.0 like open_still (request, used, reads, refl, refl, refl) in
-    let closing : record { unused = drop used channel.unused; taken = channel.taken; closed = is_closing h entry } ≡ later =
+    let closing : record { unused = drop used channel.unused; taken = channel.taken; closed = may_close h entry } ≡ later =
     (λ i. record { unused = drop used channel.unused; taken = channel.taken; closed = request.close || sym t.2 i }) ∙ sym made in
     let gave : GaveReply h told memory n c known sent later before after = record {
       entry = entry;

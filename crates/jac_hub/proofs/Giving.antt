@@ -10,10 +10,10 @@ use Rattle.jac_hub.specs.declared.hub.HubOut.TheVariants.{Reply, Closed}
 use Rattle.jac_hub.specs.declared.hub.Turn.{Turn}
 use Rattle.jac_hub.specs.declared.hub.Turn.TheVariants.{Idle, Serving, Breaking, Closing, Done}
 use Rattle.jac_hub.specs.Hearing.{connection, broken, Entry, Hearing}
-use Rattle.jac_hub.specs.Heard.{Connection, with_entry, is_closed, IsNext, IsNextIn, AreBrought, AreBegun}
+use Rattle.jac_hub.specs.Heard.{Connection, with_entry, is_closed, IsNextEntry, IsNextIn, AreBrought, AreBegun}
 use Rattle.jac_hub.specs.Channel.{ChannelSeen, fixed_500}
 use Rattle.jac_hub.specs.Hub.{HubSeen, with_channel, out_of, turn_behind, NextServing, NextBreaking, Nexts}
-use Rattle.jac_hub.specs.Served.{IsLike, IsEmptied, IsGiven, IsAnswered, AreAnswered}
+use Rattle.jac_hub.specs.Served.{IsLike, IsEmptied, IsGiven, IsEntryAnswered, AreEntriesAnswered}
 use Rattle.jac_hub.proofs.Standing.{with_entries, set-same}
 use Rattle.jac_hub.proofs.Following.{Tells, Gave, GaveReply, next-gave}
 
@@ -49,7 +49,7 @@ pub record Gives {I A H : Type 0} (h : Hearing I A) (told : H → ℕ → Heard 
   pub mine : List (Entry I A)
   pub replies : List HubOut
   pub begun : AreBegun h n c known mine
-  pub answered : AreAnswered h told memory before mine replies after
+  pub answered : AreEntriesAnswered h told memory before mine replies after
   pub put : (outs ≡ replies) ⊎ (AreBrought h n c known mine × (is_closed (with_entries h mine known) ≡ true) × (outs ≡ replies ++ Closed c ∷ []))
 
 module _ {I A H : Type 0} (h : Hearing I A) (handles : H → ℕ → Heard → Sent → H → Type 0) where
@@ -78,7 +78,7 @@ module _ {I A H : Type 0} (h : Hearing I A) (handles : H → ℕ → Heard → S
 
 -- what is put behind one more reply
 put_behind : {I A : Type 0} (h : Hearing I A) (n c : ℕ) (known : Connection I) (entry : Entry I A) (mine : List (Entry I A)) (out first : HubOut) (outs replies : List HubOut)
-    → IsNext h n c known entry → out ≡ first
+    → IsNextEntry h n c known entry → out ≡ first
     → (outs ≡ replies) ⊎ (AreBrought h n c (with_entry h entry known) mine × (is_closed (with_entries h mine (with_entry h entry known)) ≡ true) × (outs ≡ replies ++ Closed c ∷ []))
     → (out ∷ outs ≡ first ∷ replies)
     ⊎ (AreBrought h n c known (entry ∷ mine) × (is_closed (with_entries h (entry ∷ mine) known) ≡ true) × (out ∷ outs ≡ (first ∷ replies) ++ Closed c ∷ []))
@@ -88,7 +88,7 @@ put_behind h n c known entry mine out first outs replies next is (inr (all, clos
 -- what follows one reply
 goes_on : {I A H : Type 0} (h : Hearing I A) (told : H → ℕ → Heard → Sent → H → A → Type 0) (memory : A)
     (n c : ℕ) (known : Connection I) (entry : Entry I A) (sent : Sent) (out : HubOut) (outs : List HubOut)
-    (before between after : H) → IsNext h n c known entry → IsAnswered h told memory c entry.subject entry.answer sent before between → out ≡ Reply c sent
+    (before between after : H) → IsNextEntry h n c known entry → IsEntryAnswered h told memory c entry.subject entry.answer sent before between → out ≡ Reply c sent
     → Gives h told memory n c (with_entry h entry known) outs between after → Gives h told memory n c known (out ∷ outs) before after
 goes_on h told memory n c known entry sent out outs before between after next answered is rest = record {
   mine = entry ∷ rest.mine;
@@ -115,8 +115,8 @@ closed_gives h told memory n c known outs before after ended put same = record {
 
 closes_behind : {I A H : Type 0} (h : Hearing I A) (handles : H → ℕ → Heard → Sent → H → Type 0) (told : H → ℕ → Heard → Sent → H → A → Type 0) (memory : A)
     (n c : ℕ) (known : Connection I) (entry : Entry I A) (sent : Sent) (between_hub new : HubSeen) (out : HubOut) (outs : List HubOut)
-    (before between after : H) → IsNext h n c known entry → (with_entry h entry known).ended ≡ true
-    → IsAnswered h told memory c entry.subject entry.answer sent before between → out ≡ Reply c sent
+    (before between after : H) → IsNextEntry h n c known entry → (with_entry h entry known).ended ≡ true
+    → IsEntryAnswered h told memory c entry.subject entry.answer sent before between → out ≡ Reply c sent
     → between_hub.turn ≡ Closing c → IsGiven h.reads handles between_hub outs new between after
     → Gives h told memory n c known (out ∷ outs) before after
 closes_behind h handles told memory n c known entry sent between_hub new out outs before between after next ended answered is turn rest =
@@ -191,6 +191,6 @@ breaking-gives {I = I} {A = A} h handles told memory n c (out ∷ outs) hub new 
     subst (λ (o : Option ChannelSeen). (between ≡ before) × NextBreaking hub c o (Some out) between_hub) at
     (subst (λ (t : Turn). Nexts h.reads handles hub t (Some out) between_hub before between) turn next) in
     let entry : Entry I A = record { place = n; source = connection c; subject = broken; answer = memory } in
-    let is_next : IsNext h n c known entry = record { place = refl; source = refl; open_still = open_still; subject = next_in } in
+    let is_next : IsNextEntry h n c known entry = record { place = refl; source = refl; open_still = open_still; subject = next_in } in
     closes_behind h handles told memory n c known entry fixed_500 between_hub new out outs before between after
     is_next (rw open_still refl) (e.0, refl, refl) (some_same out (Reply c fixed_500) e.1.0) (ap (λ (l : HubSeen). l.turn) e.1.1) rest

@@ -4,7 +4,7 @@ use Rattle.std.proofs.lemmas.Bool.Decides.{nat_tests}
 use Rattle.std.proofs.lemmas.List.{take-append-le}
 use Rattle.jac_http.specs.Reading.{IsReading}
 use Rattle.jac_hub.specs.Hearing.{Subject, Entry, Hearing}
-use Rattle.jac_hub.specs.Heard.{Connection, with_bytes, with_entry, is_closed, counted, StandAt, IsNextIn, IsRead, IsNext, AreBrought}
+use Rattle.jac_hub.specs.Heard.{Connection, with_bytes, with_entry, is_closed, bytes_counted, StandAt, IsNextIn, IsReadThrough, IsNextEntry, AreBrought}
 use Rattle.jac_hub.specs.Channel.{LIMIT}
 use Rattle.jac_hub.proofs.Reading.{stand-longer, stands-longer}
 use Rattle.jac_hub.proofs.Standing.{with_entries, AreOf}
@@ -15,11 +15,11 @@ take_more zero xs ys = ([], refl)
 take_more (suc n) [] ys = (take (suc n) ys, refl)
 take_more (suc n) (x ∷ xs) ys = let r = take_more n xs ys in (r.0, ap (λ (l : List ℕ). x ∷ l) r.1)
 
-pub counted-longer : {I : Type 0} (one : Connection I) (bytes : List ℕ) → (extra : List ℕ) × (counted (with_bytes bytes one) ≡ counted one ++ extra)
+pub counted-longer : {I : Type 0} (one : Connection I) (bytes : List ℕ) → (extra : List ℕ) × (bytes_counted (with_bytes bytes one) ≡ bytes_counted one ++ extra)
 counted-longer one bytes = take_more LIMIT one.bytes bytes
 
 -- a one whose bytes are all taken counts no more
-pub counted-full : {I : Type 0} (one : Connection I) (bytes : List ℕ) → LIMIT ≤ length one.bytes → counted (with_bytes bytes one) ≡ counted one
+pub counted-full : {I : Type 0} (one : Connection I) (bytes : List ℕ) → LIMIT ≤ length one.bytes → bytes_counted (with_bytes bytes one) ≡ bytes_counted one
 counted-full one bytes full = take-append-le LIMIT one.bytes bytes full
 
 closed_more : (b : Bool) (l n m : ℕ) → n ≤ m → (b || nat_le l n) ≡ true → (b || nat_le l m) ≡ true
@@ -55,7 +55,7 @@ of-append c (x ∷ xs) ys a b = (a.0, of-append c xs ys a.1 b)
 
 -- where an event's entries end, the one is closed or read
 pub brought-end : {I A : Type 0} (h : Hearing I A) (n c : ℕ) (one : Connection I) (log : List (Entry I A)) → AreBrought h n c one log
-    → ((with_entries h log one).ended ≡ true) ⊎ IsRead h (with_entries h log one)
+    → ((with_entries h log one).ended ≡ true) ⊎ IsReadThrough h (with_entries h log one)
 brought-end h n c one [] brought = brought
 brought-end h n c one (entry ∷ log) brought = brought-end h n c (with_entry h entry one) log brought.1
 
@@ -63,12 +63,12 @@ brought-end h n c one (entry ∷ log) brought = brought-end h n c (with_entry h 
 next_in-longer : {I A : Type 0} (h : Hearing I A) → IsReading h.reads → (one : Connection I) (s : Subject I) (bytes : List ℕ) → IsNextIn h one s → IsNextIn h (with_bytes bytes one) s
 next_in-longer h law one s bytes (from, to, behind, stands) =
     let longer = counted-longer one bytes in
-    let moved : StandAt h one.heard (counted (with_bytes bytes one)) (from ++ longer.0) =
-    subst (λ (b : List ℕ). StandAt h one.heard b (from ++ longer.0)) (sym longer.1) (stand-longer h law one.heard (counted one) from longer.0 behind) in
+    let moved : StandAt h one.heard (bytes_counted (with_bytes bytes one)) (from ++ longer.0) =
+    subst (λ (b : List ℕ). StandAt h one.heard b (from ++ longer.0)) (sym longer.1) (stand-longer h law one.heard (bytes_counted one) from longer.0 behind) in
     (from ++ longer.0, to ++ longer.0, moved, stands-longer h law s from to longer.0 stands)
 
 pub next-longer : {I A : Type 0} (h : Hearing I A) → IsReading h.reads → (n c : ℕ) (one : Connection I) (entry : Entry I A) (bytes : List ℕ)
-    → IsNext h n c one entry → IsNext h n c (with_bytes bytes one) entry
+    → IsNextEntry h n c one entry → IsNextEntry h n c (with_bytes bytes one) entry
 next-longer h law n c one entry bytes next = record {
   place = next.place;
   source = next.source;
@@ -85,12 +85,12 @@ brought-joined h law n c one (entry ∷ front) back bytes first second =
     (next-longer h law n c one entry bytes first.0, brought-joined h law n c (with_entry h entry one) front back bytes first.1 second)
 
 -- where the one was closed before the second piece, that brings nothing in the whole one either
-pub closed-spent : {I A : Type 0} (h : Hearing I A) (one : Connection I) (bytes : List ℕ) → is_closed one ≡ true → (one.ended ≡ true) ⊎ IsRead h one
-    → (one.ended ≡ true) ⊎ IsRead h (with_bytes bytes one)
+pub closed-spent : {I A : Type 0} (h : Hearing I A) (one : Connection I) (bytes : List ℕ) → is_closed one ≡ true → (one.ended ≡ true) ⊎ IsReadThrough h one
+    → (one.ended ≡ true) ⊎ IsReadThrough h (with_bytes bytes one)
 closed-spent h one bytes closed (inl ended) = inl ended
 closed-spent h one bytes closed (inr read) = by (closed-cause one closed)
   where
-    by : (one.ended ≡ true) ⊎ (LIMIT ≤ length one.bytes) → (one.ended ≡ true) ⊎ IsRead h (with_bytes bytes one)
+    by : (one.ended ≡ true) ⊎ (LIMIT ≤ length one.bytes) → (one.ended ≡ true) ⊎ IsReadThrough h (with_bytes bytes one)
     by (inl ended) = inl ended
     by (inr full) =
         inr (read.0, subst (λ (b : List ℕ). StandAt h one.heard b read.0) (sym (counted-full one bytes full)) read.1, read.2)

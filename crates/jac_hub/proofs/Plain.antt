@@ -3,10 +3,10 @@ use Rattle.std.proofs.Common.{refl, ℕ}
 use Rattle.jac_hub.specs.declared.handler.Heard.{Heard}
 use Rattle.jac_hub.specs.declared.handler.Heard.TheVariants.{Whole, Refused}
 use Rattle.jac_hub.specs.declared.sent.Sent.{Sent}
-use Rattle.jac_hub.specs.Served.{Agrees, plain_hearing, sends}
+use Rattle.jac_hub.specs.Served.{AgreesSent, plain_hearing, sends}
 use Rattle.jac_hub.proofs.Following.{Tells}
 
-agrees : (heard : Heard) (sent : Sent) → Agrees plain_hearing heard sent sent
+agrees : (heard : Heard) (sent : Sent) → AgreesSent plain_hearing heard sent sent
 agrees (Whole request) sent = refl
 agrees (Refused status) sent = tt
 

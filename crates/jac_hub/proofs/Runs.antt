@@ -9,7 +9,7 @@ use Rattle.jac_hub.specs.declared.hub.Turn.TheVariants.{Idle}
 use Rattle.jac_hub.specs.Hearing.{broken, Entry, Hearing}
 use Rattle.jac_hub.specs.Heard.{Connections, after_both, IsHeardFrom}
 use Rattle.jac_hub.specs.Hub.{HubSeen}
-use Rattle.jac_hub.specs.Served.{AreLike, Runs, AreServed}
+use Rattle.jac_hub.specs.Served.{AreLike, RunsHub, AreServed}
 use Rattle.jac_hub.proofs.Following.{Tells}
 use Rattle.jac_hub.proofs.Events.{event-served}
 
@@ -22,7 +22,7 @@ pub record HasLog {I A H : Type 0} (h : Hearing I A) (told : H → ℕ → Heard
 pub run-served : {I A H : Type 0} (h : Hearing I A) → IsReading h.reads → (handles : H → ℕ → Heard → Sent → H → Type 0)
     (told : H → ℕ → Heard → Sent → H → A → Type 0) (memory : A) → Tells h handles told
     → (events : List Event) (n : ℕ) (known : Connections I) (hub new : HubSeen) (outs : List HubOut) (before after : H)
-    → hub.turn ≡ Idle → AreLike h hub.channels known → Runs h.reads handles hub events outs new before after
+    → hub.turn ≡ Idle → AreLike h hub.channels known → RunsHub h.reads handles hub events outs new before after
     → HasLog h told memory known n events outs before after
 run-served h law handles told memory tells [] n known hub new outs before after idle like (nothing, same, kept) =
     record { log = []; served = (refl, nothing, kept) }

@@ -3,7 +3,7 @@ use Rattle.std.proofs.Common.{◌≡◌, ◌∙◌, ap, refl, ℕ, ◌==◌, Boo
 use Rattle.std.proofs.lemmas.Bool.Decides.{nat_tests}
 use Rattle.std.specs.Option.{option_map}
 use Rattle.jac_hub.specs.Hearing.{Source, connection, Entry, Hearing}
-use Rattle.jac_hub.specs.Heard.{Connection, Connections, set_at, with_entry, after_entry, after_entries, AreBrought}
+use Rattle.jac_hub.specs.Heard.{Connection, Connections, set_at, with_entry, connections_after, after_entries, AreBrought}
 
 -- a connection behind entries
 abbrev pub with_entries : {I A : Type 0} → Hearing I A → List (Entry I A) → Connection I → Connection I
@@ -27,9 +27,9 @@ AreOf c [] = Unit {0}
 AreOf c (entry ∷ log) = (entry.source ≡ connection c) × AreOf c log
 
 one_after : {I A : Type 0} (h : Hearing I A) (c : ℕ) (entry : Entry I A) (one : Connection I) (known : Connections I) → entry.source ≡ connection c
-    → after_entry h entry.source entry (set_at c (Some one) known) ≡ set_at c (Some (with_entry h entry one)) known
+    → connections_after h entry.source entry (set_at c (Some one) known) ≡ set_at c (Some (with_entry h entry one)) known
 one_after {I = I} h c entry one known e =
-    ap (λ (s : Source). after_entry h s entry (set_at c (Some one) known)) e
+    ap (λ (s : Source). connections_after h s entry (set_at c (Some one) known)) e
     ∙ ap (λ (o : Option (Connection I)). set_at c (option_map (with_entry h entry) o) (set_at c (Some one) known)) (set-same c (Some one) known)
     ∙ set-set c (Some (with_entry h entry one)) (Some one) known
 

@@ -5,10 +5,10 @@ use Rattle.jac_http.specs.declared.taken.Request.{Request}
 use Rattle.jac_http.specs.declared.taken.Taken.{Taken}
 use Rattle.jac_http.specs.declared.taken.Taken.TheVariants.{More, Whole, Refused}
 use Rattle.jac_http.specs.Heads.{HeadParts, parts_of, ends_blank, head_from, head_in}
-use Rattle.jac_http.specs.Requests.{refusal, first_row, lacks_host, has_coding, stated_length_of, posts_no_form, request_of, body_length, answer_by, IsTaken, IsTakenAt}
+use Rattle.jac_http.specs.Requests.{refusal_status, first_status, lacks_host, has_coding, stated_length_of, posts_no_form, request_of, body_length, answer_by, IsTaken, IsTakenAt}
 use Rattle.jac_http.specs.Parts.{is_target}
 use Rattle.jac_http.specs.Reading.{IsReading}
-use Rattle.jac_hub.specs.Refusals.{is_refusal, IsSound}
+use Rattle.jac_hub.specs.Refusals.{is_refusal, IsSoundAnswer}
 
 same_status : (status other : ℕ) → Refused status ≡ Refused other → other ≡ status
 same_status status other e = cc
@@ -34,13 +34,13 @@ AllRefuse : List (Bool × ℕ) → Type 0
 AllRefuse [] = Unit {0}
 AllRefuse (row ∷ rows) = (is_refusal row.1 ≡ true) × AllRefuse rows
 
-first_refuses : (rows : List (Bool × ℕ)) (status : ℕ) → AllRefuse rows → first_row rows ≡ Some status → is_refusal status ≡ true
+first_refuses : (rows : List (Bool × ℕ)) (status : ℕ) → AllRefuse rows → first_status rows ≡ Some status → is_refusal status ≡ true
 unfolding AllRefuse
 first_refuses [] status all e = absurd cc
-first_refuses (row ∷ rows) status all e = by_row row.0 row.1 status (first_row rows) e all.0 (first_refuses rows status all.1)
+first_refuses (row ∷ rows) status all e = by_row row.0 row.1 status (first_status rows) e all.0 (first_refuses rows status all.1)
 
 -- each row of the table has such a status
-row_status : (head : HeadParts) (status : ℕ) → refusal head ≡ Some status → is_refusal status ≡ true
+row_status : (head : HeadParts) (status : ℕ) → refusal_status head ≡ Some status → is_refusal status ≡ true
 unfolding AllRefuse
 row_status head status e =
     let rows : List (Bool × ℕ) =
@@ -52,7 +52,7 @@ no_body : (b : Bool) (status : ℕ) (request : Request) (used : ℕ) → Refused
 no_body true status request used e = no_more status e
 no_body false status request used e = no_whole status request used e
 
-answered_status : (o : Option ℕ) (head : HeadParts) (used : ℕ) (rest : List ℕ) (status : ℕ) → refusal head ≡ o → Refused status ≡ answer_by o head used rest
+answered_status : (o : Option ℕ) (head : HeadParts) (used : ℕ) (rest : List ℕ) (status : ℕ) → refusal_status head ≡ o → Refused status ≡ answer_by o head used rest
     → is_refusal status ≡ true
 answered_status (Some other) head used rest status is e =
     subst (λ (k : ℕ). is_refusal k ≡ true) (same_status status other e) (row_status head other is)
@@ -66,7 +66,7 @@ no_head false status e = subst (λ (k : ℕ). is_refusal k ≡ true) (same_statu
 refused_at : (o : Option (List ℕ)) (bytes : List ℕ) (status : ℕ) → IsTakenAt o bytes (Refused status) → is_refusal status ≡ true
 refused_at None bytes status e = no_head (nat_lt (length bytes) 8192) status e
 refused_at (Some front) bytes status (inl (head, is, e)) =
-    answered_status (refusal (parts_of head)) (parts_of head) (length front) (drop (length front) bytes) status refl e
+    answered_status (refusal_status (parts_of head)) (parts_of head) (length front) (drop (length front) bytes) status refl e
 refused_at (Some front) bytes status (inr (none, e)) = subst (λ (k : ℕ). is_refusal k ≡ true) (same_status status 400 e) refl
 
 some_by : (b : Bool) (front here : List ℕ) (on : Option (List ℕ)) → 0 < length here → (on ≡ Some front → 0 < length front)
@@ -98,16 +98,16 @@ used_at : (o : Option (List ℕ)) (bytes : List ℕ) (request : Request) (used :
     → IsTakenAt o bytes (Whole request used) → 0 < used
 used_at None bytes request used some e = absurd (no_request (nat_lt (length bytes) 8192) request used e)
 used_at (Some front) bytes request used some (inl (head, is, e)) =
-    answered_used (refusal (parts_of head)) (parts_of head) (length front) (drop (length front) bytes) request used (some front refl) e
+    answered_used (refusal_status (parts_of head)) (parts_of head) (length front) (drop (length front) bytes) request used (some front refl) e
 used_at (Some front) bytes request used some (inr (none, e)) = absurd (no_whole 400 request used (sym e))
 
-sound : IsReading IsTaken → (bytes : List ℕ) (taken : Taken) → IsTaken bytes taken → IsSound bytes taken
+sound : IsReading IsTaken → (bytes : List ℕ) (taken : Taken) → IsTaken bytes taken → IsSoundAnswer bytes taken
 sound law bytes More reads = tt
 sound law bytes (Whole request used) reads =
     (used_at (head_in (take 8192 bytes)) bytes request used (some_front [] (take 8192 bytes)) reads, law.within bytes request used reads)
 sound law bytes (Refused status) reads = refused_at (head_in (take 8192 bytes)) bytes status reads
 
 -- whatever was taken from the bytes is sound
-pub all_sound : IsReading IsTaken → (bytes : List ℕ) (result : Result Taken Memory) → IfOk result (λ taken. IsTaken bytes taken) → IfOk result (λ taken. IsSound bytes taken)
+pub all_sound : IsReading IsTaken → (bytes : List ℕ) (result : Result Taken Memory) → IfOk result (λ taken. IsTaken bytes taken) → IfOk result (λ taken. IsSoundAnswer bytes taken)
 all_sound law bytes (Ok taken) reads = sound law bytes taken reads
 all_sound law bytes (Err memory) reads = tt

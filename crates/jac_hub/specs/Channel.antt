@@ -25,8 +25,8 @@ abbrev pub new_channel : ChannelSeen
 new_channel = record { unused = []; taken = 0; closed = false }
 
 -- with what still counts of a piece
-abbrev pub grown : List ℕ → ChannelSeen → ChannelSeen
-grown bytes channel = record channel {
+abbrev pub channel_with : List ℕ → ChannelSeen → ChannelSeen
+channel_with bytes channel = record channel {
   unused = channel.unused ++ take (LIMIT - channel.taken) bytes;
   taken = channel.taken + length (take (LIMIT - channel.taken) bytes);
 }

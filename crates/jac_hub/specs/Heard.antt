@@ -31,45 +31,47 @@ abbrev pub new_connection : {I : Type 0} → Connection I
 new_connection = record { bytes = []; heard = []; ended = false }
 
 -- a connection that has begun already stays
-abbrev pub begun : {I : Type 0} → Option (Connection I) → Option (Connection I)
-begun None = Some new_connection
-begun (Some known) = Some known
+abbrev pub begun_connection : {I : Type 0} → Option (Connection I) → Option (Connection I)
+begun_connection None = Some new_connection
+begun_connection (Some known) = Some known
 
 abbrev pub with_bytes : {I : Type 0} → List ℕ → Connection I → Connection I
 with_bytes bytes known = record known { bytes = known.bytes ++ bytes }
 
 abbrev pub after_event : {I : Type 0} → Event → Connections I → Connections I
 after_event (Ask viewer method path query body) known = known
-after_event (Begin c) known = set_at c (begun (known c)) known
+after_event (Begin c) known = set_at c (begun_connection (known c)) known
 after_event (Piece c bytes) known = set_at c (option_map (with_bytes bytes) (known c)) known
 after_event (Finish c) known = set_at c None known
 
 -- the subject closes its connection
-abbrev pub closes : {I : Type 0} → Subject I → Bool
-closes (whole inquiry close) = close
-closes (refused status) = true
-closes broken = true
+abbrev pub closes_connection : {I : Type 0} → Subject I → Bool
+closes_connection (whole inquiry close) = close
+closes_connection (refused status) = true
+closes_connection broken = true
 
 -- so may the answer
-abbrev pub is_closing : {I A : Type 0} → Hearing I A → Entry I A → Bool
-is_closing h entry = closes entry.subject || h.ends entry.answer
+abbrev pub may_close : {I A : Type 0} → Hearing I A → Entry I A → Bool
+may_close h entry = closes_connection entry.subject || h.ends entry.answer
 
 abbrev pub with_entry : {I A : Type 0} → Hearing I A → Entry I A → Connection I → Connection I
 with_entry h entry known = record known {
   heard = known.heard ++ entry.subject ∷ [];
-  ended = known.ended || is_closing h entry;
+  ended = known.ended || may_close h entry;
 }
 
-abbrev pub after_entry : {I A : Type 0} → Hearing I A → Source → Entry I A → Connections I
+abbrev pub connections_after : {I A : Type 0} → Hearing I A → Source → Entry I A → Connections I
     → Connections I
-after_entry h asked entry known = known
-after_entry h (connection c) entry known = set_at c (option_map (with_entry h entry) (known c))
+connections_after h asked entry known = known
+connections_after h (connection c) entry known = set_at c (option_map (with_entry h entry)
+    (known c))
     known
 
 abbrev pub after_entries : {I A : Type 0} → Hearing I A → List (Entry I A) → Connections I
     → Connections I
 after_entries h [] known = known
-after_entries h (entry ∷ log) known = after_entries h log (after_entry h entry.source entry known)
+after_entries h (entry ∷ log) known = after_entries h log
+    (connections_after h entry.source entry known)
 
 -- how the connections stand behind an event and its entries
 abbrev pub after_both : {I A : Type 0} → Hearing I A → Event → List (Entry I A) → Connections I
@@ -82,8 +84,8 @@ abbrev pub is_closed : {I : Type 0} → Connection I → Bool
 is_closed known = known.ended || nat_le LIMIT (length known.bytes)
 
 -- the bytes that count
-abbrev pub counted : {I : Type 0} → Connection I → List ℕ
-counted known = take LIMIT known.bytes
+abbrev pub bytes_counted : {I : Type 0} → Connection I → List ℕ
+bytes_counted known = take LIMIT known.bytes
 
 -- the subject stands at the front of `from`, and `to` follows it; what isn't read takes nothing
 abbrev pub StandsAt : {I A : Type 0} → Hearing I A → Subject I → List ℕ → List ℕ → Type 0
@@ -101,15 +103,17 @@ StandAt h (subject ∷ subjects) from to = (rest : List ℕ) × StandsAt h subje
 
 -- the subject stands behind those that were heard
 abbrev pub IsNextIn : {I A : Type 0} → Hearing I A → Connection I → Subject I → Type 0
-IsNextIn h known subject = (from : List ℕ) × (to : List ℕ) × StandAt h known.heard (counted known)
+IsNextIn h known subject = (from : List ℕ) × (to : List ℕ) × StandAt h known.heard
+    (bytes_counted known)
     from × StandsAt h subject from to
 
 -- nothing stands behind them but the beginning of a request
-abbrev pub IsRead : {I A : Type 0} → Hearing I A → Connection I → Type 0
-IsRead h known = (from : List ℕ) × StandAt h known.heard (counted known) from × h.reads from More
+abbrev pub IsReadThrough : {I A : Type 0} → Hearing I A → Connection I → Type 0
+IsReadThrough h known = (from : List ℕ) × StandAt h known.heard (bytes_counted known) from
+    × h.reads from More
 
 -- the entry is the next one of connection c, in the n-th event
-pub record IsNext {I A : Type 0} (h : Hearing I A) (n c : ℕ) (known : Connection I)
+pub record IsNextEntry {I A : Type 0} (h : Hearing I A) (n c : ℕ) (known : Connection I)
     (entry : Entry I A) : Type 0 where
   pub place : entry.place ≡ n
   pub source : entry.source ≡ connection c
@@ -119,15 +123,15 @@ pub record IsNext {I A : Type 0} (h : Hearing I A) (n c : ℕ) (known : Connecti
 -- the entries of a connection in the n-th event, until it is closed or all is read
 abbrev pub AreBrought : {I A : Type 0} → Hearing I A → ℕ → ℕ → Connection I → List (Entry I A)
     → Type 0
-AreBrought h n c known [] = (known.ended ≡ true) ⊎ IsRead h known
-AreBrought h n c known (entry ∷ log) = IsNext h n c known entry
+AreBrought h n c known [] = (known.ended ≡ true) ⊎ IsReadThrough h known
+AreBrought h n c known (entry ∷ log) = IsNextEntry h n c known entry
     × AreBrought h n c (with_entry h entry known) log
 
 -- some of them, from the first on
 abbrev pub AreBegun : {I A : Type 0} → Hearing I A → ℕ → ℕ → Connection I → List (Entry I A)
     → Type 0
 AreBegun h n c known [] = Unit {0}
-AreBegun h n c known (entry ∷ log) = IsNext h n c known entry
+AreBegun h n c known (entry ∷ log) = IsNextEntry h n c known entry
     × AreBegun h n c (with_entry h entry known) log
 
 -- what a piece brings, by the connection before it: nothing, where it hasn't begun or is closed

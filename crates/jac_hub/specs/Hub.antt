@@ -17,15 +17,15 @@ use Rattle.jac_hub.specs.declared.hub.HubOut.TheVariants.{Reply, Closed}
 use Rattle.jac_hub.specs.declared.hub.Turn.{Turn}
 use Rattle.jac_hub.specs.declared.hub.Turn.TheVariants.{Idle, Serving, Breaking, Closing, Done}
 use Rattle.jac_hub.specs.Heard.{set_at}
-use Rattle.jac_hub.specs.Channel.{ChannelSeen, new_channel, grown, shut, fixed_500, NextOfChannel}
+use Rattle.jac_hub.specs.Channel.{ChannelSeen, new_channel, channel_with, shut, fixed_500, NextOfChannel}
 
 -- the connections that have begun, by their numbers, and what is to come of the last event
 pub record HubSeen : Type 0 where
   pub channels : ℕ → Option ChannelSeen
   pub turn : Turn
 
-abbrev pub seen : Hub → HubSeen
-seen hub = record { channels = get nat_cmp hub.channels; turn = hub.turn }
+abbrev pub hub_seen : Hub → HubSeen
+hub_seen hub = record { channels = get nat_cmp hub.channels; turn = hub.turn }
 
 abbrev pub new_hub : HubSeen
 new_hub = record { channels = λ c. None; turn = Idle }
@@ -55,7 +55,7 @@ StepsPiece old c bytes None result new = (result ≡ Err (NotOpen c)) × (new �
 StepsPiece old c bytes (Some channel) result new =
     ((channel.closed ≡ true) × (result ≡ Ok tt) × (new ≡ record old { turn = Done }))
     ⊎ ((channel.closed ≡ false) × (result ≡ Ok tt)
-    × (new ≡ with_channel c (Some (grown bytes channel)) (Serving c) old))
+    × (new ≡ with_channel c (Some (channel_with bytes channel)) (Serving c) old))
     ⊎ ((channel.closed ≡ false) × (result ≡ Err Memory) × (new ≡ record old { turn = Breaking c }))
 
 abbrev pub StepsFinish : HubSeen → ℕ → Option ChannelSeen → Result (Unit {0}) HubFault → HubSeen
@@ -120,12 +120,12 @@ unused_in None = 0
 unused_in (Some channel) = length channel.unused
 
 -- how much `next` may still put out, at most
-abbrev pub left_by : Turn → (ℕ → Option ChannelSeen) → ℕ
-left_by Idle channels = 0
-left_by (Serving c) channels = unused_in (channels c) + 4
-left_by (Breaking c) channels = 3
-left_by (Closing c) channels = 2
-left_by Done channels = 1
+abbrev pub puts_left_by : Turn → (ℕ → Option ChannelSeen) → ℕ
+puts_left_by Idle channels = 0
+puts_left_by (Serving c) channels = unused_in (channels c) + 4
+puts_left_by (Breaking c) channels = 3
+puts_left_by (Closing c) channels = 2
+puts_left_by Done channels = 1
 
-abbrev pub left : HubSeen → ℕ
-left hub = left_by hub.turn hub.channels
+abbrev pub puts_left : HubSeen → ℕ
+puts_left hub = puts_left_by hub.turn hub.channels

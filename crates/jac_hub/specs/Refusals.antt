@@ -16,7 +16,7 @@ MayBeHeard (HeardWhole request) = Unit {0}
 MayBeHeard (HeardRefused status) = is_refusal status ≡ true
 
 -- a request uses some of the bytes, and a refusal has one of the statuses
-abbrev pub IsSound : List ℕ → Taken → Type 0
-IsSound bytes More = Unit {0}
-IsSound bytes (Whole request used) = (0 < used) × (used ≤ length bytes)
-IsSound bytes (Refused status) = is_refusal status ≡ true
+abbrev pub IsSoundAnswer : List ℕ → Taken → Type 0
+IsSoundAnswer bytes More = Unit {0}
+IsSoundAnswer bytes (Whole request used) = (0 < used) × (used ≤ length bytes)
+IsSoundAnswer bytes (Refused status) = is_refusal status ≡ true

@@ -14,7 +14,7 @@ use Rattle.jac_hub.specs.declared.hub.HubOut.{HubOut}
 use Rattle.jac_hub.specs.declared.hub.HubOut.TheVariants.{Reply, Closed}
 use Rattle.jac_hub.specs.declared.hub.Turn.TheVariants.{Idle}
 use Rattle.jac_hub.specs.Hearing.{connection, Subject, whole, refused, broken, Entry, Hearing}
-use Rattle.jac_hub.specs.Heard.{Connection, Connections, counted, is_closed, after_both, StandAt, IsBroughtBy, IsBegunBy}
+use Rattle.jac_hub.specs.Heard.{Connection, Connections, bytes_counted, is_closed, after_both, StandAt, IsBroughtBy, IsBegunBy}
 use Rattle.jac_hub.specs.Channel.{LIMIT, ChannelSeen, sent_closes, fixed_500}
 use Rattle.jac_hub.specs.Hub.{HubSeen, Steps, Nexts}
 
@@ -23,7 +23,7 @@ use Rattle.jac_hub.specs.Hub.{HubSeen, Steps, Nexts}
 pub record IsLike {I A : Type 0} (h : Hearing I A) (channel : ChannelSeen) (known : Connection I) :
     Type 0 where
   pub taken : channel.taken ≡ min LIMIT (length known.bytes)
-  pub unused : StandAt h known.heard (counted known) channel.unused
+  pub unused : StandAt h known.heard (bytes_counted known) channel.unused
   pub closed : channel.closed ≡ known.ended
 
 -- between events; of a closed connection only that matters
@@ -80,31 +80,34 @@ closings (Finish c) before after = []
 
 -- an entry's answer beside what the handler was asked and sent, whose relation is `told`: it isn't
 -- asked where memory ran out
-abbrev pub IsAnswered : {I A H : Type 0} → Hearing I A → (H → ℕ → Heard → Sent → H → A → Type 0) → A
+abbrev pub IsEntryAnswered : {I A H : Type 0} → Hearing I A → (H → ℕ → Heard → Sent → H → A
+    → Type 0) → A
     → ℕ → Subject I → A → Sent → H → H → Type 0
-IsAnswered h told memory c (whole inquiry close) answer sent before after =
+IsEntryAnswered h told memory c (whole inquiry close) answer sent before after =
     (request : Request) × (inquiry ≡ h.wants request) × (close ≡ request.close)
     × told before c (HeardWhole request) sent after answer
-IsAnswered h told memory c (refused status) answer sent before after =
+IsEntryAnswered h told memory c (refused status) answer sent before after =
     told before c (HeardRefused status) sent after answer
-IsAnswered h told memory c broken answer sent before after = (after ≡ before) × (answer ≡ memory)
+IsEntryAnswered h told memory c broken answer sent before after = (after ≡ before) × (answer
+    ≡ memory)
     × (sent ≡ fixed_500)
 
 -- the entries beside the replies that were put out: one for each, in their order, under its
 -- connection's number
-abbrev pub AreAnswered : {I A H : Type 0} → Hearing I A → (H → ℕ → Heard → Sent → H → A → Type 0)
+abbrev pub AreEntriesAnswered : {I A H : Type 0} → Hearing I A → (H → ℕ → Heard → Sent → H → A
+    → Type 0)
     → A → H → List (Entry I A) → List HubOut → H → Type 0
-AreAnswered h told memory before [] outs after = (outs ≡ []) × (after ≡ before)
-AreAnswered {H = H} h told memory before (entry ∷ log) outs after =
+AreEntriesAnswered h told memory before [] outs after = (outs ≡ []) × (after ≡ before)
+AreEntriesAnswered {H = H} h told memory before (entry ∷ log) outs after =
     (c : ℕ) × (sent : Sent) × (rest : List HubOut) × (between : H) × (entry.source ≡ connection c)
     × (outs ≡ Reply c sent ∷ rest)
-    × IsAnswered h told memory c entry.subject entry.answer sent before between
-    × AreAnswered h told memory between log rest after
+    × IsEntryAnswered h told memory c entry.subject entry.answer sent before between
+    × AreEntriesAnswered h told memory between log rest after
 
 -- what is sent to a request agrees with the answer: it closes where that does
-abbrev pub Agrees : {I A : Type 0} → Hearing I A → Heard → Sent → A → Type 0
-Agrees h (HeardWhole request) sent answer = sent_closes sent ≡ h.ends answer
-Agrees h (HeardRefused status) sent answer = Unit {0}
+abbrev pub AgreesSent : {I A : Type 0} → Hearing I A → Heard → Sent → A → Type 0
+AgreesSent h (HeardWhole request) sent answer = sent_closes sent ≡ h.ends answer
+AgreesSent h (HeardRefused status) sent answer = Unit {0}
 
 -- want of memory at a Begin: it is the one event that a hub may not take
 abbrev pub IsLost : Event → Result (Unit {0}) HubFault → Type 0
@@ -114,13 +117,13 @@ IsLost (Piece c bytes) result = ⊥
 IsLost (Finish c) result = ⊥
 
 -- what an event and the calls of `next` behind it gave is what the definition brings
-pub record IsServed {I A H : Type 0} (h : Hearing I A) (told : H → ℕ → Heard → Sent → H → A
+pub record IsBrought {I A H : Type 0} (h : Hearing I A) (told : H → ℕ → Heard → Sent → H → A
     → Type 0) (memory : A) (n : ℕ) (event : Event)
     (known : Connections I) (outs : List HubOut) (new : HubSeen) (before after : H) : Type 0 where
   pub mine : List (Entry I A)
   pub brought : IsBroughtBy h n event known mine
   pub replies : List HubOut
-  pub answered : AreAnswered h told memory before mine replies after
+  pub answered : AreEntriesAnswered h told memory before mine replies after
   pub put : outs ≡ replies ++ closings event known (after_both h event mine known)
   pub like : AreLike h new.channels (after_both h event mine known)
   pub idle : new.turn ≡ Idle
@@ -133,21 +136,21 @@ pub record IsServedInPart {I A H : Type 0} (h : Hearing I A) (told : H → ℕ �
   pub mine : List (Entry I A)
   pub replies : List HubOut
   pub begun : IsBegunBy h n event known mine
-  pub answered : AreAnswered h told memory before mine replies after
+  pub answered : AreEntriesAnswered h told memory before mine replies after
   pub put : (outs ≡ replies) ⊎ (IsBroughtBy h n event known mine
       × (outs ≡ replies ++ closings event known (after_both h event mine known)))
 
 -- events one after another, each taken by `step`, behind which `next` is called until it gives
 -- nothing
-abbrev pub Runs : {H : Type 0} → (List ℕ → Taken → Type 0) → (H → ℕ → Heard → Sent → H → Type 0)
+abbrev pub RunsHub : {H : Type 0} → (List ℕ → Taken → Type 0) → (H → ℕ → Heard → Sent → H → Type 0)
     → HubSeen → List Event → List HubOut → HubSeen → H → H → Type 0
-Runs reads handles hub [] outs new before after = (outs ≡ []) × (new ≡ hub) × (after ≡ before)
-Runs {H = H} reads handles hub (event ∷ events) outs new before after =
+RunsHub reads handles hub [] outs new before after = (outs ≡ []) × (new ≡ hub) × (after ≡ before)
+RunsHub {H = H} reads handles hub (event ∷ events) outs new before after =
     (result : Result (Unit {0}) HubFault) × (stepped : HubSeen) × (later : HubSeen)
     × (mine : List HubOut) × (rest : List HubOut) × (between : H)
     × Steps hub event result stepped × (IsLost event result → ⊥)
     × IsEmptied reads handles stepped mine later before between
-    × (outs ≡ mine ++ rest) × Runs reads handles later events rest new between after
+    × (outs ≡ mine ++ rest) × RunsHub reads handles later events rest new between after
 
 -- the events, of which the first is the n-th, bring the log, and this was put out for it
 abbrev pub AreServed : {I A H : Type 0} → Hearing I A → (H → ℕ → Heard → Sent → H → A → Type 0) → A
@@ -159,7 +162,8 @@ AreServed {I = I} {A = A} {H = H} h told memory known n (event ∷ events) log o
     × (rest : List HubOut) × (between : H)
     × (log ≡ mine ++ others)
     × (outs ≡ (replies ++ closings event known (after_both h event mine known)) ++ rest)
-    × IsBroughtBy h n event known mine × AreAnswered h told memory before mine replies between
+    × IsBroughtBy h n event known mine × AreEntriesAnswered h told memory before mine replies
+    between
     × AreServed h told memory (after_both h event mine known) (n + 1) events others rest between
     after
 

@@ -1,8 +1,8 @@
 ghost use Rattle.std.specs.Prelude.{◌≡◌, ◌+◌, ◌-◌, ◌^◌, ◌<◌, ◌≤◌, ◌||◌, take, true, length, Some, IfOk, OnOk, OnErr};
 ghost use Rattle.jac_http.specs.Requests.{IsTaken};
 ghost use Rattle.jac_http.specs.declared.taken.Taken.TheVariants.{Whole, Refused};
-ghost use Rattle.jac_hub.specs.Channel.{LIMIT, new_channel, grown, fixed_500, sent_closes, AnswersFront, Waits, NextOfChannel, IsNearer};
-ghost use Rattle.jac_hub.specs.Refusals.{is_refusal, MayBeHeard, IsSound};
+ghost use Rattle.jac_hub.specs.Channel.{LIMIT, new_channel, channel_with, fixed_500, sent_closes, AnswersFront, Waits, NextOfChannel, IsNearer};
+ghost use Rattle.jac_hub.specs.Refusals.{is_refusal, MayBeHeard, IsSoundAnswer};
 ghost use Rattle.jac_hub.specs.declared.channel.Given.TheVariants.{Reply as reply};
 
 use crate::sent::{closes, fixed_500};
@@ -67,7 +67,7 @@ impl Channel {
 
     /// Takes a piece, as far as it counts.
     pub fn piece(&mut self, bytes: &[u8]) -> Result<(), Memory>
-        ensures ok { OnOk result (self.new ≡ grown bytes.now self.old) }
+        ensures ok { OnOk result (self.new ≡ channel_with bytes.now self.old) }
         ensures err { OnErr result (self.new ≡ self.old) }
     {
         self.compact();
@@ -190,7 +190,7 @@ fn ends(close: bool, sent: &Sent) -> bool
 // What stands at the front of the bytes.
 fn front(alloc: Global, bytes: &[u8]) -> Result<Taken, Memory>
     ensures read { IfOk result (λ taken. IsTaken bytes.now taken) }
-    ensures sound { IfOk result (λ taken. IsSound bytes.now taken) }
+    ensures sound { IfOk result (λ taken. IsSoundAnswer bytes.now taken) }
 {
     requests_are_read();
     take_request(alloc, bytes)

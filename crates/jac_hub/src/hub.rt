@@ -1,6 +1,6 @@
 ghost use Rattle.std.specs.Prelude.{◌≡◌, ◌<◌, ◌+◌, None, Some, IfSome};
 ghost use Rattle.jac_http.specs.Requests.{IsTaken};
-ghost use Rattle.jac_hub.specs.Hub.{seen, IsOfConnection, new_hub, StepsBegin, StepsPiece, StepsFinish, Steps, Nexts, NextServing, NextBreaking, turn_behind, out_of, unused_in, left};
+ghost use Rattle.jac_hub.specs.Hub.{hub_seen, IsOfConnection, new_hub, StepsBegin, StepsPiece, StepsFinish, Steps, Nexts, NextServing, NextBreaking, turn_behind, out_of, unused_in, puts_left};
 ghost use Rattle.jac_hub.specs.declared.hub.Turn.TheVariants.{Idle, Closing};
 
 use crate::channel::{Channel, Given};
@@ -53,7 +53,7 @@ pub struct Hub {
 
 impl Hub {
     pub fn new(alloc: Global) -> Hub
-        ensures { seen result ≡ new_hub }
+        ensures { hub_seen result ≡ new_hub }
     {
         Hub {
             channels: BTreeMap::new(alloc),
@@ -63,9 +63,9 @@ impl Hub {
 
     /// Takes an event. What it brings is asked by `next`, until that answers none.
     pub fn step(&mut self, alloc: Global, event: &Event) -> Result<(), HubFault>
-        requires idle { (seen self.old).turn ≡ Idle }
+        requires idle { (hub_seen self.old).turn ≡ Idle }
         requires connection { IsOfConnection event.now }
-        ensures { Steps (seen self.old) event.now result (seen self.new) }
+        ensures { Steps (hub_seen self.old) event.now result (hub_seen self.new) }
     {
         match event {
             Event::Ask { .. } => unreachable!(),
@@ -76,8 +76,8 @@ impl Hub {
     }
 
     fn begin(&mut self, alloc: Global, conn: u32) -> Result<(), HubFault>
-        ensures { StepsBegin (seen self.old) conn ((seen self.old).channels conn) result
-            (seen self.new) }
+        ensures { StepsBegin (hub_seen self.old) conn ((hub_seen self.old).channels conn) result
+            (hub_seen self.new) }
     {
         if self.channels.contains_key(&conn) {
             return Err(HubFault::AlreadyOpen(conn));
@@ -92,8 +92,9 @@ impl Hub {
     }
 
     fn piece(&mut self, conn: u32, bytes: &[u8]) -> Result<(), HubFault>
-        ensures { StepsPiece (seen self.old) conn bytes.now ((seen self.old).channels conn) result
-            (seen self.new) }
+        ensures { StepsPiece (hub_seen self.old) conn bytes.now
+            ((hub_seen self.old).channels conn) result
+            (hub_seen self.new) }
     {
         let Some(channel) = self.channels.get_mut(&conn) else {
             return Err(HubFault::NotOpen(conn));
@@ -115,8 +116,8 @@ impl Hub {
     }
 
     fn finish(&mut self, conn: u32) -> Result<(), HubFault>
-        ensures { StepsFinish (seen self.old) conn ((seen self.old).channels conn) result
-            (seen self.new) }
+        ensures { StepsFinish (hub_seen self.old) conn ((hub_seen self.old).channels conn) result
+            (hub_seen self.new) }
     {
         match self.channels.remove(&conn) {
             Some(_) => {
@@ -131,10 +132,11 @@ impl Hub {
     /// refused, in their order, then that the connection is closed, then none.
     pub fn next<H: Handler>(&mut self, alloc: Global, handler: &mut H) -> Option<HubOut>
         requires { H.ready handler.old }
-        ensures next { Nexts IsTaken H.handles (seen self.old) (seen self.old).turn result
-            (seen self.new) handler.old handler.new }
-        ensures idle { result ≡ None → (seen self.new).turn ≡ Idle }
-        ensures nearer { IfSome result (λ out. left (seen self.new) < left (seen self.old)) }
+        ensures next { Nexts IsTaken H.handles (hub_seen self.old) (hub_seen self.old).turn result
+            (hub_seen self.new) handler.old handler.new }
+        ensures idle { result ≡ None → (hub_seen self.new).turn ≡ Idle }
+        ensures nearer { IfSome result (λ out. puts_left (hub_seen self.new) < puts_left
+            (hub_seen self.old)) }
         ensures ready { H.ready handler.new }
     {
         match self.turn {
@@ -154,11 +156,11 @@ impl Hub {
 
     fn serve<H: Handler>(&mut self, alloc: Global, conn: u32, handler: &mut H) -> Option<HubOut>
         requires { H.ready handler.old }
-        ensures next { NextServing IsTaken H.handles (seen self.old) conn
-            ((seen self.old).channels conn) result (seen self.new) handler.old handler.new }
-        ensures idle { result ≡ None → (seen self.new).turn ≡ Idle }
-        ensures nearer { IfSome result (λ out. left (seen self.new) < unused_in
-            ((seen self.old).channels conn) + 4) }
+        ensures next { NextServing IsTaken H.handles (hub_seen self.old) conn
+            ((hub_seen self.old).channels conn) result (hub_seen self.new) handler.old handler.new }
+        ensures idle { result ≡ None → (hub_seen self.new).turn ≡ Idle }
+        ensures nearer { IfSome result (λ out. puts_left (hub_seen self.new) < unused_in
+            ((hub_seen self.old).channels conn) + 4) }
         ensures ready { H.ready handler.new }
     {
         let Some(channel) = self.channels.get_mut(&conn) else {
@@ -172,9 +174,9 @@ impl Hub {
     }
 
     fn fail(&mut self, conn: u32) -> HubOut
-        ensures next { NextBreaking (seen self.old) conn ((seen self.old).channels conn)
-            (Some result) (seen self.new) }
-        ensures turn { (seen self.new).turn ≡ Closing conn }
+        ensures next { NextBreaking (hub_seen self.old) conn ((hub_seen self.old).channels conn)
+            (Some result) (hub_seen self.new) }
+        ensures turn { (hub_seen self.new).turn ≡ Closing conn }
     {
         if let Some(channel) = self.channels.get_mut(&conn) {
             channel.close();

@@ -12,7 +12,7 @@ ghost use Rattle.jac_hub.specs.Hearing.{Entry};
 ghost use Rattle.jac_hub.specs.Heard.{Connections, no_connections, IsHeard};
 ghost use Rattle.jac_hub.specs.Channel.{fixed_500};
 ghost use Rattle.jac_hub.specs.Hub.{HubSeen, new_hub, Steps};
-ghost use Rattle.jac_hub.specs.Served.{AreLike, IsEmptied, IsGiven, IsLost, IsServed, IsServedInPart, Runs, AreServed, plain_hearing, sends};
+ghost use Rattle.jac_hub.specs.Served.{AreLike, IsEmptied, IsGiven, IsLost, IsBrought, IsServedInPart, RunsHub, AreServed, plain_hearing, sends};
 
 use crate::Handler;
 use jac_http::requests_are_read;
@@ -26,7 +26,7 @@ pub fn events_are_heard<H: Handler>()
         → old.turn ≡ Idle → AreLike plain_hearing old.channels known
         → Steps old event result stepped → (IsLost event result → ⊥)
         → IsEmptied IsTaken H.handles stepped outs new before after
-        → IsServed plain_hearing (sends H.handles) fixed_500 n event known outs new before after }
+        → IsBrought plain_hearing (sends H.handles) fixed_500 n event known outs new before after }
 {
     requests_are_read();
 }
@@ -35,7 +35,7 @@ pub fn events_are_heard<H: Handler>()
 /// reply for each of its entries, in their order.
 pub fn runs_are_heard<H: Handler>()
     ensures { (events : List Event) (outs : List HubOut) (new : HubSeen) (before after : H)
-        → Runs IsTaken H.handles new_hub events outs new before after
+        → RunsHub IsTaken H.handles new_hub events outs new before after
         → (log : List (Entry Request Sent)) × IsHeard plain_hearing events log
         × AreServed plain_hearing (sends H.handles) fixed_500 no_connections 0 events log outs
         before after }

@@ -1,7 +1,7 @@
 ghost use Rattle.std.specs.Prelude.{◌≡◌, ◌==◌, ◌||◌, ◌&&◌, not, ℕ, Bool, false, IfOk, OnOk, OnErr, IsTrue};
-ghost use Rattle.jac_world.specs.World.{shown, IsAscending};
+ghost use Rattle.jac_world.specs.World.{shown_by, IsAscending};
 ghost use Rattle.jac_value.specs.declared.value.Value.{Value as Cell};
-ghost use Rattle.jac_index.specs.Triples.{same_value, has_pair, IsPairAdded, IsPairRemoved};
+ghost use Rattle.jac_index.specs.Triples.{is_same_value, has_index_pair, IsPairAdded, IsPairRemoved};
 
 use crate::RisingIds;
 use jac_value::{Id, Ids, Memory, Value};
@@ -16,7 +16,7 @@ pub struct ByValue {
 
 impl ByValue {
     pub fn new(alloc: Global) -> ByValue
-        ensures { (v : Cell) (id : ℕ) → has_pair result v id ≡ false }
+        ensures { (v : Cell) (id : ℕ) → has_index_pair result v id ≡ false }
     {
         ByValue {
             ids: BTreeMap::new(alloc),
@@ -26,7 +26,8 @@ impl ByValue {
     /// The same pairs and this one.
     pub fn add(&mut self, alloc: Global, value: &Value, id: Id) -> Result<(), Memory>
         ensures added { OnOk result (IsPairAdded value.now id self.old self.new) }
-        ensures kept { OnErr result ((v : Cell) (k : ℕ) → has_pair self.new v k ≡ has_pair self.old
+        ensures kept { OnErr result ((v : Cell) (k : ℕ) → has_index_pair self.new v k
+            ≡ has_index_pair self.old
             v k) }
     {
         if self.ids.contains_key(value) {
@@ -38,7 +39,8 @@ impl ByValue {
 
     fn add_more(&mut self, value: &Value, id: Id) -> Result<(), Memory>
         ensures added { OnOk result (IsPairAdded value.now id self.old self.new) }
-        ensures kept { OnErr result ((v : Cell) (k : ℕ) → has_pair self.new v k ≡ has_pair self.old
+        ensures kept { OnErr result ((v : Cell) (k : ℕ) → has_index_pair self.new v k
+            ≡ has_index_pair self.old
             v k) }
     {
         match self.ids.get_mut(value) {
@@ -48,9 +50,10 @@ impl ByValue {
     }
 
     fn add_first(&mut self, alloc: Global, value: &Value, id: Id) -> Result<(), Memory>
-        requires { (k : ℕ) → has_pair self.old value.now k ≡ false }
+        requires { (k : ℕ) → has_index_pair self.old value.now k ≡ false }
         ensures added { OnOk result (IsPairAdded value.now id self.old self.new) }
-        ensures kept { OnErr result ((v : Cell) (k : ℕ) → has_pair self.new v k ≡ has_pair self.old
+        ensures kept { OnErr result ((v : Cell) (k : ℕ) → has_index_pair self.new v k
+            ≡ has_index_pair self.old
             v k) }
     {
         let mut ids = RisingIds::empty(alloc);
@@ -72,7 +75,7 @@ impl ByValue {
     // The same pairs but this one, and whether no record has the value any longer.
     fn remove_id(&mut self, value: &Value, id: Id) -> bool
         ensures removed { IsPairRemoved value.now id self.old self.new }
-        ensures none { IsTrue result → (k : ℕ) → has_pair self.new value.now k ≡ false }
+        ensures none { IsTrue result → (k : ℕ) → has_index_pair self.new value.now k ≡ false }
     {
         match self.ids.get_mut(value) {
             Some(ids) => {
@@ -85,15 +88,16 @@ impl ByValue {
 
     // The same pairs, without the entry of a value that no record has.
     fn close(&mut self, value: &Value)
-        requires { (k : ℕ) → has_pair self.old value.now k ≡ false }
-        ensures { (v : Cell) (k : ℕ) → has_pair self.new v k ≡ has_pair self.old v k }
+        requires { (k : ℕ) → has_index_pair self.old value.now k ≡ false }
+        ensures { (v : Cell) (k : ℕ) → has_index_pair self.new v k ≡ has_index_pair self.old v k }
     {
         let _ = self.ids.remove(value);
     }
 
     /// The records that have the value, by rising id, each once.
     pub fn find(&self, alloc: Global, value: &Value) -> Result<Ids, Memory>
-        ensures found { IfOk result (λ ids. (k : ℕ) → shown ids k ≡ has_pair self.now value.now k) }
+        ensures found { IfOk result (λ ids. (k : ℕ) → shown_by ids k
+            ≡ has_index_pair self.now value.now k) }
         ensures ascending { IfOk result IsAscending }
     {
         match self.ids.get(value) {

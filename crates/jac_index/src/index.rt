@@ -1,5 +1,5 @@
 ghost use Rattle.std.specs.Prelude.{◌≡◌, ◌==◌, ◌||◌, ◌&&◌, not, ℕ, Bool, false, IfOk, OnOk, OnErr};
-ghost use Rattle.jac_world.specs.World.{shown, IsAscending};
+ghost use Rattle.jac_world.specs.World.{shown_by, IsAscending};
 ghost use Rattle.jac_value.specs.declared.value.Value.{Value as Cell};
 ghost use Rattle.jac_index.specs.Triples.{has_triple, AreSame, IsAdded, IsRemoved, HasField};
 
@@ -66,7 +66,7 @@ impl Index {
 
     /// The records that have the value at the field, by rising id, each once.
     pub fn find(&self, alloc: Global, field: u8, value: &Value) -> Result<Ids, Memory>
-        ensures found { IfOk result (λ ids. (k : ℕ) → shown ids k ≡ has_triple self.now field
+        ensures found { IfOk result (λ ids. (k : ℕ) → shown_by ids k ≡ has_triple self.now field
             value.now k) }
         ensures ascending { IfOk result IsAscending }
     {

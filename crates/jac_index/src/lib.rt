@@ -3,8 +3,8 @@
 
 mod by_value;
 mod index;
-mod rising;
+mod rising_ids;
 
 pub use by_value::ByValue;
 pub use index::Index;
-pub use rising::RisingIds;
+pub use rising_ids::RisingIds;

@@ -1,7 +1,7 @@
 -- a door in memory, as contracts see it
 use Rattle.std.specs.Prelude.{ℕ, List, [], ◌∷◌, ◌++◌, length, drop, Bool, true, ◌||◌, Option, Some, if◌then◌else◌, nat_le}
-use Rattle.jac_io.specs.Faults.{risen}
-use Rattle.jac_io.specs.Calls.{listed}
+use Rattle.jac_io.specs.Faults.{one_more_fault}
+use Rattle.jac_io.specs.Calls.{is_listed}
 use Rattle.jac_io.specs.Linked.{DoorSeen}
 use Rattle.jac_io.specs.LinkState.{LinkState}
 
@@ -19,7 +19,7 @@ pub record DoorState : Type 0 where
 
 -- whether the next call fails for being listed
 abbrev pub call_fails : DoorState → Bool
-call_fails s = listed (risen s.calls) s.fails
+call_fails s = is_listed (one_more_fault s.calls) s.fails
 
 -- whether handing a link back fails: it is a listed call, or there is no room left
 abbrev pub close_fails : DoorState → Bool
@@ -27,19 +27,19 @@ close_fails s = call_fails s || nat_le s.room (length s.returned)
 
 -- what a call on a door leaves that fails
 abbrev pub failed_door : DoorState → DoorState
-failed_door s = record s { calls = risen s.calls; faults = risen s.faults }
+failed_door s = record s { calls = one_more_fault s.calls; faults = one_more_fault s.faults }
 
 -- what the next listen leaves
 abbrev pub after_listen : DoorState → ℕ → DoorState
 after_listen s port = if call_fails s then failed_door s else record s {
-  calls = risen s.calls;
+  calls = one_more_fault s.calls;
   port = Some port;
 }
 
 -- what asking for the next link leaves
 abbrev pub after_next : DoorState → DoorState
 after_next s = if call_fails s then failed_door s else record s {
-  calls = risen s.calls;
+  calls = one_more_fault s.calls;
   coming = drop 1 s.coming;
 }
 
@@ -47,7 +47,7 @@ after_next s = if call_fails s then failed_door s else record s {
 abbrev pub after_close : DoorState → LinkState → DoorState
 after_close s line =
     if close_fails s then failed_door s else record s {
-      calls = risen s.calls;
+      calls = one_more_fault s.calls;
       returned = s.returned
           ++ line ∷ [];
     }

@@ -2,8 +2,8 @@
 use Rattle.std.specs.Prelude.{ℕ, ◌+◌, ◌-◌, ◌^◌, ◌≤◌, min}
 
 -- the count after one more
-abbrev pub risen : ℕ → ℕ
-risen count = min (count + 1) (2 ^ 64 - 1)
+abbrev pub one_more_fault : ℕ → ℕ
+one_more_fault count = min (count + 1) (2 ^ 64 - 1)
 
 -- the count rose at least once, or stands at its end
 abbrev pub Rose : ℕ → ℕ → Type 0

@@ -1,8 +1,8 @@
 -- files in memory, as contracts see them
 use Rattle.std.specs.Prelude.{ℕ, List, Bool, true, ◌||◌, if◌then◌else◌, is_none}
-use Rattle.jac_io.specs.Faults.{risen}
-use Rattle.jac_io.specs.Calls.{listed}
-use Rattle.jac_io.specs.NamedFiles.{file_of}
+use Rattle.jac_io.specs.Faults.{one_more_fault}
+use Rattle.jac_io.specs.Calls.{is_listed}
+use Rattle.jac_io.specs.NamedFiles.{file_named}
 use Rattle.jac_io.specs.Seen.{FilesSeen}
 
 -- the files, the calls that are to fail, and how many calls there were and how many failed
@@ -13,16 +13,17 @@ pub record FilesState : Type 0 where
   pub faults : ℕ
 
 -- whether the next read fails: it is a listed call, or the file isn't there
-abbrev pub read_fails : FilesState → List ℕ → Bool
-read_fails s name = listed (risen s.calls) s.fails || is_none (file_of s.files name)
+abbrev pub file_read_fails : FilesState → List ℕ → Bool
+file_read_fails s name = is_listed (one_more_fault s.calls) s.fails || is_none
+    (file_named s.files name)
 
 -- what the next read leaves
-abbrev pub after_read : FilesState → List ℕ → FilesState
-after_read s name = record s {
-  calls = risen s.calls;
-  faults = if read_fails s name then risen s.faults else s.faults;
+abbrev pub files_after_read : FilesState → List ℕ → FilesState
+files_after_read s name = record s {
+  calls = one_more_fault s.calls;
+  faults = if file_read_fails s name then one_more_fault s.faults else s.faults;
 }
 
 -- they tell what they hold
 abbrev pub seen_files : FilesState → FilesSeen
-seen_files s = record { tells = true; file = file_of s.files; faults = s.faults }
+seen_files s = record { tells = true; file = file_named s.files; faults = s.faults }

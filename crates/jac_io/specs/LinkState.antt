@@ -1,8 +1,8 @@
 -- a link in memory, as contracts see it
 use Rattle.std.specs.Prelude.{ℕ, List, [], ◌∷◌, ◌++◌, ◌+◌, length, take, drop, Bool, true, false, ◌||◌, if◌then◌else◌, nat_lt}
 use Rattle.std.specs.List.{concat}
-use Rattle.jac_io.specs.Faults.{risen}
-use Rattle.jac_io.specs.Calls.{listed}
+use Rattle.jac_io.specs.Faults.{one_more_fault}
+use Rattle.jac_io.specs.Calls.{is_listed}
 use Rattle.jac_io.specs.Linked.{LinkSeen}
 
 -- the pieces of the input that weren't taken yet, the bytes that were put, the room for these, the
@@ -17,11 +17,11 @@ pub record LinkState : Type 0 where
 
 -- whether the next take fails: it is a listed call
 abbrev pub take_fails : LinkState → Bool
-take_fails s = listed (risen s.calls) s.fails
+take_fails s = is_listed (one_more_fault s.calls) s.fails
 
 -- whether the next put fails: it is a listed call, or the bytes are more than the rest of the room
 abbrev pub put_on_fails : LinkState → List ℕ → Bool
-put_on_fails s bytes = listed (risen s.calls) s.fails || nat_lt s.room
+put_on_fails s bytes = is_listed (one_more_fault s.calls) s.fails || nat_lt s.room
     (length s.held + length bytes)
 
 -- the pieces from the first on that isn't empty
@@ -52,13 +52,13 @@ taken_now s room = take room (first_piece (from_next s.pieces))
 
 -- what a call on a link leaves that fails
 abbrev pub failed_link : LinkState → LinkState
-failed_link s = record s { calls = risen s.calls; faults = risen s.faults }
+failed_link s = record s { calls = one_more_fault s.calls; faults = one_more_fault s.faults }
 
 -- what the next take into so much room leaves
 abbrev pub after_take : LinkState → ℕ → LinkState
 after_take s room =
     if take_fails s then failed_link s else record s {
-      calls = risen s.calls;
+      calls = one_more_fault s.calls;
       pieces = cut room (from_next s.pieces);
     }
 
@@ -66,7 +66,7 @@ after_take s room =
 abbrev pub after_put_on : LinkState → List ℕ → LinkState
 after_put_on s bytes =
     if put_on_fails s bytes then failed_link s else record s {
-      calls = risen s.calls;
+      calls = one_more_fault s.calls;
       held = s.held ++ bytes;
     }
 

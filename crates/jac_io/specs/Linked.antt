@@ -69,7 +69,8 @@ Comes old (Some line) new = old ≡ line ∷ new
 Comes old None new = (old ≡ []) × (new ≡ [])
 
 -- what asking for the next link leaves
-pub record Nexts {L : Type 0} (old new : DoorSeen L) (result : Result (Option L) Refused) : Type 0
+pub record AsksNext {L : Type 0} (old new : DoorSeen L) (result : Result
+    (Option L) Refused) : Type 0
   where
     pub lasts : DoorLasts old new
     pub same_port : IsTrue new.tells → new.port ≡ old.port

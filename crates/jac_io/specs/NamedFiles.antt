@@ -3,6 +3,6 @@ use Rattle.std.specs.Prelude.{ℕ, List, [], ◌∷◌, Option, Some, None, if�
 use Rattle.std.specs.Str.{bytes_eq}
 
 -- the bytes of the first file of this name
-abbrev pub file_of : List (List ℕ × List ℕ) → List ℕ → Option (List ℕ)
-file_of [] name = None
-file_of (file ∷ files) name = if bytes_eq file.0 name then Some file.1 else file_of files name
+abbrev pub file_named : List (List ℕ × List ℕ) → List ℕ → Option (List ℕ)
+file_named [] name = None
+file_named (file ∷ files) name = if bytes_eq file.0 name then Some file.1 else file_named files name

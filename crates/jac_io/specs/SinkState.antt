@@ -1,7 +1,7 @@
 -- a sink in memory, as contracts see it
 use Rattle.std.specs.Prelude.{ℕ, List, [], ◌∷◌, ◌++◌, length, ◌+◌, Bool, true, ◌||◌, Option, if◌then◌else◌, nat_lt, nat_le}
-use Rattle.jac_io.specs.Faults.{risen}
-use Rattle.jac_io.specs.Calls.{listed}
+use Rattle.jac_io.specs.Faults.{one_more_fault}
+use Rattle.jac_io.specs.Calls.{is_listed}
 use Rattle.jac_io.specs.Seen.{SinkSeen}
 
 -- the bytes that were put, each aim with how much was held by then, the room for all bytes and for
@@ -16,21 +16,21 @@ pub record SinkState : Type 0 where
 
 -- whether the next call is to fail
 abbrev pub is_to_fail : SinkState → Bool
-is_to_fail s = listed (risen s.calls) s.fails
+is_to_fail s = is_listed (one_more_fault s.calls) s.fails
 
 -- whether the next put fails: it is a listed call, or the bytes are more than the rest of the room
 abbrev pub put_fails : SinkState → List ℕ → Bool
 put_fails s bytes = is_to_fail s || nat_lt s.room (length s.held + length bytes)
 
 -- what a call leaves that fails
-abbrev pub failed : SinkState → SinkState
-failed s = record s { calls = risen s.calls; faults = risen s.faults }
+abbrev pub failed_sink : SinkState → SinkState
+failed_sink s = record s { calls = one_more_fault s.calls; faults = one_more_fault s.faults }
 
 -- what the next put leaves
 abbrev pub after_put : SinkState → List ℕ → SinkState
 after_put s bytes =
-    if put_fails s bytes then failed s else record s {
-      calls = risen s.calls;
+    if put_fails s bytes then failed_sink s else record s {
+      calls = one_more_fault s.calls;
       held = s.held ++ bytes;
     }
 
@@ -45,8 +45,8 @@ aim_fails s = is_to_fail s || nat_le aims_room (length s.aims)
 -- what the next aim leaves
 abbrev pub after_aim : SinkState → Option (List ℕ) → SinkState
 after_aim s name =
-    if aim_fails s then failed s else record s {
-      calls = risen s.calls;
+    if aim_fails s then failed_sink s else record s {
+      calls = one_more_fault s.calls;
       aims = s.aims ++ (name, length s.held) ∷ [];
     }
 

@@ -1,5 +1,5 @@
 ghost use Rattle.std.specs.Prelude.{◌≡◌, [], IfOk};
-ghost use Rattle.jac_io.specs.Calls.{listed};
+ghost use Rattle.jac_io.specs.Calls.{is_listed};
 
 use jac_value::Memory;
 use std::alloc::Global;
@@ -55,7 +55,7 @@ impl Calls {
 
     /// Whether the call of this number is listed.
     pub fn lists(&self, number: u64) -> bool
-        ensures { result ≡ listed number self.now }
+        ensures { result ≡ is_listed number self.now }
     {
         let numbers = self.numbers.as_slice();
         'calls: for call in numbers {

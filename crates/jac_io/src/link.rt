@@ -1,5 +1,5 @@
 ghost use Rattle.std.specs.Prelude.{◌≡◌, ◌<◌, length};
-ghost use Rattle.jac_io.specs.Linked.{LinkSeen, DoorSeen, Takes, PutsOn, Listens, Nexts, Returns};
+ghost use Rattle.jac_io.specs.Linked.{LinkSeen, DoorSeen, Takes, PutsOn, Listens, AsksNext, Returns};
 
 use crate::Failed;
 
@@ -33,7 +33,7 @@ pub trait Door {
 
     /// Waits for the next connection; `None` where no more will come.
     fn next(&mut self) -> Result<Option<Self::Line>, Failed>
-        ensures { Nexts (seen self.old) (seen self.new) result };
+        ensures { AsksNext (seen self.old) (seen self.new) result };
 
     /// Ends the connection.
     fn close(&mut self, line: Self::Line) -> Result<(), Failed>

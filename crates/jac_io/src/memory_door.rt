@@ -1,5 +1,5 @@
 ghost use Rattle.std.specs.Prelude.{◌≡◌, ◌↔◌, [], None, true, IfOk, IsErr, IsTrue, length, slice_get};
-ghost use Rattle.jac_io.specs.Linked.{Listens, Nexts, Returns};
+ghost use Rattle.jac_io.specs.Linked.{Listens, AsksNext, Returns};
 
 use crate::{Calls, Door, Failed, MemoryLink};
 use jac_value::Memory;
@@ -122,7 +122,7 @@ impl Door for MemoryDoor {
         ensures left { self.new ≡ after_next self.old }
         ensures failed { IsErr result ↔ IsTrue (call_fails self.old) }
         ensures first { IfOk result (λ line. line ≡ slice_get self.old.coming 0) }
-        ensures nexts { Nexts (seen_door self.old) (seen_door self.new) result }
+        ensures nexts { AsksNext (seen_door self.old) (seen_door self.new) result }
     {
         self.calls = self.calls.saturating_add(1);
         if self.fails.lists(self.calls) {

@@ -37,13 +37,14 @@ impl MemoryFiles {
 }
 
 impl Files for MemoryFiles {
-    ghost use Rattle.jac_io.specs.FilesState.{read_fails, after_read, seen_files};
+    ghost use Rattle.jac_io.specs.FilesState.{file_read_fails, files_after_read, seen_files};
 
     ghost seen = { seen_files };
 
     fn read_all(&mut self, alloc: Global, name: &Txt, limit: usize) -> Result<Bytes, FileFault>
-        ensures left { self.new ≡ after_read self.old name.now }
-        ensures failed { IsErrOf result FileFault.Failed ↔ IsTrue (read_fails self.old name.now) }
+        ensures left { self.new ≡ files_after_read self.old name.now }
+        ensures failed { IsErrOf result FileFault.Failed ↔ IsTrue
+            (file_read_fails self.old name.now) }
         ensures reads { ReadsFile (seen_files self.old) (seen_files self.new) name.now limit
             result }
     {

@@ -1,6 +1,6 @@
 ghost use Rattle.std.specs.Prelude.{◌≡◌, [], IfOk};
 ghost use Rattle.std.specs.Option.{option_copied};
-ghost use Rattle.jac_io.specs.NamedFiles.{file_of};
+ghost use Rattle.jac_io.specs.NamedFiles.{file_named};
 
 use jac_value::{Bytes, Txt};
 use std::alloc::Global;
@@ -49,7 +49,7 @@ impl NamedFiles {
 
     /// The bytes of the file of this name.
     pub fn find(&self, name: &Txt) -> Option<&Bytes>
-        ensures { option_copied result ≡ file_of self.now name.now }
+        ensures { option_copied result ≡ file_named self.now name.now }
     {
         let files = self.files.as_slice();
         'files: for file in files {

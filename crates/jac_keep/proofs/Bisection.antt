@@ -3,10 +3,11 @@ use Rattle.std.proofs.Common.{◌≡◌, ◌≢◌, ℕ, ◌<◌, ◌≤◌, Boo
 use Rattle.std.proofs.lemmas.List.{get_or_default}
 use Rattle.std.specs.List.{AllByRecursion, AllWithin}
 use Rattle.std.specs.List.Sorted.{IsNonDecreasingBy, IsPartitionPoint}
+use Rattle.std.proofs.lemmas.Bool.{ltb-true}
 use Rattle.jac_rows.specs.declared.row.Row.{Row}
 use Rattle.jac_keep.specs.declared.alteration.Alteration.{Alteration}
 use Rattle.jac_keep.specs.Records.{AreOrdered, with_id, alternatives, behind}
-use Rattle.jac_keep.specs.Alterations.{named, renamed}
+use Rattle.jac_keep.specs.Alterations.{alternatives_named, with_alteration}
 use Rattle.jac_keep.proofs.PlacingLaws.{with_id-with_id, with_id-like}
 use Rattle.jac_keep.proofs.AlteringLaws.{Rises, Above, above-less, renamed-less, renamed-more, renamed-at, named-above}
 
@@ -102,22 +103,19 @@ next_name_point id a items at point = (
   λ k d low high. point.1 (suc k) d (omega (arith, low)) (omega (arith, high)),
 )
 
-less_of_test : (a b : ℕ) → nat_lt a b ≡ true → a < b
-less_of_test a b e = grind (arith, e)
-
 -- one more alteration comes to stand behind those of lesser ids
-renamed_past : (id : ℕ) (new : List Row) (items : List Alteration) (at : ℕ) → IsNamePoint id items at → renamed id new items ≡ take at items ++ renamed id new (drop at items)
+renamed_past : (id : ℕ) (new : List Row) (items : List Alteration) (at : ℕ) → IsNamePoint id items at → with_alteration id new items ≡ take at items ++ with_alteration id new (drop at items)
 renamed_past id new [] zero point = refl
 renamed_past id new [] (suc at) point = refl
 renamed_past id new (a ∷ items) zero point = refl
 renamed_past id new (a ∷ items) (suc at) point =
-    renamed-less id new a items (less_of_test a.id id (point.0 0 a (omega arith) (omega arith)))
+    renamed-less id new a items (ltb-true a.id id (point.0 0 a (omega arith) (omega arith)))
     ∙ ap (λ xs. a ∷ xs) (renamed_past id new items at (next_name_point id a items at point))
 
-named_skip : (id : ℕ) (a : Alteration) (items : List Alteration) → nat_lt a.id id ≡ true → named id (a ∷ items) ≡ named id items
+named_skip : (id : ℕ) (a : Alteration) (items : List Alteration) → nat_lt a.id id ≡ true → alternatives_named id (a ∷ items) ≡ alternatives_named id items
 named_skip id a items e = grind (arith, e)
 
-named_past : (id : ℕ) (items : List Alteration) (at : ℕ) → IsNamePoint id items at → named id items ≡ named id (drop at items)
+named_past : (id : ℕ) (items : List Alteration) (at : ℕ) → IsNamePoint id items at → alternatives_named id items ≡ alternatives_named id (drop at items)
 named_past id [] zero point = refl
 named_past id [] (suc at) point = refl
 named_past id (a ∷ items) zero point = refl
@@ -137,15 +135,15 @@ rises-drop (a ∷ items) (suc at) rises = rises-drop items at rises.1
 
 -- where the record is named
 pub renamed_at : (id : ℕ) (new : List Row) (items : List Alteration) (at : ℕ) (a : Alteration) → at < length items → a ≡ get_or items at a → a.id ≡ id → IsNamePoint id items at
-    → renamed id new items ≡ set items at (record { id = id; rows = new })
+    → with_alteration id new items ≡ set items at (record { id = id; rows = new })
 renamed_at id new items at a h is same point = renamed-at id new items at a h is same (renamed_past id new items at point)
 
-named_here : (id : ℕ) (a : Alteration) (items : List Alteration) → a.id ≡ id → named id (a ∷ items) ≡ Some a.rows
+named_here : (id : ℕ) (a : Alteration) (items : List Alteration) → a.id ≡ id → alternatives_named id (a ∷ items) ≡ Some a.rows
 named_here id a items same = grind (arith, same)
 
-pub named_at : (id : ℕ) (items : List Alteration) (at : ℕ) (a d : Alteration) → at < length items → a ≡ get_or items at a → a.id ≡ id → IsNamePoint id items at → named id items ≡ Some (get_or items at d).rows
+pub named_at : (id : ℕ) (items : List Alteration) (at : ℕ) (a d : Alteration) → at < length items → a ≡ get_or items at a → a.id ≡ id → IsNamePoint id items at → alternatives_named id items ≡ Some (get_or items at d).rows
 named_at id items at a d h is same point =
-    named_past id items at point ∙ ap (named id) (from_place items at a h is) ∙ named_here id a (drop (suc at) items) same ∙ ap (λ x. Some x.rows) (is ∙ get_or_default items at a d h)
+    named_past id items at point ∙ ap (alternatives_named id) (from_place items at a h is) ∙ named_here id a (drop (suc at) items) same ∙ ap (λ x. Some x.rows) (is ∙ get_or_default items at a d h)
 
 greater_of_test : (a b : ℕ) → nat_lt a b ≡ false → a ≢ b → b < a
 greater_of_test a b e other = grind (arith, e, other)
@@ -157,13 +155,13 @@ greater_at id items at a h is other point =
     greater_of_test a.id id e other
 
 pub renamed_between : (id : ℕ) (new : List Row) (items : List Alteration) (at : ℕ) (a : Alteration) → at < length items → a ≡ get_or items at a → a.id ≢ id → IsNamePoint id items at
-    → renamed id new items ≡ take at items ++ record { id = id; rows = new } ∷ drop at items
+    → with_alteration id new items ≡ take at items ++ record { id = id; rows = new } ∷ drop at items
 renamed_between id new items at a h is other point =
     let here : drop at items ≡ a ∷ drop (suc at) items = from_place items at a h is in
     renamed_past id new items at point
     ∙ ap (λ xs. take at items ++ xs) (rw here (renamed-more id new a (drop (suc at) items) (greater_at id items at a h is other point)))
 
-pub named_between : (id : ℕ) (items : List Alteration) (at : ℕ) (a : Alteration) → at < length items → a ≡ get_or items at a → a.id ≢ id → Rises items → IsNamePoint id items at → named id items ≡ None
+pub named_between : (id : ℕ) (items : List Alteration) (at : ℕ) (a : Alteration) → at < length items → a ≡ get_or items at a → a.id ≢ id → Rises items → IsNamePoint id items at → alternatives_named id items ≡ None
 named_between id items at a h is other rises point =
     let here : drop at items ≡ a ∷ drop (suc at) items = from_place items at a h is in
     let above : Above id (drop at items) = rw here (greater_at id items at a h is other point) in
@@ -175,12 +173,12 @@ past_all [] = refl
 past_all (a ∷ items) = past_all items
 
 pub renamed_past_all : (id : ℕ) (new : List Row) (items : List Alteration) (at : ℕ) → at ≡ length items → IsNamePoint id items at
-    → renamed id new items ≡ take at items ++ record { id = id; rows = new } ∷ drop at items
+    → with_alteration id new items ≡ take at items ++ record { id = id; rows = new } ∷ drop at items
 renamed_past_all id new items at end point =
     let none : drop at items ≡ [] = rw end (past_all items) in
     renamed_past id new items at point ∙ ap (λ xs. take at items ++ xs) (rw none refl)
 
-pub named_past_all : (id : ℕ) (items : List Alteration) (at : ℕ) → at ≡ length items → IsNamePoint id items at → named id items ≡ None
+pub named_past_all : (id : ℕ) (items : List Alteration) (at : ℕ) → at ≡ length items → IsNamePoint id items at → alternatives_named id items ≡ None
 named_past_all id items at end point =
     let none : drop at items ≡ [] = rw end (past_all items) in
-    named_past id items at point ∙ ap (named id) none
+    named_past id items at point ∙ ap (alternatives_named id) none

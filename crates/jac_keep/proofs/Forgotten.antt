@@ -1,22 +1,19 @@
 -- Tables of which a record is altered, or none, and the indexes that are left.
 use Rattle.std.proofs.Common.{◌≡◌, ℕ, zero, suc, ◌+◌, ◌<◌, ◌==◌, ◌||◌, Bool, true, false, if◌then◌else◌, List, [], ◌∷◌, Option, Some, None, length, add-zero, zero-add, refl, ap, sym, ◌∙◌, subst, arith}
+use Rattle.std.proofs.lemmas.Bool.{or_parts}
 use Rattle.jac_value.specs.Ids.{model_of_id}
 use Rattle.jac_rows.specs.declared.row.Row.{Row}
 use Rattle.jac_rows.specs.Tables.{rows_of}
 use Rattle.jac_keep.specs.declared.alteration.Alteration.{Alteration}
 use Rattle.jac_keep.specs.declared.table_index.TableIndex.{TableIndex}
 use Rattle.jac_keep.specs.declared.table_indexes.TableIndexes.{TableIndexes}
-use Rattle.jac_keep.specs.Alterations.{alters, altered, overlaid_from, overlaid}
+use Rattle.jac_keep.specs.Alterations.{alters, altered_rows, overlaid_from, overlaid}
 use Rattle.jac_keep.specs.Indexed.{index_at, IsIndexOf, AreIndexesOf}
 
-neither : (b c : Bool) → (b || c) ≡ false → (b ≡ false) × (c ≡ false)
-neither true c e = absurd cc
-neither false c e = (refl, e)
-
-pub altered_other : (model : ℕ) (changed : List Alteration) (rows : List Row) → alters model changed ≡ false → altered model changed rows ≡ rows
+pub altered_other : (model : ℕ) (changed : List Alteration) (rows : List Row) → alters model changed ≡ false → altered_rows model changed rows ≡ rows
 altered_other model [] rows none = refl
 altered_other model (a ∷ rest) rows none =
-    let both = neither (model_of_id a.id == model) (alters model rest) none in
+    let both = or_parts (model_of_id a.id == model) (alters model rest) none in
     rw both.0 (altered_other model rest rows both.1)
 
 rows_unaltered_from : (first model : ℕ) (changed : List Alteration) (tables : List (List Row)) → alters (first + model) changed ≡ false
@@ -33,21 +30,21 @@ pub rows_unaltered : (model : ℕ) (changed : List Alteration) (tables : List (L
 rows_unaltered model changed tables none = rows_unaltered_from 0 model changed tables (subst (λ m. alters m changed ≡ false) (omega arith) none)
 
 rows_altered_from : (first m : ℕ) (changed : List Alteration) (tables : List (List Row)) → 0 < length (rows_of tables m)
-    → rows_of (overlaid_from first changed tables) m ≡ altered (first + m) changed (rows_of tables m)
+    → rows_of (overlaid_from first changed tables) m ≡ altered_rows (first + m) changed (rows_of tables m)
 rows_altered_from first zero changed [] some = absurd (omega (arith, some))
 rows_altered_from first (suc m) changed [] some = absurd (omega (arith, some))
 rows_altered_from first zero changed (t ∷ tables) some = rw (add-zero first) refl
 rows_altered_from first (suc m) changed (t ∷ tables) some =
     let next : (first + 1) + m ≡ first + suc m = omega arith in
-    rows_altered_from (first + 1) m changed tables some ∙ ap (λ k. altered k changed (rows_of tables m)) next
+    rows_altered_from (first + 1) m changed tables some ∙ ap (λ k. altered_rows k changed (rows_of tables m)) next
 
 -- the table of a model after alterations, where an altered one wasn't empty
 pub altered_table : (m : ℕ) (changed : List Alteration) (tables : List (List Row)) → (alters m changed ≡ true → 0 < length (rows_of tables m))
-    → altered m changed (rows_of tables m) ≡ rows_of (overlaid changed tables) m
+    → altered_rows m changed (rows_of tables m) ≡ rows_of (overlaid changed tables) m
 altered_table m changed tables some = by_case (alters m changed) refl
   where
-    by_case : (b : Bool) → alters m changed ≡ b → altered m changed (rows_of tables m) ≡ rows_of (overlaid changed tables) m
-    by_case true e = sym (rows_altered_from 0 m changed tables (some e) ∙ ap (λ k. altered k changed (rows_of tables m)) (zero-add m))
+    by_case : (b : Bool) → alters m changed ≡ b → altered_rows m changed (rows_of tables m) ≡ rows_of (overlaid changed tables) m
+    by_case true e = sym (rows_altered_from 0 m changed tables (some e) ∙ ap (λ k. altered_rows k changed (rows_of tables m)) (zero-add m))
     by_case false e = altered_other m changed (rows_of tables m) e ∙ sym (rows_unaltered m changed tables e)
 
 -- what is left at a model once alterations were gone through

@@ -2,7 +2,7 @@
 use Rattle.std.proofs.Common.{◌≡◌, ◌∙◌, refl, sym, ap, ℕ, ◌<◌, ◌≤◌, ◌==◌, Bool, true, false, ◌||◌, if◌then◌else◌, List, [], ◌∷◌, ◌++◌, arith}
 use Rattle.std.specs.List.{AllByRecursion}
 use Rattle.std.proofs.lemmas.Bool.Decides.{nat_tests, Decides-eqb}
-use Rattle.jac_world.specs.World.{shown, IsAscending}
+use Rattle.jac_world.specs.World.{shown_by, IsAscending}
 use Rattle.jac_rows.specs.declared.row.Row.{Row}
 use Rattle.jac_keep.specs.Records.{with_id, alternatives, AreOrdered}
 use Rattle.jac_keep.proofs.PlacingLaws.{with_id-none, with_id-like}
@@ -34,20 +34,20 @@ pub joined : (p q : ℕ → Bool) (rows : List Row) → AreOrdered rows → ((i 
 joined p q [] ordered apart = refl
 joined p q (r ∷ rows) ordered apart = joined_if p q r rows (p r.id) (q r.id) refl refl ordered.0 apart (joined p q rows ordered.1 apart)
 
-later_if : (k x j : ℕ) (xs : List ℕ) (b : Bool) → (x == j) ≡ b → k < x → (shown xs j ≡ true → k < j) → (b || shown xs j) ≡ true → k < j
+later_if : (k x j : ℕ) (xs : List ℕ) (b : Bool) → (x == j) ≡ b → k < x → (shown_by xs j ≡ true → k < j) → (b || shown_by xs j) ≡ true → k < j
 later_if k x j xs true e less ih s = let same : x ≡ j = (Decides-eqb x j).0 e in omega (arith, less, same)
 later_if k x j xs false e less ih s = ih s
 
-later : (k : ℕ) (ks : List ℕ) → IsAscending (k ∷ ks) → (j : ℕ) → shown ks j ≡ true → k < j
+later : (k : ℕ) (ks : List ℕ) → IsAscending (k ∷ ks) → (j : ℕ) → shown_by ks j ≡ true → k < j
 later k [] up j s = cc
 later k (x ∷ xs) up j s = later_if k x j xs (x == j) refl up.0 (λ t. let l : x < j = later x xs up.1 j t in omega (arith, l, up.0)) s
 
 turned : (a b : ℕ) → (a == b) ≡ (b == a)
 turned a b = grind (arith, nat_tests)
 
-pub each_own : (ids : List ℕ) (rows : List Row) → IsAscending ids → AreOrdered rows → gathered ids rows ≡ with_id (shown ids) rows
-each_own [] rows up ordered = sym (with_id-none (shown []) rows (λ i. refl))
+pub each_own : (ids : List ℕ) (rows : List Row) → IsAscending ids → AreOrdered rows → gathered ids rows ≡ with_id (shown_by ids) rows
+each_own [] rows up ordered = sym (with_id-none (shown_by []) rows (λ i. refl))
 each_own (k ∷ ks) rows up ordered =
     ap (λ l. alternatives k rows ++ l) (each_own ks rows up.1 ordered)
-    ∙ joined (λ i. i == k) (shown ks) rows ordered (λ i j e s. let same : i ≡ k = (Decides-eqb i k).0 e in let l : k < j = later k ks up j s in omega (arith, same, l))
-    ∙ with_id-like (λ i. (i == k) || shown ks i) (shown (k ∷ ks)) rows (λ i. ap (λ b. b || shown ks i) (turned i k))
+    ∙ joined (λ i. i == k) (shown_by ks) rows ordered (λ i j e s. let same : i ≡ k = (Decides-eqb i k).0 e in let l : k < j = later k ks up j s in omega (arith, same, l))
+    ∙ with_id-like (λ i. (i == k) || shown_by ks i) (shown_by (k ∷ ks)) rows (λ i. ap (λ b. b || shown_by ks i) (turned i k))

@@ -5,14 +5,14 @@ use Rattle.std.proofs.lemmas.Bool.Decides.{Decides-eqb}
 use Rattle.jac_value.specs.Ids.{model_of_id}
 use Rattle.jac_rows.specs.Tables.{rows_of}
 use Rattle.jac_value.specs.declared.value.Value.{Value}
-use Rattle.jac_world.specs.World.{shown, IsRisingBy, StartsAboveBy}
+use Rattle.jac_world.specs.World.{shown_by, IsRisingBy, StartsAboveBy}
 use Rattle.jac_rows.specs.declared.row.Row.{Row}
 use Rattle.jac_keep.specs.declared.alteration.Alteration.{Alteration}
-use Rattle.jac_keep.specs.Records.{with_id, alternatives, before, behind, placed, AreOf}
-use Rattle.jac_keep.specs.Alterations.{AreOwn, AreApart, ArePlaced, altered, overlaid}
+use Rattle.jac_keep.specs.Records.{with_id, alternatives, before, behind, placed_rows, AreOf}
+use Rattle.jac_keep.specs.Alterations.{AreOwn, AreApart, ArePlaced, altered_rows, overlaid}
 use Rattle.jac_keep.proofs.AlteringLaws.{placed_if, rows_of-overlaid}
 use Rattle.jac_keep.proofs.PlacingLaws.{with_id-with_id, with_id-like, with_id-placed, with_id-all_of, with_id-none_of}
-use Rattle.jac_keep.specs.Holding.{has_cell, holds_cell, holders, masked_rows, masked}
+use Rattle.jac_keep.specs.Holding.{has_cell, holds_cell, holders, masked_rows, masked_alterations}
 
 pub or_assoc : (a b c : Bool) → ((a || b) || c) ≡ (a || (b || c))
 or_assoc true b c = refl
@@ -72,7 +72,7 @@ module _ (f : ℕ) (v : Value) where
 
   -- what holds among rows in place of a record's
   holds-placed : (id : ℕ) (new rows : List Row) (i : ℕ) → AreOf id new
-      → holds_cell f v (placed id new rows) i ≡ (((nat_lt i id && holds_cell f v rows i) || ((id == i) && list_any (has_cell f v) new)) || (nat_lt id i && holds_cell f v rows i))
+      → holds_cell f v (placed_rows id new rows) i ≡ (((nat_lt i id && holds_cell f v rows i) || ((id == i) && list_any (has_cell f v) new)) || (nat_lt id i && holds_cell f v rows i))
   holds-placed id new rows i own =
       holds-append (before id rows ++ new) (behind id rows) i
       ∙ rw (holds-append (before id rows) new i, holds-with_id (λ k. nat_lt k id) rows i, holds-own id i new own, holds-with_id (λ k. nat_lt id k) rows i) refl
@@ -82,7 +82,7 @@ module _ (f : ℕ) (v : Value) where
 
   -- a record's new alternatives, and what others hold
   pub holds-rewritten : (id : ℕ) (new rows : List Row) (k : ℕ) → AreOf id new
-      → (holds_cell f v new k || (not (holds_cell f v (alternatives id rows) k) && holds_cell f v rows k)) ≡ holds_cell f v (placed id new rows) k
+      → (holds_cell f v new k || (not (holds_cell f v (alternatives id rows) k) && holds_cell f v rows k)) ≡ holds_cell f v (placed_rows id new rows) k
   holds-rewritten id new rows k own =
       rw (holds-own id k new own, holds-with_id (λ i. i == id) rows k)
       (rewritten_at id k (holds_cell f v rows k) (list_any (has_cell f v) new) ∙ sym (holds-placed id new rows k own))
@@ -100,9 +100,9 @@ module _ (f : ℕ) (v : Value) where
   own_part test id new true e t own = rw e (with_id-all_of test id new own t)
   own_part test id new false e t own = rw e (with_id-none_of test id new own t)
 
-  pub holders-placed : (id : ℕ) (new rows : List Row) → AreOf id new → holders f v (placed id new rows) ≡ placed id (masked_rows f v new) (holders f v rows)
+  pub holders-placed : (id : ℕ) (new rows : List Row) → AreOf id new → holders f v (placed_rows id new rows) ≡ placed_rows id (masked_rows f v new) (holders f v rows)
   holders-placed id new rows own =
-      let test : ℕ → Bool = holds_cell f v (placed id new rows) in
+      let test : ℕ → Bool = holds_cell f v (placed_rows id new rows) in
       let held : ℕ → Bool = holds_cell f v rows in
       let any : Bool = list_any (has_cell f v) new in
       let low : with_id test (before id rows) ≡ before id (holders f v rows) =
@@ -120,17 +120,17 @@ module _ (f : ℕ) (v : Value) where
   holders-placed_if true id new rows own = holders-placed id new rows own
   holders-placed_if false id new rows own = refl
 
-pub holders_altered : (f : ℕ) (v : Value) (m : ℕ) (over : List Alteration) (rows : List Row) → AreOwn over → holders f v (altered m over rows) ≡ altered m (masked f v over) (holders f v rows)
+pub holders_altered : (f : ℕ) (v : Value) (m : ℕ) (over : List Alteration) (rows : List Row) → AreOwn over → holders f v (altered_rows m over rows) ≡ altered_rows m (masked_alterations f v over) (holders f v rows)
 holders_altered f v m [] rows own = refl
 holders_altered f v m (a ∷ rest) rows own =
     let t : Bool = model_of_id a.id == m in
     holders_altered f v m rest (placed_if t a.id a.rows rows) own.1
-    ∙ ap (altered m (masked f v rest)) (holders-placed_if f v t a.id a.rows rows own.0)
+    ∙ ap (altered_rows m (masked_alterations f v rest)) (holders-placed_if f v t a.id a.rows rows own.0)
 
 -- a scan of the rows
 pub held_next : (f : ℕ) (v : Value) (rows : List Row) (old new : List ℕ) (r : Row) (rest : List Row) (k : ℕ)
-    → shown new k ≡ (((r.id == k) && has_cell f v r) || shown old k) → (shown old k || holds_cell f v (r ∷ rest) k) ≡ holds_cell f v rows k → (shown new k || holds_cell f v rest k) ≡ holds_cell f v rows k
-held_next f v rows old new r rest k added so_far = rw added (turned ((r.id == k) && has_cell f v r) (shown old k) (holds_cell f v rest k) ∙ so_far)
+    → shown_by new k ≡ (((r.id == k) && has_cell f v r) || shown_by old k) → (shown_by old k || holds_cell f v (r ∷ rest) k) ≡ holds_cell f v rows k → (shown_by new k || holds_cell f v rest k) ≡ holds_cell f v rows k
+held_next f v rows old new r rest k added so_far = rw added (turned ((r.id == k) && has_cell f v r) (shown_by old k) (holds_cell f v rest k) ∙ so_far)
   where
     turned : (a b c : Bool) → ((a || b) || c) ≡ (b || (a || c))
     turned true true c = refl
@@ -141,11 +141,11 @@ pub held_all : (a : Bool) → (a || false) ≡ a
 held_all a = or_none a
 
 -- masked alterations stand apart as they did
-above_masked : (f : ℕ) (v : Value) (k : ℕ) (rest : List Alteration) → StartsAboveBy (λ (a : Alteration). a.id) k rest → StartsAboveBy (λ (a : Alteration). a.id) k (masked f v rest)
+above_masked : (f : ℕ) (v : Value) (k : ℕ) (rest : List Alteration) → StartsAboveBy (λ (a : Alteration). a.id) k rest → StartsAboveBy (λ (a : Alteration). a.id) k (masked_alterations f v rest)
 above_masked f v k [] above = tt
 above_masked f v k (a ∷ rest) above = above
 
-rises_masked : (f : ℕ) (v : Value) (rest : List Alteration) → IsRisingBy (λ (a : Alteration). a.id) rest → IsRisingBy (λ (a : Alteration). a.id) (masked f v rest)
+rises_masked : (f : ℕ) (v : Value) (rest : List Alteration) → IsRisingBy (λ (a : Alteration). a.id) rest → IsRisingBy (λ (a : Alteration). a.id) (masked_alterations f v rest)
 rises_masked f v [] up = tt
 rises_masked f v (a ∷ rest) up = (above_masked f v a.id rest up.0, rises_masked f v rest up.1)
 
@@ -153,19 +153,19 @@ own_if : (b : Bool) (id : ℕ) (rows : List Row) → AreOf id rows → AreOf id 
 own_if true id rows own = own
 own_if false id rows own = tt
 
-own_masked : (f : ℕ) (v : Value) (rest : List Alteration) → AreOwn rest → AreOwn (masked f v rest)
+own_masked : (f : ℕ) (v : Value) (rest : List Alteration) → AreOwn rest → AreOwn (masked_alterations f v rest)
 own_masked f v [] own = tt
 own_masked f v (a ∷ rest) own = (own_if (list_any (has_cell f v) a.rows) a.id a.rows own.0, own_masked f v rest own.1)
 
-pub apart_masked : (f : ℕ) (v : Value) (rest : List Alteration) → AreApart rest → AreApart (masked f v rest)
+pub apart_masked : (f : ℕ) (v : Value) (rest : List Alteration) → AreApart rest → AreApart (masked_alterations f v rest)
 apart_masked f v rest apart = record { rising = rises_masked f v rest apart.rising; own = own_masked f v rest apart.own }
 
 -- what a work finds: the keeper's rows, and the replaced records in their places
 pub rows_with_read : (f : ℕ) (v : Value) (model : ℕ) (over masks : List Alteration) (tables : List (List Row)) (rows out : List Row) → ArePlaced over (length tables) → AreApart over
-    → rows ≡ holders f v (rows_of tables model) → masks ≡ masked f v over → out ≡ altered model masks rows → out ≡ holders f v (rows_of (overlaid over tables) model)
+    → rows ≡ holders f v (rows_of tables model) → masks ≡ masked_alterations f v over → out ≡ altered_rows model masks rows → out ≡ holders f v (rows_of (overlaid over tables) model)
 rows_with_read f v model over masks tables rows out placed apart found is out_is =
     out_is
-    ∙ ap (λ m. altered model m rows) is
-    ∙ ap (altered model (masked f v over)) found
+    ∙ ap (λ m. altered_rows model m rows) is
+    ∙ ap (altered_rows model (masked_alterations f v over)) found
     ∙ sym (holders_altered f v model over (rows_of tables model) apart.own)
     ∙ ap (holders f v) (sym (rows_of-overlaid model over tables placed))

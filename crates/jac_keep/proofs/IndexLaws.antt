@@ -4,9 +4,9 @@ use Rattle.std.proofs.lemmas.Bool.Decides.{Decides-eqb}
 use Rattle.jac_value.specs.Ids.{model_of_id}
 use Rattle.jac_rows.specs.declared.row.Row.{Row}
 use Rattle.jac_rows.specs.Tables.{rows_of}
-use Rattle.jac_keep.specs.Alterations.{AreApart, AreOwn, alters, altered, named, overlaid}
+use Rattle.jac_keep.specs.Alterations.{AreApart, AreOwn, alters, altered_rows, alternatives_named, overlaid}
 use Rattle.jac_keep.specs.Indexed.{index_at, IsIndexOf, AreIndexesOf, AreAltered, Remains}
-use Rattle.jac_keep.specs.Records.{AreOf, alternatives, placed}
+use Rattle.jac_keep.specs.Records.{AreOf, alternatives, placed_rows}
 use Rattle.jac_keep.specs.declared.alteration.Alteration.{Alteration}
 use Rattle.jac_keep.specs.declared.table_index.TableIndex.{TableIndex}
 use Rattle.jac_keep.specs.declared.table_indexes.TableIndexes.{TableIndexes}
@@ -20,10 +20,10 @@ own_at zero (x ∷ changed) a h is own = rw is own.0
 own_at (suc i) (x ∷ changed) a h is own = own_at i changed a (omega (arith, h)) is own.1
 
 altered_more : (m i : ℕ) (changed : List Alteration) (a : Alteration) (rows : List Row) → i < length changed → a ≡ get_or changed i a
-    → altered m (take (suc i) changed) rows ≡ placed_if (model_of_id a.id == m) a.id a.rows (altered m (take i changed) rows)
+    → altered_rows m (take (suc i) changed) rows ≡ placed_if (model_of_id a.id == m) a.id a.rows (altered_rows m (take i changed) rows)
 altered_more m i [] a rows h is = absurd (omega (arith, h))
 altered_more m zero (x ∷ changed) a rows h is = rw is refl
-altered_more m (suc i) (x ∷ changed) a rows h is = altered_more m i changed a (if model_of_id x.id == m then placed x.id x.rows rows else rows) (omega (arith, h)) is
+altered_more m (suc i) (x ∷ changed) a rows h is = altered_more m i changed a (if model_of_id x.id == m then placed_rows x.id x.rows rows else rows) (omega (arith, h)) is
 
 alters_more : (m i : ℕ) (changed : List Alteration) (a : Alteration) → i < length changed → a ≡ get_or changed i a
     → alters m (take (suc i) changed) ≡ ((model_of_id a.id == m) || alters m (take i changed))
@@ -46,10 +46,10 @@ above_at k (suc i) (x ∷ changed) a h is above rises =
     let later : x.id < a.id = above_at x.id i changed a (omega (arith, h)) is rises.0 rises.1 in
     omega (arith, above, later)
 
-named_not : (id : ℕ) (x : Alteration) (rest : List Alteration) → x.id < id → named id rest ≡ None → named id (x ∷ rest) ≡ None
+named_not : (id : ℕ) (x : Alteration) (rest : List Alteration) → x.id < id → alternatives_named id rest ≡ None → alternatives_named id (x ∷ rest) ≡ None
 named_not id x rest less none = grind (arith, less, none)
 
-unnamed : (i : ℕ) (changed : List Alteration) (a : Alteration) → i < length changed → a ≡ get_or changed i a → Rises changed → named a.id (take i changed) ≡ None
+unnamed : (i : ℕ) (changed : List Alteration) (a : Alteration) → i < length changed → a ≡ get_or changed i a → Rises changed → alternatives_named a.id (take i changed) ≡ None
 unnamed i [] a h is rises = absurd (omega (arith, h))
 unnamed zero (x ∷ changed) a h is rises = refl
 unnamed (suc i) (x ∷ changed) a h is rises =
@@ -72,7 +72,7 @@ own_taken (suc i) (x ∷ changed) own = (own.0, own_taken i changed own.1)
 
 -- a record's alternatives stand as they did while those before it are altered
 unaltered_yet : (i : ℕ) (changed : List Alteration) (a : Alteration) (rows : List Row) → i < length changed → a ≡ get_or changed i a → AreApart changed
-    → alternatives a.id (altered (model_of_id a.id) (take i changed) rows) ≡ alternatives a.id rows
+    → alternatives a.id (altered_rows (model_of_id a.id) (take i changed) rows) ≡ alternatives a.id rows
 unaltered_yet i changed a rows h is apart =
     alternatives-altered a.id (take i changed) rows (rises_taken i changed apart.rising) (own_taken i changed apart.own)
     ∙ ap (λ (o : Option (List Row)). unwrap_or o (alternatives a.id rows)) (unnamed i changed a h is apart.rising)
@@ -82,18 +82,18 @@ module _ (table : ℕ → List Row) (changed : List Alteration) (i next : ℕ) (
     (others : (m : ℕ) → (model_of_id a.id == m) ≡ false → index_at m after ≡ index_at m before)
     (left : Remains a.id (table (model_of_id a.id)) a.rows (index_at (model_of_id a.id) before) (index_at (model_of_id a.id) after)) where
   right_here : (u : TableIndex) → index_at (model_of_id a.id) after ≡ Some u
-      → IsIndexOf (placed a.id a.rows (altered (model_of_id a.id) (take i changed) (table (model_of_id a.id)))) u
+      → IsIndexOf (placed_rows a.id a.rows (altered_rows (model_of_id a.id) (take i changed) (table (model_of_id a.id)))) u
   right_here u at =
       let found = left u at in
-      found.1.1.0 (altered (model_of_id a.id) (take i changed) (table (model_of_id a.id)))
+      found.1.1.0 (altered_rows (model_of_id a.id) (take i changed) (table (model_of_id a.id)))
       (unaltered_yet i changed a (table (model_of_id a.id)) h is apart)
       (so_far.right (model_of_id a.id) found.0 found.1.0)
 
   right_at : (m : ℕ) (b : Bool) (x : TableIndex) → (model_of_id a.id == m) ≡ b → index_at m after ≡ Some x
-      → IsIndexOf (placed_if b a.id a.rows (altered m (take i changed) (table m))) x
+      → IsIndexOf (placed_if b a.id a.rows (altered_rows m (take i changed) (table m))) x
   right_at m true x e at =
       let same : model_of_id a.id ≡ m = (Decides-eqb (model_of_id a.id) m).0 e in
-      subst (λ k. index_at k after ≡ Some x → IsIndexOf (placed a.id a.rows (altered k (take i changed) (table k))) x) same (right_here x) at
+      subst (λ k. index_at k after ≡ Some x → IsIndexOf (placed_rows a.id a.rows (altered_rows k (take i changed) (table k))) x) same (right_here x) at
   right_at m false x e at = so_far.right m x (sym (others m e) ∙ at)
 
   some_at : (m : ℕ) (b : Bool) (x : TableIndex) → (model_of_id a.id == m) ≡ b → index_at m after ≡ Some x → (b || alters m (take i changed)) ≡ true → 0 < length (table m)

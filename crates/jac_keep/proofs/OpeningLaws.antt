@@ -5,10 +5,10 @@ use Rattle.jac_value.specs.Ids.{model_of_id}
 use Rattle.jac_rows.specs.declared.row.Row.{Row}
 use Rattle.jac_keep.specs.declared.alteration.Alteration.{Alteration}
 use Rattle.jac_keep.specs.declared.opening.Opened.{Opened}
-use Rattle.jac_keep.specs.Records.{placed}
-use Rattle.jac_keep.specs.Alterations.{AreOwn, of_model, placed_each, altered, overlaid_from, overlaid}
+use Rattle.jac_keep.specs.Records.{placed_rows}
+use Rattle.jac_keep.specs.Alterations.{AreOwn, of_model, placed_each, altered_rows, overlaid_from, overlaid}
 use Rattle.jac_keep.specs.Sound.{AreTables}
-use Rattle.jac_keep.specs.Opened.{rows_in, rows_after, IsReady, AreReady, CanPlace}
+use Rattle.jac_keep.specs.Opened.{rows_in, rows_after, IsReadyTable, AreReady, CanPlace}
 use Rattle.jac_keep.proofs.OrderLaws.{ordered_if_rising}
 
 pub both : (a b : Bool) → IsTrue (a && b) → IsTrue a × IsTrue b
@@ -19,11 +19,11 @@ pub rows_in-pushed : (os : List Opened) (o : Opened) (rest : List (List Row)) �
 rows_in-pushed [] o rest = refl
 rows_in-pushed (x ∷ os) o rest = ap (λ tables. x.rows.items ∷ tables) (rows_in-pushed os o rest)
 
-pub ready-pushed : (model : ℕ) (changed : List Alteration) (os : List Opened) (o : Opened) → AreReady model changed os → IsReady (model + length os) changed o → AreReady model changed (os ++ o ∷ [])
-ready-pushed model changed [] o all one = let here : IsReady model changed o = rw (add-zero model) at one in (here, tt)
+pub ready-pushed : (model : ℕ) (changed : List Alteration) (os : List Opened) (o : Opened) → AreReady model changed os → IsReadyTable (model + length os) changed o → AreReady model changed (os ++ o ∷ [])
+ready-pushed model changed [] o all one = let here : IsReadyTable model changed o = rw (add-zero model) at one in (here, tt)
 ready-pushed model changed (x ∷ os) o all one =
     let next : model + length (x ∷ os) ≡ (model + 1) + length os = omega arith in
-    (all.0, ready-pushed (model + 1) changed os o all.1 (subst (λ m. IsReady m changed o) next one))
+    (all.0, ready-pushed (model + 1) changed os o all.1 (subst (λ m. IsReadyTable m changed o) next one))
 
 pub length-rows_in : (os : List Opened) → length (rows_in os) ≡ length os
 length-rows_in [] = refl
@@ -38,15 +38,15 @@ own-of_model model [] own = tt
 own-of_model model (a ∷ rest) own = own-if (model_of_id a.id == model) a (of_model model rest) (own.0, tt) (own-of_model model rest own.1)
 
 placed_each-if : (b : Bool) (a : Alteration) (rest : List Alteration) (rows : List Row)
-    → placed_each rest (if b then placed a.id a.rows rows else rows) ≡ placed_each (if b then a ∷ rest else rest) rows
+    → placed_each rest (if b then placed_rows a.id a.rows rows else rows) ≡ placed_each (if b then a ∷ rest else rest) rows
 placed_each-if true a rest rows = refl
 placed_each-if false a rest rows = refl
 
 -- the alterations of other models leave the rows
-pub altered-of_model : (model : ℕ) (changed : List Alteration) (rows : List Row) → altered model changed rows ≡ placed_each (of_model model changed) rows
+pub altered-of_model : (model : ℕ) (changed : List Alteration) (rows : List Row) → altered_rows model changed rows ≡ placed_each (of_model model changed) rows
 altered-of_model model [] rows = refl
 altered-of_model model (a ∷ rest) rows =
-    altered-of_model model rest (if model_of_id a.id == model then placed a.id a.rows rows else rows)
+    altered-of_model model rest (if model_of_id a.id == model then placed_rows a.id a.rows rows else rows)
     ∙ placed_each-if (model_of_id a.id == model) a (of_model model rest) rows
 
 -- tables that are ready can be altered
@@ -68,7 +68,7 @@ after_none (o ∷ os) = ap (λ tables. o.rows.items ∷ tables) (after_none os)
 after_all : (model : ℕ) (changed : List Alteration) (os : List Opened) → AreReady model changed os → rows_after true os ≡ overlaid_from model changed (rows_in os)
 after_all model changed [] ready = refl
 after_all model changed (o ∷ os) ready =
-    let here : placed_each o.news.items o.rows.items ≡ altered model changed o.rows.items =
+    let here : placed_each o.news.items o.rows.items ≡ altered_rows model changed o.rows.items =
     ap (λ news. placed_each news o.rows.items) ready.0.news ∙ sym (altered-of_model model changed o.rows.items) in
     rw (here, after_all (model + 1) changed os ready.1) refl
 

@@ -4,7 +4,7 @@ use Rattle.std.specs.List.{AllByRecursion, insert}
 use Rattle.jac_rows.specs.Apart.{IsBefore}
 use Rattle.jac_rows.specs.Good.{AreRising}
 use Rattle.jac_rows.specs.declared.row.Row.{Row}
-use Rattle.jac_keep.specs.Records.{AreOf, AreOrdered, are_in_order, with_id, before, behind, placed}
+use Rattle.jac_keep.specs.Records.{AreOf, AreOrdered, are_in_order, with_id, before, behind, placed_rows}
 use Rattle.jac_keep.proofs.SoundLaws.{all-with_id, all-append, all-mapped, less-before, greater-behind}
 
 abbrev AreFrom : ℕ → List Row → Type 0
@@ -70,7 +70,7 @@ ordered_of id [] own = tt
 ordered_of id (r ∷ rows) own = (from_less r.id id rows (omega (arith, own.0)) (least_of id rows own.1), ordered_of id rows own.1)
 
 -- rows stay ordered where a record's are replaced by alternatives of it
-pub ordered-placed : (id : ℕ) (new rows : List Row) → AreOf id new → AreOrdered rows → AreOrdered (placed id new rows)
+pub ordered-placed : (id : ℕ) (new rows : List Row) → AreOf id new → AreOrdered rows → AreOrdered (placed_rows id new rows)
 ordered-placed id new rows own ordered =
     let low : AllByRecursion (λ (r : Row). r.id ≤ id) (before id rows) =
     all-mapped (λ (r : Row). r.id < id) (λ (r : Row). r.id ≤ id) (before id rows) (λ r e. omega (arith, e)) (less-before id rows) in

@@ -2,7 +2,7 @@
 use Rattle.std.proofs.Common.{◌≡◌, ◌≢◌, ℕ, ◌<◌, Bool, true, false, ◌&&◌, ◌==◌, nat_lt, List, [], ◌∷◌, ◌++◌, refl, sym, inl, inr, ◌∙◌, ap, append_assoc, append-nil, arith, rules}
 use Rattle.std.proofs.lemmas.Bool.{cases_lt}
 use Rattle.jac_rows.specs.declared.row.Row.{Row}
-use Rattle.jac_keep.specs.Records.{with_id, alternatives, before, behind, placed, AreOf}
+use Rattle.jac_keep.specs.Records.{with_id, alternatives, before, behind, placed_rows, AreOf}
 
 -- a test of a list's two parts
 pub with_id-append : (test : ℕ → Bool) (xs ys : List Row) → with_id test (xs ++ ys) ≡ with_id test xs ++ with_id test ys
@@ -34,7 +34,7 @@ with_id-none_of p id [] h e = refl
 with_id-none_of p id (x ∷ xs) h e = grind (arith, h.0, with_id-none_of p id xs h.1 e)
 
 -- what passes a test of rows in place of others
-pub with_id-placed : (test : ℕ → Bool) (id : ℕ) (new rows : List Row) → with_id test (placed id new rows) ≡ with_id test (before id rows) ++ with_id test new ++ with_id test (behind id rows)
+pub with_id-placed : (test : ℕ → Bool) (id : ℕ) (new rows : List Row) → with_id test (placed_rows id new rows) ≡ with_id test (before id rows) ++ with_id test new ++ with_id test (behind id rows)
 with_id-placed test id new rows =
     with_id-append test (before id rows ++ new) (behind id rows)
     ∙ ap (λ xs. xs ++ with_id test (behind id rows)) (with_id-append test (before id rows) new)
@@ -87,23 +87,23 @@ behind-behind_less : (a b : ℕ) (rows : List Row) → a < b → behind b (behin
 behind-behind_less a b rows h = with_id-with_id (λ i. nat_lt b i) (λ i. nat_lt a i) rows ∙ with_id-like (λ i. nat_lt a i && nat_lt b i) (λ i. nat_lt b i) rows (above_above_less a b h)
 
 -- what stands before and behind a record, where another record's rows are put in place
-before-placed_less : (a b : ℕ) (y rows : List Row) → a < b → AreOf b y → before a (placed b y rows) ≡ before a rows
+before-placed_less : (a b : ℕ) (y rows : List Row) → a < b → AreOf b y → before a (placed_rows b y rows) ≡ before a rows
 before-placed_less a b y rows h own =
     let none : with_id (λ i. nat_lt i a) y ≡ [] = with_id-none_of (λ i. nat_lt i a) b y own (search rules) in
     with_id-placed (λ i. nat_lt i a) b y rows
     ∙ rw (before-before a b rows h, none, before-behind a b rows h) (append-nil (before a rows ++ []) ∙ append-nil (before a rows))
 
-behind-placed_less : (a b : ℕ) (y rows : List Row) → a < b → AreOf b y → behind a (placed b y rows) ≡ with_id (λ i. nat_lt a i) (before b rows) ++ y ++ behind b rows
+behind-placed_less : (a b : ℕ) (y rows : List Row) → a < b → AreOf b y → behind a (placed_rows b y rows) ≡ with_id (λ i. nat_lt a i) (before b rows) ++ y ++ behind b rows
 behind-placed_less a b y rows h own =
     let all : with_id (λ i. nat_lt a i) y ≡ y = with_id-all_of (λ i. nat_lt a i) b y own (search rules) in
     with_id-placed (λ i. nat_lt a i) b y rows ∙ rw (all, behind-behind a b rows h) refl
 
-before-placed_more : (a b : ℕ) (x rows : List Row) → a < b → AreOf a x → before b (placed a x rows) ≡ before a rows ++ x ++ with_id (λ i. nat_lt i b) (behind a rows)
+before-placed_more : (a b : ℕ) (x rows : List Row) → a < b → AreOf a x → before b (placed_rows a x rows) ≡ before a rows ++ x ++ with_id (λ i. nat_lt i b) (behind a rows)
 before-placed_more a b x rows h own =
     let all : with_id (λ i. nat_lt i b) x ≡ x = with_id-all_of (λ i. nat_lt i b) a x own (search rules) in
     with_id-placed (λ i. nat_lt i b) a x rows ∙ rw (all, before-before_less a b rows h) refl
 
-behind-placed_more : (a b : ℕ) (x rows : List Row) → a < b → AreOf a x → behind b (placed a x rows) ≡ behind b rows
+behind-placed_more : (a b : ℕ) (x rows : List Row) → a < b → AreOf a x → behind b (placed_rows a x rows) ≡ behind b rows
 behind-placed_more a b x rows h own =
     let none : with_id (λ i. nat_lt b i) x ≡ [] = with_id-none_of (λ i. nat_lt b i) a x own (search rules) in
     with_id-placed (λ i. nat_lt b i) a x rows
@@ -114,13 +114,13 @@ regrouped : (p x m y q : List Row) → p ++ x ++ (m ++ y ++ q) ≡ p ++ x ++ m +
 regrouped p x m y q = search (rules, append_assoc)
 
 -- the rows of two records may be put in place in either order
-pub placed-placed_less : (a b : ℕ) (x y rows : List Row) → a < b → AreOf a x → AreOf b y → placed a x (placed b y rows) ≡ placed b y (placed a x rows)
+pub placed-placed_less : (a b : ℕ) (x y rows : List Row) → a < b → AreOf a x → AreOf b y → placed_rows a x (placed_rows b y rows) ≡ placed_rows b y (placed_rows a x rows)
 placed-placed_less a b x y rows h own_x own_y =
     rw (before-placed_less a b y rows h own_y, behind-placed_less a b y rows h own_y, before-placed_more a b x rows h own_x, behind-placed_more a b x rows h own_x, between a b rows)
     (regrouped (before a rows) x (with_id (λ i. nat_lt i b) (behind a rows)) y (behind b rows))
 
 -- the rows of two different records may be put in place in either order
-pub placed-placed : (a b : ℕ) (x y rows : List Row) → a ≢ b → AreOf a x → AreOf b y → placed a x (placed b y rows) ≡ placed b y (placed a x rows)
+pub placed-placed : (a b : ℕ) (x y rows : List Row) → a ≢ b → AreOf a x → AreOf b y → placed_rows a x (placed_rows b y rows) ≡ placed_rows b y (placed_rows a x rows)
 placed-placed a b x y rows other own_x own_y =
     elim (cases_lt a b) [
       | inl less ↦ placed-placed_less a b x y rows less own_x own_y
@@ -148,7 +148,7 @@ not_below id = grind arith
 pub itself : (id : ℕ) → (id == id) ≡ true
 itself id = grind arith
 
-before-placed_same : (id : ℕ) (old rows : List Row) → AreOf id old → before id (placed id old rows) ≡ before id rows
+before-placed_same : (id : ℕ) (old rows : List Row) → AreOf id old → before id (placed_rows id old rows) ≡ before id rows
 before-placed_same id old rows own =
     let low : before id (before id rows) ≡ before id rows =
     with_id-with_id (λ i. nat_lt i id) (λ i. nat_lt i id) rows ∙ with_id-like (λ i. nat_lt i id && nat_lt i id) (λ i. nat_lt i id) rows (λ i. twice (nat_lt i id)) in
@@ -157,7 +157,7 @@ before-placed_same id old rows own =
     with_id-with_id (λ i. nat_lt i id) (λ i. nat_lt id i) rows ∙ with_id-none (λ i. nat_lt id i && nat_lt i id) rows (above_and_below id) in
     with_id-placed (λ i. nat_lt i id) id old rows ∙ rw (low, middle, high) (append-nil (before id rows ++ []) ∙ append-nil (before id rows))
 
-behind-placed_same : (id : ℕ) (old rows : List Row) → AreOf id old → behind id (placed id old rows) ≡ behind id rows
+behind-placed_same : (id : ℕ) (old rows : List Row) → AreOf id old → behind id (placed_rows id old rows) ≡ behind id rows
 behind-placed_same id old rows own =
     let low : behind id (before id rows) ≡ [] =
     with_id-with_id (λ i. nat_lt id i) (λ i. nat_lt i id) rows ∙ with_id-none (λ i. nat_lt i id && nat_lt id i) rows (below_and_above_same id) in
@@ -167,11 +167,11 @@ behind-placed_same id old rows own =
     with_id-placed (λ i. nat_lt id i) id old rows ∙ rw (low, middle, high) refl
 
 -- the rows that were put in place last stand there
-pub placed-again : (id : ℕ) (new old rows : List Row) → AreOf id old → placed id new (placed id old rows) ≡ placed id new rows
+pub placed-again : (id : ℕ) (new old rows : List Row) → AreOf id old → placed_rows id new (placed_rows id old rows) ≡ placed_rows id new rows
 placed-again id new old rows own = rw (before-placed_same id old rows own, behind-placed_same id old rows own) refl
 
 -- the alternatives of a record whose rows were put in place, and of another one
-pub alternatives-placed_same : (id : ℕ) (new rows : List Row) → AreOf id new → alternatives id (placed id new rows) ≡ new
+pub alternatives-placed_same : (id : ℕ) (new rows : List Row) → AreOf id new → alternatives id (placed_rows id new rows) ≡ new
 alternatives-placed_same id new rows own =
     let low : alternatives id (before id rows) ≡ [] =
     with_id-with_id (λ i. i == id) (λ i. nat_lt i id) rows ∙ with_id-none (λ i. nat_lt i id && (i == id)) rows (same_below id) in
@@ -180,7 +180,7 @@ alternatives-placed_same id new rows own =
     with_id-with_id (λ i. i == id) (λ i. nat_lt id i) rows ∙ with_id-none (λ i. nat_lt id i && (i == id)) rows (same_above id) in
     with_id-placed (λ i. i == id) id new rows ∙ rw (low, middle, high) (append-nil new)
 
-alternatives-placed_less : (id other : ℕ) (new rows : List Row) → other < id → AreOf other new → alternatives id (placed other new rows) ≡ alternatives id rows
+alternatives-placed_less : (id other : ℕ) (new rows : List Row) → other < id → AreOf other new → alternatives id (placed_rows other new rows) ≡ alternatives id rows
 alternatives-placed_less id other new rows less own =
     let low : alternatives id (before other rows) ≡ [] =
     with_id-with_id (λ i. i == id) (λ i. nat_lt i other) rows ∙ with_id-none (λ i. nat_lt i other && (i == id)) rows (λ i. grind (arith, less)) in
@@ -189,7 +189,7 @@ alternatives-placed_less id other new rows less own =
     with_id-with_id (λ i. i == id) (λ i. nat_lt other i) rows ∙ with_id-like (λ i. nat_lt other i && (i == id)) (λ i. i == id) rows (λ i. grind (arith, less)) in
     with_id-placed (λ i. i == id) other new rows ∙ rw (low, middle, high) refl
 
-alternatives-placed_more : (id other : ℕ) (new rows : List Row) → id < other → AreOf other new → alternatives id (placed other new rows) ≡ alternatives id rows
+alternatives-placed_more : (id other : ℕ) (new rows : List Row) → id < other → AreOf other new → alternatives id (placed_rows other new rows) ≡ alternatives id rows
 alternatives-placed_more id other new rows more own =
     let low : alternatives id (before other rows) ≡ alternatives id rows =
     with_id-with_id (λ i. i == id) (λ i. nat_lt i other) rows ∙ with_id-like (λ i. nat_lt i other && (i == id)) (λ i. i == id) rows (λ i. grind (arith, more)) in
@@ -198,7 +198,7 @@ alternatives-placed_more id other new rows more own =
     with_id-with_id (λ i. i == id) (λ i. nat_lt other i) rows ∙ with_id-none (λ i. nat_lt other i && (i == id)) rows (λ i. grind (arith, more)) in
     with_id-placed (λ i. i == id) other new rows ∙ rw (low, middle, high) (append-nil (alternatives id rows ++ []) ∙ append-nil (alternatives id rows))
 
-pub alternatives-placed_other : (id other : ℕ) (new rows : List Row) → other ≢ id → AreOf other new → alternatives id (placed other new rows) ≡ alternatives id rows
+pub alternatives-placed_other : (id other : ℕ) (new rows : List Row) → other ≢ id → AreOf other new → alternatives id (placed_rows other new rows) ≡ alternatives id rows
 alternatives-placed_other id other new rows differ own =
     elim (cases_lt other id) [
       | inl less ↦ alternatives-placed_less id other new rows less own

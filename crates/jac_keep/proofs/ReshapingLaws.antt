@@ -9,7 +9,7 @@ use Rattle.jac_keep.specs.declared.table_indexes.TableIndexes.{TableIndexes}
 use Rattle.jac_keep.specs.Indexed.{AreIndexesIfMade}
 use Rattle.jac_keep.specs.KeeperSeen.{Store}
 use Rattle.jac_keep.specs.KeeperState.{KeeperState, IsKeeping, after_reshape, seen_keeper}
-use Rattle.jac_keep.specs.Reshaping.{widened, Reshapes}
+use Rattle.jac_keep.specs.Reshaping.{widened_state, Reshapes}
 use Rattle.jac_keep.specs.Schema.{IsSchema, IsFit, empties}
 use Rattle.jac_keep.specs.Sound.{AreTables}
 use Rattle.jac_keep.proofs.SoundLaws.{sound_if_good, tables_of_sound}
@@ -36,10 +36,10 @@ tables_front [] us rising = tt
 tables_front (t ∷ ts) us rising = (rising.0, tables_front ts us rising.1)
 
 -- a change that fits once there are more tables has rising ones
-pub tables_if_fit : (shapes : List ModelShape) (s : State) → IsFit shapes (widened (length shapes) s) → AreTables s.tables
+pub tables_if_fit : (shapes : List ModelShape) (s : State) → IsFit shapes (widened_state (length shapes) s) → AreTables s.tables
 tables_if_fit shapes s fit =
     tables_front s.tables (empties (length shapes - length s.tables))
-    (tables_of_sound (widened (length shapes) s) (sound_if_good shapes (widened (length shapes) s) fit.good))
+    (tables_of_sound (widened_state (length shapes) s) (sound_if_good shapes (widened_state (length shapes) s) fit.good))
 
 -- a keeper that was called keeps any state that is sound
 pub keeping_if_called : (s new : State) (store : Store) (indexes : Option TableIndexes) → IsSound s → new ≡ s → AreIndexesIfMade new.tables indexes → IsTrue store.called
@@ -51,10 +51,10 @@ keeping_if_called s new store indexes sound same indexed called = record {
   stored = λ no. absurd (true≢false (sym called ∙ no));
 }
 
-pub keeping_if_fit : (shapes : List ModelShape) (s new : State) (store : Store) → IsFit shapes (widened (length shapes) s) → new ≡ widened (length shapes) s → IsTrue store.called
+pub keeping_if_fit : (shapes : List ModelShape) (s new : State) (store : Store) → IsFit shapes (widened_state (length shapes) s) → new ≡ widened_state (length shapes) s → IsTrue store.called
     → IsKeeping new store None
 keeping_if_fit shapes s new store fit same called =
-    keeping_if_called (widened (length shapes) s) new store None (sound_if_good shapes (widened (length shapes) s) fit.good) same tt called
+    keeping_if_called (widened_state (length shapes) s) new store None (sound_if_good shapes (widened_state (length shapes) s) fit.good) same tt called
 
 -- what a reshape leaves that is accepted
 pub reshapes_ok : (old new : KeeperState) (change : Change) (schema : List ℕ) (shapes : List ModelShape) → IsSchema schema shapes → old.faults ≤ new.faults

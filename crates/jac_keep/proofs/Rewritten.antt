@@ -4,26 +4,26 @@ use Rattle.jac_index.specs.declared.by_value.ByValue.{ByValue}
 use Rattle.jac_rows.specs.declared.row.Row.{Row}
 use Rattle.jac_keep.specs.Holding.{holds_cell}
 use Rattle.jac_keep.specs.Indexed.{field_index, IsByField, IsRewritten, IsFieldAfter, Follows, KeepsFields, Remains, IsIndexKept}
-use Rattle.jac_keep.specs.Records.{AreOf, alternatives, placed}
+use Rattle.jac_keep.specs.Records.{AreOf, alternatives, placed_rows}
 use Rattle.jac_keep.specs.declared.table_index.TableIndex.{TableIndex}
 use Rattle.jac_keep.proofs.Held.{holds-rewritten}
 
 -- an index that was rewritten is one of the rows with the new ones in place
-rewritten : (f id : ℕ) (new rows : List Row) (b c : ByValue) → AreOf id new → IsRewritten f (alternatives id rows) new b c → IsByField f rows b → IsByField f (placed id new rows) c
+rewritten : (f id : ℕ) (new rows : List Row) (b c : ByValue) → AreOf id new → IsRewritten f (alternatives id rows) new b c → IsByField f rows b → IsByField f (placed_rows id new rows) c
 rewritten f id new rows b c own changed right v k =
     changed v k
     ∙ ap (λ h. holds_cell f v new k || (not (holds_cell f v (alternatives id rows) k) && h)) (right v k)
     ∙ holds-rewritten f v id new rows k own
 
 field_follows : (f id : ℕ) (new rows : List Row) (before after : Option ByValue) (c : ByValue) → AreOf id new → IsFieldAfter f (alternatives id rows) new before after
-    → ((b : ByValue) → before ≡ Some b → IsByField f rows b) → after ≡ Some c → IsByField f (placed id new rows) c
+    → ((b : ByValue) → before ≡ Some b → IsByField f rows b) → after ≡ Some c → IsByField f (placed_rows id new rows) c
 field_follows f id new rows None after c own changed right is = absurd (gone (sym changed ∙ is))
   where
     gone : None ≡ Some c → ⊥
     gone e = absurd cc
 field_follows f id new rows (Some b) after c own changed right is =
     let same : changed.0 ≡ c = ap (λ (o : Option ByValue). unwrap_or o c) (sym changed.1.0 ∙ is) in
-    subst (IsByField f (placed id new rows)) same (rewritten f id new rows b changed.0 own changed.1.1 (right b refl))
+    subst (IsByField f (placed_rows id new rows)) same (rewritten f id new rows b changed.0 own changed.1.1 (right b refl))
 
 pub follows : (id : ℕ) (own new : List Row) (t u : TableIndex) → AreOf id new → ((f : ℕ) → IsFieldAfter f own new (field_index f t.fields.items) (field_index f u.fields.items)) → Follows id own new t u
 follows id own new t u own_new changed rows same right f c is =

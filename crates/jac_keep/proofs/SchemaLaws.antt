@@ -9,9 +9,9 @@ use Rattle.jac_rows.specs.declared.row.Row.{Row}
 use Rattle.jac_rows.specs.declared.state.State.{State}
 use Rattle.jac_rows.specs.Good.{ModelShape, AreGuarded, AreSound, IsNext, IsSound}
 use Rattle.jac_value.specs.declared.value.Kind.{Kind}
-use Rattle.jac_tree.specs.Grammar.{Spells, IsBegun, IsBegunWithin}
+use Rattle.jac_tree.specs.Grammar.{Spells, IsBegunDocument, IsBegunWithin}
 use Rattle.jac_tree.specs.Plain.{PlainTree, nesting}
-use Rattle.jac_tree.specs.Printed.{printed}
+use Rattle.jac_tree.specs.Printed.{printed_tree}
 use Rattle.jac_tree.specs.Reading.{HasFault}
 use Rattle.jac_tree.specs.declared.fault.TreeFault.{TreeFault}
 use Rattle.jac_tree.specs.declared.fault.TreeFault.TheVariants as faults
@@ -19,7 +19,7 @@ use Rattle.jac_tree.proofs.Unique.{spells_one}
 use Rattle.jac_tree.proofs.Printing.{printed_spells, spelled_atoms}
 use Rattle.jac_keep.specs.Schema.{IsSchema, IsFit, empties, shapes_by, shapes_of_schema}
 use Rattle.jac_keep.specs.KeeperState.{KeeperState, IsStored, attached_state, after_attach, seen_keeper}
-use Rattle.jac_keep.specs.Attaching.{IsNew, Opens, Attaches}
+use Rattle.jac_keep.specs.Attaching.{IsNewStore, OpensStore, Attaches}
 use Rattle.jac_keep.proofs.SoundLaws as sound
 
 -- what was made so far, before what is still to come
@@ -43,7 +43,7 @@ schema_one text kinds others a b =
     some_injective kinds others (sym a.read ∙ ap shapes_of_schema same ∙ b.read)
 
 -- the first bytes of a text that spells a tree begin it
-begun : (at : ℕ) (text : List ℕ) (t : PlainTree) → Spells text t → IsBegun (take at text)
+begun : (at : ℕ) (text : List ℕ) (t : PlainTree) → Spells text t → IsBegunDocument (take at text)
 begun at text t spelled = (drop at text, t, subst (λ (bytes : List ℕ). Spells bytes t) (sym (take-append-drop at text)) spelled)
 
 begun_within : (at : ℕ) (text : List ℕ) (t : PlainTree) → Spells text t → nesting t ≤ 64 → IsBegunWithin 64 (take at text)
@@ -87,16 +87,16 @@ stored_sound (Some schema) s stored = sound.sound_if_good stored.0.0 s (stored.1
 
 -- a tree that spells a text which it is printed as, and the shapes that it gives
 found_schema : (text : List ℕ) (tree : PlainTree) (shapes : List ModelShape) → nesting tree ≤ 64 → Spells text tree
-    → Some shapes ≡ (if bytes_eq text (printed tree) then shapes_of_schema tree else None) → IsSchema text shapes
+    → Some shapes ≡ (if bytes_eq text (printed_tree tree) then shapes_of_schema tree else None) → IsSchema text shapes
 found_schema text tree shapes shallow spelled found =
-    at_test (bytes_eq text (printed tree)) (bytes_eq-Decides text (printed tree)) found
+    at_test (bytes_eq text (printed_tree tree)) (bytes_eq-Decides text (printed_tree tree)) found
   where
-    at_test : (b : Bool) → Decides b (text ≡ printed tree) → Some shapes ≡ (if b then shapes_of_schema tree else None) → IsSchema text shapes
+    at_test : (b : Bool) → Decides b (text ≡ printed_tree tree) → Some shapes ≡ (if b then shapes_of_schema tree else None) → IsSchema text shapes
     at_test true same read = record { tree = tree; atoms = spelled_atoms text tree spelled; shallow = shallow; spelled = same.0 refl; read = sym read }
     at_test false same read = absurd (some_is_none shapes read)
 
 pub found_shapes : {S : Type 0} (f : S → List ModelShape) (text : List ℕ) (tree : PlainTree) (found : Option S) → nesting tree ≤ 64 → Spells text tree
-    → option_map f found ≡ (if bytes_eq text (printed tree) then shapes_of_schema tree else None) → IfSome found (λ s. IsSchema text (f s))
+    → option_map f found ≡ (if bytes_eq text (printed_tree tree) then shapes_of_schema tree else None) → IfSome found (λ s. IsSchema text (f s))
 found_shapes f text tree None shallow spelled found = tt
 found_shapes f text tree (Some s) shallow spelled found = found_schema text tree (f s) shallow spelled found
 
@@ -108,14 +108,14 @@ length_shapes (ks ∷ kinds) (n ∷ nested) = ap suc (length_shapes kinds nested
 
 -- where it gives none, the text is no schema
 pub no_schema : (text : List ℕ) (tree : PlainTree) → ((t : PlainTree) → Spells text t → t ≡ tree)
-    → None ≡ (if bytes_eq text (printed tree) then shapes_of_schema tree else None) → (kinds : List ModelShape) → ¬ (IsSchema text kinds)
+    → None ≡ (if bytes_eq text (printed_tree tree) then shapes_of_schema tree else None) → (kinds : List ModelShape) → ¬ (IsSchema text kinds)
 no_schema text tree one none kinds s =
     let same : s.tree ≡ tree = one s.tree (schema_spells text kinds s) in
-    let printed_so : text ≡ printed tree = s.spelled ∙ ap printed same in
+    let printed_so : text ≡ printed_tree tree = s.spelled ∙ ap printed_tree same in
     let read : shapes_of_schema tree ≡ Some kinds = ap shapes_of_schema (sym same) ∙ s.read in
-    at_test (bytes_eq text (printed tree)) (bytes_eq-Decides text (printed tree)) printed_so read none
+    at_test (bytes_eq text (printed_tree tree)) (bytes_eq-Decides text (printed_tree tree)) printed_so read none
   where
-    at_test : (b : Bool) → Decides b (text ≡ printed tree) → text ≡ printed tree → shapes_of_schema tree ≡ Some kinds → None ≡ (if b then shapes_of_schema tree else None) → ⊥
+    at_test : (b : Bool) → Decides b (text ≡ printed_tree tree) → text ≡ printed_tree tree → shapes_of_schema tree ≡ Some kinds → None ≡ (if b then shapes_of_schema tree else None) → ⊥
     at_test true same printed_so read none = some_is_none kinds (sym read ∙ sym none)
     at_test false same printed_so read none = true≢false (sym (same.1 printed_so))
 
@@ -136,7 +136,7 @@ new_sound schema kinds s tables next same =
 
 opens : (old : KeeperState) (name : Option (List ℕ)) (schema : List ℕ) (kinds : List ModelShape) → IsSchema schema kinds
     → IsStored old.store.schema old.state → (old.store.schema ≡ None) ⊎ (old.store.schema ≡ Some schema)
-    → Opens (seen_keeper old) (seen_keeper (after_attach name schema (length kinds) old)) name schema
+    → OpensStore (seen_keeper old) (seen_keeper (after_attach name schema (length kinds) old)) name schema
 opens old name schema kinds is held known = record {
   attached = refl;
   named = refl;
@@ -148,10 +148,10 @@ opens old name schema kinds is held known = record {
   made = λ _ _ none others also. new_store none (schema_one schema kinds others is also);
 }
   where
-    new_store : {others : List ModelShape} → old.store.schema ≡ None → kinds ≡ others → IsNew old.state others (attached_state old.store.schema (length kinds) old.state)
+    new_store : {others : List ModelShape} → old.store.schema ≡ None → kinds ≡ others → IsNewStore old.state others (attached_state old.store.schema (length kinds) old.state)
     new_store {others} none same =
-        subst (λ ks. IsNew old.state ks (attached_state old.store.schema (length kinds) old.state)) same
-        (subst (λ t. IsNew old.state kinds (attached_state t (length kinds) old.state)) (sym none) (record { tables = refl; number = refl }))
+        subst (λ ks. IsNewStore old.state ks (attached_state old.store.schema (length kinds) old.state)) same
+        (subst (λ t. IsNewStore old.state kinds (attached_state t (length kinds) old.state)) (sym none) (record { tables = refl; number = refl }))
 
 -- what an attach that is accepted leaves
 pub attaches_ok : (old new : KeeperState) (name : Option (List ℕ)) (schema : List ℕ) (kinds : List ModelShape) → IsSchema schema kinds

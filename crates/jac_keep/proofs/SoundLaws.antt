@@ -1,16 +1,17 @@
 -- what a sound state gives, and what keeps it sound
 use Rattle.std.proofs.Common.{◌≡◌, ℕ, zero, suc, ◌+◌, ◌<◌, ◌≤◌, ◌^◌, ◌==◌, nat_lt, Bool, true, false, if◌then◌else◌, List, [], ◌∷◌, ◌++◌, refl, arith}
 use Rattle.std.specs.List.{AllByRecursion}
+use Rattle.std.proofs.lemmas.Bool.{ltb-true}
 use Rattle.jac_value.specs.Ids.{model_of_id}
 use Rattle.jac_rows.specs.Apart.{IsBefore}
 use Rattle.jac_rows.specs.declared.row.Row.{Row}
 use Rattle.jac_rows.specs.declared.state.State.{State}
 use Rattle.jac_keep.specs.declared.alteration.Alteration.{Alteration}
-use Rattle.jac_keep.specs.Alterations.{altered, overlaid_from}
+use Rattle.jac_keep.specs.Alterations.{altered_rows, overlaid_from}
 use Rattle.jac_keep.specs.Sound.{AreTables, MayStand, AllStand}
 use Rattle.jac_keep.specs.declared.alteration.Change.{Change}
-use Rattle.jac_keep.specs.Records.{with_id, before, behind, placed}
-use Rattle.jac_keep.specs.Kept.{applied, state_with}
+use Rattle.jac_keep.specs.Records.{with_id, before, behind, placed_rows}
+use Rattle.jac_keep.specs.Kept.{changed_state, state_with}
 use Rattle.jac_rows.specs.Tables.{rows_of}
 use Rattle.jac_rows.specs.Good.{ModelShape, IsMade, AreRising, AreSound, IsSound, IsRecord, AreGuarded, IsGoodByGuards}
 use Rattle.jac_keep.proofs.AlteringLaws.{placed_if}
@@ -85,15 +86,12 @@ passing-if : (P : Row → Type 0) (b : Bool) (x : Row) (xs : List Row) → (b �
 passing-if P true x xs h rest = (h refl, rest)
 passing-if P false x xs h rest = rest
 
-lt_of_test : (a b : ℕ) → nat_lt a b ≡ true → a < b
-lt_of_test a b e = grind (arith, e)
-
 le_of_test : (a b : ℕ) → nat_lt a b ≡ true → a + 1 ≤ b
 le_of_test a b e = grind (arith, e)
 
 pub less-before : (id : ℕ) (rows : List Row) → AllByRecursion (λ (r : Row). r.id < id) (before id rows)
 less-before id [] = tt
-less-before id (r ∷ rows) = passing-if (λ (x : Row). x.id < id) (nat_lt r.id id) r (before id rows) (λ e. lt_of_test r.id id e) (less-before id rows)
+less-before id (r ∷ rows) = passing-if (λ (x : Row). x.id < id) (nat_lt r.id id) r (before id rows) (λ e. ltb-true r.id id e) (less-before id rows)
 
 pub greater-behind : (id : ℕ) (rows : List Row) → AllByRecursion (λ (r : Row). id + 1 ≤ r.id) (behind id rows)
 greater-behind id [] = tt
@@ -104,7 +102,7 @@ all-mapped P Q [] f a = tt
 all-mapped P Q (x ∷ xs) f a = (f x a.0, all-mapped P Q xs f a.1)
 
 -- a table stays one where a record's rows are replaced by alternatives of it
-rising-placed : (id : ℕ) (new rows : List Row) → AllByRecursion (λ (r : Row). r.id ≡ id) new → AreRising new → AreRising rows → AreRising (placed id new rows)
+rising-placed : (id : ℕ) (new rows : List Row) → AllByRecursion (λ (r : Row). r.id ≡ id) new → AreRising new → AreRising rows → AreRising (placed_rows id new rows)
 rising-placed id new rows own rising_new rising =
     let low : AreRising (before id rows) = rising-with_id (λ i. nat_lt i id) rows rising in
     let high : AreRising (behind id rows) = rising-with_id (λ i. nat_lt id i) rows rising in
@@ -118,7 +116,7 @@ rising-placed id new rows own rising_new rising =
     (all-append (λ (r : Row). r.id < id + 1) (before id rows) new at_most_low at_most)
     (greater-behind id rows)
 
-all-placed : (P : Row → Type 0) (id : ℕ) (new rows : List Row) → AllByRecursion P new → AllByRecursion P rows → AllByRecursion P (placed id new rows)
+all-placed : (P : Row → Type 0) (id : ℕ) (new rows : List Row) → AllByRecursion P new → AllByRecursion P rows → AllByRecursion P (placed_rows id new rows)
 all-placed P id new rows a b =
     all-append P (before id rows ++ new) (behind id rows)
     (all-append P (before id rows) new (all-with_id P (λ i. nat_lt i id) rows b) a)
@@ -128,7 +126,7 @@ rising-placed_if : (t : Bool) (next : ℕ) (id : ℕ) (new rows : List Row) → 
 rising-placed_if false next id new rows may rising = rising
 rising-placed_if true next id new rows may rising = rising-placed id new rows may.own may.rising rising
 
-rising-altered : (model next : ℕ) (rest : List Alteration) (rows : List Row) → AllStand next rest → AreRising rows → AreRising (altered model rest rows)
+rising-altered : (model next : ℕ) (rest : List Alteration) (rows : List Row) → AllStand next rest → AreRising rows → AreRising (altered_rows model rest rows)
 rising-altered model next [] rows all rising = rising
 rising-altered model next (a ∷ rest) rows all rising =
     rising-altered model next rest (placed_if (model_of_id a.id == model) a.id a.rows rows) all.1 (rising-placed_if (model_of_id a.id == model) next a.id a.rows rows all.0 rising)
@@ -143,7 +141,7 @@ made-placed_if true model next id new rows e may made =
     let made_new : AreMade model next new = rw (← same) may.made in
     all-placed (λ (r : Row). IsMade model next r.id) id new rows made_new made
 
-made-altered : (model next : ℕ) (rest : List Alteration) (rows : List Row) → AllStand next rest → AreMade model next rows → AreMade model next (altered model rest rows)
+made-altered : (model next : ℕ) (rest : List Alteration) (rows : List Row) → AllStand next rest → AreMade model next rows → AreMade model next (altered_rows model rest rows)
 made-altered model next [] rows all made = made
 made-altered model next (a ∷ rest) rows all made =
     made-altered model next rest (placed_if (model_of_id a.id == model) a.id a.rows rows) all.1 (made-placed_if (model_of_id a.id == model) model next a.id a.rows rows refl all.0 made)
@@ -163,7 +161,7 @@ later next more model (t ∷ tables) h sound = (
 )
 
 -- a change leaves a sound state where its alternatives may stand there and the number doesn't fall
-pub sound-applied : (c : Change) (s : State) → IsSound s → s.number ≤ c.number → c.number ≤ 2 ^ 40 → AllStand c.number c.changed → IsSound (applied c s)
+pub sound-applied : (c : Change) (s : State) → IsSound s → s.number ≤ c.number → c.number ≤ 2 ^ 40 → AllStand c.number c.changed → IsSound (changed_state c s)
 sound-applied c s sound h end all =
     record {
       next = (omega (arith, h, sound.next.0), end);

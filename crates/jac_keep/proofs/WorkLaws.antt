@@ -5,30 +5,30 @@ use Rattle.jac_rows.specs.declared.row.Row.{Row}
 use Rattle.jac_keep.specs.declared.alteration.Alteration.{Alteration}
 use Rattle.jac_keep.specs.Records.{alternatives, AreOf}
 use Rattle.jac_rows.specs.Tables.{rows_of}
-use Rattle.jac_keep.specs.Alterations.{AreApart, named, renamed, altered, overlaid_from, overlaid, ArePlaced}
+use Rattle.jac_keep.specs.Alterations.{AreApart, alternatives_named, with_alteration, altered_rows, overlaid_from, overlaid, ArePlaced}
 use Rattle.jac_keep.proofs.AlteringLaws.{rows_of-overlaid, alternatives-altered, overlaid_from-renamed}
 
 -- all rows of a model
 pub rows_read : (model : ℕ) (over : List Alteration) (tables : List (List Row)) (base rows : List Row) → ArePlaced over (length tables)
-    → base ≡ rows_of tables model → rows ≡ altered model over base → rows ≡ rows_of (overlaid over tables) model
+    → base ≡ rows_of tables model → rows ≡ altered_rows model over base → rows ≡ rows_of (overlaid over tables) model
 rows_read model over tables base rows placed is_base is_rows =
-    is_rows ∙ ap (altered model over) is_base ∙ sym (rows_of-overlaid model over tables placed)
+    is_rows ∙ ap (altered_rows model over) is_base ∙ sym (rows_of-overlaid model over tables placed)
 
 pub one_read : (id : ℕ) (over : List Alteration) (tables : List (List Row)) → ArePlaced over (length tables) → AreApart over
-    → unwrap_or (named id over) (alternatives id (rows_of tables (model_of_id id))) ≡ alternatives id (rows_of (overlaid over tables) (model_of_id id))
+    → unwrap_or (alternatives_named id over) (alternatives id (rows_of tables (model_of_id id))) ≡ alternatives id (rows_of (overlaid over tables) (model_of_id id))
 one_read id over tables placed apart =
     sym (alternatives-altered id over (rows_of tables (model_of_id id)) apart.rising apart.own)
     ∙ ap (alternatives id) (sym (rows_of-overlaid (model_of_id id) over tables placed))
 
 -- the alternatives of a record that was replaced
 pub named_read : (id : ℕ) (over : List Alteration) (tables : List (List Row)) (rows : List Row) → ArePlaced over (length tables) → AreApart over
-    → Some rows ≡ named id over → rows ≡ alternatives id (rows_of (overlaid over tables) (model_of_id id))
+    → Some rows ≡ alternatives_named id over → rows ≡ alternatives id (rows_of (overlaid over tables) (model_of_id id))
 named_read id over tables rows placed apart is =
     ap (λ found. unwrap_or found (alternatives id (rows_of tables (model_of_id id)))) is ∙ one_read id over tables placed apart
 
 -- and of one that wasn't
 pub other_read : (id : ℕ) (over : List Alteration) (tables : List (List Row)) (rows : List Row) → ArePlaced over (length tables) → AreApart over
-    → None ≡ named id over → rows ≡ alternatives id (rows_of tables (model_of_id id)) → rows ≡ alternatives id (rows_of (overlaid over tables) (model_of_id id))
+    → None ≡ alternatives_named id over → rows ≡ alternatives id (rows_of tables (model_of_id id)) → rows ≡ alternatives id (rows_of (overlaid over tables) (model_of_id id))
 other_read id over tables rows placed apart is is_rows =
     is_rows
     ∙ ap (λ found. unwrap_or found (alternatives id (rows_of tables (model_of_id id)))) is
@@ -36,7 +36,7 @@ other_read id over tables rows placed apart is is_rows =
 
 -- the tables after one more record is replaced
 pub replaced : (id : ℕ) (rows : List Row) (over : List Alteration) (tables : List (List Row)) → AreApart over → AreOf id rows
-    → overlaid (renamed id rows over) tables ≡ overlaid (record { id = id; rows = rows } ∷ []) (overlaid over tables)
+    → overlaid (with_alteration id rows over) tables ≡ overlaid (record { id = id; rows = rows } ∷ []) (overlaid over tables)
 replaced id rows over tables apart own = overlaid_from-renamed 0 id rows over tables apart.rising apart.own own
 
 overlaid_from_none : (model : ℕ) (tables : List (List Row)) → overlaid_from model [] tables ≡ tables

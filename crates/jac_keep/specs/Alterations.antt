@@ -4,7 +4,7 @@ use Rattle.jac_value.specs.Ids.{model_of_id}
 use Rattle.jac_world.specs.World.{IsRisingBy}
 use Rattle.jac_rows.specs.declared.row.Row.{Row}
 use Rattle.jac_keep.specs.declared.alteration.Alteration.{Alteration}
-use Rattle.jac_keep.specs.Records.{placed, AreOf}
+use Rattle.jac_keep.specs.Records.{placed_rows, AreOf}
 
 -- each alteration has rows of its own record alone
 abbrev pub AreOwn : List Alteration → Type 0
@@ -17,24 +17,25 @@ pub record AreApart (rest : List Alteration) : Type 0 where
   pub own : AreOwn rest
 
 -- the new alternatives of a record, where it is named
-abbrev pub named : ℕ → List Alteration → Option (List Row)
-named id [] = None
-named id (a ∷ rest) = if a.id == id then Some a.rows else named id rest
+abbrev pub alternatives_named : ℕ → List Alteration → Option (List Row)
+alternatives_named id [] = None
+alternatives_named id (a ∷ rest) = if a.id == id then Some a.rows else alternatives_named id rest
 
 -- the alterations after one more, which takes the place of an earlier one of its record
-abbrev pub renamed : ℕ → List Row → List Alteration → List Alteration
-renamed id rows [] = record { id = id; rows = rows } ∷ []
-renamed id rows (a ∷ rest) =
+abbrev pub with_alteration : ℕ → List Row → List Alteration → List Alteration
+with_alteration id rows [] = record { id = id; rows = rows } ∷ []
+with_alteration id rows (a ∷ rest) =
     if nat_lt a.id id
-    then a ∷ renamed id rows rest
+    then a ∷ with_alteration id rows rest
     else (if a.id == id then record { id = id; rows = rows } ∷ rest
     else record { id = id; rows = rows } ∷ a ∷ rest)
 
 -- the rows of one model after the alterations of its records
-abbrev pub altered : ℕ → List Alteration → List Row → List Row
-altered model [] rows = rows
-altered model (a ∷ rest) rows =
-    altered model rest (if model_of_id a.id == model then placed a.id a.rows rows else rows)
+abbrev pub altered_rows : ℕ → List Alteration → List Row → List Row
+altered_rows model [] rows = rows
+altered_rows model (a ∷ rest) rows =
+    altered_rows model rest (if model_of_id a.id == model then placed_rows a.id a.rows rows
+    else rows)
 
 -- whether a record of the model is altered
 abbrev pub alters : ℕ → List Alteration → Bool
@@ -50,7 +51,7 @@ of_model model (a ∷ rest) = if model_of_id a.id == model then a ∷ of_model m
 -- rows after alterations of them
 abbrev pub placed_each : List Alteration → List Row → List Row
 placed_each [] rows = rows
-placed_each (a ∷ rest) rows = placed_each rest (placed a.id a.rows rows)
+placed_each (a ∷ rest) rows = placed_each rest (placed_rows a.id a.rows rows)
 
 -- how many rows alterations bring
 abbrev pub brought : List Alteration → ℕ
@@ -60,7 +61,7 @@ brought (a ∷ rest) = length a.rows + brought rest
 -- the tables after the alterations, from the table of a model on
 abbrev pub overlaid_from : ℕ → List Alteration → List (List Row) → List (List Row)
 overlaid_from model rest [] = []
-overlaid_from model rest (t ∷ ts) = altered model rest t ∷ overlaid_from (model + 1) rest ts
+overlaid_from model rest (t ∷ ts) = altered_rows model rest t ∷ overlaid_from (model + 1) rest ts
 
 -- the tables after the alterations
 abbrev pub overlaid : List Alteration → List (List Row) → List (List Row)

@@ -9,13 +9,14 @@ use Rattle.jac_keep.specs.declared.vault.AttachFault.{AttachFault}
 use Rattle.jac_keep.specs.declared.vault.AttachFault.TheVariants.{Failed, Other}
 
 -- a new store is empty, with a table for each model, and its number stays
-pub record IsNew (before : State) (shapes : List ModelShape) (state : State) : Type 0 where
+pub record IsNewStore (before : State) (shapes : List ModelShape) (state : State) : Type 0 where
   pub tables : state.tables ≡ empties (length shapes)
   pub number : state.number ≡ before.number
 
 -- it is attached under this name, with this schema: what was stored under it stands, and else the
 -- store was new
-pub record Opens (old new : KeeperSeen) (name : Option (List ℕ)) (schema : List ℕ) : Type 0 where
+pub record OpensStore (old new : KeeperSeen) (name : Option (List ℕ))
+    (schema : List ℕ) : Type 0 where
   pub attached : IsTrue new.store.attached
   pub named : new.store.name ≡ name
   pub stored : new.store.schema ≡ Some schema
@@ -26,7 +27,7 @@ pub record Opens (old new : KeeperSeen) (name : Option (List ℕ)) (schema : Lis
   pub kept : IsTrue new.tells → IsTrue old.tells → old.store.schema ≡ Some schema
       → new.state ≡ old.state
   pub made : IsTrue new.tells → IsTrue old.tells → old.store.schema ≡ None
-      → (shapes : List ModelShape) → IsSchema schema shapes → IsNew old.state shapes new.state
+      → (shapes : List ModelShape) → IsSchema schema shapes → IsNewStore old.state shapes new.state
 
 -- nothing is changed
 pub record IsRefused (old new : KeeperSeen) : Type 0 where
@@ -40,7 +41,7 @@ pub record Attaches (old new : KeeperSeen) (name : Option (List ℕ)) (schema : 
     (result : Result (Unit {0}) AttachFault) : Type 0 where
   pub later : old.faults ≤ new.faults
   pub called : IsTrue new.store.called
-  pub ok : OnOk result (Opens old new name schema)
+  pub ok : OnOk result (OpensStore old new name schema)
   pub err : IsTrue new.tells → OnErr result (IsRefused old new)
   pub unattached : OnErr result (new.store.attached ≡ old.store.attached)
   pub rose : result ≡ Err Failed → Rose old.faults new.faults

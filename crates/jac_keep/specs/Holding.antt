@@ -27,6 +27,7 @@ abbrev pub masked_rows : ℕ → Value → List Row → List Row
 masked_rows f v rows = if list_any (has_cell f v) rows then rows else []
 
 -- alterations, without the rows of the records of which none has it
-abbrev pub masked : ℕ → Value → List Alteration → List Alteration
-masked f v [] = []
-masked f v (a ∷ rest) = record { id = a.id; rows = masked_rows f v a.rows } ∷ masked f v rest
+abbrev pub masked_alterations : ℕ → Value → List Alteration → List Alteration
+masked_alterations f v [] = []
+masked_alterations f v (a ∷ rest) = record { id = a.id; rows = masked_rows f v a.rows }
+    ∷ masked_alterations f v rest

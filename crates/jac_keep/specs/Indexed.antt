@@ -7,17 +7,17 @@ use Rattle.jac_value.specs.declared.value.Value.{Value}
 use Rattle.jac_rows.specs.declared.row.Row.{Row}
 use Rattle.jac_rows.specs.Tables.{rows_of}
 use Rattle.jac_index.specs.declared.by_value.ByValue.{ByValue}
-use Rattle.jac_index.specs.Triples.{has_pair}
+use Rattle.jac_index.specs.Triples.{has_index_pair}
 use Rattle.jac_keep.specs.declared.alteration.Alteration.{Alteration}
-use Rattle.jac_keep.specs.Alterations.{alters, altered}
+use Rattle.jac_keep.specs.Alterations.{alters, altered_rows}
 use Rattle.jac_keep.specs.Holding.{holds_cell}
-use Rattle.jac_keep.specs.Records.{alternatives, placed}
+use Rattle.jac_keep.specs.Records.{alternatives, placed_rows}
 use Rattle.jac_keep.specs.declared.table_index.TableIndex.{TableIndex}
 use Rattle.jac_keep.specs.declared.table_indexes.TableIndexes.{TableIndexes}
 
 -- the pairs are the values of the field in the rows
 abbrev pub IsByField : ℕ → List Row → ByValue → Type 0
-IsByField f rows b = (v : Value) (id : ℕ) → has_pair b v id ≡ holds_cell f v rows id
+IsByField f rows b = (v : Value) (id : ℕ) → has_index_pair b v id ≡ holds_cell f v rows id
 
 abbrev pub entry_or_none : Option (Option ByValue) → Option ByValue
 entry_or_none None = None
@@ -38,7 +38,8 @@ IndexesField f t = is_some (field_index f t.fields.items) ≡ true
 -- all pairs but those of the old rows, and those of the new ones
 abbrev pub IsRewritten : ℕ → List Row → List Row → ByValue → ByValue → Type 0
 IsRewritten f old new b c = (v : Value) (id : ℕ)
-    → has_pair c v id ≡ (holds_cell f v new id || (not (holds_cell f v old id) && has_pair b v id))
+    → has_index_pair c v id ≡ (holds_cell f v new id || (not (holds_cell f v old id)
+    && has_index_pair b v id))
 
 -- the same of a field that may have no index
 abbrev pub IsFieldAfter : ℕ → List Row → List Row → Option ByValue → Option ByValue → Type 0
@@ -49,7 +50,7 @@ IsFieldAfter f old new (Some b) after =
 -- an index of rows that have these alternatives of the record is one with the new ones in place
 abbrev pub Follows : ℕ → List Row → List Row → TableIndex → TableIndex → Type 0
 Follows id own new old after = (rows : List Row) → alternatives id rows ≡ own → IsIndexOf rows old
-    → IsIndexOf (placed id new rows) after
+    → IsIndexOf (placed_rows id new rows) after
 
 abbrev pub KeepsFields : TableIndex → TableIndex → Type 0
 KeepsFields old new = (f : ℕ) → IndexesField f old → IndexesField f new
@@ -87,7 +88,7 @@ IndexesModel m t = is_some (index_at m t) ≡ true
 pub record AreAltered (table : ℕ → List Row) (changed : List Alteration)
     (old new : TableIndexes) : Type 0 where
   pub right : (m : ℕ) (x : TableIndex) → index_at m new ≡ Some x
-      → IsIndexOf (altered m changed (table m)) x
+      → IsIndexOf (altered_rows m changed (table m)) x
   pub some : (m : ℕ) (x : TableIndex) → index_at m new ≡ Some x → alters m changed ≡ true
       → 0 < length (table m)
   pub same : (m : ℕ) → alters m changed ≡ false → index_at m new ≡ index_at m old

@@ -1,14 +1,14 @@
 -- a keeper in memory, as contracts see it
 use Rattle.std.specs.Prelude.{◌≡◌, ℕ, List, [], Bool, true, false, Option, Some, None, IsTrue, if◌then◌else◌}
-use Rattle.jac_io.specs.Faults.{risen}
-use Rattle.jac_io.specs.Calls.{listed}
+use Rattle.jac_io.specs.Faults.{one_more_fault}
+use Rattle.jac_io.specs.Calls.{is_listed}
 use Rattle.jac_rows.specs.declared.state.State.{State}
 use Rattle.jac_rows.specs.Good.{IsNext, IsSound}
 use Rattle.jac_rows.specs.Good.{ModelShape}
 use Rattle.jac_keep.specs.Indexed.{AreIndexesIfMade}
 use Rattle.jac_keep.specs.KeeperSeen.{KeeperSeen, Store}
-use Rattle.jac_keep.specs.Kept.{applied}
-use Rattle.jac_keep.specs.Reshaping.{widened}
+use Rattle.jac_keep.specs.Kept.{changed_state}
+use Rattle.jac_keep.specs.Reshaping.{widened_state}
 use Rattle.jac_keep.specs.Schema.{IsSchema, IsFit, empties}
 use Rattle.jac_keep.specs.declared.alteration.Change.{Change}
 use Rattle.jac_keep.specs.declared.table_indexes.TableIndexes.{TableIndexes}
@@ -26,23 +26,23 @@ pub record KeeperState : Type 0 where
 
 -- whether the next read, and the next apply, is to fail
 abbrev pub read_fails : KeeperState → Bool
-read_fails k = listed (risen k.reads) k.fail_reads
+read_fails k = is_listed (one_more_fault k.reads) k.fail_reads
 
 abbrev pub apply_fails : KeeperState → Bool
-apply_fails k = listed (risen k.applies) k.fail_applies
+apply_fails k = is_listed (one_more_fault k.applies) k.fail_applies
 
 -- what the next read leaves
 abbrev pub after_read : KeeperState → KeeperState
 after_read k = record k {
-  reads = risen k.reads;
-  faults = if read_fails k then risen k.faults else k.faults;
+  reads = one_more_fault k.reads;
+  faults = if read_fails k then one_more_fault k.faults else k.faults;
 }
 
 -- what the next apply leaves beside the state
 abbrev pub after_apply : KeeperState → KeeperState
 after_apply k = record k {
-  applies = risen k.applies;
-  faults = if apply_fails k then risen k.faults else k.faults;
+  applies = one_more_fault k.applies;
+  faults = if apply_fails k then one_more_fault k.faults else k.faults;
 }
 
 -- it tells its state
@@ -63,11 +63,11 @@ pub record IsKeeping (state : State) (store : Store) (indexes : Option TableInde
   pub stored : store.called ≡ false → IsStored store.schema state
 
 -- a store that nobody tried to attach, and one that is attached without a name or a schema
-abbrev pub unopened : Option (List ℕ) → Store
-unopened schema = record { called = false; attached = false; schema = schema; name = None }
+abbrev pub unattached_store : Option (List ℕ) → Store
+unattached_store schema = record { called = false; attached = false; schema = schema; name = None }
 
-abbrev pub opened : Store
-opened = record { called = true; attached = true; schema = None; name = None }
+abbrev pub attached_store : Store
+attached_store = record { called = true; attached = true; schema = None; name = None }
 
 -- what an attach leaves that is refused
 abbrev pub after_refusal : KeeperState → KeeperState
@@ -88,6 +88,6 @@ after_attach name schema models k = record k {
 -- what a reshape leaves that is accepted
 abbrev pub after_reshape : Change → List ℕ → ℕ → KeeperState → KeeperState
 after_reshape change schema models k = record (after_apply k) {
-  state = widened models (applied change k.state);
+  state = widened_state models (changed_state change k.state);
   store = record k.store { schema = Some schema };
 }

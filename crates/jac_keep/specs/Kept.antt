@@ -13,5 +13,5 @@ state_with id rows s = record s {
 }
 
 -- the state after a change: the named records are replaced and the number is set
-abbrev pub applied : Change → State → State
-applied c s = record { tables = overlaid c.changed s.tables; number = c.number }
+abbrev pub changed_state : Change → State → State
+changed_state c s = record { tables = overlaid c.changed s.tables; number = c.number }

@@ -17,14 +17,14 @@ rows_after ready (o ∷ rest) = (if ready then placed_each o.news.items o.rows.i
     else o.rows.items) ∷ rows_after ready rest
 
 -- the alterations of the model are at hand, and there is room for their rows
-pub record IsReady (model : ℕ) (changed : List Alteration) (o : Opened) : Type 0 where
+pub record IsReadyTable (model : ℕ) (changed : List Alteration) (o : Opened) : Type 0 where
   pub news : o.news.items ≡ of_model model changed
   pub room : vec_len o.rows + brought o.news.items ≤ vec_capacity o.rows
 
 -- the same of the tables of the models from one on
 abbrev pub AreReady : ℕ → List Alteration → List Opened → Type 0
 AreReady model changed [] = ⊤
-AreReady model changed (o ∷ rest) = IsReady model changed o × AreReady (model + 1) changed rest
+AreReady model changed (o ∷ rest) = IsReadyTable model changed o × AreReady (model + 1) changed rest
 
 -- what it takes to put the alterations in place
 pub record CanPlace (o : Opened) : Type 0 where

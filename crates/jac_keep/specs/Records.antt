@@ -20,8 +20,8 @@ abbrev pub behind : ℕ → List Row → List Row
 behind id rows = with_id (λ i. nat_lt id i) rows
 
 -- the rows with these in place of the record's alternatives
-abbrev pub placed : ℕ → List Row → List Row → List Row
-placed id new rows = before id rows ++ new ++ behind id rows
+abbrev pub placed_rows : ℕ → List Row → List Row → List Row
+placed_rows id new rows = before id rows ++ new ++ behind id rows
 
 -- each of the rows is an alternative of the record
 abbrev pub AreOf : ℕ → List Row → Type 0

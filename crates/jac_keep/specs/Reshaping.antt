@@ -6,18 +6,18 @@ use Rattle.jac_rows.specs.declared.state.State.{State}
 use Rattle.jac_keep.specs.declared.alteration.Change.{Change}
 use Rattle.jac_keep.specs.declared.stop.Stop.{Stop}
 use Rattle.jac_keep.specs.KeeperSeen.{KeeperSeen}
-use Rattle.jac_keep.specs.Kept.{applied}
+use Rattle.jac_keep.specs.Kept.{changed_state}
 use Rattle.jac_keep.specs.Schema.{IsSchema, empties}
 
 -- the state, with empty tables behind its own where it is to have so many
-abbrev pub widened : ℕ → State → State
-widened models s = record s { tables = s.tables ++ empties (models - length s.tables) }
+abbrev pub widened_state : ℕ → State → State
+widened_state models s = record s { tables = s.tables ++ empties (models - length s.tables) }
 
 -- the change is applied, the schema stored, and each model that it adds has an empty table
 pub record IsReshaped (old new : KeeperSeen) (change : Change) (schema : List ℕ) : Type 0 where
   pub store : new.store ≡ record old.store { schema = Some schema }
   pub state : IsTrue new.tells → (shapes : List ModelShape) → IsSchema schema shapes
-      → new.state ≡ widened (length shapes) (applied change old.state)
+      → new.state ≡ widened_state (length shapes) (changed_state change old.state)
 
 -- the state and the schema are as they were
 pub record IsUnshaped (old new : KeeperSeen) : Type 0 where

@@ -8,13 +8,8 @@ use Rattle.jac_value.specs.declared.value.Kind.TheVariants as kinds
 use Rattle.jac_rows.specs.declared.row.Row.{Row}
 use Rattle.jac_rows.specs.declared.state.State.{State}
 use Rattle.jac_rows.specs.Good.{ModelShape, IsGoodByGuards}
-use Rattle.jac_tree.specs.Plain.{PlainTree, PlainTrees, nesting}
-use Rattle.jac_tree.specs.Printed.{printed, HasAtoms}
-
--- how many trees stand in a list
-abbrev pub count : PlainTrees → ℕ
-count PlainTrees.none = 0
-count (PlainTrees.more t ts) = count ts + 1
+use Rattle.jac_tree.specs.Plain.{PlainTree, PlainTrees, nesting, count, is_word}
+use Rattle.jac_tree.specs.Printed.{printed_tree, HasAtoms}
 
 -- what each tree is read as, where all can be read
 abbrev pub each_of : {A : Type 0} → (PlainTree → Option A) → PlainTrees → Option (List A)
@@ -22,39 +17,33 @@ each_of read PlainTrees.none = Some []
 each_of read (PlainTrees.more t ts) = option_and_then (λ first. option_map (λ rest. first ∷ rest)
     (each_of read ts)) (read t)
 
--- the tree is this word, as an atom
-abbrev pub is_word : List ℕ → PlainTree → Bool
-is_word word (PlainTree.atom a) = bytes_eq a word
-is_word word (PlainTree.text x) = false
-is_word word (PlainTree.list ts) = false
-
 -- the trees of a list behind its head, where that is this word
-abbrev pub behind : List ℕ → PlainTree → Option PlainTrees
-behind word (PlainTree.atom a) = None
-behind word (PlainTree.text x) = None
-behind word (PlainTree.list PlainTrees.none) = None
-behind word (PlainTree.list (PlainTrees.more w ts)) = if is_word word w then Some ts else None
+abbrev pub trees_behind : List ℕ → PlainTree → Option PlainTrees
+trees_behind word (PlainTree.atom a) = None
+trees_behind word (PlainTree.text x) = None
+trees_behind word (PlainTree.list PlainTrees.none) = None
+trees_behind word (PlainTree.list (PlainTrees.more w ts)) = if is_word word w then Some ts else None
 
 -- NAME
-abbrev pub is_named : PlainTree → Bool
-is_named (PlainTree.atom a) = is_name a
-is_named (PlainTree.text x) = false
-is_named (PlainTree.list ts) = false
+abbrev pub is_name_tree : PlainTree → Bool
+is_name_tree (PlainTree.atom a) = is_name a
+is_name_tree (PlainTree.text x) = false
+is_name_tree (PlainTree.list ts) = false
 
-abbrev pub are_named : PlainTrees → Bool
-are_named PlainTrees.none = true
-are_named (PlainTrees.more t ts) = is_named t && are_named ts
+abbrev pub are_name_trees : PlainTrees → Bool
+are_name_trees PlainTrees.none = true
+are_name_trees (PlainTrees.more t ts) = is_name_tree t && are_name_trees ts
 
 -- `NAME ..` of a model that has this name
-abbrev pub begins_with : List ℕ → Option PlainTrees → Bool
-begins_with name None = false
-begins_with name (Some PlainTrees.none) = false
-begins_with name (Some (PlainTrees.more x parts)) = is_word name x
+abbrev pub begins_with_name : List ℕ → Option PlainTrees → Bool
+begins_with_name name None = false
+begins_with_name name (Some PlainTrees.none) = false
+begins_with_name name (Some (PlainTrees.more x parts)) = is_word name x
 
 -- the place of the first model of this name, where the first of these trees has the place k
 abbrev pub place_from : ℕ → List ℕ → PlainTrees → Option ℕ
 place_from k name PlainTrees.none = None
-place_from k name (PlainTrees.more t ts) = if begins_with name (behind (codes "model") t)
+place_from k name (PlainTrees.more t ts) = if begins_with_name name (trees_behind (codes "model") t)
     then Some k else place_from (k + 1) name ts
 
 -- the place of the model that a tree names
@@ -71,40 +60,41 @@ plain_kind a =
     if bytes_eq a (codes "bool") then Some kinds.Bool else None
 
 -- a reference by the one name behind `ref`
-abbrev pub reference : PlainTrees → PlainTrees → Option Kind
-reference models (PlainTrees.more x PlainTrees.none) = option_map kinds.Ref (place_named models x)
-reference models ts = None
+abbrev pub reference_kind : PlainTrees → PlainTrees → Option Kind
+reference_kind models (PlainTrees.more x PlainTrees.none) = option_map kinds.Ref
+    (place_named models x)
+reference_kind models ts = None
 
 -- a kind: one of those words, or `(ref NAME)`, by the place of the first model of that name
-abbrev pub kind_of : PlainTrees → PlainTree → Option Kind
-kind_of models (PlainTree.atom a) = plain_kind a
-kind_of models t = option_and_then (reference models) (behind (codes "ref") t)
+abbrev pub kind_of_tree : PlainTrees → PlainTree → Option Kind
+kind_of_tree models (PlainTree.atom a) = plain_kind a
+kind_of_tree models t = option_and_then (reference_kind models) (trees_behind (codes "ref") t)
 
 -- `(NAME KIND)`
 abbrev pub kind_of_field : PlainTrees → PlainTree → Option Kind
 kind_of_field models (PlainTree.list (PlainTrees.more x (PlainTrees.more k PlainTrees.none))) =
-    if is_named x then kind_of models k else None
+    if is_name_tree x then kind_of_tree models k else None
 kind_of_field models t = None
 
 -- `(fields (NAME KIND) ..)`
-abbrev pub kinds_of_fields : PlainTrees → PlainTree → Option (List Kind)
-kinds_of_fields models t = option_and_then (each_of (kind_of_field models))
-    (behind (codes "fields") t)
+abbrev pub kinds_of_trees : PlainTrees → PlainTree → Option (List Kind)
+kinds_of_trees models t = option_and_then (each_of (kind_of_field models))
+    (trees_behind (codes "fields") t)
 
 -- `hides`, or `(FIELD ..)`: the fields that a group guards
 abbrev pub is_group : PlainTree → Bool
 is_group (PlainTree.atom a) = bytes_eq a (codes "hides")
 is_group (PlainTree.text x) = false
-is_group (PlainTree.list names) = are_named names
+is_group (PlainTree.list names) = are_name_trees names
 
-abbrev pub are_groups : PlainTrees → Bool
-are_groups PlainTrees.none = true
-are_groups (PlainTrees.more t ts) = is_group t && are_groups ts
+abbrev pub are_group_trees : PlainTrees → Bool
+are_group_trees PlainTrees.none = true
+are_group_trees (PlainTrees.more t ts) = is_group t && are_group_trees ts
 
 -- `(groups GROUP ..)`, by the trees behind its head
 abbrev pub have_groups : Option PlainTrees → Bool
 have_groups None = false
-have_groups (Some ts) = are_groups ts
+have_groups (Some ts) = are_group_trees ts
 
 -- the atom `nested` stands in front
 abbrev pub starts_nested : PlainTrees → Bool
@@ -120,13 +110,14 @@ behind_nested (PlainTrees.more n ts) = if is_word (codes "nested") n then ts
 -- `(fields ..) (groups ..)`
 abbrev pub kinds_of_lists : PlainTrees → PlainTrees → Option (List Kind)
 kinds_of_lists models (PlainTrees.more fields (PlainTrees.more groups PlainTrees.none)) =
-    if have_groups (behind (codes "groups") groups) then kinds_of_fields models fields else None
+    if have_groups (trees_behind (codes "groups") groups) then kinds_of_trees models fields
+    else None
 kinds_of_lists models ts = None
 
 -- `NAME nested? (fields ..) (groups ..)`
 abbrev pub kinds_of_parts : PlainTrees → PlainTrees → Option (List Kind)
 kinds_of_parts models PlainTrees.none = None
-kinds_of_parts models (PlainTrees.more x ts) = if is_named x
+kinds_of_parts models (PlainTrees.more x ts) = if is_name_tree x
     then kinds_of_lists models (behind_nested ts) else None
 
 -- whether a model's parts, behind the word `model`, have the atom `nested` behind the name
@@ -137,12 +128,13 @@ is_nested_in (Some (PlainTrees.more x ts)) = starts_nested ts
 
 abbrev pub nested_of_models : PlainTrees → List Bool
 nested_of_models PlainTrees.none = []
-nested_of_models (PlainTrees.more t ts) = is_nested_in (behind (codes "model") t) ∷ nested_of_models
+nested_of_models (PlainTrees.more t ts) = is_nested_in (trees_behind (codes "model") t)
+    ∷ nested_of_models
     ts
 
 -- `(model NAME nested? (fields ..) (groups ..))`
 abbrev pub kinds_of_model : PlainTrees → PlainTree → Option (List Kind)
-kinds_of_model models t = option_and_then (kinds_of_parts models) (behind (codes "model") t)
+kinds_of_model models t = option_and_then (kinds_of_parts models) (trees_behind (codes "model") t)
 
 -- at most 64 models
 abbrev pub kinds_of_models : PlainTrees → Option (List (List Kind))
@@ -152,7 +144,7 @@ kinds_of_models models = if nat_le (count models) 64 then each_of (kinds_of_mode
 -- the kinds of the fields of each model of `(schema (model NAME nested? (fields (NAME KIND) ..)
 -- (groups GROUP ..)) ..)`
 abbrev pub kinds_of_schema : PlainTree → Option (List (List Kind))
-kinds_of_schema t = option_and_then kinds_of_models (behind (codes "schema") t)
+kinds_of_schema t = option_and_then kinds_of_models (trees_behind (codes "schema") t)
 
 -- which of them are nested
 abbrev pub nested_by : Option PlainTrees → List Bool
@@ -160,7 +152,7 @@ nested_by None = []
 nested_by (Some models) = nested_of_models models
 
 abbrev pub nested_of_schema : PlainTree → List Bool
-nested_of_schema t = nested_by (behind (codes "schema") t)
+nested_of_schema t = nested_by (trees_behind (codes "schema") t)
 
 -- the kinds of each model, beside whether it is nested
 abbrev pub shapes_by : List (List Kind) → List Bool → List ModelShape
@@ -176,7 +168,7 @@ pub record IsSchema (text : List ℕ) (shapes : List ModelShape) : Type 0 where
   pub tree : PlainTree
   pub atoms : HasAtoms tree
   pub shallow : nesting tree ≤ 64
-  pub spelled : text ≡ printed tree
+  pub spelled : text ≡ printed_tree tree
   pub read : shapes_of_schema tree ≡ Some shapes
 
 -- so many empty tables

@@ -5,9 +5,9 @@ ghost use Rattle.std.specs.List.Sorted.{IsPartitionPoint};
 ghost use Rattle.jac_world.specs.World.{IsRisingBy};
 ghost use Rattle.jac_rows.specs.declared.row.Row.{Row as Seen};
 ghost use Rattle.jac_keep.specs.declared.alteration.Alteration.{Alteration as Named};
-ghost use Rattle.jac_keep.specs.Alterations.{AreApart, named, renamed, altered};
+ghost use Rattle.jac_keep.specs.Alterations.{AreApart, alternatives_named, with_alteration, altered_rows};
 
-use crate::placing::alter_rows;
+use crate::placement::alter_rows;
 use jac_rows::Rows;
 use jac_value::{Id, Memory};
 use std::alloc::Global;
@@ -92,7 +92,7 @@ impl Alterations {
 
     /// The new alternatives of the record, if it is named.
     pub fn find(&self, id: Id) -> Option<&Rows>
-        ensures found { option_copied result ≡ named id self.now }
+        ensures found { option_copied result ≡ alternatives_named id self.now }
         ensures apart { AreApart self.now }
     {
         let items = self.changed.as_slice();
@@ -106,7 +106,7 @@ impl Alterations {
     #[tactic(auto, using(crate::proofs::AlteringLaws::apart_put))]
     pub fn put(&mut self, id: Id, rows: Rows) -> Result<(), Memory>
         requires { All (λ (r : Seen). r.id ≡ id) rows }
-        ensures put { OnOk result (self.new ≡ renamed id rows self.old) }
+        ensures put { OnOk result (self.new ≡ with_alteration id rows self.old) }
         ensures apart { AreApart self.old }
     {
         put_in(&mut self.changed, id, rows)?;
@@ -115,7 +115,7 @@ impl Alterations {
 
     /// The rows of a model after the alterations of its records.
     pub fn alter(&self, alloc: Global, model: usize, rows: Rows) -> Result<Rows, Memory>
-        ensures altered { IfOk result (λ r. r ≡ altered model self.now rows) }
+        ensures altered { IfOk result (λ r. r ≡ altered_rows model self.now rows) }
         ensures apart { AreApart self.now }
     {
         let rows = alter_rows(alloc, self.changed.as_slice(), model, rows.into_vec())?;
@@ -126,7 +126,7 @@ impl Alterations {
 // Names the record, in place of its earlier alteration if there is one.
 fn put_in(changed: &mut Vec<Alteration>, id: Id, rows: Rows) -> Result<(), Memory>
     requires { IsRisingBy (λ (a : Named). a.id) changed.old.items }
-    ensures ok { OnOk result (changed.new.items ≡ renamed id rows changed.old.items) }
+    ensures ok { OnOk result (changed.new.items ≡ with_alteration id rows changed.old.items) }
     ensures err { OnErr result (changed.new.items ≡ changed.old.items) }
 {
     match place_of(changed.as_slice(), id) {
@@ -141,11 +141,13 @@ fn place_of(items: &[Alteration], id: Id) -> Result<usize, usize>
     requires { IsRisingBy (λ (a : Named). a.id) items.now }
     ensures within { MatchResult result (λ at. at < length items.now)
         (λ at. at ≤ length items.now) }
-    ensures place { MatchResult result (λ at. (rows : List Seen) → renamed id rows items.now
+    ensures place { MatchResult result (λ at. (rows : List Seen) → with_alteration id rows items.now
         ≡ slice_set items.now at (record { id = id; rows = rows })) (λ at. (rows : List Seen)
-        → renamed id rows items.now ≡ insert items.now at (record { id = id; rows = rows })) }
-    ensures named { MatchResult result (λ at. HoldsAt (λ (a : Named). named id items.now
-        ≡ Some a.rows) items.now at) (λ _. named id items.now ≡ None) }
+        → with_alteration id rows items.now ≡ insert items.now at
+        (record { id = id; rows = rows })) }
+    ensures named { MatchResult result (λ at. HoldsAt (λ
+        (a : Named). alternatives_named id items.now
+        ≡ Some a.rows) items.now at) (λ _. alternatives_named id items.now ≡ None) }
 {
     let at = count_below(items, id);
     if at == items.len() {

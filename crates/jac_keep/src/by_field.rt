@@ -2,7 +2,7 @@
 ghost use Rattle.std.specs.Prelude.{◌≡◌, ◌==◌, ◌&&◌, ◌||◌, not, ℕ, IfOk, OnOk, slice_get};
 ghost use Rattle.std.specs.Option.{option_copied};
 ghost use Rattle.jac_value.specs.declared.value.Value.{Value as Cell};
-ghost use Rattle.jac_index.specs.Triples.{has_pair};
+ghost use Rattle.jac_index.specs.Triples.{has_index_pair};
 ghost use Rattle.jac_keep.specs.Holding.{has_cell, holds_cell};
 ghost use Rattle.jac_keep.specs.Indexed.{IsByField, IsFieldAfter, IsRewritten};
 
@@ -56,8 +56,8 @@ fn rewritten(
 }
 
 fn add_rows(alloc: Global, values: &mut ByValue, rows: &[Row], field: usize) -> Result<(), Memory>
-    ensures { OnOk result ((v : Cell) (k : ℕ) → has_pair values.new v k
-        ≡ (holds_cell field v rows.now k || has_pair values.old v k)) }
+    ensures { OnOk result ((v : Cell) (k : ℕ) → has_index_pair values.new v k
+        ≡ (holds_cell field v rows.now k || has_index_pair values.old v k)) }
 {
     'rows: for row in rows {
         add_row(alloc, values, row, field)?;
@@ -66,8 +66,8 @@ fn add_rows(alloc: Global, values: &mut ByValue, rows: &[Row], field: usize) -> 
 }
 
 fn add_row(alloc: Global, values: &mut ByValue, row: &Row, field: usize) -> Result<(), Memory>
-    ensures { OnOk result ((v : Cell) (k : ℕ) → has_pair values.new v k
-        ≡ (((row.now.id == k) && has_cell field v row.now) || has_pair values.old v k)) }
+    ensures { OnOk result ((v : Cell) (k : ℕ) → has_index_pair values.new v k
+        ≡ (((row.now.id == k) && has_cell field v row.now) || has_index_pair values.old v k)) }
 {
     match cell_at(row, field) {
         Some(cell) => values.add(alloc, cell, row.id),
@@ -76,8 +76,8 @@ fn add_row(alloc: Global, values: &mut ByValue, row: &Row, field: usize) -> Resu
 }
 
 fn remove_rows(values: &mut ByValue, rows: &[Row], field: usize)
-    ensures { (v : Cell) (k : ℕ) → has_pair values.new v k
-        ≡ (not (holds_cell field v rows.now k) && has_pair values.old v k) }
+    ensures { (v : Cell) (k : ℕ) → has_index_pair values.new v k
+        ≡ (not (holds_cell field v rows.now k) && has_index_pair values.old v k) }
 {
     'rows: for row in rows {
         remove_row(values, row, field);
@@ -85,8 +85,8 @@ fn remove_rows(values: &mut ByValue, rows: &[Row], field: usize)
 }
 
 fn remove_row(values: &mut ByValue, row: &Row, field: usize)
-    ensures { (v : Cell) (k : ℕ) → has_pair values.new v k
-        ≡ (not ((row.now.id == k) && has_cell field v row.now) && has_pair values.old v k) }
+    ensures { (v : Cell) (k : ℕ) → has_index_pair values.new v k
+        ≡ (not ((row.now.id == k) && has_cell field v row.now) && has_index_pair values.old v k) }
 {
     match cell_at(row, field) {
         Some(cell) => values.remove(cell, row.id),

@@ -1,6 +1,6 @@
 //! Rows that take the place of others in a list with room for them.
 ghost use Rattle.std.specs.Prelude.{◌≡◌, ◌+◌, ◌<◌, ◌≤◌, ◌++◌, ◌∷◌, [], length, take, drop, vec_len, vec_capacity};
-ghost use Rattle.jac_keep.specs.Records.{AreOrdered, placed};
+ghost use Rattle.jac_keep.specs.Records.{AreOrdered, placed_rows};
 
 use crate::places::{Place, place_in};
 use jac_rows::Row;
@@ -10,7 +10,7 @@ use jac_value::Id;
 pub fn place(rows: &mut Vec<Row>, id: Id, new: Vec<Row>)
     requires ordered { AreOrdered rows.old.items }
     requires room { vec_len rows.old + vec_len new ≤ vec_capacity rows.old }
-    ensures placed { rows.new.items ≡ placed id new.items rows.old.items }
+    ensures placed { rows.new.items ≡ placed_rows id new.items rows.old.items }
     ensures grown { vec_len rows.new ≤ vec_len rows.old + vec_len new }
     ensures capacity { vec_capacity rows.new ≡ vec_capacity rows.old }
 {

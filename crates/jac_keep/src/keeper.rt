@@ -6,7 +6,7 @@ ghost use Rattle.jac_rows.specs.Tables.{rows_of};
 ghost use Rattle.jac_keep.specs.Records.{alternatives};
 ghost use Rattle.jac_keep.specs.Holding.{holders};
 ghost use Rattle.jac_keep.specs.KeeperSeen.{KeeperSeen, Keeps, Reads};
-ghost use Rattle.jac_keep.specs.Kept.{applied};
+ghost use Rattle.jac_keep.specs.Kept.{changed_state};
 
 use crate::{Change, Stop};
 use jac_rows::Rows;
@@ -60,9 +60,9 @@ pub trait Keeper {
     fn apply(&mut self, alloc: Global, change: &Change) -> Result<(), Stop>
         requires attached { IsTrue (seen self.old).store.attached }
         requires good { IsTrue (seen self.old).tells
-            → IsSound (applied change.now (seen self.old).state) }
+            → IsSound (changed_state change.now (seen self.old).state) }
         ensures exact { IsTrue (seen self.new).tells
-            → OnOk result ((seen self.new).state ≡ applied change.now (seen self.old).state) }
+            → OnOk result ((seen self.new).state ≡ changed_state change.now (seen self.old).state) }
         ensures refused { IsTrue (seen self.new).tells
             → OnErr result ((seen self.new).state ≡ (seen self.old).state) }
         ensures kept { Keeps (seen self.old) (seen self.new) result };

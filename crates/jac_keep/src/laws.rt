@@ -5,8 +5,8 @@ ghost use Rattle.jac_rows.specs.Tables.{rows_of};
 ghost use Rattle.jac_rows.specs.declared.state.State.{State};
 ghost use Rattle.jac_keep.specs.declared.alteration.Change.{Change as Changed};
 ghost use Rattle.jac_keep.specs.Records.{alternatives};
-ghost use Rattle.jac_keep.specs.Alterations.{AreApart, ArePlaced, named};
-ghost use Rattle.jac_keep.specs.Kept.{applied};
+ghost use Rattle.jac_keep.specs.Alterations.{AreApart, ArePlaced, alternatives_named};
+ghost use Rattle.jac_keep.specs.Kept.{changed_state};
 ghost use Rattle.jac_keep.specs.Sound.{AllStand};
 
 /// A law: a state that is good by its guards is sound.
@@ -18,7 +18,7 @@ pub fn sound_if_good()
 /// fall.
 pub fn sound_after_change()
     ensures { (c : Changed) (s : State) → IsSound s → s.number ≤ c.number → c.number ≤ 2 ^ 40
-        → AllStand c.number c.changed → IsSound (applied c s) }
+        → AllStand c.number c.changed → IsSound (changed_state c s) }
 {}
 
 /// A law: after a change a record has its new alternatives if it is named, and else those that it
@@ -26,6 +26,6 @@ pub fn sound_after_change()
 pub fn record_after_change()
     ensures { (c : Changed) (s : State) (id : ℕ) → AreApart c.changed
         → ArePlaced c.changed (length s.tables)
-        → alternatives id (rows_of (applied c s).tables (model_of_id id)) ≡ unwrap_or
-        (named id c.changed) (alternatives id (rows_of s.tables (model_of_id id))) }
+        → alternatives id (rows_of (changed_state c s).tables (model_of_id id)) ≡ unwrap_or
+        (alternatives_named id c.changed) (alternatives id (rows_of s.tables (model_of_id id))) }
 {}

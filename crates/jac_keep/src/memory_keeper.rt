@@ -10,9 +10,9 @@ ghost use Rattle.jac_keep.specs.Holding.{holders};
 ghost use Rattle.jac_keep.specs.Indexed.{AreIndexesOf, AreIndexesIfMade};
 ghost use Rattle.jac_keep.specs.Cause.{HasCause};
 ghost use Rattle.jac_keep.specs.KeeperSeen.{Keeps, Reads};
-ghost use Rattle.jac_keep.specs.Kept.{applied};
+ghost use Rattle.jac_keep.specs.Kept.{changed_state};
 ghost use Rattle.jac_keep.specs.Attaching.{Attaches};
-ghost use Rattle.jac_keep.specs.Reshaping.{widened, Reshapes};
+ghost use Rattle.jac_keep.specs.Reshaping.{widened_state, Reshapes};
 ghost use Rattle.jac_keep.specs.Schema.{IsSchema, IsFit, empties};
 ghost use Rattle.jac_keep.specs.declared.vault.AttachFault.TheVariants.{Failed, Other};
 
@@ -56,7 +56,7 @@ impl Model for MemoryKeeper {
 }
 
 impl MemoryKeeper {
-    ghost use Rattle.jac_keep.specs.KeeperState.{IsStored, opened, unopened};
+    ghost use Rattle.jac_keep.specs.KeeperState.{IsStored, attached_store, unattached_store};
 
     /// A keeper that wasn't attached yet: it has what is stored under the schema, and without one a
     /// new store.
@@ -69,7 +69,7 @@ impl MemoryKeeper {
         requires { IsStored schema state }
         ensures { result ≡ record {
           state = state;
-          store = unopened schema;
+          store = unattached_store schema;
           fail_reads = fail_reads;
           fail_applies = fail_applies;
           reads = 0;
@@ -97,7 +97,7 @@ impl MemoryKeeper {
         requires { IsSound state }
         ensures { result ≡ record {
           state = state;
-          store = opened;
+          store = attached_store;
           fail_reads = fail_reads;
           fail_applies = fail_applies;
           reads = 0;
@@ -224,9 +224,9 @@ impl Keeper for MemoryKeeper {
 
     fn apply(&mut self, alloc: Global, change: &Change) -> Result<(), Stop>
         requires attached { IsTrue self.old.store.attached }
-        requires good { IsSound (applied change.now self.old.state) }
+        requires good { IsSound (changed_state change.now self.old.state) }
         ensures ok { OnOk result (self.new ≡ record (after_apply self.old)
-            { state = applied change.now self.old.state }) }
+            { state = changed_state change.now self.old.state }) }
         ensures err { OnErr result (self.new ≡ after_apply self.old) }
         ensures stopped { IsErrOf result Stop.Keeper ↔ IsTrue (apply_fails self.old) }
         ensures kept { Keeps (seen_keeper self.old) (seen_keeper self.new) result }
@@ -280,7 +280,8 @@ impl Vault for MemoryKeeper {
         requires schema { (shapes : List ModelShape) × IsSchema schema.now shapes
             × (IsTrue (seen_keeper self.old).tells
             → IsFit shapes
-            (widened (length shapes) (applied change.now (seen_keeper self.old).state))) }
+            (widened_state (length shapes) (changed_state change.now
+            (seen_keeper self.old).state))) }
         ensures ok { OnOk result ((shapes : List ModelShape) → IsSchema schema.now shapes
             → self.new ≡ after_reshape change.now schema.now (length shapes) self.old) }
         ensures err { OnErr result (self.new ≡ after_apply self.old) }

@@ -6,9 +6,9 @@ ghost use Rattle.jac_keep.specs.Records.{AreOrdered};
 ghost use Rattle.jac_keep.specs.Alterations.{AreOwn, of_model, placed_each, brought, overlaid};
 ghost use Rattle.jac_keep.specs.Schema.{empties};
 ghost use Rattle.jac_keep.specs.Sound.{AreTables};
-ghost use Rattle.jac_keep.specs.Opened.{rows_in, rows_after, IsReady, AreReady, CanPlace};
+ghost use Rattle.jac_keep.specs.Opened.{rows_in, rows_after, IsReadyTable, AreReady, CanPlace};
 
-use crate::placing::{place_each, prepare};
+use crate::placement::{place_each, prepare};
 use crate::{Alteration, Alterations};
 use jac_rows::{Row, Table, Tables};
 use jac_value::Memory;
@@ -98,7 +98,7 @@ fn open_all(
 // The table's rows and copies of the alterations, and whether there was memory.
 fn open(alloc: Global, table: Table, model: usize, changed: &[Alteration]) -> (Opened, bool)
     ensures rows { result.0.rows.items ≡ table }
-    ensures ready { IsTrue result.1 → IsReady model changed.now result.0 }
+    ensures ready { IsTrue result.1 → IsReadyTable model changed.now result.0 }
 {
     let mut rows = table.into_vec();
     match prepare(alloc, &mut rows, model, changed) {

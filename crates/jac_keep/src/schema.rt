@@ -3,9 +3,10 @@ ghost use Rattle.std.specs.Str.{bytes_eq};
 ghost use Rattle.std.specs.Option.{option_map};
 ghost use Rattle.jac_rows.specs.Good.{ModelShape};
 ghost use Rattle.jac_tree.specs.Mirror.{plain, plain_all};
-ghost use Rattle.jac_tree.specs.Printed.{printed};
+ghost use Rattle.jac_tree.specs.Printed.{printed_tree};
 ghost use Rattle.jac_tree.specs.declared.fault.TreeFault.TheVariants as faults;
-ghost use Rattle.jac_keep.specs.Schema.{IsSchema, are_groups, behind_nested, are_named, begins_with, behind, count, each_of, have_groups, is_group, is_named, is_word, kind_of, kind_of_field, is_nested_in, kinds_of_fields, kinds_of_lists, kinds_of_model, kinds_of_models, kinds_of_parts, kinds_of_schema, nested_of_models, nested_of_schema, place_from, place_named, plain_kind, reference, shapes_by, shapes_of_schema, starts_nested};
+ghost use Rattle.jac_keep.specs.Schema.{IsSchema, are_group_trees, behind_nested, are_name_trees, begins_with_name, trees_behind, each_of, have_groups, is_group, is_name_tree, kind_of_tree, kind_of_field, is_nested_in, kinds_of_trees, kinds_of_lists, kinds_of_model, kinds_of_models, kinds_of_parts, kinds_of_schema, nested_of_models, nested_of_schema, place_from, place_named, plain_kind, reference_kind, shapes_by, shapes_of_schema, starts_nested};
+ghost use Rattle.jac_tree.specs.Plain.{count, is_word};
 
 use jac_rows::{Flags, KindLists, Shape};
 use jac_tree::{Tree, TreeFault, Trees, print_tree, read_text};
@@ -58,7 +59,8 @@ fn without_tree(fault: TreeFault) -> Result<Option<Shape>, Memory>
 // The shape that a tree gives, where the text is what it is printed as.
 fn shape_of_printed(alloc: Global, text: &Txt, tree: &Tree) -> Result<Option<Shape>, Memory>
     ensures { IfOk result (λ found. option_map (λ s. shapes_by s.kinds s.nested) found
-        ≡ (if bytes_eq text.now (printed (plain tree.now)) then shapes_of_schema (plain tree.now)
+        ≡ (if bytes_eq text.now (printed_tree (plain tree.now)) then shapes_of_schema
+        (plain tree.now)
         else None)) }
 {
     let printed = print_tree(alloc, tree)?;
@@ -249,7 +251,7 @@ fn kinds_of_lists(alloc: Global, models: &Trees, lists: &Trees) -> Result<Option
 
 fn kinds_of_fields(alloc: Global, models: &Trees, tree: &Tree) -> Result<Option<Kinds>, Memory>
     requires { count (plain_all models.now) ≤ 64 }
-    ensures { IfOk result (λ kinds. kinds ≡ kinds_of_fields (plain_all models.now)
+    ensures { IfOk result (λ kinds. kinds ≡ kinds_of_trees (plain_all models.now)
         (plain tree.now)) }
 {
     match behind(tree, b"fields") {
@@ -300,7 +302,7 @@ fn kind_of_field(models: &Trees, tree: &Tree) -> Option<Kind>
 
 fn kind_of(models: &Trees, tree: &Tree) -> Option<Kind>
     requires { count (plain_all models.now) ≤ 64 }
-    ensures { result ≡ kind_of (plain_all models.now) (plain tree.now) }
+    ensures { result ≡ kind_of_tree (plain_all models.now) (plain tree.now) }
 {
     match tree {
         Tree::Atom(word) => plain_kind(word.as_str()),
@@ -327,7 +329,7 @@ fn plain_kind(word: &str) -> Option<Kind>
 
 fn reference(models: &Trees, trees: &Trees) -> Option<Kind>
     requires { count (plain_all models.now) ≤ 64 }
-    ensures { result ≡ reference (plain_all models.now) (plain_all trees.now) }
+    ensures { result ≡ reference_kind (plain_all models.now) (plain_all trees.now) }
 {
     let Trees::More(name, rest) = trees else {
         return None;
@@ -369,7 +371,7 @@ fn place_of(models: &Trees, name: &[u8]) -> Option<u8>
 }
 
 fn begins_with(parts: Option<&Trees>, name: &[u8]) -> bool
-    ensures { result ≡ begins_with name.now (option_map (λ ts. plain_all ts.now) parts.entry) }
+    ensures { result ≡ begins_with_name name.now (option_map (λ ts. plain_all ts.now) parts.entry) }
 {
     match parts {
         Some(Trees::More(first, _)) => is_word(first, name),
@@ -378,7 +380,7 @@ fn begins_with(parts: Option<&Trees>, name: &[u8]) -> bool
 }
 
 fn have_groups(tree: &Tree) -> bool
-    ensures { result ≡ have_groups (behind (codes "groups") (plain tree.now)) }
+    ensures { result ≡ have_groups (trees_behind (codes "groups") (plain tree.now)) }
 {
     match behind(tree, b"groups") {
         Some(groups) => are_groups(groups),
@@ -387,7 +389,7 @@ fn have_groups(tree: &Tree) -> bool
 }
 
 fn are_groups(groups: &Trees) -> bool
-    ensures { result ≡ are_groups (plain_all groups.now) }
+    ensures { result ≡ are_group_trees (plain_all groups.now) }
 {
     let mut left = groups;
     'groups: while let Trees::More(first, rest) = left {
@@ -410,7 +412,7 @@ fn is_group(tree: &Tree) -> bool
 }
 
 fn are_named(trees: &Trees) -> bool
-    ensures { result ≡ are_named (plain_all trees.now) }
+    ensures { result ≡ are_name_trees (plain_all trees.now) }
 {
     let mut left = trees;
     'names: while let Trees::More(first, rest) = left {
@@ -423,7 +425,7 @@ fn are_named(trees: &Trees) -> bool
 }
 
 fn is_named(tree: &Tree) -> bool
-    ensures { result ≡ is_named (plain tree.now) }
+    ensures { result ≡ is_name_tree (plain tree.now) }
 {
     match tree {
         Tree::Atom(name) => is_name(name.as_bytes()),
@@ -442,7 +444,7 @@ fn is_word(tree: &Tree, word: &[u8]) -> bool
 
 // What stands behind the head of a list, where that is this word.
 fn behind<'t>(tree: &'t Tree, word: &[u8]) -> Option<&'t Trees>
-    ensures { option_map (λ ts. plain_all ts.now) result ≡ behind word.now (plain tree.now) }
+    ensures { option_map (λ ts. plain_all ts.now) result ≡ trees_behind word.now (plain tree.now) }
 {
     match tree {
         Tree::List(Trees::More(head, rest)) => if is_word(head, word) {

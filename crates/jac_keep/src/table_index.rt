@@ -1,7 +1,7 @@
 //! The indexes of one table.
 ghost use Rattle.std.specs.Prelude.{◌≡◌, ℕ, List, IfOk, OnOk};
 ghost use Rattle.jac_rows.specs.declared.row.Row.{Row as Seen};
-ghost use Rattle.jac_world.specs.World.{shown, IsAscending};
+ghost use Rattle.jac_world.specs.World.{shown_by, IsAscending};
 ghost use Rattle.jac_keep.specs.Records.{AreOf, AreOrdered, alternatives};
 ghost use Rattle.jac_keep.specs.Holding.{holds_cell, holders};
 ghost use Rattle.jac_keep.specs.Indexed.{IsIndexOf, IndexesField, Follows, KeepsFields};
@@ -9,7 +9,7 @@ ghost use Rattle.jac_keep.specs.Indexed.{IsIndexOf, IndexesField, Follows, Keeps
 use crate::Alteration;
 use crate::by_field::index_of;
 use crate::fields::{alter_fields, field_of, put_in};
-use crate::gathering::rows_of_ids;
+use crate::gatherer::rows_of_ids;
 use crate::places::place_in;
 use jac_index::ByValue;
 use jac_rows::{Row, Rows};
@@ -68,7 +68,7 @@ impl TableIndex {
     fn ids(&self, alloc: Global, rows: &[Row], field: u8, value: &Value) -> Result<Ids, Memory>
         requires right { IsIndexOf rows.now self.now }
         requires opened { IndexesField field self.now }
-        ensures held { IfOk result (λ ids. (k : ℕ) → shown ids k ≡ holds_cell field value.now
+        ensures held { IfOk result (λ ids. (k : ℕ) → shown_by ids k ≡ holds_cell field value.now
             rows.now k) }
         ensures ascending { IfOk result IsAscending }
     {

@@ -1,10 +1,10 @@
 ghost use Rattle.std.specs.Prelude.{◌≡◌, List, Option, IsTrue, IfOk, length, false};
 ghost use Rattle.std.specs.Option.{option_copied};
 ghost use Rattle.jac_rows.specs.Good.{ModelShape};
-ghost use Rattle.jac_keep.specs.Kept.{applied};
+ghost use Rattle.jac_keep.specs.Kept.{changed_state};
 ghost use Rattle.jac_keep.specs.Schema.{IsSchema, IsFit};
 ghost use Rattle.jac_keep.specs.Attaching.{Attaches};
-ghost use Rattle.jac_keep.specs.Reshaping.{widened, Reshapes};
+ghost use Rattle.jac_keep.specs.Reshaping.{widened_state, Reshapes};
 ghost use Rattle.jac_keep.specs.declared.vault.AttachFault.TheVariants as faults;
 
 use crate::{Change, Keeper, Stop};
@@ -48,6 +48,6 @@ pub trait Vault: Keeper {
         requires schema { (shapes : List ModelShape) × IsSchema schema.now shapes
             × (IsTrue (Self.seen self.old).tells
             → IsFit shapes
-            (widened (length shapes) (applied change.now (Self.seen self.old).state))) }
+            (widened_state (length shapes) (changed_state change.now (Self.seen self.old).state))) }
         ensures { Reshapes (Self.seen self.old) (Self.seen self.new) change.now schema.now result };
 }

@@ -6,10 +6,10 @@ ghost use Rattle.jac_keep.specs.Records.{alternatives};
 ghost use Rattle.jac_rows.specs.declared.row.Row.{Row as Seen};
 ghost use Rattle.jac_keep.specs.Holding.{holders};
 ghost use Rattle.jac_keep.specs.Cause.{HasCause};
-ghost use Rattle.jac_keep.specs.Kept.{state_with, applied};
+ghost use Rattle.jac_keep.specs.Kept.{state_with, changed_state};
 ghost use Rattle.jac_keep.specs.Worked.{state_of, IsTold, LeavesKeeper, ReadsWork};
 
-use crate::masking::masked;
+use crate::masks::masked;
 use crate::{Alterations, Change, Keeper, Stop};
 use jac_rows::Rows;
 use jac_value::{Id, Memory, Value};
@@ -125,7 +125,7 @@ impl<'k, K: Keeper> WorkOver<'k, K, Overlay> {
     pub fn into_change(self, number: u64) -> Result<Change, Memory>
         ensures changed { IsOkAnd result (λ c. (c.changed ≡ self.entry.over)
             × (c.number ≡ number)) }
-        ensures applied { IsOkAnd result (λ c. applied c (K.seen self.entry.keeper.now).state
+        ensures applied { IsOkAnd result (λ c. changed_state c (K.seen self.entry.keeper.now).state
             ≡ record (state_of K.seen self.entry) { number = number }) }
         ensures keeper { self.exit.1.0.now ≡ self.entry.keeper.now }
     {

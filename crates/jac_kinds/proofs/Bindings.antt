@@ -8,12 +8,12 @@ use Rattle.jac_value.specs.declared.value.Value.TheVariants as value
 use Rattle.jac_lang.specs.declared.bindings.Binding.{Binding}
 use Rattle.jac_lang.specs.Lookup.{same_text}
 use Rattle.jac_plain.specs.Expressions.{binding, look}
-use Rattle.jac_plain.specs.Statements.{binds, assigned}
+use Rattle.jac_plain.specs.Statements.{binds, with_value}
 use Rattle.jac_check.specs.Scope.{Named, meaning_of}
 use Rattle.jac_check.specs.Kinds.{has}
 use Rattle.jac_check.specs.Well.{is_assigned}
 use Rattle.jac_kinds.specs.Fits.{Has, AreBound}
-use Rattle.jac_kinds.specs.Operands.{AreAlike}
+use Rattle.jac_kinds.specs.Operands.{AreOneKind}
 use Rattle.jac_kinds.proofs.Names.{last_named, meaning_last, value_named}
 use Rattle.jac_kinds.proofs.Operands.{Known, of_kind}
 
@@ -47,12 +47,12 @@ assigned_step n ns b env later x v false false g there here = g
 
 -- a value of the kind of the innermost is put in its place
 assigned_bound : (ns : List Named) (env : List Binding) (x : List ℕ) (o : Option Named) (v : Value) → AreBound ns env
-    → ((m : Named) → last_named o ns x ≡ Some m → Has m.meaning.kind v) → AreBound ns (assigned x v env)
+    → ((m : Named) → last_named o ns x ≡ Some m → Has m.meaning.kind v) → AreBound ns (with_value x v env)
 assigned_bound [] [] x o v g h = tt
 assigned_bound [] (b ∷ env) x o v g h = absurd g
 assigned_bound (n ∷ ns) [] x o v g h = absurd g
 assigned_bound (n ∷ ns) (b ∷ env) x o v g h =
-    assigned_step n ns b env (assigned x v env) x v (binds x env) (same_text b.name x) g
+    assigned_step n ns b env (with_value x v env) x v (binds x env) (same_text b.name x) g
     (λ later. assigned_bound ns env x (if same_text n.name x then Some n else o) v g.2 h)
     (λ last same.
     let here : same_text n.name x ≡ true = ap (λ (y : List ℕ). same_text y x) g.0 ∙ same in
@@ -64,7 +64,7 @@ assignee (Some n) k h = (n, refl, (and_parts n.meaning.by_let (has n.meaning.kin
 
 -- an assignment of a value whose kind the name has
 pub assign_fits : (ns : List Named) (env : List Binding) (x : List ℕ) (k : Option Kind) (v : Value) (P : Type 0) → AreBound ns env → Known k v P → is_assigned (meaning_of ns x) k ≡ true
-    → (AreAlike (look env x) v × P) × AreBound ns (assigned x v env)
+    → (AreOneKind (look env x) v × P) × AreBound ns (with_value x v env)
 assign_fits ns env x k v P g known h =
     let found = assignee (last_named None ns x) k (ap (λ m. is_assigned m k) (sym (meaning_last None ns x)) ∙ h) in
     let V = of_kind k found.0.meaning.kind v P known found.2 in

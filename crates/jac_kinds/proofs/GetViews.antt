@@ -11,7 +11,7 @@ use Rattle.jac_plain.specs.Reading.{is_reading, are_reading}
 use Rattle.jac_plain.specs.Requests.{Visit, body_in, method_in, setting_of, run_of}
 use Rattle.jac_plain.proofs.ReadingLaws.{reading_leaves_tables}
 use Rattle.jac_check.specs.Scope.{is_get}
-use Rattle.jac_check.specs.Runnable.{is_runnable, are_runnable, IsRunnable}
+use Rattle.jac_check.specs.Runnable.{is_runnable, are_runnable, IsRunnablePage}
 use Rattle.jac_check.specs.Well.{is_well}
 use Rattle.jac_check.proofs.WellRuns.{well-runs}
 
@@ -39,7 +39,7 @@ mutual
       let p = and_parts (is_runnable true models loops s) (are_runnable true models loops rest) h in
       and_from _ _ (statement_reads models loops s p.0) (body_reads models loops rest p.1)
 
-view_runs : (models : List Entity) (vs : List Page) (i : ℕ) → AllByRecursion (IsRunnable models) vs → is_get (method_in (slice_get vs i)) ≡ true
+view_runs : (models : List Entity) (vs : List Page) (i : ℕ) → AllByRecursion (IsRunnablePage models) vs → is_get (method_in (slice_get vs i)) ≡ true
     → are_runnable true models Loops.none (body_in (slice_get vs i)) ≡ true
 view_runs models [] i a h = refl
 view_runs models (v ∷ vs) zero a h = subst (λ (get : Bool). are_runnable get models Loops.none v.body ≡ true) h a.0
@@ -50,4 +50,4 @@ pub get_leaves : (w : ℕ → Bool) (app : Application) (t : PlainState) (visit 
 get_leaves w app t visit h get =
     let body = body_in (slice_get app.views visit.view) in
     reading_leaves_tables (setting_of w app t visit) body (record { tables = t.tables; env = visit.env; pieces = [] })
-    (body_reads app.models Loops.none body (view_runs app.models app.views visit.view (recursion_from_All (IsRunnable app.models) app.views (well-runs app h)) (ap is_get get)))
+    (body_reads app.models Loops.none body (view_runs app.models app.views visit.view (recursion_from_All (IsRunnablePage app.models) app.views (well-runs app h)) (ap is_get get)))

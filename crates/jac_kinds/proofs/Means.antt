@@ -7,12 +7,12 @@ use Rattle.jac_value.specs.declared.value.Value.TheVariants as value
 use Rattle.jac_lang.specs.declared.bindings.Binding.{Binding}
 use Rattle.jac_lang.specs.declared.queries.Binder.{Binder}
 use Rattle.jac_lang.specs.declared.queries.Order.{Order}
-use Rattle.jac_lang.specs.Syntax.{Entity, Expression, Expressions}
+use Rattle.jac_lang.specs.Syntax.{Entity, Expression, Expressions, is_this}
 use Rattle.jac_lang.specs.Lookup.{model_place}
 use Rattle.jac_plain.specs.World.{World}
 use Rattle.jac_plain.specs.Expressions.{mean, texts, is_true, bound, tuples_from, answers_by}
-use Rattle.jac_check.specs.Scope.{Scope, within, reference_to, fields_of, field_kind, meaning_of, first_kind, is_this}
-use Rattle.jac_check.specs.Kinds.{given, has, are_alike, refers, is_model, is_field, is_place, is_query, kind_of, are_texts}
+use Rattle.jac_check.specs.Scope.{Scope, within, reference_to, fields_of, field_kind, meaning_of, first_kind}
+use Rattle.jac_check.specs.Kinds.{kind_if, has, are_alike, refers, is_model, is_field, is_place, is_query, kind_of, are_texts}
 use Rattle.jac_kinds.specs.Fits.{IsIn, Has}
 use Rattle.jac_kinds.specs.Operands.{AtEach, AskedFits, OperandsFit, TextsFit, IsOfKind}
 use Rattle.jac_kinds.proofs.Tests.{given_parts, has_is, some_is, reference_is, at_kind}
@@ -27,7 +27,7 @@ abbrev pub Claim : World → Expression → Type 0
 Claim w e = (s : Scope) (env : List Binding) (k : Kind) → Suits s w env → kind_of (in_world w s) e ≡ Some k → IsOfKind w env k e
 
 get_fits : (w : World) (s : Scope) (env : List Binding) (m f : List ℕ) (e : Expression) (k : Kind) → Suits s w env → Claim w e
-    → given ((not s.is_public || is_this e) && (is_place w.models m f && has (reference_to w.models m) (kind_of (in_world w s) e))) (Some (field_kind w.models (fields_of w.models m) f)) ≡ Some k →
+    → kind_if ((not s.is_public || is_this e) && (is_place w.models m f && has (reference_to w.models m) (kind_of (in_world w s) e))) (Some (field_kind w.models (fields_of w.models m) f)) ≡ Some k →
     IsOfKind w env k (Expression.get m f e)
 get_fits w s env m f e k g claim h =
     let o = kind_of (in_world w s) e in
@@ -38,7 +38,7 @@ get_fits w s env m f e k g claim h =
     (got_kind w (model_place w.models m) f k (mean w e env) g.tables r.0 r.1 p.1, (E.0, E.1))
 
 live_fits : (w : World) (s : Scope) (env : List Binding) (e : Expression) (k : Kind) → Suits s w env → Claim w e
-    → given (not s.is_public && refers (kind_of (in_world w s) e)) (Some Kind.Bool) ≡ Some k → IsOfKind w env k (Expression.live e)
+    → kind_if (not s.is_public && refers (kind_of (in_world w s) e)) (Some Kind.Bool) ≡ Some k → IsOfKind w env k (Expression.live e)
 live_fits w s env e k g claim h =
     let p = given_parts (not s.is_public && refers (kind_of (in_world w s) e)) (Some Kind.Bool) k h in
     let r = reference_is (kind_of (in_world w s) e) (and_parts (not s.is_public) _ p.0).1 in
@@ -46,20 +46,20 @@ live_fits w s env e k g claim h =
     (at_kind Kind.Bool k (mean w (Expression.live e) env) p.1 refl, ((r.0, E.0), E.1))
 
 not_fits : (w : World) (s : Scope) (env : List Binding) (e : Expression) (k : Kind) → Suits s w env → Claim w e
-    → given (has Kind.Bool (kind_of (in_world w s) e)) (Some Kind.Bool) ≡ Some k → IsOfKind w env k (Expression.negated e)
+    → kind_if (has Kind.Bool (kind_of (in_world w s) e)) (Some Kind.Bool) ≡ Some k → IsOfKind w env k (Expression.negated e)
 not_fits w s env e k g claim h =
     let p = given_parts (has Kind.Bool (kind_of (in_world w s) e)) (Some Kind.Bool) k h in
     (at_kind Kind.Bool k (mean w (Expression.negated e) env) p.1 refl, claim s env Kind.Bool g (has_is (kind_of (in_world w s) e) Kind.Bool p.0))
 
 str_fits : (w : World) (s : Scope) (env : List Binding) (e : Expression) (k : Kind) → Suits s w env → Claim w e
-    → given (is_some (kind_of (in_world w s) e)) (Some Kind.Text) ≡ Some k → IsOfKind w env k (Expression.str e)
+    → kind_if (is_some (kind_of (in_world w s) e)) (Some Kind.Text) ≡ Some k → IsOfKind w env k (Expression.str e)
 str_fits w s env e k g claim h =
     let p = given_parts (is_some (kind_of (in_world w s) e)) (Some Kind.Text) k h in
     let r = some_is (kind_of (in_world w s) e) p.0 in
     (at_kind Kind.Text k (mean w (Expression.str e) env) p.1 refl, (claim s env r.0 g r.1).1)
 
 pick_of_fits : (w : World) (s : Scope) (env : List Binding) (c a b : Expression) (k : Kind) → Suits s w env → Claim w c → Claim w a → Claim w b
-    → given (has Kind.Bool (kind_of (in_world w s) c) && are_alike (kind_of (in_world w s) a) (kind_of (in_world w s) b)) (kind_of (in_world w s) a) ≡ Some k → IsOfKind w env k (Expression.pick c a b)
+    → kind_if (has Kind.Bool (kind_of (in_world w s) c) && are_alike (kind_of (in_world w s) a) (kind_of (in_world w s) b)) (kind_of (in_world w s) a) ≡ Some k → IsOfKind w env k (Expression.pick c a b)
 pick_of_fits w s env c a b k g claim one other h =
     let p = given_parts (has Kind.Bool (kind_of (in_world w s) c) && are_alike (kind_of (in_world w s) a) (kind_of (in_world w s) b)) (kind_of (in_world w s) a) k h in
     let q = and_parts (has Kind.Bool (kind_of (in_world w s) c)) (are_alike (kind_of (in_world w s) a) (kind_of (in_world w s) b)) p.0 in
@@ -93,13 +93,13 @@ asked_fits w s env bs c o g claim h =
     )
 
 query_fits : (w : World) (s : Scope) (env : List Binding) (bs : List Binder) (c : Expression) (o : Order) (r : Option Kind) (k : Kind) → Suits s w env → Claim w c
-    → given (is_query (in_world w s) bs o (kind_of (within bs (in_world w s)) c)) r ≡ Some k → (r ≡ Some k) × AskedFits w bs o (mean w c) (OperandsFit w c) env
+    → kind_if (is_query (in_world w s) bs o (kind_of (within bs (in_world w s)) c)) r ≡ Some k → (r ≡ Some k) × AskedFits w bs o (mean w c) (OperandsFit w c) env
 query_fits w s env bs c o r k g claim h =
     let p = given_parts (is_query (in_world w s) bs o (kind_of (within bs (in_world w s)) c)) r k h in
     (p.1, asked_fits w s env bs c o g claim p.0)
 
 sum_of_fits : (w : World) (s : Scope) (env : List Binding) (bs : List Binder) (c : Expression) (o : Order) (e : Expression) (k : Kind) → Suits s w env → Claim w c → Claim w e
-    → given (is_query (in_world w s) bs o (kind_of (within bs (in_world w s)) c) && has Kind.Int (kind_of (within bs (in_world w s)) e)) (Some Kind.Int) ≡ Some k
+    → kind_if (is_query (in_world w s) bs o (kind_of (within bs (in_world w s)) c) && has Kind.Int (kind_of (within bs (in_world w s)) e)) (Some Kind.Int) ≡ Some k
     → IsOfKind w env k (Expression.sum bs c o e)
 sum_of_fits w s env bs c o e k g claim term h =
     let p = given_parts (is_query (in_world w s) bs o (kind_of (within bs (in_world w s)) c) && has Kind.Int (kind_of (within bs (in_world w s)) e)) (Some Kind.Int) k h in

@@ -13,11 +13,11 @@ use Rattle.jac_lang.specs.declared.queries.Binder.{Binder}
 use Rattle.jac_lang.specs.declared.queries.Order.{Order}
 use Rattle.jac_lang.specs.Syntax.{Entity}
 use Rattle.jac_lang.specs.Lookup.{model_place}
-use Rattle.jac_plain.specs.Expressions.{two, pick, count_of, summed, sum_of, some_of, first_of, bound}
+use Rattle.jac_plain.specs.Expressions.{two, pick, count_of, summed_terms, sum_of, some_of, first_of, bound}
 use Rattle.jac_check.specs.Scope.{Scope, first_kind}
-use Rattle.jac_check.specs.Kinds.{given, has, are_alike, are_both, is_sorted, kind_of_two, is_query, are_binders, is_order}
+use Rattle.jac_check.specs.Kinds.{kind_if, has, are_alike, are_both, is_sorted, kind_of_two, is_query, are_binders, is_order}
 use Rattle.jac_kinds.specs.Fits.{Has, Refers}
-use Rattle.jac_kinds.specs.Operands.{AreBoth, AreAlike, AreOrdered, TwoFit}
+use Rattle.jac_kinds.specs.Operands.{AreBoth, AreOneKind, AreComparable, TwoFit}
 use Rattle.jac_kinds.proofs.Tests.{given_parts, has_is, alike_are, at_kind}
 use Rattle.jac_kinds.proofs.Tuples.{Refer}
 
@@ -28,7 +28,7 @@ Known o v P = (k : Kind) → o ≡ Some k → Has k v × P
 pub of_kind : (o : Option Kind) (k : Kind) (v : Value) (P : Type 0) → Known o v P → has k o ≡ true → Has k v × P
 of_kind o k v P known h = known k (has_is o k h)
 
-both_of : (j r k : Kind) (x y : Option Kind) (a b v : Value) (P Q : Type 0) → Known x a P → Known y b Q → given (are_both j x y) (Some r) ≡ Some k → Has r v →
+both_of : (j r k : Kind) (x y : Option Kind) (a b v : Value) (P Q : Type 0) → Known x a P → Known y b Q → kind_if (are_both j x y) (Some r) ≡ Some k → Has r v →
     Has k v × (AreBoth j a b × P × Q)
 both_of j r k x y a b v P Q one other h good =
     let p = given_parts (are_both j x y) (Some r) k h in
@@ -37,21 +37,21 @@ both_of j r k x y a b v P Q one other h good =
     let B = of_kind y j b Q other q.1 in
     (at_kind r k v p.1 good, ((A.0, B.0), A.1, B.1))
 
-pub alike : (x y : Option Kind) (a b : Value) (P Q : Type 0) → Known x a P → Known y b Q → are_alike x y ≡ true → AreAlike a b × P × Q
+pub alike : (x y : Option Kind) (a b : Value) (P Q : Type 0) → Known x a P → Known y b Q → are_alike x y ≡ true → AreOneKind a b × P × Q
 alike x y a b P Q one other h =
     let s = alike_are x y h in
     let A = one s.0 s.1 in
     let B = other s.0 s.2 in
     ((s.0, (A.0, B.0)), A.1, B.1)
 
-eq_of : (k : Kind) (x y : Option Kind) (a b v : Value) (P Q : Type 0) → Known x a P → Known y b Q → given (are_alike x y) (Some Kind.Bool) ≡ Some k → Has Kind.Bool v →
-    Has k v × (AreAlike a b × P × Q)
+eq_of : (k : Kind) (x y : Option Kind) (a b v : Value) (P Q : Type 0) → Known x a P → Known y b Q → kind_if (are_alike x y) (Some Kind.Bool) ≡ Some k → Has Kind.Bool v →
+    Has k v × (AreOneKind a b × P × Q)
 eq_of k x y a b v P Q one other h good =
     let p = given_parts (are_alike x y) (Some Kind.Bool) k h in
     (at_kind Kind.Bool k v p.1 good, alike x y a b P Q one other p.0)
 
-lt_of : (k : Kind) (x y : Option Kind) (a b v : Value) (P Q : Type 0) → Known x a P → Known y b Q → given (is_sorted x && are_alike x y) (Some Kind.Bool) ≡ Some k → Has Kind.Bool v →
-    Has k v × (AreOrdered a b × P × Q)
+lt_of : (k : Kind) (x y : Option Kind) (a b v : Value) (P Q : Type 0) → Known x a P → Known y b Q → kind_if (is_sorted x && are_alike x y) (Some Kind.Bool) ≡ Some k → Has Kind.Bool v →
+    Has k v × (AreComparable a b × P × Q)
 lt_of k x y a b v P Q one other h good =
     let p = given_parts (is_sorted x && are_alike x y) (Some Kind.Bool) k h in
     let q = and_parts (is_sorted x) (are_alike x y) p.0 in
@@ -75,7 +75,7 @@ picked true k a b p q = p
 picked false k a b p q = q
 
 pub pick_fits : (c : Bool) (k : Kind) (x y : Option Kind) (a b : Value) (P Q : Type 0) → Known x a P → Known y b Q → are_alike x y ≡ true → x ≡ Some k →
-    Has k (pick c a b) × (AreAlike a b × P × Q)
+    Has k (pick c a b) × (AreOneKind a b × P × Q)
 pick_fits c k x y a b P Q one other h e =
     let s = alike_are x y h in
     let same : s.0 ≡ k = cc in
@@ -103,7 +103,7 @@ count_fits [] tuples = refl
 count_fits (b ∷ []) tuples = refl
 count_fits (b ∷ (c ∷ bs)) tuples = refl
 
-summed_fits : (bs : List Binder) (term : List Binding → Value) (env : List Binding) (so_far : Value) (tuples : List (List ℕ)) → Has Kind.Int so_far → Has Kind.Int (summed bs term env so_far tuples)
+summed_fits : (bs : List Binder) (term : List Binding → Value) (env : List Binding) (so_far : Value) (tuples : List (List ℕ)) → Has Kind.Int so_far → Has Kind.Int (summed_terms bs term env so_far tuples)
 summed_fits bs term env so_far [] g = g
 summed_fits bs term env so_far (ids ∷ tuples) g = summed_fits bs term env (two op.Add so_far (term (bound bs ids env))) tuples refl
 

@@ -21,8 +21,8 @@ use Rattle.jac_plain.specs.Expressions.{is_true, bound, binding, bytes_of, answe
 use Rattle.jac_plain.specs.Making.{with_env, MayChoose, MayEach}
 use Rattle.jac_plain.specs.Models.{is_sited, are_sited}
 use Rattle.jac_plain.specs.Requests.{Visit, setting_of}
-use Rattle.jac_plain.specs.Statements.{Setting, Run, world_of, value_in, with_piece, html, scoped, choose, for_each, loop_of, id_made, is_kept, with_made, plain_row, created_cells, created, updated, deleted, leaves, leaves_all}
-use Rattle.jac_check.specs.Scope.{Named, Standing, is_get, page_standing, named, named_binders, scope_at, bind, loop_within, within, reference_to, fields_of, fields_placed, field_kind}
+use Rattle.jac_plain.specs.Statements.{Setting, Run, world_of, value_in, with_piece, html, scoped_run, choose, for_each, loop_of, id_made, is_kept, with_made, plain_row, created_cells, create_run, update_run, delete_run, leaves, leaves_all}
+use Rattle.jac_check.specs.Scope.{Named, Standing, is_get, page_standing, scope_name, named_binders, scope_at, bind, loop_within, within, reference_to, fields_of, fields_placed, field_kind}
 use Rattle.jac_check.specs.Kinds.{has, is_model, is_query, kind_of}
 use Rattle.jac_check.specs.Well.{kind_here, are_named, are_kinds, are_cells, is_statement, is_body, are_fields, are_pages, are_models, is_well}
 use Rattle.jac_kinds.specs.Fits.{Has, AreBound, IsViewer}
@@ -77,7 +77,7 @@ put_goes k st e p h r g = ((bound_as k st e r g h).1, with_a_piece k st (p r) r 
 -- a body with more names bound, which are gone behind it
 scope_goes : (k : Setting) (st inner : Standing) (more : List Named) (env : List Binding) (body : Run → Run) (Meets : Run → Type 0)
     → inner.viewers ≡ st.viewers → inner.names ≡ st.names ++ more → Goes k inner body Meets
-    → (r : Run) → Stands st k r → AreBound (st.names ++ more) env → Meets (with_env env r) × Stands st k (scoped env body r)
+    → (r : Run) → Stands st k r → AreBound (st.names ++ more) env → Meets (with_env env r) × Stands st k (scoped_run env body r)
 scope_goes k st inner more env body Meets same names goes r g h =
     let start : AreBound inner.names env = rw names h in
     let B = goes (with_env env r) (record { names = start; viewer = rw same g.viewer; tables = g.tables }) in
@@ -86,10 +86,10 @@ scope_goes k st inner more env body Meets same names goes r g h =
 
 -- a body behind one name more
 bind_goes : (k : Setting) (st : Standing) (x : List ℕ) (kind : Kind) (by_let : Bool) (v : Value) (body : Run → Run) (Meets : Run → Type 0) → Goes k (bind st x kind by_let) body Meets
-    → (r : Run) → Stands st k r → Has kind v → Meets (with_env (r.env ++ binding x v ∷ []) r) × Stands st k (scoped (r.env ++ binding x v ∷ []) body r)
+    → (r : Run) → Stands st k r → Has kind v → Meets (with_env (r.env ++ binding x v ∷ []) r) × Stands st k (scoped_run (r.env ++ binding x v ∷ []) body r)
 bind_goes k st x kind by_let v body Meets goes r g h =
-    scope_goes k st (bind st x kind by_let) (named x kind by_let ∷ []) (r.env ++ binding x v ∷ []) body Meets refl refl goes r g
-    (bound_more st.names r.env (named x kind by_let) (binding x v) g.names refl h)
+    scope_goes k st (bind st x kind by_let) (scope_name x kind by_let ∷ []) (r.env ++ binding x v ∷ []) body Meets refl refl goes r g
+    (bound_more st.names r.env (scope_name x kind by_let) (binding x v) g.names refl h)
 
 choice_goes : (k : Setting) (st : Standing) (c : Bool) (first second : Run → Run) (First Second : Run → Type 0) → Goes k st first First → Goes k st second Second
     → Goes k st (choose c first second) (MayChoose c First Second)
@@ -110,7 +110,7 @@ each_goes : (k : Setting) (st : Standing) (bs : List Binder) (body : List ℕ �
 each_goes k st bs body Meets goes [] a r g = (tt, g)
 each_goes k st bs body Meets goes (ids ∷ tuples) a r g =
     let B = scope_goes k st (loop_within bs (at k st)) (named_binders k.models bs) (bound bs ids r.env) (body ids) (Meets ids) refl refl (goes ids) r g (bound_fits k.models bs ids st.names r.env g.names a.0) in
-    let rest = each_goes k st bs body Meets goes tuples a.1 (scoped (bound bs ids r.env) (body ids) r) B.1 in
+    let rest = each_goes k st bs body Meets goes tuples a.1 (scoped_run (bound bs ids r.env) (body ids) r) B.1 in
     ((B.0, rest.0), rest.1)
 
 cells_fit : (k : Setting) (st : Standing) (fields : List Field) (cells : List Assigned) (r : Run) → Stands st k r → are_kinds (scope_at (at k st)) fields cells ≡ true → CellsFit k fields cells r
@@ -123,7 +123,7 @@ cells_fit k st fields (a ∷ rest) r g h =
 create_goes : (k : Setting) (st : Standing) (x name : List ℕ) (place : Option ℕ) (site : ℕ) (cells : List Assigned) (body : Run → Run) (Meets : Run → Type 0)
     → CanCreate k → HasPublics k → site < 64 → model_place k.models name ≡ place → is_some place ≡ true → are_kinds (scope_at (at k st)) (fields_placed k.models place) cells ≡ true
     → Goes k (bind st x (Kind.Ref (unwrap_or place (length k.models))) false) body Meets
-    → Goes k st (created k x place site cells body) (CreateFits k x place site cells Meets)
+    → Goes k st (create_run k x place site cells body) (CreateFits k x place site cells Meets)
 create_goes k st x name None site cells body Meets ids publics few is there h goes r g = cc
 create_goes k st x name (Some m) site cells body Meets ids publics few is there h goes r g =
     let id = id_made k m site in
@@ -139,11 +139,11 @@ update_fits k st None target cells r g publics there h = cc
 update_fits k st (Some m) target cells r g publics there h = (cells_fit k st (fields_at k.models m) cells r g h, old_draft k m target cells r publics g.tables)
 
 -- what an update and a delete leave
-update_stands : (k : Setting) (st : Standing) (place : Option ℕ) (target : Value) (cells : List Assigned) (r : Run) → Stands st k r → Stands st k (updated k place target cells r)
+update_stands : (k : Setting) (st : Standing) (place : Option ℕ) (target : Value) (cells : List Assigned) (r : Run) → Stands st k r → Stands st k (update_run k place target cells r)
 update_stands k st None target cells r g = g
 update_stands k st (Some m) target cells r g = record { names = g.names; viewer = g.viewer; tables = updated_fit k (Some m) target cells r g.tables }
 
-delete_stands : (k : Setting) (st : Standing) (place : Option ℕ) (target : Value) (r : Run) → Stands st k r → Stands st k (deleted place target r)
+delete_stands : (k : Setting) (st : Standing) (place : Option ℕ) (target : Value) (r : Run) → Stands st k r → Stands st k (delete_run place target r)
 delete_stands k st None target r g = g
 delete_stands k st (Some m) target r g = record { names = g.names; viewer = g.viewer; tables = deleted_fit k.models (Some m) target r g.tables }
 

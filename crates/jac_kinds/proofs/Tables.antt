@@ -16,7 +16,7 @@ use Rattle.jac_rows.specs.declared.plain.PlainRow.{PlainRow}
 use Rattle.jac_rows.specs.Good.{IsRecord, IsShaped, ArePlain, have_kinds}
 use Rattle.jac_rows.specs.Tables.{rows_of}
 use Rattle.jac_plain.specs.Models.{kinds_of_fields, shapes_of_models}
-use Rattle.jac_plain.specs.World.{World, rows_at_place, record_with, referred, cell_of, cell_named, got_of}
+use Rattle.jac_plain.specs.World.{World, rows_at_place, record_with, referred_record, cell_of, cell_named, got_of}
 use Rattle.jac_check.specs.Kinds.{is_field}
 use Rattle.jac_check.specs.Scope.{fields_placed, kind_placed, field_kind}
 use Rattle.jac_kinds.specs.Fits.{Has, AreGood}
@@ -75,7 +75,7 @@ found : (ms : List Entity) (m id : ℕ) (rows : List PlainRow) → AreRows ms m 
 found ms m id [] a = tt
 found ms m id (r ∷ rows) a = found_if ms m (r.id == id) r (record_with id rows) a.0 (found ms m id rows a.1)
 
-pub referred_fits : (ms : List Entity) (m : ℕ) (v : Value) (rows : List PlainRow) → AreRows ms m rows → IsSomeRow ms m (referred v rows)
+pub referred_fits : (ms : List Entity) (m : ℕ) (v : Value) (rows : List PlainRow) → AreRows ms m rows → IsSomeRow ms m (referred_record v rows)
 referred_fits ms m (value.Int i) rows a = tt
 referred_fits ms m (value.Text t) rows a = tt
 referred_fits ms m (value.Bool b) rows a = tt
@@ -110,7 +110,7 @@ pub got_kind : (w : World) (place : Option ℕ) (field : List ℕ) (k : Kind) (v
     → Has k (got_of w place field v)
 got_kind w None field k v g known has_field h = cc
 got_kind w (Some m) field k v g known has_field h =
-    cell_named_kind w m (field_place (fields_at w.models m) field) (referred v (rows_of w.tables m)) k (referred_fits w.models m v (rows_of w.tables m) (g m)) has_field h
+    cell_named_kind w m (field_place (fields_at w.models m) field) (referred_record v (rows_of w.tables m)) k (referred_fits w.models m v (rows_of w.tables m) (g m)) has_field h
 
 -- the ids of a model's records are references to it
 pub records_refer : (w : World) (place : Option ℕ) (n : ℕ) → AreFit w.models w.tables

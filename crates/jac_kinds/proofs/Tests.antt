@@ -5,10 +5,10 @@ use Rattle.jac_value.specs.declared.value.Kind.{Kind}
 use Rattle.jac_value.specs.declared.value.Kind.TheVariants as kind
 use Rattle.jac_value.specs.declared.value.Value.{Value}
 use Rattle.jac_value.specs.contracts.value.KindPartialEq.TheImpl.{ghosts}
-use Rattle.jac_check.specs.Kinds.{given, has, are_alike, refers}
+use Rattle.jac_check.specs.Kinds.{kind_if, has, are_alike, refers}
 use Rattle.jac_kinds.specs.Fits.{Has}
 
-pub given_parts : (b : Bool) (o : Option Kind) (k : Kind) → given b o ≡ Some k → (b ≡ true) × (o ≡ Some k)
+pub given_parts : (b : Bool) (o : Option Kind) (k : Kind) → kind_if b o ≡ Some k → (b ≡ true) × (o ≡ Some k)
 given_parts true o k h = (refl, h)
 given_parts false o k h = cc
 

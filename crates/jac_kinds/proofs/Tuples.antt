@@ -12,8 +12,8 @@ use Rattle.jac_lang.specs.Syntax.{Entity}
 use Rattle.jac_lang.specs.Lookup.{model_place}
 use Rattle.jac_rows.specs.declared.plain.PlainRow.{PlainRow}
 use Rattle.jac_plain.specs.World.{World, records}
-use Rattle.jac_plain.specs.Expressions.{is_true, is_less, key_of, binding, bound, extended, crossed, tuples_from, kept_by, inserted, sorted, ordered, answers_by}
-use Rattle.jac_check.specs.Scope.{Named, Scope, named, named_binders, within, reference_to}
+use Rattle.jac_plain.specs.Expressions.{is_true, is_less, key_of, binding, bound, extended_tuples, crossed_tuples, tuples_from, kept_by, with_sorted, sorted_tuples, ordered_tuples, answers_by}
+use Rattle.jac_check.specs.Scope.{Named, Scope, scope_name, named_binders, within, reference_to}
 use Rattle.jac_kinds.specs.Fits.{Has, AreBound, Refers, IsViewer}
 use Rattle.jac_kinds.proofs.Tables.{AreFit, records_refer}
 
@@ -35,22 +35,22 @@ all_append P [] ys a b = b
 all_append P (x ∷ xs) ys a b = (a.0, all_append P xs ys a.1 b)
 
 extended_refer : (ms : List Entity) (bs : List Binder) (b : Binder) (ids : List ℕ) (rows : List PlainRow) → Refer ms bs ids →
-    AllByRecursion (λ (r : PlainRow). Has (reference_to ms b.model) (value.Ref (Some r.id))) rows → AllByRecursion (Refer ms (bs ++ b ∷ [])) (extended ids rows)
+    AllByRecursion (λ (r : PlainRow). Has (reference_to ms b.model) (value.Ref (Some r.id))) rows → AllByRecursion (Refer ms (bs ++ b ∷ [])) (extended_tuples ids rows)
 extended_refer ms bs b ids [] g a = tt
 extended_refer ms bs b ids (r ∷ rows) g a = (refer_more ms bs ids b r.id g a.0, extended_refer ms bs b ids rows g a.1)
 
 crossed_refer : (ms : List Entity) (bs : List Binder) (b : Binder) (tuples : List (List ℕ)) (rows : List PlainRow) → AllByRecursion (Refer ms bs) tuples →
-    AllByRecursion (λ (r : PlainRow). Has (reference_to ms b.model) (value.Ref (Some r.id))) rows → AllByRecursion (Refer ms (bs ++ b ∷ [])) (crossed tuples rows)
+    AllByRecursion (λ (r : PlainRow). Has (reference_to ms b.model) (value.Ref (Some r.id))) rows → AllByRecursion (Refer ms (bs ++ b ∷ [])) (crossed_tuples tuples rows)
 crossed_refer ms bs b [] rows g a = tt
 crossed_refer ms bs b (ids ∷ tuples) rows g a =
-    all_append (Refer ms (bs ++ b ∷ [])) (extended ids rows) (crossed tuples rows) (extended_refer ms bs b ids rows g.0 a) (crossed_refer ms bs b tuples rows g.1 a)
+    all_append (Refer ms (bs ++ b ∷ [])) (extended_tuples ids rows) (crossed_tuples tuples rows) (extended_refer ms bs b ids rows g.0 a) (crossed_refer ms bs b tuples rows g.1 a)
 
 tuples_refer_from : (w : World) (done bs : List Binder) (tuples : List (List ℕ)) → AreFit w.models w.tables → AllByRecursion (Refer w.models done) tuples
     → AllByRecursion (Refer w.models (done ++ bs)) (tuples_from w bs tuples)
 tuples_refer_from w done [] tuples g a = subst (λ (all : List Binder). AllByRecursion (Refer w.models all) tuples) (sym (append-nil done)) a
 tuples_refer_from w done (b ∷ bs) tuples g a =
     subst (λ (all : List Binder). AllByRecursion (Refer w.models all) (tuples_from w (b ∷ bs) tuples)) (append_assoc done (b ∷ []) bs)
-    (tuples_refer_from w (done ++ b ∷ []) bs (crossed tuples (records w b.model)) g
+    (tuples_refer_from w (done ++ b ∷ []) bs (crossed_tuples tuples (records w b.model)) g
     (crossed_refer w.models done b tuples (records w b.model) a (records_refer w (model_place w.models b.model) _ g)))
 
 pub tuples_refer : (w : World) (bs : List Binder) → AreFit w.models w.tables → AllByRecursion (Refer w.models bs) (tuples_from w bs ([] ∷ []))
@@ -69,15 +69,15 @@ module _ (P : List ℕ → Type 0) where
   either_if true xs ys p q = p
   either_if false xs ys p q = q
 
-  inserted_all : (less : Value → Value → Bool) (key : List ℕ → Value) (x : List ℕ) (ys : List (List ℕ)) → P x → AllByRecursion P ys → AllByRecursion P (inserted less key x ys)
+  inserted_all : (less : Value → Value → Bool) (key : List ℕ → Value) (x : List ℕ) (ys : List (List ℕ)) → P x → AllByRecursion P ys → AllByRecursion P (with_sorted less key x ys)
   inserted_all less key x [] p a = (p, tt)
-  inserted_all less key x (y ∷ ys) p a = either_if (less (key y) (key x)) (y ∷ inserted less key x ys) (x ∷ (y ∷ ys)) (a.0, inserted_all less key x ys p a.1) (p, a)
+  inserted_all less key x (y ∷ ys) p a = either_if (less (key y) (key x)) (y ∷ with_sorted less key x ys) (x ∷ (y ∷ ys)) (a.0, inserted_all less key x ys p a.1) (p, a)
 
-  sorted_all : (less : Value → Value → Bool) (key : List ℕ → Value) (xs : List (List ℕ)) → AllByRecursion P xs → AllByRecursion P (sorted less key xs)
+  sorted_all : (less : Value → Value → Bool) (key : List ℕ → Value) (xs : List (List ℕ)) → AllByRecursion P xs → AllByRecursion P (sorted_tuples less key xs)
   sorted_all less key [] a = tt
-  sorted_all less key (x ∷ xs) a = inserted_all less key x (sorted less key xs) a.0 (sorted_all less key xs a.1)
+  sorted_all less key (x ∷ xs) a = inserted_all less key x (sorted_tuples less key xs) a.0 (sorted_all less key xs a.1)
 
-  ordered_all : (w : World) (bs : List Binder) (o : Order) (xs : List (List ℕ)) → AllByRecursion P xs → AllByRecursion P (ordered w bs o xs)
+  ordered_all : (w : World) (bs : List Binder) (o : Order) (xs : List (List ℕ)) → AllByRecursion P xs → AllByRecursion P (ordered_tuples w bs o xs)
   ordered_all w bs orders.Key xs a = a
   ordered_all w bs (orders.Up x f) xs a = sorted_all is_less (key_of w bs x f) xs a
   ordered_all w bs (orders.Down x f) xs a = sorted_all (λ a b. is_less b a) (key_of w bs x f) xs a
@@ -94,7 +94,7 @@ bound_more (m ∷ ns) [] n b g e h = absurd g
 pub bound_fits : (ms : List Entity) (bs : List Binder) (ids : List ℕ) (ns : List Named) (env : List Binding) → AreBound ns env → Refer ms bs ids → AreBound (ns ++ named_binders ms bs) (bound bs ids env)
 bound_fits ms [] [] ns env g a = subst (λ (all : List Named). AreBound all env) (sym (append-nil ns)) g
 bound_fits ms (b ∷ bs) (id ∷ ids) ns env g a =
-    let n = named b.name (reference_to ms b.model) false in
+    let n = scope_name b.name (reference_to ms b.model) false in
     let inner = bound_fits ms bs ids (ns ++ n ∷ []) (env ++ binding b.name (value.Ref (Some id)) ∷ []) (bound_more ns env n (binding b.name (value.Ref (Some id))) g refl a.0) a.1 in
     subst (λ (all : List Named). AreBound all (bound (b ∷ bs) (id ∷ ids) env)) (append_assoc ns (n ∷ []) (named_binders ms bs)) inner
 bound_fits ms [] (id ∷ ids) ns env g a = absurd a

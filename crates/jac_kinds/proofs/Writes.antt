@@ -15,11 +15,11 @@ use Rattle.jac_rows.specs.Good.{have_kinds}
 use Rattle.jac_rows.specs.Tables.{rows_of}
 use Rattle.jac_rows.specs.declared.plain.PlainRow.{PlainRow}
 use Rattle.jac_plain.specs.Models.{kinds_of_fields}
-use Rattle.jac_plain.specs.Records.{fitting, cell_set, drafted, default_cells, plain_row, every_field, is_set, with_ids, with_row, changed, without, tables_after}
-use Rattle.jac_plain.specs.Statements.{Setting, Run, value_in, id_made, tables_made, created_cells, updated_cells, updated, deleted}
+use Rattle.jac_plain.specs.Records.{fitting, cell_set, drafted_cells, default_cells, plain_row, every_field, is_set, with_ids, with_row, changed_rows, without, tables_after}
+use Rattle.jac_plain.specs.Statements.{Setting, Run, value_in, id_made, tables_made, created_cells, updated_cells, update_run, delete_run}
 use Rattle.jac_plain.proofs.GoodLaws.{fitting_kind, kinds_shielded}
 use Rattle.jac_plain.proofs.MadeIds.{form_of, form_made}
-use Rattle.jac_plain.specs.World.{referred}
+use Rattle.jac_plain.specs.World.{referred_record}
 use Rattle.jac_kinds.specs.Publics.{PublicsFit}
 use Rattle.jac_kinds.specs.Runs.{DraftFits}
 use Rattle.jac_kinds.proofs.Tables.{FitsModel, AreRows, AreFit, IsSomeRow, referred_fits, kinds_at, default_has}
@@ -45,10 +45,10 @@ module _ (P : PlainRow → Type 0) where
   either_rows false xs ys a c = c
 
   changed_all : (id : ℕ) (change : List Value → List Value) → ((r : PlainRow) → P r → P (plain_row r.id (change r.cells)))
-      → (rows : List PlainRow) → AllByRecursion P rows → AllByRecursion P (changed id change rows)
+      → (rows : List PlainRow) → AllByRecursion P rows → AllByRecursion P (changed_rows id change rows)
   changed_all id change step [] a = tt
   changed_all id change step (r ∷ rows) a =
-      either_rows (r.id == id) (plain_row r.id (change r.cells) ∷ rows) (r ∷ changed id change rows) (step r a.0, a.1) (a.0, changed_all id change step rows a.1)
+      either_rows (r.id == id) (plain_row r.id (change r.cells) ∷ rows) (r ∷ changed_rows id change rows) (step r a.0, a.1) (a.0, changed_all id change step rows a.1)
 
   without_all : (id : ℕ) (rows : List PlainRow) → AllByRecursion P rows → AllByRecursion P (without id rows)
   without_all id [] a = tt
@@ -84,7 +84,7 @@ set_kinds ms fields None v cells h = h
 set_kinds ms fields (Some f) v cells h = cell_kinds ms fields f v cells h
 
 drafted_kinds : (ms : List Entity) (fields : List Field) (value_of : Expression → Value) (sets : List Assigned) (cells : List Value)
-    → have_kinds (kinds_of_fields ms fields) cells ≡ true → have_kinds (kinds_of_fields ms fields) (drafted ms fields value_of sets cells) ≡ true
+    → have_kinds (kinds_of_fields ms fields) cells ≡ true → have_kinds (kinds_of_fields ms fields) (drafted_cells ms fields value_of sets cells) ≡ true
 drafted_kinds ms fields value_of [] cells h = h
 drafted_kinds ms fields value_of (a ∷ rest) cells h =
     let place = field_place fields a.field in
@@ -93,14 +93,14 @@ drafted_kinds ms fields value_of (a ∷ rest) cells h =
 created_kinds : (k : Setting) (m id : ℕ) (sets : List Assigned) (r : Run) → have_kinds (kinds_at k.models m) (created_cells k m id sets r) ≡ true
 created_kinds k m id sets r =
     let fields = fields_at k.models m in
-    kinds_shielded k.models k.shown m id every_field (drafted k.models fields (λ e. value_in k e r) sets (default_cells k.models fields))
+    kinds_shielded k.models k.shown m id every_field (drafted_cells k.models fields (λ e. value_in k e r) sets (default_cells k.models fields))
     (drafted_kinds k.models fields (λ e. value_in k e r) sets (default_cells k.models fields) (default_kinds k.models fields))
 
 updated_kinds : (k : Setting) (m id : ℕ) (sets : List Assigned) (r : Run) (old : List Value) → have_kinds (kinds_at k.models m) old ≡ true
     → have_kinds (kinds_at k.models m) (updated_cells k m id sets r old) ≡ true
 updated_kinds k m id sets r old h =
     let fields = fields_at k.models m in
-    kinds_shielded k.models k.shown m id (is_set fields sets) (drafted k.models fields (λ e. value_in k e r) sets old) (drafted_kinds k.models fields (λ e. value_in k e r) sets old h)
+    kinds_shielded k.models k.shown m id (is_set fields sets) (drafted_cells k.models fields (λ e. value_in k e r) sets old) (drafted_kinds k.models fields (λ e. value_in k e r) sets old h)
 
 -- what a create asks of its setting: the number has ids, and so have the models
 pub record CanCreate (k : Setting) : Type 0 where
@@ -127,19 +127,19 @@ pub new_draft : (k : Setting) (m id : ℕ) (sets : List Assigned) (r : Run) → 
     → DraftFits k m sets r (Some (plain_row id (default_cells k.models (fields_at k.models m))))
 new_draft k m id sets r publics h =
     let fields = fields_at k.models m in
-    publics m id (drafted k.models fields (λ e. value_in k e r) sets (default_cells k.models fields)) h
+    publics m id (drafted_cells k.models fields (λ e. value_in k e r) sets (default_cells k.models fields)) h
     (drafted_kinds k.models fields (λ e. value_in k e r) sets (default_cells k.models fields) (default_kinds k.models fields))
 
 draft_in : (k : Setting) (m : ℕ) (sets : List Assigned) (r : Run) (o : Option PlainRow) → HasPublics k → IsSomeRow k.models m o → DraftFits k m sets r o
 draft_in k m sets r None publics h = tt
 draft_in k m sets r (Some old) publics h =
     let fields = fields_at k.models m in
-    publics m old.id (drafted k.models fields (λ e. value_in k e r) sets old.cells) h.of_model (drafted_kinds k.models fields (λ e. value_in k e r) sets old.cells h.cells)
+    publics m old.id (drafted_cells k.models fields (λ e. value_in k e r) sets old.cells) h.of_model (drafted_kinds k.models fields (λ e. value_in k e r) sets old.cells h.cells)
 
 pub old_draft : (k : Setting) (m : ℕ) (target : Value) (sets : List Assigned) (r : Run) → HasPublics k → AreFit k.models r.tables
-    → DraftFits k m sets r (referred target (rows_of r.tables m))
+    → DraftFits k m sets r (referred_record target (rows_of r.tables m))
 old_draft k m target sets r publics g =
-    draft_in k m sets r (referred target (rows_of r.tables m)) publics (referred_fits k.models m target (rows_of r.tables m) (g m))
+    draft_in k m sets r (referred_record target (rows_of r.tables m)) publics (referred_fits k.models m target (rows_of r.tables m) (g m))
 
 kept_fit : (ms : List Entity) (m : ℕ) (kept : Bool) (row : PlainRow) (tables : List (List PlainRow)) → FitsModel ms m row → AreFit ms tables → AreFit ms (tables_made kept m row tables)
 kept_fit ms m true row tables h g =
@@ -159,13 +159,13 @@ after_fit ms m (value.Int i) step tables h g = g
 after_fit ms m (value.Text t) step tables h g = g
 after_fit ms m (value.Bool b) step tables h g = g
 
-pub updated_fit : (k : Setting) (place : Option ℕ) (target : Value) (sets : List Assigned) (r : Run) → AreFit k.models r.tables → AreFit k.models (updated k place target sets r).tables
+pub updated_fit : (k : Setting) (place : Option ℕ) (target : Value) (sets : List Assigned) (r : Run) → AreFit k.models r.tables → AreFit k.models (update_run k place target sets r).tables
 updated_fit k None target sets r g = g
 updated_fit k (Some m) target sets r g =
-    after_fit k.models m target (λ id rows. changed id (updated_cells k m id sets r) rows) r.tables
+    after_fit k.models m target (λ id rows. changed_rows id (updated_cells k m id sets r) rows) r.tables
     (λ id rows a. changed_all (FitsModel k.models m) id (updated_cells k m id sets r)
     (λ row h. record { of_model = h.of_model; cells = updated_kinds k m id sets r row.cells h.cells }) rows a) g
 
-pub deleted_fit : (ms : List Entity) (place : Option ℕ) (target : Value) (r : Run) → AreFit ms r.tables → AreFit ms (deleted place target r).tables
+pub deleted_fit : (ms : List Entity) (place : Option ℕ) (target : Value) (r : Run) → AreFit ms r.tables → AreFit ms (delete_run place target r).tables
 deleted_fit ms None target r g = g
 deleted_fit ms (Some m) target r g = after_fit ms m target without r.tables (λ id rows a. without_all (FitsModel ms m) id rows a) g

@@ -20,12 +20,12 @@ abbrev pub AreBoth : Kind → Value → Value → Type 0
 AreBoth k a b = Has k a × Has k b
 
 -- two values of one kind
-abbrev pub AreAlike : Value → Value → Type 0
-AreAlike a b = (k : Kind) × AreBoth k a b
+abbrev pub AreOneKind : Value → Value → Type 0
+AreOneKind a b = (k : Kind) × AreBoth k a b
 
 -- two numbers or two texts
-abbrev pub AreOrdered : Value → Value → Type 0
-AreOrdered a b = (k : Kind) × (is_ordered k ≡ true) × AreBoth k a b
+abbrev pub AreComparable : Value → Value → Type 0
+AreComparable a b = (k : Kind) × (is_ordered k ≡ true) × AreBoth k a b
 
 abbrev pub IsReference : Value → Type 0
 IsReference v = (m : ℕ) × Has (Kind.Ref m) v
@@ -34,8 +34,8 @@ abbrev pub TwoFit : Op → Value → Value → Type 0
 TwoFit op.Add a b = AreBoth Kind.Int a b
 TwoFit op.Sub a b = AreBoth Kind.Int a b
 TwoFit op.Mul a b = AreBoth Kind.Int a b
-TwoFit op.Eq a b = AreAlike a b
-TwoFit op.Lt a b = AreOrdered a b
+TwoFit op.Eq a b = AreOneKind a b
+TwoFit op.Lt a b = AreComparable a b
 TwoFit op.And a b = AreBoth Kind.Bool a b
 TwoFit op.Or a b = AreBoth Kind.Bool a b
 
@@ -79,7 +79,7 @@ abbrev mutual
   OperandsFit w (Expression.cat es) env = TextsFit w es env
   OperandsFit w (Expression.str e) env = OperandsFit w e env
   OperandsFit w (Expression.pick c a b) env =
-      Has Kind.Bool (mean w c env) × AreAlike (mean w a env) (mean w b env) × OperandsFit w c env
+      Has Kind.Bool (mean w c env) × AreOneKind (mean w a env) (mean w b env) × OperandsFit w c env
       × OperandsFit w a env × OperandsFit w b env
   OperandsFit w (Expression.count bs c o) env = AskedFits w bs o (mean w c) (OperandsFit w c) env
   OperandsFit w (Expression.sum bs c o e) env =

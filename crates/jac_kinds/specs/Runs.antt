@@ -13,15 +13,15 @@ use Rattle.jac_rows.specs.declared.plain.PlainRow.{PlainRow}
 use Rattle.jac_rows.specs.declared.plain.PlainState.{PlainState}
 use Rattle.jac_rows.specs.Good.{IsGoodPlain}
 use Rattle.jac_rows.specs.Tables.{rows_of}
-use Rattle.jac_plain.specs.World.{referred}
+use Rattle.jac_plain.specs.World.{referred_record}
 use Rattle.jac_plain.specs.Expressions.{mean, look, is_true, binding, answers}
 use Rattle.jac_plain.specs.Making.{with_env, MayChoose, MayEach}
 use Rattle.jac_plain.specs.Models.{shapes_of, are_sited}
 use Rattle.jac_plain.specs.Requests.{Visit}
-use Rattle.jac_plain.specs.Statements.{Setting, Run, world_of, value_in, loop_of, id_made, is_kept, with_made, plain_row, drafted, default_cells, created_cells, leaves, leaves_all}
+use Rattle.jac_plain.specs.Statements.{Setting, Run, world_of, value_in, loop_of, id_made, is_kept, with_made, plain_row, drafted_cells, default_cells, created_cells, leaves, leaves_all}
 use Rattle.jac_check.specs.Scope.{reference_to, named_fields, field_kind}
 use Rattle.jac_kinds.specs.Fits.{AreBound, IsViewer}
-use Rattle.jac_kinds.specs.Operands.{AreAlike, AskedFits, OperandsFit, IsOfKind}
+use Rattle.jac_kinds.specs.Operands.{AreOneKind, AskedFits, OperandsFit, IsOfKind}
 use Rattle.jac_kinds.specs.Publics.{PublicsFit}
 
 -- an expression of any kind, read in the run
@@ -46,13 +46,13 @@ QueryFits k q r = AskedFits (world_of k r) q.binders q.order (mean (world_of k r
 abbrev pub DraftFits : Setting → ℕ → List Assigned → Run → Option PlainRow → Type 0
 DraftFits k m cells r None = ⊤
 DraftFits k m cells r (Some old) = PublicsFit k.models m old.id
-    (drafted k.models (fields_at k.models m) (λ e. value_in k e r) cells old.cells)
+    (drafted_cells k.models (fields_at k.models m) (λ e. value_in k e r) cells old.cells)
 
 -- the cells fit, and the public values of the record that the target refers to
 abbrev pub UpdateFits : Setting → Option ℕ → Value → List Assigned → Run → Type 0
 UpdateFits k None target cells r = ⊥
 UpdateFits k (Some m) target cells r = CellsFit k (fields_at k.models m) cells r
-    × DraftFits k m cells r (referred target (rows_of r.tables m))
+    × DraftFits k m cells r (referred_record target (rows_of r.tables m))
 
 -- the cells fit, the public values of the new record do, and then the body does, with the name
 -- bound to the record
@@ -75,7 +75,7 @@ abbrev mutual
   StatementFits k (Statement.escape e) r = Fits k e r
   StatementFits k (Statement.bind x e body) r = Fits k e r
       × StatementsFit k body (with_env (r.env ++ binding x (value_in k e r) ∷ []) r)
-  StatementFits k (Statement.assign x e) r = AreAlike (look r.env x) (value_in k e r) × Fits k e r
+  StatementFits k (Statement.assign x e) r = AreOneKind (look r.env x) (value_in k e r) × Fits k e r
   StatementFits k (Statement.branch c first second) r =
       FitsAs k Kind.Bool c r × MayChoose (is_true (value_in k c r)) (StatementsFit k first)
       (StatementsFit k second) r

@@ -4,3 +4,4 @@ pub mod Mirror
 pub mod Syntax
 pub mod Turned
 pub mod Written
+pub mod Untemplated

@@ -111,8 +111,8 @@ abbrev pub entities_of : List ModelDef → List Entity
 entities_of [] = []
 entities_of (m ∷ ms) = entity_of m ∷ entities_of ms
 
-abbrev pub page_of : View → Page
-page_of v = record {
+abbrev pub page_of_view : View → Page
+page_of_view v = record {
   method = v.method;
   path = v.path;
   params = v.params;
@@ -121,7 +121,7 @@ page_of v = record {
 
 abbrev pub pages_of : List View → List Page
 pages_of [] = []
-pages_of (v ∷ vs) = page_of v ∷ pages_of vs
+pages_of (v ∷ vs) = page_of_view v ∷ pages_of vs
 
 abbrev pub application_of : App → Application
 application_of a = record {

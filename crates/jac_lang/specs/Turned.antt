@@ -3,14 +3,14 @@ use Rattle.std.specs.Prelude.{List, [], ◌∷◌}
 use Rattle.jac_lang.specs.Syntax.{Expressions, Statements}
 
 -- the first list turned round, before the second
-abbrev pub turned : {A : Type 0} → List A → List A → List A
-turned [] out = out
-turned (x ∷ xs) out = turned xs (x ∷ out)
+abbrev pub turned_round : {A : Type 0} → List A → List A → List A
+turned_round [] out = out
+turned_round (x ∷ xs) out = turned_round xs (x ∷ out)
 
 -- the same of expressions
-abbrev pub onto : Expressions → Expressions → Expressions
-onto Expressions.none out = out
-onto (Expressions.more e es) out = onto es (Expressions.more e out)
+abbrev pub turned_onto : Expressions → Expressions → Expressions
+turned_onto Expressions.none out = out
+turned_onto (Expressions.more e es) out = turned_onto es (Expressions.more e out)
 
 -- the same of statements
 abbrev pub body_onto : Statements → Statements → Statements

@@ -1,6 +1,6 @@
 ghost use Rattle.std.specs.Prelude.{◌≡◌};
 ghost use Rattle.jac_lang.specs.Mirror.{assigned_of};
-ghost use Rattle.jac_lang.specs.Turned.{turned};
+ghost use Rattle.jac_lang.specs.Turned.{turned_round};
 
 use crate::Expr;
 use jac_value::Txt;
@@ -36,7 +36,7 @@ impl Drop for Publics {
 impl Publics {
     /// These fields turned round, before the others. It takes no memory.
     pub fn before(self, others: Publics) -> Publics
-        ensures { assigned_of result ≡ turned (assigned_of self) (assigned_of others) }
+        ensures { assigned_of result ≡ turned_round (assigned_of self) (assigned_of others) }
     {
         let mut out = others;
         let mut left = self;

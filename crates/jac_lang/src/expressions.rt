@@ -1,6 +1,6 @@
 ghost use Rattle.std.specs.Prelude.{◌≡◌};
 ghost use Rattle.jac_lang.specs.Mirror.{expressions_of};
-ghost use Rattle.jac_lang.specs.Turned.{onto};
+ghost use Rattle.jac_lang.specs.Turned.{turned_onto};
 
 use crate::{Binders, Order};
 use jac_value::Txt;
@@ -77,7 +77,8 @@ impl Drop for Exprs {
 impl Exprs {
     /// These parts turned round, before the others. It takes no memory.
     pub fn before(self, others: Exprs) -> Exprs
-        ensures { expressions_of result ≡ onto (expressions_of self) (expressions_of others) }
+        ensures { expressions_of result ≡ turned_onto (expressions_of self)
+            (expressions_of others) }
     {
         let mut out = others;
         let mut left = self;

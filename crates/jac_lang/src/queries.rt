@@ -1,6 +1,6 @@
 ghost use Rattle.std.specs.Prelude.{◌≡◌};
 ghost use Rattle.jac_lang.specs.Mirror.{binders_of};
-ghost use Rattle.jac_lang.specs.Turned.{turned};
+ghost use Rattle.jac_lang.specs.Turned.{turned_round};
 
 use jac_value::Txt;
 use std::mem;
@@ -45,7 +45,7 @@ impl Drop for Binders {
 impl Binders {
     /// These binders turned round, before the others. It takes no memory.
     pub fn before(self, others: Binders) -> Binders
-        ensures { binders_of result ≡ turned (binders_of self) (binders_of others) }
+        ensures { binders_of result ≡ turned_round (binders_of self) (binders_of others) }
     {
         let mut out = others;
         let mut left = self;

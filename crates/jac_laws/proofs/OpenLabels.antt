@@ -16,16 +16,16 @@ use Rattle.jac_route.specs.declared.lookup.Found.TheVariants as founds
 use Rattle.jac_route.specs.declared.pairs.Pair.{Pair}
 use Rattle.jac_route.specs.declared.sessions.Session.{Session}
 use Rattle.jac_engine.specs.Answers.{IsPage, IsAnswerOf, IsAnswerBy, asked_with, visit_of, worlds_after, is_post, is_stored_by, left_by}
-use Rattle.jac_engine.specs.Prepared.{worlds_of}
 use Rattle.jac_replies.specs.declared.answer.Answer.{Answer}
 use Rattle.jac_replies.specs.declared.answer.Ask.{Ask}
-use Rattle.jac_serving.specs.Answering.{Subject, Entry, is_failure}
-use Rattle.jac_desk.specs.Log.{IsAnswer, AreAnswered, hearing, left_of, is_stored_for}
-use Rattle.jac_laws.specs.TwoRuns.{OneRun, IsServed, NoneFailed, AreSameWhereShown, IsSameWhereShown, IsSameAsked, seen_answer}
+use Rattle.jac_serving.specs.Answering.{LogSubject, LogEntry, is_failure}
+use Rattle.jac_desk.specs.Log.{IsAnswer, AreAnswered, application_hearing, left_of, is_stored_for}
+use Rattle.jac_laws.specs.TwoRuns.{OneRun, IsRunServed, NoneFailed, AreSameWhereShown, IsSameWhereShown, IsSameAsked, seen_answer}
 use Rattle.jac_laws.specs.OpenRuns.{OnlyReads, StartAlike, IsShownSame, AreShownSame}
 use Rattle.jac_laws.proofs.SameSubjects.{AskedAlike}
 use Rattle.jac_laws.proofs.SameAnswers.{no_failure, no_memory, refused_same, page_has, full_has}
 use Rattle.jac_laws.proofs.SideBySide.{stands, same_reply, by_labels, behind, answered_whole, asks, pages_agree}
+use Rattle.jac_plain.specs.Shown.{worlds_of}
 
 -- what isn't the page of a POST leaves each world
 
@@ -41,17 +41,17 @@ stays_found (founds.WrongMethod allow) w app ask labels t h = refl
 stays_found (founds.View n pairs) w app ask None t h = refl
 stays_found (founds.View n pairs) w app ask (Some labels) t h = stays_by (method_in (slice_get app.views n)) w app t (visit_of app (asked_with pairs ask) n) h
 
-stays : (w : ℕ → Bool) (app : Application) (subject : Subject) (answer : Answer) (t : PlainState)
+stays : (w : ℕ → Bool) (app : Application) (subject : LogSubject) (answer : Answer) (t : PlainState)
     → is_stored_for app subject answer ≡ false → left_of w app subject answer t ≡ t
 stays w app (whole ask closes) answer t h = stays_found (found app ask.method ask.path) w app ask answer.shown t h
 stays w app (refused status) answer t h = refl
 stays w app broken answer t h = refl
 
-same_worlds : (app : Application) (entry : Entry) (worlds : Worlds)
+same_worlds : (app : Application) (entry : LogEntry) (worlds : Worlds)
     → is_stored_for app entry.subject entry.answer ≡ false → behind app entry worlds ≡ worlds
 same_worlds app entry worlds h i w = stays w app entry.subject entry.answer (worlds w) h i
 
-still_answered : (app : Application) (entry : Entry) (worlds : Worlds) (log : List Entry)
+still_answered : (app : Application) (entry : LogEntry) (worlds : Worlds) (log : List LogEntry)
     → is_stored_for app entry.subject entry.answer ≡ false → AreAnswered false app (behind app entry worlds) log
     → AreAnswered false app worlds log
 still_answered app entry worlds log h answered = subst (λ (ws : Worlds). AreAnswered false app ws log) (same_worlds app entry worlds h) answered
@@ -92,7 +92,7 @@ module _ (app : Application) (worlds worlds' : Worlds) (clear : is_open_app app 
       verb_same (method_in (slice_get app.views n)) (visit_of app (asked_with pairs ask) n) one two
       (λ labels on. unstored n pairs app labels one.shown on h) (λ labels on. unstored n pairs app labels two.shown on h') is is'
 
-  shown_same : (subject : Subject) (one two : Answer) → is_stored_for app subject one ≡ false
+  shown_same : (subject : LogSubject) (one two : Answer) → is_stored_for app subject one ≡ false
       → is_stored_for app subject two ≡ false → IsAnswer false app worlds subject one
       → IsAnswer false app worlds' subject two → is_failure one ≡ false → is_failure two ≡ false
       → one.shown ≡ two.shown
@@ -102,23 +102,23 @@ module _ (app : Application) (worlds worlds' : Worlds) (clear : is_open_app app 
   shown_same (refused status) one two h h' is is' stands stands' = ap (λ (a : Answer). a.shown) (refused_same status one two is is' stands stands')
   shown_same broken one two h h' is is' stands stands' = absurd (no_memory one stands is)
 
-  entry_same : (start start' : State) (sessions : List Session) (one two : Entry)
+  entry_same : (start start' : State) (sessions : List Session) (one two : LogEntry)
       → IsSameWhereShown start start' one two → IsSameAsked one two
       → is_stored_for app one.subject one.answer ≡ false → is_stored_for app two.subject two.answer ≡ false
       → IsAnswer false app worlds one.subject one.answer → IsAnswer false app worlds' two.subject two.answer
       → is_failure one.answer ≡ false → is_failure two.answer ≡ false → IsShownSame start start' one two
   entry_same start start' sessions one two same asked h h' is is' stands stands' =
       let labels : one.answer.shown ≡ two.answer.shown =
-      shown_same one.subject one.answer two.answer h (ap (λ (s : Subject). is_stored_for app s two.answer) asked.subject ∙ h')
-      is (subst (λ (s : Subject). IsAnswer false app worlds' s two.answer) (sym asked.subject) is') stands stands' in
+      shown_same one.subject one.answer two.answer h (ap (λ (s : LogSubject). is_stored_for app s two.answer) asked.subject ∙ h')
+      is (subst (λ (s : LogSubject). IsAnswer false app worlds' s two.answer) (sym asked.subject) is') stands stands' in
       record {
         asked = asked;
         labels = labels;
         reply = λ look. same_reply one two asked (by_labels start start' one.answer.shown one two same look refl (sym labels));
       }
 
-  all_same : (early early' : Bool) (start start' : State) (sessions : List Session) (log others : List Entry)
-      → AskedAlike early early' (hearing app sessions) log others → AreSameWhereShown start start' log others
+  all_same : (early early' : Bool) (start start' : State) (sessions : List Session) (log others : List LogEntry)
+      → AskedAlike early early' (application_hearing app sessions) log others → AreSameWhereShown start start' log others
       → AreAnswered false app worlds log → AreAnswered false app worlds' others → NoneFailed log → NoneFailed others
       → OnlyReads app log → OnlyReads app others → AreShownSame early early' start start' log others
   all_same early early' start start' sessions [] [] asked same answered answered' none none' reads reads' = tt
@@ -133,7 +133,7 @@ module _ (app : Application) (worlds worlds' : Worlds) (clear : is_open_app app 
       )
 
 pub labels_agree : (app : Application) (sessions : List Session) (events : List Event) (one two : OneRun)
-    → IsServed app sessions events one → IsServed app sessions events two → one.lazy ≡ false → two.lazy ≡ false
+    → IsRunServed app sessions events one → IsRunServed app sessions events two → one.lazy ≡ false → two.lazy ≡ false
     → is_open_app app ≡ true → StartAlike app one two → NoneFailed one.log → NoneFailed two.log
     → OnlyReads app one.log → OnlyReads app two.log
     → AreShownSame one.early two.early one.start two.start one.log two.log

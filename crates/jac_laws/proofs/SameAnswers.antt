@@ -1,6 +1,6 @@
 -- Two answers to the same request, in worlds that are the same under an assignment.
 use Rattle.std.proofs.Common.{◌≡◌, ◌∙◌, ap, sym, refl, inl, inr, ◌⊎◌, ℕ, ◌<◌, ◌^◌, Bool, true, false, Option, Some, None, is_some, List, arith, slice_get}
-use Rattle.jac_world.specs.World.{shown}
+use Rattle.jac_world.specs.World.{shown_by}
 use Rattle.jac_lang.specs.declared.pages.Verb.{Verb}
 use Rattle.jac_lang.specs.declared.pages.Verb.TheVariants as verbs
 use Rattle.jac_lang.specs.Syntax.{Application}
@@ -16,7 +16,7 @@ use Rattle.jac_replies.specs.declared.answer.Answer.{Answer}
 use Rattle.jac_replies.specs.declared.answer.Ask.{Ask}
 use Rattle.jac_replies.specs.declared.reply.Spelling.{Spelling}
 use Rattle.jac_hub.specs.Hearing.{Source, asked, connection, whole, refused, broken}
-use Rattle.jac_serving.specs.Answering.{Subject, is_failure}
+use Rattle.jac_serving.specs.Answering.{LogSubject, is_failure}
 use Rattle.jac_serving.specs.Log.{reply_on}
 use Rattle.jac_desk.specs.Log.{HasFailed, IsAnswer, left_of, refused_with}
 use Rattle.jac_laws.specs.TwoRuns.{seen_answer}
@@ -25,7 +25,7 @@ use Rattle.jac_laws.proofs.SameSubjects.{IsLegible}
 -- what is seen of the answer is the interpreter's page under some labels
 abbrev pub IsPageIn : Application → Worlds → Visit → Answer → Type 0
 IsPageIn app worlds visit answer =
-    (labels : List ℕ) × (seen_answer answer ≡ page_answer labels (page (shown labels) app (worlds (shown labels)) visit))
+    (labels : List ℕ) × (seen_answer answer ≡ page_answer labels (page (shown_by labels) app (worlds (shown_by labels)) visit))
 
 -- a view answers with a page, or that numbers are used up
 abbrev pub IsPagedOr : Application → Worlds → Visit → Answer → Type 0
@@ -36,7 +36,7 @@ shown_page : (lazy : Bool) (app : Application) (worlds : Worlds) (visit : Visit)
     → IsShownPage lazy app worlds visit answer → IsPageIn app worlds visit answer
 shown_page false app worlds visit answer p = (p.labels, ap seen_answer p.made)
 shown_page true app worlds visit answer p =
-    (p.labels, ap seen_answer (p.made (shown p.labels) (record { each = λ k h. refl })))
+    (p.labels, ap seen_answer (p.made (shown_by p.labels) (record { each = λ k h. refl })))
 
 paged_or : (lazy : Bool) (v : Verb) (app : Application) (worlds : Worlds) (visit : Visit) (answer : Answer)
     → IsAnswerOf lazy v app worlds visit answer → IsPagedOr app worlds visit answer
@@ -75,7 +75,7 @@ pub no_memory : (answer : Answer) → is_failure answer ≡ false → answer ≡
 no_memory answer stands is = no_failure answer stands (inl is)
 
 -- what was broken has failed
-pub legible : (lazy : Bool) (app : Application) (worlds : Worlds) (subject : Subject) (answer : Answer)
+pub legible : (lazy : Bool) (app : Application) (worlds : Worlds) (subject : LogSubject) (answer : Answer)
     → IsAnswer lazy app worlds subject answer → is_failure answer ≡ false → IsLegible subject
 legible lazy app worlds (whole ask closes) answer is stands = tt
 legible lazy app worlds (refused status) answer is stands = tt
@@ -84,8 +84,8 @@ legible lazy app worlds broken answer is stands = no_memory answer stands is
 -- ---- what answers leave of a world that is the same
 
 -- both have a page or neither has, and what they leave is the same
-pub record LeaveAlike (shown shown' : Option (List ℕ)) (t u : PlainState) : Type 0 where
-  pub page : is_some shown ≡ is_some shown'
+pub record LeaveAlike (shown_by shown' : Option (List ℕ)) (t u : PlainState) : Type 0 where
+  pub page : is_some shown_by ≡ is_some shown'
   pub left : t ≡ u
 
 left_page : (n : ℕ) (pairs : List Pair) (w : ℕ → Bool) (app : Application) (ask : Ask) (answer : Answer) (worlds : Worlds) (t : PlainState)
@@ -128,7 +128,7 @@ refused_same status one two (inr is) (inl failed) stands stands' = absurd (no_me
 refused_same status one two (inr is) (inr is') stands stands' = is ∙ sym is'
 
 -- answers to the same leave the same world
-pub left_same : (lazy lazy' : Bool) (w : ℕ → Bool) (app : Application) (worlds worlds' : Worlds) (subject : Subject) (one two : Answer) → worlds w ≡ worlds' w
+pub left_same : (lazy lazy' : Bool) (w : ℕ → Bool) (app : Application) (worlds worlds' : Worlds) (subject : LogSubject) (one two : Answer) → worlds w ≡ worlds' w
     → IsAnswer lazy app worlds subject one → IsAnswer lazy' app worlds' subject two → is_failure one ≡ false → is_failure two ≡ false
     → LeaveAlike one.shown two.shown (left_of w app subject one (worlds w)) (left_of w app subject two (worlds' w))
 left_same lazy lazy' w app worlds worlds' (whole ask closes) one two same (inl failed) is' stands stands' = absurd (no_failure one stands failed)
@@ -142,7 +142,7 @@ left_same lazy lazy' w app worlds worlds' broken one two same is is' stands stan
 -- ---- answers that show the same
 
 -- what is put doesn't tell what was consulted
-pub seen_put : (spelling : Spelling) (source : Source) (subject : Subject) (answer : Answer)
+pub seen_put : (spelling : Spelling) (source : Source) (subject : LogSubject) (answer : Answer)
     → reply_on spelling source subject (seen_answer answer) ≡ reply_on spelling source subject answer
 seen_put spelling asked subject answer = refl
 seen_put spelling (connection c) (whole ask closes) answer = refl
@@ -154,7 +154,7 @@ seen_put spelling (connection c) broken answer = refl
 pub record LookAlike (worlds worlds' : Worlds) (one two : Answer) : Type 0 where
   pub refusal : one.shown ≡ None → two.shown ≡ None → seen_answer one ≡ seen_answer two
   pub page :
-      (labels : List ℕ) → worlds (shown labels) ≡ worlds' (shown labels)
+      (labels : List ℕ) → worlds (shown_by labels) ≡ worlds' (shown_by labels)
       → one.shown ≡ Some labels → two.shown ≡ Some labels → seen_answer one ≡ seen_answer two
 
 look_equal : (worlds worlds' : Worlds) (one two : Answer) → one ≡ two → LookAlike worlds worlds' one two
@@ -173,7 +173,7 @@ one_list : (labels other : List ℕ) → Some labels ≡ Some other → labels �
 one_list labels other e = cc
 
 pub page_has : (app : Application) (worlds : Worlds) (visit : Visit) (answer : Answer) (labels : List ℕ)
-    → seen_answer answer ≡ page_answer labels (page (shown labels) app (worlds (shown labels)) visit) → answer.shown ≡ Some labels
+    → seen_answer answer ≡ page_answer labels (page (shown_by labels) app (worlds (shown_by labels)) visit) → answer.shown ≡ Some labels
 page_has app worlds visit answer labels made = ap (λ (a : Answer). a.shown) made
 
 pub full_has : (answer : Answer) → answer ≡ refusal 507 None → answer.shown ≡ None
@@ -181,10 +181,10 @@ full_has answer is = ap (λ (a : Answer). a.shown) is
 
 -- a page that shows these labels was made under them
 page_under : (app : Application) (worlds : Worlds) (visit : Visit) (labels : List ℕ) (answer : Answer) → IsPagedOr app worlds visit answer → answer.shown ≡ Some labels
-    → seen_answer answer ≡ page_answer labels (page (shown labels) app (worlds (shown labels)) visit)
+    → seen_answer answer ≡ page_answer labels (page (shown_by labels) app (worlds (shown_by labels)) visit)
 page_under app worlds visit labels answer (inl (other, made)) on =
     let same : other ≡ labels = one_list other labels (sym (page_has app worlds visit answer other made) ∙ on) in
-    made ∙ ap (λ (l : List ℕ). page_answer l (page (shown l) app (worlds (shown l)) visit)) same
+    made ∙ ap (λ (l : List ℕ). page_answer l (page (shown_by l) app (worlds (shown_by l)) visit)) same
 page_under app worlds visit labels answer (inr is) on = absurd (none_some labels (sym (full_has answer is) ∙ on))
 
 -- without a page numbers are used up
@@ -198,7 +198,7 @@ look_view app worlds worlds' visit one two is is' = record {
   refusal = λ none none'. ap seen_answer (full_of app worlds visit one is none ∙ sym (full_of app worlds' visit two is' none'));
   page = λ labels alike on on'.
       page_under app worlds visit labels one is on
-      ∙ ap (λ (t : PlainState). page_answer labels (page (shown labels) app t visit)) alike
+      ∙ ap (λ (t : PlainState). page_answer labels (page (shown_by labels) app t visit)) alike
       ∙ sym (page_under app worlds' visit labels two is' on');
 }
 
@@ -212,7 +212,7 @@ look_found lazy lazy' (founds.View n pairs) app ask worlds worlds' one two is is
     (paged_or lazy' (method_in (slice_get app.views n)) app worlds' (visit_of app (asked_with pairs ask) n) two is')
 
 -- answers to the same that show the same look equal
-pub look_same : (lazy lazy' : Bool) (app : Application) (worlds worlds' : Worlds) (subject : Subject) (one two : Answer)
+pub look_same : (lazy lazy' : Bool) (app : Application) (worlds worlds' : Worlds) (subject : LogSubject) (one two : Answer)
     → IsAnswer lazy app worlds subject one → IsAnswer lazy' app worlds' subject two → is_failure one ≡ false → is_failure two ≡ false → LookAlike worlds worlds' one two
 look_same lazy lazy' app worlds worlds' (whole ask closes) one two (inl failed) is' stands stands' = absurd (no_failure one stands failed)
 look_same lazy lazy' app worlds worlds' (whole ask closes) one two (inr is) (inl failed) stands stands' = absurd (no_failure two stands' failed)
@@ -240,7 +240,7 @@ found_seen (founds.WrongMethod allow) app worlds ask answer is = ap (λ (a : Ans
 found_seen (founds.View n pairs) app worlds ask answer is =
     view_seen (method_in (slice_get app.views n)) app worlds (visit_of app (asked_with pairs ask) n) answer is
 
-none_consulted : (app : Application) (worlds : Worlds) (subject : Subject) (answer : Answer)
+none_consulted : (app : Application) (worlds : Worlds) (subject : LogSubject) (answer : Answer)
     → IsAnswer false app worlds subject answer → answer.consulted ≡ None
 none_consulted app worlds (whole ask closes) answer (inl failed) = failed_seen answer failed
 none_consulted app worlds (whole ask closes) answer (inr is) =
@@ -249,6 +249,6 @@ none_consulted app worlds (refused status) answer (inl is) = ap (λ (a : Answer)
 none_consulted app worlds (refused status) answer (inr is) = ap (λ (a : Answer). a.consulted) is
 none_consulted app worlds broken answer is = ap (λ (a : Answer). a.consulted) is
 
-pub answer_seen : (app : Application) (worlds : Worlds) (subject : Subject) (answer : Answer)
+pub answer_seen : (app : Application) (worlds : Worlds) (subject : LogSubject) (answer : Answer)
     → IsAnswer false app worlds subject answer → seen_answer answer ≡ answer
 answer_seen app worlds subject answer is = λ i. record answer { consulted = sym (none_consulted app worlds subject answer is) i }

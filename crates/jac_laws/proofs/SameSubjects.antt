@@ -7,7 +7,7 @@ use Rattle.jac_http.specs.declared.taken.Request.{Request}
 use Rattle.jac_http.specs.declared.taken.Taken.TheVariants.{More, Whole, Refused}
 use Rattle.jac_http.specs.Reading.{IsReading}
 use Rattle.jac_hub.specs.Hearing.{Source, asked, connection, Subject, whole, refused, broken, Entry, Hearing}
-use Rattle.jac_hub.specs.Heard.{Connection, Connections, set_at, with_bytes, closes, with_entry, after_entry, after_entries, after_event, after_both, is_closed, counted, StandsAt, StandAt, IsNextIn, IsRead, IsNext, AreBrought, AreBegun, PieceBrings, PieceBegins, IsBroughtBy, IsBegunBy, IsHeardFrom, IsHeardInPartFrom}
+use Rattle.jac_hub.specs.Heard.{Connection, Connections, set_at, with_bytes, closes_connection, with_entry, connections_after, after_entries, after_event, after_both, is_closed, bytes_counted, StandsAt, StandAt, IsNextIn, IsReadThrough, IsNextEntry, AreBrought, AreBegun, PieceBrings, PieceBegins, IsBroughtBy, IsBegunBy, IsHeardFrom, IsHeardInPartFrom}
 use Rattle.jac_laws.specs.TwoRuns.{IsSameAsked}
 
 -- the subject was read: it doesn't stand for want of memory
@@ -87,7 +87,7 @@ subject_once h law (refused status) broken from to to' l l' at at' = absurd l'
 next_once : {I A : Type 0} (h : Hearing I A) → IsReading h.reads → (known : Connection I) (one two : Subject I)
     → IsLegible one → IsLegible two → IsNextIn h known one → IsNextIn h known two → one ≡ two
 next_once h law known one two l l' (from, to, behind, stands) (from', to', behind', stands') =
-    let same : from ≡ from' = stand_once h law known.heard (counted known) from from' behind behind' in
+    let same : from ≡ from' = stand_once h law known.heard (bytes_counted known) from from' behind behind' in
     subject_once h law one two from to to' l l' stands (subst (λ (f : List ℕ). StandsAt h two f to') (sym same) stands')
 
 more_stands : {I A : Type 0} (h : Hearing I A) → IsReading h.reads → (subject : Subject I) (from to : List ℕ)
@@ -98,9 +98,9 @@ more_stands h law broken from to l more at = l
 
 -- where all is read, no subject comes next
 read_all : {I A : Type 0} (h : Hearing I A) → IsReading h.reads → (known : Connection I) (subject : Subject I)
-    → IsLegible subject → IsRead h known → IsNextIn h known subject → ⊥
+    → IsLegible subject → IsReadThrough h known → IsNextIn h known subject → ⊥
 read_all h law known subject l (from, behind, more) (from', to, behind', stands) =
-    let same : from ≡ from' = stand_once h law known.heard (counted known) from from' behind behind' in
+    let same : from ≡ from' = stand_once h law known.heard (bytes_counted known) from from' behind behind' in
     more_stands h law subject from to l more (subst (λ (f : List ℕ). StandsAt h subject f to) (sym same) stands)
 
 -- ---- entries alike leave the connections alike
@@ -110,20 +110,20 @@ same_connection : {I A : Type 0} (h : Hearing I A) (one two : Entry I A) → one
 same_connection {I = I} h one two subject ends known = λ i. record {
   bytes = known.bytes;
   heard = known.heard ++ subject i ∷ [];
-  ended = known.ended || (closes (subject i) || ends i);
+  ended = known.ended || (closes_connection (subject i) || ends i);
 }
 
 same_after : {I A : Type 0} (h : Hearing I A) (s : Source) (one two : Entry I A) → one.subject ≡ two.subject → h.ends one.answer ≡ h.ends two.answer
-    → (all : Connections I) → after_entry h s one all ≡ after_entry h s two all
+    → (all : Connections I) → connections_after h s one all ≡ connections_after h s two all
 same_after h asked one two subject ends all = refl
 same_after {I = I} h (connection c) one two subject ends all =
     let step : with_entry h one ≡ with_entry h two = λ i known. same_connection h one two subject ends known i in
     ap (λ (f : Connection I → Connection I). set_at c (option_map f (all c)) all) step
 
 same_behind : {I A : Type 0} (h : Hearing I A) (one two : Entry I A) → IsSameAsked one two → h.ends one.answer ≡ h.ends two.answer
-    → (all : Connections I) → after_entry h one.source one all ≡ after_entry h two.source two all
+    → (all : Connections I) → connections_after h one.source one all ≡ connections_after h two.source two all
 same_behind h one two same ends all =
-    ap (λ (s : Source). after_entry h s one all) same.source ∙ same_after h two.source one two same.subject ends all
+    ap (λ (s : Source). connections_after h s one all) same.source ∙ same_after h two.source one two same.subject ends all
 
 -- ---- what is heard, to the end or in part
 
@@ -205,12 +205,12 @@ Goes early h n c events known all mine rest =
     ⊎ ((early ≡ true) × AreBegun h n c known mine × (rest ≡ []))
 
 goes_next : {I A : Type 0} (early : Bool) (h : Hearing I A) (n c : ℕ) (events : List Event) (known : Connection I) (all : Connections I) (entry : Entry I A) (mine rest : List (Entry I A))
-    → Goes early h n c events known all (entry ∷ mine) rest → IsNext h n c known entry
+    → Goes early h n c events known all (entry ∷ mine) rest → IsNextEntry h n c known entry
 goes_next early h n c events known all entry mine rest (inl (brought, later)) = brought.0
 goes_next early h n c events known all entry mine rest (inr (is, begun, none)) = begun.0
 
 goes_on : {I A : Type 0} (early : Bool) (h : Hearing I A) (n c : ℕ) (events : List Event) (known : Connection I) (all : Connections I) (entry : Entry I A) (mine rest : List (Entry I A))
-    → Goes early h n c events known all (entry ∷ mine) rest → Goes early h n c events (with_entry h entry known) (after_entry h entry.source entry all) mine rest
+    → Goes early h n c events known all (entry ∷ mine) rest → Goes early h n c events (with_entry h entry known) (connections_after h entry.source entry all) mine rest
 goes_on early h n c events known all entry mine rest (inl (brought, later)) = inl (brought.1, later)
 goes_on early h n c events known all entry mine rest (inr (is, begun, none)) = inr (is, begun.1, none)
 
@@ -221,12 +221,12 @@ goes_end early h n c events known all rest (inr (is, begun, none)) = nothing_ear
 
 -- where all is brought, an entry that comes next has failed
 none_next : {I A : Type 0} (h : Hearing I A) → IsReading h.reads → (n c : ℕ) (known : Connection I) (entry : Entry I A)
-    → (known.ended ≡ true) ⊎ IsRead h known → IsNext h n c known entry → Stands h entry → ⊥
+    → (known.ended ≡ true) ⊎ IsReadThrough h known → IsNextEntry h n c known entry → Stands h entry → ⊥
 none_next h law n c known entry (inl closed) next stands = let no : true ≡ false = sym closed ∙ next.open_still in cc
 none_next h law n c known entry (inr read) next stands = read_all h law known entry.subject stands.legible read next.subject
 
 same_next : {I A : Type 0} (h : Hearing I A) → IsReading h.reads → (n c : ℕ) (known : Connection I) (one two : Entry I A)
-    → IsNext h n c known one → IsNext h n c known two → Stands h one → Stands h two → IsSameAsked one two
+    → IsNextEntry h n c known one → IsNextEntry h n c known two → Stands h one → Stands h two → IsSameAsked one two
 same_next h law n c known one two next next' stands stands' = record {
   place = next.place ∙ sym next'.place;
   source = next.source ∙ sym next'.source;
@@ -258,10 +258,10 @@ piece_alike {I = I} early early' h law n c events later known all (one ∷ mine)
     (goes_next early' h n c events known all two mine' rest' goes') stands stands' in
     let ends : h.ends one.answer ≡ h.ends two.answer = stands.goes_on ∙ sym stands'.goes_on in
     let other = goes_on early' h n c events known all two mine' rest' goes' in
-    let here = subst (λ (k : Connection I). Goes early' h n c events k (after_entry h two.source two all) mine' rest') (sym (same_connection h one two same.subject ends known)) other in
+    let here = subst (λ (k : Connection I). Goes early' h n c events k (connections_after h two.source two all) mine' rest') (sym (same_connection h one two same.subject ends known)) other in
     let there = subst (λ (a : Connections I). Goes early' h n c events (with_entry h one known) a mine' rest') (sym (same_behind h one two same ends all)) here in (
       same,
-      piece_alike early early' h law n c events later (with_entry h one known) (after_entry h one.source one all) mine mine' rest rest'
+      piece_alike early early' h law n c events later (with_entry h one known) (connections_after h one.source one all) mine mine' rest rest'
           (goes_on early h n c events known all one mine rest goes) there,
     )
 

@@ -5,20 +5,20 @@ ghost use Rattle.jac_open.specs.Open.{is_open_app};
 ghost use Rattle.jac_route.specs.declared.sessions.Session.{Session};
 ghost use Rattle.jac_events.specs.declared.event.Event.{Event};
 ghost use Rattle.jac_hub.specs.Hearing.{Source};
-ghost use Rattle.jac_serving.specs.Answering.{Subject, Entry};
+ghost use Rattle.jac_serving.specs.Answering.{LogSubject, LogEntry};
 ghost use Rattle.jac_serving.specs.Keeping.{Holding};
 ghost use Rattle.jac_serving.specs.Outside.{Span};
 ghost use Rattle.jac_serving.specs.Serve.{IsServed as IsServedBy};
 ghost use Rattle.jac_desk.specs.Answered.{answering_of};
 ghost use Rattle.jac_desk.specs.Log.{Serves};
 ghost use Rattle.jac_laws.specs.OpenRuns.{AreShownSame, OnlyReads, StartAlike};
-ghost use Rattle.jac_laws.specs.TwoRuns.{OneRun, IsServed, LookSame, NoneFailed, AgreeAfterEach, EndAlike, AreSameWhereShown, AreSeenAlike, seen_by, seen_entry};
+ghost use Rattle.jac_laws.specs.TwoRuns.{OneRun, IsRunServed, LookSame, NoneFailed, AgreeAfterEach, EndAlike, AreSameWhereShown, AreSeenAlike, seen_by, seen_entry};
 
 /// A law: what the top call promises of the events that an application was served, where its store
 /// is told to the end, is what the laws below ask of a run.
 pub fn told_runs_serve()
     ensures { (lazy early : Bool) (app : Application) (sessions : List Session) (k : Span Holding) →
-        (events : List Event) (log : List Entry) →
+        (events : List Event) (log : List LogEntry) →
         IsServedBy early (answering_of lazy app sessions) k events log →
         IsTrue k.after.keeper.tells →
         Serves lazy early app sessions k.before.keeper.state events log k.after.keeper.state }
@@ -38,7 +38,8 @@ pub fn told_runs_serve()
 /// 2012; Yang and others, PLDI 2016.
 pub fn worlds_agree()
     ensures { (w : ℕ → Bool) (app : Application) (sessions : List Session) (events : List Event) →
-        (one two : OneRun) → IsServed app sessions events one → IsServed app sessions events two →
+        (one two : OneRun) → IsRunServed app sessions events one
+        → IsRunServed app sessions events two →
         LookSame w one.start two.start →
         AgreeAfterEach w app one.early two.early one.log two.log
         (project_at w one.start) (project_at w two.start) }
@@ -52,7 +53,8 @@ pub fn worlds_agree()
 /// entries nothing is said here.
 pub fn ends_agree()
     ensures { (w : ℕ → Bool) (app : Application) (sessions : List Session) (events : List Event) →
-        (one two : OneRun) → IsServed app sessions events one → IsServed app sessions events two →
+        (one two : OneRun) → IsRunServed app sessions events one
+        → IsRunServed app sessions events two →
         LookSame w one.start two.start →
         NoneFailed one.log → NoneFailed two.log → EndAlike w one two }
 {}
@@ -71,7 +73,8 @@ pub fn ends_agree()
 /// and others, PLDI 2016.
 pub fn pages_agree()
     ensures { (app : Application) (sessions : List Session) (events : List Event) →
-        (one two : OneRun) → IsServed app sessions events one → IsServed app sessions events two →
+        (one two : OneRun) → IsRunServed app sessions events one
+        → IsRunServed app sessions events two →
         AreSameWhereShown one.start two.start one.log two.log }
 {}
 
@@ -82,9 +85,9 @@ pub fn pages_agree()
 /// are the same, so that nobody asks otherwise for what she was shown. What was consulted for a
 /// page isn't seen by whom it is sent to.
 pub fn views_agree()
-    ensures { (sees : Source → Subject → Bool) (app : Application) (sessions : List Session) →
-        (events : List Event) (one two : OneRun) → IsServed app sessions events one →
-        IsServed app sessions events two → AreSeenAlike sees one two →
+    ensures { (sees : Source → LogSubject → Bool) (app : Application) (sessions : List Session) →
+        (events : List Event) (one two : OneRun) → IsRunServed app sessions events one →
+        IsRunServed app sessions events two → AreSeenAlike sees one two →
         seen_by sees one.log ≡ seen_by sees two.log }
 {}
 
@@ -93,7 +96,7 @@ pub fn views_agree()
 /// equal.
 pub fn all_is_seen()
     ensures { (app : Application) (sessions : List Session) (events : List Event) (run : OneRun) →
-        IsServed app sessions events run → run.lazy ≡ false → map seen_entry run.log ≡ run.log }
+        IsRunServed app sessions events run → run.lazy ≡ false → map seen_entry run.log ≡ run.log }
 {}
 
 /// A law: let no policy of an application read a guarded field; let two runs of the same events, in
@@ -109,7 +112,8 @@ pub fn all_is_seen()
 /// where it resolves nothing else, the labels that it is made under may too.
 pub fn labels_agree()
     ensures { (app : Application) (sessions : List Session) (events : List Event) →
-        (one two : OneRun) → IsServed app sessions events one → IsServed app sessions events two →
+        (one two : OneRun) → IsRunServed app sessions events one
+        → IsRunServed app sessions events two →
         one.lazy ≡ false → two.lazy ≡ false → is_open_app app ≡ true → StartAlike app one two →
         NoneFailed one.log → NoneFailed two.log → OnlyReads app one.log → OnlyReads app two.log →
         AreShownSame one.early two.early one.start two.start one.log two.log }

@@ -1,7 +1,7 @@
 -- What a pass over consulted labels leaves, once all that is remembered was consulted.
 use Rattle.std.proofs.Common.{◌≡◌, ◌∙◌, refl, sym, ℕ, Bool, true, false, List, Option, Some, None}
 use Rattle.std.specs.Option.{is_some}
-use Rattle.jac_world.specs.World.{shown, IsAscending}
+use Rattle.jac_world.specs.World.{shown_by, IsAscending}
 use Rattle.jac_lang.specs.Syntax.{Application}
 use Rattle.jac_plain.specs.Requests.{Worlds}
 use Rattle.jac_plain.specs.Policies.{is_allowed}
@@ -12,7 +12,7 @@ use Rattle.jac_resolve.specs.Recalled.{AreRight, IsPassed, IsUnderway, Remembers
 use Rattle.jac_resolve.specs.Live.{AreLiveOf}
 use Rattle.jac_lazy.specs.Steady.{AlwaysAllows, AlwaysForbids, IsSteady}
 
-module _ (app : Application) (worlds : Worlds) (viewer : Option ℕ) (answers : Answers) (consulted : List ℕ) (named : (k j : ℕ) → watches answers k j ≡ true → shown consulted k ≡ true) where
+module _ (app : Application) (worlds : Worlds) (viewer : Option ℕ) (answers : Answers) (consulted : List ℕ) (named : (k j : ℕ) → watches answers k j ≡ true → shown_by consulted k ≡ true) where
   -- what is remembered is the same wherever the same of what was consulted is shown
   recalled_alike : AreWatched answers → (j : ℕ) (v w : ℕ → Bool) → Agrees consulted v w → recall answers j v ≡ recall answers j w
   recalled_alike watched j v w agree = watched.each j v w (λ k watching. agree.each k (named k j watching))
@@ -26,9 +26,9 @@ module _ (app : Application) (worlds : Worlds) (viewer : Option ℕ) (answers : 
       by_answer (Some x) e h = sym (right.each j v x (sym (recalled_alike watched j w v agree) ∙ e)) ∙ right.each j w x e ∙ is
       by_answer None e h = absurd cc
 
-  always_allowed : (labels : List ℕ) (k : ℕ) → IsUnderway app worlds viewer labels answers → shown labels k ≡ true → AlwaysAllows app worlds viewer consulted (shown labels) k
+  always_allowed : (labels : List ℕ) (k : ℕ) → IsUnderway app worlds viewer labels answers → shown_by labels k ≡ true → AlwaysAllows app worlds viewer consulted (shown_by labels) k
   always_allowed labels k underway s = record {
-    each = λ v agree. answered_alike underway.right underway.watched k (shown labels) v true (underway.fitted.each k s) (underway.allowed k s) agree;
+    each = λ v agree. answered_alike underway.right underway.watched k (shown_by labels) v true (underway.fitted.each k s) (underway.allowed k s) agree;
   }
 
   always_forbidden : (w : ℕ → Bool) → AreRight app worlds viewer answers → AreWatched answers → RemembersForbidden app worlds viewer answers w → AlwaysForbids app worlds viewer consulted w

@@ -2,7 +2,7 @@
 use Rattle.std.proofs.Common.{◌≡◌, ◌∙◌, sym, refl, ap, arith, inl, inr, ℕ, ◌<◌, ◌≤◌, ◌==◌, ◌||◌, Bool, true, false, true≢false, List, [], ◌∷◌, length}
 use Rattle.std.proofs.lemmas.Bool.{or_left, cases_lt}
 use Rattle.std.proofs.lemmas.Bool.Decides.{nat_tests, Decides-eqb}
-use Rattle.jac_world.specs.World.{shown, IsAscending, StartsAboveBy}
+use Rattle.jac_world.specs.World.{shown_by, IsAscending, StartsAboveBy}
 use Rattle.jac_pruned.specs.Consulted.{Grows}
 
 itself : (x : ℕ) → (x == x) ≡ true
@@ -18,26 +18,26 @@ above_too : (j k : ℕ) (xs : List ℕ) → j < k → StartsAboveBy (λ x. x) k 
 above_too j k [] lt a = tt
 above_too j k (x ∷ xs) lt a = omega (arith, lt, a)
 
-hidden_below : (k : ℕ) (xs : List ℕ) → StartsAboveBy (λ x. x) k xs → IsAscending xs → shown xs k ≡ false
+hidden_below : (k : ℕ) (xs : List ℕ) → StartsAboveBy (λ x. x) k xs → IsAscending xs → shown_by xs k ≡ false
 hidden_below k [] a r = refl
 hidden_below k (x ∷ xs) a r =
     let other : (x == k) ≡ false = grind (arith, nat_tests) in
     rw other (hidden_below k xs (above_too k x xs a r.0) r.1)
 
-first_shown : (x : ℕ) (xs : List ℕ) → shown (x ∷ xs) x ≡ true
-first_shown x xs = or_left (x == x) (shown xs x) (itself x)
+first_shown : (x : ℕ) (xs : List ℕ) → shown_by (x ∷ xs) x ≡ true
+first_shown x xs = or_left (x == x) (shown_by xs x) (itself x)
 
 -- what is shown behind the first number is another one
-behind_if : (x k : ℕ) (xs : List ℕ) (b s : Bool) → (x == k) ≡ b → IsAscending (x ∷ xs) → shown xs k ≡ true → (b || s) ≡ true → s ≡ true
+behind_if : (x k : ℕ) (xs : List ℕ) (b s : Bool) → (x == k) ≡ b → IsAscending (x ∷ xs) → shown_by xs k ≡ true → (b || s) ≡ true → s ≡ true
 behind_if x k xs true s e a among h =
-    let none : shown xs k ≡ false = ap (shown xs) (sym ((Decides-eqb x k).0 e)) ∙ hidden_below x xs a.0 a.1 in
+    let none : shown_by xs k ≡ false = ap (shown_by xs) (sym ((Decides-eqb x k).0 e)) ∙ hidden_below x xs a.0 a.1 in
     absurd (true≢false (sym among ∙ none))
 behind_if x k xs false s e a among h = h
 
 -- where the first numbers are equal
 behind : (x y : ℕ) (xs ys : List ℕ) → x ≡ y → IsAscending (x ∷ xs) → Grows (x ∷ xs) (y ∷ ys) → Grows xs ys
 behind x y xs ys same a grows = record {
-  kept = λ k h. behind_if x k xs (x == k) (shown ys k) refl a h (ap (λ z. z == k || shown ys k) same ∙ grows.kept k (or_right (x == k) (shown xs k) h));
+  kept = λ k h. behind_if x k xs (x == k) (shown_by ys k) refl a h (ap (λ z. z == k || shown_by ys k) same ∙ grows.kept k (or_right (x == k) (shown_by xs k) h));
 }
   where
     or_right : (a b : Bool) → b ≡ true → (a || b) ≡ true
@@ -45,12 +45,12 @@ behind x y xs ys same a grows = record {
     or_right false b p = p
 
 -- where the first number of the second list is shown by the first list not at all
-beside_if : (y k : ℕ) (xs : List ℕ) (b s : Bool) → (y == k) ≡ b → shown xs y ≡ false → shown xs k ≡ true → (b || s) ≡ true → s ≡ true
-beside_if y k xs true s e none among h = absurd (true≢false (sym among ∙ ap (shown xs) (sym ((Decides-eqb y k).0 e)) ∙ none))
+beside_if : (y k : ℕ) (xs : List ℕ) (b s : Bool) → (y == k) ≡ b → shown_by xs y ≡ false → shown_by xs k ≡ true → (b || s) ≡ true → s ≡ true
+beside_if y k xs true s e none among h = absurd (true≢false (sym among ∙ ap (shown_by xs) (sym ((Decides-eqb y k).0 e)) ∙ none))
 beside_if y k xs false s e none among h = h
 
-beside : (y : ℕ) (xs ys : List ℕ) → shown xs y ≡ false → Grows xs (y ∷ ys) → Grows xs ys
-beside y xs ys none grows = record { kept = λ k h. beside_if y k xs (y == k) (shown ys k) refl none h (grows.kept k h) }
+beside : (y : ℕ) (xs ys : List ℕ) → shown_by xs y ≡ false → Grows xs (y ∷ ys) → Grows xs ys
+beside y xs ys none grows = record { kept = λ k h. beside_if y k xs (y == k) (shown_by ys k) refl none h (grows.kept k h) }
 
 -- the second list is longer, or the same
 pub record IsLonger (xs ys : List ℕ) : Type 0 where

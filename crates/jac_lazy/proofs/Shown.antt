@@ -1,6 +1,6 @@
 -- The page of a run, and what the last run of a page leaves.
 use Rattle.std.proofs.Common.{◌≡◌, ◌∙◌, ap, subst, arith, ℕ, ◌<◌, ◌≤◌, ◌-◌, ◌^◌, Bool, true, List, [], length, Option, None, slice_get}
-use Rattle.jac_world.specs.World.{shown, IsAscending}
+use Rattle.jac_world.specs.World.{shown_by, IsAscending}
 use Rattle.jac_lang.specs.declared.application.App.{App}
 use Rattle.jac_lang.specs.declared.bindings.Binding.{Binding}
 use Rattle.jac_lang.specs.Mirror.{application_of}
@@ -34,7 +34,7 @@ nothing_added start end rises rises_too grows same = (grown_longer start end ris
 
 pub ended_steady : (app : Application) (worlds : Worlds) (viewer : Option ℕ) (answers : Answers) (start mid end tried labels : List ℕ) → IsAscending start → IsAscending end → IsAscending labels →
     Grows start mid → Grows mid end → length end ≡ length start → AreLiveOf app worlds start tried → IsPassed app worlds viewer answers tried labels →
-    ((k j : ℕ) → watches answers k j ≡ true → shown mid k ≡ true) → IsSteady app worlds viewer end labels
+    ((k j : ℕ) → watches answers k j ≡ true → shown_by mid k ≡ true) → IsSteady app worlds viewer end labels
 ended_steady app worlds viewer answers start mid end tried labels rises rises_too ascending first second same are passed named =
     let still : start ≡ end = nothing_added start end rises rises_too (grows_then start mid end first second) same in
     passed_steady app worlds viewer answers end (λ k j watching. second.kept k (named k j watching)) tried labels ascending (subst (λ (l : List ℕ). AreLiveOf app worlds l tried) still are) passed

@@ -1,8 +1,8 @@
 -- How steady labels are filled up to settled ones.
 use Rattle.std.specs.Prelude.{◌≡◌, ℕ, zero, suc, ◌&&◌, ◌||◌, not, Bool, false, if◌then◌else◌, List, [], ◌∷◌, length, Option}
 use Rattle.std.specs.List.{list_all}
-use Rattle.jac_world.specs.World.{shown}
-use Rattle.jac_open.specs.Allowed.{inserted}
+use Rattle.jac_world.specs.World.{shown_by}
+use Rattle.jac_open.specs.Allowed.{with_number}
 use Rattle.jac_lang.specs.Syntax.{Application}
 use Rattle.jac_plain.specs.Policies.{is_allowed, with_label, IsLiveLabel, ShowsForbidden, AreAllowed, IsSettled}
 use Rattle.jac_plain.specs.Requests.{Visit, Worlds, page}
@@ -15,17 +15,18 @@ use Rattle.jac_pruned.specs.Consulted.{Agrees}
 abbrev pub Adds : Application → Worlds → Option ℕ → List ℕ → List ℕ → List ℕ → List ℕ → Type 0
 Adds app worlds viewer consulted [] old new = new ≡ old
 Adds app worlds viewer consulted (k ∷ ks) old new =
-    IsLiveLabel app worlds k × (shown consulted k ≡ false) ×
-    AreAllowed app worlds viewer (inserted k old) ×
-    Adds app worlds viewer consulted ks (inserted k old) new
+    IsLiveLabel app worlds k × (shown_by consulted k ≡ false) ×
+    AreAllowed app worlds viewer (with_number k old) ×
+    Adds app worlds viewer consulted ks (with_number k old) new
 
 -- labels are added to the old ones so, until no further one can be added
 pub record IsFilled (app : Application) (worlds : Worlds) (viewer : Option ℕ)
     (consulted old new : List ℕ) : Type 0 where
   pub added : List ℕ
   pub adds : Adds app worlds viewer consulted added old new
-  pub full : (k : ℕ) → IsLiveLabel app worlds k → shown consulted k ≡ false → shown new k ≡ false →
-      ShowsForbidden app worlds viewer (with_label k (shown new))
+  pub full : (k : ℕ) → IsLiveLabel app worlds k → shown_by consulted k ≡ false → shown_by new k
+      ≡ false →
+      ShowsForbidden app worlds viewer (with_label k (shown_by new))
 
 -- each of the labels is allowed in the state
 abbrev pub all_allowed : Application → PlainState → Option ℕ → List ℕ → Bool
@@ -35,13 +36,13 @@ module _ (app : Application) (worlds : Worlds) (viewer : Option ℕ) (consulted 
   -- a label that wasn't consulted and isn't shown may be added where all are allowed once it is
   -- shown
   abbrev pub may_add : ℕ → List ℕ → Bool
-  may_add k labels = not (shown consulted k || shown labels k) && all_allowed app
-      (worlds (shown (inserted k labels))) viewer (inserted k labels)
+  may_add k labels = not (shown_by consulted k || shown_by labels k) && all_allowed app
+      (worlds (shown_by (with_number k labels))) viewer (with_number k labels)
 
   -- each of these is tried, in their order
   abbrev pub round : List ℕ → List ℕ → List ℕ
   round [] labels = labels
-  round (k ∷ ks) labels = round ks (if may_add k labels then inserted k labels else labels)
+  round (k ∷ ks) labels = round ks (if may_add k labels then with_number k labels else labels)
 
   abbrev pub rounds : ℕ → List ℕ → List ℕ → List ℕ
   rounds zero ks labels = labels
@@ -58,5 +59,5 @@ pub record IsPageOfSettled (app : Application) (worlds before : Worlds) (viewer 
     (consulted labels : List ℕ) (visit : Visit) (it : Page) : Type 0 where
   pub all : List ℕ
   pub settled : IsSettled app worlds viewer all
-  pub agrees : Agrees consulted (shown labels) (shown all)
-  pub page : it ≡ page (shown all) app (before (shown all)) visit
+  pub agrees : Agrees consulted (shown_by labels) (shown_by all)
+  pub page : it ≡ page (shown_by all) app (before (shown_by all)) visit

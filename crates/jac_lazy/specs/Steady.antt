@@ -1,6 +1,6 @@
 -- Assignments that are settled as far as was consulted.
 use Rattle.std.specs.Prelude.{◌≡◌, ℕ, Bool, true, false, List, Option}
-use Rattle.jac_world.specs.World.{shown, IsAscending}
+use Rattle.jac_world.specs.World.{shown_by, IsAscending}
 use Rattle.jac_lang.specs.Syntax.{Application}
 use Rattle.jac_plain.specs.Policies.{is_allowed, with_label, IsLiveLabel}
 use Rattle.jac_plain.specs.Requests.{Visit, Worlds, page}
@@ -27,15 +27,16 @@ pub record AlwaysForbids (app : Application) (worlds : Worlds) (viewer : Option 
 pub record IsSteady (app : Application) (worlds : Worlds) (viewer : Option ℕ)
     (consulted labels : List ℕ) : Type 0 where
   pub ascending : IsAscending labels
-  pub within : (k : ℕ) → shown labels k ≡ true → shown consulted k ≡ true
-  pub live : (k : ℕ) → shown labels k ≡ true → IsLiveLabel app worlds k
-  pub allowed : (k : ℕ) → shown labels k ≡ true
-      → AlwaysAllows app worlds viewer consulted (shown labels) k
-  pub full : (k : ℕ) → IsLiveLabel app worlds k → shown consulted k ≡ true
-      → shown labels k ≡ false
-      → AlwaysForbids app worlds viewer consulted (with_label k (shown labels))
+  pub within : (k : ℕ) → shown_by labels k ≡ true → shown_by consulted k ≡ true
+  pub live : (k : ℕ) → shown_by labels k ≡ true → IsLiveLabel app worlds k
+  pub allowed : (k : ℕ) → shown_by labels k ≡ true
+      → AlwaysAllows app worlds viewer consulted (shown_by labels) k
+  pub full : (k : ℕ) → IsLiveLabel app worlds k → shown_by consulted k ≡ true
+      → shown_by labels k ≡ false
+      → AlwaysForbids app worlds viewer consulted (with_label k (shown_by labels))
 
 -- the page of the request, whatever is shown beside what was consulted
 pub record IsPageOf (app : Application) (before : Worlds) (consulted labels : List ℕ)
     (visit : Visit) (it : Page) : Type 0 where
-  pub each : (w : ℕ → Bool) → Agrees consulted (shown labels) w → it ≡ page w app (before w) visit
+  pub each : (w : ℕ → Bool) → Agrees consulted (shown_by labels) w → it ≡ page w app
+      (before w) visit

@@ -1,5 +1,5 @@
 ghost use Rattle.std.specs.Prelude.{◌≡◌, ℕ, List, Option};
-ghost use Rattle.jac_world.specs.World.{shown, IsAscending};
+ghost use Rattle.jac_world.specs.World.{shown_by, IsAscending};
 ghost use Rattle.jac_lang.specs.Syntax.{Application};
 ghost use Rattle.jac_plain.specs.Policies.{IsSettled};
 ghost use Rattle.jac_plain.specs.Requests.{Visit, Worlds};
@@ -17,7 +17,7 @@ pub fn filled_is_settled()
     ensures { (app : Application) (worlds : Worlds) (viewer : Option ℕ)
         (consulted labels filled : List ℕ) → IsSteady app worlds viewer consulted labels →
         IsFilled app worlds viewer consulted labels filled → IsSettled app worlds viewer filled ×
-        Agrees consulted (shown labels) (shown filled) }
+        Agrees consulted (shown_by labels) (shown_by filled) }
 {}
 
 /// A law: rounds that try the live labels, in rising order or another, fill up any labels so.

@@ -1,14 +1,14 @@
 //! The page of a view that writes nothing, and the labels that it consults.
 ghost use Rattle.std.specs.Prelude.{◌≡◌, ◌<◌, ◌≤◌, ◌^◌, ℕ, Bool, true, None, length, slice_get, IfOk, IsTrue};
-ghost use Rattle.jac_world.specs.World.{shown, IsAscending};
+ghost use Rattle.jac_world.specs.World.{shown_by, IsAscending};
 ghost use Rattle.jac_lang.specs.Mirror.{application_of, statements_of};
 ghost use Rattle.jac_keep.specs.Worked.{state_of, IsTold, ReadsWork};
 ghost use Rattle.jac_plain.specs.Reading.{are_reading};
 ghost use Rattle.jac_plain.specs.Requests.{body_in};
-ghost use Rattle.jac_resolve.specs.Rounds.{worlds_of};
 ghost use Rattle.jac_pruned.specs.Consulted.{Agrees, Grows};
-ghost use Rattle.jac_pruned.specs.Runs.{page_ran, IsMade};
+ghost use Rattle.jac_pruned.specs.Runs.{page_ran, IsPageMade};
 ghost use Rattle.jac_lazy.specs.Steady.{IsPageOf, IsSteady};
+ghost use Rattle.jac_plain.specs.Shown.{worlds_of};
 
 use crate::consulted::assignment_of;
 use jac_keep::{Keeper, Stop, Work};
@@ -54,7 +54,7 @@ pub fn page_lazily<K: Keeper, M: Ledger>(
         IfOk result (λ it. IsPageOf (application_of app.now) (worlds_of (state_of K.seen work.old))
         it.consulted it.shown (record { view = view; env = env.now; viewer = ctx.now.viewer })
         it.page) }
-    ensures made { IfOk result (λ it. IsMade it.page) }
+    ensures made { IfOk result (λ it. IsPageMade it.page) }
     ensures later { evaluations.old ≤ evaluations.new }
     ensures reads { ReadsWork K.seen work.old work.new result }
 {

@@ -10,9 +10,9 @@ use Rattle.std.specs.Int.{w64, w128, byte_at, bytes_high_first, cast_signed, cas
 use Rattle.jac_value.specs.declared.value.Value.{Value}
 use Rattle.jac_value.specs.declared.value.Value.TheVariants as values
 use Rattle.jac_rows.specs.declared.row.Row.{Row}
-use Rattle.jac_stored.specs.Spelling.{sign_byte, guard_bytes, cell_bytes, cells_bytes, IsLabel, IsCell, IsGuard}
+use Rattle.jac_stored.specs.Spelling.{sign_byte, guard_bytes, cell_bytes, cells_bytes, IsLabel, IsCell, IsGuard, IsNarrow}
 use Rattle.jac_lines.proofs.IdOrder.{front_is}
-use Rattle.jac_lines.specs.Spelled.{number_in, sign_in, pairs_in, guard_in, ref_in, text_in, body_in, some_cells_in, cells_in, IsNarrow}
+use Rattle.jac_lines.specs.Spelled.{number_in, sign_in, guard_pairs, guard_in, ref_in, text_in, tagged_body, some_cells_in, cells_in}
 
 read_on : (k n v : ℕ) → n / 256 ^ k ≡ v → fold (λ m b. m * 256 + b) v (bytes_high_first k n) ≡ n
 read_on zero n v read = sym read ∙ div-one n
@@ -48,7 +48,7 @@ sign_again false = refl
 
 -- ---- guards
 
-pair_front : (n m : ℕ) (b : Bool) (rest : List ℕ) → m < 2 ^ 128 → pairs_in (suc n) (bytes_high_first 16 m ++ (sign_byte b ∷ rest)) ≡ (m, b) ∷ pairs_in n rest
+pair_front : (n m : ℕ) (b : Bool) (rest : List ℕ) → m < 2 ^ 128 → guard_pairs (suc n) (bytes_high_first 16 m ++ (sign_byte b ∷ rest)) ≡ (m, b) ∷ guard_pairs n rest
 pair_front n m b rest room =
     let bytes = bytes_high_first 16 m in
     let whole = bytes ++ (sign_byte b ∷ rest) in
@@ -56,9 +56,9 @@ pair_front n m b rest room =
     let behind : drop 16 whole ≡ sign_byte b ∷ rest = bytes_dropped 16 m (sign_byte b ∷ rest) in
     let sign : sign_in (Rattle.std.specs.Prelude.slice_index_or (drop 16 whole) 0 0) ≡ b = ap (λ l. sign_in (Rattle.std.specs.Prelude.slice_index_or l 0 0)) behind ∙ sign_again b in
     let last : drop 17 whole ≡ rest = ap (λ l. drop 1 l) behind in
-    ap₂ ◌∷◌ (λ i. (number i, sign i)) (ap (pairs_in n) last)
+    ap₂ ◌∷◌ (λ i. (number i, sign i)) (ap (guard_pairs n) last)
 
-pairs_again : (n : ℕ) (g : List (ℕ × Bool)) → length g ≤ n → AllByRecursion IsLabel g → pairs_in n (guard_bytes g) ≡ g
+pairs_again : (n : ℕ) (g : List (ℕ × Bool)) → length g ≤ n → AllByRecursion IsLabel g → guard_pairs n (guard_bytes g) ≡ g
 pairs_again zero [] long labels = refl
 pairs_again (suc n) [] long labels = refl
 pairs_again zero (p ∷ g) long labels = absurd (let e : length (p ∷ g) ≡ suc (length g) = refl in omega (arith, long, e))
@@ -82,7 +82,7 @@ guard_again g is = pairs_again (length (guard_bytes g)) g (long_guard g) is.labe
 
 abbrev at_front : List ℕ → Value × List ℕ
 at_front [] = (values.Ref None, [])
-at_front (b ∷ bs) = body_in b bs
+at_front (b ∷ bs) = tagged_body b bs
 
 text_front : (t rest : List ℕ) → text_in (length t) (t ++ rest) ≡ (values.Text t, rest)
 text_front t rest = λ i. (values.Text (take_front t rest i), drop_front t rest i)
@@ -98,7 +98,7 @@ cell_again (values.Text t) rest is narrow =
     let n = length t in
     let grouped : (bytes_high_first 8 n ++ t) ++ rest ≡ bytes_high_first 8 n ++ (t ++ rest) = append_assoc (bytes_high_first 8 n) t rest in
     let number : number_in (take 8 (bytes_high_first 8 n ++ (t ++ rest))) ≡ n = number_front 8 n (t ++ rest) (let room = is.1 in omega (arith, room)) in
-    ap (body_in 2) grouped ∙ ap₂ text_in number (bytes_dropped 8 n (t ++ rest)) ∙ text_front t rest
+    ap (tagged_body 2) grouped ∙ ap₂ text_in number (bytes_dropped 8 n (t ++ rest)) ∙ text_front t rest
 cell_again (values.Bool b) rest is narrow = λ j. (values.Bool (sign_again b j), rest)
 cell_again (values.Ref None) rest is narrow = refl
 cell_again (values.Ref (Some id)) rest is narrow =

@@ -8,7 +8,7 @@ use Rattle.jac_rows.specs.Tables.{rows_of}
 use Rattle.jac_keep.specs.Records.{with_id, alternatives, AreOrdered}
 use Rattle.jac_keep.proofs.OrderLaws.{ordered-with_id}
 use Rattle.jac_keep.proofs.SoundLaws.{all-with_id}
-use Rattle.jac_lines.specs.Facts.{Fact, fact_of, id_bytes, counted, none_yet, numbered, facts, facts_from, IsPlaced, ArePlacedFrom, AreKept, is_fact_in, is_fact_of}
+use Rattle.jac_lines.specs.Facts.{Fact, fact_of, id_bytes, count_with, none_yet, numbered_facts, facts, facts_from, IsPlaced, ArePlacedFrom, AreKept, is_fact_in, is_fact_of}
 use Rattle.jac_lines.proofs.IdOrder.{cases_same, same_id, other_id}
 use Rattle.jac_lines.proofs.FactLaws.{facts_in}
 
@@ -32,7 +32,7 @@ two_tests model id (f ∷ fs) = go (is_fact_in model f) (two_tests model id fs)
     go false more = more
 
 -- the alternatives of a record are numbered as in its table
-of_record : (model id : ℕ) (c d : ℕ → ℕ) (rows : List Row) → id < 2 ^ 128 → c id ≡ d id → AllByRecursion (IsPlaced model) rows → filter (has_jid id) (numbered model c rows) ≡ numbered model d (alternatives id rows)
+of_record : (model id : ℕ) (c d : ℕ → ℕ) (rows : List Row) → id < 2 ^ 128 → c id ≡ d id → AllByRecursion (IsPlaced model) rows → filter (has_jid id) (numbered_facts model c rows) ≡ numbered_facts model d (alternatives id rows)
 of_record model id c d [] space same placed = refl
 of_record model id c d (r ∷ rs) space same placed = elim (cases_same r.id id) [
   | inl is ↦ (
@@ -40,16 +40,16 @@ of_record model id c d (r ∷ rs) space same placed = elim (cases_same r.id id) 
       let t : is_eq (slice_cmp nat_cmp (id_bytes r.id) (id_bytes id)) ≡ true = ap is_eq (ap (λ i. slice_cmp nat_cmp (id_bytes i) (id_bytes id)) is ∙ same_id id) in
       let at : c r.id ≡ d r.id = subst (λ i. c i ≡ d i) (sym is) same in
       rw (t, e) (ap₂ ◌∷◌ (ap (λ n. fact_of model n r) at)
-      (of_record model id (counted r.id c) (counted r.id d) rs space (ap (λ n. if id == r.id then n + 1 else n) same) placed.1)))
+      (of_record model id (count_with r.id c) (count_with r.id d) rs space (ap (λ n. if id == r.id then n + 1 else n) same) placed.1)))
   | inr away ↦ (
       let e : (r.id == id) ≡ false = grind (arith, away) in
       let back : (id == r.id) ≡ false = grind (arith, away) in
       let t : is_eq (slice_cmp nat_cmp (id_bytes r.id) (id_bytes id)) ≡ false = other_id r.id id away placed.0.room space in
-      let still : counted r.id c id ≡ d id = rw back same in
-      rw (t, e) (of_record model id (counted r.id c) d rs space still placed.1))
+      let still : count_with r.id c id ≡ d id = rw back same in
+      rw (t, e) (of_record model id (count_with r.id c) d rs space still placed.1))
 ]
 
-pub facts_of : (model id : ℕ) (tables : List (List Row)) → id < 2 ^ 128 → AreKept tables → filter (is_fact_of model (id_bytes id)) (facts tables) ≡ numbered model none_yet (alternatives id (rows_of tables model))
+pub facts_of : (model id : ℕ) (tables : List (List Row)) → id < 2 ^ 128 → AreKept tables → filter (is_fact_of model (id_bytes id)) (facts tables) ≡ numbered_facts model none_yet (alternatives id (rows_of tables model))
 facts_of model id tables space kept =
     let zero_more : model ≡ 0 + model = omega arith in
     two_tests model id (facts tables) ∙ ap (filter (has_jid id)) (facts_in 0 model model tables zero_more)

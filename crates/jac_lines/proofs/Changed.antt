@@ -12,14 +12,14 @@ use Rattle.jac_value.specs.Ids.{model_of_id}
 use Rattle.jac_rows.specs.declared.row.Row.{Row}
 use Rattle.jac_rows.specs.declared.state.State.{State}
 use Rattle.jac_keep.specs.declared.alteration.Alteration.{Alteration}
-use Rattle.jac_keep.specs.Alterations.{AreOwn, ArePlaced, altered, overlaid, overlaid_from}
-use Rattle.jac_keep.specs.Records.{with_id, before, behind, placed, AreOf, AreOrdered}
+use Rattle.jac_keep.specs.Alterations.{AreOwn, ArePlaced, altered_rows, overlaid, overlaid_from}
+use Rattle.jac_keep.specs.Records.{with_id, before, behind, placed_rows, AreOf, AreOrdered}
 use Rattle.jac_keep.specs.Kept.{state_with}
 use Rattle.jac_keep.proofs.SoundLaws.{all-with_id, all-append}
 use Rattle.jac_keep.proofs.OrderLaws.{ordered-placed}
 use Rattle.jac_lines.specs.Facts.{id_bytes, IsPlaced, ArePlacedFrom, AreKept}
 use Rattle.jac_lines.specs.Stands.{Stands}
-use Rattle.jac_lines.specs.Statements.{Statement, removal, addition, additions, replacement, replacements}
+use Rattle.jac_lines.specs.Statements.{SqlStatement, removal, addition, additions, replacement, replacements}
 use Rattle.jac_lines.specs.Transaction.{Ran}
 use Rattle.jac_lines.specs.Stands.{AreNarrow}
 use Rattle.jac_lines.proofs.IdOrder.{cases_same}
@@ -31,7 +31,7 @@ all_of_id : (id : ℕ) (rows : List Row) → id < 2 ^ 128 → AreOf id rows → 
 all_of_id id [] room own = tt
 all_of_id id (r ∷ rs) room own = (record { of_model = ap model_of_id own.0; room = subst (λ i. i < 2 ^ 128) (sym own.0) room }, all_of_id id rs room own.1)
 
-placed_all : (model id : ℕ) (new rows : List Row) → AllByRecursion (IsPlaced model) new → AllByRecursion (IsPlaced model) rows → AllByRecursion (IsPlaced model) (placed id new rows)
+placed_all : (model id : ℕ) (new rows : List Row) → AllByRecursion (IsPlaced model) new → AllByRecursion (IsPlaced model) rows → AllByRecursion (IsPlaced model) (placed_rows id new rows)
 placed_all model id new rows own all =
     all-append (IsPlaced model) (before id rows ++ new) (behind id rows)
     (all-append (IsPlaced model) (before id rows) new (all-with_id (IsPlaced model) _ rows all) own) (all-with_id (IsPlaced model) _ rows all)
@@ -54,7 +54,7 @@ long_with first rest (t ∷ ts) = ap suc (long_with (first + 1) rest ts)
 
 one_then : (first : ℕ) (a : Alteration) (rest : List Alteration) (tables : List (List Row)) → overlaid_from first (a ∷ rest) tables ≡ overlaid_from first rest (overlaid_from first (a ∷ []) tables)
 one_then first a rest [] = refl
-one_then first a rest (t ∷ ts) = ap (λ l. altered first (a ∷ rest) t ∷ l) (one_then (first + 1) a rest ts)
+one_then first a rest (t ∷ ts) = ap (λ l. altered_rows first (a ∷ rest) t ∷ l) (one_then (first + 1) a rest ts)
 
 none_then : (first : ℕ) (tables : List (List Row)) → overlaid_from first [] tables ≡ tables
 none_then first [] = refl
@@ -66,7 +66,7 @@ module _ {S : Type 0} (g : Ghosts S) (schema : List ℕ) where
   abbrev StandsIn : Held S → State → Type 0
   StandsIn h s = Stands schema (state g h).now s
 
-  pub ran_split : (xs ys : List Statement) (a c : Held S) → Ran g (xs ++ ys) a c → (b : Held S) × Ran g xs a b × Ran g ys b c
+  pub ran_split : (xs ys : List SqlStatement) (a c : Held S) → Ran g (xs ++ ys) a c → (b : Held S) × Ran g xs a b × Ran g ys b c
   ran_split [] ys a c ran = (a, refl, ran)
   ran_split (x ∷ xs) ys a c ran = let more = ran_split xs ys ran.0 c ran.3 in (more.0, (ran.0, ran.1, ran.2, more.1), more.2)
 

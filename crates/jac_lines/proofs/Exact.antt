@@ -14,25 +14,25 @@ use Rattle.jac_rows.specs.declared.row.Row.{Row}
 use Rattle.jac_rows.specs.declared.state.State.{State}
 use Rattle.jac_rows.specs.Tables.{rows_of}
 use Rattle.jac_stored.specs.Faults.{IsIdOf, IsRowOf}
-use Rattle.jac_stored.specs.Spelling.{guard_bytes, cells_bytes}
+use Rattle.jac_stored.specs.Spelling.{guard_bytes, cells_bytes, IsNarrow}
 use Rattle.jac_stored.proofs.Numbers.{one_spelled}
 use Rattle.jac_stored.proofs.Guards.{guard_once}
 use Rattle.jac_keep.specs.declared.alteration.Change.{Change}
 use Rattle.jac_keep.specs.Alterations.{AreOwn, ArePlaced}
 use Rattle.jac_keep.specs.Records.{alternatives}
-use Rattle.jac_keep.specs.Kept.{applied}
+use Rattle.jac_keep.specs.Kept.{changed_state}
 use Rattle.jac_keep.proofs.SoundLaws.{all-with_id}
-use Rattle.jac_lines.specs.Founding.{IsAsked, HasNumber}
+use Rattle.jac_lines.specs.Founding.{IsNumberAsked, HasNumber}
 use Rattle.jac_lines.specs.Reading.{IsRowIn, IsModelRow, IsRecordRow, Each, AreShown}
-use Rattle.jac_lines.specs.Statements.{reading, model_reading, record_reading, statements_of}
+use Rattle.jac_lines.specs.Statements.{reading, model_reading, record_reading, sql_statements}
 use Rattle.jac_lines.specs.Transaction.{Ran, Leaves}
-use Rattle.jac_lines.specs.Facts.{Fact, fact_of, id_bytes, counted, none_yet, numbered, IsPlaced, AreKept}
+use Rattle.jac_lines.specs.Facts.{Fact, fact_of, id_bytes, count_with, none_yet, numbered_facts, IsPlaced, AreKept}
 use Rattle.jac_lines.proofs.Asked.{asks}
 use Rattle.jac_lines.specs.Stands.{Stands}
 use Rattle.jac_lines.specs.Reading.{model_shows, record_shows}
 use Rattle.jac_lines.proofs.Alternatives.{table_placed}
 use Rattle.jac_lines.proofs.Found.{own_ids, model_shown, record_shown}
-use Rattle.jac_lines.specs.Spelled.{cells_in, IsNarrow, IsSpelled}
+use Rattle.jac_lines.specs.Spelled.{cells_in, IsSpelled}
 use Rattle.jac_lines.specs.Told.{AreSpelled}
 use Rattle.jac_lines.proofs.Again.{cells_again}
 use Rattle.jac_lines.specs.Stands.{AreNarrow}
@@ -44,7 +44,7 @@ use Rattle.jac_lines.proofs.Sound.{id_room, rows_spelled, narrow_cells}
 number_of : (n : ℕ) (row : Values) (m : ℕ) (rest : Values) → row ≡ Int (pos m) ∷ rest → column row 0 ≡ Int (pos n) → n ≡ m
 number_of n row m rest is stored = let e : ◌≡◌ {A = Value} (Int (pos m)) (Int (pos n)) = sym (ap (λ r. column r 0) is) ∙ stored in cc
 
-pub number_exact : {S : Type 0} (g : Ghosts S) (schema : List ℕ) (old new : Held S) (s : State) (n : ℕ) → Stands schema (state g old).now s → IsAsked g old new n → n ≡ s.number
+pub number_exact : {S : Type 0} (g : Ghosts S) (schema : List ℕ) (old new : Held S) (s : State) (n : ℕ) → Stands schema (state g old).now s → IsNumberAsked g old new n → n ≡ s.number
 unfolding reading
 number_exact g schema old new s n st asked = number_of n asked.row s.number _ (asks (state g old) (state g new) s.number schema asked.row st.schema_is st.meta asked.asked) asked.has.stored
 
@@ -70,20 +70,20 @@ one_model_row model alt kinds r x spelled is =
     let same : r.id ≡ x.id = (one_spelled 16 r.id x.id [] [] (omega (arith, room)) (omega (arith, below)) (ap (λ l. l ++ []) bytes)).0 in
     one_row x.id kinds is.rest.jvars is.rest.body r x same spelled (same_blob _ _ is.rest.guard_stored) (same_blob _ _ is.rest.cells_stored) is.rest.spelled
 
-model_rows : (model : ℕ) (kinds : List Kind) (c : ℕ → ℕ) (rs rows : List Row) → AllByRecursion IsSpelled rs → Each (IsModelRow model kinds) (map model_shows (numbered model c rs)) rows → rows ≡ rs
+model_rows : (model : ℕ) (kinds : List Kind) (c : ℕ → ℕ) (rs rows : List Row) → AllByRecursion IsSpelled rs → Each (IsModelRow model kinds) (map model_shows (numbered_facts model c rs)) rows → rows ≡ rs
 model_rows model kinds c [] [] are each = refl
 model_rows model kinds c [] (x ∷ rows) are each = absurd each
 model_rows model kinds c (r ∷ rs) [] are each = absurd each
-model_rows model kinds c (r ∷ rs) (x ∷ rows) are each = ap₂ ◌∷◌ (one_model_row model (c r.id) kinds r x are.0 each.0) (model_rows model kinds (counted r.id c) rs rows are.1 each.1)
+model_rows model kinds c (r ∷ rs) (x ∷ rows) are each = ap₂ ◌∷◌ (one_model_row model (c r.id) kinds r x are.0 each.0) (model_rows model kinds (count_with r.id c) rs rows are.1 each.1)
 
 record_rows : (model id : ℕ) (kinds : List Kind) (c : ℕ → ℕ) (rs rows : List Row) → AllByRecursion (λ (r : Row). r.id ≡ id) rs → AllByRecursion IsSpelled rs
-    → Each (IsRecordRow id kinds) (map record_shows (numbered model c rs)) rows → rows ≡ rs
+    → Each (IsRecordRow id kinds) (map record_shows (numbered_facts model c rs)) rows → rows ≡ rs
 record_rows model id kinds c [] [] own are each = refl
 record_rows model id kinds c [] (x ∷ rows) own are each = absurd each
 record_rows model id kinds c (r ∷ rs) [] own are each = absurd each
 record_rows model id kinds c (r ∷ rs) (x ∷ rows) own are each =
     ap₂ ◌∷◌ (one_row id kinds each.0.jvars each.0.body r x own.0 are.0 (same_blob _ _ each.0.guard_stored) (same_blob _ _ each.0.cells_stored) each.0.spelled)
-    (record_rows model id kinds (counted r.id c) rs rows own.1 are.1 each.1)
+    (record_rows model id kinds (count_with r.id c) rs rows own.1 are.1 each.1)
 
 module _ {S : Type 0} (g : Ghosts S) (schema : List ℕ) (old new : Held S) (s : State) (st : Stands schema (state g old).now s) (kept : AreKept s.tables) where
   module _ (spelled : AreSpelled s.tables) where
@@ -103,6 +103,6 @@ module _ {S : Type 0} (g : Ghosts S) (schema : List ℕ) (old new : Held S) (s :
         (subst (λ f. Each (IsRecordRow id kinds) f rows) found are.each)
 
   -- one transaction of a change
-  pub change_exact : (c : Change) (db : Database) → AreNarrow c.changed → AreOwn c.changed → ArePlaced c.changed (length s.tables) → Leaves g (statements_of c) old db → Stands schema db (applied c s)
+  pub change_exact : (c : Change) (db : Database) → AreNarrow c.changed → AreOwn c.changed → ArePlaced c.changed (length s.tables) → Leaves g (sql_statements c) old db → Stands schema db (changed_state c s)
   change_exact c db narrow own within left =
-      subst (λ d. Stands schema d (applied c s)) (sym left.left) (changed g schema c (record old { in_transaction = true }) left.last s narrow own within kept left.ran st)
+      subst (λ d. Stands schema d (changed_state c s)) (sym left.left) (changed g schema c (record old { in_transaction = true }) left.last s narrow own within kept left.ran st)

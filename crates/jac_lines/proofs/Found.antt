@@ -26,7 +26,7 @@ use Rattle.jac_rows.specs.declared.row.Row.{Row}
 use Rattle.jac_rows.specs.declared.state.State.{State}
 use Rattle.jac_rows.specs.Tables.{rows_of}
 use Rattle.jac_keep.specs.Records.{alternatives, AreOrdered}
-use Rattle.jac_lines.specs.Facts.{Fact, fact_of, fact_cmp, facts, id_bytes, counted, none_yet, numbered, IsPlaced, AreKept, is_fact_in, is_fact_of}
+use Rattle.jac_lines.specs.Facts.{Fact, fact_of, fact_cmp, facts, id_bytes, count_with, none_yet, numbered_facts, IsPlaced, AreKept, is_fact_in, is_fact_of}
 use Rattle.jac_lines.proofs.FactLaws.{of_one, facts_in, numbered_rise}
 use Rattle.jac_lines.specs.Tables.{two_tables}
 use Rattle.jac_lines.proofs.Texts.{is, over}
@@ -55,9 +55,9 @@ record_out f = (Int (pos f.alt) ∷ [], record_shows f)
 
 -- ---- facts that rise are shown as they rise
 
-of_id : (model id : ℕ) (c : ℕ → ℕ) (rows : List Row) → AllByRecursion (λ (r : Row). r.id ≡ id) rows → AllByRecursion (λ (f : Fact). (f.model ≡ model) × (f.jid ≡ id_bytes id)) (numbered model c rows)
+of_id : (model id : ℕ) (c : ℕ → ℕ) (rows : List Row) → AllByRecursion (λ (r : Row). r.id ≡ id) rows → AllByRecursion (λ (f : Fact). (f.model ≡ model) × (f.jid ≡ id_bytes id)) (numbered_facts model c rows)
 of_id model id c [] own = tt
-of_id model id c (r ∷ rs) own = ((refl, ap id_bytes own.0), of_id model id (counted r.id c) rs own.1)
+of_id model id c (r ∷ rs) own = ((refl, ap id_bytes own.0), of_id model id (count_with r.id c) rs own.1)
 
 same_cmp : (m n : ℕ) → int_cmp (pos m) (pos n) ≡ nat_cmp m n
 same_cmp m n = grind (arith, nat_tests)
@@ -101,7 +101,7 @@ answered q params rows lines all some test out ordered kept is same passing up m
     (IsPermutation-trans _ _ _ (IsPermutation-sym _ _ passed) (subst (λ k. IsPermutation k ordered) whole moved)) sorted
 
 pub model_shown : (schema : List ℕ) (old new : Sql) (model : ℕ) (s : State) (found : List Values) → AreKept s.tables → Stands schema old.now s
-    → Shown model_text (model_asked model) old new found → found ≡ map model_shows (numbered model none_yet (rows_of s.tables model))
+    → Shown model_text (model_asked model) old new found → found ≡ map model_shows (numbered_facts model none_yet (rows_of s.tables model))
 model_shown schema old new model s found placed st h =
     let db = overlay old.now.trees [] in
     let a : IsAnswer of_model db (model_asked model) found = (reads_as model_text (model_asked model) old new (two_tables 0 1 2) st.schema_is _ model_is model_plain.0 model_plain.1 found h).answer Null in
@@ -109,7 +109,7 @@ model_shown schema old new model s found placed st h =
     let all = matched (model_asked model) of_model.filter (λ l. is_fact_in model (fact l)) (model_tests model) db 1 lines st.rec.stored in
     let kept_is = a.distinct ∙ ap (map (output of_model)) (a.grouped ∙ all) ∙ map-map (output of_model) _ _ in
     let here : model ≡ 0 + model = omega arith in
-    let some = numbered model none_yet (rows_of s.tables model) in
+    let some = numbered_facts model none_yet (rows_of s.tables model) in
     let both = table_placed 0 model model s.tables here placed in
     let up = outputs_rise (λ f. f.model ≡ model) of_model model_out (model_order model) some (of_one model none_yet (rows_of s.tables model)) (numbered_rise model none_yet (rows_of s.tables model) both.0 both.1) in
     let ordered = answered of_model (model_asked model) found lines (facts s.tables) some (is_fact_in model) model_out a.ordered a.kept kept_is st.rec.same (facts_in 0 model model s.tables here) up a.same a.sorted in
@@ -124,7 +124,7 @@ own_ids id (r ∷ rs) = go (Rattle.std.proofs.Common.◌==◌ r.id id) refl (own
     go false e more = more
 
 pub record_shown : (schema : List ℕ) (old new : Sql) (id : ℕ) (s : State) (found : List Values) → id < 2 ^ 128 → AreKept s.tables → Stands schema old.now s
-    → Shown record_text (record_asked (model_of_id id) (id_bytes id)) old new found → found ≡ map record_shows (numbered (model_of_id id) none_yet (alternatives id (rows_of s.tables (model_of_id id))))
+    → Shown record_text (record_asked (model_of_id id) (id_bytes id)) old new found → found ≡ map record_shows (numbered_facts (model_of_id id) none_yet (alternatives id (rows_of s.tables (model_of_id id))))
 record_shown schema old new id s found room placed st h =
     let model = model_of_id id in
     let jid = id_bytes id in
@@ -136,7 +136,7 @@ record_shown schema old new id s found room placed st h =
     let kept_is = a.distinct ∙ ap (map (output of_record)) (a.grouped ∙ all) ∙ map-map (output of_record) _ _ in
     let here : model ≡ 0 + model = omega arith in
     let rows = alternatives id (rows_of s.tables model) in
-    let some = numbered model none_yet rows in
+    let some = numbered_facts model none_yet rows in
     let both = alternatives_placed model id (rows_of s.tables model) (table_placed 0 model model s.tables here placed) in
     let up = outputs_rise (λ f. (f.model ≡ model) × (f.jid ≡ jid)) of_record record_out (λ f g p q less. record_order model jid f g p.0 q.0 p.1 q.1 less) some
     (of_id model id none_yet rows (own_ids id (rows_of s.tables model))) (numbered_rise model none_yet rows both.0 both.1) in

@@ -35,7 +35,7 @@ use Rattle.jac_keep.specs.Schema.{empties}
 use Rattle.jac_lines.specs.Statements.{founding}
 use Rattle.jac_lines.specs.Transaction.{Ran}
 use Rattle.jac_lines.specs.Facts.{facts_from, facts}
-use Rattle.jac_lines.specs.Tables.{nothing, two_tables, meta, rec, meta_row}
+use Rattle.jac_lines.specs.Tables.{no_tables, two_tables, meta, rec, meta_row}
 use Rattle.jac_lines.proofs.Texts.{start_is}
 use Rattle.jac_lines.proofs.Went.{went, same_value, cast_int, cast_null}
 use Rattle.jac_lines.specs.Stands.{Holds, Stands}
@@ -60,7 +60,7 @@ record Makes (from : Schema) (sql : List ℕ) (table : Table) : Type 0 where
   defined : table_defined_by sql ≡ Ok table
   counts : lacks_sequence (created from table) ≡ false
 
-makes_meta : Makes nothing meta_text (meta 0)
+makes_meta : Makes no_tables meta_text (meta 0)
 unfolding understood everything
 makes_meta = record { command = refl; plain = (refl, refl); whole = refl; defined = refl; counts = refl }
 
@@ -68,7 +68,7 @@ makes_rec : Makes with_meta rec_text (rec 0)
 unfolding understood everything
 makes_rec = record { command = refl; plain = (refl, refl); whole = refl; defined = refl; counts = refl }
 
-meta_made : created nothing (meta 0) ≡ with_meta
+meta_made : created no_tables (meta 0) ≡ with_meta
 unfolding everything
 meta_made = refl
 
@@ -152,7 +152,7 @@ pub no_facts : (first n : ℕ) → facts_from first (empties n) ≡ []
 no_facts first zero = refl
 no_facts first (suc n) = no_facts (first + 1) n
 
-pub founded : {S : Type 0} (g : Ghosts S) (schema : List ℕ) (models : ℕ) (a b : Held S) → (state g a).now.schema ≡ nothing → Ran g (founding schema) a b
+pub founded : {S : Type 0} (g : Ghosts S) (schema : List ℕ) (models : ℕ) (a b : Held S) → (state g a).now.schema ≡ no_tables → Ran g (founding schema) a b
     → Stands schema (state g b).now (record { tables = empties models; number = 1 })
 unfolding founding
 founded g schema models a b none ran =
@@ -161,7 +161,7 @@ founded g schema models a b none ran =
     let h2 = ran2.0 in
     let ran3 = ran2.3 in
     let h3 = ran3.0 in
-    let one = made (state g a) (state g h1) nothing meta_text (meta 0) ran.1 makes_meta none ran.2.0 in
+    let one = made (state g a) (state g h1) no_tables meta_text (meta 0) ran.1 makes_meta none ran.2.0 in
     let two = made (state g h1) (state g h2) with_meta rec_text (rec 0) ran2.1 makes_rec (one.schema_is ∙ meta_made) ran2.2.0 in
     let empty : (state g h2).now.trees 0 ≡ [] = two.others.0 ∙ one.empty in
     let three = starts (state g h2) (state g h3) schema ran3.1 (two.schema_is ∙ rec_made) empty ran3.2.0 in

@@ -17,9 +17,9 @@ use Rattle.jac_keep.specs.Schema.{empties}
 use Rattle.jac_keep.proofs.PlacingLaws.{with_id-append, itself}
 use Rattle.jac_keep.proofs.SchemaLaws.{empties_fit, length_empties}
 use Rattle.jac_keep.proofs.SoundLaws.{all-append, all-mapped}
-use Rattle.jac_lines.specs.Facts.{Fact, fact_of, counted, none_yet, numbered, facts_from, facts}
+use Rattle.jac_lines.specs.Facts.{Fact, fact_of, count_with, none_yet, numbered_facts, facts_from, facts}
 use Rattle.jac_lines.specs.Spelled.{IsSpelled}
-use Rattle.jac_lines.specs.Told.{natural_in, bytes_in, AreSpelled}
+use Rattle.jac_lines.specs.Told.{natural_in, bytes_in_value, AreSpelled}
 use Rattle.jac_lines.specs.Testing.{fact_shown, IsLineShown, MovesOn, IsNextLine, ReadsOn, AreLinesOf}
 use Rattle.jac_lines.proofs.Kept.{empty_spelled}
 
@@ -64,15 +64,15 @@ spelled_pushed (suc k) r (t ∷ ts) is are = (are.0, spelled_pushed k r ts is ar
 
 abbrev counts : List Row → (ℕ → ℕ) → ℕ → ℕ
 counts [] c = c
-counts (r ∷ rs) c = counts rs (counted r.id c)
+counts (r ∷ rs) c = counts rs (count_with r.id c)
 
-numbered-append : (model : ℕ) (c : ℕ → ℕ) (xs ys : List Row) → numbered model c (xs ++ ys) ≡ numbered model c xs ++ numbered model (counts xs c) ys
+numbered-append : (model : ℕ) (c : ℕ → ℕ) (xs ys : List Row) → numbered_facts model c (xs ++ ys) ≡ numbered_facts model c xs ++ numbered_facts model (counts xs c) ys
 numbered-append model c [] ys = refl
-numbered-append model c (x ∷ xs) ys = ap (λ l. fact_of model (c x.id) x ∷ l) (numbered-append model (counted x.id c) xs ys)
+numbered-append model c (x ∷ xs) ys = ap (λ l. fact_of model (c x.id) x ∷ l) (numbered-append model (count_with x.id c) xs ys)
 
 no_facts : (first : ℕ) (ts : List (List Row)) → AreEmpty ts → facts_from first ts ≡ []
 no_facts first [] empty = refl
-no_facts first (t ∷ ts) empty = ap₂ (λ l fs. numbered first none_yet l ++ fs) empty.0 (no_facts (first + 1) ts empty.1)
+no_facts first (t ∷ ts) empty = ap₂ (λ l fs. numbered_facts first none_yet l ++ fs) empty.0 (no_facts (first + 1) ts empty.1)
 
 -- the number of the next alternative of a record is how many stand in its table
 pushed_facts : (first k model : ℕ) (r : Row) (ts : List (List Row)) → model ≡ first + k → k < length ts → AreEmptyBehind k ts
@@ -81,31 +81,31 @@ pushed_facts first k model r [] is within empty = absurd (let long : length {A =
 pushed_facts first zero model r (t ∷ ts) is within empty =
     let same : first ≡ model = omega (arith, is) in
     let none = no_facts (first + 1) ts empty in
-    let nt = numbered first none_yet t in
+    let nt = numbered_facts first none_yet t in
     ap₂ ◌++◌ (numbered-append first none_yet t (r ∷ [])) none ∙ append-nil _
     ∙ ap (λ m. nt ++ fact_of m (counts t none_yet r.id) r ∷ []) same
     ∙ ap (λ l. l ++ fact_of model (counts t none_yet r.id) r ∷ []) (sym (append-nil nt) ∙ ap (λ fs. nt ++ fs) (sym none))
 pushed_facts first (suc k) model r (t ∷ ts) is within empty =
     let long : length (t ∷ ts) ≡ suc (length ts) = refl in
-    let nt = numbered first none_yet t in
+    let nt = numbered_facts first none_yet t in
     ap (λ fs. nt ++ fs) (pushed_facts (first + 1) k model r ts (omega (arith, is)) (omega (arith, within, long)) empty)
     ∙ sym (append_assoc nt (facts_from (first + 1) ts) (fact_of model (counts (rows_of ts k) none_yet r.id) r ∷ []))
 
 counts_are : (rows : List Row) (c : ℕ → ℕ) (id : ℕ) → counts rows c id ≡ c id + length (alternatives id rows)
 counts_are [] c id = let none : length {A = Row} [] ≡ 0 = refl in omega (arith, none)
-counts_are (r ∷ rs) c id = go (r.id == id) refl (counts_are rs (counted r.id c) id)
+counts_are (r ∷ rs) c id = go (r.id == id) refl (counts_are rs (count_with r.id c) id)
   where
-    go : (b : Bool) → (r.id == id) ≡ b → counts rs (counted r.id c) id ≡ counted r.id c id + length (alternatives id rs)
-        → counts rs (counted r.id c) id ≡ c id + length (cond b (r ∷ alternatives id rs) (alternatives id rs))
+    go : (b : Bool) → (r.id == id) ≡ b → counts rs (count_with r.id c) id ≡ count_with r.id c id + length (alternatives id rs)
+        → counts rs (count_with r.id c) id ≡ c id + length (cond b (r ∷ alternatives id rs) (alternatives id rs))
     go true e more =
-        let one : counted r.id c id ≡ c id + 1 = ap (λ t. cond t (c id + 1) (c id)) (turned id r.id ∙ e) in
+        let one : count_with r.id c id ≡ c id + 1 = ap (λ t. cond t (c id + 1) (c id)) (turned id r.id ∙ e) in
         let long : length (r ∷ alternatives id rs) ≡ suc (length (alternatives id rs)) = refl in
         omega (arith, more, one, long)
       where
         turned : (x y : ℕ) → (x == y) ≡ (y == x)
         turned x y = grind (arith, nat_tests)
     go false e more =
-        let none : counted r.id c id ≡ c id = ap (λ t. cond t (c id + 1) (c id)) (turned id r.id ∙ e) in
+        let none : count_with r.id c id ≡ c id = ap (λ t. cond t (c id + 1) (c id)) (turned id r.id ∙ e) in
         omega (arith, more, none)
       where
         turned : (x y : ℕ) → (x == y) ≡ (y == x)
@@ -255,7 +255,7 @@ module _ (shapes : List ModelShape) (number : ℕ) (found : List Values) (at : �
   known_model P (Some s) model is has = slice_get_within shapes model s is
 
   shown_fact : (v : Values) (f : Fact) → IsLineShown v f → fact_shown v ≡ f
-  shown_fact v f is = λ i. record { model = natural_in (is.model i); jid = bytes_in (is.jid i); alt = natural_in (is.alt i); jvars = bytes_in (is.jvars i); body = bytes_in (is.body i) }
+  shown_fact v f is = λ i. record { model = natural_in (is.model i); jid = bytes_in_value (is.jid i); alt = natural_in (is.alt i); jvars = bytes_in_value (is.jvars i); body = bytes_in_value (is.body i) }
 
   gathered_line : (model id : ℕ) (before guards : List (List (ℕ × Bool))) (v : Values) → at < length found → v ≡ get_or found at v → IsNextLine shapes number model id before guards v
       → Gathered shapes number found at model id before → Gathered shapes number found (at + 1) model id guards

@@ -15,21 +15,21 @@ use Rattle.jac_rows.specs.declared.state.State.{State}
 use Rattle.jac_stored.specs.Faults.{CanBeSpelled}
 use Rattle.jac_keep.specs.declared.alteration.Alteration.{Alteration}
 use Rattle.jac_keep.specs.declared.alteration.Change.{Change}
-use Rattle.jac_keep.specs.Alterations.{AreOwn, ArePlaced, altered, overlaid_from}
-use Rattle.jac_keep.specs.Kept.{applied}
-use Rattle.jac_keep.specs.Records.{AreOf, before, behind, placed}
-use Rattle.jac_keep.specs.Reshaping.{widened}
+use Rattle.jac_keep.specs.Alterations.{AreOwn, ArePlaced, altered_rows, overlaid_from}
+use Rattle.jac_keep.specs.Kept.{changed_state}
+use Rattle.jac_keep.specs.Records.{AreOf, before, behind, placed_rows}
+use Rattle.jac_keep.specs.Reshaping.{widened_state}
 use Rattle.jac_keep.specs.Schema.{IsFit, empties}
 use Rattle.jac_keep.proofs.SchemaLaws.{length_empties}
 use Rattle.jac_keep.proofs.SoundLaws.{all-with_id, all-append, sound_if_good}
-use Rattle.jac_lines.specs.Facts.{Fact, none_yet, numbered, facts_from}
+use Rattle.jac_lines.specs.Facts.{Fact, none_yet, numbered_facts, facts_from}
 use Rattle.jac_lines.specs.Spelled.{IsSpelled}
 use Rattle.jac_lines.specs.Stands.{Holds, Stands, AreNarrow}
-use Rattle.jac_lines.specs.Statements.{statements_of, statements_with, founding}
-use Rattle.jac_lines.specs.Tables.{nothing}
+use Rattle.jac_lines.specs.Statements.{sql_statements, statements_with, founding}
+use Rattle.jac_lines.specs.Tables.{no_tables}
 use Rattle.jac_lines.specs.Told.{told, tables_in, chars_in, schema_in, AreSpelled}
-use Rattle.jac_lines.specs.Telling.{empty_state, IsTold, IsKept, CanAllBeSpelled, CanBeStored, AppliesTold, ReshapesTold}
-use Rattle.jac_lines.specs.Transaction.{Leaves, Transacts, Ends}
+use Rattle.jac_lines.specs.Telling.{empty_state, IsDatabaseTold, IsAllCommitted, CanAllBeSpelled, CanBeStored, AppliesTold, ReshapesTold}
+use Rattle.jac_lines.specs.Transaction.{Leaves, Transacts, EndsCommitted}
 use Rattle.jac_lines.proofs.Changed.{long_with}
 use Rattle.jac_lines.proofs.Exact.{change_exact}
 use Rattle.jac_lines.proofs.Founded.{founded, no_facts}
@@ -47,7 +47,7 @@ pub schema_stands : (schema : List ℕ) (db : Database) (s : State) → Stands s
 schema_stands schema db s st = ap (λ rows. chars_in (column (slice_index_or rows 0 []) 3)) st.meta
 
 -- a database that stands for a sound and spelled state of so many models tells it
-pub told_if_stands : (models : ℕ) (schema : List ℕ) (db : Database) (s : State) → length s.tables ≡ models → Stands schema db s → IsSound s → AreSpelled s.tables → (told models db ≡ s) × IsTold models db
+pub told_if_stands : (models : ℕ) (schema : List ℕ) (db : Database) (s : State) → length s.tables ≡ models → Stands schema db s → IsSound s → AreSpelled s.tables → (told models db ≡ s) × IsDatabaseTold models db
 told_if_stands models schema db s long st sound spelled =
     let is : told models db ≡ s = ap (λ n. told n db) (sym long) ∙ stands_told schema db s st (kept_if_sound s sound) spelled in
     (is, record { schema = schema; stands = subst (Stands schema db) (sym is) st; sound = subst IsSound (sym is) sound; spelled = subst (λ (t : State). AreSpelled t.tables) (sym is) spelled })
@@ -59,7 +59,7 @@ own_spelled id [] room own can = tt
 own_spelled id (r ∷ rs) room own can =
     (record { room = subst (λ i. i < 2 ^ 128) (sym own.0) room; guard = can.0.guard; cells = can.0.cells; narrow = can.0.narrow }, own_spelled id rs room own.1 can.1)
 
-placed_spelled : (id : ℕ) (new rows : List Row) → AllByRecursion IsSpelled new → AllByRecursion IsSpelled rows → AllByRecursion IsSpelled (placed id new rows)
+placed_spelled : (id : ℕ) (new rows : List Row) → AllByRecursion IsSpelled new → AllByRecursion IsSpelled rows → AllByRecursion IsSpelled (placed_rows id new rows)
 placed_spelled id new rows are all =
     all-append IsSpelled (before id rows ++ new) (behind id rows) (all-append IsSpelled (before id rows) new (all-with_id IsSpelled _ rows all) are) (all-with_id IsSpelled _ rows all)
 
@@ -67,11 +67,11 @@ one_of : (b : Bool) (xs ys : List Row) → AllByRecursion IsSpelled xs → AllBy
 one_of true xs ys one two = one
 one_of false xs ys one two = two
 
-altered_spelled : (model : ℕ) (xs : List Alteration) (rows : List Row) → AreNarrow xs → AreOwn xs → CanAllBeSpelled xs → AllByRecursion IsSpelled rows → AllByRecursion IsSpelled (altered model xs rows)
+altered_spelled : (model : ℕ) (xs : List Alteration) (rows : List Row) → AreNarrow xs → AreOwn xs → CanAllBeSpelled xs → AllByRecursion IsSpelled rows → AllByRecursion IsSpelled (altered_rows model xs rows)
 altered_spelled model [] rows narrow own can all = all
 altered_spelled model (x ∷ xs) rows narrow own can all =
-    altered_spelled model xs (cond (model_of_id x.id == model) (placed x.id x.rows rows) rows) narrow.1 own.1 can.1
-    (one_of (model_of_id x.id == model) (placed x.id x.rows rows) rows (placed_spelled x.id x.rows rows (own_spelled x.id x.rows narrow.0 own.0 can.0) all) all)
+    altered_spelled model xs (cond (model_of_id x.id == model) (placed_rows x.id x.rows rows) rows) narrow.1 own.1 can.1
+    (one_of (model_of_id x.id == model) (placed_rows x.id x.rows rows) rows (placed_spelled x.id x.rows rows (own_spelled x.id x.rows narrow.0 own.0 can.0) all) all)
 
 overlaid_spelled : (first : ℕ) (xs : List Alteration) (tables : List (List Row)) → AreNarrow xs → AreOwn xs → CanAllBeSpelled xs → AreSpelled tables → AreSpelled (overlaid_from first xs tables)
 overlaid_spelled first xs [] narrow own can are = tt
@@ -80,28 +80,28 @@ overlaid_spelled first xs (t ∷ ts) narrow own can are = (altered_spelled first
 -- ---- a change
 
 module _ {S : Type 0} (g : Ghosts S) (models : ℕ) (old new : Held S) (c : Change) (law : (state g new).is_clean ≡ false → (state g new).is_open ≡ false)
-    (ends : HasCleanDisk (state g new) → Ends (state g old) (state g new)) (was : IsKept models (state g old)) where
-  done : (db : Database) → IsTrue (state g old).is_open → IsSound (applied c (told models (state g old).now)) → CanBeStored models c.changed → Leaves g (statements_of c) old db
-      → (told models db ≡ applied c (told models (state g old).now)) × IsTold models db
+    (ends : HasCleanDisk (state g new) → EndsCommitted (state g old) (state g new)) (was : IsAllCommitted models (state g old)) where
+  done : (db : Database) → IsTrue (state g old).is_open → IsSound (changed_state c (told models (state g old).now)) → CanBeStored models c.changed → Leaves g (sql_statements c) old db
+      → (told models db ≡ changed_state c (told models (state g old).now)) × IsDatabaseTold models db
   done db opened sound may left =
       let it = was.told_by opened in
       let s = told models (state g old).now in
       let long : length s.tables ≡ models = long_tables 0 models _ in
       let st = change_exact g it.schema old old s it.stands (kept_if_sound s it.sound) c db may.narrow may.own (subst (ArePlaced c.changed) (sym long) may.placed) left in
-      told_if_stands models it.schema db (applied c s) (long_with 0 c.changed s.tables ∙ long) st sound (overlaid_spelled 0 c.changed s.tables may.narrow may.own may.spelled it.spelled)
+      told_if_stands models it.schema db (changed_state c s) (long_with 0 c.changed s.tables ∙ long) st sound (overlaid_spelled 0 c.changed s.tables may.narrow may.own may.spelled it.spelled)
 
-  at_end : IsTrue (state g new).is_open → Ends (state g old) (state g new)
+  at_end : IsTrue (state g new).is_open → EndsCommitted (state g old) (state g new)
   at_end opened = ends (clean_if_open (state g new) law opened)
 
   -- one transaction of a change, over a database that tells
-  pub change_told : (r : Result (Unit {0}) Error) → (IsTrue (state g old).is_open → IsSound (applied c (told models (state g old).now))) → Rattle.std.specs.Prelude.OnOk r (CanBeStored models c.changed)
-      → Transacts g (statements_of c) old new r → AppliesTold g models c old new r
+  pub change_told : (r : Result (Unit {0}) Error) → (IsTrue (state g old).is_open → IsSound (changed_state c (told models (state g old).now))) → Rattle.std.specs.Prelude.OnOk r (CanBeStored models c.changed)
+      → Transacts g (sql_statements c) old new r → AppliesTold g models c old new r
   change_told (Ok u) sound may t =
       let whole = λ (opened : IsTrue (state g new).is_open).
       let early = (at_end opened).was_open opened in
       done (state g new).committed early (sound early) may (t.all (clean_if_open (state g new) law opened)) in
       record {
-        kept = record { settled = λ opened. (at_end opened).settled opened; told_by = λ opened. subst (IsTold models) (sym ((at_end opened).settled opened)) (whole opened).1 };
+        kept = record { settled = λ opened. (at_end opened).settled opened; told_by = λ opened. subst (IsDatabaseTold models) (sym ((at_end opened).settled opened)) (whole opened).1 };
         told_before = λ opened. (at_end opened).was_open opened;
         exact = λ opened. ap (told models) ((at_end opened).settled opened) ∙ (whole opened).0;
         refused = λ opened. tt;
@@ -109,7 +109,7 @@ module _ {S : Type 0} (g : Ghosts S) (models : ℕ) (old new : Held S) (c : Chan
   change_told (Err e) sound may t =
       let same = λ (opened : IsTrue (state g new).is_open). (t.none (clean_if_open (state g new) law opened) opened).0 in
       record {
-        kept = record { settled = λ opened. (at_end opened).settled opened; told_by = λ opened. subst (IsTold models) (sym (same opened)) (was.told_by ((at_end opened).was_open opened)) };
+        kept = record { settled = λ opened. (at_end opened).settled opened; told_by = λ opened. subst (IsDatabaseTold models) (sym (same opened)) (was.told_by ((at_end opened).was_open opened)) };
         told_before = λ opened. (at_end opened).was_open opened;
         exact = λ opened. tt;
         refused = λ opened. ap (told models) (same opened);
@@ -125,14 +125,14 @@ empty_spelled (suc n) = (tt, empty_spelled n)
 
 same_facts : (first n : ℕ) (ts : List (List Row)) → facts_from first (ts ++ empties n) ≡ facts_from first ts
 same_facts first n [] = no_facts first n
-same_facts first n (t ∷ ts) = ap (λ fs. numbered first none_yet t ++ fs) (same_facts (first + 1) n ts)
+same_facts first n (t ∷ ts) = ap (λ fs. numbered_facts first none_yet t ++ fs) (same_facts (first + 1) n ts)
 
 spelled_more : (n : ℕ) (ts : List (List Row)) → AreSpelled ts → AreSpelled (ts ++ empties n)
 spelled_more n [] are = empty_spelled n
 spelled_more n (t ∷ ts) are = (are.0, spelled_more n ts are.1)
 
 -- empty tables show nowhere
-stands_widened : (schema : List ℕ) (db : Database) (models : ℕ) (s : State) → Stands schema db s → Stands schema db (widened models s)
+stands_widened : (schema : List ℕ) (db : Database) (models : ℕ) (s : State) → Stands schema db s → Stands schema db (widened_state models s)
 stands_widened schema db models s st = record {
   schema_is = st.schema_is;
   meta = st.meta;
@@ -140,22 +140,22 @@ stands_widened schema db models s st = record {
 }
 
 module _ {S : Type 0} (g : Ghosts S) (shapes : List ModelShape) (models : ℕ) (old new : Held S) (c : Change) (schema : List ℕ) (law : (state g new).is_clean ≡ false → (state g new).is_open ≡ false)
-    (ends : HasCleanDisk (state g new) → Ends (state g old) (state g new)) (was : IsKept models (state g old))
-    (fits : IsTrue (state g old).is_open → IsFit shapes (widened (length shapes) (applied c (told models (state g old).now)))) where
+    (ends : HasCleanDisk (state g new) → EndsCommitted (state g old) (state g new)) (was : IsAllCommitted models (state g old))
+    (fits : IsTrue (state g old).is_open → IsFit shapes (widened_state (length shapes) (changed_state c (told models (state g old).now)))) where
   reshape_done : (db : Database) → IsTrue (state g old).is_open → CanBeStored models c.changed → Leaves g (statements_with c (Some schema)) old db
-      → (told (length shapes) db ≡ widened (length shapes) (applied c (told models (state g old).now))) × IsTold (length shapes) db × (schema_in db ≡ schema)
+      → (told (length shapes) db ≡ widened_state (length shapes) (changed_state c (told models (state g old).now))) × IsDatabaseTold (length shapes) db × (schema_in db ≡ schema)
   reshape_done db opened may left =
       let it = was.told_by opened in
       let s = told models (state g old).now in
       let long : length s.tables ≡ models = long_tables 0 models _ in
       let ran = reshaped g it.schema c schema (record old { in_transaction = true }) left.last s may.narrow may.own (subst (ArePlaced c.changed) (sym long) may.placed) (kept_if_sound s it.sound) left.ran it.stands in
-      let st : Stands schema db (applied c s) = subst (λ d. Stands schema d (applied c s)) (sym left.left) ran in
+      let st : Stands schema db (changed_state c s) = subst (λ d. Stands schema d (changed_state c s)) (sym left.left) ran in
       let fit = fits opened in
-      let pair = told_if_stands (length shapes) schema db (widened (length shapes) (applied c s)) fit.tables (stands_widened schema db (length shapes) (applied c s) st)
-      (sound_if_good shapes (widened (length shapes) (applied c s)) fit.good) (spelled_more _ (applied c s).tables (overlaid_spelled 0 c.changed s.tables may.narrow may.own may.spelled it.spelled)) in
-      (pair.0, pair.1, schema_stands schema db (applied c s) st)
+      let pair = told_if_stands (length shapes) schema db (widened_state (length shapes) (changed_state c s)) fit.tables (stands_widened schema db (length shapes) (changed_state c s) st)
+      (sound_if_good shapes (widened_state (length shapes) (changed_state c s)) fit.good) (spelled_more _ (changed_state c s).tables (overlaid_spelled 0 c.changed s.tables may.narrow may.own may.spelled it.spelled)) in
+      (pair.0, pair.1, schema_stands schema db (changed_state c s) st)
 
-  reshape_end : IsTrue (state g new).is_open → Ends (state g old) (state g new)
+  reshape_end : IsTrue (state g new).is_open → EndsCommitted (state g old) (state g new)
   reshape_end opened = ends (clean_if_open (state g new) law opened)
 
   -- one transaction of a change that brings another schema, over a database that tells
@@ -164,7 +164,7 @@ module _ {S : Type 0} (g : Ghosts S) (shapes : List ModelShape) (models : ℕ) (
       let whole = λ (opened : IsTrue (state g new).is_open). reshape_done (state g new).committed ((reshape_end opened).was_open opened) may (t.all (clean_if_open (state g new) law opened)) in
       record {
         told_before = λ opened. (reshape_end opened).was_open opened;
-        kept = record { settled = λ opened. (reshape_end opened).settled opened; told_by = λ opened. subst (IsTold (length shapes)) (sym ((reshape_end opened).settled opened)) (whole opened).1 };
+        kept = record { settled = λ opened. (reshape_end opened).settled opened; told_by = λ opened. subst (IsDatabaseTold (length shapes)) (sym ((reshape_end opened).settled opened)) (whole opened).1 };
         same = tt;
         exact = λ opened. ap (told (length shapes)) ((reshape_end opened).settled opened) ∙ (whole opened).0;
         refused = λ opened. tt;
@@ -175,7 +175,7 @@ module _ {S : Type 0} (g : Ghosts S) (shapes : List ModelShape) (models : ℕ) (
       record {
         told_before = λ opened. (reshape_end opened).was_open opened;
         kept = tt;
-        same = record { settled = λ opened. (reshape_end opened).settled opened; told_by = λ opened. subst (IsTold models) (sym (same opened)) (was.told_by ((reshape_end opened).was_open opened)) };
+        same = record { settled = λ opened. (reshape_end opened).settled opened; told_by = λ opened. subst (IsDatabaseTold models) (sym (same opened)) (was.told_by ((reshape_end opened).was_open opened)) };
         exact = λ opened. tt;
         refused = λ opened. ap (told models) (same opened);
         stored = λ opened. tt;
@@ -188,11 +188,11 @@ empty_sound first zero next = tt
 empty_sound first (suc n) next = (tt, tt, empty_sound (first + 1) n next)
 
 -- one transaction of the founding leaves a database that tells the empty state
-pub founded_told : {S T : Type 0} (g : Ghosts S) (schema : List ℕ) (models : ℕ) (old new : Held S) (t : T) → (state g old).now.schema ≡ nothing → ((state g new).is_clean ≡ false → (state g new).is_open ≡ false)
-    → (HasCleanDisk (state g new) → Ends (state g old) (state g new)) → Transacts g (founding schema) old new (Ok t)
-    → IsKept models (state g new) × (IsTrue (state g new).is_open → told models (state g new).now ≡ empty_state models) × (IsTrue (state g new).is_open → schema_in (state g new).now ≡ schema)
+pub founded_told : {S T : Type 0} (g : Ghosts S) (schema : List ℕ) (models : ℕ) (old new : Held S) (t : T) → (state g old).now.schema ≡ no_tables → ((state g new).is_clean ≡ false → (state g new).is_open ≡ false)
+    → (HasCleanDisk (state g new) → EndsCommitted (state g old) (state g new)) → Transacts g (founding schema) old new (Ok t)
+    → IsAllCommitted models (state g new) × (IsTrue (state g new).is_open → told models (state g new).now ≡ empty_state models) × (IsTrue (state g new).is_open → schema_in (state g new).now ≡ schema)
 founded_told g schema models old new t none law ends transacts =
-    let both : IsTrue (state g new).is_open → ((state g new).now ≡ (state g new).committed) × (told models (state g new).now ≡ empty_state models) × IsTold models (state g new).now × (schema_in (state g new).now ≡ schema) = λ opened.
+    let both : IsTrue (state g new).is_open → ((state g new).now ≡ (state g new).committed) × (told models (state g new).now ≡ empty_state models) × IsDatabaseTold models (state g new).now × (schema_in (state g new).now ≡ schema) = λ opened.
     let clean = clean_if_open (state g new) law opened in
     let left = transacts.all clean in
     let settled = (ends clean).settled opened in

@@ -12,7 +12,7 @@ use Rattle.sqlite_keyed.proofs.ListLemmas.{map-map}
 use Rattle.jac_rows.specs.declared.row.Row.{Row}
 use Rattle.jac_rows.specs.declared.state.State.{State}
 use Rattle.jac_rows.specs.Tables.{rows_of}
-use Rattle.jac_lines.specs.Facts.{Fact, fact_of, fact_cmp, facts, counted, none_yet, numbered, is_fact_in, AreKept}
+use Rattle.jac_lines.specs.Facts.{Fact, fact_of, fact_cmp, facts, count_with, none_yet, numbered_facts, is_fact_in, AreKept}
 use Rattle.jac_lines.proofs.FactLaws.{facts_in, facts_rise}
 use Rattle.jac_lines.specs.Tables.{meta_row}
 use Rattle.jac_lines.specs.Lines.{Line, encode}
@@ -30,11 +30,11 @@ row_again model alt r is =
     let room = is.room in
     λ i. record { id = number_again 16 r.id (omega (arith, room)) i; guard = guard_again r.guard is.guard i; cells = cells_again r.cells is.cells is.narrow i }
 
-rows_again : (model : ℕ) (c : ℕ → ℕ) (rows : List Row) → AllByRecursion IsSpelled rows → map row_in (numbered model c rows) ≡ rows
+rows_again : (model : ℕ) (c : ℕ → ℕ) (rows : List Row) → AllByRecursion IsSpelled rows → map row_in (numbered_facts model c rows) ≡ rows
 rows_again model c [] are = refl
-rows_again model c (r ∷ rs) are = ap₂ ◌∷◌ (row_again model (c r.id) r are.0) (rows_again model (counted r.id c) rs are.1)
+rows_again model c (r ∷ rs) are = ap₂ ◌∷◌ (row_again model (c r.id) r are.0) (rows_again model (count_with r.id c) rs are.1)
 
-tables_again : (first : ℕ) (all : List Fact) (tables : List (List Row)) → ((k model : ℕ) → model ≡ first + k → filter (is_fact_in model) all ≡ numbered model none_yet (rows_of tables k)) → AreSpelled tables
+tables_again : (first : ℕ) (all : List Fact) (tables : List (List Row)) → ((k model : ℕ) → model ≡ first + k → filter (is_fact_in model) all ≡ numbered_facts model none_yet (rows_of tables k)) → AreSpelled tables
     → tables_in first (length tables) all ≡ tables
 tables_again first all [] has are = refl
 tables_again first all (t ∷ ts) has are =

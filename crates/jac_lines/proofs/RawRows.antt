@@ -6,6 +6,7 @@ use Rattle.std.specs.Prelude.{◌<ℤ◌, drop}
 use Rattle.std.specs.Ordering.{ordering_reverse}
 use Rattle.std.proofs.lemmas.Cmp.{int_cmp_total}
 use Rattle.std.proofs.lemmas.List.Sorted.{IsPermutation-map, IsPermutation-sym, length_permutation}
+use Rattle.std.proofs.lemmas.Bool.{and_parts}
 use Rattle.sqlite_trees.specs.Tree.{Trees, IsAscending}
 use Rattle.sqlite_trees.proofs.ListLemmas.{all-permutation}
 use Rattle.sqlite_value.specs.declared.value.Value.{Value}
@@ -33,9 +34,8 @@ use Rattle.jac_lines.specs.Lines.{Line, encode}
 use Rattle.jac_lines.specs.Stands.{fact, AreDistinct, Holds}
 use Rattle.jac_lines.specs.Tables.{two_tables, strict, meta, rec}
 use Rattle.jac_lines.specs.Testing.{fact_shown, IsLineShown, IsAbove, IsRowidAbove, AreRowidsAbove}
-use Rattle.jac_lines.specs.Told.{natural_in, bytes_in}
+use Rattle.jac_lines.specs.Told.{natural_in, bytes_in_value}
 use Rattle.jac_lines.proofs.Permuted.{apart_permuted}
-use Rattle.jac_lines.proofs.Sound.{both_true}
 use Rattle.jac_lines.proofs.Texts.{over, by, all_text, all_is, rowids_is}
 
 -- ---- the three texts
@@ -150,7 +150,7 @@ untied x y h = go (int_cmp (id_shown x) (id_shown y)) (int_cmp (id_shown y) (id_
 -- ---- a row of rec is a line
 
 abbrev pub line_in : Values → Line
-line_in r = record { at = id_in (column r 0); model = natural_in (column r 1); jid = bytes_in (column r 2); alt = natural_in (column r 3); jvars = bytes_in (column r 4); body = bytes_in (column r 5) }
+line_in r = record { at = id_in (column r 0); model = natural_in (column r 1); jid = bytes_in_value (column r 2); alt = natural_in (column r 3); jvars = bytes_in_value (column r 4); body = bytes_in_value (column r 5) }
 
 null_blob : (b : List ℕ) → Null ≡ Blob b → ⊥
 null_blob b e = cc
@@ -256,8 +256,8 @@ raw_meta schema db (v0 ∷ []) key typed present = absurd (never present)
 raw_meta schema db (v0 ∷ v1 ∷ []) key typed present = absurd (never present)
 raw_meta schema db (v0 ∷ v1 ∷ v2 ∷ []) key typed present = absurd (no_third (not (is_null v2)) present)
 raw_meta schema db (v0 ∷ v1 ∷ v2 ∷ v3 ∷ []) key typed present =
-    let empty = is_nothing v1 (both_true (is_null v1) (suits (strict (codes "number") Integer) v2 && (suits (strict (codes "schema") Words) v3 && true))
-    (both_true (is_null v1 && (suits (strict (codes "number") Integer) v2 && (suits (strict (codes "schema") Words) v3 && true))) (has_computed (meta 0) (v0 ∷ v1 ∷ v2 ∷ v3 ∷ [])) typed).0).0 in
+    let empty = is_nothing v1 (and_parts (is_null v1) (suits (strict (codes "number") Integer) v2 && (suits (strict (codes "schema") Words) v3 && true))
+    (and_parts (is_null v1 && (suits (strict (codes "number") Integer) v2 && (suits (strict (codes "schema") Words) v3 && true))) (has_computed (meta 0) (v0 ∷ v1 ∷ v2 ∷ v3 ∷ [])) typed).0).0 in
     record { number = v2; schema = v3; is = λ i. key i ∷ empty i ∷ v2 ∷ v3 ∷ [] }
 raw_meta schema db (v0 ∷ v1 ∷ v2 ∷ v3 ∷ v4 ∷ more) key typed present =
     absurd (no_fifth (is_null v1) (suits (strict (codes "number") Integer) v2) (suits (strict (codes "schema") Words) v3) (has_computed (meta 0) (v0 ∷ v1 ∷ v2 ∷ v3 ∷ v4 ∷ more)) typed)

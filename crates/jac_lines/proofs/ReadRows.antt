@@ -14,11 +14,11 @@ use Rattle.jac_rows.specs.declared.row.Row.{Row}
 use Rattle.jac_rows.specs.declared.state.State.{State}
 use Rattle.jac_rows.specs.Tables.{rows_of}
 use Rattle.jac_keep.specs.Records.{alternatives}
-use Rattle.jac_lines.specs.Founding.{IsAsked, IsFrom, HasNumber}
+use Rattle.jac_lines.specs.Founding.{IsNumberAsked, IsFrom, HasNumber}
 use Rattle.jac_lines.specs.Reading.{Each, AreShown, IsModelRow, IsRecordRow}
-use Rattle.jac_lines.specs.Statements.{Statement, reading, model_reading, record_reading}
+use Rattle.jac_lines.specs.Statements.{SqlStatement, reading, model_reading, record_reading}
 use Rattle.jac_lines.specs.Tables.{two_tables}
-use Rattle.jac_lines.specs.Telling.{IsKept, StaysTold, ReadsTold}
+use Rattle.jac_lines.specs.Telling.{IsAllCommitted, StaysCommitted, ReadsTold}
 use Rattle.jac_lines.specs.Told.{told}
 use Rattle.jac_lines.proofs.Exact.{number_exact, model_exact, record_exact}
 use Rattle.jac_lines.proofs.Sound.{kept_if_sound}
@@ -26,10 +26,10 @@ use Rattle.jac_lines.proofs.Stays.{Stays, clean_if_open, fails_stays, shown_open
 use Rattle.jac_lines.proofs.Texts.{number_plain, model_plain, record_plain}
 
 -- rows of a query whose text changes nothing
-module _ {S V : Type 0} (items : V → List Values) (g : Ghosts S) (models : ℕ) (question : Statement) (Is : Values → Row → Type 0) (Exact : State → List Row → Type 0) (old new : Held S) (answer : Result V Error)
+module _ {S V : Type 0} (items : V → List Values) (g : Ghosts S) (models : ℕ) (question : SqlStatement) (Is : Values → Row → Type 0) (Exact : State → List Row → Type 0) (old new : Held S) (answer : Result V Error)
     (plain : IsPlain (understood (two_tables 0 1 2) question.text)) (law : (state g new).is_clean ≡ false → (state g new).is_open ≡ false)
     (ok : HasCleanDisk (state g new) → IfOk answer (λ v. Shown question.text question.params (state g old) (state g new) (items v)))
-    (err : HasCleanDisk (state g new) → IfErr answer (FailsToQuery question.text question.params (state g old) (state g new))) (was : IsKept models (state g old)) where
+    (err : HasCleanDisk (state g new) → IfErr answer (FailsToQuery question.text question.params (state g old) (state g new))) (was : IsAllCommitted models (state g old)) where
   opens_by : (a : Result V Error) → IfOk a (λ v. Shown question.text question.params (state g old) (state g new) (items v)) → IfErr a (FailsToQuery question.text question.params (state g old) (state g new))
       → IsTrue (state g new).is_open → IsTrue (state g old).is_open
   opens_by (Ok v) shown none opened = shown_open (state g old) (state g new) question.text question.params (items v) shown
@@ -69,7 +69,7 @@ module _ {S V : Type 0} (items : V → List Values) (g : Ghosts S) (models : ℕ
   pub model_told : (model : ℕ)
       → (HasCleanDisk (state g new) → IfOk answer (λ v. Shown (model_reading model).text (model_reading model).params (state g old) (state g new) (items v)))
       → (HasCleanDisk (state g new) → IfErr answer (FailsToQuery (model_reading model).text (model_reading model).params (state g old) (state g new)))
-      → IfOk answer (λ v. IfOk r (Each (IsModelRow model kinds) (items v))) → IfErr answer (λ e. r ≡ Err e) → IsKept models (state g old)
+      → IfOk answer (λ v. IfOk r (Each (IsModelRow model kinds) (items v))) → IfErr answer (λ e. r ≡ Err e) → IsAllCommitted models (state g old)
       → ReadsTold g (λ s rows. rows ≡ rows_of s.tables model) models old new r
   unfolding model_reading
   model_told model ok err each none was =
@@ -79,7 +79,7 @@ module _ {S V : Type 0} (items : V → List Values) (g : Ghosts S) (models : ℕ
   pub record_told : (id : ℕ) → id < 2 ^ 128
       → (HasCleanDisk (state g new) → IfOk answer (λ v. Shown (record_reading id).text (record_reading id).params (state g old) (state g new) (items v)))
       → (HasCleanDisk (state g new) → IfErr answer (FailsToQuery (record_reading id).text (record_reading id).params (state g old) (state g new)))
-      → IfOk answer (λ v. IfOk r (Each (IsRecordRow id kinds) (items v))) → IfErr answer (λ e. r ≡ Err e) → IsKept models (state g old)
+      → IfOk answer (λ v. IfOk r (Each (IsRecordRow id kinds) (items v))) → IfErr answer (λ e. r ≡ Err e) → IsAllCommitted models (state g old)
       → ReadsTold g (λ s rows. rows ≡ alternatives id (rows_of s.tables (model_of_id id))) models old new r
   unfolding record_reading
   record_told id room ok err each none was =
@@ -87,7 +87,7 @@ module _ {S V : Type 0} (items : V → List Values) (g : Ghosts S) (models : ℕ
       (λ before rows are. let it = was.told_by before in record_exact g it.schema old new (told models (state g old).now) it.stands (kept_if_sound _ it.sound) it.spelled id kinds rows room are)
 
 -- the number
-module _ {S : Type 0} (g : Ghosts S) (models : ℕ) (old new : Held S) (law : (state g new).is_clean ≡ false → (state g new).is_open ≡ false) (was : IsKept models (state g old)) where
+module _ {S : Type 0} (g : Ghosts S) (models : ℕ) (old new : Held S) (law : (state g new).is_clean ≡ false → (state g new).is_open ≡ false) (was : IsAllCommitted models (state g old)) where
   module _ (answer : Result Values Error) (asked : HasCleanDisk (state g new) → QueriesRow reading [] (state g old) (state g new) answer) where
     row_opens : IsTrue (state g new).is_open → IsTrue (state g old).is_open
     row_opens opened = row_open (state g old) (state g new) reading [] answer (asked (clean_if_open (state g new) law opened)) opened

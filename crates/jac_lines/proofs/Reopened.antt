@@ -21,11 +21,11 @@ use Rattle.jac_rows.specs.declared.state.State.{State}
 use Rattle.jac_keep.specs.Schema.{IsFit}
 use Rattle.jac_keep.proofs.SoundLaws.{sound_if_good}
 use Rattle.jac_lines.specs.Facts.{Fact, facts}
-use Rattle.jac_lines.specs.Founding.{HasNumber, IsAsked, Tells, Finds}
+use Rattle.jac_lines.specs.Founding.{HasNumber, IsNumberAsked, Tells, Finds}
 use Rattle.jac_lines.specs.Stands.{Stands, Holds}
 use Rattle.jac_lines.specs.Statements.{reading, key_reading, rowid_reading, all_reading}
 use Rattle.jac_lines.specs.Tables.{two_tables, meta_row}
-use Rattle.jac_lines.specs.Telling.{IsTold, IsKept}
+use Rattle.jac_lines.specs.Telling.{IsDatabaseTold, IsAllCommitted}
 use Rattle.jac_lines.specs.Testing.{fact_shown, AreLinesOf, ShowsKey, ShowsRowids, ShowsLines, ShowsStored}
 use Rattle.jac_lines.specs.Told.{chars_in, told, schema_in}
 use Rattle.jac_lines.proofs.Asked.{asks_of}
@@ -65,7 +65,7 @@ pub_next s settled opened = settled
 
 -- what is asked in one call of another: the number, the rowids and the rows
 pub stored_shown : {S : Type 0} (g : Ghosts S) (shapes : List ModelShape) (number : ℕ) (old first second new : Held S) → Shuts (state g first) → Shuts (state g second)
-    → (HasCleanDisk (state g first) → IsAsked g old first number) → (HasCleanDisk (state g second) → ShowsRowids g first second) → (HasCleanDisk (state g new) → ShowsLines g shapes number second new)
+    → (HasCleanDisk (state g first) → IsNumberAsked g old first number) → (HasCleanDisk (state g second) → ShowsRowids g first second) → (HasCleanDisk (state g new) → ShowsLines g shapes number second new)
     → HasCleanDisk (state g new) → ShowsStored g shapes old new
 stored_shown g shapes number old first second new shuts_first shuts_second asked ids lines clean =
     let shown = lines clean in
@@ -85,7 +85,7 @@ module _ (db : Database) (live : IsDatabase db) (has : db.schema ≡ two_tables 
   one_meta found only moved one key = raw_one db.trees found only (rule Datatype) (rule NotNull) moved one key
 
   fit_stands : (shapes : List ModelShape) (schema : List ℕ) (number : ℕ) (ids found : List Values) → db.trees 0 ≡ meta_row number schema ∷ [] → IsNext number → (lines : AreLinesOf shapes number found) → Holds (db.trees 1) (map fact_shown found)
-      → IsTold (length shapes) db × IsFit shapes (told (length shapes) db)
+      → IsDatabaseTold (length shapes) db × IsFit shapes (told (length shapes) db)
   fit_stands shapes schema number ids found meta next lines holds =
       let s : State = record { tables = lines.tables; number = number } in
       let st : Stands schema db s = record { schema_is = has; meta = meta; rec = subst (Holds (db.trees 1)) (sym lines.read) holds } in
@@ -149,7 +149,7 @@ module _ {S : Type 0} (g : Ghosts S) (shapes : List ModelShape) (schema : List �
     -- the database is told, and fits
     record IsWhole : Type 0 where
       pub settled_new : (state g new).now ≡ (state g new).committed
-      pub told_is : IsTold (length shapes) (state g new).now
+      pub told_is : IsDatabaseTold (length shapes) (state g new).now
       pub fit : IsFit shapes (told (length shapes) (state g new).now)
       pub schema_is : schema_in (state g new).now ≡ schema
 
@@ -183,12 +183,12 @@ module _ {S : Type 0} (g : Ghosts S) (shapes : List ModelShape) (schema : List �
         let is = fit_stands db (live h.opened_start).0 has shapes schema s.number s.ids.found s.lines.found meta s.asked.has.in_range s.lines.are holds in
         record {
           settled_new = three.settled;
-          told_is = subst (IsTold (length shapes)) (sym new_is) is.0;
+          told_is = subst (IsDatabaseTold (length shapes)) (sym new_is) is.0;
           fit = subst (λ (d : Database). IsFit shapes (told (length shapes) d)) (sym new_is) is.1;
           schema_is = ap schema_in new_is ∙ ap (λ rows. chars_in (column (slice_index_or rows 0 []) 3)) meta;
         }
 
-    pub reopened_kept : IsKept (length shapes) (state g new)
+    pub reopened_kept : IsAllCommitted (length shapes) (state g new)
     reopened_kept = record { settled = λ opened. (whole opened).settled_new; told_by = λ opened. (whole opened).told_is }
 
     pub reopened_schema : IsTrue (state g new).is_open → schema_in (state g new).now ≡ schema

@@ -1,6 +1,7 @@
 -- A sound state's tables may be stored, and cells of known kinds name ids with room.
 use Rattle.std.proofs.Common.{◌≡◌, refl, sym, ap, ℕ, zero, suc, ◌+◌, ◌^◌, ◌<◌, Bool, true, false, ◌&&◌, List, [], ◌∷◌, Some, None, arith}
 use Rattle.std.specs.List.{AllByRecursion}
+use Rattle.std.proofs.lemmas.Bool.{and_parts}
 use Rattle.jac_value.specs.Ids.{is_id_of}
 use Rattle.jac_value.specs.Values.{has_kind}
 use Rattle.jac_value.specs.declared.value.Kind.{Kind}
@@ -14,8 +15,9 @@ use Rattle.jac_rows.specs.Good.{have_kinds, IsMade, AreSound, IsSound}
 use Rattle.jac_stored.proofs.IdParts.{id_parts}
 use Rattle.jac_keep.proofs.OrderLaws.{ordered_if_rising}
 use Rattle.jac_lines.specs.Facts.{IsPlaced, ArePlacedFrom, AreKept}
-use Rattle.jac_lines.specs.Spelled.{IsNarrow, IsSpelled}
+use Rattle.jac_lines.specs.Spelled.{IsSpelled}
 use Rattle.jac_lines.specs.Told.{AreSpelled}
+use Rattle.jac_stored.specs.Spelling.{IsNarrow}
 
 -- an id, narrow or wide, has room in 16 bytes
 pub id_room : (id model : ℕ) → is_id_of id model ≡ true → id < 2 ^ 128
@@ -51,12 +53,8 @@ narrow_cell kinds.Int (values.Ref (Some id)) e = let f : false ≡ true = e in c
 narrow_cell kinds.Text (values.Ref (Some id)) e = let f : false ≡ true = e in cc
 narrow_cell kinds.Bool (values.Ref (Some id)) e = let f : false ≡ true = e in cc
 
-pub both_true : (a b : Bool) → (a && b) ≡ true → (a ≡ true) × (b ≡ true)
-both_true true b e = (refl, e)
-both_true false b e = let f : false ≡ true = e in cc
-
 pub narrow_cells : (ks : List Kind) (vs : List Value) → have_kinds ks vs ≡ true → AllByRecursion IsNarrow vs
 narrow_cells [] [] e = tt
 narrow_cells [] (v ∷ vs) e = let f : false ≡ true = e in cc
 narrow_cells (k ∷ ks) [] e = tt
-narrow_cells (k ∷ ks) (v ∷ vs) e = let parts = both_true (has_kind k v) (have_kinds ks vs) e in (narrow_cell k v parts.0, narrow_cells ks vs parts.1)
+narrow_cells (k ∷ ks) (v ∷ vs) e = let parts = and_parts (has_kind k v) (have_kinds ks vs) e in (narrow_cell k v parts.0, narrow_cells ks vs parts.1)

@@ -11,7 +11,7 @@ use Rattle.sqlite.specs.State.{State as Sql, HasCleanDisk, IsUnchanged, IsRolled
 use Rattle.sqlite.specs.Listing.{understood}
 use Rattle.sqlite.proofs.Callers.{IsPlain}
 use Rattle.jac_lines.specs.Told.{told}
-use Rattle.jac_lines.specs.Telling.{IsTold, IsKept, StaysTold}
+use Rattle.jac_lines.specs.Telling.{IsDatabaseTold, IsAllCommitted, StaysCommitted}
 
 -- an open connection is clean
 pub clean_if_open : (s : Sql) → (s.is_clean ≡ false → s.is_open ≡ false) → IsTrue s.is_open → HasCleanDisk s
@@ -82,15 +82,15 @@ module _ (old new : Sql) where
   same_now was settled opened (inl same) = (same.0.now_is, same.0.now_is ∙ settled ∙ sym same.0.committed_is)
   same_now was settled opened (inr undone) = let back = undone.undone opened in (back.0 ∙ sym settled, back.0 ∙ sym back.1)
 
-  module _ (models : ℕ) (was : IsKept models old) (opens : IsTrue new.is_open → IsTrue old.is_open) (stays : IsTrue new.is_open → IsTrue old.is_open → Stays old new) where
+  module _ (models : ℕ) (was : IsAllCommitted models old) (opens : IsTrue new.is_open → IsTrue old.is_open) (stays : IsTrue new.is_open → IsTrue old.is_open → Stays old new) where
     both : (opened : IsTrue new.is_open) → (new.now ≡ old.now) × (new.now ≡ new.committed)
     both opened = same_now (opens opened) (was.settled (opens opened)) opened (stays opened (opens opened))
 
-    pub kept_by : IsKept models new
+    pub kept_by : IsAllCommitted models new
     kept_by = record {
       settled = λ opened. (both opened).1;
-      told_by = λ opened. subst (IsTold models) (sym (both opened).0) (was.told_by (opens opened));
+      told_by = λ opened. subst (IsDatabaseTold models) (sym (both opened).0) (was.told_by (opens opened));
     }
 
-    pub left_by : StaysTold models old new
+    pub left_by : StaysCommitted models old new
     left_by = record { told_before = opens; same = λ opened. ap (told models) (both opened).0 }

@@ -7,11 +7,11 @@ use Rattle.sqlite.specs.Held.{Held, state}
 use Rattle.jac_rows.specs.declared.state.State.{State}
 use Rattle.jac_keep.specs.declared.alteration.Change.{Change}
 use Rattle.jac_keep.specs.Alterations.{AreOwn, ArePlaced, overlaid}
-use Rattle.jac_keep.specs.Kept.{applied}
+use Rattle.jac_keep.specs.Kept.{changed_state}
 use Rattle.jac_lines.specs.Facts.{facts, AreKept}
 use Rattle.jac_lines.proofs.Texts.{set_text}
 use Rattle.jac_lines.specs.Stands.{Holds, Stands}
-use Rattle.jac_lines.specs.Statements.{Statement, numbering, reshaping, replacements, statements_of, statements_with}
+use Rattle.jac_lines.specs.Statements.{SqlStatement, numbering, reshaping, replacements, sql_statements, statements_with}
 use Rattle.jac_lines.specs.Transaction.{Ran}
 use Rattle.jac_lines.specs.Stands.{AreNarrow}
 use Rattle.jac_lines.proofs.Numbered.{Sets, sets, reshapes}
@@ -29,7 +29,7 @@ module _ {S : Type 0} (g : Ghosts S) (schema : List ℕ) where
 
   -- the statements of a change lead from a state to the changed one
   pub changed : (c : Change) (a b : Held S) (s : State) → AreNarrow c.changed → AreOwn c.changed → ArePlaced c.changed (length s.tables) → AreKept s.tables
-      → Ran g (statements_of c) a b → Stands schema (state g a).now s → Stands schema (state g b).now (applied c s)
+      → Ran g (sql_statements c) a b → Stands schema (state g a).now s → Stands schema (state g b).now (changed_state c s)
   changed c a b s narrow own within kept ran st =
       let parts = ran_split g schema (replacements c.changed) (numbering c.number ∷ []) a b ran in
       let mid : State = record s { tables = overlaid c.changed s.tables } in
@@ -44,7 +44,7 @@ module _ {S : Type 0} (g : Ghosts S) (schema : List ℕ) where
 
   -- so do those that bring another schema
   pub reshaped : (c : Change) (after : List ℕ) (a b : Held S) (s : State) → AreNarrow c.changed → AreOwn c.changed → ArePlaced c.changed (length s.tables) → AreKept s.tables
-      → Ran g (statements_with c (Some after)) a b → Stands schema (state g a).now s → Stands after (state g b).now (applied c s)
+      → Ran g (statements_with c (Some after)) a b → Stands schema (state g a).now s → Stands after (state g b).now (changed_state c s)
   reshaped c after a b s narrow own within kept ran st =
       let parts = ran_split g schema (replacements c.changed) (reshaping c.number after ∷ []) a b ran in
       let mid : State = record s { tables = overlaid c.changed s.tables } in

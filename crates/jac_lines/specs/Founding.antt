@@ -7,7 +7,7 @@ use Rattle.sqlite.specs.declared.error.Error.{Error}
 use Rattle.sqlite.specs.State.{QueriesRow}
 use Rattle.sqlite.specs.Held.{Held, state}
 use Rattle.jac_rows.specs.Good.{IsNext}
-use Rattle.jac_lines.specs.Tables.{nothing}
+use Rattle.jac_lines.specs.Tables.{no_tables}
 use Rattle.jac_lines.specs.Statements.{reading, founding}
 use Rattle.jac_lines.specs.Transaction.{Transacts}
 
@@ -28,7 +28,7 @@ IsFrom (Ok row) r = IfOk r (HasNumber row)
 IsFrom (Err e) r = r ≡ Err e
 
 -- the number was asked for, and nothing else was done
-pub record IsAsked {S : Type 0} (g : Ghosts S) (old new : Held S) (number : ℕ) : Type 0 where
+pub record IsNumberAsked {S : Type 0} (g : Ghosts S) (old new : Held S) (number : ℕ) : Type 0 where
   pub row : Values
   pub asked : QueriesRow reading [] (state g old) (state g new) (Ok row)
   pub has : HasNumber row number
@@ -43,7 +43,7 @@ pub record Finds {S : Type 0} (g : Ghosts S) (schema : List ℕ) (old new : Held
 -- the database had no table, and a new store was made, or given up
 pub record Founds {S : Type 0} (g : Ghosts S) (schema : List ℕ) (old new : Held S)
     (result : Result (Unit {0}) Error) : Type 0 where
-  pub none : (state g old).now.schema ≡ nothing
+  pub none : (state g old).now.schema ≡ no_tables
   pub made : Transacts g (founding schema) old new result
 
 -- nothing but the question was asked

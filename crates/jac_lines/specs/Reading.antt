@@ -9,7 +9,7 @@ use Rattle.jac_value.specs.declared.value.Kind.{Kind}
 use Rattle.jac_rows.specs.declared.row.Row.{Row}
 use Rattle.jac_stored.specs.Faults.{IsIdOf, IsRowOf}
 use Rattle.jac_lines.specs.Facts.{Fact}
-use Rattle.jac_lines.specs.Statements.{Statement, model_reading, record_reading}
+use Rattle.jac_lines.specs.Statements.{SqlStatement, model_reading, record_reading}
 
 -- the row of this id that a guard and cells in these columns spell
 pub record IsRowIn (guard cells : ℕ) (kinds : List Kind) (values : Values) (id : ℕ) (row : Row) :
@@ -46,7 +46,8 @@ abbrev pub record_shows : Fact → Values
 record_shows f = Blob f.jvars ∷ Blob f.body ∷ []
 
 -- all that the question shows, and nothing else
-pub record AreShown {S : Type 0} (g : Ghosts S) (question : Statement) (Is : Values → Row → Type 0)
+pub record AreShown {S : Type 0} (g : Ghosts S) (question : SqlStatement) (Is : Values → Row
+    → Type 0)
     (old new : Held S) (rows : List Row) : Type 0 where
   pub found : List Values
   pub shown : Shown question.text question.params (state g old) (state g new) found

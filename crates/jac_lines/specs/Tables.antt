@@ -15,8 +15,8 @@ use Rattle.sqlite.specs.Effect.{Database}
 use Rattle.sqlite.specs.State.{State}
 
 -- a database that has nothing
-abbrev pub nothing : Schema
-nothing = record { tables = []; indexes = []; views = [] }
+abbrev pub no_tables : Schema
+no_tables = record { tables = []; indexes = []; views = [] }
 
 -- a column that takes values of its type alone, and no NULL
 abbrev pub strict : List ℕ → Kind → Column

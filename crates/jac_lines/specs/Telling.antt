@@ -13,8 +13,8 @@ use Rattle.jac_stored.specs.Faults.{CanBeSpelled}
 use Rattle.jac_keep.specs.declared.alteration.Alteration.{Alteration}
 use Rattle.jac_keep.specs.declared.alteration.Change.{Change}
 use Rattle.jac_keep.specs.Alterations.{AreOwn, ArePlaced}
-use Rattle.jac_keep.specs.Kept.{applied}
-use Rattle.jac_keep.specs.Reshaping.{widened}
+use Rattle.jac_keep.specs.Kept.{changed_state}
+use Rattle.jac_keep.specs.Reshaping.{widened_state}
 use Rattle.jac_keep.specs.Schema.{empties}
 use Rattle.jac_lines.specs.Stands.{Stands, AreNarrow}
 use Rattle.jac_lines.specs.Told.{told, schema_in, AreSpelled}
@@ -24,27 +24,27 @@ abbrev pub empty_state : ℕ → State
 empty_state models = record { tables = empties models; number = 1 }
 
 -- what the database tells is what it stands for
-pub record IsTold (models : ℕ) (db : Database) : Type 0 where
+pub record IsDatabaseTold (models : ℕ) (db : Database) : Type 0 where
   pub schema : List ℕ
   pub stands : Stands schema db (told models db)
   pub sound : IsSound (told models db)
   pub spelled : AreSpelled (told models db).tables
 
 -- while it is open, what is seen is what is committed, and it is told
-pub record IsKept (models : ℕ) (s : Sql) : Type 0 where
+pub record IsAllCommitted (models : ℕ) (s : Sql) : Type 0 where
   pub settled : IsTrue s.is_open → s.now ≡ s.committed
-  pub told_by : IsTrue s.is_open → IsTold models s.now
+  pub told_by : IsTrue s.is_open → IsDatabaseTold models s.now
 
 -- the state that is told afterwards was told before
-pub record StaysTold (models : ℕ) (old new : Sql) : Type 0 where
+pub record StaysCommitted (models : ℕ) (old new : Sql) : Type 0 where
   pub told_before : IsTrue new.is_open → IsTrue old.is_open
   pub same : IsTrue new.is_open → told models new.now ≡ told models old.now
 
 -- what was read is what the state has, and nothing was changed
 pub record ReadsTold {S T : Type 0} (g : Ghosts S) (Is : State → T → Type 0) (models : ℕ)
     (old new : Held S) (result : Result T Error) : Type 0 where
-  pub kept : IsKept models (state g new)
-  pub left : StaysTold models (state g old) (state g new)
+  pub kept : IsAllCommitted models (state g new)
+  pub left : StaysCommitted models (state g old) (state g new)
   pub exact : IsTrue (state g new).is_open → IfOk result (Is (told models (state g old).now))
 
 -- rows of altered records that can be spelled
@@ -61,10 +61,11 @@ pub record CanBeStored (models : ℕ) (xs : List Alteration) : Type 0 where
 -- the change was applied where it was told that it was, and else nothing was changed
 pub record AppliesTold {S : Type 0} (g : Ghosts S) (models : ℕ) (change : Change) (old new : Held S)
     (result : Result (Unit {0}) Error) : Type 0 where
-  pub kept : IsKept models (state g new)
+  pub kept : IsAllCommitted models (state g new)
   pub told_before : IsTrue (state g new).is_open → IsTrue (state g old).is_open
   pub exact : IsTrue (state g new).is_open
-      → OnOk result (told models (state g new).now ≡ applied change (told models (state g old).now))
+      → OnOk result (told models (state g new).now ≡ changed_state change (told models
+      (state g old).now))
   pub refused : IsTrue (state g new).is_open
       → OnErr result (told models (state g new).now ≡ told models (state g old).now)
 
@@ -73,11 +74,11 @@ pub record AppliesTold {S : Type 0} (g : Ghosts S) (models : ℕ) (change : Chan
 pub record ReshapesTold {S : Type 0} (g : Ghosts S) (models more : ℕ) (change : Change)
     (schema : List ℕ) (old new : Held S) (result : Result (Unit {0}) Error) : Type 0 where
   pub told_before : IsTrue (state g new).is_open → IsTrue (state g old).is_open
-  pub kept : OnOk result (IsKept more (state g new))
-  pub same : OnErr result (IsKept models (state g new))
+  pub kept : OnOk result (IsAllCommitted more (state g new))
+  pub same : OnErr result (IsAllCommitted models (state g new))
   pub exact : IsTrue (state g new).is_open
-      → OnOk result (told more (state g new).now ≡ widened more
-      (applied change (told models (state g old).now)))
+      → OnOk result (told more (state g new).now ≡ widened_state more
+      (changed_state change (told models (state g old).now)))
   pub refused : IsTrue (state g new).is_open
       → OnErr result (told models (state g new).now ≡ told models (state g old).now)
   pub stored : IsTrue (state g new).is_open → OnOk result (schema_in (state g new).now ≡ schema)

@@ -11,19 +11,19 @@ use Rattle.jac_rows.specs.Good.{ModelShape, IsRecord, AreGuarded}
 use Rattle.jac_rows.specs.declared.row.Row.{Row}
 use Rattle.jac_stored.specs.Spelling.{guard_bytes, cells_bytes}
 use Rattle.jac_lines.specs.Facts.{Fact, id_bytes, fact_of, facts}
-use Rattle.jac_lines.specs.Founding.{IsAsked}
+use Rattle.jac_lines.specs.Founding.{IsNumberAsked}
 use Rattle.jac_lines.specs.Spelled.{IsSpelled}
 use Rattle.jac_lines.specs.Statements.{key_reading, rowid_reading, all_reading}
-use Rattle.jac_lines.specs.Told.{natural_in, bytes_in, AreSpelled}
+use Rattle.jac_lines.specs.Told.{natural_in, bytes_in_value, AreSpelled}
 
 -- the fact of a row that the question for all rows shows
 abbrev pub fact_shown : Values → Fact
 fact_shown v = record {
   model = natural_in (column v 0);
-  jid = bytes_in (column v 1);
+  jid = bytes_in_value (column v 1);
   alt = natural_in (column v 2);
-  jvars = bytes_in (column v 3);
-  body = bytes_in (column v 4);
+  jvars = bytes_in_value (column v 3);
+  body = bytes_in_value (column v 4);
 }
 
 -- such a row shows this fact
@@ -128,6 +128,6 @@ pub record ShowsStored {S : Type 0} (g : Ghosts S) (shapes : List ModelShape) (o
   pub number : ℕ
   pub first : Held S
   pub second : Held S
-  pub asked : IsAsked g old first number
+  pub asked : IsNumberAsked g old first number
   pub ids : ShowsRowids g first second
   pub lines : ShowsLines g shapes number second new

@@ -19,12 +19,12 @@ natural_in (Real x) = 0
 natural_in (Text t) = 0
 natural_in (Blob b) = 0
 
-abbrev pub bytes_in : Value → List ℕ
-bytes_in (Blob b) = b
-bytes_in Null = []
-bytes_in (Int n) = []
-bytes_in (Real x) = []
-bytes_in (Text t) = []
+abbrev pub bytes_in_value : Value → List ℕ
+bytes_in_value (Blob b) = b
+bytes_in_value Null = []
+bytes_in_value (Int n) = []
+bytes_in_value (Real x) = []
+bytes_in_value (Text t) = []
 
 abbrev pub chars_in : Value → List ℕ
 chars_in (Text t) = t
@@ -37,10 +37,10 @@ chars_in (Blob b) = []
 abbrev pub fact_in : Values → Fact
 fact_in r = record {
   model = natural_in (column r 1);
-  jid = bytes_in (column r 2);
+  jid = bytes_in_value (column r 2);
   alt = natural_in (column r 3);
-  jvars = bytes_in (column r 4);
-  body = bytes_in (column r 5);
+  jvars = bytes_in_value (column r 4);
+  body = bytes_in_value (column r 5);
 }
 
 abbrev pub row_in : Fact → Row

@@ -4,7 +4,7 @@ use Rattle.jac_hub.specs.Hub.{HubSeen}
 use Rattle.jac_io.specs.Linked.{LinkSeen, DoorSeen}
 use Rattle.jac_serving.specs.Keeping.{Holding}
 use Rattle.jac_serving.specs.Answering.{Answering}
-use Rattle.jac_serving.specs.Desk.{DeskSeen, Keeps}
+use Rattle.jac_serving.specs.Desk.{DeskSeen, KeepsDesk}
 use Rattle.jac_serving.specs.Outside.{Span, span}
 use Rattle.jac_serving.proofs.DeskLemmas.{keeps-of}
 use Rattle.jac_links.specs.declared.door.DoorHalt.{DoorHalt}
@@ -15,7 +15,7 @@ use Rattle.jac_links.specs.DoorSteps.{ServesNext}
 use Rattle.jac_links.specs.Link.{IsLinkServed}
 use Rattle.jac_links.specs.LinkSteps.{ServesPiece}
 
-module _ {O : Type 0} (answering : O → Answering) (a b : DeskSeen O) (keeps : Keeps answering a b) where
+module _ {O : Type 0} (answering : O → Answering) (a b : DeskSeen O) (keeps : KeepsDesk answering a b) where
   pub piece-of : (c : ℕ) (hub new : HubSeen) (link : Span LinkSeen) (k : Span Holding) (served : ℕ) (result : Result Standing Halt) (out audit : List ℕ)
       → ServesPiece (answering b.of) c hub new link k served result out audit → ServesPiece (answering a.of) c hub new link k served result out audit
   piece-of c hub new link k served result out audit h =
@@ -27,7 +27,7 @@ module _ {O : Type 0} (answering : O → Answering) (a b : DeskSeen O) (keeps : 
       keeps-of answering a b (λ (app : Answering). ServesNext seen app tally door k result audit) keeps h
 
 -- a link that was served from a desk on which nothing was asked yet
-pub link-of : {O : Type 0} (answering : O → Answering) (a b : DeskSeen O) → Keeps answering a b → b.holding ≡ a.holding
+pub link-of : {O : Type 0} (answering : O → Answering) (a b : DeskSeen O) → KeepsDesk answering a b → b.holding ≡ a.holding
     → (c first : ℕ) (link : Span LinkSeen) (after : Holding) (result : Result ℕ Halt) (out audit : List ℕ)
     → IsLinkServed (answering b.of) c first link (span b.holding after) result out audit → IsLinkServed (answering a.of) c first link (span a.holding after) result out audit
 link-of answering a b keeps still c first link after result out audit h =

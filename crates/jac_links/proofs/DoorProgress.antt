@@ -2,7 +2,7 @@
 use Rattle.std.proofs.Common.{◌≡◌, ◌∙◌, ap, sym, subst, refl, inl, inr, ℕ, ◌+◌, ◌≤◌, ◌⊎◌, Bool, true, false, IsTrue, IsOk, Some, None, Result, Ok, Err, List, [], ◌∷◌, ◌++◌, length, map, if◌then◌else◌, append_assoc, append-nil, length-append, arith}
 use Rattle.jac_io.specs.Faults.{Rose}
 use Rattle.jac_io.specs.declared.sink.Failed.{Failed}
-use Rattle.jac_io.specs.Linked.{LinkSeen, DoorSeen, Nexts, Returns}
+use Rattle.jac_io.specs.Linked.{LinkSeen, DoorSeen, AsksNext, Returns}
 use Rattle.jac_serving.specs.Keeping.{Holding}
 use Rattle.jac_links.specs.declared.door.DoorHalt.{DoorHalt}
 use Rattle.jac_links.specs.declared.door.DoorHalt.TheVariants as halts
@@ -10,10 +10,10 @@ use Rattle.jac_links.specs.declared.door.Tally.{Tally}
 use Rattle.jac_links.specs.declared.link.Halt.{Halt}
 use Rattle.jac_links.specs.declared.link.Halt.TheVariants as ways
 use Rattle.jac_links.specs.Link.{as_sink, PutsLog, IsLinkServed}
-use Rattle.jac_links.specs.Door.{IsPart, Visit, IsVisited, AreVisited, AreWhole, AreLinksServed}
-use Rattle.jac_links.specs.DoorSteps.{visit_of, Visits, VisitsLine, GaveLine, IsUnvisited, ServesNext}
-use Rattle.jac_serving.specs.Answering.{Entry, Answering, IsAnswering}
-use Rattle.jac_serving.specs.Log.{audited, audited_from}
+use Rattle.jac_links.specs.Door.{IsPart, LinkVisit, IsVisited, AreVisited, AreWhole, AreLinksServed}
+use Rattle.jac_links.specs.DoorSteps.{link_visit, Visits, VisitsLine, GaveLine, IsUnvisited, ServesNext}
+use Rattle.jac_serving.specs.Answering.{LogEntry, Answering, IsAnswering}
+use Rattle.jac_serving.specs.Log.{audit_lines, audited_from}
 use Rattle.jac_serving.specs.Outside.{Span, span, Took, IsFront}
 use Rattle.jac_serving.proofs.EntriesLemmas.{entries-still, audited-append}
 use Rattle.jac_serving.proofs.OutsideLemmas.{append-IsFront, Rose-widen}
@@ -25,7 +25,7 @@ is_torn (Ok count) = false
 is_torn (Err ways.Write) = true
 is_torn (Err ways.Memory) = false
 
-lines_put : (first : ℕ) (link : Span LinkSeen) (log : List Entry) (result : Result ℕ Halt) (out lines : List ℕ)
+lines_put : (first : ℕ) (link : Span LinkSeen) (log : List LogEntry) (result : Result ℕ Halt) (out lines : List ℕ)
     → PutsLog first link log result out lines → IsPart (is_torn result) lines (audited_from (first + 1) log)
 lines_put first link log (Ok count) out lines (inl all) = all.audit_text
 lines_put first link log (Ok count) out lines (inr lost) = lost_lines first log out lines lost.0
@@ -33,19 +33,19 @@ lines_put first link log (Err ways.Write) out lines lost = torn_lines first log 
 lines_put first link log (Err ways.Memory) out lines all = all.audit_text
 
 module _ {L : Type 0} (seen : L → LinkSeen) (app : Answering) where
-  visit_entries : (c first : ℕ) (a b : Holding) (visit : Visit L) (mine : List Entry) (lines : List ℕ)
+  visit_entries : (c first : ℕ) (a b : Holding) (visit : LinkVisit L) (mine : List LogEntry) (lines : List ℕ)
       → IsVisited seen app c first (span a b) visit mine lines → app.entries (span a b) mine
   visit_entries c first a b visit mine lines v =
-      subst (λ (log : List Entry). app.entries (span a b) log) v.entries v.served.served.entries
+      subst (λ (log : List LogEntry). app.entries (span a b) log) v.entries v.served.served.entries
 
-  visit_few : (c first : ℕ) (k : Span Holding) (visit : Visit L) (mine : List Entry) (lines : List ℕ)
+  visit_few : (c first : ℕ) (k : Span Holding) (visit : LinkVisit L) (mine : List LogEntry) (lines : List ℕ)
       → IsVisited seen app c first k visit mine lines → length mine ≤ 16777217
-  visit_few c first k visit mine lines v = let few = v.served.few in let same = ap (λ (l : List Entry). length l) v.entries in omega (arith, few, same)
+  visit_few c first k visit mine lines v = let few = v.served.few in let same = ap (λ (l : List LogEntry). length l) v.entries in omega (arith, few, same)
 
-  visit_lines : (c first : ℕ) (k : Span Holding) (visit : Visit L) (mine : List Entry) (lines : List ℕ)
+  visit_lines : (c first : ℕ) (k : Span Holding) (visit : LinkVisit L) (mine : List LogEntry) (lines : List ℕ)
       → IsVisited seen app c first k visit mine lines → IsPart (is_torn visit.result) lines (audited_from (first + 1) mine)
   visit_lines c first k visit mine lines v =
-      subst (λ (log : List Entry). IsPart (is_torn visit.result) lines (audited_from (first + 1) log)) v.entries
+      subst (λ (log : List LogEntry). IsPart (is_torn visit.result) lines (audited_from (first + 1) log)) v.entries
       (lines_put first (span (seen visit.came) (seen visit.gone)) v.served.log visit.result v.out lines v.served.puts)
 
   -- a link that was served, and handed back or not
@@ -118,7 +118,7 @@ module _ {L : Type 0} (seen : L → LinkSeen) (app : Answering) where
   }
 
   pub next_some : (tally more : Tally) (line : L) (da db dc : DoorSeen L) (k : Span Holding) (lines : List ℕ) → (IsTrue dc.tells → IsTrue db.tells)
-      → Nexts da db (Ok (Some line)) → (IsTrue dc.tells → dc.coming ≡ db.coming) → VisitsLine seen app tally line (span db dc) k (Ok more) lines
+      → AsksNext da db (Ok (Some line)) → (IsTrue dc.tells → dc.coming ≡ db.coming) → VisitsLine seen app tally line (span db dc) k (Ok more) lines
       → ServesNext seen app tally (span da dc) k (Ok (Some more)) lines
   unfolding visits_after
   next_some tally more line da db dc k lines back next coming (count, v, connections, replies) = (
@@ -128,7 +128,7 @@ module _ {L : Type 0} (seen : L → LinkSeen) (app : Answering) where
   )
 
   pub next_cut : (tally : Tally) (line : L) (da db dc : DoorSeen L) (k : Span Holding) (lines : List ℕ) (halt : DoorHalt) → da.faults ≤ db.faults → (IsTrue dc.tells → IsTrue db.tells)
-      → Nexts da db (Ok (Some line)) → (IsTrue dc.tells → dc.coming ≡ db.coming) → VisitsLine seen app tally line (span db dc) k (Err halt) lines
+      → AsksNext da db (Ok (Some line)) → (IsTrue dc.tells → dc.coming ≡ db.coming) → VisitsLine seen app tally line (span db dc) k (Err halt) lines
       → ServesNext seen app tally (span da dc) k (Err halt) lines
   next_cut tally line da db dc k lines halts.Door later back next coming ((count, v), rose) = (
     inr (line, gave_line da db dc line back next.ok coming, (count, visits_after tally line false da db dc k (Ok count) lines back next.same_returned v)),
@@ -139,20 +139,20 @@ module _ {L : Type 0} (seen : L → LinkSeen) (app : Answering) where
   next_cut tally line da db dc k lines halts.Memory later back next coming v =
       (line, gave_line da db dc line back next.ok coming, visits_after tally line false da db dc k (Err ways.Memory) lines back next.same_returned v)
 
-  pub next_no_more : (tally : Tally) (da db : DoorSeen L) (k : Holding) → Nexts da db (Ok None) → ServesNext seen app tally (span da db) (span k k) (Ok None) []
+  pub next_no_more : (tally : Tally) (da db : DoorSeen L) (k : Holding) → AsksNext da db (Ok None) → ServesNext seen app tally (span da db) (span k k) (Ok None) []
   next_no_more tally da db k next = (
     record { coming = λ told. (next.ok told).1 ∙ sym (next.ok told).0; returned = next.same_returned; still = refl; no_audit = refl },
     λ told. (next.ok told).1,
   )
 
-  pub next_failed : (tally : Tally) (da db : DoorSeen L) (k : Holding) (failed : Failed) → Nexts da db (Err failed) → ServesNext seen app tally (span da db) (span k k) (Err halts.Door) []
+  pub next_failed : (tally : Tally) (da db : DoorSeen L) (k : Holding) (failed : Failed) → AsksNext da db (Err failed) → ServesNext seen app tally (span da db) (span k k) (Err halts.Door) []
   next_failed tally da db k failed next = (
     inl (record { coming = next.err; returned = next.same_returned; still = refl; no_audit = refl }),
     next.rose,
   )
 
   -- one more
-  visited_push : (visits : List (Visit L)) (c first : ℕ) (before mid after : Holding) (log mine : List Entry) (audit lines : List ℕ) (visit : Visit L)
+  visited_push : (visits : List (LinkVisit L)) (c first : ℕ) (before mid after : Holding) (log mine : List LogEntry) (audit lines : List ℕ) (visit : LinkVisit L)
       → AreVisited seen app c first before visits log audit mid → IsVisited seen app (c + length visits) (first + length log) (span mid after) visit mine lines
       → AreVisited seen app c first before (visits ++ visit ∷ []) (log ++ mine) (audit ++ lines) after
   visited_push [] c first before mid after log mine audit lines visit (no_log, no_audit, same) v = (
@@ -162,9 +162,9 @@ module _ {L : Type 0} (seen : L → LinkSeen) (app : Answering) where
     [],
     [],
     subst (λ (n : ℕ). IsVisited seen app n first (span before after) visit mine lines) (omega arith)
-        (subst (λ (n : ℕ). IsVisited seen app (c + 0) n (span before after) visit mine lines) (let l = ap (λ (x : List Entry). length x) no_log in omega (arith, l))
+        (subst (λ (n : ℕ). IsVisited seen app (c + 0) n (span before after) visit mine lines) (let l = ap (λ (x : List LogEntry). length x) no_log in omega (arith, l))
         (subst (λ (k : Holding). IsVisited seen app (c + 0) (first + length log) (span k after) visit mine lines) same v)),
-    ap (λ (l : List Entry). l ++ mine) no_log ∙ sym (append-nil mine),
+    ap (λ (l : List LogEntry). l ++ mine) no_log ∙ sym (append-nil mine),
     ap (λ (t : List ℕ). t ++ lines) no_audit ∙ sym (append-nil lines),
     (refl, refl, refl),
   )
@@ -175,26 +175,26 @@ module _ {L : Type 0} (seen : L → LinkSeen) (app : Answering) where
     others ++ mine,
     more ++ lines,
     v_one,
-    ap (λ (l : List Entry). l ++ mine) parts ∙ append_assoc ours others mine,
+    ap (λ (l : List LogEntry). l ++ mine) parts ∙ append_assoc ours others mine,
     ap (λ (t : List ℕ). t ++ lines) texts ∙ append_assoc ours_lines more lines,
     visited_push visits (c + 1) (first + length ours) between mid after others mine more lines visit rest
         (subst (λ (n : ℕ). IsVisited seen app n (first + length ours + length others) (span mid after) visit mine lines) (omega arith)
         (subst (λ (n : ℕ). IsVisited seen app (c + length (one ∷ visits)) n (span mid after) visit mine lines)
-        (let l = ap (λ (x : List Entry). length x) parts ∙ length-append ours others in omega (arith, l)) v)),
+        (let l = ap (λ (x : List LogEntry). length x) parts ∙ length-append ours others in omega (arith, l)) v)),
   )
 
-  whole_push : (visits : List (Visit L)) (visit : Visit L) → AreWhole visits → IsOk visit.result → AreWhole (visits ++ visit ∷ [])
+  whole_push : (visits : List (LinkVisit L)) (visit : LinkVisit L) → AreWhole visits → IsOk visit.result → AreWhole (visits ++ visit ∷ [])
   whole_push [] visit all one = (one, tt)
   whole_push (v ∷ visits) visit all one = (all.0, whole_push visits visit all.1 one)
 
-  map_push : (f : Visit L → L) (visits : List (Visit L)) (visit : Visit L) → map f (visits ++ visit ∷ []) ≡ map f visits ++ f visit ∷ []
+  map_push : (f : LinkVisit L → L) (visits : List (LinkVisit L)) (visit : LinkVisit L) → map f (visits ++ visit ∷ []) ≡ map f visits ++ f visit ∷ []
   map_push f [] visit = refl
   map_push f (v ∷ visits) visit = ap (λ (l : List L). f v ∷ l) (map_push f visits visit)
 
   -- these links were served and handed back
   pub record DoorProgress (door : Span (DoorSeen L)) (k : Span Holding) (tally : Tally) (audit : List ℕ) : Type 0 where
-    pub visits : List (Visit L)
-    pub log : List Entry
+    pub visits : List (LinkVisit L)
+    pub log : List LogEntry
     pub came : IsTrue door.after.tells → door.before.coming ≡ map (λ visit. visit.came) visits ++ door.after.coming
     pub returned : IsTrue door.after.tells → door.after.returned ≡ door.before.returned ++ map (λ visit. visit.gone) visits
     pub visited : AreVisited seen app 1 0 k.before visits log audit k.after
@@ -202,7 +202,7 @@ module _ {L : Type 0} (seen : L → LinkSeen) (app : Answering) where
     pub entries : app.entries k log
     pub connections : tally.connections ≡ length visits
     pub replies : tally.replies ≡ length log
-    pub audit_text : audit ≡ audited log
+    pub audit_text : audit ≡ audit_lines log
 
   pub door_start : IsAnswering app → (door : DoorSeen L) (k : Holding) → app.ready k
       → DoorProgress (span door door) (span k k) (record { connections = 0; replies = 0 }) []
@@ -219,19 +219,19 @@ module _ {L : Type 0} (seen : L → LinkSeen) (app : Answering) where
     audit_text = refl;
   }
 
-  came_on : (da db dc : DoorSeen L) (visits : List (Visit L)) (line gone : L) (result : Result ℕ Halt) → (IsTrue dc.tells → IsTrue db.tells)
+  came_on : (da db dc : DoorSeen L) (visits : List (LinkVisit L)) (line gone : L) (result : Result ℕ Halt) → (IsTrue dc.tells → IsTrue db.tells)
       → (IsTrue db.tells → da.coming ≡ map (λ visit. visit.came) visits ++ db.coming) → GaveLine (span db dc) line
-      → IsTrue dc.tells → da.coming ≡ map (λ visit. visit.came) (visits ++ visit_of line gone result ∷ []) ++ dc.coming
+      → IsTrue dc.tells → da.coming ≡ map (λ visit. visit.came) (visits ++ link_visit line gone result ∷ []) ++ dc.coming
   came_on da db dc visits line gone result back before gave told =
       before (back told) ∙ ap (λ (l : List L). map (λ visit. visit.came) visits ++ l) (gave told)
-      ∙ sym (append_assoc (map (λ (v : Visit L). v.came) visits) (line ∷ []) dc.coming)
-      ∙ ap (λ (l : List L). l ++ dc.coming) (sym (map_push (λ visit. visit.came) visits (visit_of line gone result)))
+      ∙ sym (append_assoc (map (λ (v : LinkVisit L). v.came) visits) (line ∷ []) dc.coming)
+      ∙ ap (λ (l : List L). l ++ dc.coming) (sym (map_push (λ visit. visit.came) visits (link_visit line gone result)))
 
-  audited_push : (log mine : List Entry) → audited log ++ audited_from (length log + 1) mine ≡ audited (log ++ mine)
-  audited_push log mine = ap (λ (n : ℕ). audited log ++ audited_from n mine) (omega arith) ∙ sym (audited-append 1 log mine)
+  audited_push : (log mine : List LogEntry) → audit_lines log ++ audited_from (length log + 1) mine ≡ audit_lines (log ++ mine)
+  audited_push log mine = ap (λ (n : ℕ). audit_lines log ++ audited_from n mine) (omega arith) ∙ sym (audited-append 1 log mine)
 
   module _ (lawful : IsAnswering app) (da db dc : DoorSeen L) (a b d : Holding) (tally : Tally) (o au : List ℕ) (back : IsTrue dc.tells → IsTrue db.tells) (s : DoorProgress (span da db) (span a b) tally o) where
-    seen_as : (visit : Visit L) (mine : List Entry) → IsVisited seen app (tally.connections + 1) tally.replies (span b d) visit mine au
+    seen_as : (visit : LinkVisit L) (mine : List LogEntry) → IsVisited seen app (tally.connections + 1) tally.replies (span b d) visit mine au
         → IsVisited seen app (1 + length s.visits) (0 + length s.log) (span b d) visit mine au
     seen_as visit mine v =
         let cs = s.connections in
@@ -239,7 +239,7 @@ module _ {L : Type 0} (seen : L → LinkSeen) (app : Answering) where
         subst (λ (n : ℕ). IsVisited seen app n (0 + length s.log) (span b d) visit mine au) (omega (arith, cs))
         (subst (λ (n : ℕ). IsVisited seen app (tally.connections + 1) n (span b d) visit mine au) (omega (arith, rs)) v)
 
-    lines_as : (visit : Visit L) (mine : List Entry) → IsVisited seen app (tally.connections + 1) tally.replies (span b d) visit mine au
+    lines_as : (visit : LinkVisit L) (mine : List LogEntry) → IsVisited seen app (tally.connections + 1) tally.replies (span b d) visit mine au
         → IsPart (is_torn visit.result) au (audited_from (length s.log + 1) mine)
     lines_as visit mine v =
         subst (λ (n : ℕ). IsPart (is_torn visit.result) au (audited_from (n + 1) mine)) s.replies (visit_lines (tally.connections + 1) tally.replies (span b d) visit mine au v)
@@ -248,14 +248,14 @@ module _ {L : Type 0} (seen : L → LinkSeen) (app : Answering) where
     pub door_on : (line : L) (more : Tally) → GaveLine (span db dc) line → VisitsLine seen app tally line (span db dc) (span b d) (Ok more) au
         → DoorProgress (span da dc) (span a d) more (o ++ au)
     door_on line more gave (count, v, connections, replies) =
-        let visit = visit_of line v.gone (Ok count) in
+        let visit = link_visit line v.gone (Ok count) in
         record {
           visits = s.visits ++ visit ∷ [];
           log = s.log ++ v.mine;
           came = came_on da db dc s.visits line v.gone (Ok count) back s.came gave;
           returned = λ told.
               v.returned told ∙ ap (λ (l : List L). l ++ v.gone ∷ []) (s.returned (back told))
-              ∙ append_assoc da.returned (map (λ (x : Visit L). x.gone) s.visits) (v.gone ∷ [])
+              ∙ append_assoc da.returned (map (λ (x : LinkVisit L). x.gone) s.visits) (v.gone ∷ [])
               ∙ ap (λ (l : List L). da.returned ++ l) (sym (map_push (λ x. x.gone) s.visits visit));
           visited = visited_push s.visits 1 0 a b d s.log v.mine o au visit s.visited (seen_as visit v.mine v.visited);
           whole = whole_push s.visits visit s.whole refl;
@@ -263,17 +263,17 @@ module _ {L : Type 0} (seen : L → LinkSeen) (app : Answering) where
           connections = let cs = s.connections in let l = length-append s.visits (visit ∷ []) in omega (arith, cs, l, connections);
           replies = let rs = s.replies in let l = length-append s.log v.mine in omega (arith, rs, l, replies);
           audit_text =
-              ap (λ (t : List ℕ). t ++ au) s.audit_text ∙ ap (λ (t : List ℕ). audited s.log ++ t) (lines_as visit v.mine v.visited) ∙ audited_push s.log v.mine;
+              ap (λ (t : List ℕ). t ++ au) s.audit_text ∙ ap (λ (t : List ℕ). audit_lines s.log ++ t) (lines_as visit v.mine v.visited) ∙ audited_push s.log v.mine;
         }
 
-    returned_same : (gone : L) → (IsTrue dc.tells → dc.returned ≡ db.returned ++ []) → IsTrue dc.tells → dc.returned ≡ da.returned ++ map (λ (x : Visit L). x.gone) s.visits
+    returned_same : (gone : L) → (IsTrue dc.tells → dc.returned ≡ db.returned ++ []) → IsTrue dc.tells → dc.returned ≡ da.returned ++ map (λ (x : LinkVisit L). x.gone) s.visits
     returned_same gone same told = same told ∙ append-nil db.returned ∙ s.returned (back told)
 
     -- the next link was served whole, and wasn't handed back
     pub door_kept : (most : ℕ) (line : L) (count : ℕ) → GaveLine (span db dc) line → Rose da.faults dc.faults → Visits seen app tally line false (span db dc) (span b d) (Ok count) au
         → AreLinksServed seen app most (span da dc) (span a d) (Err halts.Door) (o ++ au)
     door_kept most line count gave rose v =
-        let visit = visit_of line v.gone (Ok count) in
+        let visit = link_visit line v.gone (Ok count) in
         record {
           visits = s.visits;
           last = Some visit;
@@ -284,20 +284,20 @@ module _ {L : Type 0} (seen : L → LinkSeen) (app : Answering) where
           whole = s.whole;
           entries = lawful.joined a b d s.log v.mine s.entries (visit_entries (tally.connections + 1) tally.replies b d visit v.mine au v.visited);
           audit_text =
-              ap (λ (t : List ℕ). t ++ au) s.audit_text ∙ ap (λ (t : List ℕ). audited s.log ++ t) (lines_as visit v.mine v.visited) ∙ audited_push s.log v.mine;
+              ap (λ (t : List ℕ). t ++ au) s.audit_text ∙ ap (λ (t : List ℕ). audit_lines s.log ++ t) (lines_as visit v.mine v.visited) ∙ audited_push s.log v.mine;
           ended = ((refl, tt), rose);
         }
 
-    cut_text : (mine : List Entry) → IsFront au (audited_from (length s.log + 1) mine) → IsFront (o ++ au) (audited (s.log ++ mine))
+    cut_text : (mine : List LogEntry) → IsFront au (audited_from (length s.log + 1) mine) → IsFront (o ++ au) (audit_lines (s.log ++ mine))
     cut_text mine front =
-        subst (λ (t : List ℕ). IsFront (t ++ au) (audited (s.log ++ mine))) (sym s.audit_text)
-        (subst (λ (t : List ℕ). IsFront (audited s.log ++ au) t) (audited_push s.log mine) (append-IsFront (audited s.log) au (audited_from (length s.log + 1) mine) front))
+        subst (λ (t : List ℕ). IsFront (t ++ au) (audit_lines (s.log ++ mine))) (sym s.audit_text)
+        (subst (λ (t : List ℕ). IsFront (audit_lines s.log ++ au) t) (audited_push s.log mine) (append-IsFront (audit_lines s.log) au (audited_from (length s.log + 1) mine) front))
 
     -- a put on the audit failed in it
     pub door_cut : (most : ℕ) (line : L) → GaveLine (span db dc) line → Visits seen app tally line false (span db dc) (span b d) (Err ways.Write) au
         → AreLinksServed seen app most (span da dc) (span a d) (Err halts.Write) (o ++ au)
     door_cut most line gave v =
-        let visit = visit_of line v.gone (Err ways.Write) in
+        let visit = link_visit line v.gone (Err ways.Write) in
         record {
           visits = s.visits;
           last = Some visit;
@@ -315,7 +315,7 @@ module _ {L : Type 0} (seen : L → LinkSeen) (app : Answering) where
     pub door_wanting : (most : ℕ) (line : L) → GaveLine (span db dc) line → Visits seen app tally line false (span db dc) (span b d) (Err ways.Memory) au
         → AreLinksServed seen app most (span da dc) (span a d) (Err halts.Memory) (o ++ au)
     door_wanting most line gave v =
-        let visit = visit_of line v.gone (Err ways.Memory) in
+        let visit = link_visit line v.gone (Err ways.Memory) in
         record {
           visits = s.visits;
           last = Some visit;
@@ -326,7 +326,7 @@ module _ {L : Type 0} (seen : L → LinkSeen) (app : Answering) where
           whole = s.whole;
           entries = lawful.joined a b d s.log v.mine s.entries (visit_entries (tally.connections + 1) tally.replies b d visit v.mine au v.visited);
           audit_text =
-              ap (λ (t : List ℕ). t ++ au) s.audit_text ∙ ap (λ (t : List ℕ). audited s.log ++ t) (lines_as visit v.mine v.visited) ∙ audited_push s.log v.mine;
+              ap (λ (t : List ℕ). t ++ au) s.audit_text ∙ ap (λ (t : List ℕ). audit_lines s.log ++ t) (lines_as visit v.mine v.visited) ∙ audited_push s.log v.mine;
           ended = (visit, refl, refl);
         }
 
@@ -357,9 +357,9 @@ module _ {L : Type 0} (seen : L → LinkSeen) (app : Answering) where
     visits = s.visits;
     last = None;
     log = s.log;
-    came = λ told. s.came told ∙ ap (λ (vs : List (Visit L)). map (λ visit. visit.came) vs ++ db.coming) (sym (append-nil s.visits));
+    came = λ told. s.came told ∙ ap (λ (vs : List (LinkVisit L)). map (λ visit. visit.came) vs ++ db.coming) (sym (append-nil s.visits));
     returned = s.returned;
-    visited = subst (λ (vs : List (Visit L)). AreVisited seen app 1 0 a vs s.log o b) (sym (append-nil s.visits)) s.visited;
+    visited = subst (λ (vs : List (LinkVisit L)). AreVisited seen app 1 0 a vs s.log o b) (sym (append-nil s.visits)) s.visited;
     whole = s.whole;
     entries = s.entries;
     audit_text = s.audit_text;
@@ -377,9 +377,9 @@ module _ {L : Type 0} (seen : L → LinkSeen) (app : Answering) where
     visits = s.visits;
     last = None;
     log = s.log;
-    came = λ told. s.came told ∙ ap (λ (vs : List (Visit L)). map (λ visit. visit.came) vs ++ db.coming) (sym (append-nil s.visits));
+    came = λ told. s.came told ∙ ap (λ (vs : List (LinkVisit L)). map (λ visit. visit.came) vs ++ db.coming) (sym (append-nil s.visits));
     returned = s.returned;
-    visited = subst (λ (vs : List (Visit L)). AreVisited seen app 1 0 a vs s.log o b) (sym (append-nil s.visits)) s.visited;
+    visited = subst (λ (vs : List (LinkVisit L)). AreVisited seen app 1 0 a vs s.log o b) (sym (append-nil s.visits)) s.visited;
     whole = s.whole;
     entries = s.entries;
     audit_text = s.audit_text;

@@ -12,7 +12,7 @@ use Rattle.jac_links.specs.declared.link.Halt.TheVariants as halts
 use Rattle.jac_links.specs.declared.link.Standing.TheVariants as standings
 use Rattle.jac_links.specs.Link.{IsLinkServed}
 use Rattle.jac_links.specs.LinkSteps.{IsLast, IsPieceOn, IsPieceBegun, IsTornOn, ServesPiece}
-use Rattle.jac_serving.specs.Answering.{Entry, Answering, IsAnswering}
+use Rattle.jac_serving.specs.Answering.{LogEntry, Answering, IsAnswering}
 use Rattle.jac_serving.specs.Outside.{Span, span}
 use Rattle.jac_links.proofs.LinkProgress.{LinkProgress, taken_by, place, link_on, link_nearer, link_quiet, link_whole, link_missed, link_wanting, link_cut, link_torn, limit_is}
 use Rattle.jac_serving.proofs.OutsideLemmas.{Rose-widen}
@@ -56,7 +56,7 @@ module _ (app : Answering) (lawful : IsAnswering app) (law : IsReading IsTaken) 
     where
       by : IsLast (span lb lc) (span b d) count last p bu
           ⊎ (IsPieceOn app c new (span lb lc) (span b d) count (record { count = last; closed = true }) (place app lawful law c first hub la lb lc a b d count o au p bu back s) s.known p bu
-          ⊎ ((mine : List Entry) × IsPieceBegun app c (span lb lc) (span b d) (place app lawful law c first hub la lb lc a b d count o au p bu back s) s.known mine
+          ⊎ ((mine : List LogEntry) × IsPieceBegun app c (span lb lc) (span b d) (place app lawful law c first hub la lb lc a b d count o au p bu back s) s.known mine
           × IsTornOn (span lb lc) count last mine p bu))
           → first ≤ last
       by (inl h) = let few = link_few app c first hub (span la lb) (span a b) count false o au s in let is = h.same_count in omega (arith, few.0, is)
@@ -87,7 +87,7 @@ module _ (app : Answering) (lawful : IsAnswering app) (law : IsReading IsTaken) 
     where
       by : IsLast (span lb lc) (span b d) count last p bu
           ⊎ (IsPieceOn app c new (span lb lc) (span b d) count (record { count = last; closed = true }) (place app lawful law c first hub la lb lc a b d count o au p bu back s) s.known p bu
-          ⊎ ((mine : List Entry) × IsPieceBegun app c (span lb lc) (span b d) (place app lawful law c first hub la lb lc a b d count o au p bu back s) s.known mine
+          ⊎ ((mine : List LogEntry) × IsPieceBegun app c (span lb lc) (span b d) (place app lawful law c first hub la lb lc a b d count o au p bu back s) s.known mine
           × IsTornOn (span lb lc) count last mine p bu))
           → IsLinkServed app c first (span la lc) (span a d) (Ok (last - first)) (o ++ p) (au ++ bu)
       by (inl h) = by_last count last o au p bu back later s h h.cause

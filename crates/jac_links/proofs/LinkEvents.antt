@@ -24,7 +24,7 @@ use Rattle.jac_links.specs.declared.link.Standing.TheVariants as standings
 use Rattle.jac_links.specs.declared.onto.Missed.TheVariants as misses
 use Rattle.jac_replies.specs.declared.reply.Spelling.TheVariants as spellings
 use Rattle.jac_links.specs.Link.{as_sink}
-use Rattle.jac_links.specs.LinkSteps.{begun_hub, TakesPiece, MayTake, TakesIn, AnswersOn, standing_of, cut_by, Gave, IsPieceOn, ServesPiece}
+use Rattle.jac_links.specs.LinkSteps.{begun_hub, TakesPiece, MayTake, TakesIn, AnswersOn, standing_after, cut_by, Gave, IsPieceOn, ServesPiece}
 use Rattle.jac_serving.specs.declared.given.Brought.{Brought}
 use Rattle.jac_serving.specs.declared.given.Cut.{Cut}
 use Rattle.jac_serving.specs.declared.given.Lost.{Lost}
@@ -78,7 +78,7 @@ gave_then la lb lc bytes back same gave = λ told. gave (back told) ∙ ap (λ (
 pub piece_stands : (app : Answering) (c served : ℕ) (old new : HubSeen) (la lb lc : LinkSeen) (a b : Holding) (s : Sinks) (bytes out audit : List ℕ) (brought : Brought)
     → (IsTrue lc.tells → IsTrue lb.tells) → (IsTrue lc.tells → lc.left ≡ lb.left) → TakesPiece (span la lb) (Ok (Some bytes))
     → AnswersOn app old new (span a b) served (Piece c bytes) (Ok brought) s out audit
-    → ServesPiece app c old new (span la lc) (span a b) served (Ok (standing_of brought)) out audit
+    → ServesPiece app c old new (span la lc) (span a b) served (Ok (standing_after brought)) out audit
 piece_stands app c served old new la lb lc a b s bytes out audit brought back same took answers = by_closed brought.closed refl
   where
     one : (closed : Bool) → brought.closed ≡ closed → (n : ℕ) (known : Connections Ask) → AreLike (hearing app) old.channels known

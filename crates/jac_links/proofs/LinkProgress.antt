@@ -2,6 +2,7 @@
 use Rattle.std.proofs.Common.{◌≡◌, ◌∙◌, ap, sym, subst, refl, inl, inr, ℕ, ◌+◌, ◌-◌, ◌≤◌, ◌<◌, ◌==◌, ◌||◌, ◌&&◌, ◌⊎◌, not, nat_le, Bool, true, false, IsTrue, IsSome, Option, Some, None, Ok, Err, List, [], ◌∷◌, ◌++◌, length, drop, append_assoc, append-nil, length-append, length-take, length-drop, if◌then◌else◌, arith}
 use Rattle.std.proofs.lemmas.Bool.Decides.{nat_tests}
 use Rattle.std.specs.List.{concat}
+use Rattle.std.proofs.lemmas.Bool.{and_from}
 use Rattle.jac_io.specs.Faults.{Rose}
 use Rattle.jac_io.specs.Linked.{LinkSeen}
 use Rattle.jac_serving.specs.Keeping.{Holding}
@@ -14,7 +15,7 @@ use Rattle.jac_http.specs.Requests.{IsTaken}
 use Rattle.jac_hub.specs.declared.hub.Turn.TheVariants.{Idle}
 use Rattle.jac_hub.specs.Channel.{LIMIT, ChannelSeen, new_channel}
 use Rattle.jac_hub.specs.Hearing.{Subject as SubjectOf, whole, refused, broken}
-use Rattle.jac_hub.specs.Heard.{Connection, Connections, no_connections, new_connection, set_at, with_bytes, with_entry, is_closed, is_closing, closes, counted, StandAt, IsNext, AreBrought, AreBegun, PieceBrings, PieceBegins, IsBroughtBy, IsHeardFrom, after_both}
+use Rattle.jac_hub.specs.Heard.{Connection, Connections, no_connections, new_connection, set_at, with_bytes, with_entry, is_closed, may_close, closes_connection, bytes_counted, StandAt, IsNextEntry, AreBrought, AreBegun, PieceBrings, PieceBegins, IsBroughtBy, IsHeardFrom, after_both}
 use Rattle.jac_hub.specs.Hub.{HubSeen}
 use Rattle.jac_hub.specs.Served.{AreLikeAt, AreLike, is_shut, closing}
 use Rattle.jac_hub.proofs.Events.{piece-left, piece-closings}
@@ -28,7 +29,7 @@ use Rattle.jac_serving.specs.declared.given.Lost.TheVariants as losses
 use Rattle.jac_replies.specs.declared.reply.Spelling.TheVariants as spellings
 use Rattle.jac_links.specs.Link.{pieces_of, events_of, closes_in, is_over, IsLinkServed}
 use Rattle.jac_links.specs.LinkSteps.{Gave, begun_hub, IsPieceOn, IsPieceBegun, IsTornOn, IsQuiet}
-use Rattle.jac_serving.specs.Answering.{Entry, hearing, IsHeardBy, Answering, IsAnswering}
+use Rattle.jac_serving.specs.Answering.{LogEntry, hearing, IsHeardBy, Answering, IsAnswering}
 use Rattle.jac_serving.specs.Log.{replies_on, audited_from, Brings, event_text}
 use Rattle.jac_serving.specs.Outside.{Span, span}
 use Rattle.jac_serving.specs.Serve.{IsServed, IsLastLost, has_closed, outs_on}
@@ -62,9 +63,6 @@ and_right : (a b : Bool) → (a && b) ≡ true → b ≡ true
 and_right true b h = h
 and_right false b h = absurd cc
 
-and_both : (a b : Bool) → a ≡ true → b ≡ true → (a && b) ≡ true
-and_both a b x y = rw (x, y) refl
-
 or_left : (a b : Bool) → (a || b) ≡ false → a ≡ false
 or_left true b h = absurd cc
 or_left false b h = refl
@@ -88,50 +86,50 @@ module _ (app : Answering) (law : IsReading IsTaken) where
   stand_few (broken ∷ subjects) from to all h = absurd cc
 
   whole_last : (subjects : List (SubjectOf Ask)) (subject : SubjectOf Ask) → all_whole subjects ≡ true → is_whole subject ≡ true → all_whole (subjects ++ subject ∷ []) ≡ true
-  whole_last [] subject all one = and_both (is_whole subject) true one refl
+  whole_last [] subject all one = and_from (is_whole subject) true one refl
   whole_last (s ∷ subjects) subject all one =
-      and_both (is_whole s) (all_whole (subjects ++ subject ∷ [])) (and_left (is_whole s) (all_whole subjects) all)
+      and_from (is_whole s) (all_whole (subjects ++ subject ∷ [])) (and_left (is_whole s) (all_whole subjects) all)
       (whole_last subjects subject (and_right (is_whole s) (all_whole subjects) all) one)
 
-  whole_open : (subject : SubjectOf Ask) → closes subject ≡ false → is_whole subject ≡ true
+  whole_open : (subject : SubjectOf Ask) → closes_connection subject ≡ false → is_whole subject ≡ true
   whole_open (whole ask close) h = refl
   whole_open (refused status) h = absurd cc
   whole_open broken h = absurd cc
 
-  counted_few : (one : Connection Ask) → length (counted one) ≤ LIMIT
+  counted_few : (one : Connection Ask) → length (bytes_counted one) ≤ LIMIT
   counted_few one = let l = length-take LIMIT one.bytes in omega (arith, l)
 
-  few_next : (n c : ℕ) (one : Connection Ask) (entry : Entry) → IsFew one → IsNext (hearing app) n c one entry → IsFew (with_entry (hearing app) entry one)
+  few_next : (n c : ℕ) (one : Connection Ask) (entry : LogEntry) → IsFew one → IsNextEntry (hearing app) n c one entry → IsFew (with_entry (hearing app) entry one)
   few_next n c one entry few next =
       let all = few.whole_ones next.open_still in
       let standing = next.subject in
-      let less = stand_few one.heard (counted one) standing.0 all standing.2 in
+      let less = stand_few one.heard (bytes_counted one) standing.0 all standing.2 in
       let most = counted_few one in
       let long = length-append one.heard (entry.subject ∷ []) in
       record {
         whole_ones = λ open_still.
             whole_last one.heard entry.subject all
-            (whole_open entry.subject (or_left (closes entry.subject) ((hearing app).ends entry.answer) (or_right one.ended (is_closing (hearing app) entry) open_still)));
+            (whole_open entry.subject (or_left (closes_connection entry.subject) ((hearing app).ends entry.answer) (or_right one.ended (may_close (hearing app) entry) open_still)));
         few = omega (arith, less, most, long);
       }
 
-  few_begun : (n c : ℕ) (one : Connection Ask) (mine : List Entry) → IsFew one → AreBegun (hearing app) n c one mine → IsFew (with_entries (hearing app) mine one)
+  few_begun : (n c : ℕ) (one : Connection Ask) (mine : List LogEntry) → IsFew one → AreBegun (hearing app) n c one mine → IsFew (with_entries (hearing app) mine one)
   few_begun n c one [] few begun = few
   few_begun n c one (entry ∷ mine) few begun =
       few_begun n c (with_entry (hearing app) entry one) mine (few_next n c one entry few begun.0) begun.1
 
-  few_brought : (n c : ℕ) (one : Connection Ask) (mine : List Entry) → IsFew one → AreBrought (hearing app) n c one mine → IsFew (with_entries (hearing app) mine one)
+  few_brought : (n c : ℕ) (one : Connection Ask) (mine : List LogEntry) → IsFew one → AreBrought (hearing app) n c one mine → IsFew (with_entries (hearing app) mine one)
   few_brought n c one [] few brought = few
   few_brought n c one (entry ∷ mine) few brought =
       few_brought n c (with_entry (hearing app) entry one) mine (few_next n c one entry few brought.0) brought.1
 
   -- ---- a connection behind entries
 
-  entries_bytes : (mine : List Entry) (one : Connection Ask) → (with_entries (hearing app) mine one).bytes ≡ one.bytes
+  entries_bytes : (mine : List LogEntry) (one : Connection Ask) → (with_entries (hearing app) mine one).bytes ≡ one.bytes
   entries_bytes [] one = refl
   entries_bytes (entry ∷ mine) one = entries_bytes mine (with_entry (hearing app) entry one)
 
-  entries_heard : (mine : List Entry) (one : Connection Ask) → length (with_entries (hearing app) mine one).heard ≡ length one.heard + length mine
+  entries_heard : (mine : List LogEntry) (one : Connection Ask) → length (with_entries (hearing app) mine one).heard ≡ length one.heard + length mine
   entries_heard [] one = omega arith
   entries_heard (entry ∷ mine) one =
       let more = entries_heard mine (with_entry (hearing app) entry one) in
@@ -146,28 +144,28 @@ module _ (app : Answering) (law : IsReading IsTaken) where
   or_none true = refl
   or_none false = refl
 
-  entries_ended : (mine : List Entry) (one : Connection Ask) → (with_entries (hearing app) mine one).ended ≡ (one.ended || closes_in app mine)
+  entries_ended : (mine : List LogEntry) (one : Connection Ask) → (with_entries (hearing app) mine one).ended ≡ (one.ended || closes_in app mine)
   entries_ended [] one = or_none one.ended
   entries_ended (entry ∷ mine) one =
-      entries_ended mine (with_entry (hearing app) entry one) ∙ or_assoc one.ended (is_closing (hearing app) entry) (closes_in app mine)
+      entries_ended mine (with_entry (hearing app) entry one) ∙ or_assoc one.ended (may_close (hearing app) entry) (closes_in app mine)
 
-  closes-append : (xs ys : List Entry) → closes_in app (xs ++ ys) ≡ (closes_in app xs || closes_in app ys)
+  closes-append : (xs ys : List LogEntry) → closes_in app (xs ++ ys) ≡ (closes_in app xs || closes_in app ys)
   closes-append [] ys = refl
   closes-append (x ∷ xs) ys =
-      ap (λ (b : Bool). is_closing (hearing app) x || b) (closes-append xs ys)
-      ∙ sym (or_assoc (is_closing (hearing app) x) (closes_in app xs) (closes_in app ys))
+      ap (λ (b : Bool). may_close (hearing app) x || b) (closes-append xs ys)
+      ∙ sym (or_assoc (may_close (hearing app) x) (closes_in app xs) (closes_in app ys))
 
   -- ---- what a piece of an open connection brings
 
   true_false : (b : Bool) (P : Type 0) → b ≡ true → b ≡ false → P
   true_false b P e f = absurd cc
 
-  brought_by_some : (n c : ℕ) (bytes : List ℕ) (one : Connection Ask) (mine : List Entry) → is_closed one ≡ false → PieceBrings (hearing app) n c bytes (Some one) mine
+  brought_by_some : (n c : ℕ) (bytes : List ℕ) (one : Connection Ask) (mine : List LogEntry) → is_closed one ≡ false → PieceBrings (hearing app) n c bytes (Some one) mine
       → AreBrought (hearing app) n c (with_bytes bytes one) mine
   brought_by_some n c bytes one mine open_still (inl h) = true_false (is_closed one) _ h.0 open_still
   brought_by_some n c bytes one mine open_still (inr h) = h.1
 
-  begun_by_some : (n c : ℕ) (bytes : List ℕ) (one : Connection Ask) (mine : List Entry) → is_closed one ≡ false → PieceBegins (hearing app) n c bytes (Some one) mine
+  begun_by_some : (n c : ℕ) (bytes : List ℕ) (one : Connection Ask) (mine : List LogEntry) → is_closed one ≡ false → PieceBegins (hearing app) n c bytes (Some one) mine
       → AreBegun (hearing app) n c (with_bytes bytes one) mine
   begun_by_some n c bytes one mine open_still (inl h) = true_false (is_closed one) _ h.0 open_still
   begun_by_some n c bytes one mine open_still (inr h) = h.1
@@ -204,7 +202,7 @@ gave_same a b c bytes back one two = λ told. one (back told) ∙ ap (λ (l : Li
 -- these pieces were served, behind which the connection is closed or not
 pub record LinkProgress (app : Answering) (c first : ℕ) (hub : HubSeen) (link : Span LinkSeen) (k : Span Holding) (count : ℕ) (closed : Bool) (out audit : List ℕ) : Type 0 where
   pub pieces : List (List ℕ)
-  pub log : List Entry
+  pub log : List LogEntry
   pub known : Connections Ask
   pub one : Connection Ask
   pub text : List ℕ
@@ -296,7 +294,7 @@ module _ (app : Answering) (lawful : IsAnswering app) (law : IsReading IsTaken) 
   abbrev pub place : ℕ
   place = 0 + length (Begin c ∷ pieces_of c so_far.pieces)
 
-  brought_next : (bytes : List ℕ) (mine : List Entry) → IsBroughtBy (hearing app) place (Piece c bytes) so_far.known mine
+  brought_next : (bytes : List ℕ) (mine : List LogEntry) → IsBroughtBy (hearing app) place (Piece c bytes) so_far.known mine
       → AreBrought (hearing app) place c (with_bytes bytes so_far.one) mine
   brought_next bytes mine h =
       brought_by_some app law place c bytes so_far.one mine so_far.is_closed_now
@@ -402,7 +400,7 @@ link_nearer app lawful law c first hub new la lb lc a b d count more o au p bu b
 -- ---- the end
 
 -- the end of a connection brings nothing
-brings_end : (app : Answering) (c : ℕ) (events : List Event) (known later : Connections Ask) (n : ℕ) (log : List Entry) (text : List ℕ)
+brings_end : (app : Answering) (c : ℕ) (events : List Event) (known later : Connections Ask) (n : ℕ) (log : List LogEntry) (text : List ℕ)
     → Brings app known n events log text later → IsHeardFrom (hearing app) known n (events ++ Finish c ∷ []) log
 brings_end app c [] known later n log text (no_log, no_text, same) = ([], [], no_log, refl, refl)
 brings_end app c (first ∷ events) known later n log text (front, others, rest, parts, texts, brought, after) =
@@ -514,7 +512,7 @@ link_unbegun app lawful c first link k start =
 
 module _ (app : Answering) (lawful : IsAnswering app) (law : IsReading IsTaken) (c first : ℕ) (hub : HubSeen) (la lb lc : LinkSeen) (a b d : Holding) (count : ℕ) (o au p bu : List ℕ)
     (back : IsTrue lc.tells → IsTrue lb.tells)
-    (s : LinkProgress app c first hub (span la lb) (span a b) count false o au) (mine : List Entry)
+    (s : LinkProgress app c first hub (span la lb) (span a b) count false o au) (mine : List LogEntry)
     (piece : IsPieceBegun app c (span lb lc) (span b d) (place app lawful law c first hub la lb lc a b d count o au p bu back s) s.known mine) where
   lost_heard : IsHeardBy true (hearing app) (events_of c (s.pieces ++ piece.bytes ∷ [])) (s.log ++ mine)
   lost_heard =

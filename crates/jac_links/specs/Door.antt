@@ -9,12 +9,12 @@ use Rattle.jac_links.specs.declared.door.Tally.{Tally}
 use Rattle.jac_links.specs.declared.link.Halt.{Halt}
 use Rattle.jac_links.specs.declared.link.Halt.TheVariants as ways
 use Rattle.jac_links.specs.Link.{as_sink, IsLinkServed}
-use Rattle.jac_serving.specs.Answering.{Entry, Answering}
-use Rattle.jac_serving.specs.Log.{audited}
+use Rattle.jac_serving.specs.Answering.{LogEntry, Answering}
+use Rattle.jac_serving.specs.Log.{audit_lines}
 use Rattle.jac_serving.specs.Outside.{Span, span, Took, IsFront}
 
 -- a link as it came, as serving it left it, and what the call answered
-pub record Visit (L : Type 0) : Type 0 where
+pub record LinkVisit (L : Type 0) : Type 0 where
   pub came : L
   pub gone : L
   pub result : Result ℕ Halt
@@ -22,7 +22,7 @@ pub record Visit (L : Type 0) : Type 0 where
 -- connection c was served: its link holds these bytes more, these are its entries, and these its
 -- lines on the audit
 pub record IsVisited {L : Type 0} (seen : L → LinkSeen) (app : Answering) (c first : ℕ)
-    (k : Span Holding) (visit : Visit L) (mine : List Entry) (lines : List ℕ) : Type 0 where
+    (k : Span Holding) (visit : LinkVisit L) (mine : List LogEntry) (lines : List ℕ) : Type 0 where
   pub out : List ℕ
   pub took : Took (span (as_sink (seen visit.came)) (as_sink (seen visit.gone))) out
   pub served : IsLinkServed app c first (span (seen visit.came) (seen visit.gone)) k visit.result
@@ -31,23 +31,24 @@ pub record IsVisited {L : Type 0} (seen : L → LinkSeen) (app : Answering) (c f
 
 -- connections were served one after another, of which the first is the c-th, before which there
 -- were `first` replies
-abbrev pub AreVisited : {L : Type 0} → (L → LinkSeen) → Answering → ℕ → ℕ → Holding → List (Visit L)
-    → List Entry → List ℕ → Holding → Type 0
+abbrev pub AreVisited : {L : Type 0} → (L → LinkSeen) → Answering → ℕ → ℕ → Holding → List
+    (LinkVisit L)
+    → List LogEntry → List ℕ → Holding → Type 0
 AreVisited seen app c first before [] log audit after = (log ≡ []) × (audit ≡ []) × (after ≡ before)
 AreVisited seen app c first before (visit ∷ visits) log audit after =
-    (between : Holding) × (mine : List Entry) × (lines : List ℕ) × (others : List Entry)
+    (between : Holding) × (mine : List LogEntry) × (lines : List ℕ) × (others : List LogEntry)
     × (more : List ℕ)
     × IsVisited seen app c first (span before between) visit mine lines × (log ≡ mine ++ others)
     × (audit ≡ lines ++ more)
     × AreVisited seen app (c + 1) (first + length mine) between visits others more after
 
 -- the one that wasn't handed back
-abbrev pub unreturned : {L : Type 0} → Option (Visit L) → List (Visit L)
-unreturned None = []
-unreturned (Some visit) = visit ∷ []
+abbrev pub open_visits : {L : Type 0} → Option (LinkVisit L) → List (LinkVisit L)
+open_visits None = []
+open_visits (Some visit) = visit ∷ []
 
 -- each of these calls answered a count
-abbrev pub AreWhole : {L : Type 0} → List (Visit L) → Type 0
+abbrev pub AreWhole : {L : Type 0} → List (LinkVisit L) → Type 0
 AreWhole [] = Unit {0}
 AreWhole (visit ∷ visits) = IsOk visit.result × AreWhole visits
 
@@ -65,17 +66,18 @@ IsPart true bytes all = IsFront bytes all
 
 -- why serving ended, of at most so many connections: that many came, or a door that tells had no
 -- more; or the call that was served last says why
-abbrev pub IsEnding : {L : Type 0} → ℕ → Span (DoorSeen L) → List (Visit L) → Option (Visit L)
-    → List Entry → Result Tally DoorHalt → Type 0
+abbrev pub IsEnding : {L : Type 0} → ℕ → Span (DoorSeen L) → List (LinkVisit L) → Option
+    (LinkVisit L)
+    → List LogEntry → Result Tally DoorHalt → Type 0
 IsEnding most door visits last log (Ok tally) =
     (last ≡ None) × (tally.connections ≡ length visits) × (tally.replies ≡ length log)
     × (length visits ≤ most)
     × ((length visits ≡ most) ⊎ (IsTrue door.after.tells → door.after.coming ≡ []))
-IsEnding most door visits last log (Err halts.Door) = AreWhole (unreturned last)
+IsEnding most door visits last log (Err halts.Door) = AreWhole (open_visits last)
     × Rose door.before.faults door.after.faults
-IsEnding {L = L} most door visits last log (Err halts.Write) = (visit : Visit L)
+IsEnding {L = L} most door visits last log (Err halts.Write) = (visit : LinkVisit L)
     × (last ≡ Some visit) × (visit.result ≡ Err ways.Write)
-IsEnding {L = L} most door visits last log (Err halts.Memory) = (visit : Visit L)
+IsEnding {L = L} most door visits last log (Err halts.Memory) = (visit : LinkVisit L)
     × (last ≡ Some visit) × (visit.result ≡ Err ways.Memory)
 
 -- at most so many connections of a door were served, numbered from 1, and their replies counted
@@ -84,15 +86,15 @@ IsEnding {L = L} most door visits last log (Err halts.Memory) = (visit : Visit L
 pub record AreLinksServed {L : Type 0} (seen : L → LinkSeen) (app : Answering) (most : ℕ)
     (door : Span (DoorSeen L)) (k : Span Holding)
     (result : Result Tally DoorHalt) (audit : List ℕ) : Type 0 where
-  pub visits : List (Visit L)
-  pub last : Option (Visit L)
-  pub log : List Entry
+  pub visits : List (LinkVisit L)
+  pub last : Option (LinkVisit L)
+  pub log : List LogEntry
   pub came : IsTrue door.after.tells → door.before.coming ≡ map (λ visit. visit.came)
-      (visits ++ unreturned last) ++ door.after.coming
+      (visits ++ open_visits last) ++ door.after.coming
   pub returned : IsTrue door.after.tells → door.after.returned ≡ door.before.returned
       ++ map (λ visit. visit.gone) visits
-  pub visited : AreVisited seen app 1 0 k.before (visits ++ unreturned last) log audit k.after
+  pub visited : AreVisited seen app 1 0 k.before (visits ++ open_visits last) log audit k.after
   pub whole : AreWhole visits
   pub entries : app.entries k log
-  pub audit_text : IsPart (is_cut result) audit (audited log)
+  pub audit_text : IsPart (is_cut result) audit (audit_lines log)
   pub ended : IsEnding most door visits last log result

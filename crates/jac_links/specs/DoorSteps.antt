@@ -8,21 +8,21 @@ use Rattle.jac_links.specs.declared.door.DoorHalt.TheVariants as halts
 use Rattle.jac_links.specs.declared.door.Tally.{Tally}
 use Rattle.jac_links.specs.declared.link.Halt.{Halt}
 use Rattle.jac_links.specs.declared.link.Halt.TheVariants as ways
-use Rattle.jac_links.specs.Door.{Visit, IsVisited}
-use Rattle.jac_serving.specs.Answering.{Entry, Answering}
+use Rattle.jac_links.specs.Door.{LinkVisit, IsVisited}
+use Rattle.jac_serving.specs.Answering.{LogEntry, Answering}
 use Rattle.jac_serving.specs.Outside.{Span}
 
-abbrev pub visit_of : {L : Type 0} → L → L → Result ℕ Halt → Visit L
-visit_of came gone result = record { came = came; gone = gone; result = result }
+abbrev pub link_visit : {L : Type 0} → L → L → Result ℕ Halt → LinkVisit L
+link_visit came gone result = record { came = came; gone = gone; result = result }
 
 -- a link of the door was served behind so many, and handed back or not
 pub record Visits {L : Type 0} (seen : L → LinkSeen) (app : Answering) (tally : Tally) (line : L)
     (handed : Bool) (door : Span (DoorSeen L)) (k : Span Holding)
     (result : Result ℕ Halt) (audit : List ℕ) : Type 0 where
   pub gone : L
-  pub mine : List Entry
+  pub mine : List LogEntry
   pub visited : IsVisited seen app (tally.connections + 1) tally.replies k
-      (visit_of line gone result) mine audit
+      (link_visit line gone result) mine audit
   pub returned : IsTrue door.after.tells → door.after.returned ≡ door.before.returned ++ (if handed
       then gone ∷ [] else [])
 

@@ -9,12 +9,12 @@ use Rattle.jac_serving.specs.Keeping.{Holding}
 use Rattle.jac_events.specs.declared.event.Event.{Event}
 use Rattle.jac_events.specs.declared.event.Event.TheVariants.{Begin, Piece, Finish}
 use Rattle.jac_hub.specs.Channel.{LIMIT}
-use Rattle.jac_hub.specs.Heard.{is_closing}
+use Rattle.jac_hub.specs.Heard.{may_close}
 use Rattle.jac_links.specs.declared.link.Halt.{Halt}
 use Rattle.jac_links.specs.declared.link.Halt.TheVariants as halts
 use Rattle.jac_replies.specs.declared.reply.Spelling.TheVariants as spellings
 use Rattle.jac_serving.specs.declared.given.Lost.TheVariants as losses
-use Rattle.jac_serving.specs.Answering.{Entry, hearing, Answering}
+use Rattle.jac_serving.specs.Answering.{LogEntry, hearing, Answering}
 use Rattle.jac_serving.specs.Log.{replies_on, audited_from}
 use Rattle.jac_serving.specs.Outside.{Span}
 use Rattle.jac_serving.specs.Serve.{IsServed, IsLastLost}
@@ -33,23 +33,23 @@ abbrev pub events_of : ℕ → List (List ℕ) → List Event
 events_of c pieces = Begin c ∷ (pieces_of c pieces ++ Finish c ∷ [])
 
 -- an entry closes its connection
-abbrev pub closes_in : Answering → List Entry → Bool
+abbrev pub closes_in : Answering → List LogEntry → Bool
 closes_in app [] = false
-closes_in app (entry ∷ log) = is_closing (hearing app) entry || closes_in app log
+closes_in app (entry ∷ log) = may_close (hearing app) entry || closes_in app log
 
 -- the connection of these pieces and this log is closed: by an entry, or as all bytes that count
 -- were brought
-abbrev pub is_over : Answering → List (List ℕ) → List Entry → Bool
+abbrev pub is_over : Answering → List (List ℕ) → List LogEntry → Bool
 is_over app pieces log = closes_in app log || nat_le LIMIT (length (concat pieces))
 
 -- of these entries, behind so many replies, all was put: the reply of each, and its line
-pub record ArePut (first : ℕ) (log : List Entry) (out audit : List ℕ) : Type 0 where
+pub record ArePut (first : ℕ) (log : List LogEntry) (out audit : List ℕ) : Type 0 where
   pub out_text : out ≡ replies_on spellings.Raw log
   pub audit_text : audit ≡ audited_from (first + 1) log
 
 -- what was put of these entries, by how serving their link ended: where a put on the link failed
 -- the connection ended, one on the audit is a write's refusal, and where memory ran out all was put
-abbrev pub PutsLog : ℕ → Span LinkSeen → List Entry → Result ℕ Halt → List ℕ → List ℕ → Type 0
+abbrev pub PutsLog : ℕ → Span LinkSeen → List LogEntry → Result ℕ Halt → List ℕ → List ℕ → Type 0
 PutsLog first link log (Ok count) out audit =
     ArePut first log out audit
     ⊎ (IsLastLost spellings.Raw losses.Out first log out audit
@@ -64,7 +64,7 @@ PutsLog first link log (Err halts.Memory) out audit = ArePut first log out audit
 pub record IsLinkServed (app : Answering) (c first : ℕ) (link : Span LinkSeen) (k : Span Holding)
     (result : Result ℕ Halt) (out audit : List ℕ) : Type 0 where
   pub pieces : List (List ℕ)
-  pub log : List Entry
+  pub log : List LogEntry
   pub part : Bool
   -- what was taken of the input: where it was heard whole, all of it, or up to the closing
   pub taken : IsTrue link.after.tells → link.before.left ≡ concat pieces ++ link.after.left

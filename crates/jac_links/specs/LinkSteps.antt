@@ -26,7 +26,7 @@ use Rattle.jac_serving.specs.declared.given.Brought.{Brought}
 use Rattle.jac_serving.specs.declared.given.Cut.{Cut}
 use Rattle.jac_serving.specs.declared.given.Lost.{Lost}
 use Rattle.jac_serving.specs.declared.given.Lost.TheVariants as losses
-use Rattle.jac_serving.specs.Answering.{Entry, hearing, Answering}
+use Rattle.jac_serving.specs.Answering.{LogEntry, hearing, Answering}
 use Rattle.jac_serving.specs.Outside.{Span, Sinks}
 use Rattle.jac_serving.specs.Serve.{IsEventServed, IsLastLost, IsEventCut}
 use Rattle.jac_serving.specs.Teller.{TellerSeen}
@@ -76,8 +76,8 @@ AnswersOn app hub new k served event (Err cut) s out audit =
     → IsEventCut spellings.Raw app k served cut n event known s out audit
 
 -- how a connection stands behind what its piece brought
-abbrev pub standing_of : Brought → Standing
-standing_of brought = if brought.closed then standings.Over brought.count
+abbrev pub standing_after : Brought → Standing
+standing_after brought = if brought.closed then standings.Over brought.count
     else standings.Open brought.count
 
 -- and behind a piece of which not all was put
@@ -100,14 +100,14 @@ pub record IsPieceOn (app : Answering) (c : ℕ) (new : HubSeen) (link : Span Li
 
 -- a link gave its next piece, whose first entries were answered
 pub record IsPieceBegun (app : Answering) (c : ℕ) (link : Span LinkSeen) (k : Span Holding) (n : ℕ)
-    (known : Connections Ask) (mine : List Entry) : Type 0 where
+    (known : Connections Ask) (mine : List LogEntry) : Type 0 where
   pub bytes : List ℕ
   pub gave : Gave link bytes
   pub begun : IsBegunBy (hearing app) n (Piece c bytes) known mine
   pub entries : app.entries k mine
 
 -- the put for the last of these entries failed on the link, and that was their count
-pub record IsTornOn (link : Span LinkSeen) (served count : ℕ) (mine : List Entry)
+pub record IsTornOn (link : Span LinkSeen) (served count : ℕ) (mine : List LogEntry)
     (out audit : List ℕ) : Type 0 where
   pub lost : IsLastLost spellings.Raw losses.Out served mine out audit
   pub count_is : count ≡ served + length mine
@@ -138,10 +138,10 @@ ServesPiece app c hub new link k served (Ok (standings.Over count)) out audit =
     (n : ℕ) (known : Connections Ask) → AreLike (hearing app) hub.channels known
     → IsLast link k served count out audit
     ⊎ (IsPieceOn app c new link k served (record { count = count; closed = true }) n known out audit
-    ⊎ ((mine : List Entry) × IsPieceBegun app c link k n known mine
+    ⊎ ((mine : List LogEntry) × IsPieceBegun app c link k n known mine
     × IsTornOn link served count mine out audit))
 ServesPiece app c hub new link k served (Err halts.Write) out audit =
     (n : ℕ) (known : Connections Ask) → AreLike (hearing app) hub.channels known
-    → (mine : List Entry) × IsPieceBegun app c link k n known mine
+    → (mine : List LogEntry) × IsPieceBegun app c link k n known mine
     × IsLastLost spellings.Raw losses.Audit served mine out audit
 ServesPiece app c hub new link k served (Err halts.Memory) out audit = IsQuiet link k out audit

@@ -2,7 +2,7 @@
 ghost use Rattle.std.specs.Prelude.{◌≡◌, ◌≤◌, ◌<◌, ◌*◌, ◌-◌, ◌^◌, IfOk, IfSome, IsTrue, Err};
 ghost use Rattle.jac_io.specs.Faults.{Rose};
 ghost use Rattle.jac_io.specs.Linked.{DoorLasts};
-ghost use Rattle.jac_serving.specs.Desk.{MayServe, Keeps, kept};
+ghost use Rattle.jac_serving.specs.Desk.{MayServe, KeepsDesk, kept};
 ghost use Rattle.jac_links.specs.Door.{AreLinksServed};
 ghost use Rattle.jac_links.specs.DoorSteps.{VisitsLine, ServesNext};
 ghost use Rattle.jac_serving.specs.Outside.{WentTo, span};
@@ -51,7 +51,7 @@ fn serve_line<K: Desk, D: Door, U: AuditSink>(
     ensures few_replies { IfOk result (λ more. more.replies ≤ more.connections * 2 ^ 25) }
     ensures cause { result ≡ Err DoorHalt.Write
         → Rose (U.seen audit.old).faults (U.seen audit.new).faults }
-    ensures keeps { Keeps K.answering (K.seen desk.old) (K.seen desk.new) }
+    ensures keeps { KeepsDesk K.answering (K.seen desk.old) (K.seen desk.new) }
 {
     let mut line = line;
     let connections = tally.connections + 1;
@@ -89,7 +89,7 @@ fn serve_next<K: Desk, D: Door, U: AuditSink>(
         * 2 ^ 25)) }
     ensures cause { result ≡ Err DoorHalt.Write
         → Rose (U.seen audit.old).faults (U.seen audit.new).faults }
-    ensures keeps { Keeps K.answering (K.seen desk.old) (K.seen desk.new) }
+    ensures keeps { KeepsDesk K.answering (K.seen desk.old) (K.seen desk.new) }
 {
     match door.next() {
         Ok(Some(line)) => match serve_line(desk, tally, line, door, audit) {
@@ -119,7 +119,7 @@ pub fn serve_links<K: Desk, D: Door, U: AuditSink>(
         ≡ (D.seen door.old).port }
     ensures cause { result ≡ Err DoorHalt.Write
         → Rose (U.seen audit.old).faults (U.seen audit.new).faults }
-    ensures keeps { Keeps K.answering (K.seen desk.old) (K.seen desk.new) }
+    ensures keeps { KeepsDesk K.answering (K.seen desk.old) (K.seen desk.new) }
 {
     desk.lawful();
     let mut tally = Tally {

@@ -2,11 +2,11 @@
 //! they are.
 ghost use Rattle.std.specs.Prelude.{◌≡◌, ◌<◌, ◌+◌, ◌-◌, ◌^◌, IsSome, IsTrue, OnOk, Err};
 ghost use Rattle.jac_io.specs.Faults.{Rose};
-ghost use Rattle.jac_serving.specs.Desk.{MayServe, Keeps, kept};
-ghost use Rattle.jac_hub.specs.Hub.{seen, left, new_hub};
+ghost use Rattle.jac_serving.specs.Desk.{MayServe, KeepsDesk, kept};
+ghost use Rattle.jac_hub.specs.Hub.{hub_seen, puts_left, new_hub};
 ghost use Rattle.jac_hub.specs.declared.hub.Turn.TheVariants.{Idle};
 ghost use Rattle.jac_links.specs.Link.{as_sink, IsLinkServed};
-ghost use Rattle.jac_links.specs.LinkSteps.{MayTake, TakesIn, AnswersOn, ServesPiece, standing_of, cut_by, begun_hub};
+ghost use Rattle.jac_links.specs.LinkSteps.{MayTake, TakesIn, AnswersOn, ServesPiece, standing_after, cut_by, begun_hub};
 ghost use Rattle.jac_replies.specs.declared.reply.Spelling.TheVariants as spellings;
 ghost use Rattle.jac_serving.specs.Outside.{Went, WentWith, sinks, span};
 ghost use Rattle.jac_serving.specs.Serve.{IsFollowing, PutsOuts};
@@ -44,15 +44,16 @@ fn put_on<D: Desk, N: Link, U: AuditSink>(
     link: &mut N,
     audit: &mut U,
 ) -> Result<Brought, Cut>
-    requires few { served + left (seen hub.old) < 2 ^ 64 - 1 }
+    requires few { served + puts_left (hub_seen hub.old) < 2 ^ 64 - 1 }
     requires desk { MayServe D.answering (D.seen desk.old) }
     ensures put { WentWith (sinks (as_sink (N.seen link.old)) (as_sink (N.seen link.new))
         (U.seen audit.old) (U.seen audit.new))
-        (PutsOuts spellings.Raw (D.answering (D.seen desk.old).of) (seen hub.old) (seen hub.new)
+        (PutsOuts spellings.Raw (D.answering (D.seen desk.old).of) (hub_seen hub.old)
+        (hub_seen hub.new)
         (kept (D.seen desk.old) (D.seen desk.new)) served result) }
     ensures left { IsTrue (N.seen link.new).tells → (N.seen link.new).left
         ≡ (N.seen link.old).left }
-    ensures keeps { Keeps D.answering (D.seen desk.old) (D.seen desk.new) }
+    ensures keeps { KeepsDesk D.answering (D.seen desk.old) (D.seen desk.new) }
 {
     let mut wire = Wire { link };
     put_given(desk, served, hub, &mut wire, audit)
@@ -60,9 +61,9 @@ fn put_on<D: Desk, N: Link, U: AuditSink>(
 
 // Has a hub take a piece. Where memory runs out for it, the hub gives the reply that says so.
 fn take_in(alloc: Global, hub: &mut Hub, event: &Event)
-    requires idle { (seen hub.old).turn ≡ Idle }
-    requires piece { MayTake (seen hub.old) event.now }
-    ensures { TakesIn (seen hub.old) event.now (seen hub.new) }
+    requires idle { (hub_seen hub.old).turn ≡ Idle }
+    requires piece { MayTake (hub_seen hub.old) event.now }
+    ensures { TakesIn (hub_seen hub.old) event.now (hub_seen hub.new) }
 {
     match hub.step(alloc, event) {
         Ok(()) => {}
@@ -81,17 +82,17 @@ fn serve_event<D: Desk, N: Link, U: AuditSink>(
     audit: &mut U,
 ) -> Result<Brought, Cut>
     requires few { served < 2 ^ 63 + 2 ^ 26 }
-    requires idle { (seen hub.old).turn ≡ Idle }
-    requires following { IsFollowing (D.answering (D.seen desk.old).of) (seen hub.old) }
-    requires piece { MayTake (seen hub.old) event.now }
+    requires idle { (hub_seen hub.old).turn ≡ Idle }
+    requires following { IsFollowing (D.answering (D.seen desk.old).of) (hub_seen hub.old) }
+    requires piece { MayTake (hub_seen hub.old) event.now }
     requires desk { MayServe D.answering (D.seen desk.old) }
     ensures answered { WentWith (sinks (as_sink (N.seen link.old)) (as_sink (N.seen link.new))
         (U.seen audit.old) (U.seen audit.new))
-        (AnswersOn (D.answering (D.seen desk.old).of) (seen hub.old) (seen hub.new)
+        (AnswersOn (D.answering (D.seen desk.old).of) (hub_seen hub.old) (hub_seen hub.new)
         (kept (D.seen desk.old) (D.seen desk.new)) served event.now result) }
     ensures left { IsTrue (N.seen link.new).tells → (N.seen link.new).left
         ≡ (N.seen link.old).left }
-    ensures keeps { Keeps D.answering (D.seen desk.old) (D.seen desk.new) }
+    ensures keeps { KeepsDesk D.answering (D.seen desk.old) (D.seen desk.new) }
 {
     requests_are_read();
     desk.lawful();
@@ -101,7 +102,7 @@ fn serve_event<D: Desk, N: Link, U: AuditSink>(
 
 // How a connection stands behind a piece.
 fn stands(brought: Brought) -> Standing
-    ensures { result ≡ standing_of brought }
+    ensures { result ≡ standing_after brought }
 {
     if brought.closed {
         Standing::Over {
@@ -134,18 +135,18 @@ fn serve_piece<D: Desk, N: Link, U: AuditSink>(
     audit: &mut U,
 ) -> Result<Standing, Halt>
     requires few { served < 2 ^ 63 + 2 ^ 26 }
-    requires idle { (seen hub.old).turn ≡ Idle }
-    requires following { IsFollowing (D.answering (D.seen desk.old).of) (seen hub.old) }
-    requires begun { IsSome ((seen hub.old).channels conn) }
+    requires idle { (hub_seen hub.old).turn ≡ Idle }
+    requires following { IsFollowing (D.answering (D.seen desk.old).of) (hub_seen hub.old) }
+    requires begun { IsSome ((hub_seen hub.old).channels conn) }
     requires desk { MayServe D.answering (D.seen desk.old) }
     ensures served { Went (sinks (as_sink (N.seen link.old)) (as_sink (N.seen link.new))
         (U.seen audit.old) (U.seen audit.new))
-        (ServesPiece (D.answering (D.seen desk.old).of) conn (seen hub.old) (seen hub.new)
+        (ServesPiece (D.answering (D.seen desk.old).of) conn (hub_seen hub.old) (hub_seen hub.new)
         (span (N.seen link.old) (N.seen link.new)) (kept (D.seen desk.old) (D.seen desk.new)) served
         result) }
     ensures cause { result ≡ Err Halt.Write
         → Rose (U.seen audit.old).faults (U.seen audit.new).faults }
-    ensures keeps { Keeps D.answering (D.seen desk.old) (D.seen desk.new) }
+    ensures keeps { KeepsDesk D.answering (D.seen desk.old) (D.seen desk.new) }
 {
     match take_piece(desk.alloc(), link) {
         Ok(Some(bytes)) => {
@@ -163,11 +164,11 @@ fn serve_piece<D: Desk, N: Link, U: AuditSink>(
 
 // Begins a connection, of which nothing comes yet.
 fn begin<D: Desk>(desk: &mut D, conn: u32, hub: &mut Hub) -> Result<(), Memory>
-    requires new { seen hub.old ≡ new_hub }
+    requires new { hub_seen hub.old ≡ new_hub }
     requires desk { MayServe D.answering (D.seen desk.old) }
-    ensures begun { OnOk result (seen hub.new ≡ begun_hub conn) }
+    ensures begun { OnOk result (hub_seen hub.new ≡ begun_hub conn) }
     ensures still { (D.seen desk.new).holding ≡ (D.seen desk.old).holding }
-    ensures keeps { Keeps D.answering (D.seen desk.old) (D.seen desk.new) }
+    ensures keeps { KeepsDesk D.answering (D.seen desk.old) (D.seen desk.new) }
 {
     match hub.step(desk.alloc(), &Event::Begin { conn }) {
         Ok(()) => {
@@ -188,7 +189,7 @@ fn serve_pieces<D: Desk, N: Link, U: AuditSink>(
     audit: &mut U,
 ) -> Result<u64, Halt>
     requires few { first < 2 ^ 63 }
-    requires begun { seen hub.old ≡ begun_hub conn }
+    requires begun { hub_seen hub.old ≡ begun_hub conn }
     requires desk { MayServe D.answering (D.seen desk.old) }
     ensures served { Went (sinks (as_sink (N.seen link.old)) (as_sink (N.seen link.new))
         (U.seen audit.old) (U.seen audit.new))
@@ -197,7 +198,7 @@ fn serve_pieces<D: Desk, N: Link, U: AuditSink>(
         result) }
     ensures cause { result ≡ Err Halt.Write
         → Rose (U.seen audit.old).faults (U.seen audit.new).faults }
-    ensures keeps { Keeps D.answering (D.seen desk.old) (D.seen desk.new) }
+    ensures keeps { KeepsDesk D.answering (D.seen desk.old) (D.seen desk.new) }
 {
     requests_are_read();
     desk.lawful();
@@ -229,7 +230,7 @@ pub fn serve_link<D: Desk, N: Link, U: AuditSink>(
         result) }
     ensures cause { result ≡ Err Halt.Write
         → Rose (U.seen audit.old).faults (U.seen audit.new).faults }
-    ensures keeps { Keeps D.answering (D.seen desk.old) (D.seen desk.new) }
+    ensures keeps { KeepsDesk D.answering (D.seen desk.old) (D.seen desk.new) }
 {
     desk.lawful();
     let mut hub = Hub::new(desk.alloc());

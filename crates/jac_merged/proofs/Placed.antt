@@ -3,7 +3,7 @@ use Rattle.std.proofs.Common.{◌≡◌, refl, ap, sym, subst, ◌∙◌, ℕ, �
 use Rattle.std.specs.Prelude.{Some, None}
 use Rattle.std.specs.Ordering.{is_eq, ordering_reverse}
 use Rattle.std.specs.List.{AllByRecursion, insert, remove}
-use Rattle.std.proofs.lemmas.Bool.{and_parts}
+use Rattle.std.proofs.lemmas.Bool.{and_parts, ltb-true}
 use Rattle.std.proofs.lemmas.Bool.Decides.{nat_tests, Decides-eqb}
 use Rattle.std.specs.List.{position, position_or_len}
 use Rattle.std.proofs.lemmas.Bool.Decides.{eqb_tells}
@@ -18,7 +18,7 @@ use Rattle.jac_rows.specs.declared.row.Row.{Row}
 use Rattle.jac_rows.specs.declared.plain.PlainRow.{PlainRow}
 use Rattle.jac_rows.specs.Project.{rows_at}
 use Rattle.jac_rows.proofs.Pushed.{rows_at-append}
-use Rattle.jac_merged.specs.Merged.{IsJoined, same_pair, same_pairs, differ_once, same_cells, joinable, JoinsTo, Shows, AreMerged, AreOwn, pair_before, guard_before, row_before, AreInOrder, place_among}
+use Rattle.jac_merged.specs.Merged.{IsJoined, same_pair, same_pairs, differ_once, same_cells, joinable, JoinsTo, Shows, AreMerged, AreOfRecord, pair_before, guard_before, row_before, AreInOrder, place_among}
 use Rattle.jac_merged.proofs.Joining.{pair_same}
 
 -- rising labels without one
@@ -158,17 +158,17 @@ module _ (P : Row → Type 0) where
   all-insert [] (suc i) y less a p = absurd (omega (arith, less))
   all-insert (x ∷ xs) (suc i) y less a p = (a.0, all-insert xs i y (omega (arith, less)) a.1 p)
 
-pub own_removed : (id : ℕ) (m : List Row) (i : ℕ) (r j : Row) → j.id ≡ r.id → AreOwn id (m ++ r ∷ []) → AreOwn id (remove m i ++ j ∷ [])
+pub own_removed : (id : ℕ) (m : List Row) (i : ℕ) (r j : Row) → j.id ≡ r.id → AreOfRecord id (m ++ r ∷ []) → AreOfRecord id (remove m i ++ j ∷ [])
 own_removed id m i r j same own =
     let P = λ (x : Row). x.id ≡ id in
     all-append P (remove m i) (j ∷ []) (all-remove P m i (all-front P m (r ∷ []) own)) (same ∙ (all-behind P m (r ∷ []) own).0, tt)
 
-pub own_inserted : (id : ℕ) (m : List Row) (i : ℕ) (r : Row) → i ≤ length m → AreOwn id (m ++ r ∷ []) → AreOwn id (insert m i r)
+pub own_inserted : (id : ℕ) (m : List Row) (i : ℕ) (r : Row) → i ≤ length m → AreOfRecord id (m ++ r ∷ []) → AreOfRecord id (insert m i r)
 own_inserted id m i r less own =
     let P = λ (x : Row). x.id ≡ id in
     all-insert P m i r less (all-front P m (r ∷ []) own) (all-behind P m (r ∷ []) own).0
 
-pub own_next : (id : ℕ) (m n : List Row) (r : Row) (rest : List Row) → (AreOwn id (m ++ r ∷ []) → AreOwn id n) → AreOwn id (m ++ (r ∷ rest)) → AreOwn id (n ++ rest)
+pub own_next : (id : ℕ) (m n : List Row) (r : Row) (rest : List Row) → (AreOfRecord id (m ++ r ∷ []) → AreOfRecord id n) → AreOfRecord id (m ++ (r ∷ rest)) → AreOfRecord id (n ++ rest)
 own_next id m n r rest step own =
     let P = λ (x : Row). x.id ≡ id in
     let behind : AllByRecursion P (r ∷ rest) = all-behind P m (r ∷ rest) own in
@@ -268,16 +268,13 @@ lesser_label k l true false h = omega (arith, h)
 lesser_label k l false true h = omega (arith, h)
 lesser_label k l false false h = omega (arith, h)
 
-less_by_test : (k l : ℕ) → nat_lt k l ≡ true → k < l
-less_by_test k l e = grind (arith, nat_tests)
-
 test_of_less : (k l : ℕ) → k < l → nat_lt k l ≡ true
 test_of_less k l h = grind (arith, nat_tests)
 
 rank_less : (k l : ℕ) (x y : Bool) → Less k x l y → rank k x < rank l y
 rank_less k l x y less = elim (eqb_tells k l) [
   | inl e ↦ (let n = rw e.0 at less.0 in let b = rw e.0 at less.1 in let h : bit x < bit y = same_label x y n b in let s : k ≡ l = e.1 in omega (arith, h, s))
-  | inr e ↦ (let b = rw e.0 at less.1 in lesser_label k l x y (less_by_test k l b))
+  | inr e ↦ (let b = rw e.0 at less.1 in lesser_label k l x y (ltb-true k l b))
 ]
 
 bits_less : (x y : Bool) → bit x < bit y → (beq x y ≡ false) × (y ≡ true)

@@ -53,8 +53,8 @@ abbrev pub AreMerged : List Row → Type 0
 AreMerged [] = ⊤
 AreMerged (r ∷ rs) = AllByRecursion (λ (s : Row). joinable r s ≡ false) rs × AreMerged rs
 
-abbrev pub AreOwn : ℕ → List Row → Type 0
-AreOwn id rows = AllByRecursion (λ (r : Row). r.id ≡ id) rows
+abbrev pub AreOfRecord : ℕ → List Row → Type 0
+AreOfRecord id rows = AllByRecursion (λ (r : Row). r.id ≡ id) rows
 
 abbrev pub pair_before : ℕ × Bool → ℕ × Bool → Bool
 pair_before p q = if p.0 == q.0 then q.1 else nat_lt p.0 q.0

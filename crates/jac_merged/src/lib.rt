@@ -3,6 +3,6 @@
 #![tactic(auto)]
 
 mod guards;
-mod merging;
+mod merge;
 
-pub use merging::merge_rows;
+pub use merge::merge_rows;

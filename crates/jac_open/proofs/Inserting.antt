@@ -1,8 +1,8 @@
 -- A rising list with one more number shows that one too, and rises.
 use Rattle.std.proofs.Common.{◌≡◌, ℕ, ◌<◌, ◌==◌, ◌||◌, Bool, true, false, if◌then◌else◌, nat_lt, List, [], ◌∷◌, refl, ap, ◌∙◌, inl, inr, suc, arith}
 use Rattle.std.proofs.lemmas.Bool.Decides.{eqb_tells, leb_tells}
-use Rattle.jac_world.specs.World.{shown, IsAscending, StartsAboveBy}
-use Rattle.jac_open.specs.Allowed.{inserted}
+use Rattle.jac_world.specs.World.{shown_by, IsAscending, StartsAboveBy}
+use Rattle.jac_open.specs.Allowed.{with_number}
 
 shown_later : (a b c : Bool) → (a || (b || c)) ≡ (b || (a || c))
 shown_later true true c = refl
@@ -14,28 +14,28 @@ shown_twice true c = refl
 shown_twice false c = refl
 
 -- the list shows one number more
-pub shown-inserted : (k : ℕ) (xs : List ℕ) (j : ℕ) → shown (inserted k xs) j ≡ (k == j || shown xs j)
+pub shown-inserted : (k : ℕ) (xs : List ℕ) (j : ℕ) → shown_by (with_number k xs) j ≡ (k == j || shown_by xs j)
 shown-inserted k [] j = refl
 shown-inserted k (x ∷ xs) j =
-    elim (nat_lt x k) as (λ b. shown (if b then x ∷ inserted k xs else (if x == k then x ∷ xs else k ∷ (x ∷ xs))) j ≡ (k == j || (x == j || shown xs j))) [
-      | true ↦ ap (λ b. x == j || b) (shown-inserted k xs j) ∙ shown_later (x == j) (k == j) (shown xs j)
+    elim (nat_lt x k) as (λ b. shown_by (if b then x ∷ with_number k xs else (if x == k then x ∷ xs else k ∷ (x ∷ xs))) j ≡ (k == j || (x == j || shown_by xs j))) [
+      | true ↦ ap (λ b. x == j || b) (shown-inserted k xs j) ∙ shown_later (x == j) (k == j) (shown_by xs j)
       | false ↦
           elim (eqb_tells x k) [
-            | inl h ↦ rw h.0 (rw h.1 (shown_twice (k == j) (shown xs j)))
+            | inl h ↦ rw h.0 (rw h.1 (shown_twice (k == j) (shown_by xs j)))
             | inr h ↦ rw h.0 refl
           ]
     ]
 
 starts-inserted : (j k : ℕ) (xs : List ℕ) → j < k → StartsAboveBy (λ x. x) j xs
-    → StartsAboveBy (λ x. x) j (inserted k xs)
+    → StartsAboveBy (λ x. x) j (with_number k xs)
 starts-inserted j k [] lt s = lt
 starts-inserted j k (x ∷ xs) lt s =
-    elim (nat_lt x k) as (λ b. StartsAboveBy (λ (n : ℕ). n) j (if b then x ∷ inserted k xs else (if x == k then x ∷ xs else k ∷ (x ∷ xs)))) [
+    elim (nat_lt x k) as (λ b. StartsAboveBy (λ (n : ℕ). n) j (if b then x ∷ with_number k xs else (if x == k then x ∷ xs else k ∷ (x ∷ xs)))) [
       | true ↦ s
       | false ↦ elim (x == k) as (λ b. StartsAboveBy (λ (n : ℕ). n) j (if b then x ∷ xs else k ∷ (x ∷ xs))) [ true ↦ s | false ↦ lt ]
     ]
 
-pub ascending-inserted : (k : ℕ) (xs : List ℕ) → IsAscending xs → IsAscending (inserted k xs)
+pub ascending-inserted : (k : ℕ) (xs : List ℕ) → IsAscending xs → IsAscending (with_number k xs)
 ascending-inserted k [] r = (tt, tt)
 ascending-inserted k (x ∷ xs) r =
     elim (leb_tells (suc x) k) [

@@ -14,11 +14,11 @@ use Rattle.jac_lang.specs.Syntax.{Entity, Expression, Expressions, FieldGroup, A
 use Rattle.jac_rows.specs.Tables.{rows_of}
 use Rattle.jac_rows.specs.declared.plain.PlainRow.{PlainRow}
 use Rattle.jac_rows.specs.declared.plain.PlainState.{PlainState}
-use Rattle.jac_plain.specs.World.{World, rows_at_place, records, record_with, referred, cell_of, cell_named, got_of, got}
-use Rattle.jac_plain.specs.Expressions.{is_true, is_less, two, pick, bytes_of, stands, is_live, look, bound, extended, crossed, tuples_from, kept_by, model_of_binder, key_of, sorted, ordered, answers_by, count_of, sum_of, some_of, first_of, mean, texts}
+use Rattle.jac_plain.specs.World.{World, rows_at_place, records, record_with, referred_record, cell_of, cell_named, got_of, got}
+use Rattle.jac_plain.specs.Expressions.{is_true, is_less, two, pick, bytes_of, stands, is_live, look, bound, extended_tuples, crossed_tuples, tuples_from, kept_by, model_of_binder, key_of, sorted_tuples, ordered_tuples, answers_by, count_of, sum_of, some_of, first_of, mean, texts}
 use Rattle.jac_plain.specs.Policies.{has_record, labelled_group, policy_world, policy_is_true, is_allowed}
 use Rattle.jac_plain.specs.Records.{each_cell, plain_row}
-use Rattle.jac_open.specs.Open.{is_guarded_at, is_open_place, is_open_in, is_open_field, is_open_order, is_open, are_open, are_open_groups, are_open_models, is_open_app, masked_cells, masked_rows, masked_tables, AreAlike, is_policy_true}
+use Rattle.jac_open.specs.Open.{is_guarded_at, is_open_place, is_open_in, is_open_field, is_open_order, is_open, are_open, are_open_groups, are_open_models, is_open_app, masked_cells, masked_records, masked_tables, AreAlike, is_policy_true}
 
 abbrev masked_row : List Entity → ℕ → PlainRow → PlainRow
 masked_row models m r = plain_row r.id (masked_cells models m r.cells)
@@ -50,19 +50,19 @@ cell_masked models m f cells h =
     (λ g e v. unguarded (is_guarded_at models m g) v (let at : g ≡ f = omega (arith, e) in ap (λ i. not (is_guarded_at models m i)) at ∙ h))
 
 record_masked : (models : List Entity) (m id : ℕ) (rows : List PlainRow)
-    → record_with id (masked_rows models m rows) ≡ masked_record models m (record_with id rows)
+    → record_with id (masked_records models m rows) ≡ masked_record models m (record_with id rows)
 record_masked models m id [] = refl
 record_masked models m id (r ∷ rows) =
-    elim (r.id == id) as (λ b. (if b then Some (masked_row models m r) else record_with id (masked_rows models m rows)) ≡ masked_record models m (if b then Some r else record_with id rows)) [
+    elim (r.id == id) as (λ b. (if b then Some (masked_row models m r) else record_with id (masked_records models m rows)) ≡ masked_record models m (if b then Some r else record_with id rows)) [
       | true ↦ refl
       | false ↦ record_masked models m id rows
     ]
 
 rows_masked : (models : List Entity) (from i m : ℕ) (tables : List (List PlainRow)) → m ≡ from + i
-    → rows_of (masked_tables models from tables) i ≡ masked_rows models m (rows_of tables i)
+    → rows_of (masked_tables models from tables) i ≡ masked_records models m (rows_of tables i)
 rows_masked models from zero m [] e = refl
 rows_masked models from (suc i) m [] e = refl
-rows_masked models from zero m (rows ∷ tables) e = let here : from ≡ m = omega (arith, e) in ap (λ k. masked_rows models k rows) here
+rows_masked models from zero m (rows ∷ tables) e = let here : from ≡ m = omega (arith, e) in ap (λ k. masked_records models k rows) here
 rows_masked models from (suc i) m (rows ∷ tables) e = rows_masked models (from + 1) i m tables (omega (arith, e))
 
 stands_masked : (models : List Entity) (m : ℕ) (r : Option PlainRow)
@@ -71,7 +71,7 @@ stands_masked models m None = refl
 stands_masked models m (Some r) = refl
 
 referred_masked : (models : List Entity) (m : ℕ) (v : Value) (rows : List PlainRow)
-    → referred v (masked_rows models m rows) ≡ masked_record models m (referred v rows)
+    → referred_record v (masked_records models m rows) ≡ masked_record models m (referred_record v rows)
 referred_masked models m (value.Ref (Some id)) rows = record_masked models m id rows
 referred_masked models m (value.Ref None) rows = refl
 referred_masked models m (value.Int i) rows = refl
@@ -89,9 +89,9 @@ in_masked : (w : World) (m : Option ℕ) (field : List ℕ) (v : Value) → is_o
 in_masked w None field v h = refl
 in_masked w (Some m) field v h =
     let f = field_place (fields_at w.models m) field in
-    ap (λ rows. cell_named (masked_world w) m f (referred v rows)) (rows_masked w.models 0 m m w.tables (omega arith))
+    ap (λ rows. cell_named (masked_world w) m f (referred_record v rows)) (rows_masked w.models 0 m m w.tables (omega arith))
     ∙ ap (cell_named (masked_world w) m f) (referred_masked w.models m v (rows_of w.tables m))
-    ∙ named_masked w m f (referred v (rows_of w.tables m)) h
+    ∙ named_masked w m f (referred_record v (rows_of w.tables m)) h
 
 got_masked : (w : World) (model field : List ℕ) (v : Value) → is_open_field w.models model field ≡ true
     → got (masked_world w) model field v ≡ got w model field v
@@ -115,27 +115,27 @@ live_masked w (value.Bool b) = refl
 -- the answers of a query are tuples of ids
 
 extended_masked : (models : List Entity) (m : ℕ) (ids : List ℕ) (rows : List PlainRow)
-    → extended ids (masked_rows models m rows) ≡ extended ids rows
+    → extended_tuples ids (masked_records models m rows) ≡ extended_tuples ids rows
 extended_masked models m ids [] = refl
 extended_masked models m ids (r ∷ rows) = ap (λ tuples. (ids ++ r.id ∷ []) ∷ tuples) (extended_masked models m ids rows)
 
 crossed_rows : (models : List Entity) (m : ℕ) (tuples : List (List ℕ)) (rows : List PlainRow)
-    → crossed tuples (masked_rows models m rows) ≡ crossed tuples rows
+    → crossed_tuples tuples (masked_records models m rows) ≡ crossed_tuples tuples rows
 crossed_rows models m [] rows = refl
 crossed_rows models m (ids ∷ tuples) rows =
-    ap (λ first. first ++ crossed tuples (masked_rows models m rows)) (extended_masked models m ids rows)
-    ∙ ap (λ rest. extended ids rows ++ rest) (crossed_rows models m tuples rows)
+    ap (λ first. first ++ crossed_tuples tuples (masked_records models m rows)) (extended_masked models m ids rows)
+    ∙ ap (λ rest. extended_tuples ids rows ++ rest) (crossed_rows models m tuples rows)
 
 crossed_at : (w : World) (m : Option ℕ) (tuples : List (List ℕ))
-    → crossed tuples (rows_at_place (masked_tables w.models 0 w.tables) m) ≡ crossed tuples (rows_at_place w.tables m)
+    → crossed_tuples tuples (rows_at_place (masked_tables w.models 0 w.tables) m) ≡ crossed_tuples tuples (rows_at_place w.tables m)
 crossed_at w None tuples = refl
-crossed_at w (Some m) tuples = ap (crossed tuples) (rows_masked w.models 0 m m w.tables (omega arith)) ∙ crossed_rows w.models m tuples (rows_of w.tables m)
+crossed_at w (Some m) tuples = ap (crossed_tuples tuples) (rows_masked w.models 0 m m w.tables (omega arith)) ∙ crossed_rows w.models m tuples (rows_of w.tables m)
 
 tuples_masked : (w : World) (bs : List Binder) (tuples : List (List ℕ))
     → tuples_from (masked_world w) bs tuples ≡ tuples_from w bs tuples
 tuples_masked w [] tuples = refl
 tuples_masked w (b ∷ bs) tuples =
-    ap (tuples_from (masked_world w) bs) (crossed_at w (model_place w.models b.model) tuples) ∙ tuples_masked w bs (crossed tuples (records w b.model))
+    ap (tuples_from (masked_world w) bs) (crossed_at w (model_place w.models b.model) tuples) ∙ tuples_masked w bs (crossed_tuples tuples (records w b.model))
 
 key_masked : (w : World) (bs : List Binder) (name field : List ℕ)
     → is_open_field w.models (model_of_binder bs name) field ≡ true
@@ -143,18 +143,18 @@ key_masked : (w : World) (bs : List Binder) (name field : List ℕ)
 key_masked w bs name field h i ids = got_masked w (model_of_binder bs name) field (look (bound bs ids []) name) h i
 
 ordered_masked : (w : World) (bs : List Binder) (o : Order) (tuples : List (List ℕ))
-    → is_open_order w.models bs o ≡ true → ordered (masked_world w) bs o tuples ≡ ordered w bs o tuples
+    → is_open_order w.models bs o ≡ true → ordered_tuples (masked_world w) bs o tuples ≡ ordered_tuples w bs o tuples
 ordered_masked w bs orders.Key tuples h = refl
-ordered_masked w bs (orders.Up name field) tuples h = ap (λ key. sorted is_less key tuples) (key_masked w bs name field h)
-ordered_masked w bs (orders.Down name field) tuples h = ap (λ key. sorted (λ a b. is_less b a) key tuples) (key_masked w bs name field h)
+ordered_masked w bs (orders.Up name field) tuples h = ap (λ key. sorted_tuples is_less key tuples) (key_masked w bs name field h)
+ordered_masked w bs (orders.Down name field) tuples h = ap (λ key. sorted_tuples (λ a b. is_less b a) key tuples) (key_masked w bs name field h)
 
 -- two functions that are equal at each argument are equal
 pub answers_masked : (w : World) (bs : List Binder) (o : Order) (cond other : List Binding → Value) (env : List Binding)
     → is_open_order w.models bs o ≡ true → cond ≡ other
     → answers_by (masked_world w) bs o cond env ≡ answers_by w bs o other env
 answers_masked w bs o cond other env h same =
-    ap (λ c. ordered (masked_world w) bs o (kept_by bs c env (tuples_from (masked_world w) bs ([] ∷ [])))) same
-    ∙ ap (λ tuples. ordered (masked_world w) bs o (kept_by bs other env tuples)) (tuples_masked w bs ([] ∷ []))
+    ap (λ c. ordered_tuples (masked_world w) bs o (kept_by bs c env (tuples_from (masked_world w) bs ([] ∷ [])))) same
+    ∙ ap (λ tuples. ordered_tuples (masked_world w) bs o (kept_by bs other env tuples)) (tuples_masked w bs ([] ∷ []))
     ∙ ordered_masked w bs o (kept_by bs other env (tuples_from w bs ([] ∷ []))) h
 
 mutual

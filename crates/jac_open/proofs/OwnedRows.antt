@@ -11,14 +11,14 @@ use Rattle.jac_lang.specs.declared.field_kinds.Field.{Field}
 use Rattle.jac_lang.specs.Syntax.{Entity, Expression, Assigned}
 use Rattle.jac_rows.specs.Tables.{rows_of}
 use Rattle.jac_rows.specs.declared.plain.PlainRow.{PlainRow}
-use Rattle.jac_plain.specs.Records.{fitting, cell_set, drafted, each_cell, plain_row, public_cell, is_hidden_by, is_hidden, shielded, with_ids, with_row, changed, without, tables_with, tables_after}
-use Rattle.jac_open.specs.Open.{is_guarded_at, is_open, masked_cells, masked_rows, masked_tables}
+use Rattle.jac_plain.specs.Records.{fitting, cell_set, drafted_cells, each_cell, plain_row, public_cell, is_hidden_by, is_hidden, shielded_cells, with_ids, with_row, changed_rows, without, tables_with, tables_after}
+use Rattle.jac_open.specs.Open.{is_guarded_at, is_open, masked_cells, masked_records, masked_tables}
 use Rattle.jac_open.specs.Owned.{AgreeOfRecord, IsOwned, AreOwned, AreOwnedTables, are_open_sets}
 
 -- ---- tables that are equal but for guarded cells
 
 masked_same : (models : List Entity) (m : ℕ) (v w : ℕ → Bool) (rows others : List PlainRow) → AreOwned models m v w rows others
-    → masked_rows models m rows ≡ masked_rows models m others
+    → masked_records models m rows ≡ masked_records models m others
 masked_same models m v w [] [] h = refl
 masked_same models m v w [] (s ∷ others) h = absurd h
 masked_same models m v w (r ∷ rows) [] h = absurd h
@@ -73,7 +73,7 @@ hidden_same shown other id (Some g) h = ap not (h g refl)
 -- what is stored of two drafts of a record
 pub shielded_owned : (models : List Entity) (m id : ℕ) (v w : ℕ → Bool) (named : ℕ → Bool) (one two : List Value)
     → masked_cells models m one ≡ masked_cells models m two → (AgreeOfRecord models m id v w → one ≡ two)
-    → IsOwned models m v w (plain_row id (shielded models v m id named one)) (plain_row id (shielded models w m id named two))
+    → IsOwned models m v w (plain_row id (shielded_cells models v m id named one)) (plain_row id (shielded_cells models w m id named two))
 shielded_owned models m id v w named one two clear own = record {
   same_id = refl;
   clear = cells_shielded models m id 0 v named one one ∙ clear ∙ sym (cells_shielded models m id 0 w named two two);
@@ -86,11 +86,11 @@ shielded_owned models m id v w named one two clear own = record {
 -- drafts of the same values
 pub drafted_same : (models : List Entity) (fields : List Field) (one two : Expression → Value) (sets : List Assigned) (cells : List Value)
     → ((e : Expression) → is_open models e ≡ true → one e ≡ two e) → are_open_sets models sets ≡ true
-    → drafted models fields one sets cells ≡ drafted models fields two sets cells
+    → drafted_cells models fields one sets cells ≡ drafted_cells models fields two sets cells
 drafted_same models fields one two [] cells same h = refl
 drafted_same models fields one two (a ∷ sets) cells same h =
     let parts = and_parts (is_open models a.value) (are_open_sets models sets) h in
-    ap (λ x. drafted models fields one sets (cell_set models fields (field_place fields a.field) x cells)) (same a.value parts.0)
+    ap (λ x. drafted_cells models fields one sets (cell_set models fields (field_place fields a.field) x cells)) (same a.value parts.0)
     ∙ drafted_same models fields one two sets (cell_set models fields (field_place fields a.field) (two a.value) cells) same parts.1
 
 set_masked : (models : List Entity) (m : ℕ) (fields : List Field) (place : Option ℕ) (x : Value) (one two : List Value)
@@ -104,7 +104,7 @@ set_masked models m fields (Some f) x one two h =
 
 pub drafted_masked : (models : List Entity) (m : ℕ) (fields : List Field) (value_of : Expression → Value) (sets : List Assigned) (one two : List Value)
     → masked_cells models m one ≡ masked_cells models m two
-    → masked_cells models m (drafted models fields value_of sets one) ≡ masked_cells models m (drafted models fields value_of sets two)
+    → masked_cells models m (drafted_cells models fields value_of sets one) ≡ masked_cells models m (drafted_cells models fields value_of sets two)
 drafted_masked models m fields value_of [] one two h = h
 drafted_masked models m fields value_of (a ∷ sets) one two h =
     let place = field_place fields a.field in
@@ -153,12 +153,12 @@ module _ (models : List Entity) (m : ℕ) (v w : ℕ → Bool) where
 
   pub owned_changed : (id : ℕ) (one two : List Value → List Value) (rows others : List PlainRow)
       → ((r s : PlainRow) → r.id ≡ id → IsOwned models m v w r s → IsOwned models m v w (plain_row r.id (one r.cells)) (plain_row s.id (two s.cells)))
-      → AreOwned models m v w rows others → AreOwned models m v w (changed id one rows) (changed id two others)
+      → AreOwned models m v w rows others → AreOwned models m v w (changed_rows id one rows) (changed_rows id two others)
   owned_changed id one two [] [] step h = tt
   owned_changed id one two [] (s ∷ others) step h = absurd h
   owned_changed id one two (r ∷ rows) [] step h = absurd h
   owned_changed id one two (r ∷ rows) (s ∷ others) step h =
-      change_if (r.id == id) (s.id == id) r s (one r.cells) (two s.cells) rows others (changed id one rows) (changed id two others)
+      change_if (r.id == id) (s.id == id) r s (one r.cells) (two s.cells) rows others (changed_rows id one rows) (changed_rows id two others)
       (ap (λ n. n == id) h.0.same_id) (λ on. step r s (same_number r.id id on) h.0) h.0 h.1 (owned_changed id one two rows others step h.1)
     where
       same_number : (a b : ℕ) → (a == b) ≡ true → a ≡ b

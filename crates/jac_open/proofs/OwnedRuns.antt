@@ -16,8 +16,8 @@ use Rattle.jac_plain.specs.World.{World}
 use Rattle.jac_plain.specs.declared.page.Piece.{Piece}
 use Rattle.jac_plain.specs.declared.page.Piece.TheVariants as piece
 use Rattle.jac_plain.specs.Expressions.{mean, answers, answers_by, bound, binding, bytes_of, is_true}
-use Rattle.jac_plain.specs.Records.{drafted, default_cells, plain_row, is_hidden_by, every_field, is_set, changed, without, tables_after}
-use Rattle.jac_plain.specs.Statements.{Setting, Run, with_piece, html, scoped, assigned, choose, for_each, loop_of, id_made, is_kept, tables_made, with_made, created_cells, created, updated_cells, updated, deleted, leaves, leaves_all}
+use Rattle.jac_plain.specs.Records.{drafted_cells, default_cells, plain_row, is_hidden_by, every_field, is_set, changed_rows, without, tables_after}
+use Rattle.jac_plain.specs.Statements.{Setting, Run, with_piece, html, scoped_run, with_value, choose, for_each, loop_of, id_made, is_kept, tables_made, with_made, created_cells, create_run, updated_cells, update_run, delete_run, leaves, leaves_all}
 use Rattle.jac_plain.specs.Requests.{Visit, Worlds, body_in, method_in, run_of, after_by, after}
 use Rattle.jac_open.specs.Open.{is_open, is_open_order, masked_cells}
 use Rattle.jac_open.specs.Owned.{AgreeOfRecord, IsOwned, AreOwnedTables, HangOnOwn, HideNothing, are_open_sets, reads_openly, read_openly, stores_openly, is_stored_openly}
@@ -69,7 +69,7 @@ module _ (models : List Entity) (v w : ℕ → Bool) (viewer : Option ℕ) (numb
   piece_owned one two r s same h = record { tables = h.tables; env = h.env; pieces = λ i. h.pieces i ++ same i ∷ [] }
 
   scoped_owned : (env more : List Binding) (one two : Run → Run) (r s : Run) → env ≡ more → RunsOwned models v w r s
-      → ((a b : Run) → RunsOwned models v w a b → RunsOwned models v w (one a) (two b)) → RunsOwned models v w (scoped env one r) (scoped more two s)
+      → ((a b : Run) → RunsOwned models v w a b → RunsOwned models v w (one a) (two b)) → RunsOwned models v w (scoped_run env one r) (scoped_run more two s)
   scoped_owned env more one two r s same h step =
       let inner = step (record r { env = env }) (record s { env = more }) (record { tables = h.tables; env = same; pieces = h.pieces }) in
       record { tables = inner.tables; env = λ i. take (length (h.env i)) (inner.env i); pieces = inner.pieces }
@@ -86,7 +86,7 @@ module _ (models : List Entity) (v w : ℕ → Bool) (viewer : Option ℕ) (numb
       → ((ids : List ℕ) (a b : Run) → RunsOwned models v w a b → RunsOwned models v w (one ids a) (two ids b)) → RunsOwned models v w (for_each bs one tuples r) (for_each bs two tuples s)
   each_owned bs one two [] r s h step = h
   each_owned bs one two (ids ∷ tuples) r s h step =
-      each_owned bs one two tuples (scoped (bound bs ids r.env) (one ids) r) (scoped (bound bs ids s.env) (two ids) s)
+      each_owned bs one two tuples (scoped_run (bound bs ids r.env) (one ids) r) (scoped_run (bound bs ids s.env) (two ids) s)
       (scoped_owned (bound bs ids r.env) (bound bs ids s.env) (one ids) (two ids) r s (ap (bound bs ids) h.env) h (step ids)) step
 
   -- ---- writes
@@ -103,13 +103,13 @@ module _ (models : List Entity) (v w : ℕ → Bool) (viewer : Option ℕ) (numb
 
   created_owned : (name : List ℕ) (place : Option ℕ) (site : ℕ) (cells : List Assigned) (one two : Run → Run) (around : Option ℕ) (r s : Run)
       → are_open_sets models cells ≡ true → RunsOwned models v w r s → ((a b : Run) → RunsOwned models v w a b → RunsOwned models v w (one a) (two b))
-      → RunsOwned models v w (created (setting v around) name place site cells one r) (created (setting w around) name place site cells two s)
+      → RunsOwned models v w (create_run (setting v around) name place site cells one r) (create_run (setting w around) name place site cells two s)
   created_owned name None site cells one two around r s clear h step = h
   created_owned name (Some m) site cells one two around r s clear h step =
       let id = id_made (setting v around) m site in
       let fields = fields_at models m in
-      let draft = drafted models fields (λ e. mean (world_in models viewer r.tables) e r.env) cells (default_cells models fields) in
-      let draft' = drafted models fields (λ e. mean (world_in models viewer s.tables) e s.env) cells (default_cells models fields) in
+      let draft = drafted_cells models fields (λ e. mean (world_in models viewer r.tables) e r.env) cells (default_cells models fields) in
+      let draft' = drafted_cells models fields (λ e. mean (world_in models viewer s.tables) e s.env) cells (default_cells models fields) in
       let same : draft ≡ draft' =
       drafted_same models fields (λ e. mean (world_in models viewer r.tables) e r.env) (λ e. mean (world_in models viewer s.tables) e s.env) cells (default_cells models fields)
       (λ e o. value_same e r s o h) clear in
@@ -133,18 +133,18 @@ module _ (models : List Entity) (v w : ℕ → Bool) (viewer : Option ℕ) (numb
       let two : Expression → Value = λ e. mean (world_in models viewer s.tables) e s.env in
       let same = drafted_same models fields one two cells other.cells (λ e o. value_same e r s o h) clear in
       let masked = drafted_masked models m fields one cells row.cells other.cells old.clear ∙ ap (masked_cells models m) same in
-      let own : AgreeOfRecord models m id v w → drafted models fields one cells row.cells ≡ drafted models fields two cells other.cells =
-      λ agree. ap (drafted models fields one cells) (old.own (subst (λ n. AgreeOfRecord models m n v w) (sym is) agree)) ∙ same in
+      let own : AgreeOfRecord models m id v w → drafted_cells models fields one cells row.cells ≡ drafted_cells models fields two cells other.cells =
+      λ agree. ap (drafted_cells models fields one cells) (old.own (subst (λ n. AgreeOfRecord models m n v w) (sym is) agree)) ∙ same in
       named_again models m v w id row.id other.id (updated_cells (setting v around) m id cells r row.cells) (updated_cells (setting w around) m id cells s other.cells)
       is (sym old.same_id ∙ is)
-      (shielded_owned models m id v w (is_set fields cells) (drafted models fields one cells row.cells) (drafted models fields two cells other.cells) masked own)
+      (shielded_owned models m id v w (is_set fields cells) (drafted_cells models fields one cells row.cells) (drafted_cells models fields two cells other.cells) masked own)
 
   updated_owned : (place : Option ℕ) (one two : Value) (cells : List Assigned) (around : Option ℕ) (r s : Run) → one ≡ two → are_open_sets models cells ≡ true
-      → RunsOwned models v w r s → RunsOwned models v w (updated (setting v around) place one cells r) (updated (setting w around) place two cells s)
+      → RunsOwned models v w r s → RunsOwned models v w (update_run (setting v around) place one cells r) (update_run (setting w around) place two cells s)
   updated_owned None one two cells around r s same clear h = h
   updated_owned (Some m) one two cells around r s same clear h =
-      let step : (id : ℕ) → List PlainRow → List PlainRow = λ id rows. changed id (updated_cells (setting v around) m id cells r) rows in
-      let step' : (id : ℕ) → List PlainRow → List PlainRow = λ id rows. changed id (updated_cells (setting w around) m id cells s) rows in
+      let step : (id : ℕ) → List PlainRow → List PlainRow = λ id rows. changed_rows id (updated_cells (setting v around) m id cells r) rows in
+      let step' : (id : ℕ) → List PlainRow → List PlainRow = λ id rows. changed_rows id (updated_cells (setting w around) m id cells s) rows in
       let left = owned_after models m v w one step step' r.tables s.tables
       (λ id rows others rows_owned. owned_changed models m v w id (updated_cells (setting v around) m id cells r) (updated_cells (setting w around) m id cells s) rows others
       (cells_owned m id cells around r s clear h) rows_owned) h.tables in
@@ -154,7 +154,7 @@ module _ (models : List Entity) (v w : ℕ → Bool) (viewer : Option ℕ) (numb
         pieces = h.pieces;
       }
 
-  deleted_owned : (place : Option ℕ) (one two : Value) (r s : Run) → one ≡ two → RunsOwned models v w r s → RunsOwned models v w (deleted place one r) (deleted place two s)
+  deleted_owned : (place : Option ℕ) (one two : Value) (r s : Run) → one ≡ two → RunsOwned models v w r s → RunsOwned models v w (delete_run place one r) (delete_run place two s)
   deleted_owned None one two r s same h = h
   deleted_owned (Some m) one two r s same h =
       let left = owned_after models m v w one without without r.tables s.tables (λ id rows others rows_owned. owned_without models m v w id rows others rows_owned) h.tables in
@@ -185,7 +185,7 @@ module _ (models : List Entity) (v w : ℕ → Bool) (viewer : Option ℕ) (numb
         (λ i. h.env i ++ binding x (same i) ∷ []) h (λ a b g. owned_all around body a b parts.1 g)
     owned around (Statement.assign x e) r s clear h =
         let same = value_same e r s clear h in
-        record { tables = h.tables; env = λ i. assigned x (same i) (h.env i); pieces = h.pieces }
+        record { tables = h.tables; env = λ i. with_value x (same i) (h.env i); pieces = h.pieces }
     owned around (Statement.branch c first second) r s clear h =
         let parts = and_parts (is_open models c) (read_openly models first && read_openly models second) clear in
         let bodies = and_parts (read_openly models first) (read_openly models second) parts.1 in

@@ -1,26 +1,22 @@
 -- The labels that are allowed in a plain state, as a list.
 use Rattle.std.specs.Prelude.{ℕ, zero, suc, ◌==◌, nat_lt, Bool, if◌then◌else◌, List, [], ◌∷◌, ◌++◌, Option}
-use Rattle.jac_value.specs.Ids.{label_of}
+use Rattle.jac_value.specs.Ids.{label_of, labels_below}
 use Rattle.jac_lang.specs.Syntax.{Application}
 use Rattle.jac_rows.specs.declared.plain.PlainRow.{PlainRow}
 use Rattle.jac_rows.specs.declared.plain.PlainState.{PlainState}
 use Rattle.jac_plain.specs.Policies.{is_allowed}
 
 -- a rising list with one more number, once
-abbrev pub inserted : ℕ → List ℕ → List ℕ
-inserted k [] = k ∷ []
-inserted k (x ∷ xs) = if nat_lt x k then x ∷ inserted k xs else (if x == k then x ∷ xs
+abbrev pub with_number : ℕ → List ℕ → List ℕ
+with_number k [] = k ∷ []
+with_number k (x ∷ xs) = if nat_lt x k then x ∷ with_number k xs else (if x == k then x ∷ xs
     else k ∷ (x ∷ xs))
 
 -- the numbers that pass the test, in rising order, each once
-abbrev pub picked : (ℕ → Bool) → List ℕ → List ℕ
-picked test [] = []
-picked test (k ∷ ks) = if test k then inserted k (picked test ks) else picked test ks
-
--- the labels of a record's first groups
-abbrev pub labels_below : ℕ → ℕ → List ℕ
-labels_below id zero = []
-labels_below id (suc n) = labels_below id n ++ label_of id n ∷ []
+abbrev pub passing_numbers : (ℕ → Bool) → List ℕ → List ℕ
+passing_numbers test [] = []
+passing_numbers test (k ∷ ks) = if test k then with_number k (passing_numbers test ks)
+    else passing_numbers test ks
 
 -- the labels that records can have, whose models have eight groups at most
 abbrev pub labels_of_records : List PlainRow → List ℕ
@@ -34,4 +30,4 @@ labels_of_tables (rows ∷ tables) = labels_of_records rows ++ labels_of_tables 
 
 -- the labels that are allowed in the state, in rising order
 abbrev pub allowed_labels : Application → PlainState → Option ℕ → List ℕ
-allowed_labels app t viewer = picked (is_allowed app t viewer) (labels_of_tables t.tables)
+allowed_labels app t viewer = passing_numbers (is_allowed app t viewer) (labels_of_tables t.tables)

@@ -88,24 +88,24 @@ masked_cells models m cells =
     each_cell (λ f cell. if is_guarded_at models m f then value.Bool false else cell) 0 cells
 
 -- records of this model, with their ids
-abbrev pub masked_rows : List Entity → ℕ → List PlainRow → List PlainRow
-masked_rows models m [] = []
-masked_rows models m (r ∷ rows) =
-    plain_row r.id (masked_cells models m r.cells) ∷ masked_rows models m rows
+abbrev pub masked_records : List Entity → ℕ → List PlainRow → List PlainRow
+masked_records models m [] = []
+masked_records models m (r ∷ rows) =
+    plain_row r.id (masked_cells models m r.cells) ∷ masked_records models m rows
 
 -- the tables of the models from this place on
 abbrev pub masked_tables : List Entity → ℕ → List (List PlainRow) → List (List PlainRow)
 masked_tables models m [] = []
 masked_tables models m (rows ∷ tables) =
-    masked_rows models m rows ∷ masked_tables models (m + 1) tables
+    masked_records models m rows ∷ masked_tables models (m + 1) tables
 
 -- what is left of a state where nothing is told of guarded cells
-abbrev pub masked : Application → PlainState → PlainState
-masked app t = record { tables = masked_tables app.models 0 t.tables; number = t.number }
+abbrev pub masked_state : Application → PlainState → PlainState
+masked_state app t = record { tables = masked_tables app.models 0 t.tables; number = t.number }
 
 -- the states are equal but for the cells of guarded fields
 abbrev pub AreAlike : Application → PlainState → PlainState → Type 0
-AreAlike app t u = masked app t ≡ masked app u
+AreAlike app t u = masked_state app t ≡ masked_state app u
 
 -- any two assignments show states that are alike: which records there are, and what their other
 -- fields hold, hangs on no label

@@ -1,5 +1,5 @@
 ghost use Rattle.std.specs.Prelude.{◌≡◌, ◌↔◌, ℕ, Bool, true, List, Option};
-ghost use Rattle.jac_world.specs.World.{shown, IsAscending};
+ghost use Rattle.jac_world.specs.World.{shown_by, IsAscending};
 ghost use Rattle.jac_lang.specs.declared.bindings.Binding.{Binding};
 ghost use Rattle.jac_lang.specs.Syntax.{Application, Expression};
 ghost use Rattle.jac_rows.specs.Project.{project_at};
@@ -44,7 +44,7 @@ pub fn open_settled()
     ensures { (app : Application) (worlds : Worlds) (viewer : Option ℕ) (labels : List ℕ) →
         is_open_app app ≡ true → AreEven app worlds → IsAscending labels →
         (IsSettled app worlds viewer labels
-        ↔ ((k : ℕ) → (shown labels k ≡ true ↔ IsGranted app worlds viewer k))) }
+        ↔ ((k : ℕ) → (shown_by labels k ≡ true ↔ IsGranted app worlds viewer k))) }
 {}
 
 /// A law: over even worlds of an open application exactly one list of labels is settled for a

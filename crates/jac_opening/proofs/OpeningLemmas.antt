@@ -19,7 +19,7 @@ use Rattle.jac_forms.specs.Reads.{Read, got, refused, value_of}
 use Rattle.jac_template.specs.Applications.{Expanded, ExpandsApplication, ExpandsView, ExpandsViews}
 use Rattle.jac_template.proofs.SiteLaws.{view_keeps_sites}
 use Rattle.jac_opening.specs.Served.{IsSited}
-use Rattle.jac_template.specs.Faults.{fault_of, refuses}
+use Rattle.jac_template.specs.Faults.{fault_in_template, refuses_template}
 use Rattle.jac_template.specs.declared.application.ViewFault.{ViewFault}
 use Rattle.jac_opening.specs.Application.{Opened, OpensExpanded, OpensForm, Opens, IsApplication}
 use Rattle.jac_opening.specs.Refusal.{IsStep, HasRefusal, IsOpening, text_refusal, form_refusal, template_refusal}
@@ -144,9 +144,9 @@ step_if : (Is : Opened → Type 0) (b : Bool) (r : Refusal) → (IsTrue b → Is
 step_if Is true r h = inr (h refl)
 step_if Is false r h = inl refl
 
-pub template_steps : (app : Application) (fault : ViewFault) → (IsTrue (refuses fault.fault) → ExpandsApplication app (Expanded.fault fault.view (fault_of fault.fault)))
+pub template_steps : (app : Application) (fault : ViewFault) → (IsTrue (refuses_template fault.fault) → ExpandsApplication app (Expanded.fault fault.view (fault_in_template fault.fault)))
     → (template_refusal fault ≡ refusals.Memory) ⊎ IsStep (OpensForm (got app)) (template_refusal fault)
-template_steps app fault h = step_if (OpensForm (got app)) (refuses fault.fault) (refusals.Template fault) (λ is. (Expanded.fault fault.view (fault_of fault.fault), h is, refl))
+template_steps app fault h = step_if (OpensForm (got app)) (refuses_template fault.fault) (refusals.Template fault) (λ is. (Expanded.fault fault.view (fault_in_template fault.fault), h is, refl))
 
 pub opening_is : (bytes : List ℕ) (t : PlainTree) (result : Result App Refusal) → Accepted bytes t → IsOpening (Opens t) result
     → IfOk result (λ app. IsApplication bytes (application_of app))

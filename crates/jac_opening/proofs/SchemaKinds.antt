@@ -6,12 +6,13 @@ use Rattle.std.specs.List.{All, position_or_len}
 use Rattle.std.specs.Option.{option_map, option_and_then}
 use Rattle.std.proofs.lemmas.Bool.Decides.{nat_tests}
 use Rattle.std.proofs.lemmas.List.Elements.{All-head, All-tail}
+use Rattle.std.proofs.lemmas.Bool.{and_parts, and_from}
 use Rattle.jac_value.specs.Names.{is_name, is_reserved}
 use Rattle.jac_value.specs.declared.value.Kind.{Kind}
 use Rattle.jac_value.specs.declared.value.Kind.TheVariants as kind
 use Rattle.jac_tree.specs.Grammar.{are_atom_bytes}
-use Rattle.jac_tree.specs.Plain.{PlainTree, PlainTrees, nesting, nesting_all}
-use Rattle.jac_tree.specs.Printed.{printed, HasAtoms, HaveAtoms}
+use Rattle.jac_tree.specs.Plain.{PlainTree, PlainTrees, count, nesting, nesting_all}
+use Rattle.jac_tree.specs.Printed.{printed_tree, HasAtoms, HaveAtoms}
 use Rattle.jac_lang.specs.declared.field_kinds.Field.{Field}
 use Rattle.jac_lang.specs.declared.field_kinds.KindName.{KindName}
 use Rattle.jac_lang.specs.declared.field_kinds.KindName.TheVariants as kinds
@@ -20,14 +21,9 @@ use Rattle.jac_lang.specs.Syntax.{Assigned, FieldGroup, Entity, Application}
 use Rattle.jac_lang.specs.Written.{IsName, IsWrittenAssigned, IsWrittenKind, IsWrittenField, IsWrittenGroup, IsWrittenModel}
 use Rattle.jac_plain.specs.Models.{kinds_of_fields, shapes_of_models, shapes_of}
 use Rattle.jac_keep.specs.Schema as schema
-use Rattle.jac_keep.specs.Schema.{IsSchema, each_of, place_from, reference, kind_of, kind_of_field, behind_nested, kinds_of_lists, kinds_of_model, starts_nested, nested_of_models, shapes_by}
-use Rattle.jac_check.specs.Schema.{kind_tree, field_tree, field_trees, guard_trees, group_trees, fields_tree, groups_tree, nested_before, list_trees, model_tree, model_trees, schema_tree}
+use Rattle.jac_keep.specs.Schema.{IsSchema, each_of, place_from, reference_kind, kind_of_tree, kind_of_field, behind_nested, kinds_of_lists, kinds_of_model, starts_nested, nested_of_models, shapes_by}
+use Rattle.jac_check.specs.Schema.{kind_tree, field_tree, field_trees, guard_trees, group_trees, fields_tree, groups_tree, nested_atom_before, list_trees, model_tree, model_trees, schema_tree}
 use Rattle.jac_check.specs.Well.{is_viewer, is_kind, are_fields, are_groups, are_models, is_well}
-
--- both tests hold where both together do
-both : (p q : Bool) → (p && q) ≡ true → (p ≡ true) × (q ≡ true)
-both true q h = (refl, h)
-both false q h = cc
 
 -- a name is an atom
 some_byte : (a : List ℕ) → is_ascii_alphabetic (slice_index a 0) ≡ true → a ≢ []
@@ -36,9 +32,9 @@ some_byte (b ∷ bs) h = λ e. absurd (cc)
 
 atom_of_name : (a : List ℕ) → IsName a → HasAtoms (PlainTree.atom a)
 atom_of_name a named =
-    let outer = both (nat_le (length a) 64 && is_ascii_alphabetic (slice_index a 0) && not (is_reserved a)) (are_atom_bytes a) named in
-    let inner = both (nat_le (length a) 64 && is_ascii_alphabetic (slice_index a 0)) (not (is_reserved a)) outer.0 in
-    let begins = both (nat_le (length a) 64) (is_ascii_alphabetic (slice_index a 0)) inner.0 in
+    let outer = and_parts (nat_le (length a) 64 && is_ascii_alphabetic (slice_index a 0) && not (is_reserved a)) (are_atom_bytes a) named in
+    let inner = and_parts (nat_le (length a) 64 && is_ascii_alphabetic (slice_index a 0)) (not (is_reserved a)) outer.0 in
+    let begins = and_parts (nat_le (length a) 64) (is_ascii_alphabetic (slice_index a 0)) inner.0 in
     (some_byte a begins.1, outer.1)
 
 schema_word : HasAtoms (PlainTree.atom (codes "schema"))
@@ -88,7 +84,7 @@ groups_atoms : (gs : List FieldGroup) → All IsWrittenGroup gs → HaveAtoms (g
 groups_atoms [] w = tt
 groups_atoms (g ∷ gs) w = (hiding_atoms g.hides g.guards (All-head IsWrittenGroup g gs w).guards, groups_atoms gs (All-tail IsWrittenGroup g gs w))
 
-nested_atoms : (nested : Bool) (ts : PlainTrees) → HaveAtoms ts → HaveAtoms (nested_before nested ts)
+nested_atoms : (nested : Bool) (ts : PlainTrees) → HaveAtoms ts → HaveAtoms (nested_atom_before nested ts)
 nested_atoms true ts h = (nested_word, h)
 nested_atoms false ts h = h
 
@@ -127,7 +123,7 @@ groups_shallow : (gs : List FieldGroup) → nesting_all (group_trees gs) ≤ 1
 groups_shallow [] = omega arith
 groups_shallow (g ∷ gs) = max_most _ _ 1 (hiding_shallow g.hides g.guards) (groups_shallow gs)
 
-nested_shallow : (nested : Bool) (ts : PlainTrees) (n : ℕ) → nesting_all ts ≤ n → nesting_all (nested_before nested ts) ≤ n
+nested_shallow : (nested : Bool) (ts : PlainTrees) (n : ℕ) → nesting_all ts ≤ n → nesting_all (nested_atom_before nested ts) ≤ n
 nested_shallow true ts n h = max_most 0 _ n (omega arith) h
 nested_shallow false ts n h = h
 
@@ -179,7 +175,7 @@ known None d h = cc
 known (Some p) d h = refl
 
 -- what the schema's parts are read as
-kind_read : (models : List Entity) (k : KindName) → is_kind models k ≡ true → kind_of (model_trees models) (kind_tree k) ≡ Some (kind_named models k)
+kind_read : (models : List Entity) (k : KindName) → is_kind models k ≡ true → kind_of_tree (model_trees models) (kind_tree k) ≡ Some (kind_named models k)
 kind_read models kinds.Int h = refl
 kind_read models kinds.Text h = refl
 kind_read models kinds.Bool h = refl
@@ -202,27 +198,24 @@ fields_read : (models : List Entity) (earlier fs : List Field) → All IsWritten
     → each_of (kind_of_field (model_trees models)) (field_trees fs) ≡ Some (kinds_of_fields models fs)
 fields_read models earlier [] w h = refl
 fields_read models earlier (f ∷ fs) w h =
-    let parts = both _ (are_fields models (earlier ++ f ∷ []) fs) h in
-    each_more _ (kind_named models f.kind) _ (kinds_of_fields models fs) (field_read models f (All-head IsWrittenField f fs w) (both _ _ parts.0).1)
+    let parts = and_parts _ (are_fields models (earlier ++ f ∷ []) fs) h in
+    each_more _ (kind_named models f.kind) _ (kinds_of_fields models fs) (field_read models f (All-head IsWrittenField f fs w) (and_parts _ _ parts.0).1)
     (fields_read models (earlier ++ f ∷ []) fs (All-tail IsWrittenField f fs w) parts.1)
 
-and_true : (p q : Bool) → p ≡ true → q ≡ true → (p && q) ≡ true
-and_true p q h k = rw (h, k) refl
-
-guards_read : (gs : List Assigned) → All IsWrittenAssigned gs → schema.are_named (guard_trees gs) ≡ true
+guards_read : (gs : List Assigned) → All IsWrittenAssigned gs → schema.are_name_trees (guard_trees gs) ≡ true
 guards_read [] w = refl
-guards_read (g ∷ gs) w = and_true (is_name g.field) _ (All-head IsWrittenAssigned g gs w).0 (guards_read gs (All-tail IsWrittenAssigned g gs w))
+guards_read (g ∷ gs) w = and_from (is_name g.field) _ (All-head IsWrittenAssigned g gs w).0 (guards_read gs (All-tail IsWrittenAssigned g gs w))
 
 hiding_read : (hides : Bool) (gs : List Assigned) → All IsWrittenAssigned gs
     → schema.is_group (if hides then PlainTree.atom (codes "hides") else PlainTree.list (guard_trees gs)) ≡ true
 hiding_read true gs w = refl
 hiding_read false gs w = guards_read gs w
 
-groups_read : (gs : List FieldGroup) → All IsWrittenGroup gs → schema.are_groups (group_trees gs) ≡ true
+groups_read : (gs : List FieldGroup) → All IsWrittenGroup gs → schema.are_group_trees (group_trees gs) ≡ true
 groups_read [] w = refl
-groups_read (g ∷ gs) w = and_true _ _ (hiding_read g.hides g.guards (All-head IsWrittenGroup g gs w).guards) (groups_read gs (All-tail IsWrittenGroup g gs w))
+groups_read (g ∷ gs) w = and_from _ _ (hiding_read g.hides g.guards (All-head IsWrittenGroup g gs w).guards) (groups_read gs (All-tail IsWrittenGroup g gs w))
 
-behind_it : (nested : Bool) (m : Entity) → behind_nested (nested_before nested (list_trees m)) ≡ list_trees m
+behind_it : (nested : Bool) (m : Entity) → behind_nested (nested_atom_before nested (list_trees m)) ≡ list_trees m
 behind_it true m = refl
 behind_it false m = refl
 
@@ -249,13 +242,13 @@ models_read : (app : Application) (earlier ms : List Entity) → All IsWrittenMo
     → each_of (kinds_of_model (model_trees app.models)) (model_trees ms) ≡ Some (kinds_of_all app.models ms)
 models_read app earlier [] w h = refl
 models_read app earlier (m ∷ ms) w h =
-    let parts = both _ (are_models app (earlier ++ m ∷ []) ms) h in
-    let inside = both _ _ parts.0 in
+    let parts = and_parts _ (are_models app (earlier ++ m ∷ []) ms) h in
+    let inside = and_parts _ _ parts.0 in
     each_more _ (kinds_of_fields app.models m.fields) _ (kinds_of_all app.models ms)
-    (model_read app.models m (All-head IsWrittenModel m ms w) (both _ (are_groups app m [] m.groups) inside.1).0)
+    (model_read app.models m (All-head IsWrittenModel m ms w) (and_parts _ (are_groups app m [] m.groups) inside.1).0)
     (models_read app (earlier ++ m ∷ []) ms (All-tail IsWrittenModel m ms w) parts.1)
 
-starts_so : (nested : Bool) (m : Entity) → starts_nested (nested_before nested (list_trees m)) ≡ nested
+starts_so : (nested : Bool) (m : Entity) → starts_nested (nested_atom_before nested (list_trees m)) ≡ nested
 starts_so true m = refl
 starts_so false m = refl
 
@@ -272,16 +265,16 @@ shapes_seen : (kinds : Option (List (List Kind))) (nested : List Bool) (models :
     → option_map (λ ks. shapes_by ks nested) kinds ≡ Some (shapes_of_models models models)
 shapes_seen kinds nested models h k = rw (h, k, shapes_read models models) refl
 
-counted : (ms : List Entity) → schema.count (model_trees ms) ≡ length ms
+counted : (ms : List Entity) → count (model_trees ms) ≡ length ms
 counted [] = refl
 counted (m ∷ ms) = let rest = counted ms in omega (arith, rest)
 
-few : (ms : List Entity) → length ms ≤ 64 → nat_le (schema.count (model_trees ms)) 64 ≡ true
+few : (ms : List Entity) → length ms ≤ 64 → nat_le (count (model_trees ms)) 64 ≡ true
 few ms h = let n = counted ms in grind (nat_tests, arith, n, h)
 
-pub well_schema : (app : Application) → IsTrue (is_well app) → length app.models ≤ 64 → All IsWrittenModel app.models → IsSchema (printed (schema_tree app.models)) (shapes_of app)
+pub well_schema : (app : Application) → IsTrue (is_well app) → length app.models ≤ 64 → All IsWrittenModel app.models → IsSchema (printed_tree (schema_tree app.models)) (shapes_of app)
 well_schema app well few_models written =
-    let models : are_models app [] app.models ≡ true = (both _ _ (both (is_viewer app.models app.viewer) _ well).1).0 in
+    let models : are_models app [] app.models ≡ true = (and_parts _ _ (and_parts (is_viewer app.models app.viewer) _ well).1).0 in
     record {
       tree = schema_tree app.models;
       atoms = (schema_word, models_atoms app.models written);

@@ -3,7 +3,7 @@ use Rattle.std.specs.Prelude.{◌≡◌, ℕ, List, [], Option, Some, None, Resu
 use Rattle.jac_lang.specs.Syntax.{Application}
 use Rattle.jac_tree.specs.Grammar.{Accepted}
 use Rattle.jac_tree.specs.Plain.{PlainTree}
-use Rattle.jac_tree.specs.Printed.{printed}
+use Rattle.jac_tree.specs.Printed.{printed_tree}
 use Rattle.jac_forms.specs.Applications.{application_in_tree}
 use Rattle.jac_forms.specs.Reads.{Read, got, refused}
 use Rattle.jac_forms.specs.declared.fault.FormFault.{FormFault}
@@ -51,4 +51,4 @@ IsApplication bytes app = (t : PlainTree) × Accepted bytes t × Opens t (Opened
 
 -- the schema that an application's records are stored under
 abbrev pub schema_text : Application → List ℕ
-schema_text app = printed (schema_tree app.models)
+schema_text app = printed_tree (schema_tree app.models)

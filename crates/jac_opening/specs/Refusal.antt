@@ -23,7 +23,7 @@ use Rattle.jac_forms.specs.declared.fault.What.TheVariants as whats
 use Rattle.jac_tree.specs.declared.fault.TreeFault.{TreeFault}
 use Rattle.jac_tree.specs.declared.fault.TreeFault.TheVariants as faults
 use Rattle.jac_lang.specs.declared.application.App.{App}
-use Rattle.jac_template.specs.Faults.{fault_of, refuses}
+use Rattle.jac_template.specs.Faults.{fault_in_template, refuses_template}
 use Rattle.jac_template.specs.declared.application.ViewFault.{ViewFault}
 use Rattle.jac_check.specs.Applications.{is_fault}
 use Rattle.jac_template.specs.declared.fault.TemplateFault.{TemplateFault}
@@ -45,7 +45,8 @@ HasTextFault bytes faults.Memory = ⊥
 abbrev pub IsStep : (Opened → Type 0) → Refusal → Type 0
 IsStep Is (refusals.Text fault) = ⊥
 IsStep Is (refusals.Form fault) = Is (Opened.no_form fault)
-IsStep Is (refusals.Template fault) = Is (Opened.no_template fault.view (fault_of fault.fault))
+IsStep Is (refusals.Template fault) = Is (Opened.no_template fault.view
+    (fault_in_template fault.fault))
 IsStep Is (refusals.Check fault) = Is (Opened.unwell fault)
 IsStep Is (refusals.Clash view) = Is (Opened.clash view)
 IsStep Is refusals.Memory = ⊥
@@ -70,7 +71,8 @@ form_refusal misshapen.Memory = refusals.Memory
 form_refusal fault = refusals.Form fault
 
 abbrev pub template_refusal : ViewFault → Refusal
-template_refusal fault = if refuses fault.fault then refusals.Template fault else refusals.Memory
+template_refusal fault = if refuses_template fault.fault then refusals.Template fault
+    else refusals.Memory
 
 abbrev pub check_refusal : CheckFault → Refusal
 check_refusal fault = if is_fault fault.cause then refusals.Check fault else refusals.Memory
@@ -134,16 +136,16 @@ limit_word whats.Groups = codes "8"
 limit_word whats.Sites = codes "64"
 limit_word whats.Binders = codes "3"
 
-abbrev pub form_fault : FormFault → List ℕ
-form_fault (misshapen.Form path want) = codes "app: form at "
+abbrev pub form_fault_line : FormFault → List ℕ
+form_fault_line (misshapen.Form path want) = codes "app: form at "
     ++ (path_text path ++ (codes ": expected " ++ (want_word want ++ 10 ∷ [])))
-form_fault (misshapen.TooMany path what have) =
+form_fault_line (misshapen.TooMany path what have) =
     codes "app: too many "
     ++ (what_word what
     ++ (codes " at "
     ++ (path_text path
     ++ (codes ": " ++ (decimal have ++ (codes ", limit " ++ (limit_word what ++ 10 ∷ [])))))))
-form_fault misshapen.Memory = []
+form_fault_line misshapen.Memory = []
 
 abbrev pub template_line : ℕ → List ℕ → ℕ → List ℕ
 template_line view what at = codes "app: template in view "
@@ -195,7 +197,7 @@ check_fault fault = placed_fault fault.place (cause_text fault.cause)
 -- the line of a refusal
 abbrev pub refusal_text : Refusal → List ℕ
 refusal_text (refusals.Text fault) = text_fault fault
-refusal_text (refusals.Form fault) = form_fault fault
+refusal_text (refusals.Form fault) = form_fault_line fault
 refusal_text (refusals.Template fault) = template_fault fault.view fault.fault
 refusal_text (refusals.Check fault) = check_fault fault
 refusal_text (refusals.Clash view) = placed_fault (places.View view) (codes "path clashes")

@@ -7,21 +7,7 @@ use Rattle.jac_lang.specs.Loops.{Loops, are_placed}
 use Rattle.jac_lang.specs.Syntax.{Entity, Statement, Statements, Page, Application}
 use Rattle.jac_lang.specs.Written.{sites}
 use Rattle.jac_plain.specs.Reading.{are_reading}
-
-abbrev mutual
-  -- no template stands in the statement
-  pub is_untemplated : Statement → Bool
-  is_untemplated (Statement.bind x e body) = are_untemplated body
-  is_untemplated (Statement.branch c first second) = are_untemplated first && are_untemplated second
-  is_untemplated (Statement.each q body) = are_untemplated body
-  is_untemplated (Statement.create x m site cells body) = are_untemplated body
-  is_untemplated (Statement.template t) = false
-  is_untemplated (Statement.block body) = are_untemplated body
-  is_untemplated s = true
-
-  pub are_untemplated : Statements → Bool
-  are_untemplated Statements.none = true
-  are_untemplated (Statements.more s rest) = is_untemplated s && are_untemplated rest
+use Rattle.jac_lang.specs.Untemplated.{are_untemplated}
 
 -- the number behind the last site, where the sites rise from this one on and are below 64
 abbrev pub behind_sites : ℕ → List ℕ → Option ℕ

@@ -1,6 +1,6 @@
 ghost use Rattle.std.specs.Prelude.{◌≡◌, ◌≤◌, length, true, IsTrue};
 ghost use Rattle.std.specs.List.{All};
-ghost use Rattle.jac_tree.specs.Printed.{printed};
+ghost use Rattle.jac_tree.specs.Printed.{printed_tree};
 ghost use Rattle.jac_lang.specs.Syntax.{Application};
 ghost use Rattle.jac_lang.specs.Written.{IsWrittenModel};
 ghost use Rattle.jac_plain.specs.Models.{shapes_of};
@@ -19,6 +19,6 @@ pub fn well_is_served()
 /// models.
 pub fn schema_of_well()
     ensures { (app : Application) → IsTrue (is_well app) → length app.models ≤ 64
-        → All IsWrittenModel app.models → IsSchema (printed (schema_tree app.models))
+        → All IsWrittenModel app.models → IsSchema (printed_tree (schema_tree app.models))
         (shapes_of app) }
 {}

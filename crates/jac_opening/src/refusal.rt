@@ -3,7 +3,7 @@ ghost use Rattle.std.specs.Prelude.{◌≡◌, ◌++◌, ◌∷◌, [], IfOk, co
 ghost use Rattle.std.specs.String.{string_bytes};
 ghost use Rattle.jac_check.specs.declared.fault.CheckCause.TheVariants as causes;
 ghost use Rattle.jac_check.specs.declared.fault.Place.TheVariants as places;
-ghost use Rattle.jac_opening.specs.Refusal.{refusal_text, text_fault, form_fault, path_text, more_steps, want_word, what_word, limit_word, template_fault, template_line, check_fault, placed_fault, cause_text, wanted_text, kind_text};
+ghost use Rattle.jac_opening.specs.Refusal.{refusal_text, text_fault, form_fault_line, path_text, more_steps, want_word, what_word, limit_word, template_fault, template_line, check_fault, placed_fault, cause_text, wanted_text, kind_text};
 
 use jac_check::{CheckCause, CheckFault, Place, Wanted};
 use jac_forms::{FormFault, Path, Want, What};
@@ -73,7 +73,7 @@ fn placed_line(alloc: Global, what: &str, at: u64) -> Result<Txt, Memory>
 }
 
 fn form_line(alloc: Global, fault: &FormFault) -> Result<Txt, Memory>
-    ensures { IfOk result (λ line. line ≡ form_fault fault.now) }
+    ensures { IfOk result (λ line. line ≡ form_fault_line fault.now) }
 {
     match fault {
         FormFault::Form { path, want } => {

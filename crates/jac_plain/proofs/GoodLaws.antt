@@ -2,7 +2,7 @@
 use Rattle.std.proofs.Common.{◌≡◌, subst, refl, arith, zero, suc, ℕ, ◌+◌, ◌<◌, ◌≤◌, ◌^◌, ◌&&◌, Bool, true, false, if◌then◌else◌, List, [], ◌∷◌, length, Option, Some, None}
 use Rattle.std.specs.Prelude.{slice_get, slice_set, IsSomeAnd}
 use Rattle.std.specs.List.{AllByRecursion}
-use Rattle.std.proofs.lemmas.Bool.{and_parts}
+use Rattle.std.proofs.lemmas.Bool.{and_parts, and_from}
 use Rattle.jac_value.specs.Ids.{record_id, is_wide}
 use Rattle.jac_value.specs.Values.{default_value, has_kind}
 use Rattle.jac_value.specs.declared.value.Kind.{Kind}
@@ -18,8 +18,8 @@ use Rattle.jac_rows.specs.Good.{have_kinds, ModelShape, IsShaped, IsRecord, AreP
 use Rattle.jac_rows.specs.Tables.{rows_of}
 use Rattle.jac_rows.specs.declared.plain.PlainRow.{PlainRow}
 use Rattle.jac_rows.specs.declared.plain.PlainState.{PlainState}
-use Rattle.jac_plain.specs.Models.{kinds_of_fields, shapes_of_models, shapes_of, are_sited, is_shaped, AreFlat, AreOrdered}
-use Rattle.jac_plain.specs.Records.{fitting, cell_set, drafted, default_cells, value_over, public_or, public_expression, public_cell, is_hidden, each_cell, shielded, every_field, is_set}
+use Rattle.jac_plain.specs.Models.{kinds_of_fields, shapes_of_models, shapes_of, are_sited, is_shaped, AreFlat, HaveRisingIds}
+use Rattle.jac_plain.specs.Records.{fitting, cell_set, drafted_cells, default_cells, value_over, public_or, public_expression, public_cell, is_hidden, each_cell, shielded_cells, every_field, is_set}
 use Rattle.jac_plain.specs.Requests.{Visit, body_in, method_in, setting_of, run_of, after_by, after}
 use Rattle.jac_plain.specs.Statements.{Run, value_in, id_made, created_cells, updated_cells}
 use Rattle.jac_plain.proofs.RowLaws.{AreRows, table_of, tables_by}
@@ -43,11 +43,6 @@ kinds_default : (models : List Entity) (fields : List Field) → have_kinds (kin
 kinds_default models [] = refl
 kinds_default models (f ∷ fields) = rw (default_kind (kind_named models f.kind), kinds_default models fields) refl
 
-both_true : (a b : Bool) → a ≡ true → b ≡ true → (a && b) ≡ true
-both_true true true p q = refl
-both_true true false p q = cc
-both_true false b p q = cc
-
 -- a cell is set to a value that fits
 kinds_cell : (models : List Entity) (fields : List Field) (f : ℕ) (v : Value) (cells : List Value) → have_kinds (kinds_of_fields models fields) cells ≡ true
     → have_kinds (kinds_of_fields models fields) (slice_set cells f (fitting (kind_in models (slice_get fields f)) v)) ≡ true
@@ -55,9 +50,9 @@ kinds_cell models [] f v [] h = refl
 kinds_cell models [] f v (c ∷ cells) h = cc
 kinds_cell models (d ∷ fields) f v [] h = cc
 kinds_cell models (d ∷ fields) zero v (c ∷ cells) h =
-    both_true _ _ (fitting_kind (kind_named models d.kind) v) (and_parts (has_kind (kind_named models d.kind) c) _ h).1
+    and_from _ _ (fitting_kind (kind_named models d.kind) v) (and_parts (has_kind (kind_named models d.kind) c) _ h).1
 kinds_cell models (d ∷ fields) (suc f) v (c ∷ cells) h =
-    both_true _ _ (and_parts (has_kind (kind_named models d.kind) c) _ h).0
+    and_from _ _ (and_parts (has_kind (kind_named models d.kind) c) _ h).0
     (kinds_cell models fields f v cells (and_parts (has_kind (kind_named models d.kind) c) _ h).1)
 
 kinds_set : (models : List Entity) (fields : List Field) (f : Option ℕ) (v : Value) (cells : List Value) → have_kinds (kinds_of_fields models fields) cells ≡ true
@@ -66,7 +61,7 @@ kinds_set models fields None v cells h = h
 kinds_set models fields (Some f) v cells h = kinds_cell models fields f v cells h
 
 kinds_drafted : (models : List Entity) (fields : List Field) (value_of : Expression → Value) (sets : List Assigned) (cells : List Value)
-    → have_kinds (kinds_of_fields models fields) cells ≡ true → have_kinds (kinds_of_fields models fields) (drafted models fields value_of sets cells) ≡ true
+    → have_kinds (kinds_of_fields models fields) cells ≡ true → have_kinds (kinds_of_fields models fields) (drafted_cells models fields value_of sets cells) ≡ true
 kinds_drafted models fields value_of [] cells h = h
 kinds_drafted models fields value_of (a ∷ rest) cells h =
     kinds_drafted models fields value_of rest (cell_set models fields (field_place fields a.field) (value_of a.value) cells)
@@ -80,7 +75,7 @@ kinds_each cell_of [] from [] step h = refl
 kinds_each cell_of [] from (c ∷ cells) step h = cc
 kinds_each cell_of (k ∷ kinds) from [] step h = cc
 kinds_each cell_of (k ∷ kinds) from (c ∷ cells) step h =
-    both_true _ _ (step from 0 k c (omega arith) refl (and_parts (has_kind k c) _ h).0)
+    and_from _ _ (step from 0 k c (omega arith) refl (and_parts (has_kind k c) _ h).0)
     (kinds_each cell_of kinds (from + 1) cells (λ f i j v e there fits. step f (suc i) j v (omega (arith, e)) there fits) (and_parts (has_kind k c) _ h).1)
 
 kind_there : (models : List Entity) (fields : List Field) (f : ℕ) (k : Kind) → slice_get (kinds_of_fields models fields) f ≡ Some k → kind_at models fields f ≡ k
@@ -99,7 +94,7 @@ kind_if k false u v h g = g
 
 pub kinds_shielded : (models : List Entity) (shown : ℕ → Bool) (m id : ℕ) (named : ℕ → Bool) (draft : List Value)
     → have_kinds (kinds_of_fields models (fields_at models m)) draft ≡ true
-    → have_kinds (kinds_of_fields models (fields_at models m)) (shielded models shown m id named draft) ≡ true
+    → have_kinds (kinds_of_fields models (fields_at models m)) (shielded_cells models shown m id named draft) ≡ true
 kinds_shielded models shown m id named draft h =
     kinds_each (λ f cell. if named f && is_hidden models shown m id f then public_cell models m id draft f cell else cell)
     (kinds_of_fields models (fields_at models m)) 0 draft
@@ -141,7 +136,7 @@ is_keeping = record {
       record {
         made = form_made k.number site m id fit.some fit.room few (omega (arith, within, most)) (form_of (is_nested_at k.models m) k.around (record_id k.number site m));
         fit = shape_now k.models k.models m id (created_cells k m id cells r) within
-            (kinds_shielded k.models k.shown m id every_field (drafted k.models (fields_at k.models m) (λ e. value_in k e r) cells (default_cells k.models (fields_at k.models m)))
+            (kinds_shielded k.models k.shown m id every_field (drafted_cells k.models (fields_at k.models m) (λ e. value_in k e r) cells (default_cells k.models (fields_at k.models m)))
             (kinds_drafted k.models (fields_at k.models m) (λ e. value_in k e r) cells (default_cells k.models (fields_at k.models m)) (kinds_default k.models (fields_at k.models m))))
             (wide_by (is_nested_at k.models m) id shaped);
       };
@@ -150,7 +145,7 @@ is_keeping = record {
       record {
         made = h.made;
         fit = shape_now k.models k.models m row.id (updated_cells k m id sets run row.cells) within
-            (kinds_shielded k.models k.shown m id (is_set fields sets) (drafted k.models fields (λ e. value_in k e run) sets row.cells)
+            (kinds_shielded k.models k.shown m id (is_set fields sets) (drafted_cells k.models fields (λ e. value_in k e run) sets row.cells)
             (kinds_drafted k.models fields (λ e. value_in k e run) sets row.cells (kinds_then k.models k.models m row.id row.cells h.fit)))
             (wide_then k.models k.models m row.id row.cells h.fit);
       };
@@ -208,7 +203,7 @@ shapes_keeping = record {
 
 flat_by : (v : Verb) (w : ℕ → Bool) (app : Application) (t : PlainState) (visit : Visit)
     → 0 < t.number → t.number < 2 ^ 40 → length app.models ≤ 64 → are_sited (body_in (slice_get app.views visit.view)) ≡ true
-    → are_placed app.models Loops.none (body_in (slice_get app.views visit.view)) ≡ true → AreOrdered t.tables → AreFlat app.models t.tables
+    → are_placed app.models Loops.none (body_in (slice_get app.views visit.view)) ≡ true → HaveRisingIds t.tables → AreFlat app.models t.tables
     → AreFlat app.models (after_by v w app t visit).tables
 flat_by verbs.Get w app t visit some room few sited placed ordered flat = flat
 flat_by verbs.Post w app t visit some room few sited placed ordered flat =
@@ -218,6 +213,6 @@ flat_by verbs.Post w app t visit some room few sited placed ordered flat =
 
 pub flat_after : (w : ℕ → Bool) (app : Application) (t : PlainState) (visit : Visit)
     → 0 < t.number → t.number < 2 ^ 40 → length app.models ≤ 64 → are_sited (body_in (slice_get app.views visit.view)) ≡ true
-    → are_placed app.models Loops.none (body_in (slice_get app.views visit.view)) ≡ true → AreOrdered t.tables → AreFlat app.models t.tables
+    → are_placed app.models Loops.none (body_in (slice_get app.views visit.view)) ≡ true → HaveRisingIds t.tables → AreFlat app.models t.tables
     → AreFlat app.models (after w app t visit).tables
 flat_after w app t visit some room few sited placed ordered flat = flat_by (method_in (slice_get app.views visit.view)) w app t visit some room few sited placed ordered flat

@@ -8,7 +8,7 @@ use Rattle.jac_lang.specs.Lookup.{fields_at, groups_at, group_for, group_in, hid
 use Rattle.jac_lang.specs.Syntax.{Entity, FieldGroup}
 use Rattle.jac_plain.specs.Models.{is_none, are_without_groups}
 use Rattle.jac_plain.specs.Statements.{is_kept}
-use Rattle.jac_plain.specs.Records.{each_cell, public_cell, is_hidden, is_hidden_by, shielded}
+use Rattle.jac_plain.specs.Records.{each_cell, public_cell, is_hidden, is_hidden_by, shielded_cells}
 
 no_groups : (groups : List FieldGroup) → is_none groups ≡ true → groups ≡ []
 no_groups [] h = refl
@@ -39,6 +39,6 @@ kept_cell true hidden public cell h = rw h refl
 kept_cell false hidden public cell h = refl
 
 pub shielded_groupless : (models : List Entity) (shown : ℕ → Bool) (m id : ℕ) (named : ℕ → Bool) (draft : List Value) → groups_at models m ≡ []
-    → shielded models shown m id named draft ≡ draft
+    → shielded_cells models shown m id named draft ≡ draft
 shielded_groupless models shown m id named draft none =
     each_same _ 0 draft (λ f cell. kept_cell (named f) (is_hidden models shown m id f) (public_cell models m id draft f cell) cell (not_hidden models shown m id f none))

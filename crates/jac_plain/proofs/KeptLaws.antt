@@ -18,8 +18,8 @@ use Rattle.jac_rows.specs.Tables.{rows_of}
 use Rattle.jac_rows.specs.declared.plain.PlainRow.{PlainRow}
 use Rattle.jac_plain.specs.Expressions.{answers, bound, binding, is_true}
 use Rattle.jac_plain.specs.Models.{is_sited, are_sited, is_shaped, AreFlat}
-use Rattle.jac_plain.specs.Records.{plain_row, with_row, changed, without, tables_with, tables_after}
-use Rattle.jac_plain.specs.Statements.{Setting, Run, world_of, value_in, scoped, choose, for_each, loop_of, id_made, is_kept, with_made, created_cells, created, updated_cells, updated, deleted, leaves, leaves_all}
+use Rattle.jac_plain.specs.Records.{plain_row, with_row, changed_rows, without, tables_with, tables_after}
+use Rattle.jac_plain.specs.Statements.{Setting, Run, world_of, value_in, scoped_run, choose, for_each, loop_of, id_made, is_kept, with_made, created_cells, create_run, updated_cells, update_run, delete_run, leaves, leaves_all}
 use Rattle.jac_plain.proofs.RowLaws.{rising-with_row, rising-changed, rising-without, all-with_row, all-changed, all-without, set_rows}
 use Rattle.jac_plain.proofs.MadeIds.{base_narrow, IsAround, IsAroundIn, shaped_by}
 use Rattle.jac_plain.proofs.LoopLaws.{IsLoop, AreLoops, loops_answers}
@@ -98,14 +98,14 @@ module _ (P : List Entity → ℕ → ℕ → PlainRow → Type 0) (keeping : Is
   keeps_choose k true first second one two r g = one r g
   keeps_choose k false first second one two r g = two r g
 
-  keeps_scoped : (k : Setting) (env : List Binding) (body : Run → Run) → Keeps k.models k.number body → Keeps k.models k.number (scoped env body)
+  keeps_scoped : (k : Setting) (env : List Binding) (body : Run → Run) → Keeps k.models k.number body → Keeps k.models k.number (scoped_run env body)
   keeps_scoped k env body kept r g = kept (record r { env = env }) g
 
   keeps_each : (k : Setting) (bs : List Binder) (body : List ℕ → Run → Run) (tuples : List (List ℕ)) → AllByRecursion (λ ids. Keeps k.models k.number (body ids)) tuples
       → Keeps k.models k.number (for_each bs body tuples)
   keeps_each k bs body [] kept r g = g
   keeps_each k bs body (ids ∷ tuples) kept r g =
-      keeps_each k bs body tuples kept.1 (scoped (bound bs ids r.env) (body ids) r) (keeps_scoped k (bound bs ids r.env) (body ids) kept.0 r g)
+      keeps_each k bs body tuples kept.1 (scoped_run (bound bs ids r.env) (body ids) r) (keeps_scoped k (bound bs ids r.env) (body ids) kept.0 r g)
 
   kept_with : (models : List Entity) (number i : ℕ) (row : PlainRow) (tables : List (List PlainRow)) → P models number i row → AreKept models number tables
       → AreKept models number (tables_with i row tables)
@@ -133,7 +133,7 @@ module _ (P : List Entity → ℕ → ℕ → PlainRow → Type 0) (keeping : Is
 
   pub keeps_created : (k : Setting) (loops : Loops) (name : List ℕ) (m : Option ℕ) (site : ℕ) (cells : List Assigned) (body : Run → Run)
       → IsFit k.models k.number → IsAroundIn loops k.around → site < 64 → ((i : ℕ) → m ≡ Some i → i < length k.models) → may_create (nested_at_place k.models m) loops ≡ true
-      → Keeps k.models k.number body → Keeps k.models k.number (created k name m site cells body)
+      → Keeps k.models k.number body → Keeps k.models k.number (create_run k name m site cells body)
   keeps_created k loops name None site cells body fit is few within may kept r g = g
   keeps_created k loops name (Some m) site cells body fit is few within may kept r g =
       let id = id_made k m site in
@@ -145,16 +145,16 @@ module _ (P : List Entity → ℕ → ℕ → PlainRow → Type 0) (keeping : Is
       (kept_made (is_kept k.models k.shown m id) k.models k.number m row r
       (keeping.made k m site cells r fit here few (shaped_by (is_nested_at k.models m) loops k.around (record_id k.number site m) small may is)) g)
 
-  keeps_updated : (k : Setting) (m : Option ℕ) (target : Value) (sets : List Assigned) → ((i : ℕ) → m ≡ Some i → i < length k.models) → Keeps k.models k.number (updated k m target sets)
+  keeps_updated : (k : Setting) (m : Option ℕ) (target : Value) (sets : List Assigned) → ((i : ℕ) → m ≡ Some i → i < length k.models) → Keeps k.models k.number (update_run k m target sets)
   keeps_updated k None target sets within r g = g
   keeps_updated k (Some m) target sets within r g =
-      kept_after k.models k.number m target (λ id rows. changed id (updated_cells k m id sets r) rows) r.tables
+      kept_after k.models k.number m target (λ id rows. changed_rows id (updated_cells k m id sets r) rows) r.tables
       (λ id rows t. (
         rising-changed id (updated_cells k m id sets r) rows t.0,
         all-changed (P k.models k.number m) id (updated_cells k m id sets r) (λ row h. keeping.updates k m id sets r row (within m refl) h) rows t.1,
       )) g
 
-  keeps_deleted : (k : Setting) (m : Option ℕ) (target : Value) → Keeps k.models k.number (deleted m target)
+  keeps_deleted : (k : Setting) (m : Option ℕ) (target : Value) → Keeps k.models k.number (delete_run m target)
   keeps_deleted k None target r g = g
   keeps_deleted k (Some m) target r g =
       kept_after k.models k.number m target without r.tables (λ id rows t. (rising-without id rows t.0, all-without (P k.models k.number m) id rows t.1)) g

@@ -2,6 +2,7 @@
 use Rattle.std.proofs.Common.{◌≡◌, ◌∙◌, sym, refl, ap, arith, ℕ, ◌+◌, ◌/◌, ◌%◌, ◌<◌, ◌^◌, ◌==◌, ◌&&◌, ◌||◌, ◌⊎◌, inl, inr, Bool, true, false, if◌then◌else◌, Option, Some, None}
 use Rattle.std.specs.Prelude.{⊤}
 use Rattle.std.proofs.lemmas.Bool.Decides.{nat_tests}
+use Rattle.std.proofs.lemmas.Bool.{or_left, or_right}
 use Rattle.jac_value.specs.Ids.{record_id, loop_id, is_narrow, is_wide, is_id_of, number_of_id}
 use Rattle.jac_value.proofs.WideIds.{narrow_facts, narrow_is, number_of_loop_id, number_of_narrow, loop_id_parts, loop_id_is_wide, loop_id_not_narrow}
 use Rattle.jac_lang.specs.Loops.{Loops, may_create}
@@ -54,14 +55,6 @@ loops_apart l k x y small less other same = other (loop_id_parts l x k y small l
 one_by : (id m : ℕ) → (is_narrow id || is_wide id) ≡ true → id % 64 ≡ m → is_id_of id m ≡ true
 one_by id m is of = let e : (id % 64 == m) ≡ true = grind (arith, nat_tests, of) in rw (is, e) refl
 
-or_one : (a b : Bool) → a ≡ true → (a || b) ≡ true
-or_one true b h = refl
-or_one false b h = cc
-
-or_other : (a b : Bool) → b ≡ true → (a || b) ≡ true
-or_other true b h = refl
-or_other false b h = h
-
 base_number : (n s m : ℕ) → s < 64 → m < 64 → record_id n s m / 4096 ≡ n
 base_number n s m site model = omega (arith, site, model)
 
@@ -76,8 +69,8 @@ form_model n s m id model (inl e) = omega (arith, e, model)
 form_model n s m id model (inr w) = let e = w.2 in omega (arith, e, model)
 
 form_one : (base id : ℕ) → is_narrow base ≡ true → Form base id → (is_narrow id || is_wide id) ≡ true
-form_one base id small (inl e) = or_one (is_narrow id) (is_wide id) (ap is_narrow e ∙ small)
-form_one base id small (inr w) = or_other (is_narrow id) (is_wide id) (ap is_wide w.2 ∙ loop_id_is_wide w.0 base w.1 small)
+form_one base id small (inl e) = or_left (is_narrow id) (is_wide id) (ap is_narrow e ∙ small)
+form_one base id small (inr w) = or_right (is_narrow id) (is_wide id) (ap is_wide w.2 ∙ loop_id_is_wide w.0 base w.1 small)
 
 pub form_made : (n s m id : ℕ) → 0 < n → n < 2 ^ 40 → s < 64 → m < 64 → Form (record_id n s m) id → IsMade m (n + 1) id
 form_made n s m id some room site model form =

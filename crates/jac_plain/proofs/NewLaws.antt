@@ -2,7 +2,7 @@
 use Rattle.std.proofs.Common.{◌≡◌, ◌∙◌, sym, refl, ap, subst, arith, ℕ, ◌<◌, ◌≤◌, ◌^◌, ◌==◌, ◌||◌, not, nat_lt, Bool, true, false, if◌then◌else◌, List, [], ◌∷◌, ◌++◌, length, Option, Some, None}
 use Rattle.std.specs.Prelude.{⊤}
 use Rattle.std.specs.List.{AllByRecursion}
-use Rattle.std.proofs.lemmas.Bool.{and_parts}
+use Rattle.std.proofs.lemmas.Bool.{and_parts, or_parts, or_left, or_right}
 use Rattle.std.proofs.lemmas.Bool.Decides.{nat_tests}
 use Rattle.jac_value.specs.Ids.{record_id, number_of_id, is_narrow}
 use Rattle.jac_value.specs.declared.value.Value.{Value}
@@ -17,9 +17,9 @@ use Rattle.jac_rows.specs.declared.plain.PlainRow.{PlainRow}
 use Rattle.jac_rows.specs.Tables.{rows_of}
 use Rattle.jac_plain.specs.Expressions.{answers, bound, binding, is_true}
 use Rattle.jac_plain.specs.Making.{MayChoose, MayEach, MayCreate, MayRun, MayRunAll, with_env, is_among, are_apart, IsAbsent, AreAbsent, AreMadeBefore}
-use Rattle.jac_plain.specs.Models.{is_sited, are_sited, AreFlat, AreOrdered}
-use Rattle.jac_plain.specs.Records.{plain_row, with_ids, with_row, changed, without, tables_with, tables_after}
-use Rattle.jac_plain.specs.Statements.{Setting, Run, world_of, value_in, scoped, choose, for_each, loop_of, around_id, id_made, is_kept, with_made, created_cells, created, updated_cells, updated, deleted, leaves, leaves_all}
+use Rattle.jac_plain.specs.Models.{is_sited, are_sited, AreFlat, HaveRisingIds}
+use Rattle.jac_plain.specs.Records.{plain_row, with_ids, with_row, changed_rows, without, tables_with, tables_after}
+use Rattle.jac_plain.specs.Statements.{Setting, Run, world_of, value_in, scoped_run, choose, for_each, loop_of, around_id, id_made, is_kept, with_made, created_cells, create_run, updated_cells, update_run, delete_run, leaves, leaves_all}
 use Rattle.jac_plain.proofs.RowLaws.{set_rows}
 use Rattle.jac_plain.proofs.MadeIds.{form_of, forms_apart, form_number, base_narrow, bases_apart, test_false, around_narrow, loops_apart}
 use Rattle.jac_plain.proofs.LoopLaws.{IsLoop, IsOther, AreLoops, loops_answers}
@@ -63,12 +63,12 @@ absent_either : (id : ℕ) (b : Bool) (x y : PlainRow) (xs ys : List PlainRow) �
 absent_either id true x y xs ys h g = h
 absent_either id false x y xs ys h g = g
 
-absent-changed : (id target : ℕ) (change : List Value → List Value) (rows : List PlainRow) → IsAbsent id rows → IsAbsent id (changed target change rows)
+absent-changed : (id target : ℕ) (change : List Value → List Value) (rows : List PlainRow) → IsAbsent id rows → IsAbsent id (changed_rows target change rows)
 absent-changed id target change [] h = refl
 absent-changed id target change (r ∷ rows) h =
-    absent_either id (r.id == target) (plain_row r.id (change r.cells)) r rows (changed target change rows)
+    absent_either id (r.id == target) (plain_row r.id (change r.cells)) r rows (changed_rows target change rows)
     (absent_before id (plain_row r.id (change r.cells)) rows (other_id id r rows h) (absent_rest id r rows h))
-    (absent_before id r (changed target change rows) (other_id id r rows h) (absent-changed id target change rows (absent_rest id r rows h)))
+    (absent_before id r (changed_rows target change rows) (other_id id r rows h) (absent-changed id target change rows (absent_rest id r rows h)))
 
 absent_left : (id : ℕ) (b : Bool) (r : PlainRow) (xs ys : List PlainRow) → IsAbsent id xs → IsAbsent id (r ∷ ys) → IsAbsent id (if b then xs else r ∷ ys)
 absent_left id true r xs ys h g = h
@@ -88,13 +88,13 @@ keeps_choose : (id m : ℕ) (c : Bool) (first second : Run → Run) → Keeps id
 keeps_choose id m true first second one two r h = one r h
 keeps_choose id m false first second one two r h = two r h
 
-keeps_scoped : (id m : ℕ) (env : List Binding) (body : Run → Run) → Keeps id m body → Keeps id m (scoped env body)
+keeps_scoped : (id m : ℕ) (env : List Binding) (body : Run → Run) → Keeps id m body → Keeps id m (scoped_run env body)
 keeps_scoped id m env body kept r h = kept (record r { env = env }) h
 
 keeps_each : (id m : ℕ) (bs : List Binder) (body : List ℕ → Run → Run) → ((ids : List ℕ) → Keeps id m (body ids)) → (tuples : List (List ℕ)) → Keeps id m (for_each bs body tuples)
 keeps_each id m bs body kept [] r h = h
 keeps_each id m bs body kept (ids ∷ tuples) r h =
-    keeps_each id m bs body kept tuples (scoped (bound bs ids r.env) (body ids) r) (keeps_scoped id m (bound bs ids r.env) (body ids) (kept ids) r h)
+    keeps_each id m bs body kept tuples (scoped_run (bound bs ids r.env) (body ids) r) (keeps_scoped id m (bound bs ids r.env) (body ids) (kept ids) r h)
 
 -- a record that is made in another model, or has another id
 keeps_with : (id m i made : ℕ) (cells : List Value) (tables : List (List PlainRow)) → (i ≡ m → (made == id) ≡ false) → IsAbsent id (rows_of tables m)
@@ -109,7 +109,7 @@ keeps_made true id m i made cells r other absent = keeps_with id m i made cells 
 keeps_made false id m i made cells r other absent = absent
 
 keeps_created : (k : Setting) (id m : ℕ) (name : List ℕ) (model : Option ℕ) (site : ℕ) (cells : List Assigned) (body : Run → Run)
-    → ((i : ℕ) → model ≡ Some i → i ≡ m → (id_made k i site == id) ≡ false) → Keeps id m body → Keeps id m (created k name model site cells body)
+    → ((i : ℕ) → model ≡ Some i → i ≡ m → (id_made k i site == id) ≡ false) → Keeps id m body → Keeps id m (create_run k name model site cells body)
 keeps_created k id m name None site cells body other kept r absent = absent
 keeps_created k id m name (Some i) site cells body other kept r absent =
     let made = id_made k i site in
@@ -125,18 +125,14 @@ keeps_after id m i (value.Int n) step tables kept absent = absent
 keeps_after id m i (value.Text t) step tables kept absent = absent
 keeps_after id m i (value.Bool b) step tables kept absent = absent
 
-keeps_updated : (k : Setting) (id m : ℕ) (model : Option ℕ) (target : Value) (sets : List Assigned) → Keeps id m (updated k model target sets)
+keeps_updated : (k : Setting) (id m : ℕ) (model : Option ℕ) (target : Value) (sets : List Assigned) → Keeps id m (update_run k model target sets)
 keeps_updated k id m None target sets r h = h
 keeps_updated k id m (Some i) target sets r h =
-    keeps_after id m i target (λ j rows. changed j (updated_cells k i j sets r) rows) r.tables (λ j rows. absent-changed id j (updated_cells k i j sets r) rows) h
+    keeps_after id m i target (λ j rows. changed_rows j (updated_cells k i j sets r) rows) r.tables (λ j rows. absent-changed id j (updated_cells k i j sets r) rows) h
 
-keeps_deleted : (id m : ℕ) (model : Option ℕ) (target : Value) → Keeps id m (deleted model target)
+keeps_deleted : (id m : ℕ) (model : Option ℕ) (target : Value) → Keeps id m (delete_run model target)
 keeps_deleted id m None target r h = h
 keeps_deleted id m (Some i) target r h = keeps_after id m i target without r.tables (λ j rows. absent-without id j rows) h
-
-neither : (a b : Bool) → (a || b) ≡ false → (a ≡ false) × (b ≡ false)
-neither true b h = cc
-neither false b h = (refl, h)
 
 among-append : (site : ℕ) (xs ys : List ℕ) → is_among site (xs ++ ys) ≡ (is_among site xs || is_among site ys)
 among-append site [] ys = refl
@@ -147,7 +143,7 @@ among-append site (x ∷ xs) ys = among_step (x == site) (is_among site xs) (is_
     among_step false b c d e = e
 
 among_neither : (site : ℕ) (xs ys : List ℕ) → is_among site (xs ++ ys) ≡ false → (is_among site xs ≡ false) × (is_among site ys ≡ false)
-among_neither site xs ys h = neither (is_among site xs) (is_among site ys) (sym (among-append site xs ys) ∙ h)
+among_neither site xs ys h = or_parts (is_among site xs) (is_among site ys) (sym (among-append site xs ys) ∙ h)
 
 -- where a site has ids
 record IsPlace (k : Setting) (site m : ℕ) : Type 0 where
@@ -186,7 +182,7 @@ mutual
       keeps_each (around_id (is_nested_at k.models m) around (record_id k.number site m)) m q.binders (λ ids. leaves_all (record k { around = loop_of ids }) body)
       (λ ids. keeps_all (record k { around = loop_of ids }) site m around body fit few less sited h) (answers (world_of k r) q r.env) r a
   keeps_one k site m around (Statement.create x model other cells body) fit few less sited h r a =
-      let parts = neither (other == site) (is_among site (sites body)) h in
+      let parts = or_parts (other == site) (is_among site (sites body)) h in
       let both = and_parts (nat_lt other 64) (are_sited body) sited in
       let first = both.0 in
       keeps_created k (around_id (is_nested_at k.models m) around (record_id k.number site m)) m x (model_place k.models model) other cells (leaves_all k body)
@@ -357,14 +353,6 @@ ordered_then Loops.none k s r fit sited p g = keeps_rows IsShapedRow shapes_keep
 ordered_then (Loops.one flat) k s r fit sited p g = tt
 ordered_then Loops.several k s r fit sited p g = tt
 
-or_first : (a b : Bool) → a ≡ true → (a || b) ≡ true
-or_first true b h = refl
-or_first false b h = cc
-
-or_second : (a b : Bool) → b ≡ true → (a || b) ≡ true
-or_second true b h = refl
-or_second false b h = h
-
 not_true : (a : Bool) → not a ≡ true → a ≡ false
 not_true true h = cc
 not_true false h = refl
@@ -400,10 +388,10 @@ other_than x site true xs e h is =
 other_than x site false xs e h is = e
 
 ready_first : (loops : Loops) (k : Setting) (xs ys : List ℕ) (tables : List (List PlainRow)) → AreReady loops k (xs ++ ys) tables → AreReady loops k xs tables
-ready_first loops k xs ys tables h site m around is = h site m around (among-append site xs ys ∙ or_first (is_among site xs) (is_among site ys) is)
+ready_first loops k xs ys tables h site m around is = h site m around (among-append site xs ys ∙ or_left (is_among site xs) (is_among site ys) is)
 
 ready_second : (loops : Loops) (k : Setting) (xs ys : List ℕ) (tables : List (List PlainRow)) → AreReady loops k (xs ++ ys) tables → AreReady loops k ys tables
-ready_second loops k xs ys tables h site m around is = h site m around (among-append site xs ys ∙ or_second (is_among site xs) (is_among site ys) is)
+ready_second loops k xs ys tables h site m around is = h site m around (among-append site xs ys ∙ or_right (is_among site xs) (is_among site ys) is)
 
 may_choose : (c : Bool) (First Second : Run → Type 0) (r : Run) → First r → Second r → MayChoose c First Second r
 may_choose true First Second r one two = one
@@ -411,7 +399,7 @@ may_choose false First Second r one two = two
 
 may_each : (bs : List Binder) (body : List ℕ → Run → Run) (May : List ℕ → Run → Type 0) → ((ids : List ℕ) (r : Run) → May ids r) → (tuples : List (List ℕ)) (r : Run) → MayEach bs body May tuples r
 may_each bs body May may [] r = tt
-may_each bs body May may (ids ∷ tuples) r = (may ids (with_env (bound bs ids r.env) r), may_each bs body May may tuples (scoped (bound bs ids r.env) (body ids) r))
+may_each bs body May may (ids ∷ tuples) r = (may ids (with_env (bound bs ids r.env) r), may_each bs body May may tuples (scoped_run (bound bs ids r.env) (body ids) r))
 
 ready_barren : (loops : Loops) (k : Setting) (s : Statements) (tables : List (List PlainRow)) → IsBarren loops → are_placed k.models loops s ≡ true → AreReady loops k (sites s) tables
 ready_barren loops k s tables barren placed site m around is few less ready =
@@ -456,7 +444,7 @@ may_flat next k flat bs body fit sited placed run (ids ∷ tuples) loops r ready
   run ids (with_env (bound bs ids r.env) r)
       (λ site m around among few less e.
       subst (λ o. IsAbsent (around_id (is_nested_at k.models m) o (record_id k.number site m)) (rows_of r.tables m)) (sym e) (ready.0 site m among few less)),
-  may_flat next k flat bs body fit sited placed run tuples loops.2 (scoped (bound bs ids r.env) (body_at k body ids) r)
+  may_flat next k flat bs body fit sited placed run tuples loops.2 (scoped_run (bound bs ids r.env) (body_at k body ids) r)
       (still_ready k flat ids body fit sited placed loops.0 (sites body) tuples loops.1 loops.2 (record r { env = bound bs ids r.env }) ready.1),
 )
 
@@ -508,14 +496,14 @@ may_make next k loops name (Some m) site cells May later r less fit few within m
     let here : m < length k.models = within m refl in
     let most = fit.few in
     let small : m < 64 = omega (arith, here, most) in
-    let among : is_among site (site ∷ later) ≡ true = or_first (site == site) (is_among site later) (grind (arith, nat_tests)) in
+    let among : is_among site (site ∷ later) ≡ true = or_left (site == site) (is_among site later) (grind (arith, nat_tests)) in
     let none : is_among site later ≡ false = not_true (is_among site later) (and_parts (not (is_among site later)) (are_apart later) apart).0 in (
       record { numbered = less; absent = ready site m k.around among few small (here_ready loops k.around) },
       run (with_env (r.env ++ binding name (value.Ref (Some id)) ∷ []) (with_made (is_kept k.models k.shown m id) m (plain_row id made) r))
           (ordered_made loops k name m site cells r fit few here may ordered)
           (λ other i around is fits places may_be. keeps_made (is_kept k.models k.shown m id) (around_id (is_nested_at k.models i) around (record_id k.number other i)) i m id made r
           (λ e. other_site k.models k.number k.around around other i site m fit fits places few (other_than site other (site == other) later refl none is) e)
-          (ready other i around (or_second (site == other) (is_among other later) is) fits places may_be)),
+          (ready other i around (or_right (site == other) (is_among other later) is) fits places may_be)),
     )
 
 mutual
@@ -563,7 +551,7 @@ mutual
       )
 
 pub creates_new : (next : ℕ) (k : Setting) (s : Statements) (r : Run) → 0 < k.number → k.number < 2 ^ 40 → k.number < next → length k.models ≤ 64 → are_sited s ≡ true → are_apart (sites s) ≡ true
-    → are_placed k.models Loops.none s ≡ true → AreOrdered r.tables → AreFlat k.models r.tables → AreAbsent k.models k.number (sites s) r.tables → MayRunAll next k s r
+    → are_placed k.models Loops.none s ≡ true → HaveRisingIds r.tables → AreFlat k.models r.tables → AreAbsent k.models k.number (sites s) r.tables → MayRunAll next k s r
 creates_new next k s r some room less few sited apart placed ordered flat absent =
     may_run_all next k Loops.none s r less (record { some = some; room = room; few = few }) sited apart placed (λ m. (ordered m, flat m))
     (λ site m around is fits small ready. absent site m around is fits small)

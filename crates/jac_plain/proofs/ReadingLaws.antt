@@ -6,7 +6,7 @@ use Rattle.jac_lang.specs.declared.queries.Binder.{Binder}
 use Rattle.jac_lang.specs.Syntax.{Statement, Statements}
 use Rattle.jac_plain.specs.Expressions.{answers, bound, is_true}
 use Rattle.jac_plain.specs.Reading.{is_reading, are_reading}
-use Rattle.jac_plain.specs.Statements.{Setting, Run, world_of, value_in, scoped, choose, for_each, loop_of, leaves, leaves_all}
+use Rattle.jac_plain.specs.Statements.{Setting, Run, world_of, value_in, scoped_run, choose, for_each, loop_of, leaves, leaves_all}
 
 -- the step leaves the tables
 abbrev Keeps : (Run → Run) → Type 0
@@ -16,13 +16,13 @@ keeps_choose : (c : Bool) (first second : Run → Run) → Keeps first → Keeps
 keeps_choose true first second one two r = one r
 keeps_choose false first second one two r = two r
 
-keeps_scoped : (env : List Binding) (body : Run → Run) → Keeps body → Keeps (scoped env body)
+keeps_scoped : (env : List Binding) (body : Run → Run) → Keeps body → Keeps (scoped_run env body)
 keeps_scoped env body kept r = kept (record r { env = env })
 
 keeps_each : (bs : List Binder) (body : List ℕ → Run → Run) → ((ids : List ℕ) → Keeps (body ids)) → (tuples : List (List ℕ)) → Keeps (for_each bs body tuples)
 keeps_each bs body kept [] r = refl
 keeps_each bs body kept (ids ∷ tuples) r =
-    keeps_each bs body kept tuples (scoped (bound bs ids r.env) (body ids) r) ∙ keeps_scoped (bound bs ids r.env) (body ids) (kept ids) r
+    keeps_each bs body kept tuples (scoped_run (bound bs ids r.env) (body ids) r) ∙ keeps_scoped (bound bs ids r.env) (body ids) (kept ids) r
 
 mutual
   keeps_one : (k : Setting) (s : Statement) → is_reading s ≡ true → Keeps (leaves k s)

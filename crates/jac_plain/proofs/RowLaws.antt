@@ -7,7 +7,7 @@ use Rattle.jac_world.specs.World.{StartsAboveBy}
 use Rattle.jac_rows.specs.Good.{AreTablesOf, ArePlainRows}
 use Rattle.jac_rows.specs.Tables.{rows_of}
 use Rattle.jac_rows.specs.declared.plain.PlainRow.{PlainRow}
-use Rattle.jac_plain.specs.Records.{plain_row, with_ids, with_row, changed, without}
+use Rattle.jac_plain.specs.Records.{plain_row, with_ids, with_row, changed_rows, without}
 
 abbrev id_of : PlainRow → ℕ
 id_of r = r.id
@@ -72,18 +72,18 @@ above_either : (k : ℕ) (b : Bool) (x y : PlainRow) (xs ys : List PlainRow) →
 above_either k true x y xs ys h g = h
 above_either k false x y xs ys h g = g
 
-above-changed : (k id : ℕ) (change : List Value → List Value) (rows : List PlainRow) → StartsAboveBy id_of k rows → StartsAboveBy id_of k (changed id change rows)
+above-changed : (k id : ℕ) (change : List Value → List Value) (rows : List PlainRow) → StartsAboveBy id_of k rows → StartsAboveBy id_of k (changed_rows id change rows)
 above-changed k id change [] a = tt
-above-changed k id change (r ∷ rows) a = above_either k (r.id == id) (plain_row r.id (change r.cells)) r rows (changed id change rows) a a
+above-changed k id change (r ∷ rows) a = above_either k (r.id == id) (plain_row r.id (change r.cells)) r rows (changed_rows id change rows) a a
 
 rising_either : (b : Bool) (x y : PlainRow) (xs ys : List PlainRow) → ArePlainRows (x ∷ xs) → ArePlainRows (y ∷ ys) → ArePlainRows (if b then x ∷ xs else y ∷ ys)
 rising_either true x y xs ys h g = h
 rising_either false x y xs ys h g = g
 
-pub rising-changed : (id : ℕ) (change : List Value → List Value) (rows : List PlainRow) → ArePlainRows rows → ArePlainRows (changed id change rows)
+pub rising-changed : (id : ℕ) (change : List Value → List Value) (rows : List PlainRow) → ArePlainRows rows → ArePlainRows (changed_rows id change rows)
 rising-changed id change [] h = tt
 rising-changed id change (r ∷ rows) h =
-    rising_either (r.id == id) (plain_row r.id (change r.cells)) r rows (changed id change rows) h
+    rising_either (r.id == id) (plain_row r.id (change r.cells)) r rows (changed_rows id change rows) h
     (above-changed r.id id change rows h.0, rising-changed id change rows h.1)
 
 above_left : (k : ℕ) (b : Bool) (r : PlainRow) (xs ys : List PlainRow) → StartsAboveBy id_of k xs → k < r.id → StartsAboveBy id_of k (if b then xs else r ∷ ys)
@@ -126,10 +126,10 @@ module _ (P : PlainRow → Type 0) where
   all_either false x y xs ys p a g = g
 
   pub all-changed : (id : ℕ) (change : List Value → List Value) → ((r : PlainRow) → P r → P (plain_row r.id (change r.cells)))
-      → (rows : List PlainRow) → AllByRecursion P rows → AllByRecursion P (changed id change rows)
+      → (rows : List PlainRow) → AllByRecursion P rows → AllByRecursion P (changed_rows id change rows)
   all-changed id change step [] a = tt
   all-changed id change step (r ∷ rows) a =
-      all_either (r.id == id) (plain_row r.id (change r.cells)) r rows (changed id change rows) (step r a.0) a.1 (a.0, all-changed id change step rows a.1)
+      all_either (r.id == id) (plain_row r.id (change r.cells)) r rows (changed_rows id change rows) (step r a.0) a.1 (a.0, all-changed id change step rows a.1)
 
   all_left : (b : Bool) (r : PlainRow) (xs ys : List PlainRow) → AllByRecursion P xs → AllByRecursion P (r ∷ ys) → AllByRecursion P (if b then xs else r ∷ ys)
   all_left true r xs ys h g = h

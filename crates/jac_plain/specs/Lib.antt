@@ -8,3 +8,4 @@ pub mod Reading
 pub mod Making
 pub mod Policies
 pub mod Pieces
+pub mod Shown

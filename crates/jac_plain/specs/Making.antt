@@ -10,7 +10,7 @@ use Rattle.jac_lang.specs.Syntax.{Entity, Assigned, Statement, Statements}
 use Rattle.jac_rows.specs.declared.plain.PlainRow.{PlainRow}
 use Rattle.jac_rows.specs.Tables.{rows_of}
 use Rattle.jac_plain.specs.Expressions.{answers, bound, binding, is_true, stands}
-use Rattle.jac_plain.specs.Statements.{Setting, Run, world_of, value_in, scoped, loop_of, around_id, id_made, is_kept, with_made, plain_row, created_cells, leaves, leaves_all}
+use Rattle.jac_plain.specs.Statements.{Setting, Run, world_of, value_in, scoped_run, loop_of, around_id, id_made, is_kept, with_made, plain_row, created_cells, leaves, leaves_all}
 use Rattle.jac_plain.specs.World.{record_with}
 
 -- a record of this request: the request comes before the next number, and no record of the id
@@ -32,7 +32,7 @@ abbrev pub MayEach : List Binder → (List ℕ → Run → Run) → (List ℕ �
     → Run → Type 0
 MayEach bs body May [] r = ⊤
 MayEach bs body May (ids ∷ tuples) r = May ids (with_env (bound bs ids r.env) r)
-    × MayEach bs body May tuples (scoped (bound bs ids r.env) (body ids) r)
+    × MayEach bs body May tuples (scoped_run (bound bs ids r.env) (body ids) r)
 
 -- the record is new, and then what the body asks with its name bound
 abbrev pub MayCreate : ℕ → Setting → List ℕ → Option ℕ → ℕ → List Assigned → (Run → Type 0) → Run

@@ -59,5 +59,5 @@ AreFlat models tables = (m : ℕ)
     (rows_of tables m)
 
 -- each table has each id once, in rising order
-abbrev pub AreOrdered : List (List PlainRow) → Type 0
-AreOrdered tables = (m : ℕ) → ArePlainRows (rows_of tables m)
+abbrev pub HaveRisingIds : List (List PlainRow) → Type 0
+HaveRisingIds tables = (m : ℕ) → ArePlainRows (rows_of tables m)

@@ -1,7 +1,7 @@
 -- Which labels a viewer may be shown, said of a plain state for each assignment.
 use Rattle.std.specs.Prelude.{◌≡◌, ℕ, Bool, true, false, ◌&&◌, ◌||◌, ◌==◌, List, [], Option, Some, None, slice_get}
 use Rattle.jac_value.specs.Ids.{model_of_id, record_of_label, group_of_label}
-use Rattle.jac_world.specs.World.{shown, IsAscending}
+use Rattle.jac_world.specs.World.{shown_by, IsAscending}
 use Rattle.jac_lang.specs.Lookup.{groups_at}
 use Rattle.jac_lang.specs.Syntax.{FieldGroup, Application}
 use Rattle.jac_rows.specs.declared.plain.PlainState.{PlainState}
@@ -64,8 +64,8 @@ pub record IsLiveLabel (app : Application) (worlds : Worlds) (k : ℕ) : Type 0 
 
 -- each label that the list shows is allowed under it
 abbrev pub AreAllowed : Application → Worlds → Option ℕ → List ℕ → Type 0
-AreAllowed app worlds viewer labels = (k : ℕ) → shown labels k ≡ true
-    → is_allowed app (worlds (shown labels)) viewer k ≡ true
+AreAllowed app worlds viewer labels = (k : ℕ) → shown_by labels k ≡ true
+    → is_allowed app (worlds (shown_by labels)) viewer k ≡ true
 
 -- some label that the assignment shows isn't allowed under it
 pub record ShowsForbidden (app : Application) (worlds : Worlds) (viewer : Option ℕ) (w : ℕ → Bool) :
@@ -79,7 +79,7 @@ pub record ShowsForbidden (app : Application) (worlds : Worlds) (viewer : Option
 pub record IsSettled (app : Application) (worlds : Worlds) (viewer : Option ℕ) (labels : List ℕ) :
     Type 0 where
   pub ascending : IsAscending labels
-  pub live : (k : ℕ) → shown labels k ≡ true → IsLiveLabel app worlds k
+  pub live : (k : ℕ) → shown_by labels k ≡ true → IsLiveLabel app worlds k
   pub allowed : AreAllowed app worlds viewer labels
-  pub full : (k : ℕ) → IsLiveLabel app worlds k → shown labels k ≡ false
-      → ShowsForbidden app worlds viewer (with_label k (shown labels))
+  pub full : (k : ℕ) → IsLiveLabel app worlds k → shown_by labels k ≡ false
+      → ShowsForbidden app worlds viewer (with_label k (shown_by labels))

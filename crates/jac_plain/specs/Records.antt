@@ -21,11 +21,12 @@ cell_set models fields None v cells = cells
 cell_set models fields (Some f) v cells = slice_set cells f (fitting (kind_at models fields f) v)
 
 -- the cells with the named ones set; all expressions are read before anything changes
-abbrev pub drafted : List Entity → List Field → (Expression → Value) → List Assigned → List Value
+abbrev pub drafted_cells : List Entity → List Field → (Expression → Value) → List Assigned
     → List Value
-drafted models fields value_of [] cells = cells
-drafted models fields value_of (a ∷ rest) cells =
-    drafted models fields value_of rest (cell_set models fields (field_place fields a.field)
+    → List Value
+drafted_cells models fields value_of [] cells = cells
+drafted_cells models fields value_of (a ∷ rest) cells =
+    drafted_cells models fields value_of rest (cell_set models fields (field_place fields a.field)
     (value_of a.value) cells)
 
 abbrev pub default_cells : List Entity → List Field → List Value
@@ -101,8 +102,8 @@ each_cell cell_of f (v ∷ cells) = cell_of f v ∷ each_cell cell_of (f + 1) ce
 
 -- what is stored of a draft: named fields that are hidden have their public values over it, all
 -- others its cells
-abbrev pub shielded : List Entity → (ℕ → Bool) → ℕ → ℕ → (ℕ → Bool) → List Value → List Value
-shielded models shown m id named draft =
+abbrev pub shielded_cells : List Entity → (ℕ → Bool) → ℕ → ℕ → (ℕ → Bool) → List Value → List Value
+shielded_cells models shown m id named draft =
     each_cell (λ f cell. if named f && is_hidden models shown m id f
     then public_cell models m id draft f cell else cell) 0 draft
 
@@ -110,14 +111,14 @@ shielded models shown m id named draft =
 abbrev pub every_field : ℕ → Bool
 every_field f = true
 
-abbrev pub is_place : ℕ → Option ℕ → Bool
-is_place f None = false
-is_place f (Some g) = g == f
+abbrev pub is_field_place : ℕ → Option ℕ → Bool
+is_field_place f None = false
+is_field_place f (Some g) = g == f
 
 -- an update names the fields that it sets
 abbrev pub is_set : List Field → List Assigned → ℕ → Bool
 is_set fields [] f = false
-is_set fields (a ∷ rest) f = if is_place f (field_place fields a.field) then true
+is_set fields (a ∷ rest) f = if is_field_place f (field_place fields a.field) then true
     else is_set fields rest f
 
 -- the rows whose ids pass the test
@@ -131,10 +132,10 @@ with_row row rows = with_ids (λ id. nat_lt id row.id) rows ++ row ∷ with_ids
     (λ id. nat_lt row.id id) rows
 
 -- the rows, with the record of this id changed
-abbrev pub changed : ℕ → (List Value → List Value) → List PlainRow → List PlainRow
-changed id change [] = []
-changed id change (r ∷ rows) = if r.id == id then plain_row r.id (change r.cells) ∷ rows
-    else r ∷ changed id change rows
+abbrev pub changed_rows : ℕ → (List Value → List Value) → List PlainRow → List PlainRow
+changed_rows id change [] = []
+changed_rows id change (r ∷ rows) = if r.id == id then plain_row r.id (change r.cells) ∷ rows
+    else r ∷ changed_rows id change rows
 
 abbrev pub without : ℕ → List PlainRow → List PlainRow
 without id [] = []

@@ -14,7 +14,7 @@ use Rattle.jac_plain.specs.World.{World}
 use Rattle.jac_plain.specs.declared.page.Piece.{Piece}
 use Rattle.jac_plain.specs.declared.page.Piece.TheVariants as piece
 use Rattle.jac_plain.specs.Expressions.{mean, answers, bound, binding, bytes_of, is_true}
-pub use Rattle.jac_plain.specs.Records.{drafted, default_cells, plain_row, shielded, is_hidden_by, every_field, is_set, changed, without, tables_with, tables_after}
+pub use Rattle.jac_plain.specs.Records.{drafted_cells, default_cells, plain_row, shielded_cells, is_hidden_by, every_field, is_set, changed_rows, without, tables_with, tables_after}
 
 -- what stays the same through a run: the models, the labels that are shown, which only a create and
 -- an update look at, the viewer, the number of the request, and the record of the loop
@@ -58,21 +58,21 @@ abbrev pub cut_to : ℕ → Run → Run
 cut_to n r = record r { env = take n r.env }
 
 -- the body with these bindings; those beyond the run's own are gone behind it
-abbrev pub scoped : List Binding → (Run → Run) → Run → Run
-scoped env body r = cut_to (length r.env) (body (record r { env = env }))
+abbrev pub scoped_run : List Binding → (Run → Run) → Run → Run
+scoped_run env body r = cut_to (length r.env) (body (record r { env = env }))
 
 abbrev pub with_binding : List ℕ → Value → (Run → Run) → Run → Run
-with_binding name v body r = scoped (r.env ++ binding name v ∷ []) body r
+with_binding name v body r = scoped_run (r.env ++ binding name v ∷ []) body r
 
 -- the innermost binding of the name, which stands last, has this value; nothing where there is none
 abbrev pub binds : List ℕ → List Binding → Bool
 binds name [] = false
 binds name (b ∷ bs) = if same_text b.name name then true else binds name bs
 
-abbrev pub assigned : List ℕ → Value → List Binding → List Binding
-assigned name v [] = []
-assigned name v (b ∷ bs) =
-    if binds name bs then b ∷ assigned name v bs
+abbrev pub with_value : List ℕ → Value → List Binding → List Binding
+with_value name v [] = []
+with_value name v (b ∷ bs) =
+    if binds name bs then b ∷ with_value name v bs
     else (if same_text b.name name then binding b.name v ∷ bs else b ∷ bs)
 
 abbrev pub choose : Bool → (Run → Run) → (Run → Run) → Run → Run
@@ -82,7 +82,8 @@ choose false first second r = second r
 -- the body for each tuple
 abbrev pub for_each : List Binder → (List ℕ → Run → Run) → List (List ℕ) → Run → Run
 for_each bs body [] r = r
-for_each bs body (ids ∷ tuples) r = for_each bs body tuples (scoped (bound bs ids r.env) (body ids)
+for_each bs body (ids ∷ tuples) r = for_each bs body tuples (scoped_run (bound bs ids r.env)
+    (body ids)
     r)
 
 -- the record of a loop's answer: that of its one binder
@@ -118,14 +119,15 @@ with_made kept m row r = record r { tables = tables_made kept m row r.tables }
 abbrev pub created_cells : Setting → ℕ → ℕ → List Assigned → Run → List Value
 created_cells k m id cells r =
     let fields = fields_at k.models m in
-    shielded k.models k.shown m id every_field (drafted k.models fields (λ e. value_in k e r) cells
+    shielded_cells k.models k.shown m id every_field (drafted_cells k.models fields
+    (λ e. value_in k e r) cells
     (default_cells k.models fields))
 
 -- a new record of the model at this place, and then the body with its name bound; nothing where no
 -- model has the name
-abbrev pub created : Setting → List ℕ → Option ℕ → ℕ → List Assigned → (Run → Run) → Run → Run
-created k name None site cells body r = r
-created k name (Some m) site cells body r =
+abbrev pub create_run : Setting → List ℕ → Option ℕ → ℕ → List Assigned → (Run → Run) → Run → Run
+create_run k name None site cells body r = r
+create_run k name (Some m) site cells body r =
     let id = id_made k m site in
     with_binding name (value.Ref (Some id)) body (with_made (is_kept k.models k.shown m id) m
     (plain_row id (created_cells k m id cells r)) r)
@@ -134,20 +136,20 @@ created k name (Some m) site cells body r =
 abbrev pub updated_cells : Setting → ℕ → ℕ → List Assigned → Run → List Value → List Value
 updated_cells k m id cells r old =
     let fields = fields_at k.models m in
-    shielded k.models k.shown m id (is_set fields cells)
-    (drafted k.models fields (λ e. value_in k e r) cells old)
+    shielded_cells k.models k.shown m id (is_set fields cells)
+    (drafted_cells k.models fields (λ e. value_in k e r) cells old)
 
-abbrev pub updated : Setting → Option ℕ → Value → List Assigned → Run → Run
-updated k None target cells r = r
-updated k (Some m) target cells r =
+abbrev pub update_run : Setting → Option ℕ → Value → List Assigned → Run → Run
+update_run k None target cells r = r
+update_run k (Some m) target cells r =
     record r {
-      tables = tables_after m target (λ id rows. changed id (updated_cells k m id cells r)
+      tables = tables_after m target (λ id rows. changed_rows id (updated_cells k m id cells r)
           rows) r.tables;
     }
 
-abbrev pub deleted : Option ℕ → Value → Run → Run
-deleted None target r = r
-deleted (Some m) target r = record r { tables = tables_after m target without r.tables }
+abbrev pub delete_run : Option ℕ → Value → Run → Run
+delete_run None target r = r
+delete_run (Some m) target r = record r { tables = tables_after m target without r.tables }
 
 abbrev mutual
   -- what a statement leaves
@@ -155,17 +157,17 @@ abbrev mutual
   leaves k (Statement.put e) r = with_piece (piece.Added (value_text (value_in k e r))) r
   leaves k (Statement.escape e) r = with_piece (piece.Added (html (value_text (value_in k e r)))) r
   leaves k (Statement.bind x e body) r = with_binding x (value_in k e r) (leaves_all k body) r
-  leaves k (Statement.assign x e) r = record r { env = assigned x (value_in k e r) r.env }
+  leaves k (Statement.assign x e) r = record r { env = with_value x (value_in k e r) r.env }
   leaves k (Statement.branch c first second) r = choose (is_true (value_in k c r))
       (leaves_all k first) (leaves_all k second) r
   leaves k (Statement.each q body) r =
       for_each q.binders (λ ids. leaves_all (record k { around = loop_of ids }) body)
       (answers (world_of k r) q r.env) r
-  leaves k (Statement.create x m site cells body) r = created k x (model_place k.models m) site
+  leaves k (Statement.create x m site cells body) r = create_run k x (model_place k.models m) site
       cells (leaves_all k body) r
-  leaves k (Statement.update m e cells) r = updated k (model_place k.models m) (value_in k e r)
+  leaves k (Statement.update m e cells) r = update_run k (model_place k.models m) (value_in k e r)
       cells r
-  leaves k (Statement.delete m e) r = deleted (model_place k.models m) (value_in k e r) r
+  leaves k (Statement.delete m e) r = delete_run (model_place k.models m) (value_in k e r) r
   leaves k Statement.missing r = with_piece piece.Missing r
   leaves k (Statement.redirect e) r = with_piece (piece.Redirect (bytes_of (value_in k e r))) r
   leaves k (Statement.template t) r = r

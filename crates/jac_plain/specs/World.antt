@@ -30,9 +30,9 @@ record_with id [] = None
 record_with id (r ∷ rs) = if r.id == id then Some r else record_with id rs
 
 -- the record that a value refers to
-abbrev pub referred : Value → List PlainRow → Option PlainRow
-referred (value.Ref (Some id)) rows = record_with id rows
-referred v rows = None
+abbrev pub referred_record : Value → List PlainRow → Option PlainRow
+referred_record (value.Ref (Some id)) rows = record_with id rows
+referred_record v rows = None
 
 -- a record's cell, or the default where there is no record
 abbrev pub cell_of : Option PlainRow → ℕ → Value → Value
@@ -47,7 +47,7 @@ cell_named w m (Some f) r = cell_of r f (default_value (kind_at w.models (fields
 abbrev pub got_of : World → Option ℕ → List ℕ → Value → Value
 got_of w None field v = value.Int (pos 0)
 got_of w (Some m) field v = cell_named w m (field_place (fields_at w.models m) field)
-    (referred v (rows_of w.tables m))
+    (referred_record v (rows_of w.tables m))
 
 -- the field of the record that the value refers to
 abbrev pub got : World → List ℕ → List ℕ → Value → Value

@@ -3,7 +3,7 @@ ghost use Rattle.jac_lang.specs.Loops.{Loops, are_placed};
 ghost use Rattle.jac_lang.specs.Syntax.{Application, Entity, Statements};
 ghost use Rattle.jac_lang.specs.Written.{sites};
 ghost use Rattle.jac_plain.specs.Making.{are_apart, AreAbsent, AreMadeBefore, MayRunAll};
-ghost use Rattle.jac_plain.specs.Models.{shapes_of, are_sited, are_without_groups, AreFlat, AreOrdered};
+ghost use Rattle.jac_plain.specs.Models.{shapes_of, are_sited, are_without_groups, AreFlat, HaveRisingIds};
 ghost use Rattle.jac_plain.specs.Reading.{are_reading};
 ghost use Rattle.jac_plain.specs.Requests.{Visit, body_in, run_of, after};
 ghost use Rattle.jac_plain.specs.Statements.{Setting, Run, leaves_all};
@@ -41,7 +41,7 @@ pub fn flat_after_request()
         → t.number < 2 ^ 40 → length app.models ≤ 64
         → are_sited (body_in (slice_get app.views visit.view)) ≡ true
         → are_placed app.models Loops.none (body_in (slice_get app.views visit.view)) ≡ true
-        → AreOrdered t.tables → AreFlat app.models t.tables
+        → HaveRisingIds t.tables → AreFlat app.models t.tables
         → AreFlat app.models (after w app t visit).tables }
 {}
 
@@ -52,7 +52,8 @@ pub fn flat_after_request()
 pub fn creates_are_new()
     ensures { (next : ℕ) (k : Setting) (s : Statements) (r : Run) → 0 < k.number → k.number < 2 ^ 40
         → k.number < next → length k.models ≤ 64 → are_sited s ≡ true → are_apart (sites s) ≡ true
-        → are_placed k.models Loops.none s ≡ true → AreOrdered r.tables → AreFlat k.models r.tables
+        → are_placed k.models Loops.none s ≡ true → HaveRisingIds r.tables
+        → AreFlat k.models r.tables
         → AreAbsent k.models k.number (sites s) r.tables → MayRunAll next k s r }
 {}
 

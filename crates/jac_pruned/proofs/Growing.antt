@@ -1,6 +1,7 @@
 -- Labels that are only added, and assignments that show the same of them.
 use Rattle.std.proofs.Common.{◌≡◌, refl, ◌∙◌, ◌==◌, ◌||◌, subst, sym, ℕ, Bool, true, false, List}
-use Rattle.jac_world.specs.World.{shown, holds, names}
+use Rattle.std.proofs.lemmas.Bool.{or_right}
+use Rattle.jac_world.specs.World.{shown_by, holds, names}
 use Rattle.jac_world.proofs.Contradict.{by_names}
 use Rattle.jac_pruned.specs.Consulted.{Agrees, Grows}
 
@@ -18,16 +19,12 @@ pub agrees_less : (v w : ℕ → Bool) (old new : List ℕ) → Grows old new �
 agrees_less v w old new grows agree = record { each = λ k h. agree.each k (grows.kept k h) }
 
 -- a guard whose labels were consulted holds under both assignments, or under neither
-pub holds_alike : (v w : ℕ → Bool) (support : List ℕ) (g : List (ℕ × Bool)) → ((k : ℕ) → names g k ≡ true → shown support k ≡ true) →
+pub holds_alike : (v w : ℕ → Bool) (support : List ℕ) (g : List (ℕ × Bool)) → ((k : ℕ) → names g k ≡ true → shown_by support k ≡ true) →
     Agrees support v w → holds v g ≡ holds w g
 holds_alike v w support g consulted agree = by_names g v w (λ k named. agree.each k (consulted k named))
 
-or_right : (a b : Bool) → b ≡ true → (a || b) ≡ true
-or_right true b p = refl
-or_right false b p = p
-
-pub grows_with : (old new : List ℕ) (x : ℕ) → ((k : ℕ) → shown new k ≡ ((x == k) || shown old k)) → Grows old new
-grows_with old new x more = record { kept = λ k s. more k ∙ or_right (x == k) (shown old k) s }
+pub grows_with : (old new : List ℕ) (x : ℕ) → ((k : ℕ) → shown_by new k ≡ ((x == k) || shown_by old k)) → Grows old new
+grows_with old new x more = record { kept = λ k s. more k ∙ or_right (x == k) (shown_by old k) s }
 
 pub grows_not : (old new : List ℕ) → new ≡ old → Grows old new
 grows_not old new same = subst (Grows old) (sym same) (grows_same old)

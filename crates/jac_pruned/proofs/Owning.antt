@@ -2,7 +2,7 @@
 use Rattle.std.proofs.Common.{◌≡◌, refl, ap, sym, subst, ◌∙◌, ℕ, zero, suc, ◌+◌, ◌<◌, ◌==◌, Bool, true, false, not, ◌&&◌, ◌||◌, if◌then◌else◌, List, [], ◌∷◌, ◌++◌, length, take, drop, get_or, Option, None, Some, slice_get, unwrap_or, Result, Ok, Err, ℤ, pos, arith}
 use Rattle.std.specs.Prelude.{⊤, IsSomeAnd, IfOk}
 use Rattle.std.specs.List.{list_all, AllByRecursion}
-use Rattle.std.proofs.lemmas.Bool.{and_parts}
+use Rattle.std.proofs.lemmas.Bool.{and_parts, and_from, or_right, or_left}
 use Rattle.std.proofs.lemmas.Bool.Decides.{nat_tests, Decides-eqb}
 use Rattle.std.proofs.lemmas.List.Folds.{list_all-append}
 use Rattle.jac_value.specs.declared.value.Kind.{Kind}
@@ -11,7 +11,7 @@ use Rattle.jac_value.specs.declared.value.Value.{Value}
 use Rattle.jac_value.specs.declared.value.Value.TheVariants as value
 use Rattle.jac_value.specs.Ids.{model_of_id, record_of_label, group_of_label}
 use Rattle.jac_value.specs.Values.{has_kind, default_value}
-use Rattle.jac_world.specs.World.{shown, holds, names}
+use Rattle.jac_world.specs.World.{shown_by, holds, names}
 use Rattle.jac_lang.specs.declared.bindings.Binding.{Binding}
 use Rattle.jac_lang.specs.declared.expressions.Op.{Op}
 use Rattle.jac_lang.specs.declared.expressions.Op.TheVariants as op
@@ -21,7 +21,7 @@ use Rattle.jac_lang.specs.declared.queries.Binder.{Binder}
 use Rattle.jac_lang.specs.declared.queries.Order.{Order}
 use Rattle.jac_lang.specs.declared.queries.Order.TheVariants as orders
 use Rattle.jac_lang.specs.Lookup.{same_text, model_place, fields_at, groups_at, field_place, kind_named, kind_at}
-use Rattle.jac_lang.specs.Syntax.{Expression, FieldGroup, Entity, Application}
+use Rattle.jac_lang.specs.Syntax.{Expression, FieldGroup, Entity, Application, is_this}
 use Rattle.jac_rows.specs.declared.row.Row.{Row}
 use Rattle.jac_rows.specs.declared.plain.PlainRow.{PlainRow}
 use Rattle.jac_rows.specs.declared.state.State.{State}
@@ -32,12 +32,12 @@ use Rattle.jac_keep.specs.Records.{alternatives, with_id}
 use Rattle.jac_keep.specs.Holding.{holders, holds_cell}
 use Rattle.jac_value.specs.contracts.value.ValuePartialEq.TheImpl as equality
 use Rattle.jac_pruned.specs.Wanted.{Wanted, behind_first, first_shown, firsts_wanted, rows_with_value, rows_wanted, shown_wanted, tuples_wanted}
-use Rattle.jac_plain.specs.Expressions.{mean, is_true, two, nearest, look_from, bound, binding, extended, crossed, tuples_from, kept_by, inserted, sorted, ordered, answers_by, is_less, key_of, summed, some_of, first_of, pick, is_single, model_of_binder}
-use Rattle.jac_pruned.specs.Local.{is_free, is_free_place, is_free_model, is_free_kind, is_free_field_at, is_free_field_in, is_free_viewer_of, is_free_viewer, are_free, is_free_order, refers_free, is_this, IsOwnLabel, IsOfViewers, IsLocalCase}
+use Rattle.jac_plain.specs.Expressions.{mean, is_true, two, nearest, look_from, bound, binding, extended_tuples, crossed_tuples, tuples_from, kept_by, with_sorted, sorted_tuples, ordered_tuples, answers_by, is_less, key_of, summed_terms, some_of, first_of, pick, is_single, model_of_binder}
+use Rattle.jac_pruned.specs.Local.{is_free, is_free_place, is_free_model, is_free_kind, is_free_field_at, is_free_field_in, is_free_viewer_of, is_free_viewer, are_free, is_free_order, refers_free, IsOwnLabel, IsOfViewers, IsLocalCase}
 use Rattle.jac_plain.specs.Models.{is_none, shapes_of, kinds_of_fields, shapes_of_models}
 use Rattle.jac_plain.specs.Policies.{is_some_group}
-use Rattle.jac_plain.specs.World.{World, records, rows_at_place, record_with, referred, cell_of, cell_named, got_of}
-use Rattle.jac_pruned.specs.Tupled.{first_bound, but_last, left_behind, lengthened, lengthened_all, row_ids}
+use Rattle.jac_plain.specs.World.{World, records, rows_at_place, record_with, referred_record, cell_of, cell_named, got_of}
+use Rattle.jac_pruned.specs.Tupled.{first_bound, but_last, left_behind, lengthened_tuples, lengthened_all, row_ids}
 use Rattle.jac_pruned.specs.Begun.{IsBegun}
 use Rattle.jac_pruned.proofs.Bound.{bound-longer}
 use Rattle.jac_pruned.proofs.Rows.{rows_of-project}
@@ -47,18 +47,6 @@ use Rattle.jac_pruned.specs.Own.{is_of, IsOwn, is_own_pair, names_own, has_own_g
 
 itself : (x : ℕ) → (x == x) ≡ true
 itself x = grind (arith, nat_tests)
-
-pub both : (a b : Bool) → a ≡ true → b ≡ true → (a && b) ≡ true
-both true b p q = q
-both false b p q = absurd cc
-
-or_right : (a b : Bool) → b ≡ true → (a || b) ≡ true
-or_right true b p = refl
-or_right false b p = p
-
-left_or : (a b : Bool) → a ≡ true → (a || b) ≡ true
-left_or true b p = refl
-left_or false b p = absurd cc
 
 if_test : (a b : Bool) → (a ≡ true → b ≡ true) → (not a || b) ≡ true
 if_test true b h = h refl
@@ -71,19 +59,19 @@ or_less false b c h t = h t
 -- what one test lets pass another does
 pub all_less : {X : Type 0} (p q : X → Bool) → ((x : X) → p x ≡ true → q x ≡ true) → (xs : List X) → list_all p xs ≡ true → list_all q xs ≡ true
 all_less p q f [] h = refl
-all_less p q f (x ∷ xs) h = let a = and_parts (p x) (list_all p xs) h in both (q x) (list_all q xs) (f x a.0) (all_less p q f xs a.1)
+all_less p q f (x ∷ xs) h = let a = and_parts (p x) (list_all p xs) h in and_from (q x) (list_all q xs) (f x a.0) (all_less p q f xs a.1)
 
 all_if : {X : Type 0} (p : X → Bool) (b : Bool) (x : X) (xs : List X) → p x ≡ true → list_all p xs ≡ true → list_all p (if b then x ∷ xs else xs) ≡ true
-all_if p true x xs h hs = both (p x) (list_all p xs) h hs
+all_if p true x xs h hs = and_from (p x) (list_all p xs) h hs
 all_if p false x xs h hs = hs
 
 all_append : {X : Type 0} (p : X → Bool) (xs ys : List X) → list_all p xs ≡ true → list_all p ys ≡ true → list_all p (xs ++ ys) ≡ true
-all_append p xs ys h g = list_all-append p xs ys ∙ both (list_all p xs) (list_all p ys) h g
+all_append p xs ys h g = list_all-append p xs ys ∙ and_from (list_all p xs) (list_all p ys) h g
 
 all_take : {X : Type 0} (p : X → Bool) (i : ℕ) (xs : List X) → list_all p xs ≡ true → list_all p (take i xs) ≡ true
 all_take p zero xs h = refl
 all_take p (suc i) [] h = refl
-all_take p (suc i) (x ∷ xs) h = let a = and_parts (p x) (list_all p xs) h in both (p x) (list_all p (take i xs)) a.0 (all_take p i xs a.1)
+all_take p (suc i) (x ∷ xs) h = let a = and_parts (p x) (list_all p xs) h in and_from (p x) (list_all p (take i xs)) a.0 (all_take p i xs a.1)
 
 pub all_drop : {X : Type 0} (p : X → Bool) (i : ℕ) (xs : List X) → list_all p xs ≡ true → list_all p (drop i xs) ≡ true
 all_drop p zero xs h = h
@@ -151,10 +139,10 @@ module _ (P : Row → Type 0) where
 pub own_same : (this : Option ℕ) (s : List ℕ) → IsOwn this s → IsOwn this s
 own_same this s h = h
 
-pub own_with : (this : Option ℕ) (old new : List ℕ) (label : ℕ) → ((k : ℕ) → shown new k ≡ ((label == k) || shown old k)) → is_of this (record_of_label label) ≡ true → IsOwn this old → IsOwn this new
+pub own_with : (this : Option ℕ) (old new : List ℕ) (label : ℕ) → ((k : ℕ) → shown_by new k ≡ ((label == k) || shown_by old k)) → is_of this (record_of_label label) ≡ true → IsOwn this old → IsOwn this new
 own_with this old new label more one own = record { each = λ k s. each_if k (label == k) refl (sym (more k) ∙ s) }
   where
-    each_if : (k : ℕ) (b : Bool) → (label == k) ≡ b → (b || shown old k) ≡ true → is_of this (record_of_label k) ≡ true
+    each_if : (k : ℕ) (b : Bool) → (label == k) ≡ b → (b || shown_by old k) ≡ true → is_of this (record_of_label k) ≡ true
     each_if k true e s = ap (λ (n : ℕ). is_of this (record_of_label n)) (sym ((Decides-eqb label k).0 e)) ∙ one
     each_if k false e s = own.each k s
 
@@ -163,7 +151,7 @@ own_with this old new label more one own = record { each = λ k s. each_if k (la
 guard_own : (this : Option ℕ) (g : List (ℕ × Bool)) → ((k : ℕ) → names g k ≡ true → is_of this (record_of_label k) ≡ true) → names_own this g ≡ true
 guard_own this [] h = refl
 guard_own this (p ∷ ps) h =
-    both (is_own_pair this p) (names_own this ps) (h p.0 (left_or (p.0 == p.0) (names ps p.0) (itself p.0)))
+    and_from (is_own_pair this p) (names_own this ps) (h p.0 (or_left (p.0 == p.0) (names ps p.0) (itself p.0)))
     (guard_own this ps (λ k n. h k (or_right (p.0 == k) (names ps k) n)))
 
 no_group : (gs : List FieldGroup) (g : ℕ) → is_none gs ≡ true → is_some_group (slice_get gs g) ≡ true → ⊥
@@ -189,7 +177,7 @@ module _ (app : Application) (s : State) (viewer : Option ℕ) (case : IsLocalCa
 
   rows_own : (id : ℕ) (rows : List Row) → AllByRecursion Labels rows → are_own_rows (Some id) id rows ≡ true
   rows_own id [] a = refl
-  rows_own id (r ∷ rows) a = both (is_own_row (Some id) id r) (are_own_rows (Some id) id rows) (row_own id r a.0) (rows_own id rows a.1)
+  rows_own id (r ∷ rows) a = and_from (is_own_row (Some id) id r) (are_own_rows (Some id) id rows) (row_own id r a.0) (rows_own id rows a.1)
 
   -- a record's rows have guards of its own labels
   pub table_own : (id m : ℕ) → are_own_rows (Some id) id (rows_of s.tables m) ≡ true
@@ -209,7 +197,7 @@ module _ (app : Application) (s : State) (viewer : Option ℕ) (case : IsLocalCa
   rows_free : (this : Option ℕ) (m : ℕ) (rows : List Row) → is_free app.models m ≡ true → AllByRecursion (Records m) rows → AllByRecursion Labels rows → is_own_table this rows ≡ true
   rows_free this m [] free made own = refl
   rows_free this m (r ∷ rows) free made own =
-      both (has_own_guard this r) (is_own_table this rows) (row_free this m r free made.0.made.of_model own.0) (rows_free this m rows free made.1 own.1)
+      and_from (has_own_guard this r) (is_own_table this rows) (row_free this m r free made.0.made.of_model own.0) (rows_free this m rows free made.1 own.1)
 
   pub records_of : (m : ℕ) → AllByRecursion (Records m) (rows_of s.tables m)
   records_of m =
@@ -228,7 +216,7 @@ module _ (app : Application) (s : State) (viewer : Option ℕ) (case : IsLocalCa
   tables_free this [] free = refl
   tables_free this (b ∷ bs) free =
       let a = and_parts (is_free_model app.models b.model) (are_free app.models bs) free in
-      both (is_own_table this (table_named app s b.model)) (are_own_tables this app s bs) (model_free this b.model a.0) (tables_free this bs a.1)
+      and_from (is_own_table this (table_named app s b.model)) (are_own_tables this app s bs) (model_free this b.model a.0) (tables_free this bs a.1)
 
   pub order_free : (this : Option ℕ) (bs : List Binder) (o : Order) → is_free_order app.models bs o ≡ true → is_own_order this app s bs o ≡ true
   order_free this bs orders.Key free = refl
@@ -282,7 +270,7 @@ module _ (app : Application) where
   viewer_free (Some name) viewer of free = value_free (kind_named app.models (named.Ref name)) (value.Ref viewer) of free
 
   env_with : (env : List Binding) (name : List ℕ) (id : ℕ) → is_free_env app env ≡ true → is_free_id id ≡ true → is_free_env app (env ++ binding name (value.Ref (Some id)) ∷ []) ≡ true
-  env_with env name id h free = all_append (λ (b : Binding). is_free_value app b.bound_to) env (binding name (value.Ref (Some id)) ∷ []) h (both (is_free_id id) true free refl)
+  env_with env name id h free = all_append (λ (b : Binding). is_free_value app b.bound_to) env (binding name (value.Ref (Some id)) ∷ []) h (and_from (is_free_id id) true free refl)
 
   -- free records are bound
   pub bound_free : (bs : List Binder) (ids : List ℕ) (env : List Binding) → is_free_env app env ≡ true → are_free_ids ids ≡ true → is_free_env app (bound bs ids env) ≡ true
@@ -303,18 +291,18 @@ module _ (app : Application) where
       look_free (if same_text b.name name then b.bound_to else v) bs name (either_value (same_text b.name name) b.bound_to v a.0 h) a.1
 
   -- tuples of such records
-  extended_free : (ids : List ℕ) (rows : List PlainRow) → are_free_ids ids ≡ true → AllByRecursion (λ (r : PlainRow). is_free_id r.id ≡ true) rows → list_all are_free_ids (extended ids rows) ≡ true
+  extended_free : (ids : List ℕ) (rows : List PlainRow) → are_free_ids ids ≡ true → AllByRecursion (λ (r : PlainRow). is_free_id r.id ≡ true) rows → list_all are_free_ids (extended_tuples ids rows) ≡ true
   extended_free ids [] h a = refl
   extended_free ids (r ∷ rows) h a =
-      both (are_free_ids (ids ++ r.id ∷ [])) (list_all are_free_ids (extended ids rows))
-      (all_append is_free_id ids (r.id ∷ []) h (both (is_free_id r.id) true a.0 refl))
+      and_from (are_free_ids (ids ++ r.id ∷ [])) (list_all are_free_ids (extended_tuples ids rows))
+      (all_append is_free_id ids (r.id ∷ []) h (and_from (is_free_id r.id) true a.0 refl))
       (extended_free ids rows h a.1)
 
-  crossed_free : (tuples : List (List ℕ)) (rows : List PlainRow) → list_all are_free_ids tuples ≡ true → AllByRecursion (λ (r : PlainRow). is_free_id r.id ≡ true) rows → list_all are_free_ids (crossed tuples rows) ≡ true
+  crossed_free : (tuples : List (List ℕ)) (rows : List PlainRow) → list_all are_free_ids tuples ≡ true → AllByRecursion (λ (r : PlainRow). is_free_id r.id ≡ true) rows → list_all are_free_ids (crossed_tuples tuples rows) ≡ true
   crossed_free [] rows h a = refl
   crossed_free (ids ∷ tuples) rows h a =
       let p = and_parts (are_free_ids ids) (list_all are_free_ids tuples) h in
-      all_append are_free_ids (extended ids rows) (crossed tuples rows) (extended_free ids rows p.0 a) (crossed_free tuples rows p.1 a)
+      all_append are_free_ids (extended_tuples ids rows) (crossed_tuples tuples rows) (extended_free ids rows p.0 a) (crossed_free tuples rows p.1 a)
 
   kept_free : (q : List ℕ → Bool) (bs : List Binder) (cond : List Binding → Value) (env : List Binding) (tuples : List (List ℕ)) → list_all q tuples ≡ true → list_all q (kept_by bs cond env tuples) ≡ true
   kept_free q bs cond env [] h = refl
@@ -322,23 +310,23 @@ module _ (app : Application) where
       let a = and_parts (q ids) (list_all q tuples) h in
       all_if q (is_true (cond (bound bs ids env))) ids (kept_by bs cond env tuples) a.0 (kept_free q bs cond env tuples a.1)
 
-  inserted_free : (q : List ℕ → Bool) (less : Value → Value → Bool) (key : List ℕ → Value) (x : List ℕ) (ys : List (List ℕ)) → q x ≡ true → list_all q ys ≡ true → list_all q (inserted less key x ys) ≡ true
-  inserted_free q less key x [] h a = both (q x) true h refl
+  inserted_free : (q : List ℕ → Bool) (less : Value → Value → Bool) (key : List ℕ → Value) (x : List ℕ) (ys : List (List ℕ)) → q x ≡ true → list_all q ys ≡ true → list_all q (with_sorted less key x ys) ≡ true
+  inserted_free q less key x [] h a = and_from (q x) true h refl
   inserted_free q less key x (y ∷ ys) h a =
       let p = and_parts (q y) (list_all q ys) a in
-      put_if (less (key y) (key x)) (both (q y) (list_all q (inserted less key x ys)) p.0 (inserted_free q less key x ys h p.1)) (both (q x) (q y && list_all q ys) h a)
+      put_if (less (key y) (key x)) (and_from (q y) (list_all q (with_sorted less key x ys)) p.0 (inserted_free q less key x ys h p.1)) (and_from (q x) (q y && list_all q ys) h a)
     where
-      put_if : (b : Bool) → list_all q (y ∷ inserted less key x ys) ≡ true → list_all q (x ∷ (y ∷ ys)) ≡ true → list_all q (if b then y ∷ inserted less key x ys else x ∷ (y ∷ ys)) ≡ true
+      put_if : (b : Bool) → list_all q (y ∷ with_sorted less key x ys) ≡ true → list_all q (x ∷ (y ∷ ys)) ≡ true → list_all q (if b then y ∷ with_sorted less key x ys else x ∷ (y ∷ ys)) ≡ true
       put_if true u v = u
       put_if false u v = v
 
-  sorted_free : (q : List ℕ → Bool) (less : Value → Value → Bool) (key : List ℕ → Value) (xs : List (List ℕ)) → list_all q xs ≡ true → list_all q (sorted less key xs) ≡ true
+  sorted_free : (q : List ℕ → Bool) (less : Value → Value → Bool) (key : List ℕ → Value) (xs : List (List ℕ)) → list_all q xs ≡ true → list_all q (sorted_tuples less key xs) ≡ true
   sorted_free q less key [] h = refl
   sorted_free q less key (x ∷ xs) h =
       let a = and_parts (q x) (list_all q xs) h in
-      inserted_free q less key x (sorted less key xs) a.0 (sorted_free q less key xs a.1)
+      inserted_free q less key x (sorted_tuples less key xs) a.0 (sorted_free q less key xs a.1)
 
-  ordered_free : (q : List ℕ → Bool) (w : World) (bs : List Binder) (o : Order) (xs : List (List ℕ)) → list_all q xs ≡ true → list_all q (ordered w bs o xs) ≡ true
+  ordered_free : (q : List ℕ → Bool) (w : World) (bs : List Binder) (o : Order) (xs : List (List ℕ)) → list_all q xs ≡ true → list_all q (ordered_tuples w bs o xs) ≡ true
   ordered_free q w bs orders.Key xs h = h
   ordered_free q w bs (orders.Up x f) xs h = sorted_free q is_less (key_of w bs x f) xs h
   ordered_free q w bs (orders.Down x f) xs h = sorted_free q (λ a b. is_less b a) (key_of w bs x f) xs h
@@ -359,7 +347,7 @@ but_last_free models [] free = refl
 but_last_free models (b ∷ []) free = refl
 but_last_free models (b ∷ (c ∷ bs)) free =
     let a = and_parts (is_free_model models b.model) (are_free models (c ∷ bs)) free in
-    both (is_free_model models b.model) (are_free models (but_last (c ∷ bs))) a.0 (but_last_free models (c ∷ bs) a.1)
+    and_from (is_free_model models b.model) (are_free models (but_last (c ∷ bs))) a.0 (but_last_free models (c ∷ bs) a.1)
 
 pub left_free : (models : List Entity) (bs : List Binder) (ids : List ℕ) → are_free models bs ≡ true → are_free models (left_behind bs ids) ≡ true
 left_free models [] ids free = refl
@@ -398,7 +386,7 @@ module _ (app : Application) (s : State) (viewer : Option ℕ) (case : IsLocalCa
   tuples_free_from [] tuples free h = h
   tuples_free_from (b ∷ bs) tuples free h =
       let a = and_parts (is_free_model app.models b.model) (are_free app.models bs) free in
-      tuples_free_from bs (crossed tuples (records seen b.model)) a.1 (crossed_free app tuples (records seen b.model) h (place_ids (model_place app.models b.model) a.0))
+      tuples_free_from bs (crossed_tuples tuples (records seen b.model)) a.1 (crossed_free app tuples (records seen b.model) h (place_ids (model_place app.models b.model) a.0))
 
   pub tuples_free : (bs : List Binder) → are_free app.models bs ≡ true → list_all (are_free_ids app) (tuples_from seen bs ([] ∷ [])) ≡ true
   tuples_free bs free = tuples_free_from bs ([] ∷ []) free refl
@@ -430,7 +418,7 @@ module _ (app : Application) (s : State) (viewer : Option ℕ) (case : IsLocalCa
       list_all (λ j. is_free_env app (env ++ binding name (value.Ref (Some j)) ∷ [])) (row_ids rows) ≡ true
   each_bound env name [] h a = refl
   each_bound env name (r ∷ rows) h a =
-      both (is_free_env app (env ++ binding name (value.Ref (Some r.id)) ∷ [])) (list_all (λ j. is_free_env app (env ++ binding name (value.Ref (Some j)) ∷ [])) (row_ids rows))
+      and_from (is_free_env app (env ++ binding name (value.Ref (Some r.id)) ∷ [])) (list_all (λ j. is_free_env app (env ++ binding name (value.Ref (Some j)) ∷ [])) (row_ids rows))
       (env_with app env name r.id h a.0) (each_bound env name rows h a.1)
 
   -- the wanted records of the first binder that is left are bound to its name
@@ -476,7 +464,7 @@ module _ (app : Application) (s : State) (viewer : Option ℕ) (case : IsLocalCa
   found m id [] a = tt
   found m id (r ∷ rows) a = found_if m (r.id == id) r (record_with id rows) a.0 (found m id rows a.1)
 
-  referred_to : (m : ℕ) (v : Value) (rows : List PlainRow) → AllByRecursion (SeenRecord m) rows → SomeRecord m (referred v rows)
+  referred_to : (m : ℕ) (v : Value) (rows : List PlainRow) → AllByRecursion (SeenRecord m) rows → SomeRecord m (referred_record v rows)
   referred_to m (value.Int i) rows a = tt
   referred_to m (value.Text t) rows a = tt
   referred_to m (value.Bool b) rows a = tt
@@ -509,7 +497,7 @@ module _ (app : Application) (s : State) (viewer : Option ℕ) (case : IsLocalCa
   count_free true i j = refl
   count_free false i j = refl
 
-  summed_free : (bs : List Binder) (term : List Binding → Value) (env : List Binding) (v : Value) (tuples : List (List ℕ)) → is_free_value app v ≡ true → is_free_value app (summed bs term env v tuples) ≡ true
+  summed_free : (bs : List Binder) (term : List Binding → Value) (env : List Binding) (v : Value) (tuples : List (List ℕ)) → is_free_value app v ≡ true → is_free_value app (summed_terms bs term env v tuples) ≡ true
   summed_free bs term env v [] h = h
   summed_free bs term env v (ids ∷ tuples) h = summed_free bs term env (two op.Add v (term (bound bs ids env))) tuples (two_free op.Add v (term (bound bs ids env)))
 
@@ -541,7 +529,7 @@ module _ (app : Application) (s : State) (viewer : Option ℕ) (case : IsLocalCa
       pick_free (is_true (mean seen c env)) (mean seen a env) (mean seen b env) (refers_to_free a env h p.0) (refers_to_free b env h p.1)
   refers_to_free (Expression.count bs c o) env h free = count_free (is_single bs) (pos (length (answers_by seen bs o (mean seen c) env))) (pos 0)
   refers_to_free (Expression.sum bs c o e) env h free =
-      either_value app (is_single bs) (summed bs (mean seen e) env (value.Int (pos 0)) (answers_by seen bs o (mean seen c) env)) (value.Int (pos 0))
+      either_value app (is_single bs) (summed_terms bs (mean seen e) env (value.Int (pos 0)) (answers_by seen bs o (mean seen c) env)) (value.Int (pos 0))
       (summed_free bs (mean seen e) env (value.Int (pos 0)) (answers_by seen bs o (mean seen c) env) refl) refl
   refers_to_free (Expression.any_of bs c o) env h free = some_free (answers_by seen bs o (mean seen c) env)
   refers_to_free (Expression.first bs c o) env h free = first_free app (answers_by seen bs o (mean seen c) env) (answers_free bs o (mean seen c) env free)
@@ -611,18 +599,18 @@ keep_last true false b h = absurd cc
 keep_last false a b h = h
 
 pub other_first : (f g a : Bool) → (f ≡ true → g ≡ true) → (f && a) ≡ true → (g && a) ≡ true
-other_first f g a h t = let p = and_parts f a t in both g a (h p.0) p.1
+other_first f g a h t = let p = and_parts f a t in and_from g a (h p.0) p.1
 
 -- free tuples bind free names
 pub bound_all : (app : Application) (bs : List Binder) (env : List Binding) (tuples : List (List ℕ)) → is_free_env app env ≡ true → list_all (are_free_ids app) tuples ≡ true →
     list_all (λ ids. is_free_env app (bound bs ids env)) tuples ≡ true
 bound_all app bs env tuples h free = all_less (are_free_ids app) (λ ids. is_free_env app (bound bs ids env)) (λ ids f. bound_free app bs ids env h f) tuples free
 
-each_lengthened : (q : List ℕ → Bool) (js : List ℕ) (ts : List (List ℕ)) → list_all q (lengthened_all ts js) ≡ true → list_all (λ ids. list_all q (lengthened ids js)) ts ≡ true
+each_lengthened : (q : List ℕ → Bool) (js : List ℕ) (ts : List (List ℕ)) → list_all q (lengthened_all ts js) ≡ true → list_all (λ ids. list_all q (lengthened_tuples ids js)) ts ≡ true
 each_lengthened q js [] h = refl
 each_lengthened q js (t ∷ ts) h =
-    let a = and_parts (list_all q (lengthened t js)) (list_all q (lengthened_all ts js)) (sym (list_all-append q (lengthened t js) (lengthened_all ts js)) ∙ h) in
-    both (list_all q (lengthened t js)) (list_all (λ ids. list_all q (lengthened ids js)) ts) a.0 (each_lengthened q js ts a.1)
+    let a = and_parts (list_all q (lengthened_tuples t js)) (list_all q (lengthened_all ts js)) (sym (list_all-append q (lengthened_tuples t js) (lengthened_all ts js)) ∙ h) in
+    and_from (list_all q (lengthened_tuples t js)) (list_all (λ ids. list_all q (lengthened_tuples ids js)) ts) a.0 (each_lengthened q js ts a.1)
 
 -- the tuples of a product begin free ones
 pub begun_free : (app : Application) (s : State) (viewer : Option ℕ) (case : IsLocalCase app s viewer) (u : ℕ → Bool) (this : Option ℕ) (bs : List Binder) (o : Option Wanted) (env : List Binding)
@@ -637,18 +625,18 @@ begun_free app s viewer case u this bs o env None tuples h free begun =
     let q : List ℕ → Bool = λ ids. is_free_env app (bound bs ids env) in
     let most = tuples_from (seen app s viewer case u this) (but_last (behind_first bs)) (firsts_wanted app.models u s.tables bs o) in
     ap (list_all (begins_free app bs env None)) begun
-    ∙ all_less q (begins_free app bs env None) (λ ids f. both (q ids) (are_free app.models bs) f free) most
+    ∙ all_less q (begins_free app bs env None) (λ ids f. and_from (q ids) (are_free app.models bs) f free) most
     (bound_all app bs env most h (most_free app s viewer case u this bs o free))
 
 -- the tuple bound before, and then each last id
 pub last_free : (app : Application) (bs left : List Binder) (env inner : List Binding) (ids js : List ℕ) → inner ≡ bound bs ids env → left ≡ left_behind bs ids →
-    list_all (λ ids. is_free_env app (bound bs ids env)) (lengthened ids js) ≡ true → list_all (λ j. is_free_env app (inner ++ first_bound left (value.Ref (Some j)))) js ≡ true
+    list_all (λ ids. is_free_env app (bound bs ids env)) (lengthened_tuples ids js) ≡ true → list_all (λ j. is_free_env app (inner ++ first_bound left (value.Ref (Some j)))) js ≡ true
 last_free app bs left env inner ids [] inside behind h = refl
 last_free app bs left env inner ids (j ∷ js) inside behind h =
     let longer = ids ++ j ∷ [] in
     let v = value.Ref (Some j) in
-    let a = and_parts (is_free_env app (bound bs longer env)) (list_all (λ ids. is_free_env app (bound bs ids env)) (lengthened ids js)) h in
-    both (is_free_env app (inner ++ first_bound left v)) (list_all (λ j. is_free_env app (inner ++ first_bound left (value.Ref (Some j)))) js)
+    let a = and_parts (is_free_env app (bound bs longer env)) (list_all (λ ids. is_free_env app (bound bs ids env)) (lengthened_tuples ids js)) h in
+    and_from (is_free_env app (inner ++ first_bound left v)) (list_all (λ j. is_free_env app (inner ++ first_bound left (value.Ref (Some j)))) js)
     (ap (is_free_env app) (ap (λ es. es ++ first_bound left v) inside ∙ ap (λ l. bound bs ids env ++ first_bound l v) behind ∙ bound-longer bs ids j env) ∙ a.0)
     (last_free app bs left env inner ids js inside behind a.1)
 

@@ -4,7 +4,7 @@ use Rattle.jac_value.specs.declared.value.Value.{Value}
 use Rattle.jac_lang.specs.declared.bindings.Binding.{Binding}
 use Rattle.jac_lang.specs.Lookup.{same_text}
 use Rattle.jac_plain.specs.Expressions.{binding}
-use Rattle.jac_plain.specs.Statements.{assigned, binds}
+use Rattle.jac_plain.specs.Statements.{with_value, binds}
 use Rattle.jac_pruned.specs.Places.{place_after, last_place}
 
 -- the last binding has another name, or this one
@@ -44,31 +44,31 @@ by_cases false false b v bs changed = refl
 
 module _ (name : List ℕ) (v : Value) where
   assigned-cons : (b : Binding) (bs : List Binding) (p : Option ℕ) (one : Bool) → last_place name bs ≡ p → same_text b.name name ≡ one
-      → assigned name v (b ∷ bs) ≡ assigned_by (is_there p) one b v bs (assigned name v bs)
+      → with_value name v (b ∷ bs) ≡ assigned_by (is_there p) one b v bs (with_value name v bs)
   assigned-cons b bs p one place same =
-      by_cases (binds name bs) (same_text b.name name) b v bs (assigned name v bs)
-      ∙ ap (λ l. assigned_by l (same_text b.name name) b v bs (assigned name v bs)) (binds-place name bs ∙ ap is_there place)
-      ∙ ap (λ o. assigned_by (is_there p) o b v bs (assigned name v bs)) same
+      by_cases (binds name bs) (same_text b.name name) b v bs (with_value name v bs)
+      ∙ ap (λ l. assigned_by l (same_text b.name name) b v bs (with_value name v bs)) (binds-place name bs ∙ ap is_there place)
+      ∙ ap (λ o. assigned_by (is_there p) o b v bs (with_value name v bs)) same
 
   -- where no binding has the name
-  pub assigned-none : (bs : List Binding) → last_place name bs ≡ None → assigned name v bs ≡ bs
+  pub assigned-none : (bs : List Binding) → last_place name bs ≡ None → with_value name v bs ≡ bs
   assigned-none [] none = refl
   assigned-none (b ∷ bs) none = step (last_place name bs) (same_text b.name name) refl refl none
     where
-      step : (p : Option ℕ) (one : Bool) → last_place name bs ≡ p → same_text b.name name ≡ one → place_after (same_text b.name name) (last_place name bs) ≡ None → assigned name v (b ∷ bs) ≡ b ∷ bs
+      step : (p : Option ℕ) (one : Bool) → last_place name bs ≡ p → same_text b.name name ≡ one → place_after (same_text b.name name) (last_place name bs) ≡ None → with_value name v (b ∷ bs) ≡ b ∷ bs
       step None false place same n = assigned-cons b bs None false place same
       step None true place same n = cc
       step (Some i) one place same n = cc
 
   -- where the one at this place is the innermost
   pub assigned-some : (bs : List Binding) (i : ℕ) (x : Binding) → last_place name bs ≡ Some i → x ≡ get_or bs i x
-      → slice_set bs i (binding x.name v) ≡ assigned name v bs
+      → slice_set bs i (binding x.name v) ≡ with_value name v bs
   assigned-some [] i x place item = cc
   assigned-some (b ∷ bs) i x place item = step (last_place name bs) (same_text b.name name) i refl refl place item (λ j there at_j. assigned-some bs j x there at_j)
     where
       step : (p : Option ℕ) (one : Bool) (i : ℕ) → last_place name bs ≡ p → same_text b.name name ≡ one → place_after (same_text b.name name) (last_place name bs) ≡ Some i → x ≡ get_or (b ∷ bs) i x
-          → ((j : ℕ) → last_place name bs ≡ Some j → x ≡ get_or bs j x → slice_set bs j (binding x.name v) ≡ assigned name v bs)
-          → slice_set (b ∷ bs) i (binding x.name v) ≡ assigned name v (b ∷ bs)
+          → ((j : ℕ) → last_place name bs ≡ Some j → x ≡ get_or bs j x → slice_set bs j (binding x.name v) ≡ with_value name v bs)
+          → slice_set (b ∷ bs) i (binding x.name v) ≡ with_value name v (b ∷ bs)
       step None false i place same e item again = cc
       step None true zero place same e item again = ap (λ y. binding y.name v ∷ bs) item ∙ sym (assigned-cons b bs None true place same)
       step None true (suc i) place same e item again = cc

@@ -8,11 +8,11 @@ use Rattle.jac_rows.specs.declared.state.State.{State}
 use Rattle.jac_plain.specs.declared.page.Piece.{Piece}
 use Rattle.jac_plain.specs.Expressions.{bound}
 use Rattle.jac_plain.specs.Reading.{is_reading, are_reading}
-use Rattle.jac_plain.specs.Statements.{Run, cut_to, scoped, for_each}
-use Rattle.jac_pruned.specs.Runs.{run_in, IsReading, AreReading}
+use Rattle.jac_plain.specs.Statements.{Run, cut_to, scoped_run, for_each}
+use Rattle.jac_pruned.specs.Runs.{run_in, IsReadingStatement, AreReading}
 
 mutual
-  pub is-reading : (s : Statement) → is_reading s ≡ true → IsReading s
+  pub is-reading : (s : Statement) → is_reading s ≡ true → IsReadingStatement s
   is-reading (Statement.put e) h = tt
   is-reading (Statement.escape e) h = tt
   is-reading (Statement.bind x e body) h = are-reading body h
@@ -42,12 +42,12 @@ from_same step w old mid env env2 pieces pieces2 same h = subst (λ (s : State).
 -- the body under more bindings, which are cut again
 pub scopes : (body : Run → Run) (w : ℕ → Bool) (s : State) (env more inner left new : List Binding) (n : ℕ) (pieces pieces2 : List Piece)
     → inner ≡ more → n ≡ length env → new ≡ take n left → run_in w s left pieces2 ≡ body (run_in w s inner pieces)
-    → run_in w s new pieces2 ≡ scoped more body (run_in w s env pieces)
+    → run_in w s new pieces2 ≡ scoped_run more body (run_in w s env pieces)
 scopes body w s env more inner left new n pieces pieces2 bound long cut ran =
     ap (λ e. run_in w s e pieces2) (cut ∙ ap (λ m. take m left) long)
     ∙ ap (cut_to (length env)) (ran ∙ ap (λ e. body (run_in w s e pieces)) bound)
 
 -- one tuple more
-pub tuple_more : (bs : List Binder) (body : List ℕ → Run → Run) (ids : List ℕ) (left rest : List (List ℕ)) (r new total : Run) → left ≡ ids ∷ rest → new ≡ scoped (bound bs ids r.env) (body ids) r
+pub tuple_more : (bs : List Binder) (body : List ℕ → Run → Run) (ids : List ℕ) (left rest : List (List ℕ)) (r new total : Run) → left ≡ ids ∷ rest → new ≡ scoped_run (bound bs ids r.env) (body ids) r
     → for_each bs body left r ≡ total → for_each bs body rest new ≡ total
 tuple_more bs body ids left rest r new total first step so_far = ap (for_each bs body rest) step ∙ ap (λ l. for_each bs body l r) (sym first) ∙ so_far

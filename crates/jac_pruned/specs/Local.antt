@@ -13,7 +13,7 @@ use Rattle.jac_lang.specs.declared.queries.Binder.{Binder}
 use Rattle.jac_lang.specs.declared.queries.Order.{Order}
 use Rattle.jac_lang.specs.declared.queries.Order.TheVariants as orders
 use Rattle.jac_lang.specs.Lookup.{model_place, fields_at, groups_at, field_place, kind_named, kind_at}
-use Rattle.jac_lang.specs.Syntax.{Expression, Expressions, FieldGroup, Entity, Application}
+use Rattle.jac_lang.specs.Syntax.{Expression, Expressions, FieldGroup, Entity, Application, is_this}
 use Rattle.jac_rows.specs.declared.row.Row.{Row}
 use Rattle.jac_rows.specs.declared.state.State.{State}
 use Rattle.jac_rows.specs.Good.{IsGoodByGuards}
@@ -84,10 +84,6 @@ refers_free models v (Expression.get m f e) = is_free_field models m f
 refers_free models v (Expression.pick c a b) = refers_free models v a && refers_free models v b
 refers_free models v (Expression.first bs c o) = are_free models bs
 refers_free models v e = true
-
-abbrev pub is_this : Expression → Bool
-is_this Expression.this = true
-is_this e = false
 
 abbrev mutual
   -- each query ranges over models that have no group, each `get` reads `this` or one of these, and

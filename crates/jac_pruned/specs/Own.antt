@@ -5,7 +5,7 @@ use Rattle.std.specs.List.{list_all}
 use Rattle.jac_value.specs.Ids.{model_of_id, record_of_label}
 use Rattle.jac_value.specs.declared.value.Value.{Value}
 use Rattle.jac_value.specs.declared.value.Value.TheVariants as value
-use Rattle.jac_world.specs.World.{shown}
+use Rattle.jac_world.specs.World.{shown_by}
 use Rattle.jac_lang.specs.declared.bindings.Binding.{Binding}
 use Rattle.jac_lang.specs.declared.queries.Binder.{Binder}
 use Rattle.jac_lang.specs.declared.queries.Order.{Order}
@@ -19,7 +19,7 @@ use Rattle.jac_keep.specs.declared.stop.Stop.{Stop}
 use Rattle.jac_plain.specs.Expressions.{bound, model_of_binder}
 use Rattle.jac_pruned.specs.Seen.{app_at}
 use Rattle.jac_pruned.specs.declared.fixed.At.{At}
-use Rattle.jac_pruned.specs.Tupled.{lengthened}
+use Rattle.jac_pruned.specs.Tupled.{lengthened_tuples}
 use Rattle.jac_pruned.specs.Local.{are_free, is_free, is_free_viewer, is_free_query, is_local, are_local, IsLocalCase}
 
 -- the id is that of the record, if there is one
@@ -29,7 +29,7 @@ is_of (Some this) id = this == id
 
 -- the labels are the record's
 pub record IsOwn (this : Option ℕ) (support : List ℕ) : Type 0 where
-  pub each : (k : ℕ) → shown support k ≡ true → is_of this (record_of_label k) ≡ true
+  pub each : (k : ℕ) → shown_by support k ≡ true → is_of this (record_of_label k) ≡ true
 
 -- the pair's label is the record's
 abbrev pub is_own_pair : Option ℕ → (ℕ × Bool) → Bool
@@ -102,7 +102,7 @@ is_free_env app env = list_all (λ b. is_free_value app b.bound_to) env
 -- last ids, what it binds itself does, and each binder ranges over such a model
 abbrev pub begins_free : Application → List Binder → List Binding → Option (List ℕ) → List ℕ → Bool
 begins_free app bs env (Some js) ids = list_all (λ t. is_free_env app (bound bs t env))
-    (lengthened ids js)
+    (lengthened_tuples ids js)
 begins_free app bs env None ids = is_free_env app (bound bs ids env) && are_free app.models bs
 
 -- a local case, and a test that is true

@@ -1,7 +1,7 @@
 -- The world that an assignment shows of a state.
 use Rattle.std.specs.Prelude.{◌≡◌, ℕ, Bool, List}
 use Rattle.jac_value.specs.declared.value.Value.{Value}
-use Rattle.jac_world.specs.World.{shown}
+use Rattle.jac_world.specs.World.{shown_by}
 use Rattle.jac_lang.specs.declared.application.App.{App}
 use Rattle.jac_lang.specs.declared.bindings.Binding.{Binding}
 use Rattle.jac_lang.specs.Mirror.{application_of}
@@ -15,16 +15,7 @@ use Rattle.jac_plain.specs.Expressions.{mean}
 use Rattle.jac_plain.specs.World.{World}
 use Rattle.jac_pruned.specs.Consulted.{Agrees}
 use Rattle.jac_pruned.specs.declared.fixed.At.{At}
-
--- what an expression is read in under an assignment
-abbrev pub world_at : App → Ctx → State → (ℕ → Bool) → World
-world_at app ctx s w =
-    record {
-      models = (application_of app).models;
-      this = ctx.this;
-      viewer = ctx.viewer;
-      tables = (project_at w s).tables;
-    }
+use Rattle.jac_plain.specs.Shown.{world_at}
 
 -- the application of an evaluation
 abbrev pub app_at : At → Application
@@ -36,7 +27,7 @@ seen_at at s w = world_at at.app.now at.ctx.now s w
 
 -- under each assignment that shows the same of the support, the value is the expression's
 abbrev pub MeansAt : List ℕ → At → State → Expression → List Binding → Value → Type 0
-MeansAt support at s e env v = (w : ℕ → Bool) → Agrees support (shown at.assignment.now) w
+MeansAt support at s e env v = (w : ℕ → Bool) → Agrees support (shown_by at.assignment.now) w
     → v ≡ mean (seen_at at s w) e env
 
 -- a row that an assignment shows, without its guard

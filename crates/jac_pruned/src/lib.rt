@@ -3,29 +3,29 @@
 #![tactic(auto, using(crate::proofs::Growing::grows_same, crate::proofs::Growing::grows_then, crate::proofs::Growing::agrees_less, crate::proofs::Growing::holds_alike))]
 
 mod alike;
-mod assigning;
+mod assignments;
 mod binding;
 mod candidate;
-mod choosing;
+mod choice;
 mod evaluation;
 mod fixed;
 mod memory;
-mod naming;
+mod order;
 mod pieces;
+mod presence;
 mod product;
 mod progress;
 mod reading;
 mod run;
-mod sorting;
-mod standing;
+mod scope;
 mod support;
 mod texts;
-mod wanting;
+mod wants;
 
 pub use evaluation::eval_at;
 pub use fixed::At;
 pub use jac_lang::PlainEnv;
 pub use jac_plain::{Ctx, Page, is_true};
+pub use presence::record_stands;
 pub use run::run_body_at;
-pub use standing::record_stands;
 pub use support::Support;

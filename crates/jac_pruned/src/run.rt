@@ -1,18 +1,19 @@
 //! The run of statements that write nothing, in the world that an assignment shows, and its page.
 //! `execute` only looks at the form; each form is a function of its own.
 ghost use Rattle.std.specs.Prelude.{◌≡◌, ◌∷◌, [], ◌++◌, ℕ, Bool, true, None, IfOk, OnOk, IsTrue};
-ghost use Rattle.jac_world.specs.World.{shown};
+ghost use Rattle.jac_world.specs.World.{shown_by};
 ghost use Rattle.jac_keep.specs.Worked.{state_of, IsTold, ReadsWork};
 ghost use Rattle.jac_lang.specs.Mirror.{binders_of, expression_of, question_of, statement_of, statements_of};
 ghost use Rattle.jac_lang.specs.Syntax.{Statement};
 ghost use Rattle.jac_plain.specs.Expressions.{bound};
 ghost use Rattle.jac_plain.specs.Reading.{are_reading};
-ghost use Rattle.jac_plain.specs.Statements.{for_each, leaves, leaves_all, scoped, with_binding};
+ghost use Rattle.jac_plain.specs.Statements.{for_each, leaves, leaves_all, scoped_run, with_binding};
 ghost use Rattle.jac_pruned.specs.Consulted.{Agrees, Grows};
-ghost use Rattle.jac_pruned.specs.Runs.{setting_at, setting_around, page_ran, IsMade, Runs, IsReading, AreReading};
+ghost use Rattle.jac_pruned.specs.Runs.{page_ran, IsPageMade, RunsShown, IsReadingStatement, AreReading};
+ghost use Rattle.jac_plain.specs.Shown.{setting_around, setting_at};
 
 use crate::Support;
-use crate::assigning::assign;
+use crate::assignments::assign;
 use crate::binding::{bind_tuple, bind_value, loop_of};
 use crate::evaluation::{answers_at, eval};
 use crate::fixed::At;
@@ -37,10 +38,10 @@ pub fn run_body_at<K: Keeper>(
     requires attached { IsTrue (K.seen work.old.keeper.now).store.attached }
     requires reading { are_reading (statements_of body.now) ≡ true }
     ensures page { IsTold K.seen work.new → IfOk result (λ p. (w : ℕ → Bool)
-        → Agrees support.new (shown at.now.assignment.now) w
+        → Agrees support.new (shown_by at.now.assignment.now) w
         → p ≡ page_ran at.now.app.now at.now.ctx.now w (state_of K.seen work.old) env
         (statements_of body.now)) }
-    ensures made { IfOk result IsMade }
+    ensures made { IfOk result IsPageMade }
     ensures reads { ReadsWork K.seen work.old work.new result }
     ensures grows { Grows support.old support.new }
 {
@@ -72,7 +73,7 @@ fn execute_all<K: Keeper>(
     requires no_record { at.now.ctx.now.this ≡ None }
     requires reading { AreReading (statements_of stmts.now) }
     ensures left { IsTold K.seen work.new
-        → OnOk result (Runs support.new at.now
+        → OnOk result (RunsShown support.new at.now
         (λ w. leaves_all (setting_at at.now.app.now at.now.ctx.now w) (statements_of stmts.now))
         (state_of K.seen work.old) run.old run.new) }
     ensures reads { ReadsWork K.seen work.old work.new result }
@@ -97,9 +98,9 @@ fn execute<K: Keeper>(
 ) -> Result<(), Stop>
     requires attached { IsTrue (K.seen work.old.keeper.now).store.attached }
     requires no_record { at.now.ctx.now.this ≡ None }
-    requires reading { IsReading (statement_of stmt.now) }
+    requires reading { IsReadingStatement (statement_of stmt.now) }
     ensures left { IsTold K.seen work.new
-        → OnOk result (Runs support.new at.now
+        → OnOk result (RunsShown support.new at.now
         (λ w. leaves (setting_at at.now.app.now at.now.ctx.now w) (statement_of stmt.now))
         (state_of K.seen work.old) run.old run.new) }
     ensures reads { ReadsWork K.seen work.old work.new result }
@@ -137,7 +138,7 @@ fn execute_put<K: Keeper>(
     requires attached { IsTrue (K.seen work.old.keeper.now).store.attached }
     requires no_record { at.now.ctx.now.this ≡ None }
     ensures left { IsTold K.seen work.new
-        → OnOk result (Runs support.new at.now
+        → OnOk result (RunsShown support.new at.now
         (λ w. leaves (setting_at at.now.app.now at.now.ctx.now w)
         (Statement.put (expression_of e.now))) (state_of K.seen work.old) run.old run.new) }
     ensures reads { ReadsWork K.seen work.old work.new result }
@@ -159,7 +160,7 @@ fn execute_escape<K: Keeper>(
     requires attached { IsTrue (K.seen work.old.keeper.now).store.attached }
     requires no_record { at.now.ctx.now.this ≡ None }
     ensures left { IsTold K.seen work.new
-        → OnOk result (Runs support.new at.now
+        → OnOk result (RunsShown support.new at.now
         (λ w. leaves (setting_at at.now.app.now at.now.ctx.now w)
         (Statement.escape (expression_of e.now))) (state_of K.seen work.old) run.old run.new) }
     ensures reads { ReadsWork K.seen work.old work.new result }
@@ -181,7 +182,7 @@ fn execute_redirect<K: Keeper>(
     requires attached { IsTrue (K.seen work.old.keeper.now).store.attached }
     requires no_record { at.now.ctx.now.this ≡ None }
     ensures left { IsTold K.seen work.new
-        → OnOk result (Runs support.new at.now
+        → OnOk result (RunsShown support.new at.now
         (λ w. leaves (setting_at at.now.app.now at.now.ctx.now w)
         (Statement.redirect (expression_of e.now))) (state_of K.seen work.old) run.old run.new) }
     ensures reads { ReadsWork K.seen work.old work.new result }
@@ -204,7 +205,7 @@ fn execute_assign<K: Keeper>(
     requires attached { IsTrue (K.seen work.old.keeper.now).store.attached }
     requires no_record { at.now.ctx.now.this ≡ None }
     ensures left { IsTold K.seen work.new
-        → OnOk result (Runs support.new at.now
+        → OnOk result (RunsShown support.new at.now
         (λ w. leaves (setting_at at.now.app.now at.now.ctx.now w) (Statement.assign name.now
         (expression_of e.now))) (state_of K.seen work.old) run.old run.new) }
     ensures reads { ReadsWork K.seen work.old work.new result }
@@ -230,7 +231,7 @@ fn execute_let<K: Keeper>(
     requires no_record { at.now.ctx.now.this ≡ None }
     requires reading { AreReading (statements_of body.now) }
     ensures left { IsTold K.seen work.new
-        → OnOk result (Runs support.new at.now
+        → OnOk result (RunsShown support.new at.now
         (λ w. leaves (setting_at at.now.app.now at.now.ctx.now w) (Statement.bind name.now
         (expression_of e.now) (statements_of body.now))) (state_of K.seen work.old) run.old
         run.new) }
@@ -257,7 +258,7 @@ fn execute_named<K: Keeper>(
     requires no_record { at.now.ctx.now.this ≡ None }
     requires reading { AreReading (statements_of body.now) }
     ensures left { IsTold K.seen work.new
-        → OnOk result (Runs support.new at.now (λ w. with_binding name.now value
+        → OnOk result (RunsShown support.new at.now (λ w. with_binding name.now value
         (leaves_all (setting_at at.now.app.now at.now.ctx.now w) (statements_of body.now)))
         (state_of K.seen work.old) run.old run.new) }
     ensures reads { ReadsWork K.seen work.old work.new result }
@@ -286,7 +287,7 @@ fn execute_if<K: Keeper>(
     requires first { AreReading (statements_of first.now) }
     requires second { AreReading (statements_of second.now) }
     ensures left { IsTold K.seen work.new
-        → OnOk result (Runs support.new at.now
+        → OnOk result (RunsShown support.new at.now
         (λ w. leaves (setting_at at.now.app.now at.now.ctx.now w)
         (Statement.branch (expression_of c.now) (statements_of first.now)
         (statements_of second.now))) (state_of K.seen work.old) run.old run.new) }
@@ -316,7 +317,7 @@ fn execute_for<K: Keeper>(
     requires no_record { at.now.ctx.now.this ≡ None }
     requires reading { AreReading (statements_of body.now) }
     ensures left { IsTold K.seen work.new
-        → OnOk result (Runs support.new at.now
+        → OnOk result (RunsShown support.new at.now
         (λ w. leaves (setting_at at.now.app.now at.now.ctx.now w)
         (Statement.each (question_of query.now) (statements_of body.now)))
         (state_of K.seen work.old) run.old run.new) }
@@ -345,7 +346,7 @@ fn execute_tuples<K: Keeper>(
     requires no_record { at.now.ctx.now.this ≡ None }
     requires reading { AreReading (statements_of body.now) }
     ensures left { IsTold K.seen work.new
-        → OnOk result (Runs support.new at.now (λ w. for_each (binders_of binders.now)
+        → OnOk result (RunsShown support.new at.now (λ w. for_each (binders_of binders.now)
         (λ ids. leaves_all (setting_around at.now.app.now at.now.ctx.now ids w)
         (statements_of body.now)) tuples.now) (state_of K.seen work.old) run.old run.new) }
     ensures reads { ReadsWork K.seen work.old work.new result }
@@ -372,8 +373,8 @@ fn execute_bound<K: Keeper>(
     requires no_record { at.now.ctx.now.this ≡ None }
     requires reading { AreReading (statements_of body.now) }
     ensures left { IsTold K.seen work.new
-        → OnOk result (Runs support.new at.now
-        (λ w r. scoped (bound (binders_of binders.now) ids.now r.env)
+        → OnOk result (RunsShown support.new at.now
+        (λ w r. scoped_run (bound (binders_of binders.now) ids.now r.env)
         (leaves_all (setting_around at.now.app.now at.now.ctx.now ids.now w)
         (statements_of body.now)) r) (state_of K.seen work.old) run.old run.new) }
     ensures reads { ReadsWork K.seen work.old work.new result }

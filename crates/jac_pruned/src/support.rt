@@ -1,6 +1,6 @@
 //! The labels that were consulted.
 ghost use Rattle.std.specs.Prelude.{◌≡◌, ◌==◌, ◌||◌, ℕ, [], Bool, true, Option, IfOk, OnOk};
-ghost use Rattle.jac_world.specs.World.{shown, holds, names, IsAscending};
+ghost use Rattle.jac_world.specs.World.{shown_by, holds, names, IsAscending};
 ghost use Rattle.jac_pruned.specs.Consulted.{Agrees, Grows};
 ghost use Rattle.jac_pruned.specs.Own.{IsOwn, names_own};
 
@@ -45,7 +45,7 @@ impl Support {
 
     /// Whether the label was consulted.
     pub fn has(&self, label: Label) -> bool
-        ensures { result ≡ shown self.now label }
+        ensures { result ≡ shown_by self.now label }
     {
         is_among(self.as_slice(), label)
     }
@@ -53,7 +53,7 @@ impl Support {
     /// The same labels and this one.
     pub fn add(&mut self, label: Label) -> Result<(), Memory>
         ensures added { OnOk result ((k : ℕ)
-            → shown self.new k ≡ (label == k || shown self.old k)) }
+            → shown_by self.new k ≡ (label == k || shown_by self.old k)) }
         ensures grows { Grows self.old self.new }
     {
         add_label(&mut self.labels, label)
@@ -62,8 +62,8 @@ impl Support {
 
 fn add_label(labels: &mut Vec<Label>, label: Label) -> Result<(), Memory>
     requires { IsAscending labels.old.items }
-    ensures added { OnOk result ((k : ℕ) → shown labels.new.items k
-        ≡ (label == k || shown labels.old.items k)) }
+    ensures added { OnOk result ((k : ℕ) → shown_by labels.new.items k
+        ≡ (label == k || shown_by labels.old.items k)) }
     ensures ascending { IsAscending labels.new.items }
     ensures grows { Grows labels.old.items labels.new.items }
 {
@@ -80,10 +80,11 @@ pub(crate) fn consult(
     assignment: &Assignment,
     support: &mut Support,
 ) -> Result<bool, Memory>
-    ensures value { IfOk result (λ b. (w : ℕ → Bool) → Agrees support.new (shown assignment.now) w
+    ensures value { IfOk result (λ b. (w : ℕ → Bool) → Agrees support.new
+        (shown_by assignment.now) w
         → b ≡ holds w pairs.now) }
     ensures consulted { OnOk result ((k : ℕ) → names pairs.now k ≡ true
-        → shown support.new k ≡ true) }
+        → shown_by support.new k ≡ true) }
     ensures grows { Grows support.old support.new }
     ensures own { (this : Option ℕ) → names_own this pairs.now ≡ true → IsOwn this support.old
         → OnOk result (IsOwn this support.new) }
@@ -93,14 +94,14 @@ pub(crate) fn consult(
 }
 
 fn are_met(pairs: &[(Label, bool)], assignment: &Assignment) -> bool
-    ensures { result ≡ holds (shown assignment.now) pairs.now }
+    ensures { result ≡ holds (shown_by assignment.now) pairs.now }
 {
     pairs.iter().all(|pair| pair.1 == assignment.shows(pair.0))
 }
 
 fn add_labels(pairs: &[(Label, bool)], support: &mut Support) -> Result<(), Memory>
     ensures consulted { OnOk result ((k : ℕ) → names pairs.now k ≡ true
-        → shown support.new k ≡ true) }
+        → shown_by support.new k ≡ true) }
     ensures grows { Grows support.old support.new }
     ensures own { (this : Option ℕ) → names_own this pairs.now ≡ true → IsOwn this support.old
         → OnOk result (IsOwn this support.new) }

@@ -5,13 +5,14 @@ use Rattle.std.specs.Cmp.{IsStrictWeakOrder}
 use Rattle.std.specs.List.Sorted.{IsSortedBy, IsStableBy, IsPermutation, ties}
 use Rattle.std.proofs.lemmas.List.Sorted.{ranks_by, IsStrictWeakOrder-flip, All-permutation}
 use Rattle.std.proofs.lemmas.List.Elements.{All-from_recursion, recursion_from_All}
+use Rattle.std.proofs.lemmas.Bool.{and_from}
 use Rattle.jac_value.specs.contracts.value.ValueOrd.TheImpl.Laws.{total-law}
 use Rattle.jac_value.specs.declared.value.Value.{Value}
 use Rattle.jac_world.specs.World.{holds}
-use Rattle.jac_facet.specs.Leaves.{seen}
+use Rattle.jac_facet.specs.Leaves.{leaves_seen}
 use Rattle.jac_query.specs.Live.{live, all_ids}
 use Rattle.jac_query.specs.Sorted.{sorted_by, value_less, key_less, keyed_at, keyed_ids, tuples_of, key_leaves}
-use Rattle.jac_query.specs.declared.ordering.Keyed.{Keyed}
+use Rattle.jac_query.specs.declared.sorts.Keyed.{Keyed}
 use Rattle.jac_query.proofs.Sorting.{NoneLess, IsUp, up-from_sorted, stable-is}
 
 append_if : {X : Type 0} (b : Bool) (x : X) (xs ys zs : List X) → zs ≡ xs ++ ys → (if b then x ∷ zs else zs) ≡ (if b then x ∷ xs else xs) ++ ys
@@ -51,15 +52,15 @@ with_ids-step : (ids : List ℕ) (b : Bool) (v : Value) (vs : List Value) (xs : 
 with_ids-step ids true v vs xs e = ap (λ l. (ids, v) ∷ l) e
 with_ids-step ids false v vs xs e = e
 
-with_ids-seen : (w : ℕ → Bool) (ids : List ℕ) (ps : List (List (ℕ × Bool) × Value)) → key_leaves w ids ps ≡ with_ids ids (seen w ps)
+with_ids-seen : (w : ℕ → Bool) (ids : List ℕ) (ps : List (List (ℕ × Bool) × Value)) → key_leaves w ids ps ≡ with_ids ids (leaves_seen w ps)
 with_ids-seen w ids [] = refl
-with_ids-seen w ids (p ∷ ps) = with_ids-step ids (holds w p.0) p.1 (seen w ps) (key_leaves w ids ps) (with_ids-seen w ids ps)
+with_ids-seen w ids (p ∷ ps) = with_ids-step ids (holds w p.0) p.1 (leaves_seen w ps) (key_leaves w ids ps) (with_ids-seen w ids ps)
 
 with_ids-one : (ids : List ℕ) (b : Bool) (v : Value) → with_ids ids (if b then v ∷ [] else []) ≡ if◌then◌else◌ {A = List (List ℕ × Value)} b ((ids, v) ∷ []) []
 with_ids-one ids true v = refl
 with_ids-one ids false v = refl
 
-pub keys_seen : (w : ℕ → Bool) (ids : List ℕ) (ps : List (List (ℕ × Bool) × Value)) (b : Bool) (v : Value) → seen w ps ≡ (if b then v ∷ [] else []) →
+pub keys_seen : (w : ℕ → Bool) (ids : List ℕ) (ps : List (List (ℕ × Bool) × Value)) (b : Bool) (v : Value) → leaves_seen w ps ≡ (if b then v ∷ [] else []) →
     key_leaves w ids ps ≡ if◌then◌else◌ {A = List (List ℕ × Value)} b ((ids, v) ∷ []) []
 keys_seen w ids ps b v e = with_ids-seen w ids ps ∙ (ap (with_ids ids) e ∙ with_ids-one ids b v)
 
@@ -139,17 +140,13 @@ and-second : (a b : Bool) → (a && b) ≡ true → b ≡ true
 and-second true b h = h
 and-second false b h = cc
 
-and-both : (a b : Bool) → a ≡ true → b ≡ true → (a && b) ≡ true
-and-both true b h k = k
-and-both false b h k = cc
-
 each_of : (p : List ℕ → Bool) (ks : List Keyed) → keyed_ids p ks ≡ true → AllByRecursion (λ (k : Keyed). p k.ids ≡ true) ks
 each_of p [] h = tt
 each_of p (k ∷ ks) h = (and-first (p k.ids) (keyed_ids p ks) h, each_of p ks (and-second (p k.ids) (keyed_ids p ks) h))
 
 of_each : (p : List ℕ → Bool) (ks : List Keyed) → AllByRecursion (λ (k : Keyed). p k.ids ≡ true) ks → keyed_ids p ks ≡ true
 of_each p [] h = refl
-of_each p (k ∷ ks) h = and-both (p k.ids) (keyed_ids p ks) h.0 (of_each p ks h.1)
+of_each p (k ∷ ks) h = and_from (p k.ids) (keyed_ids p ks) h.0 (of_each p ks h.1)
 
 -- another order of the same has the same ids
 pub keyed_ids-permutation : (p : List ℕ → Bool) (xs ys : List Keyed) → IsPermutation xs ys → keyed_ids p xs ≡ true → keyed_ids p ys ≡ true

@@ -5,7 +5,7 @@ use Rattle.jac_value.specs.contracts.value.ValueOrd.TheImpl.{ghosts}
 use Rattle.jac_value.specs.declared.value.Value.{Value}
 use Rattle.jac_world.specs.World.{holds}
 use Rattle.jac_query.specs.declared.tuple.Tuple.{Tuple}
-use Rattle.jac_query.specs.declared.ordering.Keyed.{Keyed}
+use Rattle.jac_query.specs.declared.sorts.Keyed.{Keyed}
 
 module _ {X : Type 0} (lt : X → X → Bool) where
   -- x before the first that isn't less

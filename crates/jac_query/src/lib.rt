@@ -2,18 +2,18 @@
 #![tactic(auto)]
 
 mod choice;
-mod crossing;
 mod field;
-mod keeping;
+mod filter;
 mod memory;
-mod ordering;
+mod product;
+mod sorts;
 mod sums;
 mod tuple;
 
 pub use choice::{first, fold_exists};
-pub use crossing::cross;
 pub use field::read_field;
-pub use keeping::keep;
-pub use ordering::order;
+pub use filter::keep;
+pub use product::cross;
+pub use sorts::order;
 pub use sums::{fold_count, fold_sum};
 pub use tuple::{Tuple, Tuples};

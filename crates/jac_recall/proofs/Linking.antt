@@ -1,31 +1,31 @@
 -- Labels that are gathered with all that they are linked to.
 use Rattle.std.proofs.Common.{◌≡◌, ◌==◌, ◌&&◌, ◌||◌, ℕ, Bool, true, false, not, List, [], ◌∷◌, ◌++◌, refl, ap, sym, subst, ◌∙◌}
 use Rattle.std.proofs.lemmas.Bool.Decides.{Decides-eqb}
-use Rattle.jac_world.specs.World.{shown}
+use Rattle.std.proofs.lemmas.Bool.{or_right}
+use Rattle.jac_world.specs.World.{shown_by}
 use Rattle.jac_recall.specs.declared.answers.Answers.{Answers}
-use Rattle.jac_recall.proofs.Recalling.{or_right}
 use Rattle.jac_recall.specs.Linked.{AreLinked, IsDoneBefore, is_done}
 use Rattle.jac_recall.specs.Recalled.{hangs, watches}
 
 -- the labels are among all, and what is next to one that is done is there
 pub record Linking (answers : Answers) (labels all left : List ℕ) : Type 0 where
-  pub among : (k : ℕ) → shown labels k ≡ true → shown all k ≡ true
-  pub near : (j k : ℕ) → is_done all left j ≡ true → (watches answers j k || hangs answers j k) ≡ true → shown all k ≡ true
+  pub among : (k : ℕ) → shown_by labels k ≡ true → shown_by all k ≡ true
+  pub near : (j k : ℕ) → is_done all left j ≡ true → (watches answers j k || hangs answers j k) ≡ true → shown_by all k ≡ true
 
-none_done : (labels : List ℕ) (j : ℕ) → is_done labels labels j ≡ true → (b : Bool) → shown labels j ≡ b → false ≡ true
+none_done : (labels : List ℕ) (j : ℕ) → is_done labels labels j ≡ true → (b : Bool) → shown_by labels j ≡ b → false ≡ true
 none_done labels j done true e = sym (ap (λ b. b && not b) e) ∙ done
 none_done labels j done false e = sym (ap (λ b. b && not b) e) ∙ done
 
 pub linking_start : (answers : Answers) (labels all left : List ℕ) → all ≡ labels → left ≡ labels → Linking answers labels all left
 linking_start answers labels all left all_are left_are = record {
-  among = λ k s. ap (λ l. shown l k) all_are ∙ s;
-  near = λ j k done links. absurd (let e : false ≡ true = none_done labels j (ap (λ l. is_done labels l j) (sym left_are) ∙ ap (λ l. is_done l left j) (sym all_are) ∙ done) (shown labels j) refl in cc);
+  among = λ k s. ap (λ l. shown_by l k) all_are ∙ s;
+  near = λ j k done links. absurd (let e : false ≡ true = none_done labels j (ap (λ l. is_done labels l j) (sym left_are) ∙ ap (λ l. is_done l left j) (sym all_are) ∙ done) (shown_by labels j) refl in cc);
 }
 
 -- where one is at the end of a list
-at_last : (xs : List ℕ) (x j : ℕ) → shown (xs ++ x ∷ []) j ≡ ((x == j) || shown xs j)
+at_last : (xs : List ℕ) (x j : ℕ) → shown_by (xs ++ x ∷ []) j ≡ ((x == j) || shown_by xs j)
 at_last [] x j = refl
-at_last (y ∷ xs) x j = ap (λ b. (y == j) || b) (at_last xs x j) ∙ swapped (y == j) (x == j) (shown xs j)
+at_last (y ∷ xs) x j = ap (λ b. (y == j) || b) (at_last xs x j) ∙ swapped (y == j) (x == j) (shown_by xs j)
   where
     swapped : (a b c : Bool) → (a || (b || c)) ≡ (b || (a || c))
     swapped true true c = refl
@@ -35,8 +35,8 @@ at_last (y ∷ xs) x j = ap (λ b. (y == j) || b) (at_last xs x j) ∙ swapped (
 -- what is next to one more label was added
 pub linking_on : (answers : Answers) (labels all left rest all_now left_now : List ℕ) (x : ℕ) → left ≡ rest ++ x ∷ [] →
     Linking answers labels all left →
-    ((k : ℕ) → (watches answers x k || hangs answers x k) ≡ true → shown all_now k ≡ true) →
-    ((k : ℕ) → shown all k ≡ true → shown all_now k ≡ true) →
+    ((k : ℕ) → (watches answers x k || hangs answers x k) ≡ true → shown_by all_now k ≡ true) →
+    ((k : ℕ) → shown_by all k ≡ true → shown_by all_now k ≡ true) →
     IsDoneBefore all rest all_now left_now →
     Linking answers labels all_now left_now
 linking_on answers labels all left rest all_now left_now x left_is before near kept done_before = record {
@@ -44,15 +44,15 @@ linking_on answers labels all left rest all_now left_now x left_is before near k
   near = λ j k done links. near_if j k (done_before.each j done) links (x == j) refl;
 }
   where
-    near_if : (j k : ℕ) → is_done all rest j ≡ true → (watches answers j k || hangs answers j k) ≡ true → (b : Bool) → (x == j) ≡ b → shown all_now k ≡ true
+    near_if : (j k : ℕ) → is_done all rest j ≡ true → (watches answers j k || hangs answers j k) ≡ true → (b : Bool) → (x == j) ≡ b → shown_by all_now k ≡ true
     near_if j k done links true e =
         let is : x ≡ j = (Decides-eqb x j).0 e in
         near k (subst (λ (i : ℕ). (watches answers i k || hangs answers i k) ≡ true) (sym is) links)
     near_if j k done links false e =
-        let same : shown left j ≡ shown rest j = ap (λ l. shown l j) left_is ∙ at_last rest x j ∙ ap (λ b. b || shown rest j) e in
-        kept k (before.near j k (ap (λ b. shown all j && not b) same ∙ done) links)
+        let same : shown_by left j ≡ shown_by rest j = ap (λ l. shown_by l j) left_is ∙ at_last rest x j ∙ ap (λ b. b || shown_by rest j) e in
+        kept k (before.near j k (ap (λ b. shown_by all j && not b) same ∙ done) links)
 
-done_at_end : (all : List ℕ) (j : ℕ) → shown all j ≡ true → (shown all j && true) ≡ true
+done_at_end : (all : List ℕ) (j : ℕ) → shown_by all j ≡ true → (shown_by all j && true) ≡ true
 done_at_end all j s = ap (λ b. b && true) s
 
 -- where none is left, all are linked
@@ -65,5 +65,5 @@ linking_end answers labels all left none linking = record {
   among = linking.among;
 }
   where
-    done : (j : ℕ) → shown all j ≡ true → is_done all left j ≡ true
+    done : (j : ℕ) → shown_by all j ≡ true → is_done all left j ≡ true
     done j s = ap (λ l. is_done all l j) none ∙ done_at_end all j s

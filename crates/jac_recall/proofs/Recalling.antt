@@ -4,12 +4,13 @@ use Rattle.std.specs.List.{list_any}
 use Rattle.std.specs.Option.{is_some}
 use Rattle.std.specs.Ordering.{nat_cmp, is_eq}
 use Rattle.std.proofs.lemmas.Bool.Decides.{nat_tests, Decides-eqb}
-use Rattle.jac_world.specs.World.{shown, holds, IsAscending, IsRising}
+use Rattle.std.proofs.lemmas.Bool.{or_left, or_right}
+use Rattle.jac_world.specs.World.{shown_by, holds, IsAscending, IsRising}
 use Rattle.jac_recall.specs.declared.answers.Given.{Given}
 use Rattle.jac_recall.specs.declared.answers.Known.{Known}
 use Rattle.jac_world.specs.World.{names}
 use Rattle.jac_world.proofs.Contradict.{by_names}
-use Rattle.jac_recall.specs.Recalled.{first_fitting, hangs_in, names_label, or_known, recall_in, signed, watched_in}
+use Rattle.jac_recall.specs.Recalled.{first_fitting, hangs_in, names_label, or_known, recall_in, signed_labels, watched_in}
 
 -- one answer more of a label
 
@@ -72,14 +73,6 @@ hung_more old new given known label j k new_is is =
     ap (λ o. hangs_in o k) new_is
     ∙ hung_if (old j) given known (label == j) k (λ e. is ∙ ap (λ (i : ℕ). items_in (old i) ++ known ∷ []) ((Decides-eqb label j).0 e))
 
-pub or_left : (a b : Bool) → a ≡ true → (a || b) ≡ true
-or_left true b h = refl
-or_left false b h = absurd cc
-
-pub or_right : (a b : Bool) → b ≡ true → (a || b) ≡ true
-or_right true b h = refl
-or_right false b h = h
-
 -- an answer hangs on those labels alone that are named
 first_by : (cs : List Known) (v w : ℕ → Bool) → ((k : ℕ) → names_label cs k ≡ true → v k ≡ w k) → first_fitting cs v ≡ first_fitting cs w
 first_by [] v w alike = refl
@@ -103,7 +96,7 @@ is_at_number k j = grind (arith, nat_tests)
 same_test : (a b : ℕ) → (a == b) ≡ (b == a)
 same_test a b = grind (arith, nat_tests)
 
-pub key_is_shown : (ks : List ℕ) (k : ℕ) → list_any (λ x. is_eq (nat_cmp k x)) ks ≡ shown ks k
+pub key_is_shown : (ks : List ℕ) (k : ℕ) → list_any (λ x. is_eq (nat_cmp k x)) ks ≡ shown_by ks k
 key_is_shown [] k = refl
 key_is_shown (x ∷ ks) k =
     ap (λ b. b || list_any (λ y. is_eq (nat_cmp k y)) ks) (is_at_number k x ∙ same_test k x) ∙ ap (λ b. x == k || b) (key_is_shown ks k)
@@ -112,7 +105,7 @@ is_key : (of_label : Option (List ℕ)) (j : ℕ) → watched_in of_label j ≡ 
 is_key None j h = absurd cc
 is_key (Some watchers) j h = refl
 
-pub watched_is_key : (of_label : Option (List ℕ)) (ks : List ℕ) (k j : ℕ) → is_some of_label ≡ list_any (λ x. is_eq (nat_cmp k x)) ks → watched_in of_label j ≡ true → shown ks k ≡ true
+pub watched_is_key : (of_label : Option (List ℕ)) (ks : List ℕ) (k j : ℕ) → is_some of_label ≡ list_any (λ x. is_eq (nat_cmp k x)) ks → watched_in of_label j ≡ true → shown_by ks k ≡ true
 watched_is_key of_label ks k j has h = sym (key_is_shown ks k) ∙ sym has ∙ is_key of_label j h
 
 or_nothing : (a t : Bool) → (a || (t && false)) ≡ a
@@ -130,23 +123,23 @@ left_alone false b none h = absurd (let e : true ≡ false = sym h ∙ none in c
 
 -- one watcher more of a label
 
-watched_if : (old : Option (List ℕ)) (watchers : List ℕ) (b : Bool) (label j : ℕ) → (b ≡ true → shown watchers j ≡ ((label == j) || watched_in old j)) →
+watched_if : (old : Option (List ℕ)) (watchers : List ℕ) (b : Bool) (label j : ℕ) → (b ≡ true → shown_by watchers j ≡ ((label == j) || watched_in old j)) →
     watched_in (if b then Some watchers else old) j ≡ ((b && label == j) || watched_in old j)
 watched_if old watchers true label j is = is refl
 watched_if old watchers false label j is = refl
 
-or_nobody : (old : Option (List ℕ)) (none : List ℕ) (j : ℕ) → none ≡ [] → shown (unwrap_or old none) j ≡ watched_in old j
-or_nobody None none j empty = ap (λ l. shown l j) empty
+or_nobody : (old : Option (List ℕ)) (none : List ℕ) (j : ℕ) → none ≡ [] → shown_by (unwrap_or old none) j ≡ watched_in old j
+or_nobody None none j empty = ap (λ l. shown_by l j) empty
 or_nobody (Some watchers) none j empty = refl
 
 pub watched_more : (old : ℕ → Option (List ℕ)) (new : Option (List ℕ)) (before watchers none : List ℕ) (watched label k j : ℕ) →
-    new ≡ (if watched == k then Some watchers else old k) → none ≡ [] → before ≡ unwrap_or (old watched) none → shown watchers j ≡ ((label == j) || shown before j) →
+    new ≡ (if watched == k then Some watchers else old k) → none ≡ [] → before ≡ unwrap_or (old watched) none → shown_by watchers j ≡ ((label == j) || shown_by before j) →
     watched_in new j ≡ ((watched == k && label == j) || watched_in (old k) j)
 watched_more old new before watchers none watched label k j new_is empty before_is more =
     ap (λ o. watched_in o j) new_is
     ∙ watched_if (old k) watchers (watched == k) label j
     (λ e. more
-    ∙ ap (λ l. (label == j) || shown l j) before_is
+    ∙ ap (λ l. (label == j) || shown_by l j) before_is
     ∙ ap (λ b. (label == j) || b) (or_nobody (old watched) none j empty)
     ∙ ap (λ (i : ℕ). (label == j) || watched_in (old i) j) ((Decides-eqb watched k).0 e))
 
@@ -158,7 +151,7 @@ fits_not xs rest x w all is fails so_far = ap (λ b. if b then Some x.holds else
 pub fits_here : (xs rest : List Known) (x : Known) (w : ℕ → Bool) (all : Option Bool) → xs ≡ x ∷ rest → holds w x.when ≡ true → first_fitting xs w ≡ all → Some x.holds ≡ all
 fits_here xs rest x w all is fits so_far = ap (λ b. if b then Some x.holds else first_fitting rest w) (sym fits) ∙ ap (λ l. first_fitting l w) (sym is) ∙ so_far
 
-pub signed_rises : (w : ℕ → Bool) (ks : List ℕ) → IsAscending ks → IsRising (signed w ks)
+pub signed_rises : (w : ℕ → Bool) (ks : List ℕ) → IsAscending ks → IsRising (signed_labels w ks)
 signed_rises w [] up = tt
 signed_rises w (k ∷ []) up = (tt, tt)
 signed_rises w (k ∷ (j ∷ ks)) up = (up.0, signed_rises w (j ∷ ks) up.1)

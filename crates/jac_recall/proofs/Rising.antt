@@ -9,7 +9,7 @@ use Rattle.std.proofs.lemmas.List.Sorted.{Contains-permutation, IsPermutation-sy
 use Rattle.std.proofs.lemmas.Map.Keys.{IsStrictlyIncreasing-dedup, sorted_from_strictly_increasing, below_from_sorted, sorted_tail}
 use Rattle.std.proofs.lemmas.Map.Views.{Contains-from_any, list_any-from_Contains}
 use Rattle.std.proofs.lemmas.Cmp.{nat_eq_equiv}
-use Rattle.jac_world.specs.World.{shown, IsAscending}
+use Rattle.jac_world.specs.World.{shown_by, IsAscending}
 
 pub ascending : (xs : List ℕ) → IsStrictlySortedBy nat_cmp xs → IsAscending xs
 ascending [] s = tt
@@ -19,29 +19,25 @@ ascending (x ∷ (y ∷ xs)) s = (below_from_sorted (x ∷ (y ∷ xs)) 0 1 0 s (
 same_test : (a b : ℕ) → (a == b) ≡ (b == a)
 same_test a b = grind (arith, nat_tests)
 
-flip : (xs : List ℕ) (k : ℕ) → shown xs k ≡ list_any (λ x. k == x) xs
+flip : (xs : List ℕ) (k : ℕ) → shown_by xs k ≡ list_any (λ x. k == x) xs
 flip [] k = refl
 flip (x ∷ xs) k = rw (same_test x k) (ap (λ b. (k == x) || b) (flip xs k))
-
-or_right : (a b : Bool) → b ≡ true → (a || b) ≡ true
-or_right true b p = refl
-or_right false b p = p
 
 pub bool_eq : (a b : Bool) → (a ≡ true → b ≡ true) → (b ≡ true → a ≡ true) → a ≡ b
 bool_eq true b p q = sym (p refl)
 bool_eq false true p q = q refl
 bool_eq false false p q = refl
 
-found : (xs : List ℕ) (k : ℕ) → shown xs k ≡ true → Contains xs k
+found : (xs : List ℕ) (k : ℕ) → shown_by xs k ≡ true → Contains xs k
 found xs k s = Contains-from_any (λ x y e. (Decides-eqb x y).0 e) k xs (sym (flip xs k) ∙ s)
 
-shown_if_found : (xs : List ℕ) (k : ℕ) → Contains xs k → shown xs k ≡ true
+shown_if_found : (xs : List ℕ) (k : ℕ) → Contains xs k → shown_by xs k ≡ true
 shown_if_found xs k h = flip xs k ∙ list_any-from_Contains nat_eq_equiv k xs h
 
 pub ascending_if_sorted : (xs ys : List ℕ) → IsSorted nat_cmp xs → ys ≡ dedup ◌==◌ xs → IsAscending ys
 ascending_if_sorted xs ys s is = rw is (ascending (dedup ◌==◌ xs) (sorted_from_strictly_increasing (dedup ◌==◌ xs) (IsStrictlyIncreasing-dedup xs s)))
 
-pub same_if_sorted : (from xs ys : List ℕ) → IsPermutation from xs → ys ≡ dedup ◌==◌ xs → (k : ℕ) → shown ys k ≡ shown from k
+pub same_if_sorted : (from xs ys : List ℕ) → IsPermutation from xs → ys ≡ dedup ◌==◌ xs → (k : ℕ) → shown_by ys k ≡ shown_by from k
 same_if_sorted from xs ys moved is k = rw is (bool_eq _ _
     (λ s. shown_if_found from k (Contains-permutation xs from k (IsPermutation-sym from xs moved) (Contains-from_dedup ◌==◌ xs k (found (dedup ◌==◌ xs) k s))))
     (λ s. shown_if_found (dedup ◌==◌ xs) k (Contains-dedup_nat xs k (Contains-permutation from xs k moved (found from k s)))))

@@ -4,7 +4,7 @@ use Rattle.std.specs.Prelude.{◌≡◌, ◌%◌, ℕ, Bool, true, false, List, 
 use Rattle.std.specs.List.{list_any}
 use Rattle.std.specs.Ordering.{nat_cmp}
 use Rattle.std.specs.BTreeMap.{BTreeMap, get}
-use Rattle.jac_world.specs.World.{shown, holds, names}
+use Rattle.jac_world.specs.World.{shown_by, holds, names}
 use Rattle.jac_recall.specs.declared.answers.Answers.{Answers}
 use Rattle.jac_recall.specs.declared.answers.Given.{Given}
 use Rattle.jac_recall.specs.declared.answers.Known.{Known}
@@ -39,7 +39,7 @@ recall_in (Some given) w = first_fitting given.answers.items w
 
 abbrev pub watched_in : Option (List ℕ) → ℕ → Bool
 watched_in None j = false
-watched_in (Some watchers) j = shown watchers j
+watched_in (Some watchers) j = shown_by watchers j
 
 -- what is remembered of a label under an assignment
 abbrev pub recall : Answers → ℕ → (ℕ → Bool) → Option Bool
@@ -66,9 +66,9 @@ abbrev pub is_asked : Answers → ℕ → Bool
 is_asked answers k = is_some (given_of answers.given k)
 
 -- the labels with the signs that they have under an assignment
-abbrev pub signed : (ℕ → Bool) → List ℕ → List (ℕ × Bool)
-signed w [] = []
-signed w (k ∷ ks) = (k, w k) ∷ signed w ks
+abbrev pub signed_labels : (ℕ → Bool) → List ℕ → List (ℕ × Bool)
+signed_labels w [] = []
+signed_labels w (k ∷ ks) = (k, w k) ∷ signed_labels w ks
 
 -- what is remembered of a label hangs on those alone that it watches
 pub record AreWatched (answers : Answers) : Type 0 where
@@ -77,6 +77,7 @@ pub record AreWatched (answers : Answers) : Type 0 where
 
 -- each label of the list is in it with all that watch it, and with all that its answers hang on
 pub record IsLinked (answers : Answers) (labels : List ℕ) : Type 0 where
-  pub watchers : (k j : ℕ) → shown labels k ≡ true → watches answers k j ≡ true
-      → shown labels j ≡ true
-  pub hanging : (j k : ℕ) → shown labels j ≡ true → hangs answers j k ≡ true → shown labels k ≡ true
+  pub watchers : (k j : ℕ) → shown_by labels k ≡ true → watches answers k j ≡ true
+      → shown_by labels j ≡ true
+  pub hanging : (j k : ℕ) → shown_by labels j ≡ true → hangs answers j k ≡ true → shown_by labels k
+      ≡ true

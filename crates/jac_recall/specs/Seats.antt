@@ -1,7 +1,7 @@
 -- What was settled for somebody, and what a change leaves of it.
 use Rattle.std.specs.Prelude.{◌≡◌, ◌==◌, ◌||◌, ℕ, Bool, true, List, Option, None, if◌then◌else◌}
 use Rattle.std.specs.List.{list_any}
-use Rattle.jac_world.specs.World.{shown}
+use Rattle.jac_world.specs.World.{shown_by}
 use Rattle.jac_recall.specs.declared.answers.Answers.{Answers}
 use Rattle.jac_recall.specs.declared.seat.Seat.{Seat}
 use Rattle.jac_recall.specs.declared.touch.Touch.{Touch}
@@ -15,12 +15,12 @@ pub record Unsettles (touch : Touch) (viewer : Option ℕ) (old new : Seat) : Ty
   pub recalls : (k : ℕ) (w : ℕ → Bool) → recall new.answers k w ≡
       (if touches touch viewer k then None else recall old.answers k w)
   pub watching : (k j : ℕ) → watches new.answers k j ≡ watches old.answers k j
-  pub due : (k : ℕ) → shown old.due k ≡ true → shown new.due k ≡ true
-  pub named : (k : ℕ) → shown touch.labels k ≡ true → shown new.due k ≡ true
+  pub due : (k : ℕ) → shown_by old.due k ≡ true → shown_by new.due k ≡ true
+  pub named : (k : ℕ) → shown_by touch.labels k ≡ true → shown_by new.due k ≡ true
   pub dropped : (k : ℕ) → touches touch viewer k ≡ true → is_asked old.answers k ≡ true
-      → shown new.due k ≡ true
+      → shown_by new.due k ≡ true
   pub hanging : (j k : ℕ) → touches touch viewer j ≡ true → hangs old.answers j k ≡ true
-      → shown new.due k ≡ true
+      → shown_by new.due k ≡ true
 
 -- nothing was asked or settled
 pub record IsEmptySeat (seat : Seat) : Type 0 where

@@ -2,7 +2,7 @@
 use Rattle.std.specs.Prelude.{◌≡◌, ◌↔◌, ℕ, Bool, true, false, ◌&&◌, ◌||◌, ◌==◌, Option, Some, None}
 use Rattle.std.specs.List.{list_any}
 use Rattle.jac_value.specs.Ids.{model_of_id, record_of_label, group_of_label}
-use Rattle.jac_world.specs.World.{shown}
+use Rattle.jac_world.specs.World.{shown_by}
 use Rattle.jac_lang.specs.Syntax.{Application}
 use Rattle.jac_plain.specs.Policies.{IsLiveLabel, is_allowed}
 use Rattle.jac_plain.specs.Requests.{Worlds}
@@ -28,14 +28,14 @@ is_in_group g k = (model_of_id (record_of_label k) == g.model) && (group_of_labe
 
 -- the policy of the label may answer otherwise to this viewer
 abbrev pub touches : Touch → Option ℕ → ℕ → Bool
-touches t viewer k = shown t.labels k
+touches t viewer k = shown_by t.labels k
     || list_any (λ (g : TouchedGroup). is_in_group g k && is_for g.viewer viewer) t.groups.items
 
 -- between worlds and later ones, a label that isn't named is live as it was, and one that isn't
 -- touched is allowed wherever it was
 pub record IsCovered (app : Application) (worlds later : Worlds) (touch : Touch)
     (viewer : Option ℕ) : Type 0 where
-  pub living : (k : ℕ) → shown touch.labels k ≡ false
+  pub living : (k : ℕ) → shown_by touch.labels k ≡ false
       → (IsLiveLabel app worlds k ↔ IsLiveLabel app later k)
   pub allowed : (k : ℕ) → touches touch viewer k ≡ false → (w : ℕ → Bool) →
       is_allowed app (later w) viewer k ≡ is_allowed app (worlds w) viewer k

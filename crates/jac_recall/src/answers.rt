@@ -1,10 +1,10 @@
 //! Answers of policies, remembered with the signs of the labels that were consulted for them.
 ghost use Rattle.std.specs.Prelude.{◌≡◌, ◌==◌, ◌||◌, ◌&&◌, ℕ, Bool, false, None, Some, true, is_some, if◌then◌else◌, Option, IfOk, OnOk};
-ghost use Rattle.jac_world.specs.World.{shown, holds, names, IsAscending};
+ghost use Rattle.jac_world.specs.World.{shown_by, holds, names, IsAscending};
 ghost use Rattle.std.specs.Ordering.{nat_cmp};
 ghost use Rattle.std.specs.BTreeMap.{get};
 ghost use Rattle.jac_plain.specs.Policies.{with_label};
-ghost use Rattle.jac_recall.specs.Recalled.{first_fitting, hangs, is_asked, names_label, or_known, recall, signed, watched_in, watches};
+ghost use Rattle.jac_recall.specs.Recalled.{first_fitting, hangs, is_asked, names_label, or_known, recall, signed_labels, watched_in, watches};
 ghost use Rattle.jac_recall.specs.Linked.{AreLinkedIf};
 ghost use Rattle.jac_recall.specs.Touched.{touches};
 
@@ -50,7 +50,7 @@ impl Answers {
 
     /// What is remembered of the label under the assignment, once the label itself is shown.
     pub fn recalled(&self, a: &Assignment, label: Label) -> Option<bool>
-        ensures { result ≡ recall self.now label (with_label label (shown a.now)) }
+        ensures { result ≡ recall self.now label (with_label label (shown_by a.now)) }
     {
         match self.given.get(label) {
             Some(given) => first_fitting(given.answers.as_slice(), a, label),
@@ -62,7 +62,7 @@ impl Answers {
     /// shown.
     pub fn refuses(&self, a: &Assignment, label: Label) -> bool
         ensures { result ≡ true
-            → recall self.now label (with_label label (shown a.now)) ≡ Some false }
+            → recall self.now label (with_label label (shown_by a.now)) ≡ Some false }
     {
         match self.recalled(a, label) {
             Some(holds) => !holds,
@@ -85,7 +85,7 @@ impl Answers {
 
     /// The labels whose answers hang on whether this one is shown.
     pub fn watchers(&self, alloc: Global, label: Label) -> Result<Labels, Memory>
-        ensures { IfOk result (λ ls. (j : ℕ) → shown ls j ≡ watches self.now label j) }
+        ensures { IfOk result (λ ls. (j : ℕ) → shown_by ls j ≡ watches self.now label j) }
     {
         match self.watchers.get(&label) {
             Some(watchers) => watchers.copy(alloc),
@@ -96,7 +96,7 @@ impl Answers {
     /// Adds the labels that the answers of this one hang on.
     pub fn add_named(&self, label: Label, labels: &mut Labels) -> Result<(), Memory>
         ensures { OnOk result ((k : ℕ)
-            → shown labels.new k ≡ (shown labels.old k || hangs self.now label k)) }
+            → shown_by labels.new k ≡ (shown_by labels.old k || hangs self.now label k)) }
     {
         match self.given.get(label) {
             Some(given) => add_answers(given.answers.as_slice(), labels),
@@ -114,8 +114,9 @@ impl Answers {
         viewer: &Option<Id>,
         labels: &mut Labels,
     ) -> Result<(), Memory>
-        requires named { (k : ℕ) → shown touch.now.labels k ≡ true → shown labels.old k ≡ true }
-        ensures { OnOk result ((k : ℕ) → shown labels.new k ≡ (shown labels.old k
+        requires named { (k : ℕ) → shown_by touch.now.labels k ≡ true → shown_by labels.old k
+            ≡ true }
+        ensures { OnOk result ((k : ℕ) → shown_by labels.new k ≡ (shown_by labels.old k
             || (touches touch.now viewer.now k && is_asked self.now k))) }
     {
         let mut touched = Vec::from_slice(alloc, labels.as_slice())?;
@@ -159,7 +160,7 @@ impl Answers {
 
 // The first answer whose signs are those of the assignment, once the label is shown.
 fn first_fitting(answers: &[Known], a: &Assignment, label: Label) -> Option<bool>
-    ensures { result ≡ first_fitting answers.now (with_label label (shown a.now)) }
+    ensures { result ≡ first_fitting answers.now (with_label label (shown_by a.now)) }
 {
     'answers: for known in answers {
         if fits(known.when.pairs(), a, label) {
@@ -170,20 +171,20 @@ fn first_fitting(answers: &[Known], a: &Assignment, label: Label) -> Option<bool
 }
 
 fn fits(pairs: &[(Label, bool)], a: &Assignment, label: Label) -> bool
-    ensures { result ≡ holds (with_label label (shown a.now)) pairs.now }
+    ensures { result ≡ holds (with_label label (shown_by a.now)) pairs.now }
 {
     pairs.iter().all(|pair| pair.1 == shows(a, label, pair.0))
 }
 
 fn shows(a: &Assignment, added: Label, label: Label) -> bool
-    ensures { result ≡ with_label added (shown a.now) label }
+    ensures { result ≡ with_label added (shown_by a.now) label }
 {
     added == label || a.shows(label)
 }
 
 fn add_answers(answers: &[Known], labels: &mut Labels) -> Result<(), Memory>
     ensures { OnOk result ((k : ℕ)
-        → shown labels.new k ≡ (shown labels.old k || names_label answers.now k)) }
+        → shown_by labels.new k ≡ (shown_by labels.old k || names_label answers.now k)) }
 {
     'answers: for known in answers {
         add_pairs(known.when.pairs(), labels)?;
@@ -193,7 +194,7 @@ fn add_answers(answers: &[Known], labels: &mut Labels) -> Result<(), Memory>
 
 fn add_pairs(pairs: &[(Label, bool)], labels: &mut Labels) -> Result<(), Memory>
     ensures { OnOk result ((k : ℕ)
-        → shown labels.new k ≡ (shown labels.old k || names pairs.now k)) }
+        → shown_by labels.new k ≡ (shown_by labels.old k || names pairs.now k)) }
 {
     'pairs: for pair in pairs {
         labels.add(pair.0)?;
@@ -234,7 +235,7 @@ fn watch(
 /// The guard that holds where the labels are shown and hidden as under the assignment.
 pub fn signs(alloc: Global, labels: &[Label], a: &Assignment) -> Result<Guard, Memory>
     requires { IsAscending labels.now }
-    ensures { IfOk result (λ g. g ≡ signed (shown a.now) labels.now) }
+    ensures { IfOk result (λ g. g ≡ signed_labels (shown_by a.now) labels.now) }
 {
     let pairs = signed_pairs(alloc, labels, a)?;
     Ok(Guard::from_pairs(pairs))
@@ -245,7 +246,7 @@ fn signed_pairs(
     labels: &[Label],
     a: &Assignment,
 ) -> Result<Vec<(Label, bool)>, Memory>
-    ensures { IfOk result (λ v. v.items ≡ signed (shown a.now) labels.now) }
+    ensures { IfOk result (λ v. v.items ≡ signed_labels (shown_by a.now) labels.now) }
 {
     let mut pairs = Vec::new(alloc);
     'labels: for label in labels {

@@ -4,7 +4,7 @@ ghost use Rattle.std.specs.BTreeMap.{get};
 ghost use Rattle.std.specs.List.{list_any};
 ghost use Rattle.std.specs.Option.{option_copied};
 ghost use Rattle.std.specs.Ordering.{nat_cmp};
-ghost use Rattle.jac_world.specs.World.{shown, names};
+ghost use Rattle.jac_world.specs.World.{shown_by, names};
 ghost use Rattle.jac_recall.specs.declared.touch.TouchedGroup.{TouchedGroup as Group};
 ghost use Rattle.jac_recall.specs.Recalled.{given_of, hangs_in, or_known, recall_in};
 ghost use Rattle.jac_recall.specs.Touched.{is_for, is_in_group};
@@ -74,7 +74,7 @@ impl ByGroup {
         viewer: &Option<Id>,
         labels: &mut Vec<Label>,
     ) -> Result<(), Memory>
-        ensures { OnOk result ((k : ℕ) → shown labels.new.items k ≡ (shown labels.old.items k
+        ensures { OnOk result ((k : ℕ) → shown_by labels.new.items k ≡ (shown_by labels.old.items k
             || (list_any (λ (g : Group). is_in_group g k && is_for g.viewer viewer.now) groups.now
             && is_some (given_of self.now k)))) }
     {
@@ -90,7 +90,7 @@ impl ByGroup {
         viewer: &Option<Id>,
         labels: &mut Vec<Label>,
     ) -> Result<(), Memory>
-        ensures { OnOk result ((k : ℕ) → shown labels.new.items k ≡ (shown labels.old.items k
+        ensures { OnOk result ((k : ℕ) → shown_by labels.new.items k ≡ (shown_by labels.old.items k
             || ((is_in_group group.now k && is_for group.now.viewer viewer.now)
             && is_some (given_of self.now k)))) }
     {
@@ -101,7 +101,7 @@ impl ByGroup {
     }
 
     fn add_group(&self, group: &TouchedGroup, labels: &mut Vec<Label>) -> Result<(), Memory>
-        ensures { OnOk result ((k : ℕ) → shown labels.new.items k ≡ (shown labels.old.items k
+        ensures { OnOk result ((k : ℕ) → shown_by labels.new.items k ≡ (shown_by labels.old.items k
             || (is_in_group group.now k && is_some (given_of self.now k)))) }
     {
         match self.groups.get(&number_of(group.model, group.group)) {
@@ -166,7 +166,7 @@ fn add_asked(
     group: &TouchedGroup,
     labels: &mut Vec<Label>,
 ) -> Result<(), Memory>
-    ensures { OnOk result ((k : ℕ) → shown labels.new.items k ≡ (shown labels.old.items k
+    ensures { OnOk result ((k : ℕ) → shown_by labels.new.items k ≡ (shown_by labels.old.items k
         || (is_in_group group.now k && is_some (get nat_cmp given.now k)))) }
 {
     'asked: for label in given.keys() {
@@ -177,7 +177,7 @@ fn add_asked(
 
 // A label that stands with those of a group is of that group; it is tested here, and no invariant.
 fn add_if_in(group: &TouchedGroup, label: Label, labels: &mut Vec<Label>) -> Result<(), Memory>
-    ensures { OnOk result ((k : ℕ) → shown labels.new.items k ≡ (shown labels.old.items k
+    ensures { OnOk result ((k : ℕ) → shown_by labels.new.items k ≡ (shown_by labels.old.items k
         || (label == k && is_in_group group.now k))) }
 {
     if is_in_group(group, label) {

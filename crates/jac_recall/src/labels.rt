@@ -1,5 +1,5 @@
 ghost use Rattle.std.specs.Prelude.{◌≡◌, ◌==◌, ◌||◌, [], ℕ, length, IfOk, OnOk};
-ghost use Rattle.jac_world.specs.World.{shown, IsAscending};
+ghost use Rattle.jac_world.specs.World.{shown_by, IsAscending};
 
 use crate::memory::from_world;
 use jac_value::Memory;
@@ -35,7 +35,7 @@ impl Labels {
 
     /// The labels by rising number.
     pub fn rising(labels: Vec<Label>) -> Labels
-        ensures same { (k : ℕ) → shown result k ≡ shown labels.items k }
+        ensures same { (k : ℕ) → shown_by result k ≡ shown_by labels.items k }
         ensures ascending { IsAscending result }
     {
         let labels = sorted(labels);
@@ -51,7 +51,7 @@ impl Labels {
 
     /// Whether the label is one of these.
     pub fn has(&self, label: Label) -> bool
-        ensures { result ≡ shown self.now label }
+        ensures { result ≡ shown_by self.now label }
     {
         is_among(self.labels.as_slice(), label)
     }
@@ -64,7 +64,8 @@ impl Labels {
 
     /// The same labels and this one.
     pub fn add(&mut self, label: Label) -> Result<(), Memory>
-        ensures { OnOk result ((k : ℕ) → shown self.new k ≡ (label == k || shown self.old k)) }
+        ensures { OnOk result ((k : ℕ) → shown_by self.new k ≡ (label == k
+            || shown_by self.old k)) }
     {
         from_world(add_among(&mut self.labels, label))
     }
@@ -79,7 +80,7 @@ impl Labels {
 
 fn sorted(labels: Vec<Label>) -> Vec<Label>
     ensures ascending { IsAscending result.items }
-    ensures same { (k : ℕ) → shown result.items k ≡ shown labels.items k }
+    ensures same { (k : ℕ) → shown_by result.items k ≡ shown_by labels.items k }
 {
     let mut labels = labels;
     labels.sort_unstable();

@@ -1,6 +1,6 @@
 //! Labels with all that they are linked to by what was answered.
 ghost use Rattle.std.specs.Prelude.{◌≡◌, ◌==◌, ◌||◌, ℕ, true, IfOk, OnOk};
-ghost use Rattle.jac_world.specs.World.{shown};
+ghost use Rattle.jac_world.specs.World.{shown_by};
 ghost use Rattle.jac_recall.specs.Linked.{AreLinkedIf, IsDoneBefore};
 ghost use Rattle.jac_recall.specs.Recalled.{hangs, watches};
 
@@ -41,8 +41,8 @@ fn add_near(
     left: &mut Vec<Label>,
 ) -> Result<(), Memory>
     ensures near { OnOk result ((k : ℕ) → (watches answers.now label k || hangs answers.now label k)
-        ≡ true → shown all.new k ≡ true) }
-    ensures kept { OnOk result ((k : ℕ) → shown all.old k ≡ true → shown all.new k ≡ true) }
+        ≡ true → shown_by all.new k ≡ true) }
+    ensures kept { OnOk result ((k : ℕ) → shown_by all.old k ≡ true → shown_by all.new k ≡ true) }
     ensures before { OnOk result (IsDoneBefore all.old left.old.items all.new left.new.items) }
 {
     let mut near = answers.watchers(alloc, label)?;
@@ -54,7 +54,7 @@ fn add_near(
 // at.
 fn add_new(labels: &[Label], all: &mut Labels, left: &mut Vec<Label>) -> Result<(), Memory>
     ensures all { OnOk result ((k : ℕ)
-        → shown all.new k ≡ (shown all.old k || shown labels.now k)) }
+        → shown_by all.new k ≡ (shown_by all.old k || shown_by labels.now k)) }
     ensures before { OnOk result (IsDoneBefore all.old left.old.items all.new left.new.items) }
 {
     'labels: for label in labels {
@@ -64,7 +64,7 @@ fn add_new(labels: &[Label], all: &mut Labels, left: &mut Vec<Label>) -> Result<
 }
 
 fn add_one(label: Label, all: &mut Labels, left: &mut Vec<Label>) -> Result<(), Memory>
-    ensures all { OnOk result ((k : ℕ) → shown all.new k ≡ (shown all.old k || label == k)) }
+    ensures all { OnOk result ((k : ℕ) → shown_by all.new k ≡ (shown_by all.old k || label == k)) }
     ensures before { OnOk result (IsDoneBefore all.old left.old.items all.new left.new.items) }
 {
     if all.has(label) {

@@ -1,6 +1,6 @@
 //! What was settled for somebody.
 ghost use Rattle.std.specs.Prelude.{◌≡◌, ◌||◌, ◌&&◌, ◌==◌, ℕ, Bool, None, if◌then◌else◌, IfOk, OnOk};
-ghost use Rattle.jac_world.specs.World.{shown};
+ghost use Rattle.jac_world.specs.World.{shown_by};
 ghost use Rattle.jac_recall.specs.Recalled.{hangs, is_asked, recall, watches};
 ghost use Rattle.jac_recall.specs.Touched.{touches};
 ghost use Rattle.jac_recall.specs.Seats.{IsEmptySeat, Unsettles, is_marked};
@@ -56,7 +56,7 @@ fn touched_of(
     viewer: &Option<Id>,
     touch: &Touch,
 ) -> Result<Labels, Memory>
-    ensures { IfOk result (λ ls. (k : ℕ) → shown ls k ≡ (shown touch.now.labels k
+    ensures { IfOk result (λ ls. (k : ℕ) → shown_by ls k ≡ (shown_by touch.now.labels k
         || (touches touch.now viewer.now k && is_asked answers.now k))) }
 {
     let mut touched = touch.labels.copy(alloc)?;
@@ -69,7 +69,7 @@ fn touched_of(
 // Each of the labels is due, and what its answers hang on.
 fn mark_all(answers: &Answers, labels: &[Label], due: &mut Labels) -> Result<(), Memory>
     ensures { OnOk result ((k : ℕ)
-        → shown due.new k ≡ (shown due.old k || is_marked answers.now labels.now k)) }
+        → shown_by due.new k ≡ (shown_by due.old k || is_marked answers.now labels.now k)) }
 {
     'labels: for label in labels {
         mark(answers, *label, due)?;
@@ -79,7 +79,7 @@ fn mark_all(answers: &Answers, labels: &[Label], due: &mut Labels) -> Result<(),
 
 fn mark(answers: &Answers, label: Label, due: &mut Labels) -> Result<(), Memory>
     ensures { OnOk result ((k : ℕ)
-        → shown due.new k ≡ (shown due.old k || (label == k || hangs answers.now label k))) }
+        → shown_by due.new k ≡ (shown_by due.old k || (label == k || hangs answers.now label k))) }
 {
     due.add(label)?;
     answers.add_named(label, due)
@@ -87,7 +87,8 @@ fn mark(answers: &Answers, label: Label, due: &mut Labels) -> Result<(), Memory>
 
 fn forget_all(answers: &mut Answers, labels: &[Label])
     ensures recalls { (k : ℕ) (w : ℕ → Bool)
-        → recall answers.new k w ≡ (if shown labels.now k then None else recall answers.old k w) }
+        → recall answers.new k w ≡ (if shown_by labels.now k then None
+        else recall answers.old k w) }
     ensures watches { (k j : ℕ) → watches answers.new k j ≡ watches answers.old k j }
 {
     'labels: for label in labels {

@@ -1,7 +1,7 @@
 -- How a reply is spelled, and its line in the audit.
 use Rattle.std.specs.Prelude.{ℕ, if◌then◌else◌, Option, Some, None, List, [], ◌∷◌, ◌++◌, codes, decimal}
 use Rattle.std.specs.Str.{bytes_eq}
-use Rattle.jac_value.specs.Quoted.{quoted}
+use Rattle.jac_value.specs.Quoted.{quoted_bytes}
 use Rattle.jac_replies.specs.declared.reply.Spelling.{Spelling}
 use Rattle.jac_replies.specs.declared.reply.Spelling.TheVariants as spellings
 
@@ -16,17 +16,17 @@ location_text (Some location) = location
 -- `reply STATUS "LOCATION" "BODY"`, the reply to a request of this method
 abbrev pub reply_text : List ℕ → ℕ → Option (List ℕ) → List ℕ → List ℕ
 reply_text method status location body =
-    codes "reply " ++ decimal status ++ codes " " ++ quoted (location_text location)
-    ++ codes " " ++ quoted (printed_body method body) ++ 10 ∷ []
+    codes "reply " ++ decimal status ++ codes " " ++ quoted_bytes (location_text location)
+    ++ codes " " ++ quoted_bytes (printed_body method body) ++ 10 ∷ []
 
 -- `sent N "BYTES"`, the reply on the connection of this number
 abbrev pub sent_text : ℕ → List ℕ → List ℕ
-sent_text c bytes = codes "sent " ++ decimal c ++ codes " " ++ quoted bytes ++ 10 ∷ []
+sent_text c bytes = codes "sent " ++ decimal c ++ codes " " ++ quoted_bytes bytes ++ 10 ∷ []
 
 -- bytes on a connection, as the line of a text or as they are
-abbrev pub spelled : Spelling → ℕ → List ℕ → List ℕ
-spelled spellings.Quoted c bytes = sent_text c bytes
-spelled spellings.Raw c bytes = bytes
+abbrev pub spelled_bytes : Spelling → ℕ → List ℕ → List ℕ
+spelled_bytes spellings.Quoted c bytes = sent_text c bytes
+spelled_bytes spellings.Raw c bytes = bytes
 
 abbrev pub closed_text : ℕ → List ℕ
 closed_text c = codes "closed " ++ decimal c ++ 10 ∷ []

@@ -2,8 +2,8 @@ ghost use Rattle.std.specs.Prelude.{◌≡◌, ◌++◌, ◌∷◌, [], true, fa
 ghost use Rattle.std.specs.Str.{bytes_eq};
 ghost use Rattle.std.specs.String.{string_bytes};
 ghost use Rattle.jac_http.specs.Replies.{phrase_of, reply_bytes};
-ghost use Rattle.jac_value.specs.Quoted.{quoted};
-ghost use Rattle.jac_replies.specs.Spelled.{reply_text, sent_text, spelled, audit_rest, consulted_text, location_text, printed_body, viewer_text, labels_text, more_labels, shown_text};
+ghost use Rattle.jac_value.specs.Quoted.{quoted_bytes};
+ghost use Rattle.jac_replies.specs.Spelled.{reply_text, sent_text, spelled_bytes, audit_rest, consulted_text, location_text, printed_body, viewer_text, labels_text, more_labels, shown_text};
 
 use crate::answer::Answer;
 use jac_http::write_reply;
@@ -75,7 +75,8 @@ pub fn sent_reply(
     close: bool,
 ) -> Result<Bytes, Memory>
     requires { IsSome (phrase_of answer.now.status) }
-    ensures { IfOk result (λ reply. reply ≡ spelled spelling conn (reply_bytes answer.now.status
+    ensures { IfOk result (λ reply. reply ≡ spelled_bytes spelling conn
+        (reply_bytes answer.now.status
         answer.now.location answer.now.allow answer.now.body (is_some answer.now.shown) head
         close)) }
 {
@@ -100,7 +101,8 @@ pub fn refusal_reply(
     status: u16,
 ) -> Result<Bytes, Memory>
     requires { IsSome (phrase_of status) }
-    ensures { IfOk result (λ reply. reply ≡ spelled spelling conn (reply_bytes status None None []
+    ensures { IfOk result (λ reply. reply ≡ spelled_bytes spelling conn
+        (reply_bytes status None None []
         false false true)) }
 {
     let empty = Bytes::empty(alloc);
@@ -109,7 +111,7 @@ pub fn refusal_reply(
 }
 
 fn spell(alloc: Global, spelling: Spelling, conn: u32, bytes: Bytes) -> Result<Bytes, Memory>
-    ensures { IfOk result (λ reply. reply ≡ spelled spelling conn bytes) }
+    ensures { IfOk result (λ reply. reply ≡ spelled_bytes spelling conn bytes) }
 {
     match spelling {
         Spelling::Quoted => {

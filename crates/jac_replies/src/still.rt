@@ -1,6 +1,6 @@
 //! What is put where a request wasn't answered. It takes no memory.
 ghost use Rattle.std.specs.Prelude.{◌≡◌, ◌++◌, ◌∷◌, [], true, false, ℕ, Option, None, List, codes, decimal};
-ghost use Rattle.jac_value.specs.Quoted.{quoted};
+ghost use Rattle.jac_value.specs.Quoted.{quoted_bytes};
 ghost use Rattle.jac_http.specs.Replies.{reply_bytes, status_of_fixed};
 ghost use Rattle.jac_replies.specs.Refused.{refusal};
 ghost use Rattle.jac_replies.specs.Failed.{status_of_stop};
@@ -37,7 +37,8 @@ pub fn failed_reply(stop: Stop, method: &[u8]) -> &'static [u8]
 
 /// What follows the number of a connection in the line of such a reply.
 pub fn still_text(status: Fixed, head: bool) -> &'static [u8]
-    ensures { result.now ≡ codes " " ++ quoted (reply_bytes (status_of_fixed status) None None []
+    ensures { result.now ≡ codes " " ++ quoted_bytes (reply_bytes
+        (status_of_fixed status) None None []
         false head true) ++ 10 ∷ [] }
 {
     match (status, head) {

@@ -4,7 +4,7 @@ use Rattle.jac_lang.specs.Syntax.{Application}
 use Rattle.jac_rows.specs.declared.row.Row.{Row}
 use Rattle.jac_rows.specs.declared.state.State.{State}
 use Rattle.jac_plain.specs.Policies.{IsLiveLabel, ShowsForbidden, IsSettled}
-use Rattle.jac_resolve.specs.Rounds.{worlds_of}
+use Rattle.jac_plain.specs.Shown.{worlds_of}
 
 module _ (app : Application) (s : State) (number : ℕ) (viewer : Option ℕ) where
   pub live_alike : (k : ℕ) → IsLiveLabel app (worlds_of s) k → IsLiveLabel app (worlds_of (record s { number = number })) k

@@ -3,7 +3,7 @@ use Rattle.std.proofs.Common.{◌≡◌, ◌==◌, ◌&&◌, ◌||◌, ◌⊎◌
 use Rattle.std.specs.List.{list_all}
 use Rattle.std.specs.Option.{is_some}
 use Rattle.std.proofs.lemmas.Bool.Decides.{Decides-eqb}
-use Rattle.jac_world.specs.World.{shown}
+use Rattle.jac_world.specs.World.{shown_by}
 use Rattle.jac_lang.specs.Syntax.{Application}
 use Rattle.jac_plain.specs.Policies.{with_label, IsLiveLabel}
 use Rattle.jac_plain.specs.Requests.{Worlds}
@@ -20,83 +20,83 @@ use Rattle.jac_resolve.proofs.Seating.{never, one_of, other_answer, recalled_is,
 use Rattle.jac_resolve.proofs.Underway.{either}
 
 -- what holds of no label of one list holds of none that are among them
-apart_from : (xs ys : List ℕ) → ((k : ℕ) → shown xs k ≡ true → shown ys k ≡ true) → (k : ℕ) → shown ys k ≡ false → shown xs k ≡ false
-apart_from xs ys among k apart = one_of (shown xs k) (shown xs k ≡ false) (λ s. never (shown ys k) (shown xs k ≡ false) (among k s) apart) (λ e. e)
+apart_from : (xs ys : List ℕ) → ((k : ℕ) → shown_by xs k ≡ true → shown_by ys k ≡ true) → (k : ℕ) → shown_by ys k ≡ false → shown_by xs k ≡ false
+apart_from xs ys among k apart = one_of (shown_by xs k) (shown_by xs k ≡ false) (λ s. never (shown_by ys k) (shown_by xs k ≡ false) (among k s) apart) (λ e. e)
 
 module _ (app : Application) (worlds : Worlds) (viewer : Option ℕ) (labels due near rest : List ℕ) (answers : Answers) (right : AreRight app worlds viewer answers) (watched : AreWatched answers)
-    (kept : AreSettledBut app worlds answers labels due) (linked : AreLinked answers due near) (cut : (k : ℕ) → shown rest k ≡ (not (shown near k) && shown labels k)) where
-  not_due : (k : ℕ) → shown near k ≡ false → shown due k ≡ false
+    (kept : AreSettledBut app worlds answers labels due) (linked : AreLinked answers due near) (cut : (k : ℕ) → shown_by rest k ≡ (not (shown_by near k) && shown_by labels k)) where
+  not_due : (k : ℕ) → shown_by near k ≡ false → shown_by due k ≡ false
   not_due k apart = apart_from due near linked.among k apart
 
   -- apart from what is near the same are shown
-  same : (k : ℕ) → shown near k ≡ false → shown rest k ≡ shown labels k
-  same k apart = cut k ∙ ap (λ b. not b && shown labels k) apart
+  same : (k : ℕ) → shown_by near k ≡ false → shown_by rest k ≡ shown_by labels k
+  same k apart = cut k ∙ ap (λ b. not b && shown_by labels k) apart
 
-  was_shown : (k : ℕ) → shown rest k ≡ true → (shown near k ≡ false) × (shown labels k ≡ true)
-  was_shown k s = by_near (shown near k) refl (sym (cut k) ∙ s)
+  was_shown : (k : ℕ) → shown_by rest k ≡ true → (shown_by near k ≡ false) × (shown_by labels k ≡ true)
+  was_shown k s = by_near (shown_by near k) refl (sym (cut k) ∙ s)
     where
-      by_near : (b : Bool) → shown near k ≡ b → (not b && shown labels k) ≡ true → (shown near k ≡ false) × (shown labels k ≡ true)
+      by_near : (b : Bool) → shown_by near k ≡ b → (not b && shown_by labels k) ≡ true → (shown_by near k ≡ false) × (shown_by labels k ≡ true)
       by_near true e h = absurd cc
       by_near false e h = (e, h)
 
   -- what is remembered of a label that isn't near hangs on none that is
-  recalled_apart : (j : ℕ) → shown near j ≡ false → (v w : ℕ → Bool) → ((i : ℕ) → shown near i ≡ false → v i ≡ w i) → recall answers j v ≡ recall answers j w
+  recalled_apart : (j : ℕ) → shown_by near j ≡ false → (v w : ℕ → Bool) → ((i : ℕ) → shown_by near i ≡ false → v i ≡ w i) → recall answers j v ≡ recall answers j w
   recalled_apart j apart v w alike =
       watched.each j v w
-      (λ i watching. alike i (one_of (shown near i) (shown near i ≡ false) (λ n. never (shown near j) (shown near i ≡ false) (linked.linked.watchers i j n watching) apart) (λ e. e)))
+      (λ i watching. alike i (one_of (shown_by near i) (shown_by near i ≡ false) (λ n. never (shown_by near j) (shown_by near i ≡ false) (linked.linked.watchers i j n watching) apart) (λ e. e)))
 
-  stays_if : (k : ℕ) → shown near k ≡ false → (recall answers k (shown labels) ≡ Some true) ⊎ ((shown due k ≡ true) × ((w : ℕ → Bool) → recall answers k w ≡ None)) → recall answers k (shown labels) ≡ Some true
+  stays_if : (k : ℕ) → shown_by near k ≡ false → (recall answers k (shown_by labels) ≡ Some true) ⊎ ((shown_by due k ≡ true) × ((w : ℕ → Bool) → recall answers k w ≡ None)) → recall answers k (shown_by labels) ≡ Some true
   stays_if k apart (inl e) = e
-  stays_if k apart (inr p) = never (shown due k) (recall answers k (shown labels) ≡ Some true) p.0 (not_due k apart)
+  stays_if k apart (inr p) = never (shown_by due k) (recall answers k (shown_by labels) ≡ Some true) p.0 (not_due k apart)
 
-  stays_apart : (k : ℕ) → shown rest k ≡ true → recall answers k (shown rest) ≡ Some true
+  stays_apart : (k : ℕ) → shown_by rest k ≡ true → recall answers k (shown_by rest) ≡ Some true
   stays_apart k s =
       let was = was_shown k s in
-      recalled_apart k was.0 (shown rest) (shown labels) same ∙ stays_if k was.0 (kept.stays k was.1)
+      recalled_apart k was.0 (shown_by rest) (shown_by labels) same ∙ stays_if k was.0 (kept.stays k was.1)
 
   -- without what is near it stands as between two tries
   pub underway_apart : IsUnderway app worlds viewer rest answers
   underway_apart = record {
     right = right;
-    allowed = λ k s. sym (right.each k (shown rest) true (stays_apart k s));
+    allowed = λ k s. sym (right.each k (shown_by rest) true (stays_apart k s));
     watched = watched;
     fitted = record { each = λ k s. ap is_some (stays_apart k s) };
   }
 
-  stays_or : (j : ℕ) → (recall answers j (shown labels) ≡ Some true) ⊎ ((shown due j ≡ true) × ((w : ℕ → Bool) → recall answers j w ≡ None)) →
-      (recall answers j (shown labels) ≡ Some true) ⊎ (recall answers j (shown labels) ≡ None)
+  stays_or : (j : ℕ) → (recall answers j (shown_by labels) ≡ Some true) ⊎ ((shown_by due j ≡ true) × ((w : ℕ → Bool) → recall answers j w ≡ None)) →
+      (recall answers j (shown_by labels) ≡ Some true) ⊎ (recall answers j (shown_by labels) ≡ None)
   stays_or j (inl e) = inl e
-  stays_or j (inr p) = inr (p.1 (shown labels))
+  stays_or j (inr p) = inr (p.1 (shown_by labels))
 
   -- what refuses a label that isn't near isn't near either
-  refuses_apart : (k j : ℕ) → shown near k ≡ false → with_label k (shown labels) j ≡ true → recall answers j (with_label k (shown labels)) ≡ Some false → shown near j ≡ false
-  refuses_apart k j apart s is = one_of (shown near j) (shown near j ≡ false) (λ n. near_if n (k == j) refl s) (λ e. e)
+  refuses_apart : (k j : ℕ) → shown_by near k ≡ false → with_label k (shown_by labels) j ≡ true → recall answers j (with_label k (shown_by labels)) ≡ Some false → shown_by near j ≡ false
+  refuses_apart k j apart s is = one_of (shown_by near j) (shown_by near j ≡ false) (λ n. near_if n (k == j) refl s) (λ e. e)
     where
-      near_if : shown near j ≡ true → (b : Bool) → (k == j) ≡ b → (b || shown labels j) ≡ true → shown near j ≡ false
-      near_if n true e h = ap (shown near) (sym ((Decides-eqb k j).0 e)) ∙ apart
+      near_if : shown_by near j ≡ true → (b : Bool) → (k == j) ≡ b → (b || shown_by labels j) ≡ true → shown_by near j ≡ false
+      near_if n true e h = ap (shown_by near) (sym ((Decides-eqb k j).0 e)) ∙ apart
       near_if n false e h =
-          one_of (hangs answers j k) (shown near j ≡ false) (λ hung. never (shown near k) (shown near j ≡ false) (linked.linked.hanging j k n hung) apart)
-          (λ free. other_answer (recall answers j (shown labels)) (shown near j ≡ false) (sym (unhung answers j k free (shown labels)) ∙ is) (stays_or j (kept.stays j h)))
+          one_of (hangs answers j k) (shown_by near j ≡ false) (λ hung. never (shown_by near k) (shown_by near j ≡ false) (linked.linked.hanging j k n hung) apart)
+          (λ free. other_answer (recall answers j (shown_by labels)) (shown_by near j ≡ false) (sym (unhung answers j k free (shown_by labels)) ∙ is) (stays_or j (kept.stays j h)))
 
   module _ (now tried : List ℕ) (known : Answers) (live : AreLiveOf app worlds near tried) (within : Within tried rest now) (retains : Retains rest now answers known) where
     -- apart from what is near the same are shown behind the tries
-    pub same_apart : (k : ℕ) → shown near k ≡ false → shown now k ≡ shown labels k
-    same_apart k apart = bool_eq (shown now k) (shown rest k) (λ s. was_if (within k s)) (retains.shows k) ∙ same k apart
+    pub same_apart : (k : ℕ) → shown_by near k ≡ false → shown_by now k ≡ shown_by labels k
+    same_apart k apart = bool_eq (shown_by now k) (shown_by rest k) (λ s. was_if (within k s)) (retains.shows k) ∙ same k apart
       where
-        was_if : (shown rest k || shown tried k) ≡ true → shown rest k ≡ true
-        was_if h = either (shown rest k) (shown tried k) (shown rest k ≡ true) h (λ s. s) (λ t. never (shown near k) (shown rest k ≡ true) (live.within k t) apart)
+        was_if : (shown_by rest k || shown_by tried k) ≡ true → shown_by rest k ≡ true
+        was_if h = either (shown_by rest k) (shown_by tried k) (shown_by rest k ≡ true) h (λ s. s) (λ t. never (shown_by near k) (shown_by rest k ≡ true) (live.within k t) apart)
 
-    live_now : (k : ℕ) → shown now k ≡ true → IsLiveLabel app worlds k
+    live_now : (k : ℕ) → shown_by now k ≡ true → IsLiveLabel app worlds k
     live_now k s =
-        either (shown rest k) (shown tried k) (IsLiveLabel app worlds k) (within k s)
+        either (shown_by rest k) (shown_by tried k) (IsLiveLabel app worlds k) (within k s)
         (λ r. (let was = was_shown k r in kept.live k was.1 (not_due k was.0)))
         (λ t. live.only k t)
 
-    refused_now : AreRight app worlds viewer known → (k : ℕ) → shown near k ≡ false → StandsRefused answers k (shown labels) → StandsRefused known k (shown now)
+    refused_now : AreRight app worlds viewer known → (k : ℕ) → shown_by near k ≡ false → StandsRefused answers k (shown_by labels) → StandsRefused known k (shown_by now)
     refused_now right_now k apart one =
         let away = refuses_apart k one.label apart one.is_shown one.refused in
-        let w = with_label k (shown now) in
-        let still : recall answers one.label w ≡ Some false = recalled_apart one.label away w (with_label k (shown labels)) (λ i off. ap (λ b. (k == i) || b) (same_apart i off)) ∙ one.refused in
+        let w = with_label k (shown_by now) in
+        let still : recall answers one.label w ≡ Some false = recalled_apart one.label away w (with_label k (shown_by labels)) (λ i off. ap (λ b. (k == i) || b) (same_apart i off)) ∙ one.refused in
         record {
           label = one.label;
           is_shown = ap (λ b. (k == one.label) || b) (same_apart one.label away) ∙ one.is_shown;
@@ -107,8 +107,8 @@ module _ (app : Application) (worlds : Worlds) (viewer : Option ℕ) (labels due
     pub seated_apart : (again : List ℕ) → IsUnderway app worlds viewer now known → AreRefused app worlds viewer known tried now → IsSeated app worlds viewer (record { labels = Some now; answers = known; due = again })
     seated_apart again underway refused =
         seated_passed app worlds viewer now again known underway live_now
-        (λ k lives hidden. one_of (shown near k) (StandsRefused known k (shown now))
-        (λ n. refused_is app worlds viewer known k (shown now) underway.right (refused.each k (live.every k lives n) hidden))
+        (λ k lives hidden. one_of (shown_by near k) (StandsRefused known k (shown_by now))
+        (λ n. refused_is app worlds viewer known k (shown_by now) underway.right (refused.each k (live.every k lives n) hidden))
         (λ apart. refused_now underway.right k apart (kept.full k lives (sym (same_apart k apart) ∙ hidden) (not_due k apart))))
 
 -- the labels that a seat has
@@ -116,10 +116,10 @@ pub kept_some : (app : Application) (worlds : Worlds) (viewer : Option ℕ) (sea
 kept_some app worlds viewer seat labels are seated = subst (λ (o : Option (List ℕ)). AreSettledButIf app worlds seat.answers o seat.due) are seated.kept
 
 -- the same are shown in two seats
-shows_alike : (old new : Option (List ℕ)) (labels now : List ℕ) (k : ℕ) → old ≡ Some labels → new ≡ Some now → shown now k ≡ shown labels k → shown (seat_labels new) k ≡ shown (seat_labels old) k
-shows_alike old new labels now k is is_now same = ap (λ o. shown (seat_labels o) k) is_now ∙ same ∙ sym (ap (λ o. shown (seat_labels o) k) is)
+shows_alike : (old new : Option (List ℕ)) (labels now : List ℕ) (k : ℕ) → old ≡ Some labels → new ≡ Some now → shown_by now k ≡ shown_by labels k → shown_by (seat_labels new) k ≡ shown_by (seat_labels old) k
+shows_alike old new labels now k is is_now same = ap (λ o. shown_by (seat_labels o) k) is_now ∙ same ∙ sym (ap (λ o. shown_by (seat_labels o) k) is)
 
-pub settled_apart : (old new : Seat) (near labels now : List ℕ) → AreLinked old.answers old.due near → old.labels ≡ Some labels → new.labels ≡ Some now → ((k : ℕ) → shown near k ≡ false → shown now k ≡ shown labels k) →
+pub settled_apart : (old new : Seat) (near labels now : List ℕ) → AreLinked old.answers old.due near → old.labels ≡ Some labels → new.labels ≡ Some now → ((k : ℕ) → shown_by near k ≡ false → shown_by now k ≡ shown_by labels k) →
     IsLinked new.answers near → IsSettledApart old new
 settled_apart old new near labels now linked is is_now same closed = record {
   near = near;
@@ -128,8 +128,8 @@ settled_apart old new near labels now linked is is_now same closed = record {
   same = λ k apart. shows_alike old.labels new.labels labels now k is is_now (same k apart);
 }
 
-pub widened_apart : (old new : Seat) (near labels now : List ℕ) → AreLinked old.answers old.due near → old.labels ≡ Some labels → new.labels ≡ Some now → ((k : ℕ) → shown near k ≡ false → shown now k ≡ shown labels k) →
-    ((k : ℕ) → shown near k ≡ true → shown new.due k ≡ true) → IsWidened old new
+pub widened_apart : (old new : Seat) (near labels now : List ℕ) → AreLinked old.answers old.due near → old.labels ≡ Some labels → new.labels ≡ Some now → ((k : ℕ) → shown_by near k ≡ false → shown_by now k ≡ shown_by labels k) →
+    ((k : ℕ) → shown_by near k ≡ true → shown_by new.due k ≡ true) → IsWidened old new
 widened_apart old new near labels now linked is is_now same more = record {
   due = λ k s. more k (linked.among k s);
   same = λ k apart. shows_alike old.labels new.labels labels now k is is_now (same k (apart_from near new.due more k apart));
@@ -147,12 +147,12 @@ all_if p x k true true rest later e is all s on = ap p (sym ((Decides-eqb x k).0
 all_if p x k true false rest later e is all s on = on all s
 all_if p x k false same rest later e is all s on = absurd cc
 
-all_true : (p : ℕ → Bool) (xs : List ℕ) (k : ℕ) → list_all p xs ≡ true → shown xs k ≡ true → p k ≡ true
+all_true : (p : ℕ → Bool) (xs : List ℕ) (k : ℕ) → list_all p xs ≡ true → shown_by xs k ≡ true → p k ≡ true
 all_true p [] k all s = absurd cc
-all_true p (x ∷ xs) k all s = all_if p x k (p x) (x == k) (list_all p xs) (shown xs k) refl refl all s (λ a t. all_true p xs k a t)
+all_true p (x ∷ xs) k all s = all_if p x k (p x) (x == k) (list_all p xs) (shown_by xs k) refl refl all s (λ a t. all_true p xs k a t)
 
-pub linked_back : (answers : Answers) (near all : List ℕ) → AreLinked answers near all → list_all (shown near) all ≡ true → IsLinked answers near
+pub linked_back : (answers : Answers) (near all : List ℕ) → AreLinked answers near all → list_all (shown_by near) all ≡ true → IsLinked answers near
 linked_back answers near all linked back = record {
-  watchers = λ k j s w. all_true (shown near) all j back (linked.linked.watchers k j (linked.among k s) w);
-  hanging = λ j k s h. all_true (shown near) all k back (linked.linked.hanging j k (linked.among j s) h);
+  watchers = λ k j s w. all_true (shown_by near) all j back (linked.linked.watchers k j (linked.among k s) w);
+  hanging = λ j k s h. all_true (shown_by near) all k back (linked.linked.hanging j k (linked.among j s) h);
 }

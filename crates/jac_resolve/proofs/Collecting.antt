@@ -2,12 +2,12 @@
 use Rattle.std.proofs.Common.{◌≡◌, ◌<◌, ◌≤◌, ◌+◌, ◌^◌, ◌==◌, ◌&&◌, ◌||◌, ℕ, zero, suc, Bool, true, false, true≢false, if◌then◌else◌, Option, Some, None, List, [], ◌∷◌, ◌++◌, length, get_or, slice_get, refl, ap, sym, subst, ◌∙◌, arith, add-one, All, inl, inr, ◌↔◌, append-nil}
 use Rattle.std.specs.Option.{option_map}
 use Rattle.std.specs.List.{list_any, AllByRecursion}
-use Rattle.std.proofs.lemmas.Bool.{cases_lt}
+use Rattle.std.proofs.lemmas.Bool.{cases_lt, or_left, or_right, and_from}
 use Rattle.std.proofs.lemmas.Bool.Decides.{nat_tests, Decides-eqb}
 use Rattle.std.proofs.lemmas.List.Folds.{list_any-append}
 use Rattle.std.proofs.lemmas.Option.{slice_get-get_or}
-use Rattle.jac_value.specs.Ids.{label_of, record_of_label, group_of_label, model_of_id, is_id_of}
-use Rattle.jac_world.specs.World.{shown, holds, wanted}
+use Rattle.jac_value.specs.Ids.{label_of, record_of_label, group_of_label, model_of_id, is_id_of, labels_below}
+use Rattle.jac_world.specs.World.{shown_by, holds, guard_wants}
 use Rattle.jac_lang.specs.declared.schema.Group.{Group}
 use Rattle.jac_lang.specs.declared.schema.ModelDef.{ModelDef}
 use Rattle.jac_lang.specs.Lookup.{groups_at, groups_in}
@@ -22,12 +22,13 @@ use Rattle.jac_plain.specs.World.{record_with}
 use Rattle.jac_plain.specs.Expressions.{stands}
 use Rattle.jac_plain.specs.Policies.{has_group, has_record, is_some_group, IsLiveLabel}
 use Rattle.jac_plain.specs.Requests.{Worlds}
-use Rattle.jac_resolve.specs.Rounds.{worlds_of, HasSoundTables, AreLive}
-use Rattle.jac_resolve.specs.Collected.{labels_below, labels_of_rows, labels_before, AreSeen, CanBeSeen, CanHold, Collects, has_row, AllCanHold}
+use Rattle.jac_resolve.specs.Rounds.{HasSoundTables, AreLive}
+use Rattle.jac_resolve.specs.Collected.{labels_of_rows, labels_before, AreSeen, CanBeSeen, CanHold, Collects, has_row, AllCanHold}
 use Rattle.jac_lang.proofs.Places.{length-entities}
 use Rattle.jac_pruned.proofs.Rows.{rows_of-project}
 use Rattle.jac_recall.proofs.Rising.{bool_eq}
 use Rattle.jac_resolve.proofs.Standing.{any_stands, model_there}
+use Rattle.jac_plain.specs.Shown.{worlds_of}
 
 -- each element, by recursion and by index
 pub all_at : {X : Type 0} (P : X → Type 0) (xs : List X) → AllByRecursion P xs → All P xs
@@ -72,14 +73,6 @@ either : (a b : Bool) (P : Type 0) → (a || b) ≡ true → (a ≡ true → P) 
 either true b P h p q = p refl
 either false b P h p q = q h
 
-or_left : (a b : Bool) → a ≡ true → (a || b) ≡ true
-or_left true b p = refl
-or_left false b p = absurd cc
-
-or_right : (a b : Bool) → b ≡ true → (a || b) ≡ true
-or_right true b p = refl
-or_right false b p = p
-
 or_none : (a : Bool) → (a || false) ≡ true → a ≡ true
 or_none true h = refl
 or_none false h = h
@@ -87,14 +80,14 @@ or_none false h = h
 itself : (x : ℕ) → (x == x) ≡ true
 itself x = grind (arith, nat_tests)
 
-in_both : (xs ys : List ℕ) (k : ℕ) (P : Type 0) → shown (xs ++ ys) k ≡ true → (shown xs k ≡ true → P) → (shown ys k ≡ true → P) → P
-in_both xs ys k P h p q = either (shown xs k) (shown ys k) P (sym (list_any-append (λ x. x == k) xs ys) ∙ h) p q
+in_both : (xs ys : List ℕ) (k : ℕ) (P : Type 0) → shown_by (xs ++ ys) k ≡ true → (shown_by xs k ≡ true → P) → (shown_by ys k ≡ true → P) → P
+in_both xs ys k P h p q = either (shown_by xs k) (shown_by ys k) P (sym (list_any-append (λ x. x == k) xs ys) ∙ h) p q
 
-first_has : (xs ys : List ℕ) (k : ℕ) → shown xs k ≡ true → shown (xs ++ ys) k ≡ true
-first_has xs ys k h = list_any-append (λ x. x == k) xs ys ∙ or_left (shown xs k) (shown ys k) h
+first_has : (xs ys : List ℕ) (k : ℕ) → shown_by xs k ≡ true → shown_by (xs ++ ys) k ≡ true
+first_has xs ys k h = list_any-append (λ x. x == k) xs ys ∙ or_left (shown_by xs k) (shown_by ys k) h
 
-second_has : (xs ys : List ℕ) (k : ℕ) → shown ys k ≡ true → shown (xs ++ ys) k ≡ true
-second_has xs ys k h = list_any-append (λ x. x == k) xs ys ∙ or_right (shown xs k) (shown ys k) h
+second_has : (xs ys : List ℕ) (k : ℕ) → shown_by ys k ≡ true → shown_by (xs ++ ys) k ≡ true
+second_has xs ys k h = list_any-append (λ x. x == k) xs ys ∙ or_right (shown_by xs k) (shown_by ys k) h
 
 -- the labels of one record
 
@@ -102,13 +95,13 @@ record IsOf (id n k : ℕ) : Type 0 where
   pub of_record : record_of_label k ≡ id
   pub of_group : group_of_label k < n
 
-in_below : (id n k : ℕ) → n ≤ 8 → shown (labels_below id n) k ≡ true → IsOf id n k
+in_below : (id n k : ℕ) → n ≤ 8 → shown_by (labels_below id n) k ≡ true → IsOf id n k
 in_below id zero k few h = absurd cc
 in_below id (suc n) k few h = in_both (labels_below id n) (label_of id n ∷ []) k (IsOf id (suc n) k) h
     (λ a. let is = in_below id n k (omega arith) a in record { of_record = is.of_record; of_group = omega (arith, is.of_group) })
     (λ b. let e : label_of id n ≡ k = (Decides-eqb (label_of id n) k).0 (or_none _ b) in record { of_record = omega (arith, e); of_group = omega (arith, e) })
 
-below_has : (id n k : ℕ) → IsOf id n k → shown (labels_below id n) k ≡ true
+below_has : (id n k : ℕ) → IsOf id n k → shown_by (labels_below id n) k ≡ true
 below_has id zero k is = absurd (omega (arith, is.of_group))
 below_has id (suc n) k is =
     elim (cases_lt (group_of_label k) n) [
@@ -125,15 +118,15 @@ record IsAmong (n : ℕ) (rows : List Row) (k : ℕ) : Type 0 where
   pub row : list_any (λ (r : Row). r.id == record_of_label k) rows ≡ true
   pub of_group : group_of_label k < n
 
-in_rows : (n k : ℕ) (rows : List Row) → n ≤ 8 → shown (labels_of_rows n rows) k ≡ true → IsAmong n rows k
+in_rows : (n k : ℕ) (rows : List Row) → n ≤ 8 → shown_by (labels_of_rows n rows) k ≡ true → IsAmong n rows k
 in_rows n k [] few h = absurd cc
 in_rows n k (r ∷ rows) few h = in_both (labels_below r.id n) (labels_of_rows n rows) k (IsAmong n (r ∷ rows) k) h
     (λ a. let is = in_below r.id n k few a in record { row = or_left (r.id == record_of_label k) _ ((Decides-eqb r.id (record_of_label k)).1 (sym is.of_record)); of_group = is.of_group })
     (λ b. let is = in_rows n k rows few b in record { row = or_right (r.id == record_of_label k) _ is.row; of_group = is.of_group })
 
-rows_have : (n k : ℕ) (rows : List Row) → IsAmong n rows k → shown (labels_of_rows n rows) k ≡ true
+rows_have : (n k : ℕ) (rows : List Row) → IsAmong n rows k → shown_by (labels_of_rows n rows) k ≡ true
 rows_have n k [] is = absurd (let e = is.row in cc)
-rows_have n k (r ∷ rows) is = either (r.id == record_of_label k) (list_any (λ (x : Row). x.id == record_of_label k) rows) (shown (labels_of_rows n (r ∷ rows)) k ≡ true) is.row
+rows_have n k (r ∷ rows) is = either (r.id == record_of_label k) (list_any (λ (x : Row). x.id == record_of_label k) rows) (shown_by (labels_of_rows n (r ∷ rows)) k ≡ true) is.row
     (λ a. first_has (labels_below r.id n) (labels_of_rows n rows) k (below_has r.id n k (record { of_record = sym ((Decides-eqb r.id (record_of_label k)).0 a); of_group = is.of_group })))
     (λ b. second_has (labels_below r.id n) (labels_of_rows n rows) k (rows_have n k rows (record { row = b; of_group = is.of_group })))
 
@@ -144,14 +137,14 @@ record IsBefore (models : List Entity) (tables : List (List Row)) (n k : ℕ) : 
   pub before : model < n
   pub among : IsAmong (length (groups_at models model)) (rows_of tables model) k
 
-in_before : (models : List Entity) (tables : List (List Row)) (n k : ℕ) → ((m : ℕ) → m < n → length (groups_at models m) ≤ 8) → shown (labels_before models tables n) k ≡ true → IsBefore models tables n k
+in_before : (models : List Entity) (tables : List (List Row)) (n k : ℕ) → ((m : ℕ) → m < n → length (groups_at models m) ≤ 8) → shown_by (labels_before models tables n) k ≡ true → IsBefore models tables n k
 in_before models tables zero k few h = absurd cc
 in_before models tables (suc n) k few h =
     in_both (labels_before models tables n) (labels_of_rows (length (groups_at models n)) (rows_of tables n)) k (IsBefore models tables (suc n) k) h
     (λ a. let is = in_before models tables n k (λ m lt. few m (omega arith)) a in record { model = is.model; before = omega (arith, is.before); among = is.among })
     (λ b. record { model = n; before = omega arith; among = in_rows (length (groups_at models n)) k (rows_of tables n) (few n (omega arith)) b })
 
-before_has : (models : List Entity) (tables : List (List Row)) (n k m : ℕ) → m < n → IsAmong (length (groups_at models m)) (rows_of tables m) k → shown (labels_before models tables n) k ≡ true
+before_has : (models : List Entity) (tables : List (List Row)) (n k m : ℕ) → m < n → IsAmong (length (groups_at models m)) (rows_of tables m) k → shown_by (labels_before models tables n) k ≡ true
 before_has models tables zero k m lt is = absurd (omega arith)
 before_has models tables (suc n) k m lt is =
     elim (cases_lt m n) [
@@ -168,11 +161,11 @@ record IsSeen (id : ℕ) (rows : List Row) : Type 0 where
   pub seen : list_any (λ (r : Row). holds seen_by r.guard) (alternatives id rows) ≡ true
 
 abbrev Can : Row → Type 0
-Can r = holds (wanted r.guard) r.guard ≡ true
+Can r = holds (guard_wants r.guard) r.guard ≡ true
 
 seen_first : (id : ℕ) (r : Row) (rows : List Row) (same : Bool) → (r.id == id) ≡ same → Can r → ((same || list_any (λ (x : Row). x.id == id) rows) ≡ true) →
     (list_any (λ (x : Row). x.id == id) rows ≡ true → IsSeen id rows) → IsSeen id (r ∷ rows)
-seen_first id r rows true e can h later = record { seen_by = wanted r.guard; seen = rw e (or_left (holds (wanted r.guard) r.guard) _ can) }
+seen_first id r rows true e can h later = record { seen_by = guard_wants r.guard; seen = rw e (or_left (holds (guard_wants r.guard) r.guard) _ can) }
 seen_first id r rows false e can h later = let is = later h in record { seen_by = is.seen_by; seen = rw e is.seen }
 
 seen_somewhere : (id : ℕ) (rows : List Row) → list_any (λ (r : Row). r.id == id) rows ≡ true → AllByRecursion Can rows → IsSeen id rows
@@ -242,12 +235,12 @@ among_if_live app s k live =
     }
 
 -- the labels that were collected are the live ones
-pub are_live : (app : Application) (s : State) (collected labels : List ℕ) → HasSoundTables s → Collects app.models s.tables (length app.models) collected → ((k : ℕ) → shown labels k ≡ shown collected k) → AreLive app (worlds_of s) labels
+pub are_live : (app : Application) (s : State) (collected labels : List ℕ) → HasSoundTables s → Collects app.models s.tables (length app.models) collected → ((k : ℕ) → shown_by labels k ≡ shown_by collected k) → AreLive app (worlds_of s) labels
 are_live app s collected labels sound collects same = record {
-  only = λ k h. only k (in_before app.models s.tables (length app.models) k collects.few (ap (λ ls. shown ls k) (sym collects.are) ∙ sym (same k) ∙ h));
+  only = λ k h. only k (in_before app.models s.tables (length app.models) k collects.few (ap (λ ls. shown_by ls k) (sym collects.are) ∙ sym (same k) ∙ h));
   every = λ k live.
       let is = among_if_live app s k live in
-      same k ∙ ap (λ ls. shown ls k) collects.are
+      same k ∙ ap (λ ls. shown_by ls k) collects.are
       ∙ before_has app.models s.tables (length app.models) k (model_of_id (record_of_label k)) (model_within app.models (model_of_id (record_of_label k)) (group_of_label k) is.of_group) is;
 }
   where
@@ -297,9 +290,6 @@ collects_all ms given tables labels is all =
     let here : Collects (entities_of ms) tables (length ms) labels = subst (λ (l : List ModelDef). Collects (entities_of l) tables (length l) labels) is all in
     subst (λ (n : ℕ). Collects (entities_of ms) tables n labels) (sym (length-entities ms)) here
 
-both_true : (a b : Bool) → a ≡ true → b ≡ true → (a && b) ≡ true
-both_true a b p q = rw p q
-
 left_true : (a b : Bool) → (a && b) ≡ true → a ≡ true
 left_true true b p = refl
 left_true false b p = p
@@ -310,7 +300,7 @@ right_true false b p = absurd cc
 
 pub live_by_rows : (app : Application) (s : State) (k : ℕ) → AllCanHold s → IsLiveLabel app (worlds_of s) k ↔ ((has_group app k && has_row s k) ≡ true)
 live_by_rows app s k can = (
-  λ live. both_true (has_group app k) (has_row s k) live.group (let is = among_if_live app s k live in is.row),
+  λ live. and_from (has_group app k) (has_row s k) live.group (let is = among_if_live app s k live in is.row),
   λ h. live_if_among app s k (can (model_of_id (record_of_label k))) (record {
     row = right_true (has_group app k) (has_row s k) h;
     of_group = there_within (groups_at app.models (model_of_id (record_of_label k))) (group_of_label k) (left_true (has_group app k) (has_row s k) h);
@@ -319,26 +309,26 @@ live_by_rows app s k can = (
 
 -- the labels that were collected are those of all groups of every record that has a row
 pub by_rows : (app : Application) (s : State) (collected labels : List ℕ) → HasSoundTables s → Collects app.models s.tables (length app.models) collected →
-    ((k : ℕ) → shown labels k ≡ shown collected k) → (k : ℕ) → shown labels k ≡ (has_group app k && has_row s k)
+    ((k : ℕ) → shown_by labels k ≡ shown_by collected k) → (k : ℕ) → shown_by labels k ≡ (has_group app k && has_row s k)
 by_rows app s collected labels sound collects same k =
     let live = are_live app s collected labels sound collects same in
     let m = model_of_id (record_of_label k) in
-    bool_eq (shown labels k) (has_group app k && has_row s k)
-    (λ h. let is = live.only k h in both_true (has_group app k) (has_row s k) is.group (let among = among_if_live app s k is in among.row))
+    bool_eq (shown_by labels k) (has_group app k && has_row s k)
+    (λ h. let is = live.only k h in and_from (has_group app k) (has_row s k) is.group (let among = among_if_live app s k is in among.row))
     (λ h.
     let of_group = there_within (groups_at app.models m) (group_of_label k) (left_true (has_group app k) (has_row s k) h) in
-    same k ∙ ap (λ ls. shown ls k) collects.are
+    same k ∙ ap (λ ls. shown_by ls k) collects.are
     ∙ before_has app.models s.tables (length app.models) k m (model_within app.models m (group_of_label k) of_group)
     (record { row = right_true (has_group app k) (has_row s k) h; of_group = of_group }))
 
 -- one label, told by its own record
 
 -- the first row is seen, where its guard can hold
-pub first_is_seen : (rows : List Row) (r : Row) → Some r ≡ slice_get rows 0 → holds (wanted r.guard) r.guard ≡ true → AreSeen rows
+pub first_is_seen : (rows : List Row) (r : Row) → Some r ≡ slice_get rows 0 → holds (guard_wants r.guard) r.guard ≡ true → AreSeen rows
 first_is_seen [] r there can = absurd (let e : Some r ≡ None = there in cc)
 first_is_seen (x ∷ rows) r there can =
     let same : r ≡ x = cc in
-    record { seen_by = wanted r.guard; seen = or_left (holds (wanted r.guard) x.guard) _ (ap (λ (y : Row). holds (wanted r.guard) y.guard) (sym same) ∙ can) }
+    record { seen_by = guard_wants r.guard; seen = or_left (holds (guard_wants r.guard) x.guard) _ (ap (λ (y : Row). holds (guard_wants r.guard) y.guard) (sym same) ∙ can) }
 
 pub not_live : (app : Application) (worlds : Worlds) (k : ℕ) → has_group app k ≡ false → ((false ≡ true) ↔ IsLiveLabel app worlds k)
 not_live app worlds k none = (λ e. absurd (true≢false (sym e)), λ live. absurd (true≢false (sym live.group ∙ none)))

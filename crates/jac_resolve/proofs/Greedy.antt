@@ -2,7 +2,8 @@
 use Rattle.std.proofs.Common.{◌≡◌, ◌<◌, ◌≤◌, ◌+◌, ◌==◌, ◌||◌, ℕ, zero, suc, Bool, true, false, if◌then◌else◌, List, [], ◌∷◌, Option, drop, length, get_or, refl, ap, sym, subst, ◌∙◌, arith}
 use Rattle.std.specs.Bool.{⊤}
 use Rattle.std.proofs.lemmas.Bool.Decides.{nat_tests, Decides-eqb}
-use Rattle.jac_world.specs.World.{shown, IsAscending}
+use Rattle.std.proofs.lemmas.Bool.{or_right, or_left}
+use Rattle.jac_world.specs.World.{shown_by, IsAscending}
 use Rattle.jac_lang.specs.Syntax.{Application}
 use Rattle.jac_plain.specs.Requests.{Worlds}
 use Rattle.jac_plain.specs.Policies.{with_label, IsSettled}
@@ -11,10 +12,6 @@ use Rattle.jac_recall.specs.declared.answers.Answers.{Answers}
 use Rattle.jac_resolve.specs.Recalled.{Fills, Grown, IsPassed, IsUnderway, Retains, RemembersForbidden, Tries}
 use Rattle.jac_resolve.specs.Rounds.{hidden_count, AreLive, MayAdd, Advances, Within}
 use Rattle.jac_resolve.proofs.Underway.{grown_same, grown_then, refused_still}
-
-or_right : (a b : Bool) → b ≡ true → (a || b) ≡ true
-or_right true b p = refl
-or_right false b p = p
 
 same_test : (a b : ℕ) → (a == b) ≡ (b == a)
 same_test a b = grind (arith, nat_tests)
@@ -40,21 +37,21 @@ fewer_if true rest false m n h there later s = omega arith
 fewer_if false rest true m n h there later s = let lt : m < n = later s in omega arith
 fewer_if false rest false m n h there later s = let lt : m < n = later s in omega arith
 
-fewer : (k : ℕ) (v w : ℕ → Bool) → v k ≡ false → ((j : ℕ) → w j ≡ with_label k v j) → (xs : List ℕ) → shown xs k ≡ true → hidden_count w xs < hidden_count v xs
+fewer : (k : ℕ) (v w : ℕ → Bool) → v k ≡ false → ((j : ℕ) → w j ≡ with_label k v j) → (xs : List ℕ) → shown_by xs k ≡ true → hidden_count w xs < hidden_count v xs
 fewer k v w hidden h [] s = absurd cc
 fewer k v w hidden h (x ∷ xs) s =
     rw (h x)
-    (fewer_if (k == x) (shown xs k) (v x) (hidden_count w xs) (hidden_count v xs) (not_more k v w h xs)
+    (fewer_if (k == x) (shown_by xs k) (v x) (hidden_count w xs) (hidden_count v xs) (not_more k v w h xs)
     (λ e. ap v (sym ((Decides-eqb k x).0 e)) ∙ hidden)
     (fewer k v w hidden h xs)
     (rw (same_test k x) s))
 
-pub advances : (labels start old new : List ℕ) (k : ℕ) (added one : Bool) → shown labels k ≡ true → Advances labels start old added → MayAdd k old new one → Advances labels start new (added || one)
-advances labels start old new k true true s a g = let less : hidden_count (shown new) labels < hidden_count (shown old) labels = fewer k (shown old) (shown new) g.0 g.1 labels s in omega arith
-advances labels start old new k true false s a g = let same : shown new ≡ shown old = λ i j. g j i in subst (λ (w : ℕ → Bool). hidden_count w labels < hidden_count (shown start) labels) (sym same) a
+pub advances : (labels start old new : List ℕ) (k : ℕ) (added one : Bool) → shown_by labels k ≡ true → Advances labels start old added → MayAdd k old new one → Advances labels start new (added || one)
+advances labels start old new k true true s a g = let less : hidden_count (shown_by new) labels < hidden_count (shown_by old) labels = fewer k (shown_by old) (shown_by new) g.0 g.1 labels s in omega arith
+advances labels start old new k true false s a g = let same : shown_by new ≡ shown_by old = λ i j. g j i in subst (λ (w : ℕ → Bool). hidden_count w labels < hidden_count (shown_by start) labels) (sym same) a
 advances labels start old new k false true s a g =
-    let same : shown old ≡ shown start = λ i j. a j i in
-    subst (λ (w : ℕ → Bool). hidden_count (shown new) labels < hidden_count w labels) same (fewer k (shown old) (shown new) g.0 g.1 labels s)
+    let same : shown_by old ≡ shown_by start = λ i j. a j i in
+    subst (λ (w : ℕ → Bool). hidden_count (shown_by new) labels < hidden_count w labels) same (fewer k (shown_by old) (shown_by new) g.0 g.1 labels s)
 advances labels start old new k false false s a g = λ j. g j ∙ a j
 
 within_if : (same was start among : Bool) → (same ≡ true → among ≡ true) → (was ≡ true → (start || among) ≡ true) → (same || was) ≡ true → (start || among) ≡ true
@@ -62,23 +59,19 @@ within_if true was start among there later s = or_right start among (there refl)
 within_if false was start among there later s = later s
 
 -- what was added is among the labels
-pub stays_within : (labels start old new : List ℕ) (k : ℕ) (one : Bool) → shown labels k ≡ true → Within labels start old → MayAdd k old new one → Within labels start new
+pub stays_within : (labels start old new : List ℕ) (k : ℕ) (one : Bool) → shown_by labels k ≡ true → Within labels start old → MayAdd k old new one → Within labels start new
 stays_within labels start old new k true s within g j h =
-    within_if (k == j) (shown old j) (shown start j) (shown labels j)
-    (λ e. ap (shown labels) (sym ((Decides-eqb k j).0 e)) ∙ s)
+    within_if (k == j) (shown_by old j) (shown_by start j) (shown_by labels j)
+    (λ e. ap (shown_by labels) (sym ((Decides-eqb k j).0 e)) ∙ s)
     (within j)
     (sym (g.1 j) ∙ h)
 stays_within labels start old new k false s within g j h = within j (sym (g j) ∙ h)
 
-or_left : (a b : Bool) → a ≡ true → (a || b) ≡ true
-or_left true b p = refl
-or_left false b p = absurd cc
-
 pub within_same : (labels start : List ℕ) → Within labels start start
-within_same labels start j s = or_left (shown start j) (shown labels j) s
+within_same labels start j s = or_left (shown_by start j) (shown_by labels j) s
 
 pub within_then : (labels start old new : List ℕ) → Within labels start old → Within labels old new → Within labels start new
-within_then labels start old new before more j s = then_if (shown old j) (shown start j) (shown labels j) (before j) (more j s)
+within_then labels start old new before more j s = then_if (shown_by old j) (shown_by start j) (shown_by labels j) (before j) (more j s)
   where
     then_if : (was a b : Bool) → (was ≡ true → (a || b) ≡ true) → (was || b) ≡ true → (a || b) ≡ true
     then_if true a b there h = there refl
@@ -96,7 +89,7 @@ retains_then start old new first answers known before more = record {
 
 pub retains_on : (start old new : List ℕ) (first answers known : Answers) (k : ℕ) (one : Bool) → Retains start old first answers → MayAdd k old new one → Grown answers known → Retains start new first known
 retains_on start old new first answers known k true before g grown = record {
-  shows = λ j s. g.1 j ∙ or_right (k == j) (shown old j) (before.shows j s);
+  shows = λ j s. g.1 j ∙ or_right (k == j) (shown_by old j) (before.shows j s);
   grown = grown_then first answers known before.grown grown;
 }
 retains_on start old new first answers known k false before g grown = record {
@@ -105,37 +98,37 @@ retains_on start old new first answers known k false before g grown = record {
 }
 
 -- the labels that are left are among all
-pub left_is_shown : (xs : List ℕ) (i k : ℕ) → shown (drop i xs) k ≡ true → shown xs k ≡ true
+pub left_is_shown : (xs : List ℕ) (i k : ℕ) → shown_by (drop i xs) k ≡ true → shown_by xs k ≡ true
 left_is_shown [] zero k h = h
 left_is_shown [] (suc i) k h = h
 left_is_shown (x ∷ xs) zero k h = h
-left_is_shown (x ∷ xs) (suc i) k h = or_right (x == k) (shown xs k) (left_is_shown xs i k h)
+left_is_shown (x ∷ xs) (suc i) k h = or_right (x == k) (shown_by xs k) (left_is_shown xs i k h)
 
-pub first_is_shown : (xs : List ℕ) (i x : ℕ) → x ≡ get_or xs i x → i < length xs → shown xs x ≡ true
+pub first_is_shown : (xs : List ℕ) (i x : ℕ) → x ≡ get_or xs i x → i < length xs → shown_by xs x ≡ true
 first_is_shown xs i x item below = left_is_shown xs i x (rw (next xs x i item below) (rw (itself x) refl))
 
 module _ (app : Application) (worlds : Worlds) (viewer : Option ℕ) where
   -- of the labels that were tried none can be added, unless one was
   abbrev pub FillsBut : Answers → List ℕ → List ℕ → List ℕ → Bool → Type 0
   FillsBut answers labels left new true = ⊤
-  FillsBut answers labels left new false = (k : ℕ) → shown labels k ≡ true → shown left k ≡ false → shown new k ≡ false → RemembersForbidden app worlds viewer answers (with_label k (shown new))
+  FillsBut answers labels left new false = (k : ℕ) → shown_by labels k ≡ true → shown_by left k ≡ false → shown_by new k ≡ false → RemembersForbidden app worlds viewer answers (with_label k (shown_by new))
 
   pub filled : (answers : Answers) (labels left new : List ℕ) (added : Bool) → left ≡ [] → FillsBut answers labels left new added → Fills app worlds viewer answers labels new added
   filled answers labels left new true none fills = tt
-  filled answers labels left new false none fills = record { each = λ k among hidden. fills k among (ap (λ l. shown l k) none) hidden }
+  filled answers labels left new false none fills = record { each = λ k among hidden. fills k among (ap (λ l. shown_by l k) none) hidden }
 
   -- what is known of the labels that are shown, and of what is remembered, before those that are left are tried
   pub record Round (labels left new : List ℕ) (answers : Answers) (added : Bool) : Type 0 where
     pub underway : IsUnderway app worlds viewer new answers
     pub fills : FillsBut answers labels left new added
 
-  fills_if : (answers : Answers) (x k : ℕ) (same rest : Bool) (new : List ℕ) → (x == k) ≡ same → rest ≡ false → shown new k ≡ false →
-      (shown new x ≡ false → RemembersForbidden app worlds viewer answers (with_label x (shown new))) →
-      ((same || rest) ≡ false → RemembersForbidden app worlds viewer answers (with_label k (shown new))) →
-      RemembersForbidden app worlds viewer answers (with_label k (shown new))
+  fills_if : (answers : Answers) (x k : ℕ) (same rest : Bool) (new : List ℕ) → (x == k) ≡ same → rest ≡ false → shown_by new k ≡ false →
+      (shown_by new x ≡ false → RemembersForbidden app worlds viewer answers (with_label x (shown_by new))) →
+      ((same || rest) ≡ false → RemembersForbidden app worlds viewer answers (with_label k (shown_by new))) →
+      RemembersForbidden app worlds viewer answers (with_label k (shown_by new))
   fills_if answers x k true rest new e left hidden tried before =
       let is : x ≡ k = (Decides-eqb x k).0 e in
-      subst (λ (j : ℕ). RemembersForbidden app worlds viewer answers (with_label j (shown new))) is (tried (ap (shown new) is ∙ hidden))
+      subst (λ (j : ℕ). RemembersForbidden app worlds viewer answers (with_label j (shown_by new))) is (tried (ap (shown_by new) is ∙ hidden))
   fills_if answers x k false rest new e left hidden tried before = before left
 
   fills_on : (answers known : Answers) (labels more old new : List ℕ) (x : ℕ) (added one : Bool) → Grown answers known → FillsBut answers labels (x ∷ more) old added → MayAdd x old new one →
@@ -143,13 +136,13 @@ module _ (app : Application) (worlds : Worlds) (viewer : Option ℕ) where
   fills_on answers known labels more old new x true one grown before g t = tt
   fills_on answers known labels more old new x false true grown before g t = tt
   fills_on answers known labels more old new x false false grown before g t = λ k among left hidden.
-      let same : shown old ≡ shown new = λ i j. sym (g j) i in
+      let same : shown_by old ≡ shown_by new = λ i j. sym (g j) i in
       subst (λ (w : ℕ → Bool). RemembersForbidden app worlds viewer known (with_label k w)) same (still k among left (sym (g k) ∙ hidden))
     where
       still : FillsBut known labels more old false
       still k among left hidden =
-          fills_if known x k (x == k) (shown more k) old refl left hidden t
-          (λ s. refused_still app worlds viewer (with_label k (shown old)) answers known grown (before k among s hidden))
+          fills_if known x k (x == k) (shown_by more k) old refl left hidden t
+          (λ s. refused_still app worlds viewer (with_label k (shown_by old)) answers known grown (before k among s hidden))
 
   -- one label more was tried
   pub round_on : (labels left old new : List ℕ) (answers known : Answers) (x : ℕ) (more : List ℕ) (added one : Bool) → left ≡ x ∷ more → Grown answers known → Round labels left old answers added →

@@ -2,7 +2,7 @@
 use Rattle.std.proofs.Common.{◌≡◌, ◌∙◌, ◌↔◌, sym, refl, ap, subst, ℕ, ◌==◌, ◌||◌, Bool, true, false, true≢false, if◌then◌else◌, List, [], ◌∷◌, ◌++◌, append-nil}
 use Rattle.std.proofs.lemmas.Bool.Decides.{Decides-eqb}
 use Rattle.std.proofs.lemmas.List.Folds.{list_any-append}
-use Rattle.jac_world.specs.World.{shown}
+use Rattle.jac_world.specs.World.{shown_by}
 use Rattle.jac_lang.specs.Syntax.{Application}
 use Rattle.jac_plain.specs.Policies.{IsLiveLabel}
 use Rattle.jac_plain.specs.Requests.{Worlds}
@@ -11,9 +11,9 @@ use Rattle.jac_resolve.specs.Live.{AreLiveOf}
 module _ (app : Application) (worlds : Worlds) where
   -- those that were asked so far: each live one among them is there
   pub record AreLiveBut (labels left live : List ℕ) : Type 0 where
-    pub within : (k : ℕ) → shown live k ≡ true → shown labels k ≡ true
-    pub only : (k : ℕ) → shown live k ≡ true → IsLiveLabel app worlds k
-    pub every : (k : ℕ) → IsLiveLabel app worlds k → shown labels k ≡ true → (shown live k || shown left k) ≡ true
+    pub within : (k : ℕ) → shown_by live k ≡ true → shown_by labels k ≡ true
+    pub only : (k : ℕ) → shown_by live k ≡ true → IsLiveLabel app worlds k
+    pub every : (k : ℕ) → IsLiveLabel app worlds k → shown_by labels k ≡ true → (shown_by live k || shown_by left k) ≡ true
 
   pub live_none : (labels : List ℕ) → AreLiveBut labels labels []
   live_none labels = record {
@@ -31,10 +31,10 @@ module _ (app : Application) (worlds : Worlds) where
   skipped labels left live x more is dead before = record {
     within = before.within;
     only = before.only;
-    every = λ k lives s. skipped_if x k (x == k) (shown live k) (shown more k) refl lives dead (ap (λ (l : List ℕ). shown live k || shown l k) (sym is) ∙ before.every k lives s);
+    every = λ k lives s. skipped_if x k (x == k) (shown_by live k) (shown_by more k) refl lives dead (ap (λ (l : List ℕ). shown_by live k || shown_by l k) (sym is) ∙ before.every k lives s);
   }
 
-  shown_with : (live : List ℕ) (x k : ℕ) → shown (live ++ x ∷ []) k ≡ (shown live k || (x == k || false))
+  shown_with : (live : List ℕ) (x k : ℕ) → shown_by (live ++ x ∷ []) k ≡ (shown_by live k || (x == k || false))
   shown_with live x k = list_any-append (λ j. j == k) live (x ∷ [])
 
   among_if : (x k : ℕ) (same a : Bool) (P : ℕ → Type 0) → (x == k) ≡ same → P x → (a ≡ true → P k) → (a || (same || false)) ≡ true → P k
@@ -48,17 +48,17 @@ module _ (app : Application) (worlds : Worlds) where
   moved false false m h = h
 
   -- a label that is live
-  pushed : (labels left live : List ℕ) (x : ℕ) (more : List ℕ) → left ≡ x ∷ more → shown labels x ≡ true → IsLiveLabel app worlds x → AreLiveBut labels left live → AreLiveBut labels more (live ++ x ∷ [])
+  pushed : (labels left live : List ℕ) (x : ℕ) (more : List ℕ) → left ≡ x ∷ more → shown_by labels x ≡ true → IsLiveLabel app worlds x → AreLiveBut labels left live → AreLiveBut labels more (live ++ x ∷ [])
   pushed labels left live x more is among lives before = record {
-    within = λ k s. among_if x k (x == k) (shown live k) (λ (j : ℕ). shown labels j ≡ true) refl among (before.within k) (sym (shown_with live x k) ∙ s);
-    only = λ k s. among_if x k (x == k) (shown live k) (λ (j : ℕ). IsLiveLabel app worlds j) refl lives (before.only k) (sym (shown_with live x k) ∙ s);
+    within = λ k s. among_if x k (x == k) (shown_by live k) (λ (j : ℕ). shown_by labels j ≡ true) refl among (before.within k) (sym (shown_with live x k) ∙ s);
+    only = λ k s. among_if x k (x == k) (shown_by live k) (λ (j : ℕ). IsLiveLabel app worlds j) refl lives (before.only k) (sym (shown_with live x k) ∙ s);
     every = λ k l s.
-        ap (λ (b : Bool). b || shown more k) (shown_with live x k)
-        ∙ moved (shown live k) (x == k) (shown more k) (ap (λ (l : List ℕ). shown live k || shown l k) (sym is) ∙ before.every k l s);
+        ap (λ (b : Bool). b || shown_by more k) (shown_with live x k)
+        ∙ moved (shown_by live k) (x == k) (shown_by more k) (ap (λ (l : List ℕ). shown_by live k || shown_by l k) (sym is) ∙ before.every k l s);
   }
 
   -- one label more was asked
-  pub live_on : (labels left live : List ℕ) (x : ℕ) (more new : List ℕ) (b : Bool) → left ≡ x ∷ more → shown labels x ≡ true → ((b ≡ true) ↔ IsLiveLabel app worlds x) →
+  pub live_on : (labels left live : List ℕ) (x : ℕ) (more new : List ℕ) (b : Bool) → left ≡ x ∷ more → shown_by labels x ≡ true → ((b ≡ true) ↔ IsLiveLabel app worlds x) →
       new ≡ live ++ (if b then x ∷ [] else []) → AreLiveBut labels left live → AreLiveBut labels more new
   live_on labels left live x more new true is among tells added before =
       subst (λ (l : List ℕ). AreLiveBut labels more l) (sym added) (pushed labels left live x more is among (tells.0 refl) before)
@@ -74,5 +74,5 @@ module _ (app : Application) (worlds : Worlds) where
   live_all labels left live none so_far = record {
     within = so_far.within;
     only = so_far.only;
-    every = λ k lives s. or_none (shown live k) (shown left k) (ap (λ (l : List ℕ). shown l k) none) (so_far.every k lives s);
+    every = λ k lives s. or_none (shown_by live k) (shown_by left k) (ap (λ (l : List ℕ). shown_by l k) none) (so_far.every k lives s);
   }

@@ -3,7 +3,7 @@ use Rattle.std.proofs.Common.{◌≡◌, ◌∙◌, ap, refl, sym, ℕ, zero, su
 use Rattle.std.proofs.lemmas.Bool.{and_parts}
 use Rattle.std.proofs.lemmas.Bool.Decides.{Decides-eqb}
 use Rattle.jac_value.specs.Ids.{model_of_id, record_of_label, group_of_label}
-use Rattle.jac_world.specs.World.{shown}
+use Rattle.jac_world.specs.World.{shown_by}
 use Rattle.jac_lang.specs.Lookup.{groups_in}
 use Rattle.jac_lang.specs.Syntax.{FieldGroup, Entity, Application}
 use Rattle.jac_pruned.specs.Local.{are_local_groups, are_local_models, is_free_viewer, is_local, is_local_app}
@@ -36,5 +36,5 @@ policy_local app k g h e =
 pub own_none : (this : Option ℕ) → IsOwn this []
 own_none this = record { each = λ k s. absurd cc }
 
-pub own_label : (label : ℕ) (support : List ℕ) → IsOwn (Some (record_of_label label)) support → (k : ℕ) → shown support k ≡ true → record_of_label k ≡ record_of_label label
+pub own_label : (label : ℕ) (support : List ℕ) → IsOwn (Some (record_of_label label)) support → (k : ℕ) → shown_by support k ≡ true → record_of_label k ≡ record_of_label label
 own_label label support own k s = sym ((Decides-eqb (record_of_label label) (record_of_label k)).0 (own.each k s))

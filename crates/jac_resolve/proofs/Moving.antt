@@ -2,7 +2,7 @@
 use Rattle.std.proofs.Common.{◌≡◌, ◌==◌, ◌||◌, ◌⊎◌, inl, inr, ℕ, Bool, true, false, if◌then◌else◌, List, Option, Some, None, refl, ap, sym, subst, ◌∙◌}
 use Rattle.std.specs.Option.{is_some}
 use Rattle.std.proofs.lemmas.Bool.Decides.{Decides-eqb}
-use Rattle.jac_world.specs.World.{shown}
+use Rattle.jac_world.specs.World.{shown_by}
 use Rattle.jac_lang.specs.Syntax.{Application}
 use Rattle.jac_rows.specs.declared.row.Row.{Row}
 use Rattle.jac_rows.specs.declared.state.State.{State}
@@ -15,10 +15,10 @@ use Rattle.jac_recall.specs.Recalled.{AreWatched, given_of, hangs, recall, recal
 use Rattle.jac_recall.specs.Seats.{IsEmptySeat, Unsettles}
 use Rattle.jac_recall.specs.Touched.{IsCovered, touches}
 use Rattle.jac_resolve.specs.Recalled.{AreRight}
-use Rattle.jac_resolve.specs.Rounds.{worlds_of}
 use Rattle.jac_resolve.specs.Seated.{AreSettledBut, AreSettledButIf, StandsRefused, IsSeated}
 use Rattle.jac_resolve.proofs.Alike.{live_alike, live_back}
 use Rattle.jac_resolve.proofs.Seating.{never, one_of, other_answer, unhung}
+use Rattle.jac_plain.specs.Shown.{worlds_of}
 
 pub seated_empty : (app : Application) (worlds : Worlds) (viewer : Option ℕ) (seat : Seat) → IsEmptySeat seat → IsSeated app worlds viewer seat
 seated_empty app worlds viewer seat empty = record {
@@ -65,11 +65,11 @@ module _ (app : Application) (worlds later : Worlds) (viewer : Option ℕ) (touc
       none_if true = refl
       none_if false = refl
 
-  was_not_due : (k : ℕ) → shown new.due k ≡ false → shown old.due k ≡ false
-  was_not_due k absent = one_of (shown old.due k) (shown old.due k ≡ false) (λ s. never (shown new.due k) (shown old.due k ≡ false) (unsettles.due k s) absent) (λ e. e)
+  was_not_due : (k : ℕ) → shown_by new.due k ≡ false → shown_by old.due k ≡ false
+  was_not_due k absent = one_of (shown_by old.due k) (shown_by old.due k ≡ false) (λ s. never (shown_by new.due k) (shown_by old.due k ≡ false) (unsettles.due k s) absent) (λ e. e)
 
-  not_named : (k : ℕ) → shown new.due k ≡ false → shown touch.labels k ≡ false
-  not_named k absent = one_of (shown touch.labels k) (shown touch.labels k ≡ false) (λ s. never (shown new.due k) (shown touch.labels k ≡ false) (unsettles.named k s) absent) (λ e. e)
+  not_named : (k : ℕ) → shown_by new.due k ≡ false → shown_by touch.labels k ≡ false
+  not_named k absent = one_of (shown_by touch.labels k) (shown_by touch.labels k ≡ false) (λ s. never (shown_by new.due k) (shown_by touch.labels k ≡ false) (unsettles.named k s) absent) (λ e. e)
 
   kept_later : (labels : List ℕ) → AreSettledBut app worlds old.answers labels old.due → AreSettledBut app later new.answers labels new.due
   kept_later labels kept = record {
@@ -78,39 +78,39 @@ module _ (app : Application) (worlds later : Worlds) (viewer : Option ℕ) (touc
     full = λ k lives hidden absent. refused_later k absent (kept.full k ((covered.living k (not_named k absent)).1 lives) hidden (was_not_due k absent));
   }
     where
-      stays_if : (k : ℕ) → (recall old.answers k (shown labels) ≡ Some true) ⊎ ((shown old.due k ≡ true) × ((w : ℕ → Bool) → recall old.answers k w ≡ None)) →
-          (recall new.answers k (shown labels) ≡ Some true) ⊎ ((shown new.due k ≡ true) × ((w : ℕ → Bool) → recall new.answers k w ≡ None))
+      stays_if : (k : ℕ) → (recall old.answers k (shown_by labels) ≡ Some true) ⊎ ((shown_by old.due k ≡ true) × ((w : ℕ → Bool) → recall old.answers k w ≡ None)) →
+          (recall new.answers k (shown_by labels) ≡ Some true) ⊎ ((shown_by new.due k ≡ true) × ((w : ℕ → Bool) → recall new.answers k w ≡ None))
       stays_if k (inl e) = touched_if (touches touch viewer k) refl
         where
-          touched_if : (t : Bool) → touches touch viewer k ≡ t → (recall new.answers k (shown labels) ≡ Some true) ⊎ ((shown new.due k ≡ true) × ((w : ℕ → Bool) → recall new.answers k w ≡ None))
-          touched_if true t = inr (unsettles.dropped k t (asked_if (given_of old.answers.given k) (shown labels) true e), λ w. forgotten k w t)
-          touched_if false t = inl (unsettles.recalls k (shown labels) ∙ ap (λ b. if b then None else recall old.answers k (shown labels)) t ∙ e)
+          touched_if : (t : Bool) → touches touch viewer k ≡ t → (recall new.answers k (shown_by labels) ≡ Some true) ⊎ ((shown_by new.due k ≡ true) × ((w : ℕ → Bool) → recall new.answers k w ≡ None))
+          touched_if true t = inr (unsettles.dropped k t (asked_if (given_of old.answers.given k) (shown_by labels) true e), λ w. forgotten k w t)
+          touched_if false t = inl (unsettles.recalls k (shown_by labels) ∙ ap (λ b. if b then None else recall old.answers k (shown_by labels)) t ∙ e)
       stays_if k (inr p) = inr (unsettles.due k p.0, λ w. none_new k w (p.1 w))
 
-      stays_or : (j : ℕ) → (recall old.answers j (shown labels) ≡ Some true) ⊎ ((shown old.due j ≡ true) × ((w : ℕ → Bool) → recall old.answers j w ≡ None)) →
-          (recall old.answers j (shown labels) ≡ Some true) ⊎ (recall old.answers j (shown labels) ≡ None)
+      stays_or : (j : ℕ) → (recall old.answers j (shown_by labels) ≡ Some true) ⊎ ((shown_by old.due j ≡ true) × ((w : ℕ → Bool) → recall old.answers j w ≡ None)) →
+          (recall old.answers j (shown_by labels) ≡ Some true) ⊎ (recall old.answers j (shown_by labels) ≡ None)
       stays_or j (inl e) = inl e
-      stays_or j (inr p) = inr (p.1 (shown labels))
+      stays_or j (inr p) = inr (p.1 (shown_by labels))
 
       -- what refuses a label that isn't due isn't touched
-      refuses_untouched : (k j : ℕ) → shown new.due k ≡ false → with_label k (shown labels) j ≡ true → recall old.answers j (with_label k (shown labels)) ≡ Some false → touches touch viewer j ≡ false
+      refuses_untouched : (k j : ℕ) → shown_by new.due k ≡ false → with_label k (shown_by labels) j ≡ true → recall old.answers j (with_label k (shown_by labels)) ≡ Some false → touches touch viewer j ≡ false
       refuses_untouched k j absent s is = one_of (touches touch viewer j) (touches touch viewer j ≡ false) (λ t. not_touched t (k == j) refl s) (λ e. e)
         where
-          not_touched : touches touch viewer j ≡ true → (b : Bool) → (k == j) ≡ b → (b || shown labels j) ≡ true → touches touch viewer j ≡ false
+          not_touched : touches touch viewer j ≡ true → (b : Bool) → (k == j) ≡ b → (b || shown_by labels j) ≡ true → touches touch viewer j ≡ false
           not_touched t true e h =
               let same : k ≡ j = (Decides-eqb k j).0 e in
-              never (shown new.due j) (touches touch viewer j ≡ false) (unsettles.dropped j t (asked_if (given_of old.answers.given j) (with_label k (shown labels)) false is)) (ap (shown new.due) (sym same) ∙ absent)
+              never (shown_by new.due j) (touches touch viewer j ≡ false) (unsettles.dropped j t (asked_if (given_of old.answers.given j) (with_label k (shown_by labels)) false is)) (ap (shown_by new.due) (sym same) ∙ absent)
           not_touched t false e h =
-              one_of (hangs old.answers j k) (touches touch viewer j ≡ false) (λ hung. never (shown new.due k) (touches touch viewer j ≡ false) (unsettles.hanging j k t hung) absent)
-              (λ apart. other_answer (recall old.answers j (shown labels)) (touches touch viewer j ≡ false) (sym (unhung old.answers j k apart (shown labels)) ∙ is) (stays_or j (kept.stays j h)))
+              one_of (hangs old.answers j k) (touches touch viewer j ≡ false) (λ hung. never (shown_by new.due k) (touches touch viewer j ≡ false) (unsettles.hanging j k t hung) absent)
+              (λ apart. other_answer (recall old.answers j (shown_by labels)) (touches touch viewer j ≡ false) (sym (unhung old.answers j k apart (shown_by labels)) ∙ is) (stays_or j (kept.stays j h)))
 
-      refused_later : (k : ℕ) → shown new.due k ≡ false → StandsRefused old.answers k (shown labels) → StandsRefused new.answers k (shown labels)
+      refused_later : (k : ℕ) → shown_by new.due k ≡ false → StandsRefused old.answers k (shown_by labels) → StandsRefused new.answers k (shown_by labels)
       refused_later k absent one = record {
         label = one.label;
         is_shown = one.is_shown;
         refused =
-            unsettles.recalls one.label (with_label k (shown labels))
-            ∙ ap (λ b. if b then None else recall old.answers one.label (with_label k (shown labels))) (refuses_untouched k one.label absent one.is_shown one.refused)
+            unsettles.recalls one.label (with_label k (shown_by labels))
+            ∙ ap (λ b. if b then None else recall old.answers one.label (with_label k (shown_by labels))) (refuses_untouched k one.label absent one.is_shown one.refused)
             ∙ one.refused;
       }
 

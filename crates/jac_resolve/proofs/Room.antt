@@ -3,7 +3,7 @@ use Rattle.std.proofs.Common.{◌≡◌, ◌≢◌, ◌==◌, ◌≤◌, ◌+◌
 use Rattle.std.specs.Option.{is_some}
 use Rattle.std.proofs.lemmas.Bool.Decides.{Decides-eqb}
 use Rattle.jac_value.specs.Ids.{label_of, record_of_label, group_of_label}
-use Rattle.jac_world.specs.World.{shown, holds, names, IsAscending}
+use Rattle.jac_world.specs.World.{shown_by, holds, names, IsAscending}
 use Rattle.jac_world.proofs.Bisected.{ascending_same}
 use Rattle.jac_world.proofs.Contradict.{by_names}
 use Rattle.jac_lang.specs.Syntax.{Application}
@@ -12,9 +12,9 @@ use Rattle.jac_resolve.specs.Rounds.{AreLive}
 use Rattle.jac_recall.proofs.Rising.{bool_eq}
 use Rattle.jac_recall.specs.declared.answers.Answers.{Answers}
 use Rattle.jac_recall.specs.declared.answers.Known.{Known}
-use Rattle.jac_recall.specs.Recalled.{or_known, recall, signed, watches}
+use Rattle.jac_recall.specs.Recalled.{or_known, recall, signed_labels, watches}
 use Rattle.jac_resolve.specs.Recalled.{Grown}
-use Rattle.jac_resolve.specs.Room.{AreOwn, Spends, room, unknown, with_sign}
+use Rattle.jac_resolve.specs.Room.{AreLocalAnswers, Spends, room, unknown_signs, with_sign}
 use Rattle.jac_resolve.proofs.Underway.{either, known_if, or_same}
 
 less_if : (a b : Bool) → (a ≡ true → b ≡ true) → (if b then 0 else 1) ≤ (if a then 0 else 1)
@@ -24,8 +24,8 @@ less_if false true h = omega arith
 less_if false false h = omega arith
 
 -- where what was known stays known, nothing more is unknown
-unknown_less : (n id : ℕ) (f g : (ℕ → Bool) → Option Bool) (w : ℕ → Bool) → ((v : ℕ → Bool) → is_some (f v) ≡ true → is_some (g v) ≡ true) → unknown n id g w ≤ unknown n id f w
-unfolding unknown
+unknown_less : (n id : ℕ) (f g : (ℕ → Bool) → Option Bool) (w : ℕ → Bool) → ((v : ℕ → Bool) → is_some (f v) ≡ true → is_some (g v) ≡ true) → unknown_signs n id g w ≤ unknown_signs n id f w
+unfolding unknown_signs
 unknown_less zero id f g w more = less_if (is_some (f w)) (is_some (g w)) (more w)
 unknown_less (suc n) id f g w more =
     let a = unknown_less n id f g (with_sign (label_of id n) true w) more in
@@ -54,8 +54,8 @@ falls_at (Some y) b e h = absurd cc
 
 -- what is known now and wasn't is no longer counted
 unknown_falls : (n id : ℕ) (f g : (ℕ → Bool) → Option Bool) (u w : ℕ → Bool) → HangsOn id f → HangsOn id g → ((v : ℕ → Bool) → is_some (f v) ≡ true → is_some (g v) ≡ true) →
-    f u ≡ None → is_some (g u) ≡ true → AlikeFrom n id u w → unknown n id g w + 1 ≤ unknown n id f w
-unfolding unknown
+    f u ≡ None → is_some (g u) ≡ true → AlikeFrom n id u w → unknown_signs n id g w + 1 ≤ unknown_signs n id f w
+unfolding unknown_signs
 unknown_falls zero id f g u w f_own g_own more none some alike =
     let same : (j : ℕ) → record_of_label j ≡ id → u j ≡ w j = λ j of_record. alike j of_record (omega arith) in
     falls_at (f w) (g w) (sym (f_own u w same) ∙ none) (ap is_some (sym (g_own u w same)) ∙ some)
@@ -65,9 +65,9 @@ unknown_falls (suc n) id f g u w f_own g_own more none some alike =
     (λ b. unknown_less n id f g (with_sign (label_of id n) b w) more)
   where
     falls_if : (b : Bool) → u (label_of id n) ≡ b →
-        ((b : Bool) → u (label_of id n) ≡ b → unknown n id g (with_sign (label_of id n) b w) + 1 ≤ unknown n id f (with_sign (label_of id n) b w)) →
-        ((b : Bool) → unknown n id g (with_sign (label_of id n) b w) ≤ unknown n id f (with_sign (label_of id n) b w)) →
-        unknown (suc n) id g w + 1 ≤ unknown (suc n) id f w
+        ((b : Bool) → u (label_of id n) ≡ b → unknown_signs n id g (with_sign (label_of id n) b w) + 1 ≤ unknown_signs n id f (with_sign (label_of id n) b w)) →
+        ((b : Bool) → unknown_signs n id g (with_sign (label_of id n) b w) ≤ unknown_signs n id f (with_sign (label_of id n) b w)) →
+        unknown_signs (suc n) id g w + 1 ≤ unknown_signs (suc n) id f w
     falls_if true is here other = let a = here true is in let b = other false in omega (arith, a, b)
     falls_if false is here other = let a = here false is in let b = other true in omega (arith, a, b)
 
@@ -76,8 +76,8 @@ doubled : ℕ → ℕ
 doubled zero = 1
 doubled (suc n) = doubled n + doubled n
 
-unknown_most : (n id : ℕ) (f : (ℕ → Bool) → Option Bool) (w : ℕ → Bool) → unknown n id f w ≤ doubled n
-unfolding unknown doubled
+unknown_most : (n id : ℕ) (f : (ℕ → Bool) → Option Bool) (w : ℕ → Bool) → unknown_signs n id f w ≤ doubled n
+unfolding unknown_signs doubled
 unknown_most zero id f w = one_if (is_some (f w))
   where
     one_if : (b : Bool) → (if b then 0 else 1) ≤ 1
@@ -95,7 +95,7 @@ all_alike id u w j of_record from = absurd (omega (arith, from))
 known_none : (a b : Option Bool) → a ≡ b → b ≡ None → a ≡ None
 known_none a b e h = e ∙ h
 
-all_most : (id : ℕ) (f : (ℕ → Bool) → Option Bool) (w : ℕ → Bool) → unknown 8 id f w ≤ 256
+all_most : (id : ℕ) (f : (ℕ → Bool) → Option Bool) (w : ℕ → Bool) → unknown_signs 8 id f w ≤ 256
 unfolding doubled
 all_most id f w = unknown_most 8 id f w
 
@@ -114,13 +114,13 @@ room_less (k ∷ ks) old new grown =
     omega (arith, a, b)
 
 -- an answer that wasn't known takes room
-pub room_falls : (labels all : List ℕ) (old new : Answers) (label : ℕ) (w : ℕ → Bool) → shown labels label ≡ true → Grown old new → AreOwn all old → AreOwn all new → recall old label w ≡ None →
+pub room_falls : (labels all : List ℕ) (old new : Answers) (label : ℕ) (w : ℕ → Bool) → shown_by labels label ≡ true → Grown old new → AreLocalAnswers all old → AreLocalAnswers all new → recall old label w ≡ None →
     is_some (recall new label w) ≡ true → room labels new + 1 ≤ room labels old
 room_falls [] all old new label w s grown own_old own_new none some = absurd cc
 room_falls (k ∷ ks) all old new label w s grown own_old own_new none some =
     falls_if (k == label) refl s (λ among. room_falls ks all old new label w among grown own_old own_new none some)
   where
-    falls_if : (b : Bool) → (k == label) ≡ b → (b || shown ks label) ≡ true → (shown ks label ≡ true → room ks new + 1 ≤ room ks old) → room (k ∷ ks) new + 1 ≤ room (k ∷ ks) old
+    falls_if : (b : Bool) → (k == label) ≡ b → (b || shown_by ks label) ≡ true → (shown_by ks label ≡ true → room ks new + 1 ≤ room ks old) → room (k ∷ ks) new + 1 ≤ room (k ∷ ks) old
     falls_if true e among later =
         let is : k ≡ label = (Decides-eqb k label).0 e in
         let a = unknown_falls 8 (record_of_label k) (recall old k) (recall new k) w (λ j. false) (own_old.own k) (own_new.own k) (grown.kept k)
@@ -133,11 +133,11 @@ room_falls (k ∷ ks) all old new label w s grown own_old own_new none some =
         omega (arith, a, b)
 
 -- where an answer isn't known there is room
-pub room_some : (labels all : List ℕ) (old : Answers) (label : ℕ) (w : ℕ → Bool) → shown labels label ≡ true → AreOwn all old → recall old label w ≡ None → 1 ≤ room labels old
+pub room_some : (labels all : List ℕ) (old : Answers) (label : ℕ) (w : ℕ → Bool) → shown_by labels label ≡ true → AreLocalAnswers all old → recall old label w ≡ None → 1 ≤ room labels old
 room_some [] all old label w s own none = absurd cc
 room_some (k ∷ ks) all old label w s own none = some_if (k == label) refl s (λ among. room_some ks all old label w among own none)
   where
-    some_if : (b : Bool) → (k == label) ≡ b → (b || shown ks label) ≡ true → (shown ks label ≡ true → 1 ≤ room ks old) → 1 ≤ room (k ∷ ks) old
+    some_if : (b : Bool) → (k == label) ≡ b → (b || shown_by ks label) ≡ true → (shown_by ks label ≡ true → 1 ≤ room ks old) → 1 ≤ room (k ∷ ks) old
     some_if true e among later =
         let is : k ≡ label = (Decides-eqb k label).0 e in
         let a = unknown_falls 8 (record_of_label k) (recall old k) (λ v. Some true) w (λ j. false) (own.own k) (λ u v h. refl) (λ v h. refl)
@@ -157,12 +157,12 @@ right_true false b p = absurd cc
 
 pub own_by : (old new : Answers) (label : ℕ) (known : Known) (labels : List ℕ) → ((k j : ℕ) → watches new k j ≡ ((names known.when k && label == j) || watches old k j)) →
     ((k : ℕ) (w : ℕ → Bool) → recall new k w ≡ (if label == k then or_known (recall old k w) known w else recall old k w)) →
-    AreOwn labels old → shown labels label ≡ true → ((k : ℕ) → names known.when k ≡ true → record_of_label k ≡ record_of_label label) → AreOwn labels new
+    AreLocalAnswers labels old → shown_by labels label ≡ true → ((k : ℕ) → names known.when k ≡ true → record_of_label k ≡ record_of_label label) → AreLocalAnswers labels new
 own_by old new label known labels watching recalling before among of_record = record {
   own = λ k v w alike. recalling k v ∙ own_if k v w alike (label == k) refl (before.own k v w alike) ∙ sym (recalling k w);
   among = λ k j h.
-      either (names known.when k && label == j) (watches old k j) (shown labels j ≡ true) (sym (watching k j) ∙ h)
-      (λ e. ap (shown labels) (sym ((Decides-eqb label j).0 (right_true (names known.when k) (label == j) e))) ∙ among)
+      either (names known.when k && label == j) (watches old k j) (shown_by labels j ≡ true) (sym (watching k j) ∙ h)
+      (λ e. ap (shown_by labels) (sym ((Decides-eqb label j).0 (right_true (names known.when k) (label == j) e))) ∙ among)
       (before.among k j);
 }
   where
@@ -174,22 +174,22 @@ own_by old new label known labels watching recalling before among of_record = re
         (by_names known.when v w (λ j named. alike j (of_record j named ∙ ap record_of_label ((Decides-eqb label k).0 e)))))
     own_if k v w alike false e same = same
 
-pub own_start : (labels : List ℕ) (answers : Answers) → ((k : ℕ) (w : ℕ → Bool) → recall answers k w ≡ None) → ((k j : ℕ) → watches answers k j ≡ false) → AreOwn labels answers
+pub own_start : (labels : List ℕ) (answers : Answers) → ((k : ℕ) (w : ℕ → Bool) → recall answers k w ≡ None) → ((k j : ℕ) → watches answers k j ≡ false) → AreLocalAnswers labels answers
 own_start labels answers none nobody = record {
   own = λ k v w alike. none k v ∙ sym (none k w);
   among = λ k j h. absurd (let e : true ≡ false = sym h ∙ nobody k j in cc);
 }
 
-pub signed_names : (w : ℕ → Bool) (ks : List ℕ) (k : ℕ) → names (signed w ks) k ≡ shown ks k
+pub signed_names : (w : ℕ → Bool) (ks : List ℕ) (k : ℕ) → names (signed_labels w ks) k ≡ shown_by ks k
 signed_names w [] k = refl
 signed_names w (j ∷ ks) k = ap (λ b. (j == k) || b) (signed_names w ks k)
 
 -- what was spent
 
-pub spends_same : (labels : List ℕ) (n : ℕ) (answers : Answers) → AreOwn labels answers → Spends labels n n answers answers
+pub spends_same : (labels : List ℕ) (n : ℕ) (answers : Answers) → AreLocalAnswers labels answers → Spends labels n n answers answers
 spends_same labels n answers own = record { own = own; spent = omega arith }
 
-pub spends_one : (labels : List ℕ) (before now : ℕ) (old new : Answers) → AreOwn labels new → now ≤ before + 1 → room labels new + 1 ≤ room labels old → Spends labels before now old new
+pub spends_one : (labels : List ℕ) (before now : ℕ) (old new : Answers) → AreLocalAnswers labels new → now ≤ before + 1 → room labels new + 1 ≤ room labels old → Spends labels before now old new
 spends_one labels before now old new own once falls = record { own = own; spent = omega (arith, once, falls) }
 
 pub spends_then : (labels : List ℕ) (a b c : ℕ) (r s t : Answers) → Spends labels a b r s → Spends labels b c s t → Spends labels a c r t
@@ -200,11 +200,11 @@ most_then labels a b c r s first most = let f = first.spent in omega (arith, f, 
 
 -- the policy of a label of which nothing is remembered was asked, or is to be
 
-pub most_asked : (labels : List ℕ) (before now : ℕ) (old : Answers) (label : ℕ) (w : ℕ → Bool) → shown labels label ≡ true → AreOwn labels old → recall old label w ≡ None → now ≤ before + 1 →
+pub most_asked : (labels : List ℕ) (before now : ℕ) (old : Answers) (label : ℕ) (w : ℕ → Bool) → shown_by labels label ≡ true → AreLocalAnswers labels old → recall old label w ≡ None → now ≤ before + 1 →
     now ≤ before + room labels old
 most_asked labels before now old label w among own none once = let some = room_some labels labels old label w among own none in omega (arith, once, some)
 
-pub spends_asked : (labels : List ℕ) (before now : ℕ) (old new : Answers) (label : ℕ) (w : ℕ → Bool) → shown labels label ≡ true → Grown old new → AreOwn labels old → AreOwn labels new →
+pub spends_asked : (labels : List ℕ) (before now : ℕ) (old new : Answers) (label : ℕ) (w : ℕ → Bool) → shown_by labels label ≡ true → Grown old new → AreLocalAnswers labels old → AreLocalAnswers labels new →
     recall old label w ≡ None → is_some (recall new label w) ≡ true → now ≤ before + 1 → Spends labels before now old new
 spends_asked labels before now old new label w among grown own_old own_new none some once =
     spends_one labels before now old new own_new once (room_falls labels labels old new label w among grown own_old own_new none some)
@@ -225,5 +225,5 @@ pub record AsBounded (computed spent : Type 0) : Type 0 where
 pub live_most : (app : Application) (worlds : Worlds) (xs ys : List ℕ) (before now : ℕ) → IsAscending xs → IsAscending ys → AreLive app worlds xs → AreLive app worlds ys →
     now ≤ before + 256 * length xs → now ≤ before + 256 * length ys
 live_most app worlds xs ys before now up_x up_y live_x live_y most =
-    let same : xs ≡ ys = ascending_same xs ys up_x up_y (λ k. bool_eq (shown xs k) (shown ys k) (λ s. live_y.every k (live_x.only k s)) (λ s. live_x.every k (live_y.only k s))) in
+    let same : xs ≡ ys = ascending_same xs ys up_x up_y (λ k. bool_eq (shown_by xs k) (shown_by ys k) (λ s. live_y.every k (live_x.only k s)) (λ s. live_x.every k (live_y.only k s))) in
     subst (λ (l : List ℕ). now ≤ before + 256 * length l) same most

@@ -2,7 +2,7 @@
 use Rattle.std.proofs.Common.{◌≡◌, ◌==◌, ◌||◌, ◌⊎◌, inl, inr, ℕ, Bool, true, false, List, [], Option, Some, None, refl, ap, sym, subst, ◌∙◌}
 use Rattle.std.specs.Option.{is_some}
 use Rattle.std.proofs.lemmas.Bool.Decides.{Decides-eqb}
-use Rattle.jac_world.specs.World.{shown, IsAscending}
+use Rattle.jac_world.specs.World.{shown_by, IsAscending}
 use Rattle.jac_lang.specs.Syntax.{Application}
 use Rattle.jac_plain.specs.Policies.{is_allowed, with_label, IsLiveLabel, IsSettled}
 use Rattle.jac_plain.specs.Requests.{Worlds}
@@ -55,14 +55,14 @@ module _ (app : Application) (worlds : Worlds) (viewer : Option ℕ) where
   }
 
   -- labels that a pass left, whatever is due
-  pub seated_passed : (labels due : List ℕ) (answers : Answers) → IsUnderway app worlds viewer labels answers → ((k : ℕ) → shown labels k ≡ true → IsLiveLabel app worlds k) →
-      ((k : ℕ) → IsLiveLabel app worlds k → shown labels k ≡ false → StandsRefused answers k (shown labels)) →
+  pub seated_passed : (labels due : List ℕ) (answers : Answers) → IsUnderway app worlds viewer labels answers → ((k : ℕ) → shown_by labels k ≡ true → IsLiveLabel app worlds k) →
+      ((k : ℕ) → IsLiveLabel app worlds k → shown_by labels k ≡ false → StandsRefused answers k (shown_by labels)) →
       IsSeated app worlds viewer (record { labels = Some labels; answers = answers; due = due })
   seated_passed labels due answers underway live full = record {
     right = underway.right;
     watched = underway.watched;
     kept = record {
-      stays = λ k s. inl (recalled_is answers k (shown labels) true underway.right (underway.fitted.each k s) (underway.allowed k s));
+      stays = λ k s. inl (recalled_is answers k (shown_by labels) true underway.right (underway.fitted.each k s) (underway.allowed k s));
       live = λ k s not_due. live k s;
       full = λ k lives hidden not_due. full k lives hidden;
     };
@@ -73,7 +73,7 @@ module _ (app : Application) (worlds : Worlds) (viewer : Option ℕ) where
       IsSeated app worlds viewer (record { labels = Some labels; answers = answers; due = due })
   seated_all labels live due answers are passed =
       seated_passed labels due answers passed.underway (λ k s. are.only k (passed.within k s))
-      (λ k lives hidden. refused_is answers k (shown labels) passed.underway.right (passed.refused.each k (are.every k lives) hidden))
+      (λ k lives hidden. refused_is answers k (shown_by labels) passed.underway.right (passed.refused.each k (are.every k lives) hidden))
 
   -- all live labels are tried from none on
   pub underway_seated : (seat : Seat) → IsSeated app worlds viewer seat → IsUnderway app worlds viewer [] seat.answers
@@ -97,11 +97,11 @@ module _ (app : Application) (worlds : Worlds) (viewer : Option ℕ) where
         full = λ k lives hidden. (let one = kept.full k lives hidden refl in record {
           label = one.label;
           is_shown = one.is_shown;
-          forbidden = allowed_is seat.answers one.label (with_label k (shown labels)) false seated.right one.refused;
+          forbidden = allowed_is seat.answers one.label (with_label k (shown_by labels)) false seated.right one.refused;
         });
       }
         where
-          allowed_if : (k : ℕ) → (recall seat.answers k (shown labels) ≡ Some true) ⊎ ((shown [] k ≡ true) × ((w : ℕ → Bool) → recall seat.answers k w ≡ None)) →
-              is_allowed app (worlds (shown labels)) viewer k ≡ true
-          allowed_if k (inl e) = allowed_is seat.answers k (shown labels) true seated.right e
+          allowed_if : (k : ℕ) → (recall seat.answers k (shown_by labels) ≡ Some true) ⊎ ((shown_by [] k ≡ true) × ((w : ℕ → Bool) → recall seat.answers k w ≡ None)) →
+              is_allowed app (worlds (shown_by labels)) viewer k ≡ true
+          allowed_if k (inl e) = allowed_is seat.answers k (shown_by labels) true seated.right e
           allowed_if k (inr p) = absurd (let e : false ≡ true = p.0 in cc)

@@ -2,8 +2,9 @@
 use Rattle.std.proofs.Common.{◌≡◌, ◌≤◌, ◌==◌, ◌&&◌, ◌||◌, ℕ, Bool, true, false, not, if◌then◌else◌, List, [], ◌∷◌, Option, Some, None, refl, ap, sym, subst, ◌∙◌, arith}
 use Rattle.std.specs.Option.{is_some}
 use Rattle.std.proofs.lemmas.Bool.Decides.{nat_tests, Decides-eqb}
+use Rattle.std.proofs.lemmas.Bool.{or_parts, or_right}
 use mathlib.Core.Bool.{beq}
-use Rattle.jac_world.specs.World.{shown, holds, names}
+use Rattle.jac_world.specs.World.{shown_by, holds, names}
 use Rattle.jac_world.proofs.Contradict.{and_true, by_names, left_true, same_sign, sign_is}
 use Rattle.jac_lang.specs.Syntax.{Application}
 use Rattle.jac_plain.specs.Requests.{Worlds}
@@ -11,8 +12,8 @@ use Rattle.jac_plain.specs.Policies.{is_allowed, with_label}
 use Rattle.jac_pruned.specs.Consulted.{Agrees}
 use Rattle.jac_recall.specs.declared.answers.Answers.{Answers}
 use Rattle.jac_recall.specs.declared.answers.Known.{Known}
-use Rattle.jac_recall.specs.Recalled.{AreWatched, known_at, or_known, recall, signed, watches}
-use Rattle.jac_resolve.specs.Recalled.{AreRight, Fitting, Grown, IsRight, IsUnderway, RemembersForbidden, Stays, touched}
+use Rattle.jac_recall.specs.Recalled.{AreWatched, known_at, or_known, recall, signed_labels, watches}
+use Rattle.jac_resolve.specs.Recalled.{AreRight, Fitting, Grown, IsRight, IsUnderway, RemembersForbidden, Stays, is_touched}
 
 right_true : (a b : Bool) → (a && b) ≡ true → b ≡ true
 right_true true b p = p
@@ -20,9 +21,9 @@ right_true false b p = absurd cc
 
 -- the signs of what was consulted
 
-pub signed_holds : (v : ℕ → Bool) (ks : List ℕ) → holds v (signed v ks) ≡ true
+pub signed_holds : (v : ℕ → Bool) (ks : List ℕ) → holds v (signed_labels v ks) ≡ true
 signed_holds v [] = refl
-signed_holds v (k ∷ ks) = and_true (beq (v k) (v k)) (holds v (signed v ks)) (same_sign (v k)) (signed_holds v ks)
+signed_holds v (k ∷ ks) = and_true (beq (v k) (v k)) (holds v (signed_labels v ks)) (same_sign (v k)) (signed_holds v ks)
 
 agrees_if : (v w : ℕ → Bool) (j k : ℕ) (b rest also : Bool) → (j == k) ≡ b → (beq (v j) (w j) && also) ≡ true → (b || rest) ≡ true → (also ≡ true → rest ≡ true → v k ≡ w k) → v k ≡ w k
 agrees_if v w j k true rest also e h t later =
@@ -30,23 +31,15 @@ agrees_if v w j k true rest also e h t later =
     ap v (sym is) ∙ sym (sign_is (v j) (w j) (left_true (beq (v j) (w j)) also h)) ∙ ap w is
 agrees_if v w j k false rest also e h t later = later (right_true (beq (v j) (w j)) also h) t
 
-pub signed_agrees : (v w : ℕ → Bool) (ks : List ℕ) → holds w (signed v ks) ≡ true → (k : ℕ) → shown ks k ≡ true → v k ≡ w k
+pub signed_agrees : (v w : ℕ → Bool) (ks : List ℕ) → holds w (signed_labels v ks) ≡ true → (k : ℕ) → shown_by ks k ≡ true → v k ≡ w k
 signed_agrees v w [] h k s = absurd cc
-signed_agrees v w (j ∷ ks) h k s = agrees_if v w j k (j == k) (shown ks k) (holds w (signed v ks)) refl h s (λ a b. signed_agrees v w ks a k b)
+signed_agrees v w (j ∷ ks) h k s = agrees_if v w j k (j == k) (shown_by ks k) (holds w (signed_labels v ks)) refl h s (λ a b. signed_agrees v w ks a k b)
 
 -- one answer more
-
-or_false : (a b : Bool) → (a || b) ≡ false → (a ≡ false) × (b ≡ false)
-or_false true b h = absurd cc
-or_false false b h = (refl, h)
 
 pub either : (a b : Bool) (P : Type 0) → (a || b) ≡ true → (a ≡ true → P) → (b ≡ true → P) → P
 either true b P h p q = p refl
 either false b P h p q = q h
-
-pub or_right : (a b : Bool) → b ≡ true → (a || b) ≡ true
-or_right true b p = refl
-or_right false b p = p
 
 pub itself : (x : ℕ) → (x == x) ≡ true
 itself x = grind (arith, nat_tests)
@@ -148,7 +141,7 @@ shows_own v label own = λ i k. shows_if k (label == k) refl i
 -- what is known of a pass
 module _ (app : Application) (worlds : Worlds) (viewer : Option ℕ) where
   -- an answer that was asked, with the signs of what was consulted
-  pub signed_right : (v : ℕ → Bool) (label : ℕ) (support : List ℕ) (known : Known) → known.when ≡ signed v support →
+  pub signed_right : (v : ℕ → Bool) (label : ℕ) (support : List ℕ) (known : Known) → known.when ≡ signed_labels v support →
       ((w : ℕ → Bool) → Agrees support v w → known.holds ≡ is_allowed app (worlds w) viewer label) → IsRight app worlds viewer label known
   signed_right v label support known is promise = record {
     each = λ w h. promise w (record { each = signed_agrees v w support (ap (holds w) (sym is) ∙ h) });
@@ -164,14 +157,14 @@ module _ (app : Application) (worlds : Worlds) (viewer : Option ℕ) where
   }
 
   -- what a label was answered under the assignment it is answered once a label is shown that it doesn't watch
-  pub unmoved : (a : List ℕ) (answers : Answers) (k j : ℕ) → IsUnderway app worlds viewer a answers → watches answers k j ≡ false → shown a j ≡ true →
-      is_allowed app (worlds (with_label k (shown a))) viewer j ≡ true
-  unmoved a answers k j before absent s = by_answer (recall answers j (shown a)) refl (before.fitted.each j s)
+  pub unmoved : (a : List ℕ) (answers : Answers) (k j : ℕ) → IsUnderway app worlds viewer a answers → watches answers k j ≡ false → shown_by a j ≡ true →
+      is_allowed app (worlds (with_label k (shown_by a))) viewer j ≡ true
+  unmoved a answers k j before absent s = by_answer (recall answers j (shown_by a)) refl (before.fitted.each j s)
     where
-      by_answer : (o : Option Bool) → recall answers j (shown a) ≡ o → is_some o ≡ true → is_allowed app (worlds (with_label k (shown a))) viewer j ≡ true
+      by_answer : (o : Option Bool) → recall answers j (shown_by a) ≡ o → is_some o ≡ true → is_allowed app (worlds (with_label k (shown_by a))) viewer j ≡ true
       by_answer (Some b) e h =
-          sym (before.right.each j (with_label k (shown a)) b (unwatched answers before.watched k j absent (shown a) ∙ e))
-          ∙ before.right.each j (shown a) b e ∙ before.allowed j s
+          sym (before.right.each j (with_label k (shown_by a)) b (unwatched answers before.watched k j absent (shown_by a) ∙ e))
+          ∙ before.right.each j (shown_by a) b e ∙ before.allowed j s
       by_answer None e h = absurd cc
 
   -- none was added
@@ -180,11 +173,11 @@ module _ (app : Application) (worlds : Worlds) (viewer : Option ℕ) where
     right = right;
     allowed = before.allowed;
     watched = grown.watched before.watched;
-    fitted = record { each = λ k s. grown.kept k (shown a) (before.fitted.each k s) };
+    fitted = record { each = λ k s. grown.kept k (shown_by a) (before.fitted.each k s) };
   }
 
   -- the same are shown
-  pub underway_same : (a new : List ℕ) (answers : Answers) → ((j : ℕ) → shown new j ≡ shown a j) → IsUnderway app worlds viewer a answers → IsUnderway app worlds viewer new answers
+  pub underway_same : (a new : List ℕ) (answers : Answers) → ((j : ℕ) → shown_by new j ≡ shown_by a j) → IsUnderway app worlds viewer a answers → IsUnderway app worlds viewer new answers
   underway_same a new answers still before = record {
     right = before.right;
     allowed = λ k s. ap (λ (w : ℕ → Bool). is_allowed app (worlds w) viewer k) same ∙ before.allowed k (sym (still k) ∙ s);
@@ -192,36 +185,36 @@ module _ (app : Application) (worlds : Worlds) (viewer : Option ℕ) where
     fitted = record { each = λ k s. ap (λ (w : ℕ → Bool). is_some (recall answers k w)) same ∙ before.fitted.each k (sym (still k) ∙ s) };
   }
     where
-      same : shown new ≡ shown a
+      same : shown_by new ≡ shown_by a
       same = λ i j. still j i
 
   -- one was
-  pub underway_added : (a more : List ℕ) (k : ℕ) (old new : Answers) → ((j : ℕ) → shown more j ≡ with_label k (shown a) j) → IsUnderway app worlds viewer a old →
-      AreRight app worlds viewer new → Grown old new → Stays app worlds viewer new (shown more) (touched old k) true → Fitting new (shown more) (touched old k) true → IsUnderway app worlds viewer more new
+  pub underway_added : (a more : List ℕ) (k : ℕ) (old new : Answers) → ((j : ℕ) → shown_by more j ≡ with_label k (shown_by a) j) → IsUnderway app worlds viewer a old →
+      AreRight app worlds viewer new → Grown old new → Stays app worlds viewer new (shown_by more) (is_touched old k) true → Fitting new (shown_by more) (is_touched old k) true → IsUnderway app worlds viewer more new
   underway_added a more k old new also before right grown stays fits = record {
     right = right;
-    allowed = λ j s. allowed_if j s (touched old k j) refl;
+    allowed = λ j s. allowed_if j s (is_touched old k j) refl;
     watched = grown.watched before.watched;
-    fitted = record { each = λ j s. fitted_if j s (touched old k j) refl };
+    fitted = record { each = λ j s. fitted_if j s (is_touched old k j) refl };
   }
     where
-      same : shown more ≡ with_label k (shown a)
+      same : shown_by more ≡ with_label k (shown_by a)
       same = λ i j. also j i
 
-      allowed_if : (j : ℕ) → shown more j ≡ true → (b : Bool) → touched old k j ≡ b → is_allowed app (worlds (shown more)) viewer j ≡ true
+      allowed_if : (j : ℕ) → shown_by more j ≡ true → (b : Bool) → is_touched old k j ≡ b → is_allowed app (worlds (shown_by more)) viewer j ≡ true
       allowed_if j s true e = stays j e s
       allowed_if j s false e =
-          let apart = or_false (k == j) (watches old k j) e in
-          let was : shown a j ≡ true = sym (ap (λ b. b || shown a j) apart.0) ∙ sym (also j) ∙ s in
+          let apart = or_parts (k == j) (watches old k j) e in
+          let was : shown_by a j ≡ true = sym (ap (λ b. b || shown_by a j) apart.0) ∙ sym (also j) ∙ s in
           ap (λ (w : ℕ → Bool). is_allowed app (worlds w) viewer j) same ∙ unmoved a old k j before apart.1 was
 
-      fitted_if : (j : ℕ) → shown more j ≡ true → (b : Bool) → touched old k j ≡ b → is_some (recall new j (shown more)) ≡ true
+      fitted_if : (j : ℕ) → shown_by more j ≡ true → (b : Bool) → is_touched old k j ≡ b → is_some (recall new j (shown_by more)) ≡ true
       fitted_if j s true e = fits j e s
       fitted_if j s false e =
-          let apart = or_false (k == j) (watches old k j) e in
-          let was : shown a j ≡ true = sym (ap (λ b. b || shown a j) apart.0) ∙ sym (also j) ∙ s in
-          grown.kept j (shown more)
-          (ap (λ (w : ℕ → Bool). is_some (recall old j w)) same ∙ ap is_some (unwatched old before.watched k j apart.1 (shown a)) ∙ before.fitted.each j was)
+          let apart = or_parts (k == j) (watches old k j) e in
+          let was : shown_by a j ≡ true = sym (ap (λ b. b || shown_by a j) apart.0) ∙ sym (also j) ∙ s in
+          grown.kept j (shown_by more)
+          (ap (λ (w : ℕ → Bool). is_some (recall old j w)) same ∙ ap is_some (unwatched old before.watched k j apart.1 (shown_by a)) ∙ before.fitted.each j was)
 
   -- what is known at the end of a pass may be where the next one begins
   pub underway_none : (a : List ℕ) (answers : Answers) → IsUnderway app worlds viewer a answers → IsUnderway app worlds viewer [] answers
@@ -233,19 +226,19 @@ module _ (app : Application) (worlds : Worlds) (viewer : Option ℕ) where
   }
 
   -- it is remembered that the label isn't allowed once it is shown
-  pub refused_known : (a : List ℕ) (answers : Answers) (k : ℕ) → AreRight app worlds viewer answers → recall answers k (with_label k (shown a)) ≡ Some false →
-      RemembersForbidden app worlds viewer answers (with_label k (shown a))
+  pub refused_known : (a : List ℕ) (answers : Answers) (k : ℕ) → AreRight app worlds viewer answers → recall answers k (with_label k (shown_by a)) ≡ Some false →
+      RemembersForbidden app worlds viewer answers (with_label k (shown_by a))
   refused_known a answers k right is = record {
     label = k;
-    is_shown = ap (λ b. b || shown a k) (itself k);
-    forbidden = sym (right.each k (with_label k (shown a)) false is);
+    is_shown = ap (λ b. b || shown_by a k) (itself k);
+    forbidden = sym (right.each k (with_label k (shown_by a)) false is);
     known = ap is_some is;
   }
 
-  pub refused_also : (a more : List ℕ) (answers : Answers) (k : ℕ) → ((j : ℕ) → shown more j ≡ with_label k (shown a) j) → RemembersForbidden app worlds viewer answers (shown more) →
-      RemembersForbidden app worlds viewer answers (with_label k (shown a))
+  pub refused_also : (a more : List ℕ) (answers : Answers) (k : ℕ) → ((j : ℕ) → shown_by more j ≡ with_label k (shown_by a) j) → RemembersForbidden app worlds viewer answers (shown_by more) →
+      RemembersForbidden app worlds viewer answers (with_label k (shown_by a))
   refused_also a more answers k also refused =
-      let same : shown more ≡ with_label k (shown a) = λ i j. also j i in
+      let same : shown_by more ≡ with_label k (shown_by a) = λ i j. also j i in
       subst (λ (w : ℕ → Bool). RemembersForbidden app worlds viewer answers w) same refused
 
   -- what was remembered still is
@@ -268,8 +261,8 @@ module _ (app : Application) (worlds : Worlds) (viewer : Option ℕ) where
   stays_hidden answers w label hidden = λ j e s. absurd (let both : true ≡ false = sym s ∙ ap w (sym ((Decides-eqb label j).0 e)) ∙ hidden in cc)
 
   -- the label, and then those that watch it
-  pub stays_both : (w : ℕ → Bool) (old mid new : Answers) (label : ℕ) (watchers : List ℕ) (b : Bool) → ((j : ℕ) → shown watchers j ≡ watches mid label j) → Grown old mid →
-      Stays app worlds viewer mid w (λ j. label == j) true → Stays app worlds viewer new w (shown watchers) b → Stays app worlds viewer new w (touched old label) b
+  pub stays_both : (w : ℕ → Bool) (old mid new : Answers) (label : ℕ) (watchers : List ℕ) (b : Bool) → ((j : ℕ) → shown_by watchers j ≡ watches mid label j) → Grown old mid →
+      Stays app worlds viewer mid w (λ j. label == j) true → Stays app worlds viewer new w (shown_by watchers) b → Stays app worlds viewer new w (is_touched old label) b
   stays_both w old mid new label watchers true are grown own stays = λ j e s.
       either (label == j) (watches old label j) (is_allowed app (worlds w) viewer j ≡ true) e (λ same. own j same s) (λ watching. stays j (are j ∙ grown.watching label j watching) s)
   stays_both w old mid new label watchers false are grown own stays = stays
@@ -281,15 +274,15 @@ fits_one answers w label false h = tt
 pub fits_hidden : (answers : Answers) (w : ℕ → Bool) (label : ℕ) → w label ≡ false → Fitting answers w (λ j. label == j) true
 fits_hidden answers w label hidden = λ j e s. absurd (let both : true ≡ false = sym s ∙ ap w (sym ((Decides-eqb label j).0 e)) ∙ hidden in cc)
 
-pub fits_both : (w : ℕ → Bool) (old mid new : Answers) (label : ℕ) (watchers : List ℕ) (b : Bool) → ((j : ℕ) → shown watchers j ≡ watches mid label j) → Grown old mid → Grown mid new →
-    Fitting mid w (λ j. label == j) true → Fitting new w (shown watchers) b → Fitting new w (touched old label) b
+pub fits_both : (w : ℕ → Bool) (old mid new : Answers) (label : ℕ) (watchers : List ℕ) (b : Bool) → ((j : ℕ) → shown_by watchers j ≡ watches mid label j) → Grown old mid → Grown mid new →
+    Fitting mid w (λ j. label == j) true → Fitting new w (shown_by watchers) b → Fitting new w (is_touched old label) b
 fits_both w old mid new label watchers true are grown more own fits = λ j e s.
     either (label == j) (watches old label j) (is_some (recall new j w) ≡ true) e (λ same. more.kept j w (own j same s)) (λ watching. fits j (are j ∙ grown.watching label j watching) s)
 fits_both w old mid new label watchers false are grown more own fits = tt
 
 -- a property of all labels but those that are left
 abbrev pub AllBut : (ℕ → Type 0) → List ℕ → List ℕ → Type 0
-AllBut P all left = (j : ℕ) → shown all j ≡ true → shown left j ≡ false → P j
+AllBut P all left = (j : ℕ) → shown_by all j ≡ true → shown_by left j ≡ false → P j
 
 pub but_start : (P : ℕ → Type 0) (all : List ℕ) → AllBut P all all
 but_start P all j s absent = absurd (let both : true ≡ false = sym s ∙ absent in cc)
@@ -299,10 +292,10 @@ but_next P all left rest x is one before j s absent = next_if (x == j) refl
   where
     next_if : (b : Bool) → (x == j) ≡ b → P j
     next_if true e = subst P ((Decides-eqb x j).0 e) one
-    next_if false e = before j s (ap (λ l. shown l j) is ∙ ap (λ b. b || shown rest j) e ∙ absent)
+    next_if false e = before j s (ap (λ l. shown_by l j) is ∙ ap (λ b. b || shown_by rest j) e ∙ absent)
 
-pub but_end : (P : ℕ → Type 0) (all left : List ℕ) → left ≡ [] → AllBut P all left → (j : ℕ) → shown all j ≡ true → P j
-but_end P all left none before j s = before j s (ap (λ l. shown l j) none)
+pub but_end : (P : ℕ → Type 0) (all left : List ℕ) → left ≡ [] → AllBut P all left → (j : ℕ) → shown_by all j ≡ true → P j
+but_end P all left none before j s = before j s (ap (λ l. shown_by l j) none)
 
 -- what is known while watchers are asked, told or not, and what is known beside
 pub record InWatching (before now : ℕ) (old new : Answers) (w : ℕ → Bool) (all left : List ℕ) (beside : Type 0) : Type 0 where
@@ -312,10 +305,10 @@ pub record InWatching (before now : ℕ) (old new : Answers) (w : ℕ → Bool) 
   pub working : beside
 
 -- one that was added and taken back
-pub taken_back : (a more new : List ℕ) (k : ℕ) → shown a k ≡ false → ((j : ℕ) → shown more j ≡ with_label k (shown a) j) → ((j : ℕ) → shown new j ≡ (not (k == j) && shown more j)) →
-    (j : ℕ) → shown new j ≡ shown a j
+pub taken_back : (a more new : List ℕ) (k : ℕ) → shown_by a k ≡ false → ((j : ℕ) → shown_by more j ≡ with_label k (shown_by a) j) → ((j : ℕ) → shown_by new j ≡ (not (k == j) && shown_by more j)) →
+    (j : ℕ) → shown_by new j ≡ shown_by a j
 taken_back a more new k hidden also without j = without j ∙ ap (λ b. not (k == j) && b) (also j) ∙ back_if (k == j) refl
   where
-    back_if : (b : Bool) → (k == j) ≡ b → (not b && (b || shown a j)) ≡ shown a j
-    back_if true e = sym (ap (shown a) (sym ((Decides-eqb k j).0 e)) ∙ hidden)
+    back_if : (b : Bool) → (k == j) ≡ b → (not b && (b || shown_by a j)) ≡ shown_by a j
+    back_if true e = sym (ap (shown_by a) (sym ((Decides-eqb k j).0 e)) ∙ hidden)
     back_if false e = refl

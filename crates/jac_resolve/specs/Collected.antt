@@ -1,18 +1,13 @@
 -- The labels of all groups of the records that have rows.
 use Rattle.std.specs.Prelude.{◌≡◌, ◌==◌, ℕ, zero, suc, ◌<◌, ◌≤◌, Bool, true, false, List, [], ◌∷◌, ◌++◌, length, All}
 use Rattle.std.specs.List.{list_any}
-use Rattle.jac_value.specs.Ids.{label_of, record_of_label, model_of_id}
-use Rattle.jac_world.specs.World.{holds, wanted}
+use Rattle.jac_value.specs.Ids.{label_of, record_of_label, model_of_id, labels_below}
+use Rattle.jac_world.specs.World.{holds, guard_wants}
 use Rattle.jac_lang.specs.Lookup.{groups_at}
 use Rattle.jac_lang.specs.Syntax.{Entity}
 use Rattle.jac_rows.specs.declared.row.Row.{Row}
 use Rattle.jac_rows.specs.declared.state.State.{State}
 use Rattle.jac_rows.specs.Tables.{rows_of}
-
--- the labels of a record's first groups
-abbrev pub labels_below : ℕ → ℕ → List ℕ
-labels_below id zero = []
-labels_below id (suc n) = labels_below id n ++ label_of id n ∷ []
 
 abbrev pub labels_of_rows : ℕ → List Row → List ℕ
 labels_of_rows n [] = []
@@ -26,7 +21,7 @@ labels_before models tables (suc m) =
 
 -- each guard holds under some assignment
 abbrev pub CanHold : List Row → Type 0
-CanHold rows = All (λ (r : Row). holds (wanted r.guard) r.guard ≡ true) rows
+CanHold rows = All (λ (r : Row). holds (guard_wants r.guard) r.guard ≡ true) rows
 
 -- the labels of the first models; where a model has groups, the guards of its rows can hold
 pub record Collects (models : List Entity) (tables : List (List Row)) (n : ℕ)

@@ -1,6 +1,6 @@
 -- What is remembered of policies, while labels are tried.
 use Rattle.std.specs.Prelude.{◌≡◌, ◌==◌, ◌||◌, ℕ, Bool, true, false, List, Option, Some, is_some, ⊤}
-use Rattle.jac_world.specs.World.{shown, holds}
+use Rattle.jac_world.specs.World.{shown_by, holds}
 use Rattle.jac_lang.specs.Syntax.{Application}
 use Rattle.jac_plain.specs.Requests.{Worlds}
 use Rattle.jac_plain.specs.Policies.{is_allowed, with_label, AreAllowed}
@@ -33,7 +33,7 @@ pub record Grown (old new : Answers) : Type 0 where
 
 -- what was shown still is, and what was remembered
 pub record Retains (old new : List ℕ) (before now : Answers) : Type 0 where
-  pub shows : (k : ℕ) → shown old k ≡ true → shown new k ≡ true
+  pub shows : (k : ℕ) → shown_by old k ≡ true → shown_by new k ≡ true
   pub grown : Grown before now
 
 -- what holds between two tries
@@ -42,7 +42,7 @@ pub record IsUnderway (app : Application) (worlds : Worlds) (viewer : Option ℕ
   pub right : AreRight app worlds viewer answers
   pub allowed : AreAllowed app worlds viewer a
   pub watched : AreWatched answers
-  pub fitted : AreFitted answers (shown a)
+  pub fitted : AreFitted answers (shown_by a)
 
 -- some label that the assignment shows isn't allowed under it, and that is remembered
 pub record RemembersForbidden (app : Application) (worlds : Worlds) (viewer : Option ℕ)
@@ -67,20 +67,21 @@ Fitting answers w asked true = (j : ℕ) → asked j ≡ true → w j ≡ true
 Fitting answers w asked false = ⊤
 
 -- the label, and those that watch it
-abbrev pub touched : Answers → ℕ → ℕ → Bool
-touched answers k j = k == j || watches answers k j
+abbrev pub is_touched : Answers → ℕ → ℕ → Bool
+is_touched answers k j = k == j || watches answers k j
 
 -- the label was added, and all are allowed; or it can't be added
 abbrev pub Tries : Application → Worlds → Option ℕ → Answers → ℕ → List ℕ → List ℕ → Bool → Type 0
 Tries app worlds viewer answers k old new true = AreAllowed app worlds viewer new
 Tries app worlds viewer answers k old new false =
-    shown old k ≡ false → RemembersForbidden app worlds viewer answers (with_label k (shown old))
+    shown_by old k ≡ false → RemembersForbidden app worlds viewer answers (with_label k
+    (shown_by old))
 
 -- none of the labels can be added
 pub record AreRefused (app : Application) (worlds : Worlds) (viewer : Option ℕ) (answers : Answers)
     (labels new : List ℕ) : Type 0 where
-  pub each : (k : ℕ) → shown labels k ≡ true → shown new k ≡ false →
-      RemembersForbidden app worlds viewer answers (with_label k (shown new))
+  pub each : (k : ℕ) → shown_by labels k ≡ true → shown_by new k ≡ false →
+      RemembersForbidden app worlds viewer answers (with_label k (shown_by new))
 
 -- after a round that added none, none of the labels can be added
 abbrev pub Fills : Application → Worlds → Option ℕ → Answers → List ℕ → List ℕ → Bool → Type 0
@@ -91,6 +92,6 @@ Fills app worlds viewer answers labels new false = AreRefused app worlds viewer 
 -- added. What was answered for it is remembered
 pub record IsPassed (app : Application) (worlds : Worlds) (viewer : Option ℕ) (answers : Answers)
     (tried labels : List ℕ) : Type 0 where
-  pub within : (k : ℕ) → shown labels k ≡ true → shown tried k ≡ true
+  pub within : (k : ℕ) → shown_by labels k ≡ true → shown_by tried k ≡ true
   pub underway : IsUnderway app worlds viewer labels answers
   pub refused : AreRefused app worlds viewer answers tried labels

@@ -1,7 +1,7 @@
 -- How much there is left to ask of policies that consult labels of their own record alone.
 use Rattle.std.specs.Prelude.{◌≡◌, ◌==◌, ◌≤◌, ◌+◌, ℕ, zero, suc, Bool, true, false, List, [], ◌∷◌, Option, is_some, if◌then◌else◌}
 use Rattle.jac_value.specs.Ids.{label_of, record_of_label}
-use Rattle.jac_world.specs.World.{shown}
+use Rattle.jac_world.specs.World.{shown_by}
 use Rattle.jac_recall.specs.declared.answers.Answers.{Answers}
 use Rattle.jac_recall.specs.Recalled.{recall, watches}
 
@@ -10,25 +10,25 @@ abbrev pub with_sign : ℕ → Bool → (ℕ → Bool) → ℕ → Bool
 with_sign k b w j = if k == j then b else w j
 
 -- under how many signs of the labels of a record's first groups nothing is known
-unfoldable pub unknown : ℕ → ℕ → ((ℕ → Bool) → Option Bool) → (ℕ → Bool) → ℕ
-unknown zero id f w = if is_some (f w) then 0 else 1
-unknown (suc n) id f w = unknown n id f (with_sign (label_of id n) true w)
-    + unknown n id f (with_sign (label_of id n) false w)
+unfoldable pub unknown_signs : ℕ → ℕ → ((ℕ → Bool) → Option Bool) → (ℕ → Bool) → ℕ
+unknown_signs zero id f w = if is_some (f w) then 0 else 1
+unknown_signs (suc n) id f w = unknown_signs n id f (with_sign (label_of id n) true w)
+    + unknown_signs n id f (with_sign (label_of id n) false w)
 
 -- for each of the labels, under how many signs of its record's labels nothing is remembered of it
 abbrev pub room : List ℕ → Answers → ℕ
 room [] answers = 0
 room (k ∷ ks) answers =
-    unknown 8 (record_of_label k) (recall answers k) (λ j. false) + room ks answers
+    unknown_signs 8 (record_of_label k) (recall answers k) (λ j. false) + room ks answers
 
 -- what is remembered of a label hangs on labels of its own record alone, and those that watch a
 -- label are among these
-pub record AreOwn (labels : List ℕ) (answers : Answers) : Type 0 where
+pub record AreLocalAnswers (labels : List ℕ) (answers : Answers) : Type 0 where
   pub own : (k : ℕ) (v w : ℕ → Bool) → ((j : ℕ) → record_of_label j ≡ record_of_label k → v j ≡ w j)
       → recall answers k v ≡ recall answers k w
-  pub among : (k j : ℕ) → watches answers k j ≡ true → shown labels j ≡ true
+  pub among : (k j : ℕ) → watches answers k j ≡ true → shown_by labels j ≡ true
 
 -- what was asked is no longer left to ask
 pub record Spends (labels : List ℕ) (before now : ℕ) (old new : Answers) : Type 0 where
-  pub own : AreOwn labels new
+  pub own : AreLocalAnswers labels new
   pub spent : now + room labels new ≤ before + room labels old

@@ -1,16 +1,12 @@
 -- What the steps of the greedy pass leave. The definition of a settled set knows none of it.
 use Rattle.std.specs.Prelude.{◌≡◌, ℕ, ◌+◌, ◌<◌, Bool, true, false, if◌then◌else◌, ◌||◌, List, [], ◌∷◌}
-use Rattle.jac_world.specs.World.{shown}
+use Rattle.jac_world.specs.World.{shown_by}
 use Rattle.jac_lang.specs.Syntax.{Application}
 use Rattle.jac_rows.specs.Project.{project_at}
 use Rattle.jac_plain.specs.Requests.{Worlds}
 use Rattle.jac_rows.specs.declared.state.State.{State}
 use Rattle.jac_rows.specs.Good.{IsSound}
 use Rattle.jac_plain.specs.Policies.{with_label, IsLiveLabel}
-
--- the worlds of a faceted state
-abbrev pub worlds_of : State → Worlds
-worlds_of s w = project_at w s
 
 -- the tables are those of a sound state: of the state itself, or once a later number is set
 pub record HasSoundTables (s : State) : Type 0 where
@@ -19,8 +15,8 @@ pub record HasSoundTables (s : State) : Type 0 where
 
 -- the labels are the live ones
 pub record AreLive (app : Application) (worlds : Worlds) (labels : List ℕ) : Type 0 where
-  pub only : (k : ℕ) → shown labels k ≡ true → IsLiveLabel app worlds k
-  pub every : (k : ℕ) → IsLiveLabel app worlds k → shown labels k ≡ true
+  pub only : (k : ℕ) → shown_by labels k ≡ true → IsLiveLabel app worlds k
+  pub every : (k : ℕ) → IsLiveLabel app worlds k → shown_by labels k ≡ true
 
 -- how many of the labels aren't shown
 abbrev pub hidden_count : (ℕ → Bool) → List ℕ → ℕ
@@ -29,14 +25,17 @@ hidden_count w (k ∷ ks) = (if w k then 0 else 1) + hidden_count w ks
 
 -- one label more is shown, or the same are
 abbrev pub MayAdd : ℕ → List ℕ → List ℕ → Bool → Type 0
-MayAdd k old new true = (shown old k ≡ false) × ((j : ℕ) → shown new j ≡ with_label k (shown old) j)
-MayAdd k old new false = (j : ℕ) → shown new j ≡ shown old j
+MayAdd k old new true = (shown_by old k ≡ false) × ((j : ℕ) → shown_by new j ≡ with_label k
+    (shown_by old) j)
+MayAdd k old new false = (j : ℕ) → shown_by new j ≡ shown_by old j
 
 -- fewer of the labels are hidden, or the same are shown
 abbrev pub Advances : List ℕ → List ℕ → List ℕ → Bool → Type 0
-Advances labels old new true = hidden_count (shown new) labels < hidden_count (shown old) labels
-Advances labels old new false = (j : ℕ) → shown new j ≡ shown old j
+Advances labels old new true = hidden_count (shown_by new) labels < hidden_count
+    (shown_by old) labels
+Advances labels old new false = (j : ℕ) → shown_by new j ≡ shown_by old j
 
 -- what a round adds is among the labels
 abbrev pub Within : List ℕ → List ℕ → List ℕ → Type 0
-Within labels old new = (j : ℕ) → shown new j ≡ true → (shown old j || shown labels j) ≡ true
+Within labels old new = (j : ℕ) → shown_by new j ≡ true → (shown_by old j || shown_by labels j)
+    ≡ true

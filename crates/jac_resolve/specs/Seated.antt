@@ -1,6 +1,6 @@
 -- What was settled for somebody, as far as it is still right.
 use Rattle.std.specs.Prelude.{◌≡◌, ◌⊎◌, ℕ, Bool, true, false, List, [], Option, Some, None, is_some, ⊤}
-use Rattle.jac_world.specs.World.{shown}
+use Rattle.jac_world.specs.World.{shown_by}
 use Rattle.jac_lang.specs.Syntax.{Application}
 use Rattle.jac_plain.specs.Policies.{IsLiveLabel, with_label}
 use Rattle.jac_plain.specs.Requests.{Worlds}
@@ -20,12 +20,13 @@ pub record StandsRefused (answers : Answers) (k : ℕ) (w : ℕ → Bool) : Type
 -- labels that aren't due each that is shown is live, and each live one that is hidden is refused
 pub record AreSettledBut (app : Application) (worlds : Worlds) (answers : Answers)
     (labels due : List ℕ) : Type 0 where
-  pub stays : (k : ℕ) → shown labels k ≡ true →
-      (recall answers k (shown labels) ≡ Some true)
-      ⊎ ((shown due k ≡ true) × ((w : ℕ → Bool) → recall answers k w ≡ None))
-  pub live : (k : ℕ) → shown labels k ≡ true → shown due k ≡ false → IsLiveLabel app worlds k
-  pub full : (k : ℕ) → IsLiveLabel app worlds k → shown labels k ≡ false → shown due k ≡ false →
-      StandsRefused answers k (shown labels)
+  pub stays : (k : ℕ) → shown_by labels k ≡ true →
+      (recall answers k (shown_by labels) ≡ Some true)
+      ⊎ ((shown_by due k ≡ true) × ((w : ℕ → Bool) → recall answers k w ≡ None))
+  pub live : (k : ℕ) → shown_by labels k ≡ true → shown_by due k ≡ false → IsLiveLabel app worlds k
+  pub full : (k : ℕ) → IsLiveLabel app worlds k → shown_by labels k ≡ false → shown_by due k
+      ≡ false →
+      StandsRefused answers k (shown_by labels)
 
 abbrev pub AreSettledButIf : Application → Worlds → Answers → Option (List ℕ) → List ℕ → Type 0
 AreSettledButIf app worlds answers None due = ⊤
@@ -58,18 +59,18 @@ seat_labels (Some labels) = labels
 
 -- what was due still is, and apart from what is due the same labels are shown
 pub record IsWidened (old new : Seat) : Type 0 where
-  pub due : (k : ℕ) → shown old.due k ≡ true → shown new.due k ≡ true
-  pub same : (k : ℕ) → shown new.due k ≡ false
-      → shown (seat_labels new.labels) k ≡ shown (seat_labels old.labels) k
+  pub due : (k : ℕ) → shown_by old.due k ≡ true → shown_by new.due k ≡ true
+  pub same : (k : ℕ) → shown_by new.due k ≡ false
+      → shown_by (seat_labels new.labels) k ≡ shown_by (seat_labels old.labels) k
 
 -- what was due is among some labels that no answer links to others, and apart from these the same
 -- are shown
 pub record IsSettledApart (old new : Seat) : Type 0 where
   pub near : List ℕ
-  pub due : (k : ℕ) → shown old.due k ≡ true → shown near k ≡ true
+  pub due : (k : ℕ) → shown_by old.due k ≡ true → shown_by near k ≡ true
   pub linked : IsLinked new.answers near
-  pub same : (k : ℕ) → shown near k ≡ false
-      → shown (seat_labels new.labels) k ≡ shown (seat_labels old.labels) k
+  pub same : (k : ℕ) → shown_by near k ≡ false
+      → shown_by (seat_labels new.labels) k ≡ shown_by (seat_labels old.labels) k
 
 -- no answer links the labels that were tried to others, or they are due again
 abbrev pub TriesApart : Seat → Seat → Bool → Type 0
@@ -79,4 +80,4 @@ TriesApart old new false = IsWidened old new
 -- no answer links the labels to others, or these are among more
 abbrev pub Widens : Answers → List ℕ → Option (List ℕ) → Type 0
 Widens answers near None = IsLinked answers near
-Widens answers near (Some all) = (k : ℕ) → shown near k ≡ true → shown all k ≡ true
+Widens answers near (Some all) = (k : ℕ) → shown_by near k ≡ true → shown_by all k ≡ true

@@ -2,7 +2,6 @@ ghost use Rattle.std.specs.Prelude.{◌≡◌, ◌&&◌, ◌↔◌, ℕ, true, L
 ghost use Rattle.jac_lang.specs.Syntax.{Application};
 ghost use Rattle.jac_rows.specs.declared.state.State.{State};
 ghost use Rattle.jac_plain.specs.Policies.{has_group, IsLiveLabel, IsSettled};
-ghost use Rattle.jac_resolve.specs.Rounds.{worlds_of};
 ghost use Rattle.jac_plain.specs.Requests.{Worlds};
 ghost use Rattle.jac_recall.specs.declared.seat.Seat.{Seat as Kept};
 ghost use Rattle.jac_recall.specs.declared.touch.Touch.{Touch as Change};
@@ -10,6 +9,7 @@ ghost use Rattle.jac_recall.specs.Seats.{IsEmptySeat, Unsettles};
 ghost use Rattle.jac_recall.specs.Touched.{IsCovered};
 ghost use Rattle.jac_resolve.specs.Collected.{has_row, AllCanHold};
 ghost use Rattle.jac_resolve.specs.Seated.{IsSeated};
+ghost use Rattle.jac_plain.specs.Shown.{worlds_of};
 
 /// A law: where no guard contradicts itself, the live labels are those of all groups of every
 /// record that has a row.

@@ -1,14 +1,16 @@
 //! The labels that may be shown at all.
 ghost use Rattle.std.specs.Prelude.{◌≡◌, ◌<◌, ◌≤◌, ◌^◌, ◌++◌, ◌∷◌, [], ◌&&◌, ◌↔◌, ℕ, true, if◌then◌else◌, All, length, IfOk, OnOk, IsTrue};
-ghost use Rattle.jac_world.specs.World.{shown, holds, wanted, IsAscending};
+ghost use Rattle.jac_world.specs.World.{shown_by, holds, guard_wants, IsAscending};
 ghost use Rattle.jac_lang.specs.Mirror.{application_of, entities_of};
 ghost use Rattle.jac_rows.specs.Tables.{rows_of};
 ghost use Rattle.jac_rows.specs.declared.row.Row.{Row as Alternative};
 ghost use Rattle.jac_keep.specs.Worked.{state_of, IsTold, ReadsWork};
 ghost use Rattle.jac_plain.specs.Policies.{has_group, IsLiveLabel};
-ghost use Rattle.jac_resolve.specs.Rounds.{worlds_of, HasSoundTables, AreLive};
+ghost use Rattle.jac_resolve.specs.Rounds.{HasSoundTables, AreLive};
 ghost use Rattle.jac_resolve.specs.Live.{AreLiveOf};
-ghost use Rattle.jac_resolve.specs.Collected.{labels_below, labels_of_rows, CanBeSeen, Collects, CanHold, has_row};
+ghost use Rattle.jac_resolve.specs.Collected.{labels_of_rows, CanBeSeen, Collects, CanHold, has_row};
+ghost use Rattle.jac_plain.specs.Shown.{worlds_of};
+ghost use Rattle.jac_value.specs.Ids.{labels_below};
 
 use crate::permission::{has_group, record_of};
 use jac_keep::{Keeper, Stop, Work};
@@ -24,7 +26,7 @@ pub fn live_labels<K: Keeper>(work: &mut Work<'_, K>, app: &App) -> Result<Label
     requires sound { IsTold K.seen work.old → HasSoundTables (state_of K.seen work.old) }
     ensures live { IsTold K.seen work.new
         → IfOk result (AreLive (application_of app.now) (worlds_of (state_of K.seen work.old))) }
-    ensures by_rows { IsTold K.seen work.new → IfOk result (λ ls. (k : ℕ) → shown ls k
+    ensures by_rows { IsTold K.seen work.new → IfOk result (λ ls. (k : ℕ) → shown_by ls k
         ≡ (has_group (application_of app.now) k && has_row (state_of K.seen work.old) k)) }
     ensures ascending { IfOk result IsAscending }
     ensures reads { ReadsWork K.seen work.old work.new result }
@@ -156,7 +158,7 @@ fn add_row(labels: &mut Vec<Label>, row: &Row, groups: u8) -> Result<(), Memory>
     requires few { groups ≤ 8 }
     ensures labels { row.now.id < 2 ^ 124
         → OnOk result (labels.new.items ≡ labels.old.items ++ labels_below row.now.id groups) }
-    ensures guard { holds (wanted row.now.guard) row.now.guard ≡ true }
+    ensures guard { holds (guard_wants row.now.guard) row.now.guard ≡ true }
 {
     // A guard that is read never contradicts itself.
     let _ = row.guard.pairs();

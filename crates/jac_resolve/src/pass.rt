@@ -1,15 +1,16 @@
 //! The greedy pass that settles which labels a viewer is shown.
 ghost use Rattle.std.specs.Prelude.{◌≡◌, ◌==◌, ◌≤◌, ◌+◌, ◌*◌, ℕ, Bool, true, List, [], length, is_some, IfOk, OnOk, IsTrue};
-ghost use Rattle.jac_world.specs.World.{shown, holds, names, IsAscending};
+ghost use Rattle.jac_world.specs.World.{shown_by, holds, names, IsAscending};
 ghost use Rattle.jac_value.specs.Ids.{record_of_label};
 ghost use Rattle.jac_lang.specs.Mirror.{application_of};
 ghost use Rattle.jac_keep.specs.Worked.{state_of, IsTold, ReadsWork};
 ghost use Rattle.jac_pruned.specs.Local.{IsLocalCase};
 ghost use Rattle.jac_plain.specs.Policies.{IsSettled, is_allowed};
 ghost use Rattle.jac_recall.specs.Recalled.{recall};
-ghost use Rattle.jac_resolve.specs.Recalled.{AreRight, Fills, Fitting, Grown, IsPassed, IsRight, IsUnderway, Retains, Stays, Tries, touched};
-ghost use Rattle.jac_resolve.specs.Room.{AreOwn, Spends, room};
-ghost use Rattle.jac_resolve.specs.Rounds.{worlds_of, HasSoundTables, AreLive, MayAdd, Advances, Within};
+ghost use Rattle.jac_resolve.specs.Recalled.{AreRight, Fills, Fitting, Grown, IsPassed, IsRight, IsUnderway, Retains, Stays, Tries, is_touched};
+ghost use Rattle.jac_resolve.specs.Room.{AreLocalAnswers, Spends, room};
+ghost use Rattle.jac_resolve.specs.Rounds.{HasSoundTables, AreLive, MayAdd, Advances, Within};
+ghost use Rattle.jac_plain.specs.Shown.{worlds_of};
 
 use crate::live::live_labels;
 use crate::memory::from_world;
@@ -90,7 +91,7 @@ pub fn settle_among<K: Keeper, M: Ledger>(
         viewer.now answers.new tried.now) }
     ensures most { IsTold K.seen work.new →
         IsLocalCase (application_of app.now) (state_of K.seen work.old) viewer.now →
-        AreOwn tried.now answers.old →
+        AreLocalAnswers tried.now answers.old →
         evaluations.new ≤ evaluations.old + room tried.now answers.old }
     ensures later { evaluations.old ≤ evaluations.new }
     ensures reads { ReadsWork K.seen work.old work.new result }
@@ -135,10 +136,10 @@ pub(crate) fn try_labels<K: Keeper, M: Ledger>(
         → IfOk result (Fills (application_of app.now)
         (worlds_of (state_of K.seen work.old)) viewer.now answers.new labels.now a.new) }
     ensures spends { IsTold K.seen work.new → IsLocalCase (application_of app.now)
-        (state_of K.seen work.old) viewer.now → AreOwn labels.now answers.old
+        (state_of K.seen work.old) viewer.now → AreLocalAnswers labels.now answers.old
         → OnOk result (Spends labels.now evaluations.old evaluations.new answers.old answers.new) }
     ensures most { IsTold K.seen work.new → IsLocalCase (application_of app.now)
-        (state_of K.seen work.old) viewer.now → AreOwn labels.now answers.old
+        (state_of K.seen work.old) viewer.now → AreLocalAnswers labels.now answers.old
         → evaluations.new ≤ evaluations.old + room labels.now answers.old }
     ensures later { evaluations.old ≤ evaluations.new }
     ensures reads { ReadsWork K.seen work.old work.new result }
@@ -175,11 +176,12 @@ fn try_label<K: Keeper, M: Ledger>(
         (worlds_of (state_of K.seen work.old)) viewer.now a.new answers.new) }
     ensures spends { IsTold K.seen work.new
         → IsLocalCase (application_of app.now) (state_of K.seen work.old) viewer.now
-        → (labels : List ℕ) → shown labels label ≡ true → AreOwn labels answers.old
+        → (labels : List ℕ) → shown_by labels label ≡ true → AreLocalAnswers labels answers.old
         → OnOk result (Spends labels evaluations.old evaluations.new answers.old answers.new) }
     ensures most { IsTold K.seen work.new → IsLocalCase (application_of app.now)
-        (state_of K.seen work.old) viewer.now → (labels : List ℕ) → shown labels label ≡ true
-        → AreOwn labels answers.old → evaluations.new ≤ evaluations.old + room labels answers.old }
+        (state_of K.seen work.old) viewer.now → (labels : List ℕ) → shown_by labels label ≡ true
+        → AreLocalAnswers labels answers.old → evaluations.new
+        ≤ evaluations.old + room labels answers.old }
     ensures later { evaluations.old ≤ evaluations.new }
     ensures reads { ReadsWork K.seen work.old work.new result }
 {
@@ -210,23 +212,25 @@ fn may_stay<K: Keeper, M: Ledger>(
     evaluations: &mut Steps<M>,
 ) -> Result<bool, Stop>
     requires attached { IsTrue (K.seen work.old.keeper.now).store.attached }
-    requires own { shown a.now label ≡ true }
+    requires own { shown_by a.now label ≡ true }
     ensures value { IsTold K.seen work.new → AreRight (application_of app.now)
         (worlds_of (state_of K.seen work.old)) viewer.now answers.old → IfOk result (Stays
         (application_of app.now) (worlds_of (state_of K.seen work.old)) viewer.now answers.new
-        (shown a.now) (touched answers.old label)) }
-    ensures fits { IfOk result (Fitting answers.new (shown a.now) (touched answers.old label)) }
+        (shown_by a.now) (is_touched answers.old label)) }
+    ensures fits { IfOk result (Fitting answers.new (shown_by a.now)
+        (is_touched answers.old label)) }
     ensures right { IsTold K.seen work.new → AreRight (application_of app.now)
         (worlds_of (state_of K.seen work.old)) viewer.now answers.old → OnOk result (AreRight
         (application_of app.now) (worlds_of (state_of K.seen work.old)) viewer.now answers.new) }
     ensures grown { OnOk result (Grown answers.old answers.new) }
     ensures spends { IsTold K.seen work.new
         → IsLocalCase (application_of app.now) (state_of K.seen work.old) viewer.now
-        → (labels : List ℕ) → shown labels label ≡ true → AreOwn labels answers.old
+        → (labels : List ℕ) → shown_by labels label ≡ true → AreLocalAnswers labels answers.old
         → OnOk result (Spends labels evaluations.old evaluations.new answers.old answers.new) }
     ensures most { IsTold K.seen work.new → IsLocalCase (application_of app.now)
-        (state_of K.seen work.old) viewer.now → (labels : List ℕ) → shown labels label ≡ true
-        → AreOwn labels answers.old → evaluations.new ≤ evaluations.old + room labels answers.old }
+        (state_of K.seen work.old) viewer.now → (labels : List ℕ) → shown_by labels label ≡ true
+        → AreLocalAnswers labels answers.old → evaluations.new
+        ≤ evaluations.old + room labels answers.old }
     ensures later { evaluations.old ≤ evaluations.new }
     ensures reads { ReadsWork K.seen work.old work.new result }
 {
@@ -262,21 +266,23 @@ fn watchers_stay<K: Keeper, M: Ledger>(
     ensures value { IsTold K.seen work.new → AreRight
         (application_of app.now) (worlds_of (state_of K.seen work.old)) viewer.now answers.old
         → IfOk result (Stays (application_of app.now) (worlds_of
-        (state_of K.seen work.old)) viewer.now answers.new (shown a.now) (shown watchers.now)) }
-    ensures fits { IfOk result (Fitting answers.new (shown a.now) (shown watchers.now)) }
+        (state_of K.seen work.old)) viewer.now answers.new (shown_by a.now)
+        (shown_by watchers.now)) }
+    ensures fits { IfOk result (Fitting answers.new (shown_by a.now) (shown_by watchers.now)) }
     ensures right { IsTold K.seen work.new → AreRight (application_of app.now)
         (worlds_of (state_of K.seen work.old)) viewer.now answers.old → OnOk result (AreRight
         (application_of app.now) (worlds_of (state_of K.seen work.old)) viewer.now answers.new) }
     ensures grown { OnOk result (Grown answers.old answers.new) }
     ensures spends { IsTold K.seen work.new
         → IsLocalCase (application_of app.now) (state_of K.seen work.old) viewer.now
-        → (labels : List ℕ) → ((j : ℕ) → shown watchers.now j ≡ true → shown labels j ≡ true)
-        → AreOwn labels answers.old
+        → (labels : List ℕ) → ((j : ℕ) → shown_by watchers.now j ≡ true → shown_by labels j ≡ true)
+        → AreLocalAnswers labels answers.old
         → OnOk result (Spends labels evaluations.old evaluations.new answers.old answers.new) }
     ensures most { IsTold K.seen work.new
         → IsLocalCase (application_of app.now) (state_of K.seen work.old) viewer.now
-        → (labels : List ℕ) → ((j : ℕ) → shown watchers.now j ≡ true → shown labels j ≡ true)
-        → AreOwn labels answers.old → evaluations.new ≤ evaluations.old + room labels answers.old }
+        → (labels : List ℕ) → ((j : ℕ) → shown_by watchers.now j ≡ true → shown_by labels j ≡ true)
+        → AreLocalAnswers labels answers.old → evaluations.new
+        ≤ evaluations.old + room labels answers.old }
     ensures later { evaluations.old ≤ evaluations.new }
     ensures reads { ReadsWork K.seen work.old work.new result }
 {
@@ -303,19 +309,20 @@ fn watcher_stays<K: Keeper, M: Ledger>(
     ensures value { IsTold K.seen work.new → AreRight
         (application_of app.now) (worlds_of (state_of K.seen work.old)) viewer.now answers.old
         → IfOk result (Stays (application_of app.now) (worlds_of
-        (state_of K.seen work.old)) viewer.now answers.new (shown a.now) (λ j. label == j)) }
-    ensures fits { IfOk result (Fitting answers.new (shown a.now) (λ j. label == j)) }
+        (state_of K.seen work.old)) viewer.now answers.new (shown_by a.now) (λ j. label == j)) }
+    ensures fits { IfOk result (Fitting answers.new (shown_by a.now) (λ j. label == j)) }
     ensures right { IsTold K.seen work.new → AreRight (application_of app.now)
         (worlds_of (state_of K.seen work.old)) viewer.now answers.old → OnOk result (AreRight
         (application_of app.now) (worlds_of (state_of K.seen work.old)) viewer.now answers.new) }
     ensures grown { OnOk result (Grown answers.old answers.new) }
     ensures spends { IsTold K.seen work.new
         → IsLocalCase (application_of app.now) (state_of K.seen work.old) viewer.now
-        → (labels : List ℕ) → shown labels label ≡ true → AreOwn labels answers.old
+        → (labels : List ℕ) → shown_by labels label ≡ true → AreLocalAnswers labels answers.old
         → OnOk result (Spends labels evaluations.old evaluations.new answers.old answers.new) }
     ensures most { IsTold K.seen work.new → IsLocalCase (application_of app.now)
-        (state_of K.seen work.old) viewer.now → (labels : List ℕ) → shown labels label ≡ true
-        → AreOwn labels answers.old → evaluations.new ≤ evaluations.old + room labels answers.old }
+        (state_of K.seen work.old) viewer.now → (labels : List ℕ) → shown_by labels label ≡ true
+        → AreLocalAnswers labels answers.old → evaluations.new
+        ≤ evaluations.old + room labels answers.old }
     ensures later { evaluations.old ≤ evaluations.new }
     ensures reads { ReadsWork K.seen work.old work.new result }
 {
@@ -337,23 +344,24 @@ fn asked_stays<K: Keeper, M: Ledger>(
     evaluations: &mut Steps<M>,
 ) -> Result<bool, Stop>
     requires attached { IsTrue (K.seen work.old.keeper.now).store.attached }
-    requires own { shown a.now label ≡ true }
+    requires own { shown_by a.now label ≡ true }
     ensures value { IsTold K.seen work.new → AreRight
         (application_of app.now) (worlds_of (state_of K.seen work.old)) viewer.now answers.old
         → IfOk result (Stays (application_of app.now) (worlds_of
-        (state_of K.seen work.old)) viewer.now answers.new (shown a.now) (λ j. label == j)) }
-    ensures fits { IfOk result (Fitting answers.new (shown a.now) (λ j. label == j)) }
+        (state_of K.seen work.old)) viewer.now answers.new (shown_by a.now) (λ j. label == j)) }
+    ensures fits { IfOk result (Fitting answers.new (shown_by a.now) (λ j. label == j)) }
     ensures right { IsTold K.seen work.new → AreRight (application_of app.now)
         (worlds_of (state_of K.seen work.old)) viewer.now answers.old → OnOk result (AreRight
         (application_of app.now) (worlds_of (state_of K.seen work.old)) viewer.now answers.new) }
     ensures grown { OnOk result (Grown answers.old answers.new) }
     ensures spends { IsTold K.seen work.new
         → IsLocalCase (application_of app.now) (state_of K.seen work.old) viewer.now
-        → (labels : List ℕ) → shown labels label ≡ true → AreOwn labels answers.old
+        → (labels : List ℕ) → shown_by labels label ≡ true → AreLocalAnswers labels answers.old
         → OnOk result (Spends labels evaluations.old evaluations.new answers.old answers.new) }
     ensures most { IsTold K.seen work.new → IsLocalCase (application_of app.now)
-        (state_of K.seen work.old) viewer.now → (labels : List ℕ) → shown labels label ≡ true
-        → AreOwn labels answers.old → evaluations.new ≤ evaluations.old + room labels answers.old }
+        (state_of K.seen work.old) viewer.now → (labels : List ℕ) → shown_by labels label ≡ true
+        → AreLocalAnswers labels answers.old → evaluations.new
+        ≤ evaluations.old + room labels answers.old }
     ensures later { evaluations.old ≤ evaluations.new }
     ensures reads { ReadsWork K.seen work.old work.new result }
 {
@@ -373,23 +381,24 @@ fn ask<K: Keeper, M: Ledger>(
     evaluations: &mut Steps<M>,
 ) -> Result<bool, Stop>
     requires attached { IsTrue (K.seen work.old.keeper.now).store.attached }
-    requires own { shown a.now label ≡ true }
+    requires own { shown_by a.now label ≡ true }
     ensures answer { IsTold K.seen work.new → AreRight
         (application_of app.now) (worlds_of (state_of K.seen work.old)) viewer.now answers.old
         → IfOk result (λ b. b ≡ is_allowed (application_of app.now)
-        (worlds_of (state_of K.seen work.old) (shown a.now)) viewer.now label) }
-    ensures fits { OnOk result (is_some (recall answers.new label (shown a.now)) ≡ true) }
+        (worlds_of (state_of K.seen work.old) (shown_by a.now)) viewer.now label) }
+    ensures fits { OnOk result (is_some (recall answers.new label (shown_by a.now)) ≡ true) }
     ensures right { IsTold K.seen work.new → AreRight (application_of app.now)
         (worlds_of (state_of K.seen work.old)) viewer.now answers.old → OnOk result (AreRight
         (application_of app.now) (worlds_of (state_of K.seen work.old)) viewer.now answers.new) }
     ensures grown { OnOk result (Grown answers.old answers.new) }
     ensures spends { IsTold K.seen work.new
         → IsLocalCase (application_of app.now) (state_of K.seen work.old) viewer.now
-        → (labels : List ℕ) → shown labels label ≡ true → AreOwn labels answers.old
+        → (labels : List ℕ) → shown_by labels label ≡ true → AreLocalAnswers labels answers.old
         → OnOk result (Spends labels evaluations.old evaluations.new answers.old answers.new) }
     ensures most { IsTold K.seen work.new → IsLocalCase (application_of app.now)
-        (state_of K.seen work.old) viewer.now → (labels : List ℕ) → shown labels label ≡ true
-        → AreOwn labels answers.old → evaluations.new ≤ evaluations.old + room labels answers.old }
+        (state_of K.seen work.old) viewer.now → (labels : List ℕ) → shown_by labels label ≡ true
+        → AreLocalAnswers labels answers.old → evaluations.new
+        ≤ evaluations.old + room labels answers.old }
     ensures later { evaluations.old ≤ evaluations.new }
     ensures reads { ReadsWork K.seen work.old work.new result }
 {
@@ -416,7 +425,7 @@ fn evaluate<K: Keeper, M: Ledger>(
     requires attached { IsTrue (K.seen work.old.keeper.now).store.attached }
     ensures right { IsTold K.seen work.new → IfOk result
         (IsRight (application_of app.now) (worlds_of (state_of K.seen work.old)) viewer.now label) }
-    ensures fits { IfOk result (λ known. holds (shown a.now) known.when ≡ true) }
+    ensures fits { IfOk result (λ known. holds (shown_by a.now) known.when ≡ true) }
     ensures own { IsTold K.seen work.new
         → IsLocalCase (application_of app.now) (state_of K.seen work.old) viewer.now → IfOk result
         (λ known. (k : ℕ) → names known.when k ≡ true → record_of_label k ≡ record_of_label label) }

@@ -1,7 +1,7 @@
 //! Whether a label may be shown under an assignment.
 ghost use Rattle.std.specs.Prelude.{◌≡◌, ◌≤◌, ◌+◌, ◌&&◌, [], ℕ, Bool, true, Some, if◌then◌else◌, slice_get, option_map, IfOk, OnOk, IsTrue};
 ghost use Rattle.jac_value.specs.Ids.{record_of_label};
-ghost use Rattle.jac_world.specs.World.{shown};
+ghost use Rattle.jac_world.specs.World.{shown_by};
 ghost use Rattle.jac_lang.specs.Mirror.{application_of, entity_of, entities_of, field_group_of, groups_of, expression_of};
 ghost use Rattle.jac_keep.specs.Worked.{state_of, IsTold, ReadsWork};
 ghost use Rattle.jac_plain.specs.Expressions.{mean, is_true};
@@ -9,7 +9,7 @@ ghost use Rattle.jac_pruned.specs.Local.{is_free_viewer, is_local, IsLocalCase};
 ghost use Rattle.jac_plain.specs.Policies.{labelled_group, has_group, has_record, policy_world, is_allowed};
 ghost use Rattle.jac_pruned.specs.Consulted.{Agrees, Grows};
 ghost use Rattle.jac_pruned.specs.Own.{IsOwn};
-ghost use Rattle.jac_resolve.specs.Rounds.{worlds_of};
+ghost use Rattle.jac_plain.specs.Shown.{worlds_of};
 
 use jac_keep::{Keeper, Stop, Work};
 use jac_lang::{App, Expr, Group, ModelDef, Models, PlainEnv};
@@ -32,16 +32,17 @@ pub fn allowed<K: Keeper, M: Ledger>(
 ) -> Result<(bool, Support), Stop>
     requires attached { IsTrue (K.seen work.old.keeper.now).store.attached }
     ensures value { IsTold K.seen work.new
-        → IfOk result (λ r. (w : ℕ → Bool) → Agrees r.1 (shown a.now) w → r.0 ≡ is_allowed
+        → IfOk result (λ r. (w : ℕ → Bool) → Agrees r.1 (shown_by a.now) w → r.0 ≡ is_allowed
         (application_of app.now) (worlds_of (state_of K.seen work.old) w) viewer label) }
     ensures ticks { IsTold K.seen work.new → OnOk result (evaluations.new
         ≡ evaluations.old + (if has_group (application_of app.now) label
-        && has_record (worlds_of (state_of K.seen work.old) (shown a.now)) label then 1 else 0)) }
+        && has_record (worlds_of (state_of K.seen work.old) (shown_by a.now)) label then 1
+        else 0)) }
     ensures later { evaluations.old ≤ evaluations.new }
     ensures once { evaluations.new ≤ evaluations.old + 1 }
     ensures own { IsTold K.seen work.new
         → IsLocalCase (application_of app.now) (state_of K.seen work.old) viewer → IfOk result (λ r.
-        (k : ℕ) → shown r.1 k ≡ true → record_of_label k ≡ record_of_label label) }
+        (k : ℕ) → shown_by r.1 k ≡ true → record_of_label k ≡ record_of_label label) }
     ensures reads { ReadsWork K.seen work.old work.new result }
 {
     let mut support = Support::empty(work.alloc);
@@ -73,7 +74,7 @@ fn policy_holds<K: Keeper>(
 ) -> Result<bool, Stop>
     requires attached { IsTrue (K.seen work.old.keeper.now).store.attached }
     ensures value { IsTold K.seen work.new → IfOk result (λ b. (w : ℕ → Bool) → Agrees support.new
-        (shown a.now) w → b ≡ is_true (mean (policy_world (application_of app.now)
+        (shown_by a.now) w → b ≡ is_true (mean (policy_world (application_of app.now)
         (worlds_of (state_of K.seen work.old) w) viewer id) (expression_of policy.now) [])) }
     ensures own { IsTold K.seen work.new → IsLocalCase (application_of app.now)
         (state_of K.seen work.old) viewer → is_local (application_of app.now).models

@@ -3,12 +3,12 @@ ghost use Rattle.std.specs.Prelude.{◌≡◌, ◌||◌, ℕ, Bool, true, List, 
 ghost use Rattle.std.specs.Ordering.{nat_cmp};
 ghost use Rattle.std.specs.BTreeMap.{get};
 ghost use Rattle.jac_value.specs.Ids.{record_of_label};
-ghost use Rattle.jac_world.specs.World.{shown, holds, names};
+ghost use Rattle.jac_world.specs.World.{shown_by, holds, names};
 ghost use Rattle.jac_lang.specs.Syntax.{Application};
 ghost use Rattle.jac_plain.specs.Requests.{Worlds};
 ghost use Rattle.jac_pruned.specs.Consulted.{Grows};
 ghost use Rattle.jac_recall.specs.Recalled.{recall, watched_in, watches};
-ghost use Rattle.jac_resolve.specs.Room.{AreOwn};
+ghost use Rattle.jac_resolve.specs.Room.{AreLocalAnswers};
 ghost use Rattle.jac_resolve.specs.Recalled.{AreRight, Grown, IsRight};
 
 use jac_pruned::Support;
@@ -31,9 +31,10 @@ pub(crate) fn remember(
     ensures fits { (w : ℕ → Bool) → holds w known.when ≡ true
         → OnOk result (is_some (recall answers.new label w) ≡ true) }
     ensures grown { OnOk result (Grown answers.old answers.new) }
-    ensures own { (labels : List ℕ) → AreOwn labels answers.old → shown labels label ≡ true
+    ensures own { (labels : List ℕ) → AreLocalAnswers labels answers.old → shown_by labels label
+        ≡ true
         → ((k : ℕ) → names known.when k ≡ true → record_of_label k ≡ record_of_label label)
-        → OnOk result (AreOwn labels answers.new) }
+        → OnOk result (AreLocalAnswers labels answers.new) }
 {
     answers.put(alloc, label, known)?;
     Ok(())
@@ -42,7 +43,7 @@ pub(crate) fn remember(
 /// Adds all labels that were consulted for what is remembered.
 pub fn add_consulted(answers: &Answers, consulted: &mut Support) -> Result<(), Memory>
     ensures added { OnOk result ((k j : ℕ) → watches answers.now k j ≡ true →
-        shown consulted.new k ≡ true) }
+        shown_by consulted.new k ≡ true) }
     ensures grows { Grows consulted.old consulted.new }
 {
     add_watched(&answers.watchers, consulted)
@@ -51,7 +52,7 @@ pub fn add_consulted(answers: &Answers, consulted: &mut Support) -> Result<(), M
 // Adds each label that is watched.
 fn add_watched(watchers: &BTreeMap<Label, Labels>, consulted: &mut Support) -> Result<(), Memory>
     ensures added { OnOk result ((k j : ℕ) → watched_in (get nat_cmp watchers.now k) j ≡ true →
-        shown consulted.new k ≡ true) }
+        shown_by consulted.new k ≡ true) }
     ensures grows { Grows consulted.old consulted.new }
 {
     'watched: for label in watchers.keys() {

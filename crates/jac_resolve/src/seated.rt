@@ -1,13 +1,14 @@
 //! What was settled for somebody, settled again behind a change.
 ghost use Rattle.std.specs.Prelude.{◌≡◌, ◌≤◌, ◌&&◌, ℕ, true, not, is_some, Some, IfOk, OnOk, IsTrue};
 ghost use Rattle.std.specs.List.{list_all};
-ghost use Rattle.jac_world.specs.World.{shown};
+ghost use Rattle.jac_world.specs.World.{shown_by};
 ghost use Rattle.jac_lang.specs.Mirror.{application_of};
 ghost use Rattle.jac_keep.specs.Worked.{state_of, IsTold, ReadsWork};
 ghost use Rattle.jac_plain.specs.Policies.{IsSettled};
 ghost use Rattle.jac_resolve.specs.Recalled.{AreRefused, IsUnderway, Retains};
-ghost use Rattle.jac_resolve.specs.Rounds.{worlds_of, HasSoundTables, Within};
+ghost use Rattle.jac_resolve.specs.Rounds.{HasSoundTables, Within};
 ghost use Rattle.jac_resolve.specs.Seated.{AreNear, AreNearIf, IsAtRest, IsSeated, IsSettledApart, TriesApart, Widens, seat_labels};
+ghost use Rattle.jac_plain.specs.Shown.{worlds_of};
 
 use crate::live::{live_labels, live_of};
 use crate::memory::from_world;
@@ -235,7 +236,7 @@ fn fill<K: Keeper, M: Ledger>(
 }
 
 fn remove_all(a: &mut Assignment, labels: &[Label])
-    ensures { (k : ℕ) → shown a.new k ≡ (not (shown labels.now k) && shown a.old k) }
+    ensures { (k : ℕ) → shown_by a.new k ≡ (not (shown_by labels.now k) && shown_by a.old k) }
 {
     'labels: for label in labels {
         a.remove(*label);
@@ -257,7 +258,7 @@ fn widened(alloc: Global, answers: &Answers, near: &Labels) -> Result<Option<Lab
 }
 
 fn has_all(among: &Labels, labels: &[Label]) -> bool
-    ensures { result ≡ list_all (shown among.now) labels.now }
+    ensures { result ≡ list_all (shown_by among.now) labels.now }
 {
     labels.iter().all(|label| among.has(*label))
 }

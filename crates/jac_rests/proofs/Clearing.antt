@@ -3,7 +3,7 @@ use Rattle.std.proofs.Common.{◌≡◌, ◌∙◌, refl, sym, ap, subst, arith,
 use Rattle.std.specs.Prelude.{Option, Some, None, map, unwrap_or}
 use Rattle.std.specs.Option.{option_to_list}
 use Rattle.std.specs.List.{AllByRecursion, list_all}
-use Rattle.std.proofs.lemmas.Bool.{and_parts}
+use Rattle.std.proofs.lemmas.Bool.{and_parts, eqb-true}
 use Rattle.jac_value.specs.Ids.{model_of_id}
 use Rattle.jac_value.specs.Values.{value_text}
 use Rattle.jac_value.specs.declared.value.Value.{Value}
@@ -18,8 +18,8 @@ use Rattle.jac_lang.specs.Lookup.{same_text, model_place, fields_at, field_place
 use Rattle.jac_lang.specs.Syntax.{Entity, Expression, Expressions}
 use Rattle.jac_rows.specs.Tables.{rows_of}
 use Rattle.jac_rows.specs.declared.plain.PlainRow.{PlainRow}
-use Rattle.jac_plain.specs.World.{World, rows_at_place, records, record_with, referred, cell_named, got_of, got}
-use Rattle.jac_plain.specs.Expressions.{is_true, is_less, two, pick, bytes_of, stands, is_live, look_from, look, binding, bound, extended, crossed, tuples_from, kept_by, model_of_binder, key_of, inserted, sorted, ordered, answers_by, is_single, count_of, summed, sum_of, some_of, first_of, mean, texts}
+use Rattle.jac_plain.specs.World.{World, rows_at_place, records, record_with, referred_record, cell_named, got_of, got}
+use Rattle.jac_plain.specs.Expressions.{is_true, is_less, two, pick, bytes_of, stands, is_live, look_from, look, binding, bound, extended_tuples, crossed_tuples, tuples_from, kept_by, model_of_binder, key_of, with_sorted, sorted_tuples, ordered_tuples, answers_by, is_single, count_of, summed_terms, sum_of, some_of, first_of, mean, texts}
 use Rattle.jac_plain.specs.Records.{with_ids}
 use Rattle.jac_choice.specs.Cut.{crossed_where, tuples_where, Covers}
 use Rattle.jac_choice.specs.Fixed.{has_binder, is_fixed, field_asked, AsksFor, has_value}
@@ -117,18 +117,18 @@ rows_stay : (stays : ℕ → Bool) (rows : List PlainRow) → AllByRecursion (λ
 rows_stay stays [] = tt
 rows_stay stays (r ∷ rows) = rows_if stays (stays r.id) r (with_ids stays rows) refl (rows_stay stays rows)
 
-extended_stay : (stays : ℕ → Bool) (t : List ℕ) (rows : List PlainRow) → AllStay stays t → AllByRecursion (λ (x : PlainRow). stays x.id ≡ true) rows → AllTuples stays (extended t rows)
+extended_stay : (stays : ℕ → Bool) (t : List ℕ) (rows : List PlainRow) → AllStay stays t → AllByRecursion (λ (x : PlainRow). stays x.id ≡ true) rows → AllTuples stays (extended_tuples t rows)
 extended_stay stays t [] a all = tt
 extended_stay stays t (r ∷ rows) a all = (stay_append stays t r.id a all.0, extended_stay stays t rows a all.1)
 
-crossed_stay : (stays : ℕ → Bool) (ts : List (List ℕ)) (rows : List PlainRow) → AllTuples stays ts → AllByRecursion (λ (x : PlainRow). stays x.id ≡ true) rows → AllTuples stays (crossed ts rows)
+crossed_stay : (stays : ℕ → Bool) (ts : List (List ℕ)) (rows : List PlainRow) → AllTuples stays ts → AllByRecursion (λ (x : PlainRow). stays x.id ≡ true) rows → AllTuples stays (crossed_tuples ts rows)
 crossed_stay stays [] rows a all = tt
 crossed_stay stays (t ∷ ts) rows a all =
-    tuples_append stays (extended t rows) (crossed ts rows) (extended_stay stays t rows a.0 all) (crossed_stay stays ts rows a.1 all)
+    tuples_append stays (extended_tuples t rows) (crossed_tuples ts rows) (extended_stay stays t rows a.0 all) (crossed_stay stays ts rows a.1 all)
 
-crossed_cut : (stays : ℕ → Bool) (ts : List (List ℕ)) (rows : List PlainRow) → crossed ts (with_ids stays rows) ≡ crossed_where (λ front id. stays id) ts rows
+crossed_cut : (stays : ℕ → Bool) (ts : List (List ℕ)) (rows : List PlainRow) → crossed_tuples ts (with_ids stays rows) ≡ crossed_where (λ front id. stays id) ts rows
 crossed_cut stays [] rows = refl
-crossed_cut stays (t ∷ ts) rows = ap (λ l. extended t (with_ids stays rows) ++ l) (crossed_cut stays ts rows)
+crossed_cut stays (t ∷ ts) rows = ap (λ l. extended_tuples t (with_ids stays rows) ++ l) (crossed_cut stays ts rows)
 
 -- environments
 clear_look : (stays : ℕ → Bool) (v : Value) (env : List Binding) (x : List ℕ) → is_clear stays v ≡ true → AllClear stays env → is_clear stays (look_from v env x) ≡ true
@@ -168,52 +168,49 @@ inserted_if : (stays : ℕ → Bool) (b : Bool) (x y : List ℕ) (ys zs : List (
 inserted_if stays true x y ys zs a b c d = (b, d)
 inserted_if stays false x y ys zs a b c d = (a, (b, c))
 
-inserted_stay : (stays : ℕ → Bool) (less : Value → Value → Bool) (key : List ℕ → Value) (x : List ℕ) (ts : List (List ℕ)) → AllStay stays x → AllTuples stays ts → AllTuples stays (inserted less key x ts)
+inserted_stay : (stays : ℕ → Bool) (less : Value → Value → Bool) (key : List ℕ → Value) (x : List ℕ) (ts : List (List ℕ)) → AllStay stays x → AllTuples stays ts → AllTuples stays (with_sorted less key x ts)
 inserted_stay stays less key x [] a all = (a, tt)
-inserted_stay stays less key x (y ∷ ys) a all = inserted_if stays (less (key y) (key x)) x y ys (inserted less key x ys) a all.0 all.1 (inserted_stay stays less key x ys a all.1)
+inserted_stay stays less key x (y ∷ ys) a all = inserted_if stays (less (key y) (key x)) x y ys (with_sorted less key x ys) a all.0 all.1 (inserted_stay stays less key x ys a all.1)
 
-sorted_stay : (stays : ℕ → Bool) (less : Value → Value → Bool) (key : List ℕ → Value) (ts : List (List ℕ)) → AllTuples stays ts → AllTuples stays (sorted less key ts)
+sorted_stay : (stays : ℕ → Bool) (less : Value → Value → Bool) (key : List ℕ → Value) (ts : List (List ℕ)) → AllTuples stays ts → AllTuples stays (sorted_tuples less key ts)
 sorted_stay stays less key [] all = tt
-sorted_stay stays less key (t ∷ ts) all = inserted_stay stays less key t (sorted less key ts) all.0 (sorted_stay stays less key ts all.1)
+sorted_stay stays less key (t ∷ ts) all = inserted_stay stays less key t (sorted_tuples less key ts) all.0 (sorted_stay stays less key ts all.1)
 
 inserted_same : (stays : ℕ → Bool) (less : Value → Value → Bool) (key other : List ℕ → Value) (x : List ℕ) (ts : List (List ℕ))
-    → ((t : List ℕ) → AllStay stays t → key t ≡ other t) → AllStay stays x → AllTuples stays ts → inserted less key x ts ≡ inserted less other x ts
+    → ((t : List ℕ) → AllStay stays t → key t ≡ other t) → AllStay stays x → AllTuples stays ts → with_sorted less key x ts ≡ with_sorted less other x ts
 inserted_same stays less key other x [] f a all = refl
 inserted_same stays less key other x (y ∷ ys) f a all =
     rw (f y all.0, f x a, inserted_same stays less key other x ys f a all.1) refl
 
 sorted_same : (stays : ℕ → Bool) (less : Value → Value → Bool) (key other : List ℕ → Value) (ts : List (List ℕ))
-    → ((t : List ℕ) → AllStay stays t → key t ≡ other t) → AllTuples stays ts → sorted less key ts ≡ sorted less other ts
+    → ((t : List ℕ) → AllStay stays t → key t ≡ other t) → AllTuples stays ts → sorted_tuples less key ts ≡ sorted_tuples less other ts
 sorted_same stays less key other [] f all = refl
 sorted_same stays less key other (t ∷ ts) f all =
-    ap (inserted less key t) (sorted_same stays less key other ts f all.1)
-    ∙ inserted_same stays less key other t (sorted less other ts) f all.0 (sorted_stay stays less other ts all.1)
+    ap (with_sorted less key t) (sorted_same stays less key other ts f all.1)
+    ∙ inserted_same stays less key other t (sorted_tuples less other ts) f all.0 (sorted_stay stays less other ts all.1)
 
-ordered_stay : (stays : ℕ → Bool) (w : World) (bs : List Binder) (o : Order) (ts : List (List ℕ)) → AllTuples stays ts → AllTuples stays (ordered w bs o ts)
+ordered_stay : (stays : ℕ → Bool) (w : World) (bs : List Binder) (o : Order) (ts : List (List ℕ)) → AllTuples stays ts → AllTuples stays (ordered_tuples w bs o ts)
 ordered_stay stays w bs orders.Key ts all = all
 ordered_stay stays w bs (orders.Up x f) ts all = sorted_stay stays is_less (key_of w bs x f) ts all
 ordered_stay stays w bs (orders.Down x f) ts all = sorted_stay stays (λ a b. is_less b a) (key_of w bs x f) ts all
 
 summed_same : (stays : ℕ → Bool) (bs : List Binder) (term other : List Binding → Value) (env : List Binding) (v : Value) (ts : List (List ℕ))
     → ((en : List Binding) → AllClear stays en → term en ≡ other en) → AllClear stays env → AllTuples stays ts
-    → summed bs term env v ts ≡ summed bs other env v ts
+    → summed_terms bs term env v ts ≡ summed_terms bs other env v ts
 summed_same stays bs term other env v [] f clear all = refl
 summed_same stays bs term other env v (t ∷ ts) f clear all =
-    ap (λ x. summed bs term env (two op.Add v x) ts) (f (bound bs t env) (clear_bound stays bs t env all.0 clear))
+    ap (λ x. summed_terms bs term env (two op.Add v x) ts) (f (bound bs t env) (clear_bound stays bs t env all.0 clear))
     ∙ summed_same stays bs term other env (two op.Add v (other (bound bs t env))) ts f clear all.1
 
 sum_if : (b : Bool) (x y : Value) → x ≡ y → (if b then x else value.Int (pos 0)) ≡ (if b then y else value.Int (pos 0))
 sum_if b x y e = ap (λ v. if b then v else value.Int (pos 0)) e
 
 -- what a condition finds records by
-same_place : (a b : ℕ) → (a == b) ≡ true → a ≡ b
-same_place a b e = grind (arith, e)
-
 pub same_whom : (s t : Whom) → is_same_whom s t ≡ true → s ≡ t
 same_whom whom.This whom.This e = refl
 same_whom (whom.Field m f) (whom.Field n g) e =
     let parts = and_parts (m == n) (f == g) e in
-    rw (same_place m n parts.0, same_place f g parts.1) refl
+    rw (eqb-true m n parts.0, eqb-true f g parts.1) refl
 same_whom whom.Viewer whom.Viewer e = refl
 same_whom s t e = absurd cc
 
@@ -221,11 +218,11 @@ whom_named : (s : Whom) (found : Option Whom) → is_whom_in s found ≡ true �
 whom_named s None e = absurd cc
 whom_named s (Some t) e = ap Some (sym (same_whom s t e))
 
-if_mean : (w : World) (s : Whom) (m f : ℕ) (b : Bool) → field_if b m f ≡ Some s → cell_named w m (Some f) (referred (value.Ref w.this) (rows_of w.tables m)) ≡ whom_in w s
+if_mean : (w : World) (s : Whom) (m f : ℕ) (b : Bool) → field_if b m f ≡ Some s → cell_named w m (Some f) (referred_record (value.Ref w.this) (rows_of w.tables m)) ≡ whom_in w s
 if_mean w s m f true h = let same : whom.Field m f ≡ s = cc in ap (whom_in w) same
 if_mean w s m f false h = absurd cc
 
-field_mean : (w : World) (s : Whom) (m : ℕ) (f : Option ℕ) → field_whom w.models m f ≡ Some s → cell_named w m f (referred (value.Ref w.this) (rows_of w.tables m)) ≡ whom_in w s
+field_mean : (w : World) (s : Whom) (m : ℕ) (f : Option ℕ) → field_whom w.models m f ≡ Some s → cell_named w m f (referred_record (value.Ref w.this) (rows_of w.tables m)) ≡ whom_in w s
 field_mean w s m None h = absurd cc
 field_mean w s m (Some f) h = if_mean w s m f (may_refer (kind_at w.models (fields_at w.models m) f)) h
 
@@ -288,7 +285,7 @@ module _ (stays : ℕ → Bool) (test : Rest → Bool) (w : World) (fits : IsTes
   named_same m None r = refl
   named_same m (Some f) r = refl
 
-  referred_same : (v : Value) (rows : List PlainRow) → is_clear stays v ≡ true → referred v (with_ids stays rows) ≡ referred v rows
+  referred_same : (v : Value) (rows : List PlainRow) → is_clear stays v ≡ true → referred_record v (with_ids stays rows) ≡ referred_record v rows
   referred_same (value.Ref (Some id)) rows h = record_stays stays id rows h
   referred_same (value.Ref None) rows h = refl
   referred_same (value.Int i) rows h = refl
@@ -299,9 +296,9 @@ module _ (stays : ℕ → Bool) (test : Rest → Bool) (w : World) (fits : IsTes
   got_in None field v h = refl
   got_in (Some m) field v h =
       let f = field_place (fields_at w.models m) field in
-      ap (λ rows. cell_named cleared m f (referred v rows)) (rows_cleared stays w.tables m)
+      ap (λ rows. cell_named cleared m f (referred_record v rows)) (rows_cleared stays w.tables m)
       ∙ ap (cell_named cleared m f) (referred_same v (rows_of w.tables m) h)
-      ∙ named_same m f (referred v (rows_of w.tables m))
+      ∙ named_same m f (referred_record v (rows_of w.tables m))
 
   got_clear : (model field : List ℕ) (v : Value) → is_clear stays v ≡ true → got cleared model field v ≡ got w model field v
   got_clear model field v h = got_in (model_place w.models model) field v h
@@ -310,8 +307,8 @@ module _ (stays : ℕ → Bool) (test : Rest → Bool) (w : World) (fits : IsTes
   table_in None field v h = refl
   table_in (Some m) field v h =
       let f = field_place (fields_at w.models m) field in
-      ap (λ rows. cell_named cleared m f (referred v rows)) (rows_cleared stays w.tables m ∙ fits.table m (all_one test (rest.Table m) h))
-      ∙ named_same m f (referred v (rows_of w.tables m))
+      ap (λ rows. cell_named cleared m f (referred_record v rows)) (rows_cleared stays w.tables m ∙ fits.table m (all_one test (rest.Table m) h))
+      ∙ named_same m f (referred_record v (rows_of w.tables m))
 
   got_table : (model field : List ℕ) (v : Value) → list_all test (option_to_list (table_rest (model_place w.models model))) ≡ true → got cleared model field v ≡ got w model field v
   got_table model field v h = table_in (model_place w.models model) field v h
@@ -371,15 +368,15 @@ module _ (stays : ℕ → Bool) (test : Rest → Bool) (w : World) (fits : IsTes
   tuples_cut : (bs : List Binder) (ts : List (List ℕ)) → tuples_from cleared bs ts ≡ tuples_where w (λ front id. stays id) bs ts
   tuples_cut [] ts = refl
   tuples_cut (b ∷ bs) ts =
-      ap (λ rs. tuples_from cleared bs (crossed ts rs)) (records_cleared (model_place w.models b.model))
+      ap (λ rs. tuples_from cleared bs (crossed_tuples ts rs)) (records_cleared (model_place w.models b.model))
       ∙ ap (tuples_from cleared bs) (crossed_cut stays ts (records w b.model))
       ∙ tuples_cut bs (crossed_where (λ front id. stays id) ts (records w b.model))
 
   tuples_stay : (bs : List Binder) (ts : List (List ℕ)) → AllTuples stays ts → AllTuples stays (tuples_from cleared bs ts)
   tuples_stay [] ts all = all
   tuples_stay (b ∷ bs) ts all =
-      tuples_stay bs (crossed ts (records cleared b.model))
-      (subst (λ rs. AllTuples stays (crossed ts rs)) (sym (records_cleared (model_place w.models b.model)))
+      tuples_stay bs (crossed_tuples ts (records cleared b.model))
+      (subst (λ rs. AllTuples stays (crossed_tuples ts rs)) (sym (records_cleared (model_place w.models b.model)))
       (crossed_stay stays ts (with_ids stays (records w b.model)) all (rows_stay stays (records w b.model))))
 
   later_rests : (done : List Binder) (b : Binder) (later : List Binder) (c : Expression) → list_all test (binder_rests w.models (done ++ (b ∷ later)) c) ≡ true
@@ -481,7 +478,7 @@ module _ (stays : ℕ → Bool) (test : Rest → Bool) (w : World) (fits : IsTes
       got_clear (model_of_binder bs name) field (look (bound bs t []) name)
       (clear_look stays (value.Int (pos 0)) (bound bs t []) name refl (clear_bound stays bs t [] all tt))
 
-  ordered_same : (bs : List Binder) (o : Order) (ts : List (List ℕ)) → AllTuples stays ts → ordered cleared bs o ts ≡ ordered w bs o ts
+  ordered_same : (bs : List Binder) (o : Order) (ts : List (List ℕ)) → AllTuples stays ts → ordered_tuples cleared bs o ts ≡ ordered_tuples w bs o ts
   ordered_same bs orders.Key ts all = refl
   ordered_same bs (orders.Up x f) ts all =
       sorted_same stays is_less (key_of cleared bs x f) (key_of w bs x f) ts (λ t a. key_same bs x f t a) all
@@ -496,9 +493,9 @@ module _ (stays : ℕ → Bool) (test : Rest → Bool) (w : World) (fits : IsTes
   answers_same bs o c env clear all f =
       let ts : List (List ℕ) = tuples_from cleared bs ([] ∷ []) in
       let stay : AllTuples stays ts = tuples_stay bs ([] ∷ []) (tt, tt) in
-      ap (ordered cleared bs o) (kept_same stays bs (mean cleared c) (mean w c) env ts f clear stay)
+      ap (ordered_tuples cleared bs o) (kept_same stays bs (mean cleared c) (mean w c) env ts f clear stay)
       ∙ ordered_same bs o (kept_by bs (mean w c) env ts) (kept_stay stays bs (mean w c) env ts stay)
-      ∙ ap (ordered w bs o) (kept_cut bs c env all)
+      ∙ ap (ordered_tuples w bs o) (kept_cut bs c env all)
 
   answers_stay : (bs : List Binder) (o : Order) (c : Expression) (env : List Binding) → AllTuples stays (answers_by cleared bs o (mean cleared c) env)
   answers_stay bs o c env =
@@ -510,7 +507,7 @@ module _ (stays : ℕ → Bool) (test : Rest → Bool) (w : World) (fits : IsTes
       → sum_of bs (mean cleared e) env (answers_by cleared bs o (mean cleared c) env) ≡ sum_of bs (mean w e) env (answers_by w bs o (mean w c) env)
   sum_same bs o c e env clear all f g =
       let answered : List (List ℕ) = answers_by cleared bs o (mean cleared c) env in
-      sum_if (is_single bs) (summed bs (mean cleared e) env (value.Int (pos 0)) answered) (summed bs (mean w e) env (value.Int (pos 0)) answered)
+      sum_if (is_single bs) (summed_terms bs (mean cleared e) env (value.Int (pos 0)) answered) (summed_terms bs (mean w e) env (value.Int (pos 0)) answered)
       (summed_same stays bs (mean cleared e) (mean w e) env (value.Int (pos 0)) answered g clear (answers_stay bs o c env))
       ∙ ap (sum_of bs (mean w e) env) (answers_same bs o c env clear all f)
 

@@ -2,11 +2,11 @@
 use Rattle.std.proofs.Common.{◌≡◌, ◌∙◌, refl, sym, ap, subst, arith, ℕ, zero, suc, ◌+◌, ◌<◌, ◌^◌, ◌==◌, ◌&&◌, ◌||◌, not, nat_lt, Bool, true, false, if◌then◌else◌, List, [], ◌∷◌, ◌++◌, ◌↔◌}
 use Rattle.std.specs.Prelude.{Option, Some, None, slice_get, length}
 use Rattle.std.specs.List.{list_any, list_all}
-use Rattle.std.proofs.lemmas.Bool.{and_parts}
+use Rattle.std.proofs.lemmas.Bool.{and_parts, or_parts, and_from, eqb-true}
 use Rattle.std.proofs.lemmas.Bool.Decides.{nat_tests}
 use Rattle.jac_value.specs.Ids.{model_of_id, record_of_label, group_of_label, label_of}
 use Rattle.jac_value.specs.declared.value.Value.TheVariants as value
-use Rattle.jac_world.specs.World.{shown, holds}
+use Rattle.jac_world.specs.World.{shown_by, holds}
 use Rattle.jac_lang.specs.Lookup.{groups_in}
 use Rattle.jac_lang.specs.Syntax.{Entity, FieldGroup, Application}
 use Rattle.jac_rows.specs.Good.{IsSound}
@@ -38,24 +38,15 @@ use Rattle.jac_rests.proofs.Replaced.{AreSmall, are_small, or_cases}
 use Rattle.jac_choice.proofs.Finding.{rows_of-shown}
 use Rattle.jac_rests.proofs.Sparing.{same_has, spared_allowed, spared_live}
 
--- none of two lists
-or_none : (a b : Bool) → (a || b) ≡ false → (a ≡ false) × (b ≡ false)
-or_none true b h = absurd cc
-or_none false b h = (refl, h)
-
 none_parts : (q : Mark → Bool) (xs ys : List Mark) → list_any q (xs ++ ys) ≡ false → (list_any q xs ≡ false) × (list_any q ys ≡ false)
 none_parts q [] ys h = (refl, h)
 none_parts q (x ∷ xs) ys h =
-    let parts = or_none (q x) (list_any q (xs ++ ys)) h in
+    let parts = or_parts (q x) (list_any q (xs ++ ys)) h in
     let later = none_parts q xs ys parts.1 in
     (rw (parts.0, later.0) refl, later.1)
 
 none_one : (q : Mark → Bool) (x : Mark) → list_any q (x ∷ []) ≡ false → q x ≡ false
-none_one q x h = (or_none (q x) false h).0
-
-both_true : (a b : Bool) → a ≡ true → b ≡ true → (a && b) ≡ true
-both_true true b p q = q
-both_true false b p q = absurd cc
+none_one q x h = (or_parts (q x) false h).0
 
 not_of : (b : Bool) → b ≡ false → not b ≡ true
 not_of true h = absurd cc
@@ -67,9 +58,6 @@ unless false f = refl
 
 itself : (n : ℕ) → (n == n) ≡ true
 itself n = grind arith
-
-same_if : (a b : ℕ) → (a == b) ≡ true → a ≡ b
-same_if a b e = grind (arith, e)
 
 label_again : (k : ℕ) → label_of (record_of_label k) (group_of_label k) ≡ k
 label_again k = omega arith
@@ -132,35 +120,35 @@ not_own q k (a ∷ more) is h =
     let g : ℕ = group_of_label k in
     let parts = none_parts q (own_mark (id_where (model_of_id a.id == m) a.id) g) (own_marks m g more) h in
     let here : (a.id == record_of_label k) ≡ false =
-    unless (a.id == record_of_label k) (λ e. own_if q k a.id (model_of_id a.id == m) is (same_if a.id (record_of_label k) e) refl parts.0) in
+    unless (a.id == record_of_label k) (λ e. own_if q k a.id (model_of_id a.id == m) is (eqb-true a.id (record_of_label k) e) refl parts.0) in
     rw here (not_own q k more is parts.1)
 
 same_rest : (x y : Rest) → is_same_rest x y ≡ true → x ≡ y
 same_rest (rest.One s) (rest.One t) e = ap rest.One (same_whom s t e)
-same_rest (rest.Table m) (rest.Table n) e = ap rest.Table (same_if m n e)
+same_rest (rest.Table m) (rest.Table n) e = ap rest.Table (eqb-true m n e)
 same_rest (rest.Found s m f) (rest.Found t n g) e =
     let parts = and_parts (is_same_whom s t) ((m == n) && (f == g)) e in
     let later = and_parts (m == n) (f == g) parts.1 in
-    rw (same_whom s t parts.0, same_if m n later.0, same_if f g later.1) refl
+    rw (same_whom s t parts.0, eqb-true m n later.0, eqb-true f g later.1) refl
 same_rest rest.Any rest.Any e = refl
 same_rest x y e = absurd cc
 
 -- the labels of records that an alternative leads to
-label_kept : (b : Bool) (g j : ℕ) (r : Row) (rows : List Row) → b ≡ true → (label_of r.id g == j) ≡ true → shown (row_labels g (if b then r ∷ rows else rows)) j ≡ true
+label_kept : (b : Bool) (g j : ℕ) (r : Row) (rows : List Row) → b ≡ true → (label_of r.id g == j) ≡ true → shown_by (row_labels g (if b then r ∷ rows else rows)) j ≡ true
 label_kept true g j r rows e h = rw h refl
 label_kept false g j r rows e h = absurd cc
 
-label_later : (b c : Bool) (g j : ℕ) (r : Row) (rows : List Row) → (label_of r.id g == j) ≡ c → shown (row_labels g rows) j ≡ true → shown (row_labels g (if b then r ∷ rows else rows)) j ≡ true
+label_later : (b c : Bool) (g j : ℕ) (r : Row) (rows : List Row) → (label_of r.id g == j) ≡ c → shown_by (row_labels g rows) j ≡ true → shown_by (row_labels g (if b then r ∷ rows else rows)) j ≡ true
 label_later true true g j r rows e h = rw e refl
 label_later true false g j r rows e h = rw e h
 label_later false c g j r rows e h = h
 
 holder_shown : (p : ℕ → Bool) (q : Row → Bool) (g id : ℕ) (rows : List Row) → p id ≡ true → list_any (λ r. (r.id == id) && q r) rows ≡ true
-    → shown (row_labels g (with_id p rows)) (label_of id g) ≡ true
+    → shown_by (row_labels g (with_id p rows)) (label_of id g) ≡ true
 holder_shown p q g id [] is h = absurd cc
 holder_shown p q g id (r ∷ rows) is h =
-    or_cases (shown (row_labels g (with_id p (r ∷ rows))) (label_of id g) ≡ true) ((r.id == id) && q r) (list_any (λ r. (r.id == id) && q r) rows)
-    (λ e. let same : id ≡ r.id = sym (same_if r.id id (and_parts (r.id == id) (q r) e).0) in
+    or_cases (shown_by (row_labels g (with_id p (r ∷ rows))) (label_of id g) ≡ true) ((r.id == id) && q r) (list_any (λ r. (r.id == id) && q r) rows)
+    (λ e. let same : id ≡ r.id = sym (eqb-true r.id id (and_parts (r.id == id) (q r) e).0) in
     label_kept (p r.id) g (label_of id g) r (with_id p rows) (ap p (sym same) ∙ is)
     (ap (λ i. label_of i g == label_of id g) (sym same) ∙ itself (label_of id g)))
     (λ e. label_later (p r.id) (label_of r.id g == label_of id g) g (label_of id g) r (with_id p rows) refl (holder_shown p q g id rows is e)) h
@@ -194,7 +182,7 @@ module _ (viewer : Option ℕ) (k : ℕ) (over : List Alteration) (among : RowsA
   asker_not : (id : ℕ) (others : List Alteration) → viewer ≡ Some id → list_any hit (viewer_marks model group others) ≡ false → is_altered others id ≡ false
   asker_not id [] is h = refl
   asker_not id (a ∷ more) is h =
-      let parts = or_none (hit (group_mark model group (Some (Some a.id)))) (list_any hit (viewer_marks model group more)) h in
+      let parts = or_parts (hit (group_mark model group (Some (Some a.id)))) (list_any hit (viewer_marks model group more)) h in
       let here : (a.id == id) ≡ false = ap (λ v. is_same_viewer (Some a.id) v) (sym is) ∙ sym (group_is (Some (Some a.id))) ∙ parts.0 in
       rw here (asker_not id more is parts.1)
 
@@ -222,9 +210,9 @@ module _ (viewer : Option ℕ) (k : ℕ) (over : List Alteration) (among : RowsA
   linked_if n f y true e h =
       let v = value.Ref (Some y) in
       let there : List Row = rows_of among.tables model in
-      subst (λ m. holds_cell f v (rows_of among.tables m) (record_of_label k) ≡ false) (sym (same_if n model e))
+      subst (λ m. holds_cell f v (rows_of among.tables m) (record_of_label k) ≡ false) (sym (eqb-true n model e))
       (unless (holds_cell f v there (record_of_label k))
-      (λ holds. sym (subst (λ j. shown (holder_labels among.tables model group f y) j ≡ true) (label_again k)
+      (λ holds. sym (subst (λ j. shown_by (holder_labels among.tables model group f y) j ≡ true) (label_again k)
       (holder_shown (holds_cell f v there) (has_cell f v) group (record_of_label k) there holds holds)) ∙ h))
   linked_if n f y false e h = let wrong : true ≡ false = sym everybody ∙ h in absurd cc
 
@@ -249,7 +237,7 @@ module _ (viewer : Option ℕ) (k : ℕ) (over : List Alteration) (among : RowsA
   cell_not whom.This None h = refl
   cell_not whom.This (Some None) h = refl
   cell_not whom.This (Some (Some y)) h =
-      unless (y == record_of_label k) (λ e. sym (label_hit y (same_if y (record_of_label k) e)) ∙ h)
+      unless (y == record_of_label k) (λ e. sym (label_hit y (eqb-true y (record_of_label k) e)) ∙ h)
   cell_not (whom.Field n f) x h = link_not n f x h
   cell_not whom.Viewer None h = refl
   cell_not whom.Viewer (Some x) h = sym (group_is (Some x)) ∙ none_one hit (group_mark model group (Some x)) h
@@ -326,16 +314,16 @@ or_join : (a b c d : Bool) → d ≡ (b || c) → (a || d) ≡ ((a || b) || c)
 or_join true b c d e = refl
 or_join false b c d e = e
 
-shown_append : (xs ys : List ℕ) (k : ℕ) → shown (xs ++ ys) k ≡ (shown xs k || shown ys k)
+shown_append : (xs ys : List ℕ) (k : ℕ) → shown_by (xs ++ ys) k ≡ (shown_by xs k || shown_by ys k)
 shown_append [] ys k = refl
-shown_append (x ∷ xs) ys k = or_join (x == k) (shown xs k) (shown ys k) (shown (xs ++ ys) k) (shown_append xs ys k)
+shown_append (x ∷ xs) ys k = or_join (x == k) (shown_by xs k) (shown_by ys k) (shown_by (xs ++ ys) k) (shown_append xs ys k)
 
-labels_are : (tables : List (List Row)) (k : ℕ) (marks : List Mark) → shown (marked_labels tables marks) k ≡ list_any (is_one tables k) marks
+labels_are : (tables : List (List Row)) (k : ℕ) (marks : List Mark) → shown_by (marked_labels tables marks) k ≡ list_any (is_one tables k) marks
 labels_are tables k [] = refl
 labels_are tables k (mark.One j ∷ marks) = ap (λ b. (j == k) || b) (labels_are tables k marks)
 labels_are tables k (mark.Linked m g f id ∷ marks) =
     shown_append (holder_labels tables m g f id) (marked_labels tables marks) k
-    ∙ ap (λ b. shown (holder_labels tables m g f id) k || b) (labels_are tables k marks)
+    ∙ ap (λ b. shown_by (holder_labels tables m g f id) k || b) (labels_are tables k marks)
 labels_are tables k (mark.All m g ∷ marks) = labels_are tables k marks
 labels_are tables k (mark.Only m g v ∷ marks) = labels_are tables k marks
 
@@ -343,16 +331,16 @@ groups_are : (tables : List (List Row)) (viewer : Option ℕ) (k : ℕ) (marks :
     → list_any (λ (g : TouchedGroup). is_in_group g k && is_for g.viewer viewer) (marked_groups marks) ≡ false → list_any (marks_label tables viewer k) marks ≡ false
 groups_are tables viewer k [] a b = refl
 groups_are tables viewer k (mark.One j ∷ marks) a b =
-    let parts = or_none (j == k) (list_any (is_one tables k) marks) a in
+    let parts = or_parts (j == k) (list_any (is_one tables k) marks) a in
     rw parts.0 (groups_are tables viewer k marks parts.1 b)
 groups_are tables viewer k (mark.Linked m g f id ∷ marks) a b =
-    let parts = or_none (shown (holder_labels tables m g f id) k) (list_any (is_one tables k) marks) a in
+    let parts = or_parts (shown_by (holder_labels tables m g f id) k) (list_any (is_one tables k) marks) a in
     rw parts.0 (groups_are tables viewer k marks parts.1 b)
 groups_are tables viewer k (mark.All m g ∷ marks) a b =
-    let parts = or_none (is_in_group (touched_group m g None) k && is_for (whose_of None) viewer) (list_any (λ (g : TouchedGroup). is_in_group g k && is_for g.viewer viewer) (marked_groups marks)) b in
+    let parts = or_parts (is_in_group (touched_group m g None) k && is_for (whose_of None) viewer) (list_any (λ (g : TouchedGroup). is_in_group g k && is_for g.viewer viewer) (marked_groups marks)) b in
     rw parts.0 (groups_are tables viewer k marks a parts.1)
 groups_are tables viewer k (mark.Only m g v ∷ marks) a b =
-    let parts = or_none (is_in_group (touched_group m g (Some v)) k && is_for (whose_of (Some v)) viewer) (list_any (λ (g : TouchedGroup). is_in_group g k && is_for g.viewer viewer) (marked_groups marks)) b in
+    let parts = or_parts (is_in_group (touched_group m g (Some v)) k && is_for (whose_of (Some v)) viewer) (list_any (λ (g : TouchedGroup). is_in_group g k && is_for g.viewer viewer) (marked_groups marks)) b in
     rw parts.0 (groups_are tables viewer k marks a parts.1)
 
 -- a record past the end stands nowhere
@@ -366,7 +354,7 @@ none_with : (u : ℕ → Bool) (id : ℕ) (rows : List Row) → AreSmall rows �
 none_with u id [] small big = refl
 none_with u id (r ∷ rows) small big =
     stands_if u (holds u r.guard) (r.id == id) id r rows refl
-    (unless (r.id == id) (λ e. sym (big (subst (λ i. i < 2 ^ 124) (same_if r.id id e) small.0))))
+    (unless (r.id == id) (λ e. sym (big (subst (λ i. i < 2 ^ 124) (eqb-true r.id id e) small.0))))
     (none_with u id rows small.1 big)
 
 and_false : (a : Bool) → (a && false) ≡ false
@@ -405,7 +393,7 @@ module _ (app : Application) (s : State) (over : List Alteration) (sound : IsSou
   size_there viewer k true is stay h u =
       let small : record_of_label k < 2 ^ 124 = grind (arith, nat_tests, is) in
       spared_allowed app s over sound own placed viewer k
-      (both_true (is_outside over (record_of_label k)) (list_all (test_of over among (record_of_label k) viewer) (group_rests app.models (labelled_group app k))) stay
+      (and_from (is_outside over (record_of_label k)) (list_all (test_of over among (record_of_label k) viewer) (group_rests app.models (labelled_group app k))) stay
       (rests_spared app over among viewer k (labelled_group app k) small refl h)) u
   size_there viewer k false is stay h u =
       let big : record_of_label k < 2 ^ 124 → false ≡ true = λ small. grind (arith, nat_tests, is, small) in
@@ -425,13 +413,13 @@ module _ (app : Application) (s : State) (over : List Alteration) (sound : IsSou
   policy_there viewer k (Some g) is a b u =
       size_there viewer k (nat_lt (record_of_label k) (2 ^ 124)) refl (own_spared app over s.tables rows k (Some g) is refl a) b u
 
-  pub covered : (t : Touch) (viewer : Option ℕ) → ((k : ℕ) → shown t.labels k ≡ shown (marked_labels s.tables (all_marks app over rows)) k)
+  pub covered : (t : Touch) (viewer : Option ℕ) → ((k : ℕ) → shown_by t.labels k ≡ shown_by (marked_labels s.tables (all_marks app over rows)) k)
       → t.groups.items ≡ marked_groups (all_marks app over rows)
       → IsCovered app (λ u. project_at u s) (λ u. project_at u behind) t viewer
   covered t viewer labels groups = record {
     living = λ k h. group_there k (has_group app k) refl (sym (labels_are s.tables k (all_marks app over rows)) ∙ sym (labels k) ∙ h);
     allowed = λ k h u.
-        let parts = or_none (shown t.labels k) (list_any (λ (g : TouchedGroup). is_in_group g k && is_for g.viewer viewer) t.groups.items) h in
+        let parts = or_parts (shown_by t.labels k) (list_any (λ (g : TouchedGroup). is_in_group g k && is_for g.viewer viewer) t.groups.items) h in
         let one : list_any (is_one s.tables k) (all_marks app over rows) ≡ false = sym (labels_are s.tables k (all_marks app over rows)) ∙ sym (labels k) ∙ parts.0 in
         let each : list_any (λ (g : TouchedGroup). is_in_group g k && is_for g.viewer viewer) (marked_groups (all_marks app over rows)) ≡ false =
         subst (λ (l : List TouchedGroup). list_any (λ (g : TouchedGroup). is_in_group g k && is_for g.viewer viewer) l ≡ false) groups parts.1 in

@@ -2,7 +2,7 @@
 use Rattle.std.proofs.Common.{◌≡◌, ◌∙◌, refl, sym, ap, subst, arith, ℕ, zero, suc, ◌+◌, ◌<◌, ◌^◌, ◌==◌, ◌&&◌, ◌||◌, not, nat_lt, Bool, true, false, if◌then◌else◌, List, [], ◌∷◌, ◌++◌, append-nil}
 use Rattle.std.specs.Prelude.{Option, map, slice_get}
 use Rattle.std.specs.List.{AllByRecursion, list_any}
-use Rattle.std.proofs.lemmas.Bool.{and_parts}
+use Rattle.std.proofs.lemmas.Bool.{and_parts, or_right, or_left, and_from}
 use Rattle.std.proofs.lemmas.Bool.Decides.{nat_tests}
 use Rattle.jac_value.specs.Ids.{model_of_id, is_id_of}
 use Rattle.jac_rows.specs.Good.{AreSound, IsMade, IsSound}
@@ -11,8 +11,8 @@ use Rattle.jac_rows.specs.Tables.{rows_of}
 use Rattle.jac_rows.specs.declared.row.Row.{Row}
 use Rattle.jac_rows.specs.declared.state.State.{State}
 use Rattle.jac_keep.specs.declared.alteration.Alteration.{Alteration}
-use Rattle.jac_keep.specs.Alterations.{AreOwn, alters, altered, overlaid_from, overlaid}
-use Rattle.jac_keep.specs.Records.{with_id, alternatives, before, behind, placed, AreOf, AreOrdered}
+use Rattle.jac_keep.specs.Alterations.{AreOwn, alters, altered_rows, overlaid_from, overlaid}
+use Rattle.jac_keep.specs.Records.{with_id, alternatives, before, behind, placed_rows, AreOf, AreOrdered}
 use Rattle.jac_keep.specs.Sound.{AreTables}
 use Rattle.jac_keep.proofs.Gathered.{joined}
 use Rattle.jac_keep.proofs.OrderLaws.{ordered_if_rising, ordered-placed}
@@ -81,7 +81,7 @@ in_two test id rows ordered fails =
     ∙ joined p q rows ordered (λ i j a b. less_and i j id (test i) (test j) a b)
     ∙ ap (λ (t : ℕ → Bool). with_id t rows) (λ k i. same i k)
 
-placed_same : (test : ℕ → Bool) (id : ℕ) (new rows : List Row) → AreOf id new → AreOrdered rows → test id ≡ false → with_id test (placed id new rows) ≡ with_id test rows
+placed_same : (test : ℕ → Bool) (id : ℕ) (new rows : List Row) → AreOf id new → AreOrdered rows → test id ≡ false → with_id test (placed_rows id new rows) ≡ with_id test rows
 placed_same test id new rows own ordered fails =
     picked_append test (before id rows ++ new) (behind id rows)
     ∙ ap (λ l. l ++ with_id test (behind id rows)) (picked_append test (before id rows) new)
@@ -90,21 +90,13 @@ placed_same test id new rows own ordered fails =
     ∙ in_two test id rows ordered fails
 
 placed_if_same : (b : Bool) (test : ℕ → Bool) (id : ℕ) (new rows : List Row) → AreOf id new → AreOrdered rows → test id ≡ false
-    → with_id test (if b then placed id new rows else rows) ≡ with_id test rows
+    → with_id test (if b then placed_rows id new rows else rows) ≡ with_id test rows
 placed_if_same true test id new rows own ordered fails = placed_same test id new rows own ordered fails
 placed_if_same false test id new rows own ordered fails = refl
 
-placed_if_ordered : (b : Bool) (id : ℕ) (new rows : List Row) → AreOf id new → AreOrdered rows → AreOrdered (if b then placed id new rows else rows)
+placed_if_ordered : (b : Bool) (id : ℕ) (new rows : List Row) → AreOf id new → AreOrdered rows → AreOrdered (if b then placed_rows id new rows else rows)
 placed_if_ordered true id new rows own ordered = ordered-placed id new rows own ordered
 placed_if_ordered false id new rows own ordered = ordered
-
-right_true : (a b : Bool) → b ≡ true → (a || b) ≡ true
-right_true true b e = refl
-right_true false b e = e
-
-left_true : (a b : Bool) → a ≡ true → (a || b) ≡ true
-left_true true b e = refl
-left_true false b e = absurd cc
 
 itself : (n : ℕ) → (n == n) ≡ true
 itself n = grind arith
@@ -114,12 +106,12 @@ abbrev Misses : (ℕ → Bool) → List Alteration → Type 0
 Misses test over = (id : ℕ) → is_altered over id ≡ true → test id ≡ false
 
 altered_same : (test : ℕ → Bool) (m : ℕ) (over : List Alteration) (rows : List Row) → Misses test over → AreOwn over → AreOrdered rows
-    → with_id test (altered m over rows) ≡ with_id test rows
+    → with_id test (altered_rows m over rows) ≡ with_id test rows
 altered_same test m [] rows misses own ordered = refl
 altered_same test m (a ∷ more) rows misses own ordered =
-    let fails : test a.id ≡ false = misses a.id (left_true (a.id == a.id) (is_altered more a.id) (itself a.id)) in
-    altered_same test m more (if model_of_id a.id == m then placed a.id a.rows rows else rows)
-    (λ id h. misses id (right_true (a.id == id) (is_altered more id) h)) own.1
+    let fails : test a.id ≡ false = misses a.id (or_left (a.id == a.id) (is_altered more a.id) (itself a.id)) in
+    altered_same test m more (if model_of_id a.id == m then placed_rows a.id a.rows rows else rows)
+    (λ id h. misses id (or_right (a.id == id) (is_altered more id) h)) own.1
     (placed_if_ordered (model_of_id a.id == m) a.id a.rows rows own.0 ordered)
     ∙ placed_if_same (model_of_id a.id == m) test a.id a.rows rows own.0 ordered fails
 
@@ -131,8 +123,8 @@ tables_same : (u : ℕ → Bool) (over : List Alteration) (m : ℕ) (tables : Li
     → map (with_ids (is_outside over)) (map (rows_at u) (overlaid_from m over tables)) ≡ map (with_ids (is_outside over)) (map (rows_at u) tables)
 tables_same u over m [] own rising = refl
 tables_same u over m (t ∷ tables) own rising =
-    let here : with_ids (is_outside over) (rows_at u (altered m over t)) ≡ with_ids (is_outside over) (rows_at u t) =
-    sym (rows_at_with_id u (is_outside over) (altered m over t))
+    let here : with_ids (is_outside over) (rows_at u (altered_rows m over t)) ≡ with_ids (is_outside over) (rows_at u t) =
+    sym (rows_at_with_id u (is_outside over) (altered_rows m over t))
     ∙ ap (rows_at u) (altered_same (is_outside over) m over t (λ id h. misses_it (is_altered over id) h) own (ordered_if_rising t rising.0))
     ∙ rows_at_with_id u (is_outside over) t in
     rw (here, tables_same u over (m + 1) tables own rising.1) refl
@@ -186,30 +178,30 @@ altered_alters [] id h = absurd cc
 altered_alters (a ∷ more) id h =
     or_cases (alters (model_of_id id) (a ∷ more) ≡ true) (a.id == id) (is_altered more id)
     (λ e. let same : a.id ≡ id = grind (arith, e) in
-    left_true (model_of_id a.id == model_of_id id) (alters (model_of_id id) more) (ap (λ n. model_of_id n == model_of_id id) same ∙ itself (model_of_id id)))
-    (λ e. right_true (model_of_id a.id == model_of_id id) (alters (model_of_id id) more) (altered_alters more id e)) h
+    or_left (model_of_id a.id == model_of_id id) (alters (model_of_id id) more) (ap (λ n. model_of_id n == model_of_id id) same ∙ itself (model_of_id id)))
+    (λ e. or_right (model_of_id a.id == model_of_id id) (alters (model_of_id id) more) (altered_alters more id e)) h
 
 -- what some of the rows has, some of more have, or of others
 pub any_left : (q : Row → Bool) (xs ys : List Row) → list_any q xs ≡ true → list_any q (xs ++ ys) ≡ true
 any_left q [] ys h = absurd cc
 any_left q (x ∷ xs) ys h =
     or_cases ((q x || list_any q (xs ++ ys)) ≡ true) (q x) (list_any q xs)
-    (λ e. left_true (q x) (list_any q (xs ++ ys)) e) (λ e. right_true (q x) (list_any q (xs ++ ys)) (any_left q xs ys e)) h
+    (λ e. or_left (q x) (list_any q (xs ++ ys)) e) (λ e. or_right (q x) (list_any q (xs ++ ys)) (any_left q xs ys e)) h
 
 pub any_right : (q : Row → Bool) (xs ys : List Row) → list_any q ys ≡ true → list_any q (xs ++ ys) ≡ true
 any_right q [] ys h = h
-any_right q (x ∷ xs) ys h = right_true (q x) (list_any q (xs ++ ys)) (any_right q xs ys h)
+any_right q (x ∷ xs) ys h = or_right (q x) (list_any q (xs ++ ys)) (any_right q xs ys h)
 
 any_parts : (P : Type 0) (q : Row → Bool) (xs ys : List Row) → (list_any q xs ≡ true → P) → (list_any q ys ≡ true → P) → list_any q (xs ++ ys) ≡ true → P
 any_parts P q [] ys f g h = g h
 any_parts P q (x ∷ xs) ys f g h =
-    or_cases P (q x) (list_any q (xs ++ ys)) (λ e. f (left_true (q x) (list_any q xs) e))
-    (λ e. any_parts P q xs ys (λ k. f (right_true (q x) (list_any q xs) k)) g e) h
+    or_cases P (q x) (list_any q (xs ++ ys)) (λ e. f (or_left (q x) (list_any q xs) e))
+    (λ e. any_parts P q xs ys (λ k. f (or_right (q x) (list_any q xs) k)) g e) h
 
 any_if : (q : Row → Bool) (b : Bool) (r : Row) (xs ys : List Row) → (list_any q xs ≡ true → list_any q ys ≡ true) → list_any q (if b then r ∷ xs else xs) ≡ true → (q r || list_any q ys) ≡ true
 any_if q true r xs ys f h =
-    or_cases ((q r || list_any q ys) ≡ true) (q r) (list_any q xs) (λ e. left_true (q r) (list_any q ys) e) (λ e. right_true (q r) (list_any q ys) (f e)) h
-any_if q false r xs ys f h = right_true (q r) (list_any q ys) (f h)
+    or_cases ((q r || list_any q ys) ≡ true) (q r) (list_any q xs) (λ e. or_left (q r) (list_any q ys) e) (λ e. or_right (q r) (list_any q ys) (f e)) h
+any_if q false r xs ys f h = or_right (q r) (list_any q ys) (f h)
 
 any_picked : (q : Row → Bool) (test : ℕ → Bool) (rows : List Row) → list_any q (with_id test rows) ≡ true → list_any q rows ≡ true
 any_picked q test [] h = absurd cc
@@ -219,10 +211,10 @@ pub any_mapped : (p q : Row → Bool) (rows : List Row) → ((r : Row) → p r �
 any_mapped p q [] f h = absurd cc
 any_mapped p q (r ∷ rows) f h =
     or_cases ((q r || list_any q rows) ≡ true) (p r) (list_any p rows)
-    (λ e. left_true (q r) (list_any q rows) (f r e)) (λ e. right_true (q r) (list_any q rows) (any_mapped p q rows f e)) h
+    (λ e. or_left (q r) (list_any q rows) (f r e)) (λ e. or_right (q r) (list_any q rows) (any_mapped p q rows f e)) h
 
 any_placed_if : (P : Type 0) (q : Row → Bool) (b : Bool) (id : ℕ) (new rows : List Row) → (list_any q rows ≡ true → P) → (list_any q new ≡ true → P)
-    → list_any q (if b then placed id new rows else rows) ≡ true → P
+    → list_any q (if b then placed_rows id new rows else rows) ≡ true → P
 any_placed_if P q true id new rows f g h =
     any_parts P q (before id rows ++ new) (behind id rows)
     (λ e. any_parts P q (before id rows) new (λ k. f (any_picked q (λ i. nat_lt i id) rows k)) g e)
@@ -231,21 +223,21 @@ any_placed_if P q false id new rows f g h = f h
 
 -- some replaced row has it, or some that was there
 any_altered : (P : Type 0) (q : Row → Bool) (tables : List (List Row)) (m : ℕ) (over : List Alteration) (rows : List Row)
-    → (list_any q rows ≡ true → P) → (list_any q (alternatives_altered tables over) ≡ true → P) → list_any q (altered m over rows) ≡ true → P
+    → (list_any q rows ≡ true → P) → (list_any q (alternatives_altered tables over) ≡ true → P) → list_any q (altered_rows m over rows) ≡ true → P
 any_altered P q tables m [] rows f g h = f h
 any_altered P q tables m (a ∷ more) rows f g h =
     let old : List Row = alternatives a.id (rows_of tables (model_of_id a.id)) in
-    any_altered P q tables m more (if model_of_id a.id == m then placed a.id a.rows rows else rows)
+    any_altered P q tables m more (if model_of_id a.id == m then placed_rows a.id a.rows rows else rows)
     (λ e. any_placed_if P q (model_of_id a.id == m) a.id a.rows rows f
     (λ k. g (any_right q old (a.rows ++ alternatives_altered tables more) (any_left q a.rows (alternatives_altered tables more) k))) e)
     (λ e. g (any_right q old (a.rows ++ alternatives_altered tables more) (any_right q a.rows (alternatives_altered tables more) e))) h
 
 first_if : (q : Row → Bool) (b : Bool) (r : Row) (xs : List Row) → (b && q r) ≡ true → list_any q (if b then r ∷ xs else xs) ≡ true
-first_if q true r xs h = left_true (q r) (list_any q xs) h
+first_if q true r xs h = or_left (q r) (list_any q xs) h
 first_if q false r xs h = absurd cc
 
 later_if : (q : Row → Bool) (b : Bool) (r : Row) (xs : List Row) → list_any q xs ≡ true → list_any q (if b then r ∷ xs else xs) ≡ true
-later_if q true r xs h = right_true (q r) (list_any q xs) h
+later_if q true r xs h = or_right (q r) (list_any q xs) h
 later_if q false r xs h = h
 
 any_alternatives : (q : Row → Bool) (id : ℕ) (rows : List Row) → list_any (λ r. (r.id == id) && q r) rows ≡ true → list_any q (alternatives id rows) ≡ true
@@ -280,7 +272,7 @@ all_of : (m id : ℕ) (rows : List Row) → AreOf id rows → model_of_id id ≡
 all_of m id [] own is = tt
 all_of m id (r ∷ rows) own is = (ap model_of_id own.0 ∙ is, all_of m id rows own.1 is)
 
-placed_if_model : (m id : ℕ) (b : Bool) (new rows : List Row) → (model_of_id id == m) ≡ b → AreOf id new → OfModel m rows → OfModel m (if b then placed id new rows else rows)
+placed_if_model : (m id : ℕ) (b : Bool) (new rows : List Row) → (model_of_id id == m) ≡ b → AreOf id new → OfModel m rows → OfModel m (if b then placed_rows id new rows else rows)
 placed_if_model m id true new rows e own all =
     let is : model_of_id id ≡ m = grind (arith, e) in
     let P = λ (r : Row). model_of_id r.id ≡ m in
@@ -289,17 +281,13 @@ placed_if_model m id true new rows e own all =
     (all-with_id P (λ i. nat_lt id i) rows all)
 placed_if_model m id false new rows e own all = all
 
-pub altered_model : (m : ℕ) (over : List Alteration) (rows : List Row) → AreOwn over → OfModel m rows → OfModel m (altered m over rows)
+pub altered_model : (m : ℕ) (over : List Alteration) (rows : List Row) → AreOwn over → OfModel m rows → OfModel m (altered_rows m over rows)
 altered_model m [] rows own all = all
 altered_model m (a ∷ more) rows own all =
-    altered_model m more (if model_of_id a.id == m then placed a.id a.rows rows else rows) own.1
+    altered_model m more (if model_of_id a.id == m then placed_rows a.id a.rows rows else rows) own.1
     (placed_if_model m a.id (model_of_id a.id == m) a.rows rows refl own.0 all)
 
 -- a row of a replaced record that row_refers, in the table before and behind, is among the replaced rows
-both_true : (a b : Bool) → a ≡ true → b ≡ true → (a && b) ≡ true
-both_true true b p q = q
-both_true false b p q = absurd cc
-
 abbrev pub cell_refers : ℕ → (Option (Option ℕ) → Bool) → Row → Bool
 cell_refers f x r = x (referred_by (slice_get r.cells f))
 
@@ -312,21 +300,21 @@ found_before tables over m f x id all is h =
     (λ r k. let parts = and_parts (r.id == id) (cell_refers f x r) k in
     let same : r.id ≡ id = grind (arith, parts.0) in
     let own : (model_of_id r.id == m) ≡ true = ap (λ i. model_of_id i == m) same ∙ ap (λ n. n == m) model ∙ itself m in
-    both_true (r.id == id) (row_refers m f x r) parts.0 (both_true (model_of_id r.id == m) (cell_refers f x r) own parts.1)) h in
+    and_from (r.id == id) (row_refers m f x r) parts.0 (and_from (model_of_id r.id == m) (cell_refers f x r) own parts.1)) h in
     any_named (row_refers m f x) tables over id is
     (subst (λ n. list_any (row_refers m f x) (alternatives id (rows_of tables n)) ≡ true) (sym model)
     (any_alternatives (row_refers m f x) id (rows_of tables m) there))
 
 pub found_behind : (tables : List (List Row)) (over : List Alteration) (m f : ℕ) (x : Option (Option ℕ) → Bool) (id : ℕ) → AreOwn over → OfModel m (rows_of tables m) → is_altered over id ≡ true
-    → list_any (λ r. (r.id == id) && cell_refers f x r) (altered m over (rows_of tables m)) ≡ true → list_any (row_refers m f x) (alternatives_altered tables over) ≡ true
+    → list_any (λ r. (r.id == id) && cell_refers f x r) (altered_rows m over (rows_of tables m)) ≡ true → list_any (row_refers m f x) (alternatives_altered tables over) ≡ true
 found_behind tables over m f x id own all is h =
     let q = λ (r : Row). (r.id == id) && cell_refers f x r in
     let rows : List Row = rows_of tables m in
-    let model : model_of_id id ≡ m = any_model (cell_refers f x) m id (altered m over rows) (altered_model m over rows own all) h in
+    let model : model_of_id id ≡ m = any_model (cell_refers f x) m id (altered_rows m over rows) (altered_model m over rows own all) h in
     any_altered (list_any (row_refers m f x) (alternatives_altered tables over) ≡ true) q tables m over rows
     (λ e. found_before tables over m f x id all is e)
     (λ e. any_mapped q (row_refers m f x) (alternatives_altered tables over)
     (λ r k. let parts = and_parts (r.id == id) (cell_refers f x r) k in
     let same : r.id ≡ id = grind (arith, parts.0) in
     let mine : (model_of_id r.id == m) ≡ true = ap (λ i. model_of_id i == m) same ∙ ap (λ n. n == m) model ∙ itself m in
-    both_true (model_of_id r.id == m) (cell_refers f x r) mine parts.1) e) h
+    and_from (model_of_id r.id == m) (cell_refers f x r) mine parts.1) e) h

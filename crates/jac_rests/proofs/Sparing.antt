@@ -2,7 +2,7 @@
 use Rattle.std.proofs.Common.{◌≡◌, ◌∙◌, refl, sym, ap, subst, arith, ℕ, ◌==◌, ◌&&◌, ◌||◌, not, Bool, true, false, if◌then◌else◌, List, [], ◌∷◌, ◌↔◌}
 use Rattle.std.specs.Prelude.{Option, Some, None, map, slice_get, unwrap_or, length}
 use Rattle.std.specs.List.{list_any, list_all}
-use Rattle.std.proofs.lemmas.Bool.{and_parts}
+use Rattle.std.proofs.lemmas.Bool.{and_parts, or_left, or_right}
 use Rattle.jac_value.specs.Ids.{model_of_id, record_of_label}
 use Rattle.jac_value.specs.SameValue.{same_value}
 use Rattle.jac_value.specs.Values.{default_value}
@@ -65,14 +65,6 @@ both_or true true c p q = refl
 both_or true false c p q = absurd cc
 both_or false b c p q = absurd cc
 
-first_or : (a b : Bool) → a ≡ true → (a || b) ≡ true
-first_or true b h = refl
-first_or false b h = absurd cc
-
-later_or : (a b : Bool) → b ≡ true → (a || b) ≡ true
-later_or true b h = refl
-later_or false b h = h
-
 -- a record whose field has a value in one world has a row whose cell may have it
 read_if : (h s : Bool) (r : Row) (u : ℕ → Bool) (rows : List Row) (f : ℕ) (k : Kind) (v : Value) (q : Option Value → Bool) (id : ℕ) → (r.id == id) ≡ s
     → ((c : Option Value) → equality.ghosts.eq (unwrap_or c (default_value k)) v ≡ true → q c ≡ true)
@@ -87,9 +79,9 @@ read_if true true r u rows f k v q id s may ih stood e =
 read_if true false r u rows f k v q id s may ih stood e =
     let there : stands (record_with id (rows_at u rows)) ≡ true = rw s at stood in
     let cell : equality.ghosts.eq (cell_of (record_with id (rows_at u rows)) f (default_value k)) v ≡ true = rw s at e in
-    later_or ((r.id == id) && q (slice_get r.cells f)) (list_any (λ r. (r.id == id) && q (slice_get r.cells f)) rows) (ih there cell)
+    or_right ((r.id == id) && q (slice_get r.cells f)) (list_any (λ r. (r.id == id) && q (slice_get r.cells f)) rows) (ih there cell)
 read_if false s r u rows f k v q id same may ih stood e =
-    later_or ((r.id == id) && q (slice_get r.cells f)) (list_any (λ r. (r.id == id) && q (slice_get r.cells f)) rows) (ih stood e)
+    or_right ((r.id == id) && q (slice_get r.cells f)) (list_any (λ r. (r.id == id) && q (slice_get r.cells f)) rows) (ih stood e)
 
 read_cell : (u : ℕ → Bool) (rows : List Row) (f : ℕ) (k : Kind) (v : Value) (q : Option Value → Bool) (id : ℕ)
     → ((c : Option Value) → equality.ghosts.eq (unwrap_or c (default_value k)) v ≡ true → q c ≡ true)
@@ -141,9 +133,9 @@ link_altered tables m f this [] y holds is = absurd cc
 link_altered tables m f this (a ∷ more) y holds is =
     or_cases (is_link_altered tables m f this (a ∷ more) ≡ true) (a.id == y) (is_altered more y)
     (λ e. let same : y ≡ a.id = grind (arith, e) in
-    first_or (holds_cell f (value.Ref (Some a.id)) (rows_of tables m) this) (is_link_altered tables m f this more)
+    or_left (holds_cell f (value.Ref (Some a.id)) (rows_of tables m) this) (is_link_altered tables m f this more)
     (subst (λ i. holds_cell f (value.Ref (Some i)) (rows_of tables m) this ≡ true) same holds))
-    (λ e. later_or (is_linked tables m f this (Some (Some a.id))) (is_link_altered tables m f this more) (link_altered tables m f this more y holds e)) is
+    (λ e. or_right (is_linked tables m f this (Some (Some a.id))) (is_link_altered tables m f this more) (link_altered tables m f this more y holds e)) is
 
 clear_if : (over : List Alteration) (v : Value) → ((y : ℕ) → v ≡ value.Ref (Some y) → is_outside over y ≡ true) → is_clear (is_outside over) v ≡ true
 clear_if over (value.Ref None) f = refl

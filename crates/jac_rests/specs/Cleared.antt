@@ -7,7 +7,7 @@ use Rattle.jac_value.specs.contracts.value.ValuePartialEq.TheImpl as equality
 use Rattle.jac_value.specs.Values.{default_value}
 use Rattle.jac_lang.specs.Lookup.{fields_at, kind_at}
 use Rattle.jac_rows.specs.Tables.{rows_of}
-use Rattle.jac_plain.specs.World.{World, record_with, referred, cell_of}
+use Rattle.jac_plain.specs.World.{World, record_with, referred_record, cell_of}
 use Rattle.jac_plain.specs.Expressions.{stands}
 use Rattle.jac_plain.specs.Records.{with_ids}
 use Rattle.jac_rests.specs.declared.rest.Rest.{Rest}
@@ -27,7 +27,7 @@ is_clear stays v = true
 -- the reference that a policy reads or finds records by, or what a field has in its place
 abbrev pub whom_in : World → Whom → Value
 whom_in w whom.This = value.Ref w.this
-whom_in w (whom.Field m f) = cell_of (referred (value.Ref w.this) (rows_of w.tables m)) f
+whom_in w (whom.Field m f) = cell_of (referred_record (value.Ref w.this) (rows_of w.tables m)) f
     (default_value (kind_at w.models (fields_at w.models m) f))
 whom_in w whom.Viewer = value.Ref w.viewer
 

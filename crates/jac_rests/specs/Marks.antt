@@ -4,7 +4,7 @@ use Rattle.std.specs.Prelude.{ℕ, ◌+◌, ◌^◌, ◌&&◌, ◌==◌, nat_lt,
 use Rattle.std.specs.List.{list_any}
 use Rattle.jac_value.specs.declared.value.Value.TheVariants as value
 use Rattle.jac_value.specs.Ids.{model_of_id, label_of}
-use Rattle.jac_world.specs.World.{shown}
+use Rattle.jac_world.specs.World.{shown_by}
 use Rattle.jac_lang.specs.Syntax.{Entity, FieldGroup}
 use Rattle.jac_rows.specs.declared.row.Row.{Row}
 use Rattle.jac_rows.specs.Tables.{rows_of}
@@ -164,7 +164,7 @@ holder_labels tables m g f id =
 -- a mark is of the label, for the viewer; or of the label by itself
 abbrev pub marks_label : List (List Row) → Option ℕ → ℕ → Mark → Bool
 marks_label tables viewer k (mark.One j) = j == k
-marks_label tables viewer k (mark.Linked m g f id) = shown (holder_labels tables m g f id) k
+marks_label tables viewer k (mark.Linked m g f id) = shown_by (holder_labels tables m g f id) k
 marks_label tables viewer k (mark.All m g) =
     is_in_group (touched_group m g None) k && is_for (whose_of None) viewer
 marks_label tables viewer k (mark.Only m g v) =
@@ -172,7 +172,7 @@ marks_label tables viewer k (mark.Only m g v) =
 
 abbrev pub is_one : List (List Row) → ℕ → Mark → Bool
 is_one tables k (mark.One j) = j == k
-is_one tables k (mark.Linked m g f id) = shown (holder_labels tables m g f id) k
+is_one tables k (mark.Linked m g f id) = shown_by (holder_labels tables m g f id) k
 is_one tables k (mark.All m g) = false
 is_one tables k (mark.Only m g v) = false
 

@@ -2,7 +2,7 @@
 ghost use Rattle.std.specs.Prelude.{◌≡◌, ◌++◌, ◌∷◌, ℕ, [], Option, IfOk, OnOk, IsErrOf, IsTrue};
 ghost use Rattle.jac_io.specs.Faults.{Rose};
 ghost use Rattle.jac_value.specs.Ids.{label_of};
-ghost use Rattle.jac_world.specs.World.{shown};
+ghost use Rattle.jac_world.specs.World.{shown_by};
 ghost use Rattle.jac_lang.specs.Mirror.{application_of};
 ghost use Rattle.jac_rows.specs.Good.{IsSound};
 ghost use Rattle.jac_rows.specs.Project.{project_at};
@@ -88,7 +88,8 @@ fn touch_among<K: Keeper>(
 ) -> Result<Touch, Stop>
     requires attached { IsTrue (K.seen keeper.old).store.attached }
     ensures labels { IsTrue (K.seen keeper.new).tells → IfOk result (λ t. (k : ℕ)
-        → shown t.labels k ≡ shown (marked_labels (K.seen keeper.old).state.tables (models_marks
+        → shown_by t.labels k ≡ shown_by (marked_labels (K.seen keeper.old).state.tables
+        (models_marks
         (application_of app.now).models 0 over.now rows.now (application_of app.now).models)) k) }
     ensures groups { IfOk result (λ t. t.groups.items ≡ marked_groups (models_marks
         (application_of app.now).models 0 over.now rows.now (application_of app.now).models)) }

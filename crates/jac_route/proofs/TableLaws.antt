@@ -10,7 +10,7 @@ use Rattle.jac_lang.specs.Syntax.{Page, Statements, Application}
 use Rattle.jac_lang.specs.declared.pages.Verb.{Verb}
 use Rattle.jac_lang.specs.declared.pages.Verb.TheVariants as verbs
 use Rattle.jac_route.specs.declared.routes.Route.{Route}
-use Rattle.jac_route.specs.Routes.{Table, AreRoutes, is_at, is_place, pattern_place, view_place, route_of, with_pattern, with_view, go_on, table_from}
+use Rattle.jac_route.specs.Routes.{Table, AreRoutes, is_at, is_view_place, pattern_place, view_place, route_of, with_pattern, with_view, go_on, table_from}
 use Rattle.jac_route.specs.Found.{found_among, found_at, found_by, view_for, verb_of, IsWithin}
 use Rattle.jac_route.proofs.RowLaws.{AllRows, all_placed, some_first}
 
@@ -55,8 +55,8 @@ short_view views n v rows all =
     let route : Route = route_of views v.path in
     let added : Result Table ℕ = with_pattern n (parse_route v.path) route rows in
     let short : IsShort k route = (short_place views verbs.Get v.path, short_place views verbs.Post v.path) in
-    either k (not (is_place n (view_place views v.method v.path))) (Err n) (if not (is_place n (pattern_place views v.path)) then Ok rows else added) tt
-    (either k (not (is_place n (pattern_place views v.path))) (Ok rows) added all (short_pattern k n (parse_route v.path) route rows short all))
+    either k (not (is_view_place n (view_place views v.method v.path))) (Err n) (if not (is_view_place n (pattern_place views v.path)) then Ok rows else added) tt
+    (either k (not (is_view_place n (pattern_place views v.path))) (Ok rows) added all (short_pattern k n (parse_route v.path) route rows short all))
 
 short_on : (k : ℕ) (read : Result Table ℕ) (next : Table → Result Table ℕ) → OkShort k read → ((rows : Table) → AllShort k rows → OkShort k (next rows)) → OkShort k (go_on read next)
 short_on k (Ok rows) next h on = on rows h

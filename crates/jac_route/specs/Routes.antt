@@ -44,9 +44,9 @@ route_of views pattern = record {
   post = view_place views verbs.Post pattern;
 }
 
-abbrev pub is_place : ℕ → Option ℕ → Bool
-is_place n None = false
-is_place n (Some place) = place == n
+abbrev pub is_view_place : ℕ → Option ℕ → Bool
+is_view_place n None = false
+is_view_place n (Some place) = place == n
 
 -- the table with one pattern more, or the number of the view where `matchit` refuses its pattern
 -- beside the others
@@ -59,8 +59,8 @@ with_pattern n (Ok scan) route rows = if is_some (nearest scan.pattern rows) the
 -- where one has its pattern alone
 abbrev pub with_view : List Page → ℕ → Page → Table → Result Table ℕ
 with_view views n v rows =
-    if not (is_place n (view_place views v.method v.path)) then Err n else
-    if not (is_place n (pattern_place views v.path)) then Ok rows else
+    if not (is_view_place n (view_place views v.method v.path)) then Err n else
+    if not (is_view_place n (pattern_place views v.path)) then Ok rows else
     with_pattern n (parse_route v.path) (route_of views v.path) rows
 
 abbrev pub go_on : Result Table ℕ → (Table → Result Table ℕ) → Result Table ℕ
@@ -86,9 +86,9 @@ Clashes (fault.Clash n) table = table ≡ Err n
 Clashes fault.Memory table = ⊤
 
 -- what a refused insert means at the n-th view
-abbrev pub fault_of : ℕ → InsertError → RouteFault
-fault_of n insert.OutOfMemory = fault.Memory
-fault_of n (insert.Conflict with) = fault.Clash n
-fault_of n insert.InvalidParamSegment = fault.Clash n
-fault_of n insert.InvalidParam = fault.Clash n
-fault_of n insert.InvalidCatchAll = fault.Clash n
+abbrev pub insert_fault : ℕ → InsertError → RouteFault
+insert_fault n insert.OutOfMemory = fault.Memory
+insert_fault n (insert.Conflict with) = fault.Clash n
+insert_fault n insert.InvalidParamSegment = fault.Clash n
+insert_fault n insert.InvalidParam = fault.Clash n
+insert_fault n insert.InvalidCatchAll = fault.Clash n

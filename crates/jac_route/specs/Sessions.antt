@@ -13,37 +13,38 @@ use Rattle.jac_route.specs.Parameters.{viewer_of}
 use Rattle.jac_route.specs.Words.{first_word, viewer_read}
 
 -- 1 to 128 ASCII letters, digits, `-` and `_`
-abbrev pub is_token : List ℕ → Bool
-is_token word = nat_lt 0 (length word) && nat_le (length word) 128 && list_all is_atom_byte word
+abbrev pub is_session_token : List ℕ → Bool
+is_session_token word = nat_lt 0 (length word) && nat_le (length word) 128
+    && list_all is_atom_byte word
 
 -- `TOKEN VIEWER`
 abbrev pub session_of : List ℕ → Option Session
 session_of line =
     option_and_then (λ words. option_and_then (λ viewer.
-    if is_token words.0 then Some (record { token = words.0; viewer = viewer }) else None)
+    if is_session_token words.0 then Some (record { token = words.0; viewer = viewer }) else None)
     (viewer_read words.1))
     (first_word line)
 
-abbrev pub numbered : ℕ → Option Session → Result (Option Session) ℕ
-numbered n None = Err n
-numbered n (Some session) = Ok (Some session)
+abbrev pub numbered_session : ℕ → Option Session → Result (Option Session) ℕ
+numbered_session n None = Err n
+numbered_session n (Some session) = Ok (Some session)
 
 -- the session of the n-th line: an empty line has none, and a line of another form is refused
 abbrev pub line_read : ℕ → List ℕ → Result (Option Session) ℕ
-line_read n line = if is_nil line then Ok None else numbered n (session_of line)
+line_read n line = if is_nil line then Ok None else numbered_session n (session_of line)
 
-abbrev pub listed : Option Session → List Session
-listed None = []
-listed (Some session) = session ∷ []
+abbrev pub session_list : Option Session → List Session
+session_list None = []
+session_list (Some session) = session ∷ []
 
 -- sessions before what follows them
-abbrev pub before : List Session → Result (List Session) ℕ → Result (List Session) ℕ
-before sessions (Ok rest) = Ok (sessions ++ rest)
-before sessions (Err n) = Err n
+abbrev pub with_session_before : List Session → Result (List Session) ℕ → Result (List Session) ℕ
+with_session_before sessions (Ok rest) = Ok (sessions ++ rest)
+with_session_before sessions (Err n) = Err n
 
 abbrev pub before_rest : Result (Option Session) ℕ → Result (List Session) ℕ
     → Result (List Session) ℕ
-before_rest (Ok session) rest = before (listed session) rest
+before_rest (Ok session) rest = with_session_before (session_list session) rest
 before_rest (Err n) rest = Err n
 
 -- the sessions of the lines from the n-th on, or the number of the first line that is refused

@@ -2,8 +2,8 @@ ghost use Rattle.std.specs.Prelude.{◌≡◌, ◌<◌, ◌^◌, [], length, pos
 ghost use Rattle.std.specs.Option.{option_map};
 ghost use Rattle.matchit.specs.Route.{parse_route};
 ghost use Rattle.matchit.specs.Seek.{first};
-ghost use Rattle.jac_lang.specs.Mirror.{application_of, page_of, pages_of};
-ghost use Rattle.jac_route.specs.Routes.{AreRoutes, Clashes, fault_of, same_verb, has_pattern, is_at, is_place, pattern_place, view_place, route_of, with_pattern, with_view, table_from, table_of};
+ghost use Rattle.jac_lang.specs.Mirror.{application_of, page_of_view, pages_of};
+ghost use Rattle.jac_route.specs.Routes.{AreRoutes, Clashes, insert_fault, same_verb, has_pattern, is_at, is_view_place, pattern_place, view_place, route_of, with_pattern, with_view, table_from, table_of};
 
 use jac_lang::{App, Verb, View};
 use jac_value::{Memory, Txt};
@@ -98,10 +98,11 @@ fn add_view(
     router: &mut Router<Route>,
 ) -> Result<(), RouteFault>
     requires few { length views.now < 2 ^ 32 }
-    ensures ok { OnOk result (with_view (pages_of views.now) number (page_of view.now) router.old
+    ensures ok { OnOk result (with_view (pages_of views.now) number
+        (page_of_view view.now) router.old
         ≡ Ok router.new) }
     ensures clash { IfErr result (λ e. Clashes e (with_view (pages_of views.now) number
-        (page_of view.now) router.old)) }
+        (page_of_view view.now) router.old)) }
 {
     if !is_place(number, view_place(views, view.method, &view.path)) {
         return Err(RouteFault::Clash(number));
@@ -133,7 +134,7 @@ fn add_route(
 }
 
 fn fault_of(number: u32, error: &InsertError) -> RouteFault
-    ensures { result ≡ fault_of number error.now }
+    ensures { result ≡ insert_fault number error.now }
 {
     match error {
         InsertError::OutOfMemory => RouteFault::Memory,
@@ -156,7 +157,7 @@ fn route_of(alloc: Global, views: &[View], pattern: &Txt) -> Result<Route, Memor
 }
 
 fn is_place(number: u32, place: Option<u32>) -> bool
-    ensures { result ≡ is_place number place }
+    ensures { result ≡ is_view_place number place }
 {
     match place {
         Some(place) => place == number,
@@ -176,7 +177,7 @@ fn view_place(views: &[View], verb: Verb, pattern: &Txt) -> Option<u32>
 }
 
 fn place_at(views: &[View], verb: Verb, pattern: &Txt) -> Option<usize>
-    ensures place { result ≡ position (λ v. is_at verb pattern.now (page_of v)) views.now }
+    ensures place { result ≡ position (λ v. is_at verb pattern.now (page_of_view v)) views.now }
     ensures within { IfSome result (λ n. n < length views.now) }
 {
     views.iter().position(|view| is_at(view, verb, pattern))
@@ -194,20 +195,20 @@ fn pattern_place(views: &[View], pattern: &Txt) -> Option<u32>
 }
 
 fn place_of(views: &[View], pattern: &Txt) -> Option<usize>
-    ensures place { result ≡ position (λ v. has_pattern pattern.now (page_of v)) views.now }
+    ensures place { result ≡ position (λ v. has_pattern pattern.now (page_of_view v)) views.now }
     ensures within { IfSome result (λ n. n < length views.now) }
 {
     views.iter().position(|view| has_pattern(view, pattern))
 }
 
 fn has_pattern(view: &View, pattern: &Txt) -> bool
-    ensures { result ≡ has_pattern pattern.now (page_of view.now) }
+    ensures { result ≡ has_pattern pattern.now (page_of_view view.now) }
 {
     view.path == *pattern
 }
 
 fn is_at(view: &View, verb: Verb, pattern: &Txt) -> bool
-    ensures { result ≡ is_at verb pattern.now (page_of view.now) }
+    ensures { result ≡ is_at verb pattern.now (page_of_view view.now) }
 {
     is_same(view.method, verb) && view.path == *pattern
 }

@@ -2,7 +2,7 @@ ghost use Rattle.std.specs.Prelude.{◌≡◌, ◌++◌, [], IfOk, IfErr, OnOk, 
 ghost use Rattle.std.specs.Option.{option_and_then, option_copied};
 ghost use Rattle.jac_lang.specs.Mirror.{application_of};
 ghost use Rattle.jac_route.specs.Parameters.{viewer_of};
-ghost use Rattle.jac_route.specs.Sessions.{Refuses, is_token, session_of, line_read, listed, sessions_in, session_named, session_viewer};
+ghost use Rattle.jac_route.specs.Sessions.{Refuses, is_session_token, session_of, line_read, session_list, sessions_in, session_named, session_viewer};
 
 use crate::viewer_id;
 use crate::words::{atom_text, first_word, read_viewer};
@@ -120,13 +120,13 @@ fn read_session(alloc: Global, line: &[u8]) -> Result<Option<Session>, Memory>
 }
 
 fn is_token(word: &[u8]) -> bool
-    ensures { result ≡ is_token word.now }
+    ensures { result ≡ is_session_token word.now }
 {
     !word.is_empty() && word.len() <= 128 && are_atom_bytes(word)
 }
 
 fn push_listed(session: Option<Session>, sessions: &mut Vec<Session>) -> Result<(), Memory>
-    ensures { OnOk result (sessions.new.items ≡ sessions.old.items ++ listed session) }
+    ensures { OnOk result (sessions.new.items ≡ sessions.old.items ++ session_list session) }
 {
     match session {
         Some(session) => {

@@ -1,5 +1,5 @@
 ghost use Rattle.std.specs.Prelude.{◌≡◌, ◌++◌, map, IfOk, OnOk};
-ghost use Rattle.jac_world.specs.World.{shown};
+ghost use Rattle.jac_world.specs.World.{shown_by};
 ghost use Rattle.jac_rows.specs.Project.{rows_at, project_at};
 
 use crate::{PlainRow, PlainState, PlainTable, PlainTables, Row, State, Tables};
@@ -10,7 +10,7 @@ use std::alloc::Global;
 /// What the assignment shows of the state: the rows whose guard holds, in their order, and the
 /// number.
 pub fn project(alloc: Global, state: &State, assignment: &Assignment) -> Result<PlainState, Memory>
-    ensures { IfOk result (λ p. p ≡ project_at (shown assignment.now) state.now) }
+    ensures { IfOk result (λ p. p ≡ project_at (shown_by assignment.now) state.now) }
 {
     let tables = project_tables(alloc, &state.tables, assignment)?;
     Ok(PlainState {
@@ -24,7 +24,7 @@ fn project_tables(
     tables: &Tables,
     assignment: &Assignment,
 ) -> Result<PlainTables, Memory>
-    ensures { IfOk result (λ t. t ≡ map (rows_at (shown assignment.now)) tables.now) }
+    ensures { IfOk result (λ t. t ≡ map (rows_at (shown_by assignment.now)) tables.now) }
 {
     let tables = tables.as_slice();
     let mut out = Vec::new(alloc);
@@ -36,7 +36,7 @@ fn project_tables(
 }
 
 fn project_rows(alloc: Global, rows: &[Row], assignment: &Assignment) -> Result<PlainTable, Memory>
-    ensures { IfOk result (λ t. t ≡ rows_at (shown assignment.now) rows.now) }
+    ensures { IfOk result (λ t. t ≡ rows_at (shown_by assignment.now) rows.now) }
 {
     let mut out = Vec::new(alloc);
     'rows: for row in rows {

@@ -1,17 +1,17 @@
 -- What the bytes of an audit say of the log that they tell of.
 use Rattle.std.proofs.Common.{◌≡◌, ◌∙◌, ap, sym, refl, ◌⊎◌, inl, inr, arith, ℕ, zero, suc, ◌+◌, ◌<◌, ◌^◌, ◌/◌, ◌%◌, ◌==◌, ◌&&◌, ◌||◌, nat_lt, Bool, true, false, if◌then◌else◌, Option, Some, None, List, [], ◌∷◌, ◌++◌, length, append_assoc, codes, decimal}
-use Rattle.std.proofs.lemmas.Bool.{cases_eq}
+use Rattle.std.proofs.lemmas.Bool.{cases_eq, and_from}
 use Rattle.std.proofs.lemmas.Bool.Decides.{nat_tests}
 use Rattle.std.proofs.lemmas.Fmt.{decimal_is_IsNumeral_wide}
 use Rattle.std.proofs.lemmas.List.{append_cancel_left}
 use Rattle.std.specs.Fmt.{digits, digits_onto, digit_glyph}
 use Rattle.std.specs.Str.Parse.{digits_value}
 use Rattle.std.specs.List.{AllByRecursion, list_all}
-use Rattle.jac_world.specs.World.{shown}
+use Rattle.jac_world.specs.World.{shown_by}
 use Rattle.jac_rows.specs.declared.state.State.{State}
 use Rattle.jac_replies.specs.Spelled.{viewer_text, labels_text, more_labels, shown_text, consulted_text, audit_text}
-use Rattle.jac_serving.specs.Answering.{Entry, is_failure}
-use Rattle.jac_serving.specs.Log.{viewer_of, audit_line, audited_from, audited}
+use Rattle.jac_serving.specs.Answering.{LogEntry, is_failure}
+use Rattle.jac_serving.specs.Log.{viewer_of_subject, audit_line, audited_from, audit_lines}
 use Rattle.jac_laws.specs.TwoRuns.{LookSame, NoneFailed, HaveSameSubjects, labels_of, LookSameFor}
 use Rattle.jac_runs.specs.Replayed.{BeginsLine, HasStatusWord, TellsNoFailure, TellsPage, AreSmall, HaveSmallLabels}
 
@@ -32,18 +32,14 @@ and_right : (a b : Bool) → (a && b) ≡ true → b ≡ true
 and_right true b h = h
 and_right false b h = absurd cc
 
-and_both : (a b : Bool) → a ≡ true → b ≡ true → (a && b) ≡ true
-and_both true b h k = k
-and_both false b h k = absurd cc
-
 all_append : (test : ℕ → Bool) (xs ys : List ℕ) → list_all test xs ≡ true → list_all test ys ≡ true → list_all test (xs ++ ys) ≡ true
 all_append test [] ys one two = two
-all_append test (x ∷ xs) ys one two = and_both (test x) (list_all test (xs ++ ys)) (and_left (test x) (list_all test xs) one) (all_append test xs ys (and_right (test x) (list_all test xs) one) two)
+all_append test (x ∷ xs) ys one two = and_from (test x) (list_all test (xs ++ ys)) (and_left (test x) (list_all test xs) one) (all_append test xs ys (and_right (test x) (list_all test xs) one) two)
 
 all_through : (test other : ℕ → Bool) → ((c : ℕ) → test c ≡ true → other c ≡ true) → (xs : List ℕ) → list_all test xs ≡ true → list_all other xs ≡ true
 all_through test other so [] h = refl
 all_through test other so (x ∷ xs) h =
-    and_both (other x) (list_all other xs) (so x (and_left (test x) (list_all test xs) h)) (all_through test other so xs (and_right (test x) (list_all test xs) h))
+    and_from (other x) (list_all other xs) (so x (and_left (test x) (list_all test xs) h)) (all_through test other so xs (and_right (test x) (list_all test xs) h))
 
 glyph_numeral : (d : ℕ) → d < 10 → is_numeral (digit_glyph false d) ≡ true
 glyph_numeral d h = grind (arith, nat_tests)
@@ -57,7 +53,7 @@ onto_numerals : (k n : ℕ) (acc : List ℕ) → list_all is_numeral acc ≡ tru
 onto_numerals zero n acc h = h
 onto_numerals (suc k) n acc h =
     onto_by k (n / 10) (digit_glyph false (n % 10) ∷ acc) (n / 10 == 0) (λ n m acc h. onto_numerals k n acc h)
-    (and_both (is_numeral (digit_glyph false (n % 10))) (list_all is_numeral acc) (glyph_numeral (n % 10) (omega arith)) h)
+    (and_from (is_numeral (digit_glyph false (n % 10))) (list_all is_numeral acc) (glyph_numeral (n % 10) (omega arith)) h)
 
 numerals : (n : ℕ) → list_all is_numeral (decimal n) ≡ true
 unfolding digits
@@ -204,12 +200,12 @@ words_joined a b c d =
     ∙ append_assoc (a ++ 32 ∷ []) b (32 ∷ (c ++ d))
     ∙ append_assoc a (32 ∷ []) (b ++ 32 ∷ (c ++ d))
 
-line_shape : (k : ℕ) (entry : Entry) → audit_line k entry
-    ≡ decimal k ++ 32 ∷ (decimal entry.answer.status ++ 32 ∷ (viewer_text (viewer_of entry.subject)
+line_shape : (k : ℕ) (entry : LogEntry) → audit_line k entry
+    ≡ decimal k ++ 32 ∷ (decimal entry.answer.status ++ 32 ∷ (viewer_text (viewer_of_subject entry.subject)
     ++ 32 ∷ (shown_text entry.answer.shown ++ (consulted_text entry.answer.consulted ++ 10 ∷ []))))
 line_shape k entry =
     let status = decimal entry.answer.status in
-    let viewer = viewer_text (viewer_of entry.subject) in
+    let viewer = viewer_text (viewer_of_subject entry.subject) in
     let labels = shown_text entry.answer.shown in
     let consulted = consulted_text entry.answer.consulted in
     ap (λ (t : List ℕ). decimal k ++ 32 ∷ t)
@@ -217,34 +213,34 @@ line_shape k entry =
     ∙ words_joined status viewer labels (consulted ++ 10 ∷ []))
 
 -- the same line without its end
-abbrev pub words_of : ℕ → Entry → List ℕ
+abbrev pub words_of : ℕ → LogEntry → List ℕ
 words_of k entry =
-    decimal k ++ 32 ∷ (decimal entry.answer.status ++ 32 ∷ (viewer_text (viewer_of entry.subject)
+    decimal k ++ 32 ∷ (decimal entry.answer.status ++ 32 ∷ (viewer_text (viewer_of_subject entry.subject)
     ++ 32 ∷ (shown_text entry.answer.shown ++ consulted_text entry.answer.consulted)))
 
-line_end : (k : ℕ) (entry : Entry) → audit_line k entry ≡ words_of k entry ++ 10 ∷ []
+line_end : (k : ℕ) (entry : LogEntry) → audit_line k entry ≡ words_of k entry ++ 10 ∷ []
 line_end k entry =
     line_shape k entry
-    ∙ sym (line_before (decimal k) (decimal entry.answer.status) (viewer_text (viewer_of entry.subject))
+    ∙ sym (line_before (decimal k) (decimal entry.answer.status) (viewer_text (viewer_of_subject entry.subject))
     (shown_text entry.answer.shown) (consulted_text entry.answer.consulted) (10 ∷ []))
 
 -- what stands behind the labels of a line
 abbrev pub behind_labels : Option (List ℕ) → List ℕ → List ℕ
 behind_labels consulted more = consulted_text consulted ++ 10 ∷ more
 
-line_split : (k : ℕ) (entry : Entry) (more : List ℕ) → audit_line k entry ++ more
-    ≡ decimal k ++ 32 ∷ (decimal entry.answer.status ++ 32 ∷ (viewer_text (viewer_of entry.subject)
+line_split : (k : ℕ) (entry : LogEntry) (more : List ℕ) → audit_line k entry ++ more
+    ≡ decimal k ++ 32 ∷ (decimal entry.answer.status ++ 32 ∷ (viewer_text (viewer_of_subject entry.subject)
     ++ 32 ∷ (shown_text entry.answer.shown ++ behind_labels entry.answer.consulted more)))
 line_split k entry more =
     let status = decimal entry.answer.status in
-    let viewer = viewer_text (viewer_of entry.subject) in
+    let viewer = viewer_text (viewer_of_subject entry.subject) in
     let labels = shown_text entry.answer.shown in
     let consulted = consulted_text entry.answer.consulted in
     ap (λ (t : List ℕ). t ++ more) (line_shape k entry)
     ∙ line_before (decimal k) status viewer labels (consulted ++ 10 ∷ []) more
     ∙ ap (λ (t : List ℕ). decimal k ++ 32 ∷ (status ++ 32 ∷ (viewer ++ 32 ∷ (labels ++ t)))) (append_assoc consulted (10 ∷ []) more)
 
-next_line : (front : List ℕ) (k : ℕ) (entry : Entry) → BeginsLine (front ++ audit_line k entry)
+next_line : (front : List ℕ) (k : ℕ) (entry : LogEntry) → BeginsLine (front ++ audit_line k entry)
 next_line front k entry =
     inr (front ++ words_of k entry, ap (λ (t : List ℕ). front ++ t) (line_end k entry) ∙ sym (append_assoc front (words_of k entry) (10 ∷ [])))
 
@@ -277,23 +273,23 @@ same_labels (Some ks) (Some ls) a b more others on on' same =
     )
 
 -- the same text and the same labels
-same_line : (k : ℕ) (one two : Entry) (more others : List ℕ) → audit_line k one ++ more ≡ audit_line k two ++ others
+same_line : (k : ℕ) (one two : LogEntry) (more others : List ℕ) → audit_line k one ++ more ≡ audit_line k two ++ others
     → (shown_text one.answer.shown ≡ shown_text two.answer.shown) × (more ≡ others)
 same_line k one two more others same =
-    let viewer = viewer_text (viewer_of one.subject) in
-    let viewer' = viewer_text (viewer_of two.subject) in
+    let viewer = viewer_text (viewer_of_subject one.subject) in
+    let viewer' = viewer_text (viewer_of_subject two.subject) in
     let last = shown_text one.answer.shown ++ behind_labels one.answer.consulted more in
     let last' = shown_text two.answer.shown ++ behind_labels two.answer.consulted others in
     let numbered = cut is_inside 32 (decimal k) (decimal k) (decimal one.answer.status ++ 32 ∷ (viewer ++ 32 ∷ last)) (decimal two.answer.status ++ 32 ∷ (viewer' ++ 32 ∷ last'))
     refl (decimal_inside k) (decimal_inside k) (sym (line_split k one more) ∙ same ∙ line_split k two others) in
     let status = cut is_inside 32 (decimal one.answer.status) (decimal two.answer.status) (viewer ++ 32 ∷ last) (viewer' ++ 32 ∷ last')
     refl (decimal_inside one.answer.status) (decimal_inside two.answer.status) numbered.1 in
-    let looking = cut is_inside 32 viewer viewer' last last' refl (viewer_inside (viewer_of one.subject)) (viewer_inside (viewer_of two.subject)) status.1 in
+    let looking = cut is_inside 32 viewer viewer' last last' refl (viewer_inside (viewer_of_subject one.subject)) (viewer_inside (viewer_of_subject two.subject)) status.1 in
     same_labels one.answer.consulted two.answer.consulted (shown_text one.answer.shown) (shown_text two.answer.shown) more others
     (shown_inside one.answer.shown) (shown_inside two.answer.shown) looking.1
 
 -- audits that are the same bytes tell the same labels of logs that were asked the same
-pub labels_by_text : (early late : Bool) (k : ℕ) (log others : List Entry) → early ≡ false → late ≡ false → HaveSameSubjects early late log others
+pub labels_by_text : (early late : Bool) (k : ℕ) (log others : List LogEntry) → early ≡ false → late ≡ false → HaveSameSubjects early late log others
     → audited_from k log ≡ audited_from k others → HaveSmallLabels log → HaveSmallLabels others → labels_of log ≡ labels_of others
 labels_by_text early late k [] [] whole whole' asks same small small' = refl
 labels_by_text early late k [] (two ∷ others) whole whole' asks same small small' = let wrong : true ≡ false = sym asks ∙ whole in absurd cc
@@ -315,10 +311,10 @@ unfolding digits
 decimal_503 = refl
 
 -- the line of this status has its word
-status_word : (audit front : List ℕ) (k status : ℕ) (entry : Entry) (more digits_of : List ℕ) → BeginsLine front → audit ≡ front ++ (audit_line k entry ++ more)
+status_word : (audit front : List ℕ) (k status : ℕ) (entry : LogEntry) (more digits_of : List ℕ) → BeginsLine front → audit ≡ front ++ (audit_line k entry ++ more)
     → entry.answer.status ≡ status → decimal status ≡ digits_of → HasStatusWord audit (32 ∷ (digits_of ++ 32 ∷ []))
 status_word audit front k status entry more digits_of begins is on text =
-    let rest = viewer_text (viewer_of entry.subject) ++ 32 ∷ (shown_text entry.answer.shown ++ behind_labels entry.answer.consulted more) in
+    let rest = viewer_text (viewer_of_subject entry.subject) ++ 32 ∷ (shown_text entry.answer.shown ++ behind_labels entry.answer.consulted more) in
     let word : decimal entry.answer.status ++ 32 ∷ rest ≡ (digits_of ++ 32 ∷ []) ++ rest =
     ap (λ (s : ℕ). decimal s ++ 32 ∷ rest) on ∙ ap (λ (t : List ℕ). t ++ 32 ∷ rest) text ∙ sym (append_assoc digits_of (32 ∷ []) rest) in
     record {
@@ -335,7 +331,7 @@ failure_status status h = elim (cases_eq status 500) [
   | inr p ↦ inr (grind (arith, nat_tests, h, p))
 ]
 
-no_failure : (audit front : List ℕ) (k : ℕ) (entry : Entry) (more : List ℕ) (b : Bool) → BeginsLine front → audit ≡ front ++ (audit_line k entry ++ more)
+no_failure : (audit front : List ℕ) (k : ℕ) (entry : LogEntry) (more : List ℕ) (b : Bool) → BeginsLine front → audit ≡ front ++ (audit_line k entry ++ more)
     → TellsNoFailure audit → is_failure entry.answer ≡ b → b ≡ false
 no_failure audit front k entry more false begins is quiet fails = refl
 no_failure audit front k entry more true begins is quiet fails = elim (failure_status entry.answer.status fails) [
@@ -346,7 +342,7 @@ no_failure audit front k entry more true begins is quiet fails = elim (failure_s
 line_moved : (audit front line more : List ℕ) → audit ≡ front ++ (line ++ more) → audit ≡ (front ++ line) ++ more
 line_moved audit front line more is = is ∙ sym (append_assoc front line more)
 
-none_from : (audit front : List ℕ) (k : ℕ) (log : List Entry) → BeginsLine front → audit ≡ front ++ audited_from k log → TellsNoFailure audit → NoneFailed log
+none_from : (audit front : List ℕ) (k : ℕ) (log : List LogEntry) → BeginsLine front → audit ≡ front ++ audited_from k log → TellsNoFailure audit → NoneFailed log
 none_from audit front k [] begins is quiet = tt
 none_from audit front k (entry ∷ log) begins is quiet =
     let more = audited_from (k + 1) log in (
@@ -354,11 +350,11 @@ none_from audit front k (entry ∷ log) begins is quiet =
       none_from audit (front ++ audit_line k entry) (k + 1) log (next_line front k entry) (line_moved audit front (audit_line k entry) more is) quiet,
     )
 
-pub none_failed : (log : List Entry) → TellsNoFailure (audited log) → NoneFailed log
-none_failed log quiet = none_from (audited log) [] 1 log (inl refl) refl quiet
+pub none_failed : (log : List LogEntry) → TellsNoFailure (audit_lines log) → NoneFailed log
+none_failed log quiet = none_from (audit_lines log) [] 1 log (inl refl) refl quiet
 
-looks_from : (start other : State) (audit front : List ℕ) (k : ℕ) (log : List Entry) → BeginsLine front → audit ≡ front ++ audited_from k log
-    → ((labels : List ℕ) → TellsPage audit labels → LookSame (shown labels) start other) → LookSameFor start other log
+looks_from : (start other : State) (audit front : List ℕ) (k : ℕ) (log : List LogEntry) → BeginsLine front → audit ≡ front ++ audited_from k log
+    → ((labels : List ℕ) → TellsPage audit labels → LookSame (shown_by labels) start other) → LookSameFor start other log
 looks_from start other audit front k [] begins is look = tt
 looks_from start other audit front k (entry ∷ log) begins is look =
     let more = audited_from (k + 1) log in (
@@ -366,19 +362,19 @@ looks_from start other audit front k (entry ∷ log) begins is look =
         front = front;
         number = k;
         status = entry.answer.status;
-        viewer = viewer_of entry.subject;
+        viewer = viewer_of_subject entry.subject;
         consulted = entry.answer.consulted;
         rest = more;
         begins = begins;
         is =
             is
             ∙ ap
-            (λ (o : Option (List ℕ)). front ++ (audit_text k entry.answer.status (viewer_of entry.subject) o entry.answer.consulted ++ more))
+            (λ (o : Option (List ℕ)). front ++ (audit_text k entry.answer.status (viewer_of_subject entry.subject) o entry.answer.consulted ++ more))
             on;
       }),
       looks_from start other audit (front ++ audit_line k entry) (k + 1) log (next_line front k entry) (line_moved audit front (audit_line k entry) more is) look,
     )
 
-pub looks_same : (start other : State) (log : List Entry) → ((labels : List ℕ) → TellsPage (audited log) labels → LookSame (shown labels) start other)
+pub looks_same : (start other : State) (log : List LogEntry) → ((labels : List ℕ) → TellsPage (audit_lines log) labels → LookSame (shown_by labels) start other)
     → LookSameFor start other log
-looks_same start other log look = looks_from start other (audited log) [] 1 log (inl refl) refl look
+looks_same start other log look = looks_from start other (audit_lines log) [] 1 log (inl refl) refl look

@@ -3,27 +3,27 @@ use Rattle.std.proofs.Common.{◌≡◌, ◌∙◌, ap, sym, subst, refl, inl, i
 use Rattle.std.specs.List.{concat}
 use Rattle.jac_io.specs.Faults.{Rose}
 use Rattle.jac_io.specs.Linked.{LinkSeen}
-use Rattle.jac_world.specs.World.{shown}
+use Rattle.jac_world.specs.World.{shown_by}
 use Rattle.jac_lang.specs.Syntax.{Application}
 use Rattle.jac_rows.specs.declared.state.State.{State}
 use Rattle.jac_route.specs.declared.sessions.Session.{Session}
-use Rattle.jac_serving.specs.Answering.{Entry}
+use Rattle.jac_serving.specs.Answering.{LogEntry}
 use Rattle.jac_serving.specs.Keeping.{Holding}
 use Rattle.jac_serving.specs.Outside.{span}
 use Rattle.jac_serving.specs.Serve.{IsServed as IsServedBy}
-use Rattle.jac_links.specs.Door.{Visit, IsVisited, AreVisited}
+use Rattle.jac_links.specs.Door.{LinkVisit, IsVisited, AreVisited}
 use Rattle.jac_links.specs.Link.{events_of}
 use Rattle.jac_desk.specs.Answered.{answering_of}
-use Rattle.jac_laws.specs.TwoRuns.{OneRun, IsServed, LookSame, NoneFailed, HaveSameSubjects, IsSameWhereShown, AreSameWhereShown, seen_answer}
+use Rattle.jac_laws.specs.TwoRuns.{OneRun, IsRunServed, LookSame, NoneFailed, HaveSameSubjects, IsSameWhereShown, AreSameWhereShown, seen_answer}
 use Rattle.jac_laws.proofs.SideBySide.{subjects_agree, pages_agree, ends_agree}
 use Rattle.jac_runs.specs.Doors.{IsTakenWhole, AreTakenAlike, IsLikeWhereShown, AreLikeWhereShown}
 use Rattle.jac_runs.proofs.OneLink.{IsMoved, AreMoved, none_moved, IsLinkRun, link_run}
 
-none_parts : (log others : List Entry) → NoneFailed (log ++ others) → NoneFailed log × NoneFailed others
+none_parts : (log others : List LogEntry) → NoneFailed (log ++ others) → NoneFailed log × NoneFailed others
 none_parts [] others none = (tt, none)
 none_parts (one ∷ log) others none = let rest = none_parts log others none.1 in ((none.0, rest.0), rest.1)
 
-like_append : (start other : State) (log others more rest : List Entry) → AreLikeWhereShown start other log others → AreLikeWhereShown start other more rest
+like_append : (start other : State) (log others more rest : List LogEntry) → AreLikeWhereShown start other log others → AreLikeWhereShown start other more rest
     → AreLikeWhereShown start other (log ++ more) (others ++ rest)
 like_append start other [] [] more rest h k = k
 like_append start other [] (two ∷ others) more rest h k = absurd h
@@ -32,7 +32,7 @@ like_append start other (one ∷ log) (two ∷ others) more rest h k = (h.0, lik
 
 -- ---- from logs with moved places to their own
 
-like_entry : (start other s u : State) (one two x y : Entry) → IsMoved x one → IsMoved y two → x.source ≡ y.source → x.subject ≡ y.subject → IsSameWhereShown s u x y
+like_entry : (start other s u : State) (one two x y : LogEntry) → IsMoved x one → IsMoved y two → x.source ≡ y.source → x.subject ≡ y.subject → IsSameWhereShown s u x y
     → ((w : ℕ → Bool) → LookSame w start other → LookSame w s u) → IsLikeWhereShown start other one two
 like_entry start other s u one two x y m n source subject same still = record {
   source = sym m.source ∙ source ∙ n.source;
@@ -43,11 +43,11 @@ like_entry start other s u one two x y m n source subject same still = record {
       ∙ ap seen_answer n.answer;
   page = λ labels look on on'.
       ap seen_answer (sym m.answer)
-      ∙ (same.page labels (still (shown labels) look) (ap (λ a. a.shown) m.answer ∙ on) (ap (λ a. a.shown) n.answer ∙ on')).answer
+      ∙ (same.page labels (still (shown_by labels) look) (ap (λ a. a.shown) m.answer ∙ on) (ap (λ a. a.shown) n.answer ∙ on')).answer
       ∙ ap seen_answer n.answer;
 }
 
-like_logs : (start other s u : State) (log others xs ys : List Entry) → AreMoved xs log → AreMoved ys others → HaveSameSubjects false false xs ys
+like_logs : (start other s u : State) (log others xs ys : List LogEntry) → AreMoved xs log → AreMoved ys others → HaveSameSubjects false false xs ys
     → AreSameWhereShown s u xs ys → NoneFailed xs → NoneFailed ys → ((w : ℕ → Bool) → LookSame w start other → LookSame w s u) → AreLikeWhereShown start other log others
 like_logs start other s u [] [] [] [] m n asked same none none' still = tt
 like_logs start other s u log (two ∷ others) xs [] m n asked same none none' still = absurd n
@@ -65,7 +65,7 @@ like_logs start other s u (one ∷ log) (two ∷ others) (x ∷ xs) (y ∷ ys) m
 -- ---- one link
 
 module _ {L : Type 0} (line : L → LinkSeen) (lazy : Bool) (app : Application) (sessions : List Session) where
-  not_part : (part : Bool) (visit : Visit L) → IsTakenWhole line visit
+  not_part : (part : Bool) (visit : LinkVisit L) → IsTakenWhole line visit
       → (part ≡ true → Rose (line visit.came).faults (line visit.gone).faults ⊎ IsErr visit.result) → part ≡ false
   not_part false visit whole cause = refl
   not_part true visit whole cause = elim (cause refl) [
@@ -73,7 +73,7 @@ module _ {L : Type 0} (line : L → LinkSeen) (lazy : Bool) (app : Application) 
     | inr failed ↦ absurd (whole.answered failed)
   ]
 
-  visit_run : (c first : ℕ) (before between : Holding) (visit : Visit L) (mine : List Entry) (lines : List ℕ)
+  visit_run : (c first : ℕ) (before between : Holding) (visit : LinkVisit L) (mine : List LogEntry) (lines : List ℕ)
       → IsVisited line (answering_of lazy app sessions) c first (span before between) visit mine lines → IsTakenWhole line visit → IsTrue between.keeper.tells
       → IsLinkRun lazy app sessions c (line visit.came).left before between mine
   visit_run c first before between visit mine lines v whole told =
@@ -82,11 +82,11 @@ module _ {L : Type 0} (line : L → LinkSeen) (lazy : Bool) (app : Application) 
       sym (s.taken whole.told ∙ ap (λ (l : List ℕ). concat s.pieces ++ l) whole.all ∙ append-nil (concat s.pieces)) in
       let part = not_part s.part visit whole s.cause in
       let all = subst (λ (b : Bool). IsServedBy b (answering_of lazy app sessions) (span before between) (events_of c s.pieces) s.log) part s.served in
-      let here = subst (λ (l : List Entry). IsServedBy false (answering_of lazy app sessions) (span before between) (events_of c s.pieces) l) v.entries all in
+      let here = subst (λ (l : List LogEntry). IsServedBy false (answering_of lazy app sessions) (span before between) (events_of c s.pieces) l) v.entries all in
       link_run lazy app sessions c s.pieces (line visit.came).left before between mine taken whole.some here told
 
   -- where the last one told, so did the first
-  told_before : (c first : ℕ) (before after : Holding) (visits : List (Visit L)) (log : List Entry) (audit : List ℕ)
+  told_before : (c first : ℕ) (before after : Holding) (visits : List (LinkVisit L)) (log : List LogEntry) (audit : List ℕ)
       → AreVisited line (answering_of lazy app sessions) c first before visits log audit after → IsTrue after.keeper.tells → IsTrue before.keeper.tells
   told_before c first before after [] log audit (none, nothing, same) told = subst (λ (k : Holding). IsTrue k.keeper.tells) same told
   told_before c first before after (visit ∷ visits) log audit (between, mine, lines, others, more, v, parts, text, later) told =
@@ -95,12 +95,12 @@ module _ {L : Type 0} (line : L → LinkSeen) (lazy : Bool) (app : Application) 
 -- ---- link by link
 
 module _ {L M : Type 0} (line : L → LinkSeen) (other : M → LinkSeen) (lazy : Bool) (app : Application) (sessions : List Session) (start start' : State) where
-  empty_logs : (log others : List Entry) → log ≡ [] → others ≡ [] → AreLikeWhereShown start start' log others
+  empty_logs : (log others : List LogEntry) → log ≡ [] → others ≡ [] → AreLikeWhereShown start start' log others
   empty_logs log others none none' =
-      let half : AreLikeWhereShown start start' log [] = subst (λ (l : List Entry). AreLikeWhereShown start start' l []) (sym none) tt in
-      subst (λ (l : List Entry). AreLikeWhereShown start start' log l) (sym none') half
+      let half : AreLikeWhereShown start start' log [] = subst (λ (l : List LogEntry). AreLikeWhereShown start start' l []) (sym none) tt in
+      subst (λ (l : List LogEntry). AreLikeWhereShown start start' log l) (sym none') half
 
-  pub links_agree : (c first first' : ℕ) (before before' after after' : Holding) (visits : List (Visit L)) (more : List (Visit M)) (log others : List Entry) (audit audit' : List ℕ)
+  pub links_agree : (c first first' : ℕ) (before before' after after' : Holding) (visits : List (LinkVisit L)) (more : List (LinkVisit M)) (log others : List LogEntry) (audit audit' : List ℕ)
       → AreVisited line (answering_of lazy app sessions) c first before visits log audit after → AreVisited other (answering_of lazy app sessions) c first' before' more others audit' after'
       → IsTrue after.keeper.tells → IsTrue after'.keeper.tells → AreTakenAlike line other visits more → NoneFailed log → NoneFailed others
       → ((w : ℕ → Bool) → LookSame w start start' → LookSame w before.keeper.state before'.keeper.state) → AreLikeWhereShown start start' log others
@@ -112,15 +112,15 @@ module _ {L M : Type 0} (line : L → LinkSeen) (other : M → LinkSeen) (lazy :
       (between, mine, lines, rest, text, v, parts, is, later) (between', mine', lines', rest', text', v', parts', is', later') told told' taken quiet quiet' still =
       let here = told_before line lazy app sessions (c + 1) (first + length mine) between after visits rest text later told in
       let here' = told_before other lazy app sessions (c + 1) (first' + length mine') between' after' more rest' text' later' told' in
-      let none = none_parts mine rest (subst (λ (l : List Entry). NoneFailed l) parts quiet) in
-      let none' = none_parts mine' rest' (subst (λ (l : List Entry). NoneFailed l) parts' quiet') in
+      let none = none_parts mine rest (subst (λ (l : List LogEntry). NoneFailed l) parts quiet) in
+      let none' = none_parts mine' rest' (subst (λ (l : List LogEntry). NoneFailed l) parts' quiet') in
       let x = visit_run line lazy app sessions c first before between one mine lines v taken.0 here in
       let y = visit_run other lazy app sessions c first' before' between' two mine' lines' v' taken.1 here' in
       let bytes = (line one.came).left in
       let first_run : OneRun = record { lazy = lazy; early = false; start = before.keeper.state; log = x.other; finish = between.keeper.state } in
       let second_run : OneRun = record { lazy = lazy; early = false; start = before'.keeper.state; log = y.other; finish = between'.keeper.state } in
-      let served' : IsServed app sessions (events_of c (bytes ∷ [])) second_run =
-      subst (λ (b : List ℕ). IsServed app sessions (events_of c (b ∷ [])) second_run) (sym taken.2) y.served in
+      let served' : IsRunServed app sessions (events_of c (bytes ∷ [])) second_run =
+      subst (λ (b : List ℕ). IsRunServed app sessions (events_of c (b ∷ [])) second_run) (sym taken.2) y.served in
       let all = none_moved x.other mine x.moved none.0 in
       let all' = none_moved y.other mine' y.moved none'.0 in
       let asked = subjects_agree app sessions (events_of c (bytes ∷ [])) first_run second_run x.served served' all all' in
@@ -132,5 +132,5 @@ module _ {L M : Type 0} (line : L → LinkSeen) (other : M → LinkSeen) (lazy :
       let mine_alike = like_logs start start' before.keeper.state before'.keeper.state mine mine' x.other y.other x.moved y.moved asked pages all all' still in
       let rest_alike = links_agree (c + 1) (first + length mine) (first' + length mine') between between' after after' visits more rest rest' text text' later later' told told' taken.3 none.1 none'.1 ends in
       let both = like_append start start' mine mine' rest rest' mine_alike rest_alike in
-      let half = subst (λ (l : List Entry). AreLikeWhereShown start start' l (mine' ++ rest')) (sym parts) both in
-      subst (λ (l : List Entry). AreLikeWhereShown start start' log l) (sym parts') half
+      let half = subst (λ (l : List LogEntry). AreLikeWhereShown start start' l (mine' ++ rest')) (sym parts) both in
+      subst (λ (l : List LogEntry). AreLikeWhereShown start start' log l) (sym parts') half

@@ -7,7 +7,7 @@ use Rattle.jac_rows.specs.declared.state.State.{State}
 use Rattle.jac_opening.specs.Application.{IsApplication}
 use Rattle.jac_spelled.proofs.OneSpelled.{one_spelled}
 use Rattle.jac_route.specs.declared.sessions.Session.{Session}
-use Rattle.jac_links.specs.Door.{Visit, AreVisited, unreturned}
+use Rattle.jac_links.specs.Door.{LinkVisit, AreVisited, open_visits}
 use Rattle.jac_serving.specs.Keeping.{Holding, holding_of}
 use Rattle.jac_serving.specs.Outside.{span, Took}
 use Rattle.jac_words.specs.declared.words.Command.{Command}
@@ -29,8 +29,8 @@ use Rattle.jac_runs.proofs.Replays.{not_done, no_usage, no_memory, closes_not_do
 use Rattle.jac_runs.proofs.SameReplays.{AreSameFiles, same_bytes, one_sessions}
 use Rattle.jac_runs.proofs.DoorLinks.{links_agree}
 
-all_returned : {L : Type 0} (visits : List (Visit L)) (last : Option (Visit L)) → last ≡ None → visits ++ unreturned last ≡ visits
-all_returned visits last none = ap (λ o. visits ++ unreturned o) none ∙ append-nil visits
+all_returned : {L : Type 0} (visits : List (LinkVisit L)) (last : Option (LinkVisit L)) → last ≡ None → visits ++ open_visits last ≡ visits
+all_returned visits last none = ap (λ o. visits ++ open_visits o) none ∙ append-nil visits
 
 -- out stood so where the steps ended
 module _ {L : Type 0} (serving : Serving) (top : TopRun L) (standing : SinkSeen) (told : IsToldToEnd top) (out audit : List ℕ) (audit_took : Took top.seen.audit audit) where
@@ -39,7 +39,7 @@ module _ {L : Type 0} (serving : Serving) (top : TopRun L) (standing : SinkSeen)
       → HasServed serving top
   door_served app sessions files on =
       let links = on.ends.ends.1 in
-      let all : links.visits ++ unreturned links.last ≡ links.visits = all_returned links.visits links.last links.ended.0 in
+      let all : links.visits ++ open_visits links.last ≡ links.visits = all_returned links.visits links.last links.ended.0 in
       record {
         app = app;
         sessions = sessions;
@@ -52,11 +52,11 @@ module _ {L : Type 0} (serving : Serving) (top : TopRun L) (standing : SinkSeen)
           opened = on.opened;
           attached = on.attached;
           starts = refl;
-          came = λ tells. subst (λ (vs : List (Visit L)). top.door.before.coming ≡ map (λ (v : Visit L). v.came) vs ++ top.door.after.coming) all (links.came tells);
+          came = λ tells. subst (λ (vs : List (LinkVisit L)). top.door.before.coming ≡ map (λ (v : LinkVisit L). v.came) vs ++ top.door.after.coming) all (links.came tells);
           returned = links.returned;
           visited =
               subst
-              (λ (vs : List (Visit L)). AreVisited top.line (answering_of serving.lazy app sessions) 1 0
+              (λ (vs : List (LinkVisit L)). AreVisited top.line (answering_of serving.lazy app sessions) 1 0
               (holding_of on.opened top.splits.before) vs links.log audit (holding_of top.seen.keeper.after top.splits.after))
               all links.visited;
           audit_is = links.audit_text;

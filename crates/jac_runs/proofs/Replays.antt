@@ -5,7 +5,7 @@ use Rattle.jac_lang.specs.Syntax.{Application}
 use Rattle.jac_events.specs.declared.event.Event.{Event}
 use Rattle.jac_hub.specs.Heard.{no_connections}
 use Rattle.jac_route.specs.declared.sessions.Session.{Session}
-use Rattle.jac_serving.specs.Answering.{Entry}
+use Rattle.jac_serving.specs.Answering.{LogEntry}
 use Rattle.jac_serving.specs.Keeping.{Holding, holding_of}
 use Rattle.jac_serving.specs.Log.{Brings}
 use Rattle.jac_serving.specs.Outside.{Span, span, Took}
@@ -29,7 +29,7 @@ use Rattle.jac_app.specs.Run.{Ends, Runs}
 use Rattle.jac_runs.specs.Replayed.{TopRun, IsTopRun, IsToldToEnd, HoldSessions, HasReplayed}
 
 -- what the top call promises of the events that an application was served
-pub serves : (lazy early : Bool) (app : Application) (sessions : List Session) (k : Span Holding) (events : List Event) (log : List Entry)
+pub serves : (lazy early : Bool) (app : Application) (sessions : List Session) (k : Span Holding) (events : List Event) (log : List LogEntry)
     → IsServedBy early (answering_of lazy app sessions) k events log → IsTrue k.after.keeper.tells
     → Serves lazy early app sessions k.before.keeper.state events log k.after.keeper.state
 serves lazy early app sessions k events log served told = record {

@@ -3,16 +3,16 @@
 use Rattle.std.specs.Prelude.{◌≡◌, ⊤, ℕ, IsTrue, IsErr, Option, Some, None, List, [], ◌∷◌, ◌++◌, map}
 use Rattle.jac_io.specs.Faults.{Rose}
 use Rattle.jac_io.specs.Linked.{LinkSeen}
-use Rattle.jac_world.specs.World.{shown}
+use Rattle.jac_world.specs.World.{shown_by}
 use Rattle.jac_lang.specs.Syntax.{Application}
 use Rattle.jac_rows.specs.declared.state.State.{State}
 use Rattle.jac_keep.specs.KeeperSeen.{KeeperSeen}
 use Rattle.jac_opening.specs.Application.{IsApplication}
 use Rattle.jac_route.specs.declared.sessions.Session.{Session}
-use Rattle.jac_links.specs.Door.{Visit, AreVisited}
-use Rattle.jac_serving.specs.Answering.{Entry}
+use Rattle.jac_links.specs.Door.{LinkVisit, AreVisited}
+use Rattle.jac_serving.specs.Answering.{LogEntry}
 use Rattle.jac_serving.specs.Keeping.{holding_of}
-use Rattle.jac_serving.specs.Log.{audited}
+use Rattle.jac_serving.specs.Log.{audit_lines}
 use Rattle.jac_serving.specs.Outside.{Took}
 use Rattle.jac_words.specs.declared.words.Serving.{Serving}
 use Rattle.jac_ending.specs.Attached.{IsAttached}
@@ -32,7 +32,7 @@ pub record HoldServing (file : List ℕ → Option (List ℕ)) (serving : Servin
 -- attached, where a GET's page resolves only what it consults if the words say so; the log is that
 -- of all of them, whose audit lines were put
 pub record IsDoorServed {L : Type 0} (serving : Serving) (top : TopRun L) (app : Application)
-    (sessions : List Session) (start : State) (visits : List (Visit L)) (log : List Entry)
+    (sessions : List Session) (start : State) (visits : List (LinkVisit L)) (log : List LogEntry)
     (audit : List ℕ) : Type 0 where
   pub opened : KeeperSeen
   pub attached : IsAttached serving.db app top.seen.keeper opened
@@ -47,7 +47,7 @@ pub record IsDoorServed {L : Type 0} (serving : Serving) (top : TopRun L) (app :
       AreVisited top.line (answering_of serving.lazy app sessions) 1 0
       (holding_of opened top.splits.before) visits log audit
       (holding_of top.seen.keeper.after top.splits.after)
-  pub audit_is : audit ≡ audited log
+  pub audit_is : audit ≡ audit_lines log
   pub audit_took : Took top.seen.audit audit
 
 -- what a serve read, and how it answered what came
@@ -55,15 +55,15 @@ pub record HasServed {L : Type 0} (serving : Serving) (top : TopRun L) : Type 0 
   pub app : Application
   pub sessions : List Session
   pub start : State
-  pub visits : List (Visit L)
-  pub log : List Entry
+  pub visits : List (LinkVisit L)
+  pub log : List LogEntry
   pub audit : List ℕ
   pub held : HoldServing top.seen.files.before.file serving app sessions
   pub door_served : IsDoorServed serving top app sessions start visits log audit
 
 -- the link tells to the end, it brought something, all of which was taken, and neither it nor the
 -- call on it failed
-pub record IsTakenWhole {L : Type 0} (line : L → LinkSeen) (visit : Visit L) : Type 0 where
+pub record IsTakenWhole {L : Type 0} (line : L → LinkSeen) (visit : LinkVisit L) : Type 0 where
   pub told : IsTrue (line visit.gone).tells
   pub some : (line visit.came).left ≡ [] → ⊥
   pub all : (line visit.gone).left ≡ []
@@ -71,8 +71,8 @@ pub record IsTakenWhole {L : Type 0} (line : L → LinkSeen) (visit : Visit L) :
   pub answered : IsErr visit.result → ⊥
 
 -- link by link the same input came, and all of it was taken in both
-abbrev pub AreTakenAlike : {L M : Type 0} → (L → LinkSeen) → (M → LinkSeen) → List (Visit L)
-    → List (Visit M) → Type 0
+abbrev pub AreTakenAlike : {L M : Type 0} → (L → LinkSeen) → (M → LinkSeen) → List (LinkVisit L)
+    → List (LinkVisit M) → Type 0
 AreTakenAlike line other [] [] = ⊤
 AreTakenAlike line other [] (two ∷ more) = ⊥
 AreTakenAlike line other (one ∷ visits) [] = ⊥
@@ -83,19 +83,19 @@ AreTakenAlike line other (one ∷ visits) (two ∷ more) =
 
 -- the same was asked; what is seen of replies without a page is the same, and so it is of those
 -- whose pages were made under the same labels, where these show the same of both starts
-pub record IsLikeWhereShown (start other : State) (one two : Entry) : Type 0 where
+pub record IsLikeWhereShown (start other : State) (one two : LogEntry) : Type 0 where
   pub source : one.source ≡ two.source
   pub subject : one.subject ≡ two.subject
   pub refusal :
       one.answer.shown ≡ None → two.answer.shown ≡ None
       → seen_answer one.answer ≡ seen_answer two.answer
   pub page :
-      (labels : List ℕ) → LookSame (shown labels) start other
+      (labels : List ℕ) → LookSame (shown_by labels) start other
       → one.answer.shown ≡ Some labels → two.answer.shown ≡ Some labels
       → seen_answer one.answer ≡ seen_answer two.answer
 
 -- entry by entry, of as many
-abbrev pub AreLikeWhereShown : State → State → List Entry → List Entry → Type 0
+abbrev pub AreLikeWhereShown : State → State → List LogEntry → List LogEntry → Type 0
 AreLikeWhereShown start other [] [] = ⊤
 AreLikeWhereShown start other [] (two ∷ others) = ⊥
 AreLikeWhereShown start other (one ∷ log) [] = ⊥

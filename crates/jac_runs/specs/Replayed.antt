@@ -12,8 +12,8 @@ use Rattle.jac_route.specs.declared.sessions.Session.{Session}
 use Rattle.jac_route.specs.Sessions.{sessions_in}
 use Rattle.jac_replies.specs.declared.answer.Ask.{Ask}
 use Rattle.jac_replies.specs.Spelled.{audit_text}
-use Rattle.jac_serving.specs.Answering.{Entry}
-use Rattle.jac_serving.specs.Log.{Brings, audited}
+use Rattle.jac_serving.specs.Answering.{LogEntry}
+use Rattle.jac_serving.specs.Log.{Brings, audit_lines}
 use Rattle.jac_serving.specs.Outside.{Span, Took}
 use Rattle.jac_serving.specs.Script.{script_of}
 use Rattle.jac_words.specs.declared.words.Replay.{Replay}
@@ -23,7 +23,7 @@ use Rattle.jac_desk.specs.Answered.{answering_of}
 use Rattle.jac_ending.specs.Files.{Sight}
 use Rattle.jac_ending.specs.Attached.{IsAttached}
 use Rattle.jac_app.specs.Run.{IsRun}
-use Rattle.jac_laws.specs.TwoRuns.{OneRun, IsServed}
+use Rattle.jac_laws.specs.TwoRuns.{OneRun, IsRunServed}
 
 -- a call of the program's top function: how it sees a link, what it sees of the outside, its door,
 -- how many facets were split, and its status
@@ -75,11 +75,11 @@ pub record IsReplayed {L : Type 0} (replay : Replay) (top : TopRun L) (app : App
   pub finish : run.finish ≡ top.seen.keeper.after.state
   pub lazy : run.lazy ≡ replay.lazy
   pub whole : run.early ≡ false
-  pub served : IsServed app sessions events run
+  pub served : IsRunServed app sessions events run
   pub brought :
       (later : Connections Ask)
       × Brings (answering_of replay.lazy app sessions) no_connections 0 events run.log out later
-  pub audit_is : audit ≡ audited run.log
+  pub audit_is : audit ≡ audit_lines run.log
   pub out_took : Took top.seen.out out
   pub audit_took : Took top.seen.audit audit
 
@@ -143,6 +143,6 @@ AreSmall None = ⊤
 AreSmall (Some labels) = AllByRecursion (λ k. k < 2 ^ 128) labels
 
 -- each label of each page has 128 bits at most, as all have that the program writes
-abbrev pub HaveSmallLabels : List Entry → Type 0
+abbrev pub HaveSmallLabels : List LogEntry → Type 0
 HaveSmallLabels [] = ⊤
 HaveSmallLabels (entry ∷ log) = AreSmall entry.answer.shown × HaveSmallLabels log

@@ -1,10 +1,10 @@
 ghost use Rattle.std.specs.Prelude.{◌≡◌, ℕ, List, Option, Some};
-ghost use Rattle.jac_world.specs.World.{shown};
+ghost use Rattle.jac_world.specs.World.{shown_by};
 ghost use Rattle.jac_lang.specs.Syntax.{Application};
 ghost use Rattle.jac_events.specs.declared.event.Event.{Event};
 ghost use Rattle.jac_route.specs.declared.sessions.Session.{Session};
-ghost use Rattle.jac_serving.specs.Answering.{Entry};
-ghost use Rattle.jac_serving.specs.Log.{audited};
+ghost use Rattle.jac_serving.specs.Answering.{LogEntry};
+ghost use Rattle.jac_serving.specs.Log.{audit_lines};
 ghost use Rattle.jac_words.specs.Words.{command_of};
 ghost use Rattle.jac_words.specs.declared.words.Command.TheVariants as commands;
 ghost use Rattle.jac_words.specs.declared.words.Replay.{Replay};
@@ -35,7 +35,7 @@ pub fn replays_answer<L, M>()
 
 /// A law: where no line of an audit has the status 500 or 503, no entry of its log has failed.
 pub fn audits_tell_failures()
-    ensures { (log : List Entry) → TellsNoFailure (audited log) → NoneFailed log }
+    ensures { (log : List LogEntry) → TellsNoFailure (audit_lines log) → NoneFailed log }
 {}
 
 /// A law: let two replays of the same have put the same audit, of which no line has the status 500
@@ -51,7 +51,7 @@ pub fn bytes_agree<L, M>()
         (out other audit : List ℕ) → IsReplayed replay one app sessions events first out audit →
         IsReplayed replay two app sessions events second other audit → TellsNoFailure audit →
         ((labels : List ℕ) → TellsPage audit labels →
-        LookSame (shown labels) first.start second.start) →
+        LookSame (shown_by labels) first.start second.start) →
         HaveSmallLabels first.log → HaveSmallLabels second.log → out ≡ other }
 {}
 

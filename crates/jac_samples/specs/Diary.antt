@@ -2,7 +2,7 @@
 use Rattle.std.specs.Prelude.{ℕ, Bool, true, false, List, [], ◌∷◌, Option, Some, None, codes}
 use Rattle.jac_value.specs.declared.value.Value.{Value}
 use Rattle.jac_value.specs.declared.value.Value.TheVariants as value
-use Rattle.jac_world.specs.World.{shown}
+use Rattle.jac_world.specs.World.{shown_by}
 use Rattle.jac_lang.specs.declared.bindings.Binding.{Binding}
 use Rattle.jac_lang.specs.declared.field_kinds.KindName.TheVariants as kinds
 use Rattle.jac_lang.specs.Syntax.{Entity, Expression, Statement, FieldGroup, Application}
@@ -95,7 +95,7 @@ diary_with event = record { tables = couple ∷ [] ∷ (event ∷ []) ∷ [] ∷
 abbrev pub asked_for : List ℕ → ℕ → Setting
 asked_for labels number = record {
   models = diary_models;
-  shown = shown labels;
+  shown = shown_by labels;
   viewer = Some 4096;
   number = number;
   around = None;

@@ -1,6 +1,6 @@
 ghost use Rattle.std.specs.Prelude.{◌≡◌, ℕ, ◌∷◌, true, false, codes, pos, Some, None, []};
 ghost use Rattle.jac_value.specs.declared.value.Value.TheVariants as value;
-ghost use Rattle.jac_world.specs.World.{shown};
+ghost use Rattle.jac_world.specs.World.{shown_by};
 ghost use Rattle.jac_rows.specs.Project.{project_at, rows_at};
 ghost use Rattle.jac_rows.specs.Tables.{rows_of};
 ghost use Rattle.jac_plain.specs.Policies.{has_id, has_record, has_group, labelled_group, is_allowed, with_label};
@@ -59,27 +59,27 @@ pub fn asks_policies()
 
 /// An assignment with one label more shows that one, and what it showed.
 pub fn adds_labels()
-    ensures added { with_label 7 (shown (3 ∷ [])) 7 ≡ true }
-    ensures old { with_label 7 (shown (3 ∷ [])) 3 ≡ true }
-    ensures other { with_label 7 (shown (3 ∷ [])) 8 ≡ false }
+    ensures added { with_label 7 (shown_by (3 ∷ [])) 7 ≡ true }
+    ensures old { with_label 7 (shown_by (3 ∷ [])) 3 ≡ true }
+    ensures other { with_label 7 (shown_by (3 ∷ [])) 8 ≡ false }
 {}
 
 /// An assignment shows the rows whose guards hold, each label as its sign says, in their order;
 /// every one has the state's number. A model beyond the tables has no records.
 pub fn projects()
-    ensures labelled { rows_at (shown (5 ∷ []))
+    ensures labelled { rows_at (shown_by (5 ∷ []))
         (record { id = 4096; guard = (5, true) ∷ []; cells = value.Int (pos 1) ∷ [] }
         ∷ record { id = 4096; guard = (5, false) ∷ []; cells = value.Int (pos 2) ∷ [] }
         ∷ record { id = 4160; guard = []; cells = value.Int (pos 3) ∷ [] } ∷ [])
         ≡ row 4096 (value.Int (pos 1) ∷ []) ∷ row 4160 (value.Int (pos 3) ∷ []) ∷ [] }
-    ensures unlabelled { rows_at (shown [])
+    ensures unlabelled { rows_at (shown_by [])
         (record { id = 4096; guard = (5, true) ∷ []; cells = value.Int (pos 1) ∷ [] }
         ∷ record { id = 4096; guard = (5, false) ∷ []; cells = value.Int (pos 2) ∷ [] }
         ∷ record { id = 4160; guard = []; cells = value.Int (pos 3) ∷ [] } ∷ [])
         ≡ row 4096 (value.Int (pos 2) ∷ []) ∷ row 4160 (value.Int (pos 3) ∷ []) ∷ [] }
-    ensures all_labels { rows_at (shown (5 ∷ []))
+    ensures all_labels { rows_at (shown_by (5 ∷ []))
         (record { id = 4096; guard = (5, true) ∷ (6, true) ∷ []; cells = [] } ∷ []) ≡ [] }
-    ensures tables { project_at (shown (5 ∷ [])) (record {
+    ensures tables { project_at (shown_by (5 ∷ [])) (record {
       tables = [] ∷ (record { id = 4097; guard = (5, true) ∷ []; cells = [] } ∷ []) ∷ [];
       number = 9;
     }) ≡ record { tables = [] ∷ (row 4097 [] ∷ []) ∷ []; number = 9 } }

@@ -15,11 +15,11 @@ use Rattle.jac_hub.specs.declared.hub.HubOut.{HubOut}
 use Rattle.jac_hub.specs.declared.hub.HubOut.TheVariants.{Reply, Closed}
 use Rattle.jac_hub.specs.declared.hub.Turn.{Turn}
 use Rattle.jac_hub.specs.declared.hub.Turn.TheVariants as turns
-use Rattle.jac_hub.specs.Channel.{LIMIT, ChannelSeen, grown}
+use Rattle.jac_hub.specs.Channel.{LIMIT, ChannelSeen, channel_with}
 use Rattle.jac_hub.specs.Hearing.{asked, Subject, whole, refused, broken, Hearing}
-use Rattle.jac_hub.specs.Heard.{Connection, Connections, counted, StandsAt, StandAt, IsBroughtBy, after_both}
-use Rattle.jac_hub.specs.Hub.{HubSeen, StepsBegin, StepsPiece, StepsFinish, Steps, left, left_by, unused_in}
-use Rattle.jac_hub.specs.Served.{AreAnswered, AreLike, AreLikeAt, is_shut, closing, closings}
+use Rattle.jac_hub.specs.Heard.{Connection, Connections, bytes_counted, StandsAt, StandAt, IsBroughtBy, after_both}
+use Rattle.jac_hub.specs.Hub.{HubSeen, StepsBegin, StepsPiece, StepsFinish, Steps, puts_left, puts_left_by, unused_in}
+use Rattle.jac_hub.specs.Served.{AreEntriesAnswered, AreLike, AreLikeAt, is_shut, closing, closings}
 use Rattle.jac_hub.proofs.EventParts.{event-served_in_part}
 use Rattle.jac_hub.proofs.Standing.{set-same}
 use Rattle.jac_serving.specs.declared.serve.Lapse.{Lapse}
@@ -30,14 +30,14 @@ use Rattle.jac_replies.specs.declared.reply.Spelling.{Spelling}
 use Rattle.jac_replies.specs.declared.reply.Spelling.TheVariants as spellings
 use Rattle.jac_serving.specs.declared.given.Cut.{Cut}
 use Rattle.jac_serving.specs.declared.given.Lost.{Lost}
-use Rattle.jac_serving.specs.Answering.{Entry, hearing, Answering, IsAnswering}
+use Rattle.jac_serving.specs.Answering.{LogEntry, hearing, Answering, IsAnswering}
 use Rattle.jac_serving.specs.Log.{reply_to, entry_on, replies_on, replies_text, closing_text, audit_line}
 use Rattle.jac_replies.specs.Spelled.{closed_text, audit_text}
 use Rattle.jac_serving.specs.Outside.{Span, span, Sinks, PutBoth, IsFront, IsLostOn, FaultedAt}
 use Rattle.jac_serving.specs.Script.{lapse_of}
 use Rattle.jac_serving.specs.declared.desk.Asked.{Asked}
 use Rattle.jac_serving.specs.declared.desk.Asked.TheVariants.{Answered, Unanswered}
-use Rattle.jac_serving.specs.Serve.{IsAsked, asked_line, asked_audit, IsHandled, handled, closed_on, outs_on, outs_audited, replies_in, IsOutLost, PutsSome, IsEventServed, IsLastLost, IsClosingTorn, IsEventCut, TakesEvent, AnswersEvent, is_open, lapse_by}
+use Rattle.jac_serving.specs.Serve.{IsAsked, asked_line, asked_audit, IsHandled, Handles, closed_on, outs_on, outs_audited, replies_in, IsOutLost, PutsSome, IsEventServed, IsLastLost, IsClosingTorn, IsEventCut, TakesEvent, AnswersEvent, is_connection_open, lapse_by}
 use Rattle.jac_serving.proofs.HubLemmas.{handled-tells, lines_all, cut_last}
 
 pub err_same : (x y : HubFault) → ◌≡◌ {A = Result (Unit {0}) HubFault} (Err x) (Err y) → x ≡ y
@@ -81,7 +81,7 @@ finish_refused h line c (Some o) (Some k) fault lapse old new like e is = by_ok 
 
 -- a hub refuses an event where the definition does
 step_refused : (h : Hearing Ask Answer) (line : ℕ) (event : Event) (known : Connections Ask) (fault : HubFault) (lapse : Lapse) (old new : HubSeen)
-    → AreLike h old.channels known → Steps old event (Err fault) new → lapse_by line fault ≡ Some lapse → lapse_of line (is_open known) event ≡ Some lapse
+    → AreLike h old.channels known → Steps old event (Err fault) new → lapse_by line fault ≡ Some lapse → lapse_of line (is_connection_open known) event ≡ Some lapse
 step_refused h line (Asking viewer method path query body) known fault lapse old new like steps is = absurd steps
 step_refused h line (Begin c) known fault lapse old new like steps is = begin_refused h line c (old.channels c) (known c) fault lapse old new (like c) steps is
 step_refused h line (Piece c bytes) known fault lapse old new like steps is = piece_refused h line c bytes (old.channels c) (known c) fault lapse old new (like c) steps is
@@ -124,7 +124,7 @@ finish_kept h line c (Some o) (Some k) taken old new like e kept = refl
 
 -- a hub takes an event only where the definition does
 pub step_kept : (h : Hearing Ask Answer) (line : ℕ) (event : Event) (known : Connections Ask) (taken : Result (Unit {0}) HubFault) (old new : HubSeen)
-    → AreLike h old.channels known → Steps old event taken new → IsKept taken → lapse_of line (is_open known) event ≡ None
+    → AreLike h old.channels known → Steps old event taken new → IsKept taken → lapse_of line (is_connection_open known) event ≡ None
 step_kept h line (Asking viewer method path query body) known taken old new like steps kept = absurd steps
 step_kept h line (Begin c) known taken old new like steps kept = begin_kept h line c (old.channels c) (known c) taken old new (like c) steps kept
 step_kept h line (Piece c bytes) known taken old new like steps kept = piece_kept h line c bytes (old.channels c) (known c) taken old new (like c) steps kept
@@ -171,24 +171,24 @@ open_short : (h : Hearing Ask Answer) (channel : ChannelSeen) (k : Option (Conne
 open_short h channel None like open_still = absurd like
 open_short h channel (Some one) like open_still =
     let l = like.1 (sym like.0 ∙ open_still) in
-    let short = stand_shorter h one.heard (counted one) channel.unused l.unused in
+    let short = stand_shorter h one.heard (bytes_counted one) channel.unused l.unused in
     let all = take_short LIMIT one.bytes in
     omega (arith, short, all)
 
-left_same : (old new : HubSeen) → new ≡ old → old.turn ≡ turns.Idle → left new ≤ 2 ^ 26
+left_same : (old new : HubSeen) → new ≡ old → old.turn ≡ turns.Idle → puts_left new ≤ 2 ^ 26
 left_same old new same idle =
-    let e : left new ≡ 0 = ap left same ∙ ap (λ (t : Turn). left_by t old.channels) idle in
+    let e : puts_left new ≡ 0 = ap puts_left same ∙ ap (λ (t : Turn). puts_left_by t old.channels) idle in
     omega (arith, e)
 
-left_as : (new : HubSeen) (n : ℕ) (as_is : HubSeen) → new ≡ as_is → left as_is ≤ 2 ^ 26 → left new ≤ 2 ^ 26
-left_as new n as_is same h = let e = ap left same in omega (arith, e, h)
+left_as : (new : HubSeen) (n : ℕ) (as_is : HubSeen) → new ≡ as_is → puts_left as_is ≤ 2 ^ 26 → puts_left new ≤ 2 ^ 26
+left_as new n as_is same h = let e = ap puts_left same in omega (arith, e, h)
 
-begin_left : (h : Hearing Ask Answer) (c : ℕ) (o : Option ChannelSeen) (taken : Result (Unit {0}) HubFault) (old new : HubSeen) → old.turn ≡ turns.Idle → StepsBegin old c o taken new → left new ≤ 2 ^ 26
+begin_left : (h : Hearing Ask Answer) (c : ℕ) (o : Option ChannelSeen) (taken : Result (Unit {0}) HubFault) (old new : HubSeen) → old.turn ≡ turns.Idle → StepsBegin old c o taken new → puts_left new ≤ 2 ^ 26
 begin_left h c None taken old new idle (inl e) = left_as new 0 _ e.1 (omega arith)
 begin_left h c None taken old new idle (inr e) = left_same old new e.1 idle
 begin_left h c (Some o) taken old new idle e = left_same old new e.1 idle
 
-grown_short : (channel : ChannelSeen) (bytes : List ℕ) → length channel.unused ≤ LIMIT → length (grown bytes channel).unused + 4 ≤ 2 ^ 26
+grown_short : (channel : ChannelSeen) (bytes : List ℕ) → length channel.unused ≤ LIMIT → length (channel_with bytes channel).unused + 4 ≤ 2 ^ 26
 grown_short channel bytes short =
     let all = length-append channel.unused (take (LIMIT - channel.taken) bytes) in
     let more = take_short (LIMIT - channel.taken) bytes in
@@ -196,22 +196,22 @@ grown_short channel bytes short =
     omega (arith, short, all, more, limit)
 
 piece_left : (h : Hearing Ask Answer) (c : ℕ) (bytes : List ℕ) (o : Option ChannelSeen) (k : Option (Connection Ask)) (taken : Result (Unit {0}) HubFault) (old new : HubSeen) → old.turn ≡ turns.Idle → AreLikeAt h o k
-    → StepsPiece old c bytes o taken new → left new ≤ 2 ^ 26
+    → StepsPiece old c bytes o taken new → puts_left new ≤ 2 ^ 26
 piece_left h c bytes None k taken old new idle like e = left_same old new e.1 idle
 piece_left h c bytes (Some o) k taken old new idle like (inl e) = left_as new 0 _ e.2 (omega arith)
 piece_left h c bytes (Some o) k taken old new idle like (inr (inl e)) =
-    let there = ap unused_in (set-same c (Some (grown bytes o)) old.channels) in
+    let there = ap unused_in (set-same c (Some (channel_with bytes o)) old.channels) in
     let short = grown_short o bytes (open_short h o k like e.0) in
     left_as new 0 _ e.2 (omega (arith, there, short))
 piece_left h c bytes (Some o) k taken old new idle like (inr (inr e)) = left_as new 0 _ e.2 (omega arith)
 
-finish_left : (h : Hearing Ask Answer) (c : ℕ) (o : Option ChannelSeen) (taken : Result (Unit {0}) HubFault) (old new : HubSeen) → old.turn ≡ turns.Idle → StepsFinish old c o taken new → left new ≤ 2 ^ 26
+finish_left : (h : Hearing Ask Answer) (c : ℕ) (o : Option ChannelSeen) (taken : Result (Unit {0}) HubFault) (old new : HubSeen) → old.turn ≡ turns.Idle → StepsFinish old c o taken new → puts_left new ≤ 2 ^ 26
 finish_left h c None taken old new idle e = left_same old new e.1 idle
 finish_left h c (Some o) taken old new idle e = left_as new 0 _ e.1 (omega arith)
 
 -- how much an event may bring at most
 pub step_left : (h : Hearing Ask Answer) (event : Event) (known : Connections Ask) (taken : Result (Unit {0}) HubFault) (old new : HubSeen)
-    → old.turn ≡ turns.Idle → AreLike h old.channels known → Steps old event taken new → left new ≤ 2 ^ 26
+    → old.turn ≡ turns.Idle → AreLike h old.channels known → Steps old event taken new → puts_left new ≤ 2 ^ 26
 step_left h (Asking viewer method path query body) known taken old new idle like steps = absurd steps
 step_left h (Begin c) known taken old new idle like steps = begin_left h c (old.channels c) taken old new idle steps
 step_left h (Piece c bytes) known taken old new idle like steps = piece_left h c bytes (old.channels c) (known c) taken old new idle (like c) steps
@@ -258,16 +258,16 @@ out_faulted spelling k lost (Reply c sent) s out audit h = h.fault
 out_faulted spelling k lost (Closed c) s out audit h = subst (λ (l : Lost). FaultedAt l s) (sym h.1) h.4
 
 -- what was lost, by what the hub gave
-module _ (spelling : Spelling) (x : Answering) (lawful : IsAnswering x) (n served : ℕ) (event : Event) (known : Connections Ask) (a b : Holding) (mine : List Entry) (replies outs : List HubOut) (last : HubOut)
+module _ (spelling : Spelling) (x : Answering) (lawful : IsAnswering x) (n served : ℕ) (event : Event) (known : Connections Ask) (a b : Holding) (mine : List LogEntry) (replies outs : List HubOut) (last : HubOut)
     (cut : Cut) (s : Sinks) (out audit out_torn audit_torn : List ℕ) (start : x.ready a)
-    (answered : AreAnswered (hearing x) (IsHandled spelling x) (refusal 500 None) a mine replies b)
+    (answered : AreEntriesAnswered (hearing x) (IsHandled spelling x) (refusal 500 None) a mine replies b)
     (torn : IsOutLost spelling cut.count cut.lost last s out_torn audit_torn) (count_is : cut.count ≡ served + replies_in outs + 1)
     (out_text : out ≡ outs_on spelling outs ++ out_torn) (audit_text : audit ≡ outs_audited (served + 1) outs ++ audit_torn) where
   by_reply : replies ≡ outs ++ last ∷ [] → IsLastLost spelling cut.lost served mine out audit × (cut.count ≡ served + length mine)
   by_reply parts =
       let c = cut_last spelling x lawful mine replies outs last a b start answered parts in
       let count : cut.count ≡ served + length c.whole_ones + 1 = count_is ∙ ap (λ (m : ℕ). served + m + 1) c.replies in
-      let long = ap (λ (l : List Entry). length l) c.parts ∙ length-append c.whole_ones (c.entry ∷ []) in (
+      let long = ap (λ (l : List LogEntry). length l) c.parts ∙ length-append c.whole_ones (c.entry ∷ []) in (
         record {
           whole_ones = c.whole_ones;
           entry = c.entry;
@@ -321,7 +321,7 @@ pub event_cut : (spelling : Spelling) (x : Answering) (lawful : IsAnswering x) �
     → old.turn ≡ turns.Idle → AreLike (hearing x) old.channels known → Steps old event taken stepped → x.ready a
     → PutsSome spelling x stepped (span a b) served cut s out audit → IsEventCut spelling x (span a b) served cut n event known s out audit
 event_cut spelling x lawful law n served event known taken old stepped a b cut sinks out audit idle like steps start p =
-    let s = event-served_in_part (hearing x) law (handled spelling x) (IsHandled spelling x) (refusal 500 None) n (handled-tells spelling x)
+    let s = event-served_in_part (hearing x) law (Handles spelling x) (IsHandled spelling x) (refusal 500 None) n (handled-tells spelling x)
     event known taken old stepped p.left (p.outs ++ p.last ∷ []) a b idle like steps p.given in
     let lines = lines_all spelling x lawful s.mine s.replies a b start s.answered in
     record {
@@ -340,7 +340,7 @@ asked_told x k ask (Answered reply audit) (answer, entry, reply_is, audit_is) = 
 asked_told x k ask (Unanswered stop viewer) (entry, viewer_is) =
     (refusal (status_of_stop stop) None, entry, refl, λ n. ap (λ (v : Option ℕ). audit_text n (status_of_stop stop) v None None) viewer_is)
 
-abbrev pub ask_entry : ℕ → Ask → Answer → Entry
+abbrev pub ask_entry : ℕ → Ask → Answer → LogEntry
 ask_entry n ask answer = record { place = n; source = asked; subject = whole ask false; answer = answer }
 
 -- the request of an `ask` line was served

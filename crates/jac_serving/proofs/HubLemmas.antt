@@ -18,47 +18,47 @@ use Rattle.jac_hub.specs.declared.sent.Sent.{Sent}
 use Rattle.jac_hub.specs.Hearing.{Source, connection, whole, refused, broken}
 use Rattle.jac_hub.specs.Heard.{Connections, after_both}
 use Rattle.jac_hub.specs.Hub.{HubSeen, Steps}
-use Rattle.jac_hub.specs.Served.{AreLike, AreAnswered, IsAnswered, Agrees, IsLost, is_shut, closing, closings}
+use Rattle.jac_hub.specs.Served.{AreLike, AreEntriesAnswered, IsEntryAnswered, AgreesSent, IsLost, is_shut, closing, closings}
 use Rattle.jac_hub.proofs.Following.{Tells}
 use Rattle.jac_hub.proofs.Events.{event-served}
 use Rattle.jac_replies.specs.declared.reply.Spelling.{Spelling}
 use Rattle.jac_replies.specs.declared.reply.Spelling.TheVariants as spellings
-use Rattle.jac_serving.specs.Answering.{Subject, Entry, hearing, Answering, IsAnswering}
+use Rattle.jac_serving.specs.Answering.{LogSubject, LogEntry, hearing, Answering, IsAnswering}
 use Rattle.jac_serving.specs.declared.given.Brought.{Brought}
 use Rattle.jac_serving.specs.declared.given.Lost.{Lost}
-use Rattle.jac_serving.specs.Log.{reply_on, entry_on, replies_on, closing_text, audit_line, audited_from, viewer_of}
+use Rattle.jac_serving.specs.Log.{reply_on, entry_on, replies_on, closing_text, audit_line, audited_from, viewer_of_subject}
 use Rattle.jac_replies.specs.Spelled.{closed_text, audit_text}
 use Rattle.jac_serving.specs.Outside.{Span, span, Sinks, IsLostOn, IsLostAt}
-use Rattle.jac_serving.specs.Serve.{IsHandled, handled, sent_on, sent_audit, out_on, outs_on, outs_audited, replies_in, is_closed_out, has_closed, IsOutLost, PutsAll, IsEventServed}
+use Rattle.jac_serving.specs.Serve.{IsHandled, Handles, sent_on, sent_audit, out_on, outs_on, outs_audited, replies_in, is_closed_out, has_closed, IsOutLost, PutsAll, IsEventServed}
 
 agrees : (spelling : Spelling) (x : Answering) (before after : Holding) (c : ℕ) (heard : Heard) (sent : Sent) (answer : Answer)
-    → IsHandled spelling x before c heard sent after answer → Agrees (hearing x) heard sent answer
+    → IsHandled spelling x before c heard sent after answer → AgreesSent (hearing x) heard sent answer
 agrees spelling x before after c (HeardWhole request) sent answer h = h.closing
 agrees spelling x before after c (HeardRefused status) sent answer h = tt
 
 -- what is handled is told with its answer
-pub handled-tells : (spelling : Spelling) (x : Answering) → Tells (hearing x) (handled spelling x) (IsHandled spelling x)
+pub handled-tells : (spelling : Spelling) (x : Answering) → Tells (hearing x) (Handles spelling x) (IsHandled spelling x)
 handled-tells spelling x = λ before after c heard sent h. (h.0, h.1, agrees spelling x before after c heard sent h.0 h.1)
 
 -- what is put for entries, and what they leave
-pub record AreLines (spelling : Spelling) (x : Answering) (k : Span Holding) (mine : List Entry) (outs : List HubOut) : Type 0 where
+pub record AreLines (spelling : Spelling) (x : Answering) (k : Span Holding) (mine : List LogEntry) (outs : List HubOut) : Type 0 where
   pub entries : x.entries k mine
   pub text : outs_on spelling outs ≡ replies_on spelling mine
   pub audited : (n : ℕ) → outs_audited n outs ≡ audited_from n mine
   pub replies : replies_in outs ≡ length mine
 
 -- the reply to one subject of a connection
-pub record IsLine (spelling : Spelling) (x : Answering) (c : ℕ) (k : Span Holding) (subject : Subject) (answer : Answer) (sent : Sent) : Type 0 where
+pub record IsLine (spelling : Spelling) (x : Answering) (c : ℕ) (k : Span Holding) (subject : LogSubject) (answer : Answer) (sent : Sent) : Type 0 where
   pub one : x.entry k subject answer
   pub line : sent_on spelling c sent ≡ reply_on spelling (connection c) subject answer
-  pub audit : (n : ℕ) → sent_audit n sent ≡ audit_text n answer.status (viewer_of subject) answer.shown answer.consulted
+  pub audit : (n : ℕ) → sent_audit n sent ≡ audit_text n answer.status (viewer_of_subject subject) answer.shown answer.consulted
 
-line_of : (spelling : Spelling) (x : Answering) (lawful : IsAnswering x) (c : ℕ) (subject : Subject) (answer : Answer) (sent : Sent) (before between : Holding)
+line_of : (spelling : Spelling) (x : Answering) (lawful : IsAnswering x) (c : ℕ) (subject : LogSubject) (answer : Answer) (sent : Sent) (before between : Holding)
     → x.ready before
-    → IsAnswered (hearing x) (IsHandled spelling x) (refusal 500 None) c subject answer sent before between
+    → IsEntryAnswered (hearing x) (IsHandled spelling x) (refusal 500 None) c subject answer sent before between
     → IsLine spelling x c (span before between) subject answer sent
 line_of spelling x lawful c (whole ask close) answer sent before between start (request, is, closes, h) =
-    subst (λ (s : Subject). IsLine spelling x c (span before between) s answer sent) (λ i. whole (sym is i) (sym closes i))
+    subst (λ (s : LogSubject). IsLine spelling x c (span before between) s answer sent) (λ i. whole (sym is i) (sym closes i))
     (record { one = h.entry; line = h.line; audit = h.audit })
 line_of spelling x lawful c (refused status) answer sent before between start h = record { one = h.entry; line = h.line; audit = h.audit }
 line_of spelling x lawful c broken answer sent before between start (same, is, put) =
@@ -70,7 +70,7 @@ line_of spelling x lawful c broken answer sent before between start (same, is, p
 lines_none : (spelling : Spelling) (x : Answering) (lawful : IsAnswering x) (k : Holding) → x.ready k → AreLines spelling x (span k k) [] []
 lines_none spelling x lawful k start = record { entries = lawful.none k start; text = refl; audited = λ n. refl; replies = refl }
 
-lines_more : (spelling : Spelling) (x : Answering) (lawful : IsAnswering x) (c : ℕ) (entry : Entry) (sent : Sent) (mine : List Entry) (rest : List HubOut) (before between after : Holding)
+lines_more : (spelling : Spelling) (x : Answering) (lawful : IsAnswering x) (c : ℕ) (entry : LogEntry) (sent : Sent) (mine : List LogEntry) (rest : List HubOut) (before between after : Holding)
     → entry.source ≡ connection c → IsLine spelling x c (span before between) entry.subject entry.answer sent → AreLines spelling x (span between after) mine rest
     → AreLines spelling x (span before after) (entry ∷ mine) (Reply c sent ∷ rest)
 lines_more spelling x lawful c entry sent mine rest before between after is line more =
@@ -84,9 +84,9 @@ lines_more spelling x lawful c entry sent mine rest before between after is line
     }
 
 -- the entries of an event beside the replies that were put out for them
-pub lines_all : (spelling : Spelling) (x : Answering) (lawful : IsAnswering x) (mine : List Entry) (outs : List HubOut) (before after : Holding)
+pub lines_all : (spelling : Spelling) (x : Answering) (lawful : IsAnswering x) (mine : List LogEntry) (outs : List HubOut) (before after : Holding)
     → x.ready before
-    → AreAnswered (hearing x) (IsHandled spelling x) (refusal 500 None) before mine outs after → AreLines spelling x (span before after) mine outs
+    → AreEntriesAnswered (hearing x) (IsHandled spelling x) (refusal 500 None) before mine outs after → AreLines spelling x (span before after) mine outs
 lines_all spelling x lawful [] outs before after start (none, same) =
     subst (λ (k : Holding). AreLines spelling x (span before k) [] outs) (sym same)
     (subst (λ (os : List HubOut). AreLines spelling x (span before before) [] os) (sym none) (lines_none spelling x lawful before start))
@@ -144,8 +144,8 @@ has_closed-append [] ys = refl
 has_closed-append (x ∷ xs) ys = ap (λ (b : Bool). is_closed_out x || b) (has_closed-append xs ys) ∙ sym (or_assoc (is_closed_out x) (has_closed xs) (has_closed ys))
 
 -- the replies to entries tell no closing
-answered_open : (spelling : Spelling) (x : Answering) (mine : List Entry) (outs : List HubOut) (before after : Holding)
-    → AreAnswered (hearing x) (IsHandled spelling x) (refusal 500 None) before mine outs after → has_closed outs ≡ false
+answered_open : (spelling : Spelling) (x : Answering) (mine : List LogEntry) (outs : List HubOut) (before after : Holding)
+    → AreEntriesAnswered (hearing x) (IsHandled spelling x) (refusal 500 None) before mine outs after → has_closed outs ≡ false
 answered_open spelling x [] outs before after (none, same) = ap has_closed none
 answered_open spelling x (entry ∷ mine) outs before after (c, sent, rest, between, is, parts, answered, more) =
     ap has_closed parts ∙ answered_open spelling x mine rest between after more
@@ -161,7 +161,7 @@ pub event_whole : (spelling : Spelling) (x : Answering) (lawful : IsAnswering x)
     → IsEventServed spelling x new (span a b) served brought n event known out audit
 event_whole spelling x lawful law n served brought event known taken old stepped new a b out audit idle like steps kept start p =
     let h = hearing x in
-    let s = event-served h law (handled spelling x) (IsHandled spelling x) (refusal 500 None) n (handled-tells spelling x)
+    let s = event-served h law (Handles spelling x) (IsHandled spelling x) (refusal 500 None) n (handled-tells spelling x)
     event known taken old stepped new p.outs a b idle like steps kept p.emptied in
     let later = after_both h event s.mine known in
     let last = closings event known later in
@@ -190,14 +190,14 @@ event_whole spelling x lawful law n served brought event known taken old stepped
           ∙ append-nil (outs_audited (served + 1) s.replies) ∙ lines.audited (served + 1);
     }
 
-no_entries : (mine : List Entry) → length mine ≡ 0 → mine ≡ []
+no_entries : (mine : List LogEntry) → length mine ≡ 0 → mine ≡ []
 no_entries [] e = refl
 no_entries (entry ∷ mine) e = absurd cc
 
 -- the entries beside the first of the replies
-pub record IsCut (spelling : Spelling) (mine : List Entry) (outs : List HubOut) (last : HubOut) : Type 0 where
-  pub whole_ones : List Entry
-  pub entry : Entry
+pub record IsCut (spelling : Spelling) (mine : List LogEntry) (outs : List HubOut) (last : HubOut) : Type 0 where
+  pub whole_ones : List LogEntry
+  pub entry : LogEntry
   pub parts : mine ≡ whole_ones ++ entry ∷ []
   pub text : outs_on spelling outs ≡ replies_on spelling whole_ones
   pub audited : (n : ℕ) → outs_audited n outs ≡ audited_from n whole_ones
@@ -215,9 +215,9 @@ tail_same : (x y : HubOut) (xs ys : List HubOut) → x ∷ xs ≡ y ∷ ys → x
 tail_same x y xs ys e = cc
 
 -- replies that end with the torn one
-pub cut_last : (spelling : Spelling) (x : Answering) (lawful : IsAnswering x) (mine : List Entry) (replies outs : List HubOut) (last : HubOut) (before after : Holding)
+pub cut_last : (spelling : Spelling) (x : Answering) (lawful : IsAnswering x) (mine : List LogEntry) (replies outs : List HubOut) (last : HubOut) (before after : Holding)
     → x.ready before
-    → AreAnswered (hearing x) (IsHandled spelling x) (refusal 500 None) before mine replies after → replies ≡ outs ++ last ∷ []
+    → AreEntriesAnswered (hearing x) (IsHandled spelling x) (refusal 500 None) before mine replies after → replies ≡ outs ++ last ∷ []
     → IsCut spelling mine outs last
 cut_last spelling x lawful [] replies outs last before after start (none, same) parts = no_replies _ outs last (sym none ∙ parts)
 cut_last spelling x lawful (entry ∷ mine) replies [] last before after start (c, sent, rest, between, is, whole_ones, answered, more) parts =
@@ -229,7 +229,7 @@ cut_last spelling x lawful (entry ∷ mine) replies [] last before after start (
     record {
       whole_ones = [];
       entry = entry;
-      parts = ap (λ (m : List Entry). entry ∷ m) none;
+      parts = ap (λ (m : List LogEntry). entry ∷ m) none;
       text = refl;
       audited = λ n. refl;
       replies = refl;
@@ -248,7 +248,7 @@ cut_last spelling x lawful (entry ∷ mine) replies (first ∷ outs) last before
     (record {
       whole_ones = entry ∷ cut.whole_ones;
       entry = cut.entry;
-      parts = ap (λ (m : List Entry). entry ∷ m) cut.parts;
+      parts = ap (λ (m : List LogEntry). entry ∷ m) cut.parts;
       text = ap (λ (t : List ℕ). t ++ outs_on spelling outs) same ∙ ap (λ (t : List ℕ). entry_on spelling entry ++ t) cut.text;
       audited = λ n.
           ap (λ (t : List ℕ). t ++ outs_audited (n + 1) outs) (line.audit n) ∙ ap (λ (t : List ℕ). audit_line n entry ++ t) (cut.audited (n + 1));

@@ -20,7 +20,7 @@ use Rattle.jac_serving.specs.declared.given.Brought.{Brought}
 use Rattle.jac_serving.specs.declared.given.Lost.{Lost}
 use Rattle.jac_serving.specs.Answering.{Answering}
 use Rattle.jac_serving.specs.Outside.{span, Sinks, PutBoth}
-use Rattle.jac_serving.specs.Serve.{handled, sent_on, sent_audit, closed_on, out_on, outs_on, outs_audited, replies_in, is_closed_out, has_closed, IsOutLost, PutsOut, PutsSoFar, PutsSome, PutsAll}
+use Rattle.jac_serving.specs.Serve.{Handles, sent_on, sent_audit, closed_on, out_on, outs_on, outs_audited, replies_in, is_closed_out, has_closed, IsOutLost, PutsOut, PutsSoFar, PutsSome, PutsAll}
 use Rattle.jac_serving.proofs.HubLemmas.{outs_on-append, outs_audited-append, replies_in-append, has_closed-append}
 use Rattle.jac_serving.proofs.OutsideLemmas.{FailsWithin, faulted_within}
 
@@ -136,11 +136,11 @@ module _ (spelling : Spelling) (x : Answering) (hub between new : HubSeen) (a b 
     (s : PutsSoFar spelling x hub between (span a b) served so_far o au) where
   -- what it gave was put
   pub so_far_more : (more : Brought) (given : HubOut) (part : Sinks) (p bu : List ℕ)
-      → Nexts IsTaken (handled spelling x) between between.turn (Some given) new b c → PutsOut spelling so_far given (Ok more) part p bu
+      → Nexts IsTaken (Handles spelling x) between between.turn (Some given) new b c → PutsOut spelling so_far given (Ok more) part p bu
       → PutsSoFar spelling x hub new (span a c) served more (o ++ p) (au ++ bu)
   so_far_more more given part p bu next put = record {
     outs = s.outs ++ given ∷ [];
-    given = given-push IsTaken (handled spelling x) s.outs hub between new given a b c s.given next;
+    given = given-push IsTaken (Handles spelling x) s.outs hub between new given a b c s.given next;
     put = record {
       count_is = count_next served so_far.count more.count s.outs given s.put.count_is put.0;
       closed_is = closed_next s.outs given so_far.closed more.closed s.put.closed_is put.1;
@@ -155,7 +155,7 @@ module _ (spelling : Spelling) (x : Answering) (hub between new : HubSeen) (a b 
 
   -- it was lost
   pub so_far_lost : (lost : Lost) (given : HubOut) (all part : Sinks) (p bu : List ℕ) → FailsWithin all part
-      → Nexts IsTaken (handled spelling x) between between.turn (Some given) new b c → PutsOut spelling so_far given (Err lost) part p bu
+      → Nexts IsTaken (Handles spelling x) between between.turn (Some given) new b c → PutsOut spelling so_far given (Err lost) part p bu
       → PutsSome spelling x hub (span a c) served (record { lost = lost; count = so_far.count + 1 }) all (o ++ p) (au ++ bu)
   so_far_lost lost given all part p bu within next torn = record {
     outs = s.outs;
@@ -163,7 +163,7 @@ module _ (spelling : Spelling) (x : Answering) (hub between new : HubSeen) (a b 
     left = new;
     out_torn = p;
     audit_torn = bu;
-    given = given-push IsTaken (handled spelling x) s.outs hub between new given a b c s.given next;
+    given = given-push IsTaken (Handles spelling x) s.outs hub between new given a b c s.given next;
     torn = out_lost_within spelling all part (so_far.count + 1) lost given p bu within torn;
     count_is = ap (λ (n : ℕ). n + 1) s.put.count_is;
     out_text = ap (λ (t : List ℕ). t ++ p) s.put.out_text;
@@ -171,5 +171,5 @@ module _ (spelling : Spelling) (x : Answering) (hub between new : HubSeen) (a b 
   }
 
   -- it gave nothing more
-  pub so_far_all : Nexts IsTaken (handled spelling x) between between.turn None new b c → PutsAll spelling x hub new (span a c) served so_far o au
-  so_far_all next = record { outs = s.outs; emptied = given-all IsTaken (handled spelling x) s.outs hub between new a b c s.given next; put = s.put }
+  pub so_far_all : Nexts IsTaken (Handles spelling x) between between.turn None new b c → PutsAll spelling x hub new (span a c) served so_far o au
+  so_far_all next = record { outs = s.outs; emptied = given-all IsTaken (Handles spelling x) s.outs hub between new a b c s.given next; put = s.put }

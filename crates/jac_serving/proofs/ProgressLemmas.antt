@@ -17,11 +17,11 @@ use Rattle.jac_serving.specs.declared.serve.Lapse.{Lapse}
 use Rattle.jac_serving.specs.declared.serve.Lapse.TheVariants as lapses
 use Rattle.jac_serving.specs.declared.serve.Stopped.{Stopped}
 use Rattle.jac_serving.specs.declared.serve.Stopped.TheVariants as stops
-use Rattle.jac_serving.specs.Answering.{Entry, hearing, IsHeardBy, Answering, IsAnswering}
-use Rattle.jac_serving.specs.Log.{Brings, replies_text, audited, audited_from}
+use Rattle.jac_serving.specs.Answering.{LogEntry, hearing, IsHeardBy, Answering, IsAnswering}
+use Rattle.jac_serving.specs.Log.{Brings, replies_text, audit_lines, audited_from}
 use Rattle.jac_serving.specs.Outside.{Span, span, Sinks, FaultedAt, AWriteFailed}
 use Rattle.jac_serving.specs.Script.{Script, script_from, script_of, script_step, script_event, stopped_at, with_event, lapse_of, opened_by}
-use Rattle.jac_serving.specs.Serve.{IsEventServed, IsEventCut, IsLastLost, IsEntryTorn, IsClosingTorn, AnswersEvent, AnswersLine, IsServed, PutsServed, PutsTorn, ServesAs, is_open}
+use Rattle.jac_serving.specs.Serve.{IsEventServed, IsEventCut, IsLastLost, IsEntryTorn, IsClosingTorn, AnswersEvent, AnswersLine, IsServed, PutsServed, PutsTorn, ServesAs, is_connection_open}
 use Rattle.jac_serving.proofs.EntriesLemmas.{entries-still, audited-append}
 use Rattle.jac_serving.proofs.HubLemmas.{closings_text}
 use Rattle.jac_serving.proofs.BringsLemmas.{brings-push, brings-heard, brings-part, brings-begun, open_after}
@@ -34,15 +34,15 @@ served_before events script = record { events = events ++ script.events; refused
 -- some lines were served, and these are left
 pub record Progress (x : Answering) (hub : HubSeen) (k : Span Holding) (bytes : List ℕ) (left : Option (List ℕ)) (lines served : ℕ) (out audit : List ℕ) : Type 0 where
   pub events : List Event
-  pub log : List Entry
+  pub log : List LogEntry
   pub known : Connections Ask
-  pub script : served_before events (script_from (parts_left 10 left) (lines + 1) (is_open known)) ≡ script_of bytes
+  pub script : served_before events (script_from (parts_left 10 left) (lines + 1) (is_connection_open known)) ≡ script_of bytes
   pub entries : x.entries k log
   pub counted : length log ≡ served
   pub like : AreLike (hearing x) hub.channels known
   pub idle : hub.turn ≡ turns.Idle
   pub out_text : Brings x no_connections 0 events log out known
-  pub audit_text : audit ≡ audited log
+  pub audit_text : audit ≡ audit_lines log
 
 start_new : (x : Answering) (lawful : IsAnswering x) (a : Holding) (bytes : List ℕ) → x.ready a
     → Progress x new_hub (span a a) bytes (Some bytes) 0 0 [] []
@@ -67,10 +67,10 @@ start x lawful hub a bytes new starts =
 -- the lines that are left, by what the first of them writes down
 opened : {x : Answering} {hub : HubSeen} {k : Span Holding} {bytes : List ℕ} {left : Option (List ℕ)} {lines served : ℕ} {out audit : List ℕ}
     (p : Progress x hub k bytes left lines served out audit) (line : List ℕ) (rest : List (List ℕ)) (written : Option (Option Event)) → parts_left 10 left ≡ line ∷ rest → line_of line ≡ written
-    → served_before p.events (script_step (lines + 1) written (is_open p.known) (script_from rest (lines + 1 + 1))) ≡ script_of bytes
+    → served_before p.events (script_step (lines + 1) written (is_connection_open p.known) (script_from rest (lines + 1 + 1))) ≡ script_of bytes
 opened {x} {hub} {k} {bytes} {left} {lines} p line rest written parts is =
-    ap (λ (o : Option (Option Event)). served_before p.events (script_step (lines + 1) o (is_open p.known) (script_from rest (lines + 1 + 1)))) (sym is)
-    ∙ ap (λ (ls : List (List ℕ)). served_before p.events (script_from ls (lines + 1) (is_open p.known))) (sym parts) ∙ p.script
+    ap (λ (o : Option (Option Event)). served_before p.events (script_step (lines + 1) o (is_connection_open p.known) (script_from rest (lines + 1 + 1)))) (sym is)
+    ∙ ap (λ (ls : List (List ℕ)). served_before p.events (script_from ls (lines + 1) (is_connection_open p.known))) (sym parts) ∙ p.script
 
 -- an empty line is passed over
 pass_over : (x : Answering) (hub new : HubSeen) (a b c : Holding) (bytes : List ℕ) (left after : Option (List ℕ)) (lines served : ℕ) (out audit line : List ℕ)
@@ -95,22 +95,22 @@ served_push events event script = ap (λ (es : List Event). let s : Script = rec
 -- the script by the line of an event that may stand there
 allowed : {x : Answering} {hub : HubSeen} {k : Span Holding} {bytes : List ℕ} {left : Option (List ℕ)} {lines served : ℕ} {out audit : List ℕ}
     (p : Progress x hub k bytes left lines served out audit) (after : Option (List ℕ)) (line : List ℕ) (event : Event)
-    → parts_left 10 left ≡ line ∷ parts_left 10 after → line_of line ≡ Some (Some event) → lapse_of (lines + 1) (is_open p.known) event ≡ None
-    → served_before p.events (with_event event (script_from (parts_left 10 after) (lines + 1 + 1) (opened_by event (is_open p.known)))) ≡ script_of bytes
+    → parts_left 10 left ≡ line ∷ parts_left 10 after → line_of line ≡ Some (Some event) → lapse_of (lines + 1) (is_connection_open p.known) event ≡ None
+    → served_before p.events (with_event event (script_from (parts_left 10 after) (lines + 1 + 1) (opened_by event (is_connection_open p.known)))) ≡ script_of bytes
 allowed {x} {hub} {k} {bytes} {left} {lines} p after line event parts is none =
-    ap (λ (o : Option Lapse). served_before p.events (script_event o event (script_from (parts_left 10 after) (lines + 1 + 1) (opened_by event (is_open p.known))))) (sym none)
+    ap (λ (o : Option Lapse). served_before p.events (script_event o event (script_from (parts_left 10 after) (lines + 1 + 1) (opened_by event (is_connection_open p.known))))) (sym none)
     ∙ opened p line (parts_left 10 after) (Some (Some event)) parts is
 
-pub audited_more : (log mine : List Entry) (served : ℕ) (audit more : List ℕ) → length log ≡ served → audit ≡ audited log → more ≡ audited_from (served + 1) mine → audit ++ more ≡ audited (log ++ mine)
+pub audited_more : (log mine : List LogEntry) (served : ℕ) (audit more : List ℕ) → length log ≡ served → audit ≡ audit_lines log → more ≡ audited_from (served + 1) mine → audit ++ more ≡ audit_lines (log ++ mine)
 audited_more log mine served audit more counted is more_is =
     ap (λ (t : List ℕ). t ++ more) is
-    ∙ ap (λ (t : List ℕ). audited log ++ t) (more_is ∙ ap (λ (n : ℕ). audited_from n mine) (omega (arith, counted)))
+    ∙ ap (λ (t : List ℕ). audit_lines log ++ t) (more_is ∙ ap (λ (n : ℕ). audited_from n mine) (omega (arith, counted)))
     ∙ sym (audited-append 1 log mine)
 
 -- a line's event is served
 serve_one : (x : Answering) (lawful : IsAnswering x) (hub new : HubSeen) (a b c : Holding) (bytes : List ℕ) (left after : Option (List ℕ)) (lines served : ℕ) (brought : Brought) (out audit line o au : List ℕ) (event : Event)
     → (p : Progress x hub (span a b) bytes left lines served out audit)
-    → parts_left 10 left ≡ line ∷ parts_left 10 after → line_of line ≡ Some (Some event) → lapse_of (lines + 1) (is_open p.known) event ≡ None
+    → parts_left 10 left ≡ line ∷ parts_left 10 after → line_of line ≡ Some (Some event) → lapse_of (lines + 1) (is_connection_open p.known) event ≡ None
     → IsEventServed spellings.Quoted x new (span b c) served brought (0 + length p.events) event p.known o au
     → Progress x new (span a c) bytes after (lines + 1) brought.count (out ++ o) (audit ++ au)
 serve_one x lawful hub new a b c bytes left after lines served brought out audit line o au event p parts is none s =
@@ -121,7 +121,7 @@ serve_one x lawful hub new a b c bytes left after lines served brought out audit
       log = p.log ++ s.mine;
       known = later;
       script =
-          served_push p.events event (script_from (parts_left 10 after) (lines + 1 + 1) (is_open later))
+          served_push p.events event (script_from (parts_left 10 after) (lines + 1 + 1) (is_connection_open later))
           ∙ ap (λ (f : ℕ → Bool). served_before p.events (with_event event (script_from (parts_left 10 after) (lines + 1 + 1) f))) (open_after h event s.mine p.known)
           ∙ allowed p after line event parts is none;
       entries = lawful.joined a b c p.log s.mine p.entries s.entries;
@@ -159,7 +159,7 @@ go_on x lawful hub new a b c bytes left after lines served count s out audit lin
     serve_one x lawful hub new a b c bytes left after lines served (record { count = count; closed = one.1 }) out audit line o au event p parts is one.0 one.2
 
 -- what was served of all, whole or in part
-pub heard_by : (early : Bool) (x : Answering) (events unserved all : List Event) (log : List Entry) (out : List ℕ) (known : Connections Ask)
+pub heard_by : (early : Bool) (x : Answering) (events unserved all : List Event) (log : List LogEntry) (out : List ℕ) (known : Connections Ask)
     → Brings x no_connections 0 events log out known → all ≡ events ++ unserved → (early ≡ false → unserved ≡ []) → IsHeardBy early (hearing x) all log
 heard_by false x events unserved all log out known brings parts whole =
     subst (λ (es : List Event). IsHeardBy false (hearing x) es log) (sym (parts ∙ ap (λ (es : List Event). events ++ es) (whole refl) ∙ append-nil events))
@@ -167,7 +167,7 @@ heard_by false x events unserved all log out known brings parts whole =
 heard_by true x events unserved all log out known brings parts whole =
     subst (λ (es : List Event). IsHeardBy true (hearing x) es log) (sym parts) (brings-part x events unserved no_connections known 0 log out brings)
 
-pub is_served_by : (early : Bool) (x : Answering) (a b : Holding) (all : List Event) (log : List Entry) → IsHeardBy early (hearing x) all log → x.entries (span a b) log
+pub is_served_by : (early : Bool) (x : Answering) (a b : Holding) (all : List Event) (log : List LogEntry) → IsHeardBy early (hearing x) all log → x.entries (span a b) log
     → IsServed early x (span a b) all log
 is_served_by early x a b all log heard entries = record {
   subjects = heard;
@@ -215,7 +215,7 @@ refused_other X x n e = absurd cc
 pub early_is_not_whole : {X : Type 0} → true ≡ false → X
 early_is_not_whole is = absurd cc
 
-torn_at : (x : Answering) (served n : ℕ) (event : Event) (known : Connections Ask) (mine : List Entry) (s : Sinks) (o au : List ℕ) (count place : ℕ) → served ≡ count → n ≡ place
+torn_at : (x : Answering) (served n : ℕ) (event : Event) (known : Connections Ask) (mine : List LogEntry) (s : Sinks) (o au : List ℕ) (count place : ℕ) → served ≡ count → n ≡ place
     → IsEntryTorn served mine s o au ⊎ IsClosingTorn x served n event known mine s o au
     → IsEntryTorn count mine s o au ⊎ IsClosingTorn x count place event known mine s o au
 torn_at x served n event known mine s o au count place same at h =
@@ -223,7 +223,7 @@ torn_at x served n event known mine s o au count place same at h =
     (subst (λ (m : ℕ). IsEntryTorn m mine s o au ⊎ IsClosingTorn x m n event known mine s o au) same h)
 
 -- what was torn by a part was torn by the whole
-module _ (x : Answering) (served n : ℕ) (event : Event) (known : Connections Ask) (mine : List Entry) (o au : List ℕ) (all part : Sinks) (within : FailsWithin all part) where
+module _ (x : Answering) (served n : ℕ) (event : Event) (known : Connections Ask) (mine : List LogEntry) (o au : List ℕ) (all part : Sinks) (within : FailsWithin all part) where
   both_within : IsEntryTorn served mine part o au ⊎ IsClosingTorn x served n event known mine part o au → IsEntryTorn served mine all o au ⊎ IsClosingTorn x served n event known mine all o au
   both_within (inl h) = inl (h.0, h.1, faulted_within all part h.0 within h.2)
   both_within (inr h) = inr (record {
@@ -265,7 +265,7 @@ pub puts_torn_failed : (x : Answering) (k : Span Holding) (script : Script) (s :
 puts_torn_failed x k script s out audit h =
     both_failed x (length h.log) (length h.events) h.event h.known h.mine h.out_more h.audit_more s s (record { out = λ rose. rose; audit = λ rose. rose }) h.torn
 
-torn_lines : (x : Answering) (served : ℕ) (cut : Cut) (n : ℕ) (event : Event) (known : Connections Ask) (mine : List Entry) (s : Sinks) (o au : List ℕ) → FaultedAt cut.lost s
+torn_lines : (x : Answering) (served : ℕ) (cut : Cut) (n : ℕ) (event : Event) (known : Connections Ask) (mine : List LogEntry) (s : Sinks) (o au : List ℕ) → FaultedAt cut.lost s
     → (IsLastLost spellings.Quoted cut.lost served mine o au × (cut.count ≡ served + length mine)) ⊎ ((spellings.Quoted ≡ spellings.Quoted) × IsClosingTorn x served n event known mine s o au)
     → IsEntryTorn served mine s o au ⊎ IsClosingTorn x served n event known mine s o au
 torn_lines x served cut n event known mine s o au fault (inl h) = inl (cut.lost, h.0, fault)
@@ -277,11 +277,11 @@ none_before n = omega arith
 -- a put failed
 finish_torn : (x : Answering) (lawful : IsAnswering x) (hub : HubSeen) (a b c : Holding) (bytes : List ℕ) (left after : Option (List ℕ)) (lines served : ℕ) (cut : Cut) (all part : Sinks) (out audit line o au : List ℕ) (event : Event)
     → FailsWithin all part → (p : Progress x hub (span a b) bytes left lines served out audit)
-    → parts_left 10 left ≡ line ∷ parts_left 10 after → line_of line ≡ Some (Some event) → lapse_of (lines + 1) (is_open p.known) event ≡ None
+    → parts_left 10 left ≡ line ∷ parts_left 10 after → line_of line ≡ Some (Some event) → lapse_of (lines + 1) (is_connection_open p.known) event ≡ None
     → IsEventCut spellings.Quoted x (span b c) served cut (0 + length p.events) event p.known part o au
     → PutsTorn x (span a c) (script_of bytes) all (out ++ o) (audit ++ au)
 finish_torn x lawful hub a b c bytes left after lines served cut sinks part out audit line o au event within p parts is none t =
-    let unserved = (script_from (parts_left 10 after) (lines + 1 + 1) (opened_by event (is_open p.known))).events in
+    let unserved = (script_from (parts_left 10 after) (lines + 1 + 1) (opened_by event (is_connection_open p.known))).events in
     let all : (script_of bytes).events ≡ p.events ++ event ∷ unserved = ap (λ (s : Script). s.events) (sym (allowed p after line event parts is none)) in
     record {
       events = p.events;
@@ -323,7 +323,7 @@ stop_at x lawful hub new a b c bytes left after lines served all part out audit 
 stop_at x lawful hub new a b c bytes left after lines served all part out audit line o au within p parts (Some None) is (stops.Refused lapse) h = refused_other _ (stops.Refused lapse) served h.0
 stop_at x lawful hub new a b c bytes left after lines served all part out audit line o au within p parts (Some (Some event)) is (stops.Refused lapse) h =
     finish_refused x hub a b c bytes left lines served all out audit o au lapse p
-    (ap (λ (l : Option Lapse). served_before p.events (script_event l event (script_from (parts_left 10 after) (lines + 1 + 1) (opened_by event (is_open p.known))))) (sym (h.0 p.known p.like))
+    (ap (λ (l : Option Lapse). served_before p.events (script_event l event (script_from (parts_left 10 after) (lines + 1 + 1) (opened_by event (is_connection_open p.known))))) (sym (h.0 p.known p.like))
     ∙ opened p line (parts_left 10 after) (Some (Some event)) parts is)
     h.1 h.2 h.3
 stop_at x lawful hub new a b c bytes left after lines served all part out audit line o au within p parts None is stops.Write h = write_other _ (lapses.NoForm (lines + 1)) h.0

@@ -15,12 +15,12 @@ use Rattle.jac_sittings.specs.declared.sittings.Sitting.{Sitting}
 
 -- what was answered: a request, and whether it closes its connection; what is refused; or that
 -- memory ran out
-abbrev pub Subject : Type 0
-Subject = SubjectOf Ask
+abbrev pub LogSubject : Type 0
+LogSubject = SubjectOf Ask
 
 -- a subject of an event, and its answer
-abbrev pub Entry : Type 0
-Entry = EntryOf Ask Answer
+abbrev pub LogEntry : Type 0
+LogEntry = EntryOf Ask Answer
 
 -- the answer stands for want of memory or a fault of the keeper: its connection ends
 abbrev pub is_failure : Answer → Bool
@@ -47,16 +47,16 @@ pub record Answering : Type 1 where
   -- what was settled for those who looked still is, on what is kept
   pub settled : KeeperSeen → List Sitting → Type 0
   -- the subject has this answer, and what that leaves of what is kept
-  pub entry : Span Holding → Subject → Answer → Type 0
+  pub entry : Span Holding → LogSubject → Answer → Type 0
   -- some subjects were answered one after another, and what that leaves
-  pub entries : Span Holding → List Entry → Type 0
+  pub entries : Span Holding → List LogEntry → Type 0
 
 abbrev pub hearing : Answering → Hearing Ask Answer
 hearing x = hearing_by x.wants x.asks
 
 -- the log has the subjects that the events bring, in order; where it may stop early, the first of
 -- them
-abbrev pub IsHeardBy : Bool → Hearing Ask Answer → List Event → List Entry → Type 0
+abbrev pub IsHeardBy : Bool → Hearing Ask Answer → List Event → List LogEntry → Type 0
 IsHeardBy false h events log = IsHeard h events log
 IsHeardBy true h events log = IsHeardInPart h events log
 
@@ -67,10 +67,10 @@ pub record IsAnswering (x : Answering) : Type 0 where
   pub same_method : (viewer : Option ℕ) (method path query body : List ℕ)
       → (x.asks viewer method path query body).method ≡ method
   pub none : (k : Holding) → x.ready k → x.entries (span k k) []
-  pub one : (a b : Holding) (entry : Entry) → x.entry (span a b) entry.subject entry.answer
+  pub one : (a b : Holding) (entry : LogEntry) → x.entry (span a b) entry.subject entry.answer
       → x.entries (span a b) (entry ∷ [])
-  pub joined : (a b c : Holding) (xs ys : List Entry) → x.entries (span a b) xs
+  pub joined : (a b c : Holding) (xs ys : List LogEntry) → x.entries (span a b) xs
       → x.entries (span b c) ys → x.entries (span a c) (xs ++ ys)
-  pub goes_on : (a b : Holding) (subject : Subject) (answer : Answer)
+  pub goes_on : (a b : Holding) (subject : LogSubject) (answer : Answer)
       → x.entry (span a b) subject answer → x.ready b
   pub wanting : (k : Holding) → x.ready k → x.entry (span k k) broken (refusal 500 None)

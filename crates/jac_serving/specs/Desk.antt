@@ -24,7 +24,8 @@ pub record MayServe {O : Type 0} (answering : O → Answering) (desk : DeskSeen 
   pub settled : (answering desk.of).settled desk.holding.keeper desk.sittings
 
 -- behind a call a desk is whose it was, its store is what it was, and it may serve again
-pub record Keeps {O : Type 0} (answering : O → Answering) (before after : DeskSeen O) : Type 0 where
+pub record KeepsDesk {O : Type 0} (answering : O → Answering)
+    (before after : DeskSeen O) : Type 0 where
   pub same : after.of ≡ before.of
   pub store : after.holding.keeper.store ≡ before.holding.keeper.store
   pub ready : (answering before.of).ready after.holding

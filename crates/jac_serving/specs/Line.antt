@@ -5,7 +5,3 @@ use Rattle.std.specs.List.{slice_split}
 -- the lines, each without its LF; the last may lack one
 abbrev pub lines_of : List ℕ → List (List ℕ)
 lines_of bytes = slice_split (λ b. b == 10) bytes
-
-abbrev pub is_nil : List ℕ → Bool
-is_nil [] = true
-is_nil (b ∷ bytes) = false

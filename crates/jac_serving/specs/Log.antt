@@ -12,44 +12,45 @@ use Rattle.jac_replies.specs.declared.answer.Answer.{Answer}
 use Rattle.jac_replies.specs.declared.answer.Ask.{Ask}
 use Rattle.jac_replies.specs.declared.reply.Spelling.{Spelling}
 use Rattle.jac_replies.specs.declared.reply.Spelling.TheVariants as spellings
-use Rattle.jac_replies.specs.Spelled.{reply_text, spelled, closed_text, audit_text}
-use Rattle.jac_serving.specs.Answering.{Subject, Entry, is_failure, Answering, hearing}
+use Rattle.jac_replies.specs.Spelled.{reply_text, spelled_bytes, closed_text, audit_text}
+use Rattle.jac_serving.specs.Answering.{LogSubject, LogEntry, is_failure, Answering, hearing}
 
 -- the method of a request, whose body isn't sent where it is HEAD
-abbrev pub method_of : Subject → List ℕ
+abbrev pub method_of : LogSubject → List ℕ
 method_of (whole ask closes) = ask.method
 method_of (refused status) = []
 method_of broken = []
 
 -- the reply says that its connection is closed
-abbrev pub closes_behind : Subject → Answer → Bool
+abbrev pub closes_behind : LogSubject → Answer → Bool
 closes_behind (whole ask closes) answer = closes || is_failure answer
 closes_behind (refused status) answer = true
 closes_behind broken answer = true
 
-abbrev pub bytes_of : Subject → Answer → List ℕ
-bytes_of subject answer =
+abbrev pub answer_bytes : LogSubject → Answer → List ℕ
+answer_bytes subject answer =
     reply_bytes answer.status answer.location answer.allow answer.body (is_some answer.shown)
     (bytes_eq (method_of subject) (codes "HEAD")) (closes_behind subject answer)
 
 -- the reply, which on a connection is spelled so
-abbrev pub reply_on : Spelling → Source → Subject → Answer → List ℕ
+abbrev pub reply_on : Spelling → Source → LogSubject → Answer → List ℕ
 reply_on spelling asked subject answer =
     reply_text (method_of subject) answer.status answer.location answer.body
-reply_on spelling (connection c) subject answer = spelled spelling c (bytes_of subject answer)
+reply_on spelling (connection c) subject answer = spelled_bytes spelling c
+    (answer_bytes subject answer)
 
-abbrev pub entry_on : Spelling → Entry → List ℕ
+abbrev pub entry_on : Spelling → LogEntry → List ℕ
 entry_on spelling entry = reply_on spelling entry.source entry.subject entry.answer
 
-abbrev pub replies_on : Spelling → List Entry → List ℕ
+abbrev pub replies_on : Spelling → List LogEntry → List ℕ
 replies_on spelling log = flat_map (entry_on spelling) log
 
 -- the reply in a text
-abbrev pub reply_to : Source → Subject → Answer → List ℕ
+abbrev pub reply_to : Source → LogSubject → Answer → List ℕ
 reply_to source subject answer = reply_on spellings.Quoted source subject answer
 
 -- the lines of the replies, in order
-abbrev pub replies_text : List Entry → List ℕ
+abbrev pub replies_text : List LogEntry → List ℕ
 replies_text log = replies_on spellings.Quoted log
 
 -- `closed N`, where the event's connection was closed in it
@@ -61,35 +62,35 @@ closing_text (Piece c bytes) before after =
 closing_text (Finish c) before after = []
 
 -- the text of an event: the lines of its replies, and that its connection was closed
-abbrev pub event_text : Answering → Event → Connections Ask → List Entry → List ℕ
+abbrev pub event_text : Answering → Event → Connections Ask → List LogEntry → List ℕ
 event_text x event known mine =
     replies_text mine ++ closing_text event known (after_both (hearing x) event mine known)
 
 -- the events, of which the first is the n-th, bring the log, this is their text, and behind them
 -- the connections stand so
-abbrev pub Brings : Answering → Connections Ask → ℕ → List Event → List Entry → List ℕ
+abbrev pub Brings : Answering → Connections Ask → ℕ → List Event → List LogEntry → List ℕ
     → Connections Ask → Type 0
 Brings x known n [] log text later = (log ≡ []) × (text ≡ []) × (later ≡ known)
 Brings x known n (event ∷ events) log text later =
-    (mine : List Entry) × (others : List Entry) × (rest : List ℕ) × (log ≡ mine ++ others)
+    (mine : List LogEntry) × (others : List LogEntry) × (rest : List ℕ) × (log ≡ mine ++ others)
     × (text ≡ event_text x event known mine ++ rest)
     × IsBroughtBy (hearing x) n event known mine
     × Brings x (after_both (hearing x) event mine known) (n + 1) events others rest later
 
-abbrev pub viewer_of : Subject → Option ℕ
-viewer_of (whole ask closes) = ask.viewer
-viewer_of (refused status) = None
-viewer_of broken = None
+abbrev pub viewer_of_subject : LogSubject → Option ℕ
+viewer_of_subject (whole ask closes) = ask.viewer
+viewer_of_subject (refused status) = None
+viewer_of_subject broken = None
 
-abbrev pub audit_line : ℕ → Entry → List ℕ
+abbrev pub audit_line : ℕ → LogEntry → List ℕ
 audit_line k entry =
-    audit_text k entry.answer.status (viewer_of entry.subject) entry.answer.shown
+    audit_text k entry.answer.status (viewer_of_subject entry.subject) entry.answer.shown
     entry.answer.consulted
 
-abbrev pub audited_from : ℕ → List Entry → List ℕ
+abbrev pub audited_from : ℕ → List LogEntry → List ℕ
 audited_from k [] = []
 audited_from k (entry ∷ log) = audit_line k entry ++ audited_from (k + 1) log
 
 -- the audit's lines, in order; replies are counted from 1
-abbrev pub audited : List Entry → List ℕ
-audited log = audited_from 1 log
+abbrev pub audit_lines : List LogEntry → List ℕ
+audit_lines log = audited_from 1 log

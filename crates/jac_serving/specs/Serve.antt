@@ -24,7 +24,7 @@ use Rattle.jac_replies.specs.declared.reply.Spelling.{Spelling}
 use Rattle.jac_replies.specs.declared.reply.Spelling.TheVariants as spellings
 use Rattle.jac_replies.specs.Failed.{status_of_stop}
 use Rattle.jac_replies.specs.Refused.{refusal}
-use Rattle.jac_replies.specs.Spelled.{reply_text, spelled, closed_text, audit_rest, audit_text}
+use Rattle.jac_replies.specs.Spelled.{reply_text, spelled_bytes, closed_text, audit_rest, audit_text}
 use Rattle.jac_serving.specs.declared.desk.Asked.{Asked}
 use Rattle.jac_serving.specs.declared.desk.Asked.TheVariants.{Answered, Unanswered}
 use Rattle.jac_serving.specs.declared.given.Brought.{Brought}
@@ -35,9 +35,9 @@ use Rattle.jac_serving.specs.declared.serve.Lapse.{Lapse}
 use Rattle.jac_serving.specs.declared.serve.Lapse.TheVariants as lapses
 use Rattle.jac_serving.specs.declared.serve.Stopped.{Stopped}
 use Rattle.jac_serving.specs.declared.serve.Stopped.TheVariants as stops
-use Rattle.jac_serving.specs.Answering.{Subject, Entry, is_failure, Answering, hearing, IsHeardBy}
+use Rattle.jac_serving.specs.Answering.{LogSubject, LogEntry, is_failure, Answering, hearing, IsHeardBy}
 use Rattle.jac_serving.specs.Keeping.{Holding, IsStill}
-use Rattle.jac_serving.specs.Log.{Brings, reply_on, reply_to, entry_on, replies_on, replies_text, closing_text, viewer_of, audit_line, audited, audited_from}
+use Rattle.jac_serving.specs.Log.{Brings, reply_on, reply_to, entry_on, replies_on, replies_text, closing_text, viewer_of_subject, audit_line, audit_lines, audited_from}
 use Rattle.jac_serving.specs.Outside.{Span, span, Sinks, IsFront, HasFaulted, IsLostOn, FaultedAt, IsLostAt}
 use Rattle.jac_serving.specs.Script.{Script, script_of, lapse_of}
 
@@ -61,7 +61,7 @@ abbrev pub asked_audit : ℕ → Asked → List ℕ
 asked_audit k (Answered reply audit) = decimal k ++ audit
 asked_audit k (Unanswered stop viewer) = audit_text k (status_of_stop stop) viewer None None
 
-abbrev pub subject_of : Answering → Heard → Subject
+abbrev pub subject_of : Answering → Heard → LogSubject
 subject_of x (Whole request) = whole (x.wants request) request.close
 subject_of x (Refused status) = refused status
 
@@ -69,7 +69,7 @@ subject_of x (Refused status) = refused status
 abbrev pub sent_on : Spelling → ℕ → Sent → List ℕ
 sent_on spelling c (Made line audit close) = line
 sent_on spelling c (Still status head viewer) =
-    spelled spelling c (reply_bytes (status_of_fixed status) None None [] false head true)
+    spelled_bytes spelling c (reply_bytes (status_of_fixed status) None None [] false head true)
 
 -- the audit's line for it, of the k-th reply
 abbrev pub sent_audit : ℕ → Sent → List ℕ
@@ -81,12 +81,12 @@ pub record IsHandled (spelling : Spelling) (x : Answering) (before : Holding) (c
     (heard : Heard) (sent : Sent) (after : Holding) (answer : Answer) : Type 0 where
   pub line : sent_on spelling c sent ≡ reply_on spelling (connection c) (subject_of x heard) answer
   pub audit : (k : ℕ) → sent_audit k sent ≡ audit_text k answer.status
-      (viewer_of (subject_of x heard)) answer.shown answer.consulted
+      (viewer_of_subject (subject_of x heard)) answer.shown answer.consulted
   pub closing : sent_closes sent ≡ is_failure answer
   pub entry : x.entry (span before after) (subject_of x heard) answer
 
-abbrev pub handled : Spelling → Answering → Holding → ℕ → Heard → Sent → Holding → Type 0
-handled spelling x before c heard sent after = (answer : Answer)
+abbrev pub Handles : Spelling → Answering → Holding → ℕ → Heard → Sent → Holding → Type 0
+Handles spelling x before c heard sent after = (answer : Answer)
     × IsHandled spelling x before c heard sent after answer
 
 -- that a connection was closed is told in a text alone
@@ -154,14 +154,14 @@ pub record ArePutOut (spelling : Spelling) (served : ℕ) (brought : Brought) (o
 pub record PutsSoFar (spelling : Spelling) (x : Answering) (hub now : HubSeen) (k : Span Holding)
     (served : ℕ) (so_far : Brought) (out audit : List ℕ) : Type 0 where
   pub outs : List HubOut
-  pub given : IsGiven IsTaken (handled spelling x) hub outs now k.before k.after
+  pub given : IsGiven IsTaken (Handles spelling x) hub outs now k.before k.after
   pub put : ArePutOut spelling served so_far outs out audit
 
 -- all that a hub gave was put
 pub record PutsAll (spelling : Spelling) (x : Answering) (hub new : HubSeen) (k : Span Holding)
     (served : ℕ) (brought : Brought) (out audit : List ℕ) : Type 0 where
   pub outs : List HubOut
-  pub emptied : IsEmptied IsTaken (handled spelling x) hub outs new k.before k.after
+  pub emptied : IsEmptied IsTaken (Handles spelling x) hub outs new k.before k.after
   pub put : ArePutOut spelling served brought outs out audit
 
 -- some of what a hub gave was put, and then one was lost, behind which it was asked for nothing
@@ -172,7 +172,7 @@ pub record PutsSome (spelling : Spelling) (x : Answering) (hub : HubSeen) (k : S
   pub left : HubSeen
   pub out_torn : List ℕ
   pub audit_torn : List ℕ
-  pub given : IsGiven IsTaken (handled spelling x) hub (outs ++ last ∷ []) left k.before k.after
+  pub given : IsGiven IsTaken (Handles spelling x) hub (outs ++ last ∷ []) left k.before k.after
   pub torn : IsOutLost spelling cut.count cut.lost last s out_torn audit_torn
   pub count_is : cut.count ≡ served + replies_in outs + 1
   pub out_text : out ≡ outs_on spelling outs ++ out_torn
@@ -201,8 +201,8 @@ TakesEvent line hub event (Err stops.Memory) new = ⊤
 TakesEvent line hub event (Err stops.Write) new = ⊥
 
 -- the connections that have begun
-abbrev pub is_open : Connections Ask → ℕ → Bool
-is_open known c = is_some (known c)
+abbrev pub is_connection_open : Connections Ask → ℕ → Bool
+is_connection_open known c = is_some (known c)
 
 -- the connections of a hub between two events
 pub record IsFollowing (x : Answering) (hub : HubSeen) : Type 0 where
@@ -213,7 +213,7 @@ pub record IsFollowing (x : Answering) (hub : HubSeen) : Type 0 where
 pub record IsEventServed (spelling : Spelling) (x : Answering) (new : HubSeen) (k : Span Holding)
     (served : ℕ) (brought : Brought) (n : ℕ) (event : Event)
     (known : Connections Ask) (out audit : List ℕ) : Type 0 where
-  pub mine : List Entry
+  pub mine : List LogEntry
   pub brought_by : IsBroughtBy (hearing x) n event known mine
   pub entries : x.entries k mine
   pub count_is : brought.count ≡ served + length mine
@@ -226,10 +226,10 @@ pub record IsEventServed (spelling : Spelling) (x : Answering) (new : HubSeen) (
   pub audit_text : audit ≡ audited_from (served + 1) mine
 
 -- all was put before the last of these entries, whose reply was lost
-pub record IsLastLost (spelling : Spelling) (lost : Lost) (first : ℕ) (log : List Entry)
+pub record IsLastLost (spelling : Spelling) (lost : Lost) (first : ℕ) (log : List LogEntry)
     (out audit : List ℕ) : Type 0 where
-  pub whole_ones : List Entry
-  pub entry : Entry
+  pub whole_ones : List LogEntry
+  pub entry : LogEntry
   pub out_torn : List ℕ
   pub audit_torn : List ℕ
   pub parts : log ≡ whole_ones ++ entry ∷ []
@@ -240,14 +240,14 @@ pub record IsLastLost (spelling : Spelling) (lost : Lost) (first : ℕ) (log : L
 
 -- the lines of the last of these entries were torn: the audit's line, where the audit failed; or it
 -- was whole and the reply was torn, where the sink of replies failed
-abbrev pub IsEntryTorn : ℕ → List Entry → Sinks → List ℕ → List ℕ → Type 0
+abbrev pub IsEntryTorn : ℕ → List LogEntry → Sinks → List ℕ → List ℕ → Type 0
 IsEntryTorn served mine s out audit = (lost : Lost)
     × IsLastLost spellings.Quoted lost served mine out audit × FaultedAt lost s
 
 -- the line was torn that tells that a connection was closed, where the event has one, and the sink
 -- of replies failed
 pub record IsClosingTorn (x : Answering) (served n : ℕ) (event : Event) (known : Connections Ask)
-    (mine : List Entry) (s : Sinks) (out audit : List ℕ) : Type 0 where
+    (mine : List LogEntry) (s : Sinks) (out audit : List ℕ) : Type 0 where
   pub out_torn : List ℕ
   pub fault : HasFaulted s.out
   pub some : ¬ (closing_text event known (after_both (hearing x) event mine known) ≡ [])
@@ -261,7 +261,7 @@ pub record IsClosingTorn (x : Answering) (served n : ℕ) (event : Event) (known
 pub record IsEventCut (spelling : Spelling) (x : Answering) (k : Span Holding) (served : ℕ)
     (cut : Cut) (n : ℕ) (event : Event)
     (known : Connections Ask) (s : Sinks) (out audit : List ℕ) : Type 0 where
-  pub mine : List Entry
+  pub mine : List LogEntry
   pub begun : IsBegunBy (hearing x) n event known mine
   pub entries : x.entries k mine
   pub fault : FaultedAt cut.lost s
@@ -274,18 +274,18 @@ abbrev pub AnswersEvent : Answering → HubSeen → HubSeen → Span Holding →
     → Result ℕ Stopped → Sinks → List ℕ → List ℕ → Type 0
 AnswersEvent x hub new k served line event (Ok count) s out audit =
     (n : ℕ) (known : Connections Ask) → AreLike (hearing x) hub.channels known
-    → (lapse_of line (is_open known) event ≡ None) × (closed : Bool)
+    → (lapse_of line (is_connection_open known) event ≡ None) × (closed : Bool)
     × IsEventServed spellings.Quoted x new k served (record { count = count; closed = closed }) n
     event known out audit
 AnswersEvent x hub new k served line event (Err (stops.Refused lapse)) s out audit =
     ((known : Connections Ask) → AreLike (hearing x) hub.channels known
-    → lapse_of line (is_open known) event ≡ Some lapse)
+    → lapse_of line (is_connection_open known) event ≡ Some lapse)
     × (out ≡ []) × (audit ≡ []) × IsStill k
 AnswersEvent x hub new k served line event (Err stops.Memory) s out audit =
     (out ≡ []) × (audit ≡ []) × IsStill k
 AnswersEvent x hub new k served line event (Err stops.Write) s out audit =
     (n : ℕ) (known : Connections Ask) → AreLike (hearing x) hub.channels known
-    → (lapse_of line (is_open known) event ≡ None) × (cut : Cut)
+    → (lapse_of line (is_connection_open known) event ≡ None) × (cut : Cut)
     × IsEventCut spellings.Quoted x k served cut n event known s out audit
 
 -- a line by what it writes down: nothing, an event, or it has no form
@@ -303,7 +303,7 @@ AnswersLine x hub new k served line (Some (Some event)) result s out audit =
 -- these events were served, or, where it may stop early, the first of them: the log has what they
 -- bring, and its entries were answered
 pub record IsServed (early : Bool) (x : Answering) (k : Span Holding) (events : List Event)
-    (log : List Entry) : Type 0 where
+    (log : List LogEntry) : Type 0 where
   pub subjects : IsHeardBy early (hearing x) events log
   pub entries : x.entries k log
 
@@ -312,13 +312,13 @@ pub record PutsServed (early : Bool) (x : Answering) (k : Span Holding) (script 
     (out audit : List ℕ) : Type 0 where
   pub events : List Event
   pub unserved : List Event
-  pub log : List Entry
+  pub log : List LogEntry
   pub later : Connections Ask
   pub parts : script.events ≡ events ++ unserved
   pub ended : early ≡ false → unserved ≡ []
   pub served : IsServed early x k script.events log
   pub out_text : Brings x no_connections 0 events log out later
-  pub audit_text : audit ≡ audited log
+  pub audit_text : audit ≡ audit_lines log
 
 -- the first events were served, and the lines of the one behind them were torn
 pub record PutsTorn (x : Answering) (k : Span Holding) (script : Script) (s : Sinks)
@@ -326,8 +326,8 @@ pub record PutsTorn (x : Answering) (k : Span Holding) (script : Script) (s : Si
   pub events : List Event
   pub event : Event
   pub unserved : List Event
-  pub log : List Entry
-  pub mine : List Entry
+  pub log : List LogEntry
+  pub mine : List LogEntry
   pub known : Connections Ask
   pub text : List ℕ
   pub out_more : List ℕ
@@ -339,7 +339,7 @@ pub record PutsTorn (x : Answering) (k : Span Holding) (script : Script) (s : Si
   pub torn : IsEntryTorn (length log) mine s out_more audit_more
       ⊎ IsClosingTorn x (length log) (length events) event known mine s out_more audit_more
   pub out_text : out ≡ text ++ out_more
-  pub audit_text : audit ≡ audited log ++ audit_more
+  pub audit_text : audit ≡ audit_lines log ++ audit_more
 
 -- how serving the events of a file ends
 abbrev pub ServesAs : Answering → Span Holding → List ℕ → Result (Unit {0}) Stopped → Sinks

@@ -1,10 +1,10 @@
 ghost use Rattle.std.specs.Prelude.{◌≡◌, ◌<◌, ℕ, Option, List, None, IfSome};
 ghost use Rattle.jac_http.specs.Requests.{IsTaken};
-ghost use Rattle.jac_hub.specs.Hub.{seen as hub_seen, Nexts, left};
+ghost use Rattle.jac_hub.specs.Hub.{hub_seen, Nexts, puts_left};
 ghost use Rattle.jac_hub.specs.declared.hub.Turn.TheVariants.{Idle};
 ghost use Rattle.jac_serving.specs.Answering.{Answering, IsAnswering};
-ghost use Rattle.jac_serving.specs.Desk.{DeskSeen, MayServe, Keeps, kept};
-ghost use Rattle.jac_serving.specs.Serve.{IsAsked, handled};
+ghost use Rattle.jac_serving.specs.Desk.{DeskSeen, MayServe, KeepsDesk, kept};
+ghost use Rattle.jac_serving.specs.Serve.{IsAsked, Handles};
 
 use jac_hub::{Hub, HubOut};
 use jac_keep::Stop;
@@ -36,12 +36,13 @@ pub trait Desk {
     /// The next thing that a hub gives, whose replies are spelled so.
     fn next_out(&mut self, spelling: Spelling, hub: &mut Hub) -> Option<HubOut>
         requires { MayServe answering (seen self.old) }
-        ensures next { Nexts IsTaken (handled spelling (answering (seen self.old).of))
+        ensures next { Nexts IsTaken (Handles spelling (answering (seen self.old).of))
             (hub_seen hub.old) (hub_seen hub.old).turn result (hub_seen hub.new)
             (seen self.old).holding (seen self.new).holding }
         ensures idle { result ≡ None → (hub_seen hub.new).turn ≡ Idle }
-        ensures nearer { IfSome result (λ out. left (hub_seen hub.new) < left (hub_seen hub.old)) }
-        ensures keeps { Keeps answering (seen self.old) (seen self.new) };
+        ensures nearer { IfSome result (λ out. puts_left (hub_seen hub.new) < puts_left
+            (hub_seen hub.old)) }
+        ensures keeps { KeepsDesk answering (seen self.old) (seen self.new) };
 
     /// Answers the request of an `ask` line.
     fn ask(
@@ -56,7 +57,7 @@ pub trait Desk {
         ensures asked { IsAsked (answering (seen self.old).of)
             (kept (seen self.old) (seen self.new)) ((answering (seen self.old).of).asks viewer
             method.now path.now query.now body.now) result }
-        ensures keeps { Keeps answering (seen self.old) (seen self.new) };
+        ensures keeps { KeepsDesk answering (seen self.old) (seen self.new) };
 
     /// A law: what serves a desk may rest on how its application answers.
     fn lawful(&self)

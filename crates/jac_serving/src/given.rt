@@ -1,7 +1,7 @@
 //! What a hub gives is told, one after another: the audit's line first, and then the reply.
 ghost use Rattle.std.specs.Prelude.{◌≡◌, ◌≤◌, ◌<◌, ◌+◌, ◌-◌, ◌^◌, IfOk};
-ghost use Rattle.jac_hub.specs.Hub.{seen, left};
-ghost use Rattle.jac_serving.specs.Desk.{MayServe, Keeps, kept};
+ghost use Rattle.jac_hub.specs.Hub.{hub_seen, puts_left};
+ghost use Rattle.jac_serving.specs.Desk.{MayServe, KeepsDesk, kept};
 ghost use Rattle.jac_serving.specs.Outside.{IsPut, PutBoth, WentWith, sinks, span};
 ghost use Rattle.jac_serving.specs.Serve.{sent_on, sent_audit, PutsOut, PutsOuts};
 ghost use Rattle.jac_serving.specs.Teller.{KeepsRest};
@@ -136,15 +136,15 @@ pub fn put_given<D: Desk, T: Teller, U: AuditSink>(
     teller: &mut T,
     audit: &mut U,
 ) -> Result<Brought, Cut>
-    requires few { served + left (seen hub.old) < 2 ^ 64 - 1 }
+    requires few { served + puts_left (hub_seen hub.old) < 2 ^ 64 - 1 }
     requires desk { MayServe D.answering (D.seen desk.old) }
     ensures put { WentWith (sinks (T.seen teller.old).sink (T.seen teller.new).sink
         (U.seen audit.old) (U.seen audit.new))
-        (PutsOuts T.spells (D.answering (D.seen desk.old).of) (seen hub.old) (seen hub.new)
+        (PutsOuts T.spells (D.answering (D.seen desk.old).of) (hub_seen hub.old) (hub_seen hub.new)
         (kept (D.seen desk.old) (D.seen desk.new)) served result) }
     ensures stays { KeepsRest (T.seen teller.old) (T.seen teller.new) }
-    ensures count { IfOk result (λ brought. brought.count ≤ served + left (seen hub.old)) }
-    ensures keeps { Keeps D.answering (D.seen desk.old) (D.seen desk.new) }
+    ensures count { IfOk result (λ brought. brought.count ≤ served + puts_left (hub_seen hub.old)) }
+    ensures keeps { KeepsDesk D.answering (D.seen desk.old) (D.seen desk.new) }
 {
     let spelling = teller.spelling();
     let mut so_far = Brought {

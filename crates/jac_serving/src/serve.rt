@@ -1,9 +1,9 @@
 //! The events of a text are served, line by line.
 ghost use Rattle.std.specs.Prelude.{◌≡◌, ◌≤◌, ◌<◌, ◌+◌, ◌^◌, IfOk, length};
 ghost use Rattle.jac_events.specs.Lines.{line_of};
-ghost use Rattle.jac_hub.specs.Hub.{seen, IsOfConnection};
+ghost use Rattle.jac_hub.specs.Hub.{hub_seen, IsOfConnection};
 ghost use Rattle.jac_hub.specs.declared.hub.Turn.TheVariants.{Idle};
-ghost use Rattle.jac_serving.specs.Desk.{MayServe, Keeps, kept};
+ghost use Rattle.jac_serving.specs.Desk.{MayServe, KeepsDesk, kept};
 ghost use Rattle.jac_serving.specs.Outside.{WentWith, sinks, span};
 ghost use Rattle.jac_serving.specs.Serve.{IsFollowing, TakesEvent, AnswersEvent, AnswersLine, ServesAs};
 
@@ -38,9 +38,9 @@ pub enum Stopped {
 
 // Has a hub take the event of a connection, which stands on this line.
 fn take_event(alloc: Global, hub: &mut Hub, line: u64, event: &Event) -> Result<(), Stopped>
-    requires idle { (seen hub.old).turn ≡ Idle }
+    requires idle { (hub_seen hub.old).turn ≡ Idle }
     requires connection { IsOfConnection event.now }
-    ensures { TakesEvent line (seen hub.old) event.now result (seen hub.new) }
+    ensures { TakesEvent line (hub_seen hub.old) event.now result (hub_seen hub.new) }
 {
     match hub.step(alloc, event) {
         Ok(()) => Ok(()),
@@ -66,16 +66,16 @@ fn serve_connection<D: Desk, O: Sink, U: AuditSink>(
     audit: &mut U,
 ) -> Result<u64, Stopped>
     requires few { served < 2 ^ 63 }
-    requires idle { (seen hub.old).turn ≡ Idle }
-    requires following { IsFollowing (D.answering (D.seen desk.old).of) (seen hub.old) }
+    requires idle { (hub_seen hub.old).turn ≡ Idle }
+    requires following { IsFollowing (D.answering (D.seen desk.old).of) (hub_seen hub.old) }
     requires connection { IsOfConnection event.now }
     requires desk { MayServe D.answering (D.seen desk.old) }
     ensures answered { WentWith (sinks (O.seen out.old) (O.seen out.new) (U.seen audit.old)
         (U.seen audit.new))
-        (AnswersEvent (D.answering (D.seen desk.old).of) (seen hub.old) (seen hub.new)
+        (AnswersEvent (D.answering (D.seen desk.old).of) (hub_seen hub.old) (hub_seen hub.new)
         (kept (D.seen desk.old) (D.seen desk.new)) served line event.now result) }
     ensures count { IfOk result (λ count. count ≤ served + 2 ^ 26) }
-    ensures keeps { Keeps D.answering (D.seen desk.old) (D.seen desk.new) }
+    ensures keeps { KeepsDesk D.answering (D.seen desk.old) (D.seen desk.new) }
 {
     requests_are_read();
     desk.lawful();
@@ -99,15 +99,15 @@ fn serve_event<D: Desk, O: Sink, U: AuditSink>(
     audit: &mut U,
 ) -> Result<u64, Stopped>
     requires few { served < 2 ^ 63 }
-    requires idle { (seen hub.old).turn ≡ Idle }
-    requires following { IsFollowing (D.answering (D.seen desk.old).of) (seen hub.old) }
+    requires idle { (hub_seen hub.old).turn ≡ Idle }
+    requires following { IsFollowing (D.answering (D.seen desk.old).of) (hub_seen hub.old) }
     requires desk { MayServe D.answering (D.seen desk.old) }
     ensures answered { WentWith (sinks (O.seen out.old) (O.seen out.new) (U.seen audit.old)
         (U.seen audit.new))
-        (AnswersEvent (D.answering (D.seen desk.old).of) (seen hub.old) (seen hub.new)
+        (AnswersEvent (D.answering (D.seen desk.old).of) (hub_seen hub.old) (hub_seen hub.new)
         (kept (D.seen desk.old) (D.seen desk.new)) served line event.now result) }
     ensures count { IfOk result (λ count. count ≤ served + 2 ^ 26) }
-    ensures keeps { Keeps D.answering (D.seen desk.old) (D.seen desk.new) }
+    ensures keeps { KeepsDesk D.answering (D.seen desk.old) (D.seen desk.new) }
 {
     desk.lawful();
     match event {
@@ -139,15 +139,15 @@ fn serve_line<D: Desk, O: Sink, U: AuditSink>(
     audit: &mut U,
 ) -> Result<u64, Stopped>
     requires few { served < 2 ^ 63 }
-    requires idle { (seen hub.old).turn ≡ Idle }
-    requires following { IsFollowing (D.answering (D.seen desk.old).of) (seen hub.old) }
+    requires idle { (hub_seen hub.old).turn ≡ Idle }
+    requires following { IsFollowing (D.answering (D.seen desk.old).of) (hub_seen hub.old) }
     requires desk { MayServe D.answering (D.seen desk.old) }
     ensures answered { WentWith (sinks (O.seen out.old) (O.seen out.new) (U.seen audit.old)
         (U.seen audit.new))
-        (AnswersLine (D.answering (D.seen desk.old).of) (seen hub.old) (seen hub.new)
+        (AnswersLine (D.answering (D.seen desk.old).of) (hub_seen hub.old) (hub_seen hub.new)
         (kept (D.seen desk.old) (D.seen desk.new)) served number (line_of line.now) result) }
     ensures count { IfOk result (λ count. count ≤ served + 2 ^ 26) }
-    ensures keeps { Keeps D.answering (D.seen desk.old) (D.seen desk.new) }
+    ensures keeps { KeepsDesk D.answering (D.seen desk.old) (D.seen desk.new) }
 {
     match read_line(desk.alloc(), line) {
         Ok(Some(event)) => serve_event(desk, served, number, &event, hub, out, audit),
@@ -170,7 +170,7 @@ pub fn serve_events<D: Desk, O: Sink, U: AuditSink>(
         (U.seen audit.new))
         (ServesAs (D.answering (D.seen desk.old).of) (kept (D.seen desk.old) (D.seen desk.new))
         bytes.now result) }
-    ensures keeps { Keeps D.answering (D.seen desk.old) (D.seen desk.new) }
+    ensures keeps { KeepsDesk D.answering (D.seen desk.old) (D.seen desk.new) }
 {
     desk.lawful();
     let mut hub = Hub::new(desk.alloc());

@@ -1,7 +1,7 @@
 //! Where what a hub gives is told: in a text, or on a link.
 ghost use Rattle.std.specs.Prelude.{◌≡◌, true, false, None, [], OnErr};
 ghost use Rattle.jac_http.specs.Replies.{reply_bytes, status_of_fixed};
-ghost use Rattle.jac_replies.specs.Spelled.{spelled};
+ghost use Rattle.jac_replies.specs.Spelled.{spelled_bytes};
 ghost use Rattle.jac_replies.specs.declared.reply.Spelling.{Spelling as Spells};
 ghost use Rattle.jac_replies.specs.declared.reply.Spelling.TheVariants as spellings;
 ghost use Rattle.jac_serving.specs.Outside.{IsPut, span};
@@ -37,7 +37,8 @@ pub trait Teller {
 
     /// Tells a reply that is made without memory.
     fn still(&mut self, conn: u32, status: Fixed, head: bool) -> Result<(), Failed>
-        ensures put { IsPut (span (seen self.old).sink (seen self.new).sink) (spelled spells conn
+        ensures put { IsPut (span (seen self.old).sink (seen self.new).sink)
+            (spelled_bytes spells conn
             (reply_bytes (status_of_fixed status) None None [] false head true)) result }
         ensures stays { KeepsRest (seen self.old) (seen self.new) };
 

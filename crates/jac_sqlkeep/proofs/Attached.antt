@@ -4,14 +4,14 @@ use Rattle.jac_value.specs.declared.value.Kind.{Kind}
 use Rattle.jac_rows.specs.Good.{ModelShape}
 use Rattle.jac_rows.specs.declared.state.State.{State}
 use Rattle.jac_keep.specs.Attaching.{Attaches}
-use Rattle.jac_keep.specs.Kept.{applied}
-use Rattle.jac_keep.specs.Reshaping.{widened, Reshapes}
+use Rattle.jac_keep.specs.Kept.{changed_state}
+use Rattle.jac_keep.specs.Reshaping.{widened_state, Reshapes}
 use Rattle.jac_keep.specs.Schema.{IsSchema, IsFit, shapes_by}
 use Rattle.jac_keep.specs.declared.alteration.Change.{Change}
 use Rattle.jac_keep.specs.declared.vault.AttachFault.{AttachFault}
 use Rattle.jac_keep.proofs.SchemaLaws.{schema_one, length_shapes}
 use Rattle.jac_sqlkeep.specs.Based.{Based, ReshapesBased}
-use Rattle.jac_sqlkeep.specs.Kept.{Kept, seen_kept, tells_of, state_of}
+use Rattle.jac_sqlkeep.specs.Kept.{Kept, seen_kept, tells_of, based_state}
 
 -- before it was called it told nothing
 untold : (database : Option Based) (called : Bool) → (IsTrue (is_some database) → IsTrue called) → called ≡ false → tells_of database ≡ false
@@ -25,8 +25,8 @@ module _ (old new : Kept) (name : Option (List ℕ)) (schema : List ℕ) (kinds 
   attached_now known first called attached named stored later base is fits =
       let before : tells_of old.database ≡ false = untold old.database old.store.called known first in
       let shapes : List ModelShape = shapes_by kinds nested in
-      let state : IsTrue (tells_of new.database) → IsFit shapes (state_of new.database) = λ told.
-      subst (λ (o : Option Based). IsFit shapes (state_of o)) (sym base) (fits (sym (ap tells_of base) ∙ told)) in
+      let state : IsTrue (tells_of new.database) → IsFit shapes (based_state new.database) = λ told.
+      subst (λ (o : Option Based). IsFit shapes (based_state o)) (sym base) (fits (sym (ap tells_of base) ∙ told)) in
       record {
         later = later;
         called = called;
@@ -34,7 +34,7 @@ module _ (old new : Kept) (name : Option (List ℕ)) (schema : List ℕ) (kinds 
           attached = attached;
           named = named;
           stored = stored;
-          fit = λ told others also. subst (λ ks. IsFit ks (state_of new.database)) (schema_one schema shapes others is also) (state told);
+          fit = λ told others also. subst (λ ks. IsFit ks (based_state new.database)) (schema_one schema shapes others is also) (state told);
           known = λ told then. absurd (true≢false (sym then ∙ before));
           kept = λ told then. absurd (true≢false (sym then ∙ before));
           made = λ told then. absurd (true≢false (sym then ∙ before));
@@ -49,12 +49,12 @@ module _ (old new : Kept) (name : Option (List ℕ)) (schema : List ℕ) (kinds 
 -- ---- a keeper that is brought to another schema
 
 pub brought_fit : (k : Kept) (d : Based) (schema : List ℕ) (shapes : List ModelShape) (kinds : List (List Kind)) (nested : List Bool) (change : Change) → k.database ≡ Some d → IsSchema schema shapes → IsSchema schema (shapes_by kinds nested)
-    → (IsTrue (seen_kept k).tells → IsFit shapes (widened (length shapes) (applied change (seen_kept k).state))) → IsTrue d.tells → IsFit (shapes_by kinds nested) (widened (length kinds) (applied change d.state))
+    → (IsTrue (seen_kept k).tells → IsFit shapes (widened_state (length shapes) (changed_state change (seen_kept k).state))) → IsTrue d.tells → IsFit (shapes_by kinds nested) (widened_state (length kinds) (changed_state change d.state))
 brought_fit k d schema shapes kinds nested change base is also fits told =
     let same : shapes ≡ shapes_by kinds nested = schema_one schema shapes (shapes_by kinds nested) is also in
-    let s = applied change d.state in
-    let fit : IsFit shapes (widened (length shapes) s) = subst (λ (o : Option Based). IsFit shapes (widened (length shapes) (applied change (state_of o)))) base (fits (ap tells_of base ∙ told)) in
-    subst (λ n. IsFit (shapes_by kinds nested) (widened n s)) (length_shapes kinds nested) (subst (λ ks. IsFit ks (widened (length ks) s)) same fit)
+    let s = changed_state change d.state in
+    let fit : IsFit shapes (widened_state (length shapes) s) = subst (λ (o : Option Based). IsFit shapes (widened_state (length shapes) (changed_state change (based_state o)))) base (fits (ap tells_of base ∙ told)) in
+    subst (λ n. IsFit (shapes_by kinds nested) (widened_state n s)) (length_shapes kinds nested) (subst (λ ks. IsFit ks (widened_state (length ks) s)) same fit)
 
 module _ (called : Bool) (before name : Option (List ℕ)) (faults : ℕ) (refused database : Option Based) where
   -- what such a keeper was
@@ -76,7 +76,7 @@ module _ (called : Bool) (before name : Option (List ℕ)) (faults : ℕ) (refus
           state = λ told shapes also.
               let same : shapes_by kinds nested ≡ shapes = schema_one schema (shapes_by kinds nested) shapes is also in
               let long : length kinds ≡ length shapes = sym (length_shapes kinds nested) ∙ ap length same in
-              reshapes.exact told ∙ ap (λ n. widened n (applied change d.state)) long ∙ ap (λ (o : Option Based). widened (length shapes) (applied change (state_of o))) (sym base);
+              reshapes.exact told ∙ ap (λ n. widened_state n (changed_state change d.state)) long ∙ ap (λ (o : Option Based). widened_state (length shapes) (changed_state change (based_state o))) (sym base);
         };
         err = tt;
       })

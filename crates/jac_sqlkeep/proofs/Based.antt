@@ -12,61 +12,61 @@ use Rattle.jac_rows.specs.Tables.{rows_of}
 use Rattle.jac_rows.specs.declared.row.Row.{Row}
 use Rattle.jac_rows.specs.declared.state.State.{State}
 use Rattle.jac_keep.specs.declared.alteration.Change.{Change}
-use Rattle.jac_keep.specs.Kept.{applied}
+use Rattle.jac_keep.specs.Kept.{changed_state}
 use Rattle.jac_keep.specs.Records.{alternatives}
 use Rattle.jac_keep.specs.Holding.{holders}
 use Rattle.jac_lines.specs.Facts.{Fact}
-use Rattle.jac_keep.specs.Reshaping.{widened}
+use Rattle.jac_keep.specs.Reshaping.{widened_state}
 use Rattle.jac_keep.specs.Schema.{IsFit, shapes_by}
 use Rattle.jac_keep.proofs.SchemaLaws.{length_shapes, empties_fit}
 use Rattle.jac_lines.specs.Told.{told, tables_in, schema_in}
 use Rattle.jac_lines.specs.Statements.{statements_with}
-use Rattle.jac_lines.specs.Telling.{empty_state, IsKept, ReadsTold, AppliesTold, ReshapesTold, CanBeStored}
-use Rattle.jac_lines.specs.Transaction.{Transacts, Ends}
+use Rattle.jac_lines.specs.Telling.{empty_state, IsAllCommitted, ReadsTold, AppliesTold, ReshapesTold, CanBeStored}
+use Rattle.jac_lines.specs.Transaction.{Transacts, EndsCommitted}
 use Rattle.jac_lines.proofs.Kept.{reshape_told}
-use Rattle.jac_sqlkeep.specs.Based.{Based, based, ReadsBased, AppliesBased, ReshapesBased, OpensBased}
+use Rattle.jac_sqlkeep.specs.Based.{Based, based_keeper, ReadsBased, AppliesBased, ReshapesBased, OpensBased}
 
 never : {A : Type 0} → IsTrue false → A
 never t = absurd (true≢false (sym t))
 
 module _ {S : Type 0} (g : Ghosts S) (kinds : List (List Kind)) (old new : Held S) where
-  pub reads_based : {T : Type 0} (Is : State → T → Type 0) (r : Result T Error) (known : Bool) → (IsTrue known → ReadsTold g Is (length kinds) old new r) → ReadsBased Is (based g kinds known old) (based g kinds known new) r
+  pub reads_based : {T : Type 0} (Is : State → T → Type 0) (r : Result T Error) (known : Bool) → (IsTrue known → ReadsTold g Is (length kinds) old new r) → ReadsBased Is (based_keeper g kinds known old) (based_keeper g kinds known new) r
   reads_based Is r false told = record { told_before = λ t. t; same_state = λ t. never t; good = λ t. never t; exact = λ t. never t }
   reads_based Is r true told =
       let it = told refl in
       record { told_before = it.left.told_before; same_state = it.left.same; good = λ t. (it.kept.told_by t).sound; exact = it.exact }
 
-  pub applies_based : (change : Change) (r : Result (Unit {0}) Error) (known : Bool) → (IsTrue known → AppliesTold g (length kinds) change old new r) → AppliesBased change (based g kinds known old) (based g kinds known new) r
+  pub applies_based : (change : Change) (r : Result (Unit {0}) Error) (known : Bool) → (IsTrue known → AppliesTold g (length kinds) change old new r) → AppliesBased change (based_keeper g kinds known old) (based_keeper g kinds known new) r
   applies_based change r false told = record { told_before = λ t. t; good = λ t. never t; exact = λ t. never t; refused = λ t. never t }
   applies_based change r true told =
       let it = told refl in
       record { told_before = it.told_before; good = λ t. (it.kept.told_by t).sound; exact = it.exact; refused = it.refused }
 
 -- a change that is asked to leave a sound state of what is told leaves one of what is seen
-pub sound_before : {S : Type 0} (g : Ghosts S) (kinds : List (List Kind)) (h : Held S) (change : Change) (known : Bool) → IsTrue known → (IsTrue (based g kinds known h).tells → IsSound (applied change (based g kinds known h).state))
-    → IsTrue (state g h).is_open → IsSound (applied change (told (length kinds) (state g h).now))
+pub sound_before : {S : Type 0} (g : Ghosts S) (kinds : List (List Kind)) (h : Held S) (change : Change) (known : Bool) → IsTrue known → (IsTrue (based_keeper g kinds known h).tells → IsSound (changed_state change (based_keeper g kinds known h).state))
+    → IsTrue (state g h).is_open → IsSound (changed_state change (told (length kinds) (state g h).now))
 sound_before g kinds h change true known sound opened = sound opened
 sound_before g kinds h change false known sound opened = never known
 
 module _ {S : Type 0} (g : Ghosts S) (kinds more : List (List Kind)) (nested : List Bool) (old new : Held S) (change : Change) (schema : List ℕ) where
   -- a change that brings another schema, over a database that tells
-  pub reshaped_told : ((state g new).is_clean ≡ false → (state g new).is_open ≡ false) → (HasCleanDisk (state g new) → Ends (state g old) (state g new)) → (known : Bool) → (IsTrue known → IsKept (length kinds) (state g old))
-      → (IsTrue (based g kinds known old).tells → IsFit (shapes_by more nested) (widened (length more) (applied change (based g kinds known old).state))) → (r : Result (Unit {0}) Error)
+  pub reshaped_told : ((state g new).is_clean ≡ false → (state g new).is_open ≡ false) → (HasCleanDisk (state g new) → EndsCommitted (state g old) (state g new)) → (known : Bool) → (IsTrue known → IsAllCommitted (length kinds) (state g old))
+      → (IsTrue (based_keeper g kinds known old).tells → IsFit (shapes_by more nested) (widened_state (length more) (changed_state change (based_keeper g kinds known old).state))) → (r : Result (Unit {0}) Error)
       → OnOk r (CanBeStored (length kinds) change.changed) → Transacts g (statements_with change (Some schema)) old new r → IsTrue known → ReshapesTold g (length kinds) (length more) change schema old new r
   reshaped_told law ends false was fits r may t known = never known
   reshaped_told law ends true was fits r may t known =
-      let s = applied change (told (length kinds) (state g old).now) in
+      let s = changed_state change (told (length kinds) (state g old).now) in
       subst (λ n. ReshapesTold g (length kinds) n change schema old new r) (length_shapes more nested)
       (reshape_told g (shapes_by more nested) (length kinds) old new change schema law ends (was refl)
-      (λ opened. subst (λ n. IsFit (shapes_by more nested) (widened n s)) (sym (length_shapes more nested)) (fits opened)) r may t)
+      (λ opened. subst (λ n. IsFit (shapes_by more nested) (widened_state n s)) (sym (length_shapes more nested)) (fits opened)) r may t)
 
-  pub reshapes_ok : (known : Bool) → (IsTrue known → ReshapesTold g (length kinds) (length more) change schema old new (Ok tt)) → ReshapesBased change schema (length more) (based g kinds known old) (based g more known new) (Ok tt)
+  pub reshapes_ok : (known : Bool) → (IsTrue known → ReshapesTold g (length kinds) (length more) change schema old new (Ok tt)) → ReshapesBased change schema (length more) (based_keeper g kinds known old) (based_keeper g more known new) (Ok tt)
   reshapes_ok false told = record { told_before = λ t. t; exact = λ t. never t; stored = λ t. never t; refused = λ t. tt }
   reshapes_ok true told =
       let it = told refl in
       record { told_before = it.told_before; exact = it.exact; stored = it.stored; refused = λ t. tt }
 
-  pub reshapes_err : (known : Bool) (e : Error) → (IsTrue known → ReshapesTold g (length kinds) (length more) change schema old new (Err e)) → ReshapesBased change schema (length more) (based g kinds known old) (based g kinds known new) (Err e)
+  pub reshapes_err : (known : Bool) (e : Error) → (IsTrue known → ReshapesTold g (length kinds) (length more) change schema old new (Err e)) → ReshapesBased change schema (length more) (based_keeper g kinds known old) (based_keeper g kinds known new) (Err e)
   reshapes_err false e told = record { told_before = λ t. t; exact = λ t. tt; stored = λ t. tt; refused = λ t. never t }
   reshapes_err true e told =
       let it = told refl in
@@ -86,15 +86,15 @@ rows_beyond first (suc n) zero all within = absurd (omega (arith, within))
 rows_beyond first (suc n) (suc k) all within = rows_beyond (first + 1) n k all (omega (arith, within))
 
 module _ {S : Type 0} (g : Ghosts S) (kinds : List (List Kind)) (h : Held S) where
-  none_based : (Is : State → List Row → Type 0) (known : Bool) → (IsTrue known → IsKept (length kinds) (state g h)) → Is (based g kinds known h).state [] → ReadsBased Is (based g kinds known h) (based g kinds known h) (Ok [])
+  none_based : (Is : State → List Row → Type 0) (known : Bool) → (IsTrue known → IsAllCommitted (length kinds) (state g h)) → Is (based_keeper g kinds known h).state [] → ReadsBased Is (based_keeper g kinds known h) (based_keeper g kinds known h) (Ok [])
   none_based Is false kept is = record { told_before = λ t. t; same_state = λ t. refl; good = λ t. never t; exact = λ t. is }
   none_based Is true kept is = record { told_before = λ t. t; same_state = λ t. refl; good = λ t. ((kept refl).told_by t).sound; exact = λ t. is }
 
-  pub no_rows : (model : ℕ) (known : Bool) → (IsTrue known → IsKept (length kinds) (state g h)) → slice_get kinds model ≡ None → ReadsBased (λ s rows. rows ≡ rows_of s.tables model) (based g kinds known h) (based g kinds known h) (Ok [])
+  pub no_rows : (model : ℕ) (known : Bool) → (IsTrue known → IsAllCommitted (length kinds) (state g h)) → slice_get kinds model ≡ None → ReadsBased (λ s rows. rows ≡ rows_of s.tables model) (based_keeper g kinds known h) (based_keeper g kinds known h) (Ok [])
   no_rows model known kept none = none_based (λ s rows. rows ≡ rows_of s.tables model) known kept (sym (rows_beyond 0 (length kinds) model _ (beyond kinds model none)))
 
-  pub no_alternatives : (id : ℕ) (known : Bool) → (IsTrue known → IsKept (length kinds) (state g h)) → slice_get kinds (model_of_id id) ≡ None
-      → ReadsBased (λ s rows. rows ≡ alternatives id (rows_of s.tables (model_of_id id))) (based g kinds known h) (based g kinds known h) (Ok [])
+  pub no_alternatives : (id : ℕ) (known : Bool) → (IsTrue known → IsAllCommitted (length kinds) (state g h)) → slice_get kinds (model_of_id id) ≡ None
+      → ReadsBased (λ s rows. rows ≡ alternatives id (rows_of s.tables (model_of_id id))) (based_keeper g kinds known h) (based_keeper g kinds known h) (Ok [])
   no_alternatives id known kept none =
       none_based (λ s rows. rows ≡ alternatives id (rows_of s.tables (model_of_id id))) known kept (sym (ap (alternatives id) (rows_beyond 0 (length kinds) (model_of_id id) _ (beyond kinds (model_of_id id) none))))
 
@@ -126,9 +126,9 @@ fits_empty kinds nested s is =
 module _ {S : Type 0} (g : Ghosts S) (schema : List ℕ) (kinds : List (List Kind)) (nested : List Bool) (h : Held S) where
   -- one that is told, with a schema that it has
   pub opens_told : (IsTrue (state g h).is_open → IsFit (shapes_by kinds nested) (told (length kinds) (state g h).now)) → (IsTrue (state g h).is_open → schema_in (state g h).now ≡ schema)
-      → OpensBased schema kinds nested (based g kinds true h, None)
+      → OpensBased schema kinds nested (based_keeper g kinds true h, None)
   opens_told fit stored = record { fit = fit; stored = stored; other = tt }
 
   -- one of another schema
-  pub opens_other : (other : List ℕ) → (IsTrue (state g h).is_open → schema_in (state g h).now ≡ other) → ¬ (other ≡ schema) → OpensBased schema kinds nested (based g kinds false h, Some other)
+  pub opens_other : (other : List ℕ) → (IsTrue (state g h).is_open → schema_in (state g h).now ≡ other) → ¬ (other ≡ schema) → OpensBased schema kinds nested (based_keeper g kinds false h, Some other)
   opens_other other stored is_other = record { fit = λ t. never t; stored = stored; other = is_other }

@@ -6,15 +6,15 @@ use Rattle.sqlite_value.specs.Order.{Row as Values, column}
 use Rattle.sqlite_value.specs.declared.value.Value.TheVariants.{Blob}
 use Rattle.sqlite_trees.specs.declared.store.Store.{Ghosts}
 use Rattle.sqlite_schema.specs.declared.schema.Schema.{Schema}
-use Rattle.jac_lines.specs.Tables.{nothing}
+use Rattle.jac_lines.specs.Tables.{no_tables}
 use Rattle.sqlite.specs.declared.error.Error.{Error}
 use Rattle.sqlite.specs.State.{Shown, QueriesRow}
 use Rattle.sqlite.specs.Held.{Held, state}
 use Rattle.jac_value.specs.declared.value.Kind.{Kind}
 use Rattle.jac_rows.specs.declared.row.Row.{Row}
 use Rattle.jac_stored.specs.Faults.{IsIdOf}
-use Rattle.jac_lines.specs.Statements.{Statement, reading}
-use Rattle.jac_lines.specs.Founding.{IsAsked, IsFrom}
+use Rattle.jac_lines.specs.Statements.{SqlStatement, reading}
+use Rattle.jac_lines.specs.Founding.{IsNumberAsked, IsFrom}
 use Rattle.jac_lines.specs.Reading.{Each, IsRowIn, IsModelRow, AreShown}
 
 -- the rows so far, before the rows of the values from a place on, are those of all values
@@ -46,7 +46,7 @@ model_row model kinds values jid id stored spelled (Ok row) rest =
 model_row model kinds values jid id stored spelled (Err e) rest = tt
 
 -- all rows that were shown, where the query was answered
-pub are_shown : {S V : Type 0} (items : V → List Values) (g : Ghosts S) (question : Statement) (Is : Values → Row → Type 0) (old new : Held S) (answer : Result V Error) (r : Result (List Row) Error)
+pub are_shown : {S V : Type 0} (items : V → List Values) (g : Ghosts S) (question : SqlStatement) (Is : Values → Row → Type 0) (old new : Held S) (answer : Result V Error) (r : Result (List Row) Error)
     → IfOk answer (λ v. Shown question.text question.params (state g old) (state g new) (items v)) → IfOk answer (λ v. IfOk r (Each Is (items v))) → IfErr answer (λ e. r ≡ Err e)
     → IfOk r (AreShown g question Is old new)
 are_shown items g question Is old new (Ok v) (Ok rows) shown each none = record { found = items v; shown = shown; each = each }
@@ -55,10 +55,10 @@ are_shown items g question Is old new (Err e) r shown each none = subst (λ (x :
 
 -- the number that was asked for
 pub is_asked : {S : Type 0} (g : Ghosts S) (old new : Held S) (answer : Result Values Error) (r : Result ℕ Error)
-    → QueriesRow reading [] (state g old) (state g new) answer → IsFrom answer r → IfOk r (IsAsked g old new)
+    → QueriesRow reading [] (state g old) (state g new) answer → IsFrom answer r → IfOk r (IsNumberAsked g old new)
 is_asked g old new (Ok row) (Ok n) asked from = record { row = row; asked = asked; has = from }
 is_asked g old new (Ok row) (Err e) asked from = tt
-is_asked g old new (Err e) r asked from = subst (λ (x : Result ℕ Error). IfOk x (IsAsked g old new)) (sym from) tt
+is_asked g old new (Err e) r asked from = subst (λ (x : Result ℕ Error). IfOk x (IsNumberAsked g old new)) (sym from) tt
 
 -- rows from a place on, and the one there
 pub all_from : {X : Type 0} (P : X → Type 0) (xs : List X) (at : ℕ) (x : X) → at < length xs → x ≡ get_or xs at x → P x → AllByRecursion P (drop (at + 1) xs) → AllByRecursion P (drop at xs)
@@ -74,5 +74,5 @@ pub on_ok : {T E P : Type 0} (r : Result T E) → P → OnOk r P
 on_ok (Ok t) p = p
 on_ok (Err e) p = tt
 
-pub no_schema : (s : Schema) → s.tables ≡ [] → s.indexes ≡ [] → s.views ≡ [] → s ≡ nothing
+pub no_schema : (s : Schema) → s.tables ≡ [] → s.indexes ≡ [] → s.views ≡ [] → s ≡ no_tables
 no_schema s tables indexes views = λ i. record { tables = tables i; indexes = indexes i; views = views i }

@@ -4,6 +4,7 @@ use Rattle.std.specs.List.{AllByRecursion}
 use Rattle.std.specs.Bool.{beq}
 use Rattle.std.specs.Prelude.{nat_lt, nat_le, ◌/◌, ◌%◌, ◌^◌}
 use Rattle.std.proofs.lemmas.Bool.Decides.{nat_tests}
+use Rattle.std.proofs.lemmas.Bool.{and_parts}
 use Rattle.sqlite_value.specs.Order.{Row as Values, column}
 use Rattle.sqlite_value.specs.declared.value.Value.TheVariants.{Int, Blob}
 use Rattle.sqlite_trees.specs.declared.store.Store.{Ghosts}
@@ -19,11 +20,11 @@ use Rattle.jac_stored.specs.Faults.{IsIdOf}
 use Rattle.jac_stored.specs.Spelling.{guard_bytes}
 use Rattle.jac_keep.specs.Schema.{shapes_by}
 use Rattle.jac_lines.specs.Reading.{IsRowIn}
-use Rattle.jac_lines.specs.Founding.{IsAsked}
+use Rattle.jac_lines.specs.Founding.{IsNumberAsked}
 use Rattle.jac_lines.specs.Testing.{MovesOn, ReadsOn, IsStoredRow, AreLinesOf, ShowsRowids, ShowsLines, ShowsStored}
 use Rattle.jac_lines.proofs.Gathered.{Gathered, gathered_start, gathered_next, gathered_end}
 use Rattle.jac_lines.proofs.Reopened.{stored_shown}
-use Rattle.jac_lines.proofs.Sound.{narrow_cells, id_room, both_true}
+use Rattle.jac_lines.proofs.Sound.{narrow_cells, id_room}
 
 -- what a question showed, where the rows passed a test
 pub tested : {V E Q : Type 0} (old new : Sql) (text : List ℕ) (items : V → List Values) (P : List Values → Type 0) → ((found : List Values) → Shown text [] old new found → P found → Q)
@@ -55,7 +56,7 @@ narrow_alone id narrow =
 
 wide_if : (id model : ℕ) (b : Bool) → is_id_of id model ≡ true → is_narrow id ≡ b → is_wide id ≡ not b
 wide_if id model true is narrow = narrow_alone id narrow
-wide_if id model false is narrow = sym (ap (λ b. b || is_wide id) narrow) ∙ (both_true (is_narrow id || is_wide id) (model_of_id id == model) is).0
+wide_if id model false is narrow = sym (ap (λ b. b || is_wide id) narrow) ∙ (and_parts (is_narrow id || is_wide id) (model_of_id id == model) is).0
 
 unlike : (a b : Bool) → beq a b ≡ false → not a ≡ b
 unlike true true other = absurd (let f : true ≡ false = other in cc)
@@ -72,7 +73,7 @@ stored_row_is kinds nested number model v id jid ks stored is known numbered wid
     let fit : have_kinds_of ks row ≡ true = in_row.spelled.cells.fit in
     let one : IsRecord (shapes_by kinds nested) model number id row.cells = record {
       made = record {
-        of_model = grind (arith, nat_tests, (both_true (is_narrow id || is_wide id) (model_of_id id == model) is.of_model).1);
+        of_model = grind (arith, nat_tests, (and_parts (is_narrow id || is_wide id) (model_of_id id == model) is.of_model).1);
         is_one = is.of_model;
         numbered = numbered.0;
         made = numbered.1;
@@ -132,7 +133,7 @@ module _ (shapes : List ModelShape) (number : ℕ) (found : List Values) where
 -- ---- the whole store
 
 pub stored_on_ok : {S E : Type 0} (g : Ghosts S) (shapes : List ModelShape) (number : ℕ) (old first second new : Held S) → ((state g first).is_clean ≡ false → (state g first).is_open ≡ false)
-    → ((state g second).is_clean ≡ false → (state g second).is_open ≡ false) → (HasCleanDisk (state g first) → IsAsked g old first number) → (HasCleanDisk (state g second) → ShowsRowids g first second)
+    → ((state g second).is_clean ≡ false → (state g second).is_open ≡ false) → (HasCleanDisk (state g first) → IsNumberAsked g old first number) → (HasCleanDisk (state g second) → ShowsRowids g first second)
     → (r : Result (Unit {0}) E) → (HasCleanDisk (state g new) → OnOk r (ShowsLines g shapes number second new)) → HasCleanDisk (state g new) → OnOk r (ShowsStored g shapes old new)
 stored_on_ok g shapes number old first second new shuts_first shuts_second asked ids (Ok done) lines clean = stored_shown g shapes number old first second new shuts_first shuts_second asked ids lines clean
 stored_on_ok g shapes number old first second new shuts_first shuts_second asked ids (Err e) lines clean = tt

@@ -18,8 +18,8 @@ use Rattle.sqlite.proofs.Callers.{survives_begin}
 use Rattle.jac_rows.specs.declared.row.Row.{Row as Kept}
 use Rattle.jac_keep.specs.declared.alteration.Alteration.{Alteration}
 use Rattle.jac_lines.specs.Founding.{Tells, FindsSchema}
-use Rattle.jac_lines.specs.Statements.{Statement, reading, removal, addition, additions, replacement, replacements}
-use Rattle.jac_lines.specs.Transaction.{Ran, Inside, Leaves, Transacts, Ends}
+use Rattle.jac_lines.specs.Statements.{SqlStatement, reading, removal, addition, additions, replacement, replacements}
+use Rattle.jac_lines.specs.Transaction.{Ran, Inside, Leaves, Transacts, EndsCommitted}
 
 pub survives_same : (a : State) (P : Trees → Type 0) → Survives a a P
 survives_same a P = record {
@@ -42,11 +42,11 @@ next_alternative rows alt row within is =
     ap (additions alt) (drop-cons rows alt row within) ∙ (λ i. addition alt (sym is i) ∷ additions (alt + 1) (drop (next i) rows))
 
 module _ {S : Type 0} (g : Ghosts S) where
-  pub ran_on : (xs ys : List Statement) (a b c : Held S) → Ran g xs a b → Ran g ys b c → Ran g (xs ++ ys) a c
+  pub ran_on : (xs ys : List SqlStatement) (a b c : Held S) → Ran g xs a b → Ran g ys b c → Ran g (xs ++ ys) a c
   ran_on [] ys a b c one two = subst (λ (h : Held S). Ran g ys h c) one two
   ran_on (x ∷ xs) ys a b c one two = (one.0, one.1, one.2, ran_on xs ys one.0 b c one.3 two)
 
-  pub stays : (xs : List Statement) (a b : Held S) → Ran g xs a b → IsTrue (state g a).in_transaction → IsTrue (state g b).in_transaction
+  pub stays : (xs : List SqlStatement) (a b : Held S) → Ran g xs a b → IsTrue (state g a).in_transaction → IsTrue (state g b).in_transaction
   stays [] a b ran inside = subst (λ (h : Held S). IsTrue (state g h).in_transaction) (sym ran) inside
   stays (x ∷ xs) a b ran inside = stays xs ran.0 b ran.3 ran.2.1.mode
 
@@ -59,7 +59,7 @@ module _ {S : Type 0} (g : Ghosts S) where
     | inr without ↦ subst (λ (h : Held S). KeepsCommit (state g a) (state g h)) (sym (ended without).1) (keeps_same (state g a))
   ]
 
-  pub one_ran : {T : Type 0} (x : Statement) (a b : Held S) (count : ℕ) (t : T)
+  pub one_ran : {T : Type 0} (x : SqlStatement) (a b : Held S) (count : ℕ) (t : T)
       → ((state g a).in_transaction ≡ false → (◌≡◌ {A = Result ℕ Error} (Ok count) (Err (SqliteFailure TransactionState))) × (b ≡ a))
       → (HasCleanDisk (state g b) → IsTrue (state g a).in_transaction → ExecutesInside 0 x.text x.params (state g a) (state g b) (Ok count))
       → Survives (state g a) (state g b) (λ _. ⊥) → Inside g (x ∷ []) a b (Ok t)
@@ -69,7 +69,7 @@ module _ {S : Type 0} (g : Ghosts S) where
     survives = survives;
   }
 
-  pub one_failed : {T : Type 0} (x : Statement) (a b : Held S) (e : Error)
+  pub one_failed : {T : Type 0} (x : SqlStatement) (a b : Held S) (e : Error)
       → ((state g a).in_transaction ≡ false → (◌≡◌ {A = Result ℕ Error} (Err e) (Err (SqliteFailure TransactionState))) × (b ≡ a))
       → (HasCleanDisk (state g b) → IsTrue (state g a).in_transaction → ExecutesInside 0 x.text x.params (state g a) (state g b) (Err e))
       → Survives (state g a) (state g b) (λ _. ⊥) → Inside {T = T} g (x ∷ []) a b (Err e)
@@ -80,10 +80,10 @@ module _ {S : Type 0} (g : Ghosts S) where
   }
 
   -- nothing ran, and that is told
-  pub none_ran : {T : Type 0} (xs : List Statement) (a : Held S) (e : Error) → Inside {T = T} g xs a a (Err e)
+  pub none_ran : {T : Type 0} (xs : List SqlStatement) (a : Held S) (e : Error) → Inside {T = T} g xs a a (Err e)
   none_ran xs a e = record { ran = λ _ _. tt; kept = λ _. keeps_same (state g a); survives = survives_same (state g a) _ }
 
-  pub failed_of : {T U : Type 0} (xs ys : List Statement) (a b : Held S) (e : Error) → Inside {T = T} g xs a b (Err e) → Inside {T = U} g ys a b (Err e)
+  pub failed_of : {T U : Type 0} (xs ys : List SqlStatement) (a b : Held S) (e : Error) → Inside {T = T} g xs a b (Err e) → Inside {T = U} g ys a b (Err e)
   failed_of xs ys a b e one = record { ran = λ _ _. tt; kept = one.kept; survives = one.survives }
 
   survives_on : (a b c : Held S) → Survives (state g a) (state g b) (λ _. ⊥) → Survives (state g b) (state g c) (λ _. ⊥) → Survives (state g a) (state g c) (λ _. ⊥)
@@ -93,7 +93,7 @@ module _ {S : Type 0} (g : Ghosts S) where
       → Survives (state g b) (state g c) (λ _. ⊥) → HasCleanDisk (state g c) → KeepsCommit (state g a) (state g c)
   keeps_on a b c one two survives clean = keeps_then (state g a) (state g b) (state g c) (one (omega (arith, survives.clean))) (two clean)
 
-  pub inside_then : {T U : Type 0} (xs ys : List Statement) (a b c : Held S) (t : T) (r : Result U Error) → Inside g xs a b (Ok t) → Inside g ys b c r → Inside g (xs ++ ys) a c r
+  pub inside_then : {T U : Type 0} (xs ys : List SqlStatement) (a b c : Held S) (t : T) (r : Result U Error) → Inside g xs a b (Ok t) → Inside g ys b c r → Inside g (xs ++ ys) a c r
   inside_then xs ys a b c t (Ok u) one two = record {
     ran = λ clean within. let first = one.ran (omega (arith, two.survives.clean)) within in ran_on xs ys a b c first (two.ran clean (stays xs a b first within));
     kept = keeps_on a b c one.kept two.kept two.survives;
@@ -106,23 +106,23 @@ module _ {S : Type 0} (g : Ghosts S) where
   }
 
   -- in the middle of a list of statements: what those that are left lead to from here, all lead to
-  pub record Halfway (all left : List Statement) (start now : Held S) : Type 0 where
+  pub record Halfway (all left : List SqlStatement) (start now : Held S) : Type 0 where
     pub goes : HasCleanDisk (state g now) → IsTrue (state g start).in_transaction → IsTrue (state g now).in_transaction × ((end : Held S) → Ran g left now end → Ran g all start end)
     pub kept : HasCleanDisk (state g now) → KeepsCommit (state g start) (state g now)
     pub survives : Survives (state g start) (state g now) (λ _. ⊥)
 
-  pub halfway_start : (xs : List Statement) (a : Held S) → Halfway xs xs a a
+  pub halfway_start : (xs : List SqlStatement) (a : Held S) → Halfway xs xs a a
   halfway_start xs a = record { goes = λ _ within. (within, λ _ ran. ran); kept = λ _. keeps_same (state g a); survives = survives_same (state g a) _ }
 
   -- behind some that ran
-  pub halfway_behind : {T : Type 0} (xs left : List Statement) (a b : Held S) (t : T) → Inside g xs a b (Ok t) → Halfway (xs ++ left) left a b
+  pub halfway_behind : {T : Type 0} (xs left : List SqlStatement) (a b : Held S) (t : T) → Inside g xs a b (Ok t) → Halfway (xs ++ left) left a b
   halfway_behind xs left a b t one = record {
     goes = λ clean within. let ran = one.ran clean within in (stays xs a b ran within, λ end more. ran_on xs left a b end ran more);
     kept = one.kept;
     survives = one.survives;
   }
 
-  pub halfway_on : {T : Type 0} (all xs left : List Statement) (a b c : Held S) (t : T) → Halfway all (xs ++ left) a b → Inside g xs b c (Ok t) → Halfway all left a c
+  pub halfway_on : {T : Type 0} (all xs left : List SqlStatement) (a b c : Held S) (t : T) → Halfway all (xs ++ left) a b → Inside g xs b c (Ok t) → Halfway all left a c
   halfway_on all xs left a b c t half one = record {
     goes = λ clean within.
         let before = half.goes (omega (arith, one.survives.clean)) within in
@@ -132,10 +132,10 @@ module _ {S : Type 0} (g : Ghosts S) where
     survives = survives_on a b c half.survives one.survives;
   }
 
-  pub halfway_end : {T : Type 0} (all : List Statement) (a b : Held S) (t : T) → Halfway all [] a b → Inside g all a b (Ok t)
+  pub halfway_end : {T : Type 0} (all : List SqlStatement) (a b : Held S) (t : T) → Halfway all [] a b → Inside g all a b (Ok t)
   halfway_end all a b t half = record { ran = λ clean within. (half.goes clean within).1 b refl; kept = half.kept; survives = half.survives }
 
-  pub halfway_failed : {T U : Type 0} (all left xs : List Statement) (a b c : Held S) (e : Error) → Halfway all left a b → Inside {T = T} g xs b c (Err e) → Inside {T = U} g all a c (Err e)
+  pub halfway_failed : {T U : Type 0} (all left xs : List SqlStatement) (a b c : Held S) (e : Error) → Halfway all left a b → Inside {T = T} g xs b c (Err e) → Inside {T = U} g all a c (Err e)
   halfway_failed all left xs a b c e half one = record {
     ran = λ _ _. tt;
     kept = keeps_on a b c half.kept one.kept one.survives;
@@ -146,32 +146,32 @@ module _ {S : Type 0} (g : Ghosts S) where
   pub replaced_start : {T : Type 0} (a : Alteration) (start now : Held S) (t : T) → Inside g (removal a.id ∷ []) start now (Ok t) → Halfway (replacement a) (additions 0 a.rows) start now
   replaced_start a start now t one = halfway_behind (removal a.id ∷ []) (additions 0 a.rows) start now t one
 
-  pub replaced_next : {T : Type 0} (all : List Statement) (rows : List Kept) (alt : ℕ) (row : Kept) (start now next : Held S) (t : T) → alt < length rows → row ≡ get_or rows alt row
+  pub replaced_next : {T : Type 0} (all : List SqlStatement) (rows : List Kept) (alt : ℕ) (row : Kept) (start now next : Held S) (t : T) → alt < length rows → row ≡ get_or rows alt row
       → Halfway all (additions alt (drop alt rows)) start now → Inside g (addition alt row ∷ []) now next (Ok t) → Halfway all (additions (alt + 1) (drop (alt + 1) rows)) start next
   replaced_next all rows alt row start now next t within is half one =
       halfway_on all (addition alt row ∷ []) (additions (alt + 1) (drop (alt + 1) rows)) start now next t
-      (subst (λ (left : List Statement). Halfway all left start now) (next_alternative rows alt row within is) half)
+      (subst (λ (left : List SqlStatement). Halfway all left start now) (next_alternative rows alt row within is) half)
       one
 
-  pub replaced_end : {T : Type 0} (all : List Statement) (rows : List Kept) (alt : ℕ) (start now : Held S) (t : T) → length rows ≤ alt
+  pub replaced_end : {T : Type 0} (all : List SqlStatement) (rows : List Kept) (alt : ℕ) (start now : Held S) (t : T) → length rows ≤ alt
       → Halfway all (additions alt (drop alt rows)) start now → Inside g all start now (Ok t)
   replaced_end all rows alt start now t behind half =
       halfway_end all start now t (subst (λ (left : List Kept). Halfway all (additions alt left) start now) (drop_all alt rows behind) half)
 
   -- one record after another
-  pub changed_next : {T : Type 0} (all : List Statement) (a : Alteration) (left more : List Alteration) (start now next : Held S) (t : T) → left ≡ a ∷ more
+  pub changed_next : {T : Type 0} (all : List SqlStatement) (a : Alteration) (left more : List Alteration) (start now next : Held S) (t : T) → left ≡ a ∷ more
       → Halfway all (replacements left) start now → Inside g (replacement a) now next (Ok t) → Halfway all (replacements more) start next
   changed_next all a left more start now next t is half one =
       halfway_on all (replacement a) (replacements more) start now next t (subst (λ (left : List Alteration). Halfway all (replacements left) start now) is half) one
 
-  pub changed_end : {T : Type 0} (all : List Statement) (left : List Alteration) (start now : Held S) (t : T) → left ≡ [] → Halfway all (replacements left) start now → Inside g all start now (Ok t)
+  pub changed_end : {T : Type 0} (all : List SqlStatement) (left : List Alteration) (start now : Held S) (t : T) → left ≡ [] → Halfway all (replacements left) start now → Inside g all start now (Ok t)
   changed_end all left start now t is half = halfway_end all start now t (subst (λ (left : List Alteration). Halfway all (replacements left) start now) is half)
 
   -- what a transaction of them leaves
-  pub left_by : {T : Type 0} (xs : List Statement) (old last : Held S) (t : T) → Inside g xs (record old { in_transaction = true }) last (Ok t) → HasCleanDisk (state g last) → Leaves g xs old (state g last).now
+  pub left_by : {T : Type 0} (xs : List SqlStatement) (old last : Held S) (t : T) → Inside g xs (record old { in_transaction = true }) last (Ok t) → HasCleanDisk (state g last) → Leaves g xs old (state g last).now
   left_by xs old last t one clean = record { last = last; ran = one.ran clean refl; left = refl }
 
-  pub crash_after : {T : Type 0} (xs : List Statement) (old last new : Held S) (t : T) → Inside g xs (record old { in_transaction = true }) last (Ok t)
+  pub crash_after : {T : Type 0} (xs : List SqlStatement) (old last new : Held S) (t : T) → Inside g xs (record old { in_transaction = true }) last (Ok t)
       → Survives (state g last) (state g new) (λ db. db ≡ (state g last).now.trees)
       → Survives (state g old) (state g new) (λ trees. (db : Database) × Leaves g xs old db × (trees ≡ db.trees))
   crash_after xs old last new t one end =
@@ -179,7 +179,7 @@ module _ {S : Type 0} (g : Ghosts S) where
       (λ trees. (db : Database) × Leaves g xs old db × (trees ≡ db.trees)) (λ _ db none. absurd none)
       (λ clean db is. ((state g last).now, left_by xs old last t one (omega (arith, end.clean)), is)) one.survives end)
 
-  pub crash_without : {T : Type 0} (xs : List Statement) (old last new : Held S) (r : Result T Error) → Inside g xs (record old { in_transaction = true }) last r
+  pub crash_without : {T : Type 0} (xs : List SqlStatement) (old last new : Held S) (r : Result T Error) → Inside g xs (record old { in_transaction = true }) last r
       → Survives (state g last) (state g new) (λ _. ⊥)
       → Survives (state g old) (state g new) (λ trees. (db : Database) × Leaves g xs old db × (trees ≡ db.trees))
   crash_without xs old last new r one end =
@@ -194,7 +194,7 @@ module _ {S : Type 0} (g : Ghosts S) where
       let back = undone.undone opened in
       (back.0 ∙ (kept.committed was ∙ sym (settled (kept.was_open was))), back.1 ∙ kept.committed was)
 
-  pub transacts_ok : {T U : Type 0} (xs : List Statement) (old begun last new : Held S) (t : T) (u : U) → begun ≡ record old { in_transaction = true }
+  pub transacts_ok : {T U : Type 0} (xs : List SqlStatement) (old begun last new : Held S) (t : T) (u : U) → begun ≡ record old { in_transaction = true }
       → Inside g xs begun last (Ok t) → (HasCleanDisk (state g new) → (state g new).committed ≡ (state g last).now)
       → Survives (state g last) (state g new) (λ db. db ≡ (state g last).now.trees) → Transacts g xs old new (Ok u)
   transacts_ok {T} xs old begun last new t u begins inside committed end =
@@ -205,7 +205,7 @@ module _ {S : Type 0} (g : Ghosts S) where
         crash = crash_after xs old last new t within end;
       }
 
-  pub transacts_err : {T U : Type 0} (xs : List Statement) (old begun last new : Held S) (t : T) (e cause : Error) → begun ≡ record old { in_transaction = true }
+  pub transacts_err : {T U : Type 0} (xs : List SqlStatement) (old begun last new : Held S) (t : T) (e cause : Error) → begun ≡ record old { in_transaction = true }
       → Inside g xs begun last (Ok t) → (IsTrue (state g old).is_open → (state g old).now ≡ (state g old).committed)
       → (HasCleanDisk (state g new) → FailsToCommit (state g last) (state g new) cause)
       → Survives (state g last) (state g new) (λ db. db ≡ (state g last).now.trees) → Transacts {T = U} g xs old new (Err e)
@@ -223,7 +223,7 @@ module _ {S : Type 0} (g : Ghosts S) where
       }
 
   -- a transaction of them that is ended, and one that is given up
-  pub transacts_end : {T U : Type 0} (xs : List Statement) (old begun last new : Held S) (t : T) (r : Result U Error) → begun ≡ record old { in_transaction = true }
+  pub transacts_end : {T U : Type 0} (xs : List SqlStatement) (old begun last new : Held S) (t : T) (r : Result U Error) → begun ≡ record old { in_transaction = true }
       → Inside g xs begun last (Ok t) → (IsTrue (state g old).is_open → (state g old).now ≡ (state g old).committed)
       → (HasCleanDisk (state g new) → OnOk r ((state g new).committed ≡ (state g last).now))
       → (HasCleanDisk (state g new) → IfErr r (FailsToCommit (state g last) (state g new)))
@@ -231,7 +231,7 @@ module _ {S : Type 0} (g : Ghosts S) where
   transacts_end xs old begun last new t (Ok u) begins inside settled committed failed end = transacts_ok xs old begun last new t u begins inside committed end
   transacts_end xs old begun last new t (Err e) begins inside settled committed failed end = transacts_err xs old begun last new t e e begins inside settled failed end
 
-  pub transacts_none : {T U : Type 0} (xs : List Statement) (old begun last new : Held S) (e : Error) → begun ≡ record old { in_transaction = true }
+  pub transacts_none : {T U : Type 0} (xs : List SqlStatement) (old begun last new : Held S) (e : Error) → begun ≡ record old { in_transaction = true }
       → Inside {T = T} g xs begun last (Err e) → (IsTrue (state g old).is_open → (state g old).now ≡ (state g old).committed)
       → (HasCleanDisk (state g new) → IsRolledBack (state g last) (state g new)) → Survives (state g last) (state g new) (λ _. ⊥) → Transacts {T = U} g xs old new (Err e)
   transacts_none {T} xs old begun last new e begins inside settled undone end =
@@ -242,7 +242,7 @@ module _ {S : Type 0} (g : Ghosts S) where
         crash = crash_without xs old last new (Err e) within end;
       }
 
-  ends_by : (old begun last new : Held S) → begun ≡ record old { in_transaction = true } → KeepsCommit (state g begun) (state g last) → IsRolledBack (state g last) (state g new) → Ends (state g old) (state g new)
+  ends_by : (old begun last new : Held S) → begun ≡ record old { in_transaction = true } → KeepsCommit (state g begun) (state g last) → IsRolledBack (state g last) (state g new) → EndsCommitted (state g old) (state g new)
   ends_by old begun last new begins kept undone =
       let within = subst (λ (h : Held S). KeepsCommit (state g h) (state g last)) begins kept in
       record {
@@ -250,10 +250,10 @@ module _ {S : Type 0} (g : Ghosts S) where
         settled = λ opened. let back = undone.undone opened in back.0 ∙ sym back.1;
       }
 
-  pub ends_end : {T U : Type 0} (xs : List Statement) (old begun last new : Held S) (t : T) (r : Result U Error) → begun ≡ record old { in_transaction = true } → Inside g xs begun last (Ok t)
+  pub ends_end : {T U : Type 0} (xs : List SqlStatement) (old begun last new : Held S) (t : T) (r : Result U Error) → begun ≡ record old { in_transaction = true } → Inside g xs begun last (Ok t)
       → (HasCleanDisk (state g new) → OnOk r (Shows (state g last) (state g new) (state g last).now (state g last).now false))
       → (HasCleanDisk (state g new) → IfErr r (FailsToCommit (state g last) (state g new)))
-      → Survives (state g last) (state g new) (λ db. db ≡ (state g last).now.trees) → HasCleanDisk (state g new) → Ends (state g old) (state g new)
+      → Survives (state g last) (state g new) (λ db. db ≡ (state g last).now.trees) → HasCleanDisk (state g new) → EndsCommitted (state g old) (state g new)
   ends_end {T} xs old begun last new t (Ok u) begins inside shows failed end clean =
       let kept = subst (λ (h : Held S). KeepsCommit (state g h) (state g last)) begins (inside.kept (omega (arith, end.clean, clean))) in
       let it = shows clean in
@@ -266,8 +266,8 @@ module _ {S : Type 0} (g : Ghosts S) where
         | inr late ↦ absurd (let still = stays xs (record old { in_transaction = true }) last (within.ran early refl) refl in let over = late.1 in cc)
       ]
 
-  pub ends_none : {T : Type 0} (xs : List Statement) (old begun last new : Held S) (e : Error) → begun ≡ record old { in_transaction = true } → Inside {T = T} g xs begun last (Err e)
-      → (HasCleanDisk (state g new) → IsRolledBack (state g last) (state g new)) → Survives (state g last) (state g new) (λ _. ⊥) → HasCleanDisk (state g new) → Ends (state g old) (state g new)
+  pub ends_none : {T : Type 0} (xs : List SqlStatement) (old begun last new : Held S) (e : Error) → begun ≡ record old { in_transaction = true } → Inside {T = T} g xs begun last (Err e)
+      → (HasCleanDisk (state g new) → IsRolledBack (state g last) (state g new)) → Survives (state g last) (state g new) (λ _. ⊥) → HasCleanDisk (state g new) → EndsCommitted (state g old) (state g new)
   ends_none xs old begun last new e begins inside undone end clean = ends_by old begun last new begins (inside.kept (omega (arith, end.clean, clean))) (undone clean)
 
 -- a row of the schema was asked for

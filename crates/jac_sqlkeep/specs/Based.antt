@@ -7,8 +7,8 @@ use Rattle.jac_value.specs.declared.value.Kind.{Kind}
 use Rattle.jac_rows.specs.Good.{IsSound}
 use Rattle.jac_rows.specs.declared.state.State.{State}
 use Rattle.jac_keep.specs.declared.alteration.Change.{Change}
-use Rattle.jac_keep.specs.Kept.{applied}
-use Rattle.jac_keep.specs.Reshaping.{widened}
+use Rattle.jac_keep.specs.Kept.{changed_state}
+use Rattle.jac_keep.specs.Reshaping.{widened_state}
 use Rattle.jac_keep.specs.Schema.{IsFit, shapes_by}
 use Rattle.jac_lines.specs.Told.{told, schema_in}
 
@@ -22,8 +22,8 @@ pub record Based : Type 0 where
   pub state : State
 
 -- one whose rows are known tells while its connection is open
-abbrev pub based : {S : Type 0} → Ghosts S → List (List Kind) → Bool → Held S → Based
-based g kinds known h = record {
+abbrev pub based_keeper : {S : Type 0} → Ghosts S → List (List Kind) → Bool → Held S → Based
+based_keeper g kinds known h = record {
   kinds = kinds;
   is_open = (state g h).is_open;
   schema = schema_in (state g h).now;
@@ -52,7 +52,7 @@ pub record AppliesBased (change : Change) (old new : Based) (result : Result (Un
     Type 0 where
   pub told_before : IsTrue new.tells → IsTrue old.tells
   pub good : IsTrue new.tells → IsSound new.state
-  pub exact : IsTrue new.tells → OnOk result (new.state ≡ applied change old.state)
+  pub exact : IsTrue new.tells → OnOk result (new.state ≡ changed_state change old.state)
   pub refused : IsTrue new.tells → OnErr result (new.state ≡ old.state)
 
 -- the change was applied and the store brought to so many models with this schema where it was told
@@ -60,6 +60,7 @@ pub record AppliesBased (change : Change) (old new : Based) (result : Result (Un
 pub record ReshapesBased (change : Change) (schema : List ℕ) (models : ℕ) (old new : Based)
     (result : Result (Unit {0}) Error) : Type 0 where
   pub told_before : IsTrue new.tells → IsTrue old.tells
-  pub exact : IsTrue new.tells → OnOk result (new.state ≡ widened models (applied change old.state))
+  pub exact : IsTrue new.tells → OnOk result (new.state ≡ widened_state models
+      (changed_state change old.state))
   pub stored : IsTrue new.tells → OnOk result (new.schema ≡ schema)
   pub refused : IsTrue new.tells → OnErr result (new.state ≡ old.state)

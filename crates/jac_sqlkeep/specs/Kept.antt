@@ -19,21 +19,21 @@ abbrev pub tells_of : Option Based → Bool
 tells_of None = false
 tells_of (Some b) = b.tells
 
-abbrev pub state_of : Option Based → State
-state_of None = record { tables = []; number = 1 }
-state_of (Some b) = b.state
+abbrev pub based_state : Option Based → State
+based_state None = record { tables = []; number = 1 }
+based_state (Some b) = b.state
 
 abbrev pub seen_kept : Kept → KeeperSeen
 seen_kept k = record {
   tells = tells_of k.database;
-  state = state_of k.database;
+  state = based_state k.database;
   faults = k.faults;
   store = k.store;
 }
 
 -- one that nobody tried to attach
-abbrev pub untouched : Kept
-untouched = record {
+abbrev pub untouched_keeper : Kept
+untouched_keeper = record {
   store = record {
     called = false;
     attached = false;

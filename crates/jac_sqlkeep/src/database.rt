@@ -5,12 +5,12 @@ ghost use Rattle.sqlite.specs.State.{IsLive};
 ghost use Rattle.jac_value.specs.Ids.{model_of_id};
 ghost use Rattle.jac_rows.specs.Good.{IsNext, IsSound};
 ghost use Rattle.jac_rows.specs.Tables.{rows_of};
-ghost use Rattle.jac_keep.specs.Kept.{applied};
+ghost use Rattle.jac_keep.specs.Kept.{changed_state};
 ghost use Rattle.jac_keep.specs.Records.{alternatives};
 ghost use Rattle.jac_keep.specs.Holding.{holders};
-ghost use Rattle.jac_keep.specs.Reshaping.{widened};
+ghost use Rattle.jac_keep.specs.Reshaping.{widened_state};
 ghost use Rattle.jac_keep.specs.Schema.{IsFit, shapes_by};
-ghost use Rattle.jac_lines.specs.Tables.{nothing, two_tables};
+ghost use Rattle.jac_lines.specs.Tables.{no_tables, two_tables};
 ghost use Rattle.jac_sqlkeep.specs.Based.{ReadsBased, AppliesBased, ReshapesBased, OpensBased};
 
 use crate::cause::{CORRUPT, NO_MEMORY, Unfit};
@@ -38,14 +38,14 @@ pub struct Database<S: Alter> {
 impl<S: Alter> Model for Database<S> {
     ghost use Rattle.std.specs.Prelude.{◌≡◌, IsTrue, false, length};
     ghost use Rattle.sqlite.specs.Held.{state};
-    ghost use Rattle.jac_lines.specs.Telling.{IsKept};
-    ghost use Rattle.jac_sqlkeep.specs.Based.{Based, based};
+    ghost use Rattle.jac_lines.specs.Telling.{IsAllCommitted};
+    ghost use Rattle.jac_sqlkeep.specs.Based.{Based, based_keeper};
 
     ghost Value = { Based };
 
-    ghost view = { λ d. based S.Store d.shape.kinds d.known d.conn };
+    ghost view = { λ d. based_keeper S.Store d.shape.kinds d.known d.conn };
 
-    ghost invariant = { λ d. (d.conn.in_transaction ≡ false) × (IsTrue d.known → IsKept (length d.shape.kinds) (state S.Store d.conn)) };
+    ghost invariant = { λ d. (d.conn.in_transaction ≡ false) × (IsTrue d.known → IsAllCommitted (length d.shape.kinds) (state S.Store d.conn)) };
 }
 
 impl<S: Alter + Drop> Database<S> {
@@ -78,7 +78,7 @@ impl<S: Alter + Drop> Database<S> {
         schema: &Txt,
     ) -> Result<(Database<S>, Option<Txt>), Unfit>
         requires outside { conn.in_transaction ≡ false }
-        requires none { (state S.Store conn).now.schema ≡ nothing }
+        requires none { (state S.Store conn).now.schema ≡ no_tables }
         ensures { IfOk result (OpensBased schema.now shape.kinds shape.nested) }
     {
         match make_tables(&mut conn, schema) {
@@ -188,7 +188,7 @@ impl<S: Alter> Database<S> {
     }
 
     pub fn apply(&mut self, alloc: Global, change: &Change) -> Result<(), Error>
-        requires good { IsTrue self.old.tells → IsSound (applied change.now self.old.state) }
+        requires good { IsTrue self.old.tells → IsSound (changed_state change.now self.old.state) }
         ensures applies { AppliesBased change.now self.old self.new result }
     {
         let models = self.shape.kinds.as_slice().len();
@@ -204,7 +204,7 @@ impl<S: Alter> Database<S> {
         schema: &Txt,
     ) -> Result<(), Error>
         requires fit { IsTrue self.old.tells → IsFit (shapes_by shape.kinds shape.nested)
-            (widened (length shape.kinds) (applied change.now self.old.state)) }
+            (widened_state (length shape.kinds) (changed_state change.now self.old.state)) }
         ensures { ReshapesBased change.now schema.now (length shape.kinds) self.old self.new
             result }
     {

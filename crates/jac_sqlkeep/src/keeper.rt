@@ -5,10 +5,10 @@ ghost use Rattle.jac_io.specs.Faults.{Rose};
 ghost use Rattle.jac_rows.specs.Good.{ModelShape, IsNext, IsSound};
 ghost use Rattle.jac_rows.specs.Tables.{rows_of};
 ghost use Rattle.jac_keep.specs.KeeperSeen.{Keeps, Reads};
-ghost use Rattle.jac_keep.specs.Kept.{applied};
+ghost use Rattle.jac_keep.specs.Kept.{changed_state};
 ghost use Rattle.jac_keep.specs.Records.{alternatives};
 ghost use Rattle.jac_keep.specs.Holding.{holders};
-ghost use Rattle.jac_keep.specs.Reshaping.{widened, Reshapes};
+ghost use Rattle.jac_keep.specs.Reshaping.{widened_state, Reshapes};
 ghost use Rattle.jac_keep.specs.Schema.{IsSchema, IsFit, shapes_by};
 ghost use Rattle.jac_keep.specs.Attaching.{Attaches};
 ghost use Rattle.jac_keep.specs.declared.vault.AttachFault.TheVariants.{Other};
@@ -53,11 +53,11 @@ impl<O: Opener> Model for SqlKeeper<O> {
 }
 
 impl<O: Opener> SqlKeeper<O> {
-    ghost use Rattle.jac_sqlkeep.specs.Kept.{untouched};
+    ghost use Rattle.jac_sqlkeep.specs.Kept.{untouched_keeper};
 
     /// A keeper that wasn't attached yet.
     pub fn new(opener: O) -> SqlKeeper<O>
-        ensures { result ≡ untouched }
+        ensures { result ≡ untouched_keeper }
     {
         SqlKeeper {
             opener,
@@ -212,7 +212,7 @@ impl<O: Opener> Vault for SqlKeeper<O> {
         requires schema { (shapes : List ModelShape) × IsSchema schema.now shapes
             × (IsTrue (seen_kept self.old).tells
             → IsFit shapes
-            (widened (length shapes) (applied change.now (seen_kept self.old).state))) }
+            (widened_state (length shapes) (changed_state change.now (seen_kept self.old).state))) }
         ensures reshapes { Reshapes (seen_kept self.old) (seen_kept self.new) change.now schema.now
             result }
         ensures stored { OnOk result (IsSomeAnd self.new.database (TellsSchema schema.now)) }

@@ -6,12 +6,12 @@ ghost use Rattle.sqlite_value.specs.declared.value.Value.TheVariants.{Int};
 ghost use Rattle.sqlite.specs.Held.{state};
 ghost use Rattle.sqlite.specs.State.{HasCleanDisk};
 ghost use Rattle.jac_rows.specs.Good.{IsNext};
-ghost use Rattle.jac_lines.specs.Founding.{HasNumber, IsAsked, IsFrom, FindsSchema, Tells};
+ghost use Rattle.jac_lines.specs.Founding.{HasNumber, IsNumberAsked, IsFrom, FindsSchema, Tells};
 ghost use Rattle.jac_lines.specs.Statements.{founding, numbering, reshaping, settings};
-ghost use Rattle.jac_lines.specs.Tables.{nothing};
-ghost use Rattle.jac_lines.specs.Telling.{IsKept, ReadsTold};
+ghost use Rattle.jac_lines.specs.Tables.{no_tables};
+ghost use Rattle.jac_lines.specs.Telling.{IsAllCommitted, ReadsTold};
 ghost use Rattle.jac_lines.specs.Testing.{IsOneKey, ShowsKey};
-ghost use Rattle.jac_lines.specs.Transaction.{Inside, Transacts, Ends};
+ghost use Rattle.jac_lines.specs.Transaction.{Inside, Transacts, EndsCommitted};
 
 use crate::cause::{CORRUPT, NO_MEMORY, Unfit};
 use crate::step::run;
@@ -44,8 +44,8 @@ const LAST_NUMBER: i64 = 1 << 40;
 pub fn read_number<S: Alter>(conn: &mut Connection<S>) -> Result<u64, Error>
     ensures in_range { IfOk result IsNext }
     ensures stored { HasCleanDisk (state S.Store conn.new)
-        → IfOk result (IsAsked S.Store conn.old conn.new) }
-    ensures told { (models : _) → IsKept models (state S.Store conn.old)
+        → IfOk result (IsNumberAsked S.Store conn.old conn.new) }
+    ensures told { (models : _) → IsAllCommitted models (state S.Store conn.old)
         → ReadsTold S.Store (λ s n. n ≡ s.number) models conn.old conn.new result }
     ensures mode { conn.old.in_transaction ≡ false → conn.new.in_transaction ≡ false }
 {
@@ -123,14 +123,14 @@ fn set_schema<S: Alter>(tx: &mut Transaction<'_, S>, number: u64, schema: &Txt) 
 
 /// Whether the database has nothing.
 pub fn has_nothing<S: Alter>(conn: &Connection<S>) -> bool
-    ensures { result ≡ true → (state S.Store conn.now).now.schema ≡ nothing }
+    ensures { result ≡ true → (state S.Store conn.now).now.schema ≡ no_tables }
 {
     is_nothing(conn.schema())
 }
 
 #[tactic(auto, using(crate::proofs::Read::no_schema))]
 fn is_nothing(schema: &Schema) -> bool
-    ensures { result ≡ true → schema.now ≡ nothing }
+    ensures { result ≡ true → schema.now ≡ no_tables }
 {
     if !schema.tables.is_empty() || !schema.indexes.is_empty() {
         return false;
@@ -225,7 +225,7 @@ fn other_schema(alloc: Global, row: &Row, schema: &Txt) -> Result<Option<Txt>, E
 pub fn make_tables<S: Alter>(conn: &mut Connection<S>, schema: &Txt) -> Result<(), Error>
     ensures transacts { Transacts S.Store (founding schema.now) conn.old conn.new result }
     ensures ends { HasCleanDisk (state S.Store conn.new) → conn.old.in_transaction ≡ false
-        → Ends (state S.Store conn.old) (state S.Store conn.new) }
+        → EndsCommitted (state S.Store conn.old) (state S.Store conn.new) }
     ensures mode { conn.old.in_transaction ≡ false → conn.new.in_transaction ≡ false }
 {
     if !conn.is_autocommit() {

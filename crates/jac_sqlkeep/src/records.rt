@@ -16,8 +16,8 @@ ghost use Rattle.jac_keep.specs.Records.{alternatives};
 ghost use Rattle.jac_lines.specs.Reading.{AreShown, Each, IsModelRow, IsRecordRow, IsRowIn};
 ghost use Rattle.jac_lines.specs.Statements.{model_reading, record_reading, removal, addition, replacement, replacements, statements_with};
 ghost use Rattle.jac_lines.specs.Stands.{AreNarrow};
-ghost use Rattle.jac_lines.specs.Telling.{IsKept, ReadsTold, CanAllBeSpelled, CanBeStored};
-ghost use Rattle.jac_lines.specs.Transaction.{Inside, Transacts, Ends};
+ghost use Rattle.jac_lines.specs.Telling.{IsAllCommitted, ReadsTold, CanAllBeSpelled, CanBeStored};
+ghost use Rattle.jac_lines.specs.Transaction.{Inside, Transacts, EndsCommitted};
 
 use crate::cause::{CORRUPT, NO_MEMORY};
 use crate::meta::set_meta;
@@ -49,7 +49,7 @@ pub fn read_model<S: Alter>(
     ensures shown { HasCleanDisk (state S.Store conn.new)
         → IfOk result (AreShown S.Store (model_reading model) (IsModelRow model kinds.now) conn.old
         conn.new) }
-    ensures told { (models : _) → IsKept models (state S.Store conn.old)
+    ensures told { (models : _) → IsAllCommitted models (state S.Store conn.old)
         → ReadsTold S.Store (λ s rows. rows ≡ rows_of s.tables model) models conn.old conn.new
         result }
     ensures mode { conn.old.in_transaction ≡ false → conn.new.in_transaction ≡ false }
@@ -69,7 +69,7 @@ pub fn read_record<S: Alter>(
     ensures shown { HasCleanDisk (state S.Store conn.new)
         → IfOk result (AreShown S.Store (record_reading id) (IsRecordRow id kinds.now) conn.old
         conn.new) }
-    ensures told { (models : _) → IsKept models (state S.Store conn.old)
+    ensures told { (models : _) → IsAllCommitted models (state S.Store conn.old)
         → ReadsTold S.Store (λ s rows. rows ≡ alternatives id (rows_of s.tables (model_of_id id)))
         models conn.old conn.new result }
     ensures mode { conn.old.in_transaction ≡ false → conn.new.in_transaction ≡ false }
@@ -186,7 +186,7 @@ pub fn write_change<S: Alter>(
     ensures transacts { Transacts S.Store (statements_with change.now (option_copied schema.entry))
         conn.old conn.new result }
     ensures ends { HasCleanDisk (state S.Store conn.new) → conn.old.in_transaction ≡ false
-        → Ends (state S.Store conn.old) (state S.Store conn.new) }
+        → EndsCommitted (state S.Store conn.old) (state S.Store conn.new) }
     ensures mode { conn.old.in_transaction ≡ false → conn.new.in_transaction ≡ false }
     ensures stored { OnOk result (CanBeStored models change.now.changed) }
 {

@@ -9,7 +9,7 @@ use Rattle.jac_facet.specs.Shape.{Shape, at}
 use Rattle.jac_lang.specs.declared.field_kinds.Field.{Field}
 use Rattle.jac_lang.specs.Lookup.{field_place, kind_named, kind_at}
 use Rattle.jac_lang.specs.Syntax.{Entity, Expression, Assigned}
-use Rattle.jac_plain.specs.Records.{fitting, cell_set, drafted, default_cells, is_place, is_set}
+use Rattle.jac_plain.specs.Records.{fitting, cell_set, drafted_cells, default_cells, is_field_place, is_set}
 use Rattle.jac_expr.specs.Tupled.{all_at}
 use Rattle.jac_write.specs.Writes.{fitted_from, sets_at, put_in, is_put}
 use Rattle.jac_stmt.specs.Drafts.{placed_at, placed_sets, put_raw}
@@ -17,7 +17,7 @@ use Rattle.jac_stmt.specs.Drafts.{placed_at, placed_sets, put_raw}
 -- the sets by name and by place
 
 pub drafted-placed : (models : List Entity) (fields : List Field) (value_of : Expression → Value) (sets : List Assigned) (cells : List Value)
-    → drafted models fields value_of sets cells ≡ put_in models fields (placed_sets fields value_of sets) cells
+    → drafted_cells models fields value_of sets cells ≡ put_in models fields (placed_sets fields value_of sets) cells
 drafted-placed models fields value_of [] cells = refl
 drafted-placed models fields value_of (a ∷ rest) cells =
     drafted-placed models fields value_of rest (cell_set models fields (field_place fields a.field) (value_of a.value) cells)
@@ -33,7 +33,7 @@ is_set-placed fields value_of [] f = refl
 is_set-placed fields value_of (a ∷ rest) f = first (field_place fields a.field) (is_set-placed fields value_of rest f)
   where
     first : (place : Option ℕ) → is_set fields rest f ≡ is_put (placed_sets fields value_of rest) f
-        → (if is_place f place then true else is_set fields rest f) ≡ is_put (placed_at place (value_of a.value) (placed_sets fields value_of rest)) f
+        → (if is_field_place f place then true else is_set fields rest f) ≡ is_put (placed_at place (value_of a.value) (placed_sets fields value_of rest)) f
     first None h = h
     first (Some g) h = ap (λ b. if g == f then true else b) h
 
@@ -81,7 +81,7 @@ fitted-put models fields (s ∷ sets) cells =
 -- the cells of a new record: what is set, and defaults
 pub new-cells : (models : List Entity) (fields : List Field) (value_of : Expression → Value) (sets : List Assigned) (start made : List Value) (put : List (ℕ × Value))
     → start ≡ default_cells models fields → made ≡ put_raw put start → put ≡ placed_sets fields value_of sets
-    → fitted_from models fields 0 made ≡ drafted models fields value_of sets (default_cells models fields)
+    → fitted_from models fields 0 made ≡ drafted_cells models fields value_of sets (default_cells models fields)
 new-cells models fields value_of sets start made put defaults made_is placed =
     ap (fitted_from models fields 0) made_is
     ∙ fitted-put models fields put start

@@ -2,19 +2,19 @@
 use Rattle.std.proofs.Common.{◌≡◌, ◌∙◌, refl, sym, ap, subst, ℕ, Bool, true, false, if◌then◌else◌, List, [], ◌∷◌}
 use Rattle.jac_rows.specs.Good.{IsSound}
 use Rattle.jac_plain.specs.Statements.{Run}
-use Rattle.jac_write.specs.Writes.{numbered}
-use Rattle.jac_stmt.specs.Runs.{Faceted, run_at, Ran, Runs, RunsEach, after_each, MayAll}
+use Rattle.jac_write.specs.Writes.{numbered_tables}
+use Rattle.jac_stmt.specs.Runs.{Faceted, run_at, RanWhere, RunsFaceted, RunsEach, after_each, MayAll}
 
 module _ {X : Type 0} (step : (ℕ → Bool) → X → Run → Run) (May : ℕ → (ℕ → Bool) → X → Run → Type 0) where
   -- the values that are left leave, from now on, what all of them leave from the start
   pub record RunningEach (n : ℕ) (all rest : (ℕ → Bool) → List X) (old now : Faceted) : Type 0 where
     pub here : (w : ℕ → Bool) → after_each (step w) (rest w) (run_at w now) ≡ after_each (step w) (all w) (run_at w old)
     pub may : (w : ℕ → Bool) → MayAll (step w) (May n w) (rest w) (run_at w now)
-    pub sound : IsSound (numbered n now.state)
+    pub sound : IsSound (numbered_tables n now.state)
 
   abbrev pub IsRunningEach : ((ℕ → Bool) → List X) → ((ℕ → Bool) → List X) → Faceted → Faceted → Type 0
   IsRunningEach all rest old now =
-      (n : ℕ) → IsSound (numbered n old.state) → ((w : ℕ → Bool) → MayAll (step w) (May n w) (all w) (run_at w old)) → RunningEach n all rest old now
+      (n : ℕ) → IsSound (numbered_tables n old.state) → ((w : ℕ → Bool) → MayAll (step w) (May n w) (all w) (run_at w old)) → RunningEach n all rest old now
 
   pub each_start : (all : (ℕ → Bool) → List X) (old : Faceted) → IsRunningEach all all old old
   each_start all old n sound may = record { here = λ w. refl; may = may; sound = sound }
@@ -43,12 +43,12 @@ module _ {X : Type 0} (step : (ℕ → Bool) → X → Run → Run) (May : ℕ �
   -- the step for the next value, where a test is true
   pub each_next : (all rest more : (ℕ → Bool) → List X) (where_ : (ℕ → Bool) → Bool) (x : X) (old now new : Faceted)
       → ((w : ℕ → Bool) → rest w ≡ (if where_ w then x ∷ more w else more w))
-      → IsRunningEach all rest old now → Runs (λ w. step w x) (λ n w. May n w x) where_ now new → IsRunningEach all more old new
+      → IsRunningEach all rest old now → RunsFaceted (λ w. step w x) (λ n w. May n w x) where_ now new → IsRunningEach all more old new
   each_next all rest more where_ x old now new is before run n sound may =
       let was : RunningEach n all rest old now = before n sound may in
       let asked : (w : ℕ → Bool) → MayAll (step w) (May n w) (if where_ w then x ∷ more w else more w) (run_at w now) = λ w.
       subst (λ (xs : List X). MayAll (step w) (May n w) xs (run_at w now)) (is w) (was.may w) in
-      let ran : Ran n (λ w. step w x) where_ now new = run n was.sound (λ w held. may_first n w (where_ w) x (more w) (run_at w now) held (asked w)) in
+      let ran : RanWhere n (λ w. step w x) where_ now new = run n was.sound (λ w held. may_first n w (where_ w) x (more w) (run_at w now) held (asked w)) in
       record {
         here = λ w.
             take_if w (where_ w) x (more w) (run_at w now) (run_at w new) (ran.left w)
@@ -64,11 +64,11 @@ module _ {X : Type 0} (step : (ℕ → Bool) → X → Run → Run) (May : ℕ �
 pub record Going (n : ℕ) (all rest : (ℕ → Bool) → Run → Run) (May : ℕ → (ℕ → Bool) → Run → Type 0) (where_ : (ℕ → Bool) → Bool) (old now : Faceted) : Type 0 where
   pub here : (w : ℕ → Bool) → (if where_ w then rest w (run_at w now) else run_at w now) ≡ (if where_ w then all w (run_at w old) else run_at w old)
   pub may : (w : ℕ → Bool) → where_ w ≡ true → May n w (run_at w now)
-  pub sound : IsSound (numbered n now.state)
+  pub sound : IsSound (numbered_tables n now.state)
 
 abbrev pub IsGoing : ((ℕ → Bool) → Run → Run) → ((ℕ → Bool) → Run → Run) → (ℕ → (ℕ → Bool) → Run → Type 0) → (ℕ → (ℕ → Bool) → Run → Type 0) → ((ℕ → Bool) → Bool) → Faceted → Faceted → Type 0
 IsGoing all rest MayAll MayRest where_ old now =
-    (n : ℕ) → IsSound (numbered n old.state) → ((w : ℕ → Bool) → where_ w ≡ true → MayAll n w (run_at w old)) → Going n all rest MayRest where_ old now
+    (n : ℕ) → IsSound (numbered_tables n old.state) → ((w : ℕ → Bool) → where_ w ≡ true → MayAll n w (run_at w old)) → Going n all rest MayRest where_ old now
 
 pub going_start : (all : (ℕ → Bool) → Run → Run) (May : ℕ → (ℕ → Bool) → Run → Type 0) (where_ : (ℕ → Bool) → Bool) (old : Faceted) → IsGoing all all May May where_ old old
 going_start all May where_ old n sound may = record { here = λ w. refl; may = may; sound = sound }
@@ -78,7 +78,7 @@ ends_if true r s e = e
 ends_if false r s e = e
 
 pub going_end : (all : (ℕ → Bool) → Run → Run) (MayAll MayRest : ℕ → (ℕ → Bool) → Run → Type 0) (where_ : (ℕ → Bool) → Bool) (old new : Faceted)
-    → IsGoing all (λ w r. r) MayAll MayRest where_ old new → Runs all MayAll where_ old new
+    → IsGoing all (λ w r. r) MayAll MayRest where_ old new → RunsFaceted all MayAll where_ old new
 going_end all MayAll MayRest where_ old new done n sound may =
     let ran : Going n all (λ w r. r) MayRest where_ old new = done n sound may in
     record {
@@ -96,10 +96,10 @@ goes_may false first May r next held e may = cc
 
 pub going_next : (all first rest : (ℕ → Bool) → Run → Run) (MayAll MayFirst MayRest : ℕ → (ℕ → Bool) → Run → Type 0) (where_ : (ℕ → Bool) → Bool) (old now new : Faceted)
     → IsGoing all (λ w r. rest w (first w r)) MayAll (λ n w r. MayFirst n w r × MayRest n w (first w r)) where_ old now
-    → Runs first MayFirst where_ now new → IsGoing all rest MayAll MayRest where_ old new
+    → RunsFaceted first MayFirst where_ now new → IsGoing all rest MayAll MayRest where_ old new
 going_next all first rest MayAll MayFirst MayRest where_ old now new before run n sound may =
     let was : Going n all (λ w r. rest w (first w r)) (λ m w r. MayFirst m w r × MayRest m w (first w r)) where_ old now = before n sound may in
-    let ran : Ran n first where_ now new = run n was.sound (λ w held. (was.may w held).0) in
+    let ran : RanWhere n first where_ now new = run n was.sound (λ w held. (was.may w held).0) in
     record {
       here = λ w. goes_if (where_ w) (first w) (rest w) (run_at w now) (run_at w new) (ran.left w) ∙ was.here w;
       may = λ w held. goes_may (where_ w) (first w) (MayRest n w) (run_at w now) (run_at w new) held (ran.left w) (was.may w held).1;

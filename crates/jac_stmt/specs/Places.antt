@@ -5,12 +5,12 @@ use Rattle.jac_facet.specs.Shape.{Shape}
 use Rattle.jac_lang.specs.Lookup.{same_text}
 
 -- a place behind the first item, or the first where it is the one and there is none behind
-abbrev pub place_after : Bool → Option ℕ → Option ℕ
-place_after is_one (Some i) = Some (suc i)
-place_after true None = Some 0
-place_after false None = None
+abbrev pub name_place_after : Bool → Option ℕ → Option ℕ
+name_place_after is_one (Some i) = Some (suc i)
+name_place_after true None = Some 0
+name_place_after false None = None
 
 -- the place of the innermost binding of the name, which stands last
-abbrev pub last_place : List ℕ → List (List ℕ × Shape Value) → Option ℕ
-last_place name [] = None
-last_place name (b ∷ bs) = place_after (same_text b.0 name) (last_place name bs)
+abbrev pub last_name_place : List ℕ → List (List ℕ × Shape Value) → Option ℕ
+last_name_place name [] = None
+last_name_place name (b ∷ bs) = name_place_after (same_text b.0 name) (last_name_place name bs)

@@ -2,7 +2,7 @@
 use Rattle.std.specs.Prelude.{◌≡◌, ℕ, ◌<◌, ◌^◌, Bool, true, false, if◌then◌else◌, List, [], ◌∷◌, ◌++◌, ⊤}
 use Rattle.jac_value.specs.declared.value.Value.{Value}
 use Rattle.jac_world.specs.World.{holds}
-use Rattle.jac_facet.specs.Leaves.{seen}
+use Rattle.jac_facet.specs.Leaves.{leaves_seen}
 use Rattle.jac_facet.specs.Shape.{Shape}
 use Rattle.jac_lang.specs.declared.application.App.{App}
 use Rattle.jac_lang.specs.Mirror.{application_of}
@@ -15,13 +15,14 @@ use Rattle.jac_plain.specs.declared.page.Piece.{Piece}
 use Rattle.jac_lang.specs.declared.queries.Binder.{Binder}
 use Rattle.jac_plain.specs.Expressions.{bound, binding, is_true}
 use Rattle.jac_plain.specs.Making.{MayRun, MayRunAll, MayChoose, with_env}
-use Rattle.jac_plain.specs.Statements.{Setting, Run, choose, scoped, with_binding, loop_of, leaves, leaves_all}
+use Rattle.jac_plain.specs.Statements.{Setting, Run, choose, scoped_run, with_binding, loop_of, leaves, leaves_all}
 use Rattle.jac_query.specs.Live.{live}
 use Rattle.jac_query.specs.declared.tuple.Tuple.{Tuple}
 use Rattle.jac_expr.specs.declared.here.Here.{Here}
 use Rattle.jac_expr.specs.Seen.{env_at}
-use Rattle.jac_write.specs.Writes.{numbered}
+use Rattle.jac_write.specs.Writes.{numbered_tables}
 use Rattle.jac_stmt.specs.declared.frame.Frame.{Frame}
+use Rattle.jac_plain.specs.Shown.{setting_around, setting_at}
 
 -- a run under all assignments: the state of its work, the names in scope, and the pieces under
 -- their guards
@@ -30,61 +31,50 @@ pub record Faceted : Type 0 where
   pub env : List (List ℕ × Shape Value)
   pub out : List (List (ℕ × Bool) × Piece)
 
-abbrev pub faceted : State → List (List ℕ × Shape Value) → List (List (ℕ × Bool) × Piece) → Faceted
-faceted s env out = record { state = s; env = env; out = out }
+abbrev pub faceted_run : State → List (List ℕ × Shape Value) → List (List (ℕ × Bool) × Piece)
+    → Faceted
+faceted_run s env out = record { state = s; env = env; out = out }
 
 abbrev pub run_over : State → Frame → Faceted
-run_over s frame = faceted s frame.env frame.out
+run_over s frame = faceted_run s frame.env frame.out
 
 -- the run that an assignment shows
 abbrev pub run_at : (ℕ → Bool) → Faceted → Run
 run_at w f = record {
   tables = (project_at w f.state).tables;
   env = env_at w f.env;
-  pieces = seen w f.out;
-}
-
--- what stays the same through a run, under an assignment
-abbrev pub setting_at : App → Ctx → (ℕ → Bool) → Setting
-setting_at app ctx w = record {
-  models = (application_of app).models;
-  shown = w;
-  viewer = ctx.viewer;
-  number = ctx.number;
-  around = ctx.around;
+  pieces = leaves_seen w f.out;
 }
 
 abbrev pub setting_here : Here → (ℕ → Bool) → Setting
 setting_here here w = setting_at here.app.now here.ctx.now w
 
--- the same for the body of a loop, at one of its answers
-abbrev pub setting_around : App → Ctx → List ℕ → (ℕ → Bool) → Setting
-setting_around app ctx ids w = record (setting_at app ctx w) { around = loop_of ids }
-
 -- where the test is true the run is what the step leaves, elsewhere it is as before; and tables
 -- that are sound with the next number n stay so
-pub record Ran (n : ℕ) (step : (ℕ → Bool) → Run → Run) (where_ : (ℕ → Bool)
+pub record RanWhere (n : ℕ) (step : (ℕ → Bool) → Run → Run) (where_ : (ℕ → Bool)
     → Bool) (old new : Faceted) : Type 0 where
   pub left : (w : ℕ → Bool) → run_at w new ≡ (if where_ w then step w (run_at w old)
       else run_at w old)
-  pub sound : IsSound (numbered n new.state)
+  pub sound : IsSound (numbered_tables n new.state)
 
 -- what a step leaves of tables that are sound, where what it makes is new wherever the test is true
-abbrev pub Runs : ((ℕ → Bool) → Run → Run) → (ℕ → (ℕ → Bool) → Run → Type 0) → ((ℕ → Bool) → Bool)
+abbrev pub RunsFaceted : ((ℕ → Bool) → Run → Run) → (ℕ → (ℕ → Bool) → Run → Type 0) → ((ℕ → Bool)
+    → Bool)
     → Faceted → Faceted → Type 0
-Runs step May where_ old new =
-    (n : ℕ) → IsSound (numbered n old.state) → ((w : ℕ → Bool) → where_ w ≡ true
-    → May n w (run_at w old)) → Ran n step where_ old new
+RunsFaceted step May where_ old new =
+    (n : ℕ) → IsSound (numbered_tables n old.state) → ((w : ℕ → Bool) → where_ w ≡ true
+    → May n w (run_at w old)) → RanWhere n step where_ old new
 
 -- what the interpreter's statement leaves, wherever the path condition holds
 abbrev pub Executes : App → Ctx → Statement → List (ℕ × Bool) → Faceted → Faceted → Type 0
 Executes app ctx s pc old new =
-    Runs (λ w. leaves (setting_at app ctx w) s) (λ n w. MayRun n (setting_at app ctx w) s)
+    RunsFaceted (λ w. leaves (setting_at app ctx w) s) (λ n w. MayRun n (setting_at app ctx w) s)
     (λ w. holds w pc) old new
 
 abbrev pub ExecutesAll : App → Ctx → Statements → List (ℕ × Bool) → Faceted → Faceted → Type 0
 ExecutesAll app ctx ss pc old new =
-    Runs (λ w. leaves_all (setting_at app ctx w) ss) (λ n w. MayRunAll n (setting_at app ctx w) ss)
+    RunsFaceted (λ w. leaves_all (setting_at app ctx w) ss) (λ n w. MayRunAll n
+    (setting_at app ctx w) ss)
     (λ w. holds w pc) old new
 
 -- the same of a statement that stands here
@@ -131,12 +121,12 @@ MayAll step May (x ∷ xs) r = May x r × MayAll step May xs (step x r)
 pub record RanEach {X : Type 0} (n : ℕ) (step : (ℕ → Bool) → X → Run → Run) (values : (ℕ → Bool)
     → List X) (old new : Faceted) : Type 0 where
   pub left : (w : ℕ → Bool) → run_at w new ≡ after_each (step w) (values w) (run_at w old)
-  pub sound : IsSound (numbered n new.state)
+  pub sound : IsSound (numbered_tables n new.state)
 
 abbrev pub RunsEach : {X : Type 0} → ((ℕ → Bool) → X → Run → Run) → (ℕ → (ℕ → Bool) → X → Run
     → Type 0) → ((ℕ → Bool) → List X) → Faceted → Faceted → Type 0
 RunsEach step May values old new =
-    (n : ℕ) → IsSound (numbered n old.state)
+    (n : ℕ) → IsSound (numbered_tables n old.state)
     → ((w : ℕ → Bool) → MayAll (step w) (May n w) (values w) (run_at w old))
     → RanEach n step values old new
 
@@ -151,7 +141,7 @@ MayChooseAt app ctx first second n w v = MayChoose (is_true v) (MayRunAll n (set
 
 -- the body with the binders bound to a tuple, around whose record it makes records
 abbrev pub bound_at : App → Ctx → List Binder → Statements → (ℕ → Bool) → List ℕ → Run → Run
-bound_at app ctx bs body w ids r = scoped (bound bs ids r.env)
+bound_at app ctx bs body w ids r = scoped_run (bound bs ids r.env)
     (leaves_all (setting_around app ctx ids w) body) r
 
 abbrev pub MayBindAt : App → Ctx → List Binder → Statements → ℕ → (ℕ → Bool) → List ℕ → Run → Type 0

@@ -7,7 +7,7 @@ ghost use Rattle.jac_keep.specs.Worked.{state_of, IsTold, ReadsWork};
 ghost use Rattle.jac_lang.specs.Lookup.{fields_at};
 ghost use Rattle.jac_lang.specs.Mirror.{application_of, assigned_of, one_assigned_of};
 ghost use Rattle.jac_plain.specs.Expressions.{mean};
-ghost use Rattle.jac_plain.specs.Records.{default_cells, drafted};
+ghost use Rattle.jac_plain.specs.Records.{default_cells, drafted_cells};
 ghost use Rattle.jac_value.specs.declared.value.Value.{Value as Plain};
 ghost use Rattle.jac_world.specs.World.{holds};
 ghost use Rattle.jac_write.specs.Writes.{fitted_from, sets_at};
@@ -99,7 +99,7 @@ pub(crate) fn new_cells<K: Keeper, L: Ledger>(
     requires model { model < length here.now.app.now.models }
     ensures cells { let models = (application_of here.now.app.now).models in IsTold K.seen work.new
         → IfOk result (λ cs. (w : ℕ → Bool) → holds w here.now.pc.now ≡ true
-        → fitted_from models (fields_at models model) 0 (all_at w cs) ≡ drafted models
+        → fitted_from models (fields_at models model) 0 (all_at w cs) ≡ drafted_cells models
         (fields_at models model) (λ e. mean (world_here here.now (state_of K.seen work.old) w)
         e (env_at w env.now)) (assigned_of cells.now)
         (default_cells models (fields_at models model))) }

@@ -1,7 +1,7 @@
 //! Statements, run under a path condition. `execute` only looks at the form; each form is a
 //! function of its own.
 ghost use Rattle.std.specs.Prelude.{◌≡◌, ◌<◌, ◌≤◌, ◌^◌, ◌&&◌, length, None, IfSome, OnOk, IsTrue, Some, ℕ, Bool, List};
-ghost use Rattle.jac_facet.specs.Leaves.{seen};
+ghost use Rattle.jac_facet.specs.Leaves.{leaves_seen};
 ghost use Rattle.jac_facet.specs.Shape.{at};
 ghost use Rattle.jac_keep.specs.Worked.{state_of, IsTold, WritesWork};
 ghost use Rattle.jac_lang.specs.Lookup.{model_place};
@@ -9,13 +9,13 @@ ghost use Rattle.jac_lang.specs.Mirror.{application_of, assigned_of, binders_of,
 ghost use Rattle.jac_lang.specs.Syntax.{Statement};
 ghost use Rattle.jac_plain.specs.declared.page.Piece.{Piece};
 ghost use Rattle.jac_plain.specs.Making.{MayCreate, MayRunAll};
-ghost use Rattle.jac_plain.specs.Statements.{created, leaves_all};
+ghost use Rattle.jac_plain.specs.Statements.{create_run, leaves_all};
 ghost use Rattle.jac_world.specs.World.{holds};
 ghost use Rattle.jac_write.specs.Writes.{StaysTold};
-ghost use Rattle.jac_stmt.specs.Runs.{faceted, run_over, setting_here, ExecutesHere, ExecutesAllHere, Runs, RunsEach, IsRunnable, AreRunnable, bound_at, MayBindAt, chosen_at, MayChooseAt, named_at, MayNameAt, live_under};
+ghost use Rattle.jac_stmt.specs.Runs.{faceted_run, run_over, setting_here, ExecutesHere, ExecutesAllHere, RunsFaceted, RunsEach, IsRunnable, AreRunnable, bound_at, MayBindAt, chosen_at, MayChooseAt, named_at, MayNameAt, live_under};
 
 use crate::Frame;
-use crate::assigning::assign;
+use crate::assignments::assign;
 use crate::drafts::{new_cells, read_sets};
 use crate::loops::{looped, new_id};
 use crate::memory::from_world;
@@ -314,7 +314,8 @@ fn execute_named<K: Keeper, L: Ledger>(
     requires no_record { here.now.ctx.now.this ≡ None }
     requires runnable { AreRunnable here.now.ctx.now.number (statements_of body.now) }
     ensures left { IsTold K.seen work.new
-        → OnOk result (Runs (named_at here.now.app.now here.now.ctx.now name.now (λ w. at w value)
+        → OnOk result (RunsFaceted (named_at here.now.app.now here.now.ctx.now name.now
+        (λ w. at w value)
         (statements_of body.now)) (MayNameAt here.now.app.now here.now.ctx.now name.now
         (λ w. at w value) (statements_of body.now)) (λ w. holds w here.now.pc.now)
         (run_over (state_of K.seen work.old) frame.old)
@@ -384,7 +385,7 @@ fn execute_leaves<K: Keeper, L: Ledger>(
         → OnOk result (RunsEach (chosen_at here.now.app.now here.now.ctx.now
         (statements_of first.now) (statements_of second.now))
         (MayChooseAt here.now.app.now here.now.ctx.now (statements_of first.now)
-        (statements_of second.now)) (λ w. seen w leaves.now)
+        (statements_of second.now)) (λ w. leaves_seen w leaves.now)
         (run_over (state_of K.seen work.old) frame.old)
         (run_over (state_of K.seen work.new) frame.new)) }
     ensures told { OnOk result (StaysTold K.seen work.old work.new) }
@@ -418,7 +419,7 @@ fn execute_leaf<K: Keeper, L: Ledger>(
     requires first { AreRunnable here.now.ctx.now.number (statements_of first.now) }
     requires second { AreRunnable here.now.ctx.now.number (statements_of second.now) }
     ensures left { IsTold K.seen work.new
-        → OnOk result (Runs (λ w. chosen_at here.now.app.now here.now.ctx.now
+        → OnOk result (RunsFaceted (λ w. chosen_at here.now.app.now here.now.ctx.now
         (statements_of first.now) (statements_of second.now) w value.now)
         (λ n w. MayChooseAt here.now.app.now here.now.ctx.now (statements_of first.now)
         (statements_of second.now) n w value.now) (λ w. holds w here.now.pc.now)
@@ -512,7 +513,7 @@ fn execute_tuple<K: Keeper, L: Ledger>(
     requires no_record { here.now.ctx.now.this ≡ None }
     requires runnable { AreRunnable here.now.ctx.now.number (statements_of body.now) }
     ensures left { IsTold K.seen work.new
-        → OnOk result (Runs (λ w. bound_at here.now.app.now here.now.ctx.now
+        → OnOk result (RunsFaceted (λ w. bound_at here.now.app.now here.now.ctx.now
         (binders_of binders.now) (statements_of body.now) w tuple.now.ids)
         (λ n w. MayBindAt here.now.app.now here.now.ctx.now (binders_of binders.now)
         (statements_of body.now) n w tuple.now.ids) (λ w. holds w here.now.pc.now && holds w
@@ -552,7 +553,7 @@ fn execute_bound<K: Keeper, L: Ledger>(
     requires no_record { here.now.ctx.now.this ≡ None }
     requires runnable { AreRunnable here.now.ctx.now.number (statements_of body.now) }
     ensures left { IsTold K.seen work.new
-        → OnOk result (Runs (λ w. bound_at here.now.app.now here.now.ctx.now
+        → OnOk result (RunsFaceted (λ w. bound_at here.now.app.now here.now.ctx.now
         (binders_of binders.now) (statements_of body.now) w ids.now)
         (λ n w. MayBindAt here.now.app.now here.now.ctx.now (binders_of binders.now)
         (statements_of body.now) n w ids.now) (λ w. holds w here.now.pc.now)
@@ -623,7 +624,7 @@ fn execute_made<K: Keeper, L: Ledger>(
     requires few { model < 64 }
     requires runnable { AreRunnable here.now.ctx.now.number (statements_of creation.now.body.now) }
     ensures left { IsTold K.seen work.new
-        → OnOk result (Runs (λ w. created (setting_here here.now w) creation.now.name.now
+        → OnOk result (RunsFaceted (λ w. create_run (setting_here here.now w) creation.now.name.now
         (Some model) creation.now.site (assigned_of creation.now.cells.now)
         (leaves_all (setting_here here.now w) (statements_of creation.now.body.now)))
         (λ n w. MayCreate n (setting_here here.now w) creation.now.name.now (Some model)
@@ -667,8 +668,8 @@ fn execute_update<K: Keeper, L: Ledger>(
     requires no_record { here.now.ctx.now.this ≡ None }
     ensures left { IsTold K.seen work.new → OnOk result ((out : List (List (ℕ × Bool) × Piece))
         → ExecutesHere here.now (Statement.update model.now (expression_of e.now)
-        (assigned_of cells.now)) (faceted (state_of K.seen work.old) env.now out)
-        (faceted (state_of K.seen work.new) env.now out)) }
+        (assigned_of cells.now)) (faceted_run (state_of K.seen work.old) env.now out)
+        (faceted_run (state_of K.seen work.new) env.now out)) }
     ensures told { OnOk result (StaysTold K.seen work.old work.new) }
     ensures keeps { WritesWork K.seen work.old work.new result }
 {
@@ -695,8 +696,9 @@ fn execute_delete<K: Keeper, L: Ledger>(
         → length here.now.app.now.models ≤ length (K.seen work.old.keeper.now).state.tables }
     requires no_record { here.now.ctx.now.this ≡ None }
     ensures left { IsTold K.seen work.new → OnOk result ((out : List (List (ℕ × Bool) × Piece))
-        → ExecutesHere here.now (Statement.delete model.now (expression_of e.now)) (faceted
-        (state_of K.seen work.old) env.now out) (faceted (state_of K.seen work.new) env.now out)) }
+        → ExecutesHere here.now (Statement.delete model.now (expression_of e.now)) (faceted_run
+        (state_of K.seen work.old) env.now out) (faceted_run
+        (state_of K.seen work.new) env.now out)) }
     ensures told { OnOk result (StaysTold K.seen work.old work.new) }
     ensures keeps { WritesWork K.seen work.old work.new result }
 {

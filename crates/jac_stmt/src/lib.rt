@@ -2,7 +2,7 @@
 //! of their pieces.
 #![tactic(auto)]
 
-mod assigning;
+mod assignments;
 mod drafts;
 mod execution;
 mod frame;

@@ -1,6 +1,6 @@
 //! Pieces of a page, under the guards of the values that they show.
 ghost use Rattle.std.specs.Prelude.{◌≡◌, [], ◌∷◌, ◌++◌, ℕ, Bool, if◌then◌else◌, map, IfOk, OnOk};
-ghost use Rattle.jac_facet.specs.Leaves.{seen};
+ghost use Rattle.jac_facet.specs.Leaves.{leaves_seen};
 ghost use Rattle.jac_facet.specs.Shape.{at};
 ghost use Rattle.jac_plain.specs.declared.page.Piece.TheVariants as piece;
 ghost use Rattle.jac_world.specs.World.{holds};
@@ -22,7 +22,8 @@ pub(crate) fn add_value(
     value: &Facet<Value>,
     form: Form,
 ) -> Result<(), Memory>
-    ensures { OnOk result ((w : ℕ → Bool) → seen w out.new ≡ seen w out.old ++ (if holds w pc.now
+    ensures { OnOk result ((w : ℕ → Bool) → leaves_seen w out.new ≡ leaves_seen w out.old
+        ++ (if holds w pc.now
         then piece_of form (at w value.now) ∷ [] else [])) }
 {
     let leaves = value.leaves_under(alloc, pc)?;
@@ -36,8 +37,9 @@ fn add_leaves(
     leaves: Vec<(Guard, Value)>,
     form: Form,
 ) -> Result<(), Memory>
-    ensures { OnOk result ((w : ℕ → Bool) → seen w out.new ≡ seen w out.old ++ map (piece_of form)
-        (seen w leaves.items)) }
+    ensures { OnOk result ((w : ℕ → Bool) → leaves_seen w out.new ≡ leaves_seen w out.old ++ map
+        (piece_of form)
+        (leaves_seen w leaves.items)) }
 {
     'leaves: for (guard, value) in leaves {
         add_leaf(alloc, out, guard, &value, form)?;
@@ -52,7 +54,8 @@ fn add_leaf(
     value: &Value,
     form: Form,
 ) -> Result<(), Memory>
-    ensures { OnOk result ((w : ℕ → Bool) → seen w out.new ≡ seen w out.old ++ (if holds w guard
+    ensures { OnOk result ((w : ℕ → Bool) → leaves_seen w out.new ≡ leaves_seen w out.old
+        ++ (if holds w guard
         then piece_of form value.now ∷ [] else [])) }
 {
     let piece = make_piece(alloc, value, form)?;
@@ -62,7 +65,8 @@ fn add_leaf(
 
 /// Adds that the page isn't there, wherever the path condition holds.
 pub(crate) fn add_missing(alloc: Global, out: &mut Out, pc: &Guard) -> Result<(), Memory>
-    ensures { OnOk result ((w : ℕ → Bool) → seen w out.new ≡ seen w out.old ++ (if holds w pc.now
+    ensures { OnOk result ((w : ℕ → Bool) → leaves_seen w out.new ≡ leaves_seen w out.old
+        ++ (if holds w pc.now
         then piece.Missing ∷ [] else [])) }
 {
     let guard = from_world(pc.copy(alloc))?;

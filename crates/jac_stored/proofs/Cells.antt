@@ -16,7 +16,7 @@ use Rattle.jac_value.specs.declared.value.Value.{Value}
 use Rattle.jac_value.specs.declared.value.Value.TheVariants as values
 use Rattle.jac_stored.specs.Spelling.{cell_bytes, sign_byte}
 use Rattle.jac_stored.specs.Faults.{GoesOn, IsIdOf}
-use Rattle.jac_stored.specs.Reading.{Stops, StopsBy, IsStopOfBytes, Led, IsBetween, Numbers, IsNumber, IsOf, CellsOf, IsCellOf, tag_of, body_of, BodiesOf, IsBodyOf, sign_bytes, Signs, IdsOf, IsLast, LastsOf, IsText, TextsOf, IsIdIn, IsTextIn, most_sign}
+use Rattle.jac_stored.specs.Reading.{Stops, StopsBy, IsStopOfBytes, Led, IsBetween, Numbers, IsNumber, IsOf, CellsOf, IsCellOf, tag_of, text_body, BodiesOf, IsBodyOf, sign_bytes, Signs, IdsOf, IsLastByte, LastsOf, IsText, TextsOf, IsIdIn, IsTextIn, most_sign}
 use Rattle.jac_stored.specs.declared.stop.Stop.{Stop}
 use Rattle.jac_stored.specs.declared.stop.Stop.TheVariants as stops
 use Rattle.jac_stored.proofs.Stops.{stops_at_end, stops_here, stops_behind, stops_refined}
@@ -37,7 +37,7 @@ by_behind L M lead bytes rest split same e s = lifted L M bytes rest (λ n t. su
 
 -- a tag
 
-tagged : (k : Kind) (v : Value) → has_kind k v ≡ true → cell_bytes v ≡ tag_of k ∷ body_of v
+tagged : (k : Kind) (v : Value) → has_kind k v ≡ true → cell_bytes v ≡ tag_of k ∷ text_body v
 tagged kinds.Int (values.Int i) e = refl
 tagged kinds.Text (values.Text t) e = refl
 tagged kinds.Bool (values.Bool b) e = refl
@@ -62,19 +62,19 @@ tag_stops k = by_refined (IsBetween (tag_of k) (tag_of k)) (bytes_high_first 1) 
     (λ t l. record {
       thing = tag_of k;
       is = record { from = omega arith; to = omega arith };
-      after = body_of l.thing ++ l.after;
-      split = l.split ∙ (ap (λ x. x ++ l.after) (tagged k l.thing l.is.fit) ∙ ap (λ x. x ++ (body_of l.thing ++ l.after)) (sym (tag_itself k)));
+      after = text_body l.thing ++ l.after;
+      split = l.split ∙ (ap (λ x. x ++ l.after) (tagged k l.thing l.is.fit) ∙ ap (λ x. x ++ (text_body l.thing ++ l.after)) (sym (tag_itself k)));
     })
     (λ x between.
     let from = between.from in let to = between.to in
     let is : x ≡ tag_of k = omega (arith, from, to) in
     let v = default_value k in (
-      body_of v,
+      text_body v,
       record {
         thing = v;
         is = default_is k;
         after = [];
-        split = ap (λ y. bytes_high_first 1 y ++ body_of v) is ∙ (ap (λ y. y ++ body_of v) (tag_itself k) ∙ (sym (tagged k v (default_is k).fit) ∙ sym (append-nil (cell_bytes v))));
+        split = ap (λ y. bytes_high_first 1 y ++ text_body v) is ∙ (ap (λ y. y ++ text_body v) (tag_itself k) ∙ (sym (tagged k v (default_is k).fit) ∙ sym (append-nil (cell_bytes v))));
       },
     ))
 
@@ -87,7 +87,7 @@ tag_split k bytes rest n number =
 pub body_stops : (k : Kind) (bytes rest : List ℕ) (n : ℕ) → IsNumber (tag_of k) (tag_of k) 1 bytes n rest → (e : Stop) → StopsBy (BodiesOf k) rest e → StopsBy (CellsOf k) bytes e
 body_stops k bytes rest n number = by_behind (CellsOf k) (BodiesOf k) (tag_of k ∷ []) bytes rest (tag_split k bytes rest n number)
     (λ t. (
-      (λ l. let whole : tag_of k ∷ t ≡ tag_of k ∷ (body_of l.thing ++ l.after) = l.split ∙ ap (λ x. x ++ l.after) (tagged k l.thing l.is.fit) in
+      (λ l. let whole : tag_of k ∷ t ≡ tag_of k ∷ (text_body l.thing ++ l.after) = l.split ∙ ap (λ x. x ++ l.after) (tagged k l.thing l.is.fit) in
           record { thing = l.thing; is = l.is; after = l.after; split = cc }),
       (λ l. record { thing = l.thing; is = l.is; after = l.after; split = ap (λ x. tag_of k ∷ x) l.split ∙ ap (λ x. x ++ l.after) (sym (tagged k l.thing l.is.fit)) }),
     ))
@@ -100,7 +100,7 @@ cell_read k bytes rest after n v number read = record {
 
 -- an integer
 
-begin_int : (t : List ℕ) (v : Value) (after : List ℕ) → IsOf kinds.Int v → t ≡ body_of v ++ after → Numbers 0 0xFFFF_FFFF_FFFF_FFFF 8 t
+begin_int : (t : List ℕ) (v : Value) (after : List ℕ) → IsOf kinds.Int v → t ≡ text_body v ++ after → Numbers 0 0xFFFF_FFFF_FFFF_FFFF 8 t
 begin_int t (values.Int i) after is split =
     let room = (Fits-of_z {w = w64} {z = i} is.valid).fits in
     record { thing = cast_unsigned w64 i; is = record { from = omega arith; to = omega (arith, room) }; after = after; split = split }
@@ -152,7 +152,7 @@ sign_stops = by_refined (IsBetween 0 1) (bytes_high_first 1) Signs
 pub sign_read : (bytes rest : List ℕ) (n : ℕ) → IsNumber 0 1 1 bytes n rest → bytes ≡ sign_bytes (n == 1) ++ rest
 sign_read bytes rest n number = number.split ∙ ap (λ y. y ++ rest) (sign_of n number.between.to)
 
-begin_truth : (t : List ℕ) (v : Value) (after : List ℕ) → IsOf kinds.Bool v → t ≡ body_of v ++ after → Signs t
+begin_truth : (t : List ℕ) (v : Value) (after : List ℕ) → IsOf kinds.Bool v → t ≡ text_body v ++ after → Signs t
 begin_truth t (values.Bool b) after is split = record { thing = b; is = tt; after = after; split = split }
 begin_truth t (values.Int i) after is split = let e : false ≡ true = is.fit in cc
 begin_truth t (values.Text s) after is split = let e : false ≡ true = is.fit in cc
@@ -203,7 +203,7 @@ pub has_ids : (m n : ℕ) (bytes rest : List ℕ) → IsNumber 0 (most_sign m) 1
 has_ids m n bytes rest number some =
     let e = most_of (nat_lt m 64) n number.between.to (grind (arith, some)) in grind (arith, nat_tests, e)
 
-begin_ref : (m : ℕ) (t : List ℕ) (v : Value) (after : List ℕ) → IsOf (kinds.Ref m) v → t ≡ body_of v ++ after → Numbers 0 (most_sign m) 1 t
+begin_ref : (m : ℕ) (t : List ℕ) (v : Value) (after : List ℕ) → IsOf (kinds.Ref m) v → t ≡ text_body v ++ after → Numbers 0 (most_sign m) 1 t
 begin_ref m t (values.Ref None) after is split = record { thing = 0; is = record { from = omega arith; to = omega arith }; after = after; split = split }
 begin_ref m t (values.Ref (Some id)) after is split =
     let of = (id_parts id m is.fit).of in
@@ -236,7 +236,7 @@ is_one m n to some = let most = most_at (nat_lt m 64) in grind (arith, to, most,
 some_split : (m n : ℕ) (bytes rest : List ℕ) → IsNumber 0 (most_sign m) 1 bytes n rest → ¬ (n ≡ 0) → bytes ≡ 1 ∷ rest
 some_split m n bytes rest number some = number.split ∙ ap (λ x. bytes_high_first 1 x ++ rest) (is_one m n number.between.to some)
 
-end_ref : (m : ℕ) (t : List ℕ) (v : Value) (after : List ℕ) → IsOf (kinds.Ref m) v → 1 ∷ t ≡ body_of v ++ after → IdsOf m t
+end_ref : (m : ℕ) (t : List ℕ) (v : Value) (after : List ℕ) → IsOf (kinds.Ref m) v → 1 ∷ t ≡ text_body v ++ after → IdsOf m t
 end_ref m t (values.Ref None) after is split = let e : ◌≡◌ {A = ℕ} 1 0 = cc in absurd (omega (arith, e))
 end_ref m t (values.Ref (Some id)) after is split =
     let whole : 1 ∷ t ≡ 1 ∷ (bytes_high_first 16 id ++ after) = split in
@@ -271,7 +271,7 @@ zero_at (suc n) (suc i) = zero_at n i
 pub zeros_are : (n : ℕ) → IsText n (replicate n 0)
 zeros_are n = (IsUtf8-from_ascii (replicate n 0) (λ i. zero_at n i), length-replicate n 0)
 
-begin_text : (t : List ℕ) (v : Value) (after : List ℕ) → IsOf kinds.Text v → t ≡ body_of v ++ after → Numbers 0 0xFFFF_FFFF_FFFF_FFFF 8 t
+begin_text : (t : List ℕ) (v : Value) (after : List ℕ) → IsOf kinds.Text v → t ≡ text_body v ++ after → Numbers 0 0xFFFF_FFFF_FFFF_FFFF 8 t
 begin_text t (values.Text s) after is split =
     let room : length s < 2 ^ 64 = is.valid.1 in
     record { thing = length s; is = record { from = omega arith; to = omega (arith, room) }; after = s ++ after; split = split }
@@ -282,7 +282,7 @@ begin_text t (values.Ref id) after is split = let e : false ≡ true = is.fit in
 text_is : (n : ℕ) (s : List ℕ) → n ≤ 0xFFFF_FFFF_FFFF_FFFF → IsText n s → IsOf kinds.Text (values.Text s)
 text_is n s to is = let long = is.1 in record { fit = refl; valid = (is.0, omega (arith, to, long)) }
 
-text_spelled : (n : ℕ) (s after : List ℕ) → length s ≡ n → bytes_high_first 8 n ++ (s ++ after) ≡ body_of (values.Text s) ++ after
+text_spelled : (n : ℕ) (s after : List ℕ) → length s ≡ n → bytes_high_first 8 n ++ (s ++ after) ≡ text_body (values.Text s) ++ after
 text_spelled n s after long = ap (λ k. bytes_high_first 8 k ++ (s ++ after)) (sym long) ∙ sym (append_assoc (bytes_high_first 8 (length s)) s after)
 
 pub long_stops : (bytes : List ℕ) (e : Stop) → StopsBy (Numbers 0 0xFFFF_FFFF_FFFF_FFFF 8) bytes e → StopsBy (BodiesOf kinds.Text) bytes e
@@ -298,7 +298,7 @@ long_stops = by_refined (IsBetween 0 0xFFFF_FFFF_FFFF_FFFF) (bytes_high_first 8)
       },
     ))
 
-end_text : (n : ℕ) (t : List ℕ) (v : Value) (after : List ℕ) → n ≤ 0xFFFF_FFFF_FFFF_FFFF → IsOf kinds.Text v → bytes_high_first 8 n ++ t ≡ body_of v ++ after → TextsOf n t
+end_text : (n : ℕ) (t : List ℕ) (v : Value) (after : List ℕ) → n ≤ 0xFFFF_FFFF_FFFF_FFFF → IsOf kinds.Text v → bytes_high_first 8 n ++ t ≡ text_body v ++ after → TextsOf n t
 end_text n t (values.Text s) after to is split =
     let room : length s < 2 ^ 64 = is.valid.1 in
     let same = one_spelled 8 n (length s) t (s ++ after) (omega (arith, to)) (omega (arith, room)) (split ∙ append_assoc (bytes_high_first 8 (length s)) s after) in

@@ -1,6 +1,7 @@
 -- What the parts of an id are.
 use Rattle.std.proofs.Common.{◌≡◌, refl, sym, ap, subst, ◌∙◌, ℕ, ◌+◌, ◌*◌, ◌/◌, ◌%◌, ◌^◌, ◌<◌, ◌≤◌, Bool, true, false, ◌&&◌, ◌||◌, ◌==◌, ◌⊎◌, inl, inr, if◌then◌else◌, nat_lt, nat_le, arith}
 use Rattle.std.proofs.lemmas.Bool.Decides.{nat_tests}
+use Rattle.std.proofs.lemmas.Bool.{and_parts}
 use Rattle.jac_value.specs.Ids.{is_id_of, is_narrow, is_wide}
 use Rattle.jac_stored.specs.Reading.{least_next}
 
@@ -38,11 +39,6 @@ least_from_by z x false e h = inr (grind (arith, nat_tests, e))
 least_from : (z x : ℕ) → least_next z ≤ x → (16 ≤ x) ⊎ (0 < z % 0x10_0000_0000)
 least_from z x h = least_from_by z x (z % 0x10_0000_0000 == 0) refl h
 
-both : (a b : Bool) → (a && b) ≡ true → (a ≡ true) × (b ≡ true)
-both true true e = (refl, refl)
-both true false e = cc
-both false b e = cc
-
 either : (a b : Bool) → (a || b) ≡ true → (a ≡ true) ⊎ (b ≡ true)
 either true b e = inl refl
 either false b e = inr e
@@ -69,12 +65,12 @@ from_wide id m around base of =
 
 pub id_parts : (id m : ℕ) → is_id_of id m ≡ true → AreIdParts id m
 id_parts id m is =
-    let parts = both (is_narrow id || is_wide id) (id % 64 == m) is in
+    let parts = and_parts (is_narrow id || is_wide id) (id % 64 == m) is in
     let one = parts.1 in
     let of : id % 64 ≡ m = grind (arith, nat_tests, one) in
     elim (either (is_narrow id) (is_wide id) parts.0) [
       | inl n ↦ from_narrow id m (narrow_facts id n) of
-      | inr w ↦ let two = both (is_narrow (id / 2 ^ 52)) (is_narrow (id % 2 ^ 52)) w in
+      | inr w ↦ let two = and_parts (is_narrow (id / 2 ^ 52)) (is_narrow (id % 2 ^ 52)) w in
           from_wide id m (narrow_facts (id / 0x10_0000_0000_0000) two.0) (narrow_facts (id % 0x10_0000_0000_0000) two.1) of
     ]
 

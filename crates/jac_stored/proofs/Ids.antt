@@ -6,7 +6,7 @@ use Rattle.std.proofs.lemmas.Bool.Decides.{nat_tests}
 use Rattle.std.proofs.lemmas.List.{nil_from_length}
 use Rattle.std.specs.Int.{byte_at, bytes_high_first}
 use Rattle.jac_stored.specs.Faults.{GoesOn, IsIdOf}
-use Rattle.jac_stored.specs.Reading.{Stops, StopsBy, IsStopOfBytes, Led, IsBetween, Numbers, IsNumber, IsOfModel, IdsOf, IsLast, LastsOf, IsIdIn, IsBehindOf, BehindOf, most_top, most_middle, least_next}
+use Rattle.jac_stored.specs.Reading.{Stops, StopsBy, IsStopOfBytes, Led, IsBetween, Numbers, IsNumber, IsOfModel, IdsOf, IsLastByte, LastsOf, IsIdIn, IsBehindOf, BehindOf, most_top, most_middle, least_next}
 use Rattle.jac_value.specs.Ids.{is_id_of}
 use Rattle.jac_stored.specs.declared.stop.Stop.{Stop}
 use Rattle.jac_stored.specs.declared.stop.Stop.TheVariants as stops
@@ -229,7 +229,7 @@ low_stops m top middle next small bytes rest after then' number more last e s =
     (last_same m z next small (front_is top middle number.between.to more.between.to) last.between.from fits) e s)
 
 pub id_read : (m top middle next b : ℕ) → m < 64 → (bytes rest after then' end : List ℕ) → IsNumber 0 0xFF_FFFF_FFFF 8 bytes top rest → IsNumber 0 (most_middle top) 6 rest middle after
-    → IsNumber (least_next (top * 0x1_0000_0000_0000 + middle)) 255 1 after next then' → IsLast m b → then' ≡ b ∷ end
+    → IsNumber (least_next (top * 0x1_0000_0000_0000 + middle)) 255 1 after next then' → IsLastByte m b → then' ≡ b ∷ end
     → IsIdIn m bytes (((top * 0x1_0000_0000_0000 + middle) * 256 + next) * 256 + b) end
 id_read m top middle next b small bytes rest after then' end number more last is split =
     let z = top * 0x1_0000_0000_0000 + middle in

@@ -1,7 +1,7 @@
 -- Guards and lists of cells, piece by piece.
 use Rattle.std.proofs.Common.{map, ℤ, SFits, ◌≡◌, refl, sym, ap, subst, ◌∙◌, ℕ, suc, ◌^◌, ◌<◌, Bool, true, false, List, [], ◌∷◌, ◌++◌, length, append_assoc, append-nil, ◌&&◌, Some, None, arith}
 use Rattle.std.proofs.lemmas.List.{nil_from_length}
-use Rattle.std.proofs.lemmas.Bool.{and_from}
+use Rattle.std.proofs.lemmas.Bool.{and_from, and_parts}
 use Rattle.std.specs.Int.{w64, bytes_high_first, cast_signed, cast_unsigned}
 use Rattle.std.proofs.Math.Facts.{Fits-of_z}
 use Rattle.std.proofs.lemmas.Int.{to_z-of_z}
@@ -13,7 +13,7 @@ use Rattle.jac_value.specs.declared.value.Value.{Value}
 use Rattle.jac_value.specs.declared.value.Value.TheVariants as values
 use Rattle.jac_rows.specs.Good.{have_kinds}
 use Rattle.jac_stored.specs.Spelling.{AreCells, cell_bytes, cells_bytes, sign_byte, SpellsCells}
-use Rattle.jac_stored.specs.Reading.{Stops, StopsBy, IsOf, CellsOf, IsCellOf, CellsSoFar, AreSpelled}
+use Rattle.jac_stored.specs.Reading.{Stops, StopsBy, IsOf, CellsOf, IsCellOf, CellsSoFar, AreCellsSpelled}
 use Rattle.jac_stored.specs.declared.stop.Stop.{Stop}
 use Rattle.jac_stored.proofs.Stops.{stops_here, stops_behind}
 use Rattle.jac_stored.proofs.Numbers.{one_spelled}
@@ -21,10 +21,6 @@ use Rattle.jac_stored.proofs.Cells.{by_refined, lifted, default_is}
 use Rattle.jac_stored.proofs.IdParts.{id_parts}
 
 -- cells in front and behind
-
-pub both_true : (a b : Bool) → (a && b) ≡ true → (a ≡ true) × (b ≡ true)
-both_true true b e = (refl, e)
-both_true false b e = let f : false ≡ true = e in cc
 
 defaults_are : (ks : List Kind) → SpellsCells ks (cells_bytes (map default_value ks))
 defaults_are [] = ([], record { fit = refl; each = tt }, refl)
@@ -40,7 +36,7 @@ spelled_first k ks v t is rest =
 
 first_begins : (k : Kind) (ks : List Kind) (t : List ℕ) (vs : List Value) → AreCells (k ∷ ks) vs → t ≡ cells_bytes vs → CellsOf k t
 first_begins k ks t [] are split = let e : false ≡ true = are.fit in cc
-first_begins k ks t (v ∷ vs) are split = record { thing = v; is = record { fit = (both_true (has_kind k v) (have_kinds ks vs) are.fit).0; valid = are.each.0 }; after = cells_bytes vs; split = split }
+first_begins k ks t (v ∷ vs) are split = record { thing = v; is = record { fit = (and_parts (has_kind k v) (have_kinds ks vs) are.fit).0; valid = are.each.0 }; after = cells_bytes vs; split = split }
 
 cell_stops : (k : Kind) (ks : List Kind) (bytes : List ℕ) (e : Stop) → StopsBy (CellsOf k) bytes e → StopsBy (SpellsCells (k ∷ ks)) bytes e
 cell_stops k ks = by_refined (IsOf k) cell_bytes (SpellsCells (k ∷ ks))
@@ -108,7 +104,7 @@ cell_once k u v s t iu iv e = let f = iu.fit in let g = iv.fit in cc
 behind_first : (k : Kind) (ks : List Kind) (v : Value) (t : List ℕ) (vs : List Value) → IsOf k v → AreCells (k ∷ ks) vs → cell_bytes v ++ t ≡ cells_bytes vs → SpellsCells ks t
 behind_first k ks v t [] is are split = let e : false ≡ true = are.fit in cc
 behind_first k ks v t (u ∷ us) is are split =
-    let parts = both_true (has_kind k u) (have_kinds ks us) are.fit in
+    let parts = and_parts (has_kind k u) (have_kinds ks us) are.fit in
     let one = cell_once k v u t (cells_bytes us) is (record { fit = parts.0; valid = are.each.0 }) split in
     (us, record { fit = parts.1; each = are.each.1 }, one.1)
 
@@ -147,7 +143,7 @@ cells_trail kinds body made [] [] so_far none some = absurd (let f : 0 < 0 = som
 cells_trail kinds body made [] (b ∷ bs) so_far none some = so_far.stops (length (b ∷ bs)) (trailing b bs)
 cells_trail kinds body made (k ∷ ks) rest so_far none some = absurd (let f : suc (length ks) ≡ 0 = none in omega (arith, f))
 
-pub cells_end : (kinds : List Kind) (body : List ℕ) (made : List Value) (to_come : List Kind) (rest : List ℕ) → CellsSoFar kinds body made to_come rest → length to_come ≡ 0 → length rest ≡ 0 → AreSpelled kinds body made
+pub cells_end : (kinds : List Kind) (body : List ℕ) (made : List Value) (to_come : List Kind) (rest : List ℕ) → CellsSoFar kinds body made to_come rest → length to_come ≡ 0 → length rest ≡ 0 → AreCellsSpelled kinds body made
 cells_end kinds body made [] rest so_far all none =
     let done = so_far.spelled [] (record { fit = refl; each = tt }) (nil_from_length rest none) in
     let same = append-nil made in
@@ -162,8 +158,8 @@ cells_once [] [] (v ∷ vs) is also e = let f : false ≡ true = also.fit in cc
 cells_once (k ∷ ks) [] vs is also e = let f : false ≡ true = is.fit in cc
 cells_once (k ∷ ks) (u ∷ us) [] is also e = let f : false ≡ true = also.fit in cc
 cells_once (k ∷ ks) (u ∷ us) (v ∷ vs) is also e =
-    let first = both_true (has_kind k u) (have_kinds ks us) is.fit in
-    let other = both_true (has_kind k v) (have_kinds ks vs) also.fit in
+    let first = and_parts (has_kind k u) (have_kinds ks us) is.fit in
+    let other = and_parts (has_kind k v) (have_kinds ks vs) also.fit in
     let one = cell_once k u v (cells_bytes us) (cells_bytes vs) (record { fit = first.0; valid = is.each.0 }) (record { fit = other.0; valid = also.each.0 }) e in
     let rest = cells_once ks us vs (record { fit = first.1; each = is.each.1 }) (record { fit = other.1; each = also.each.1 }) one.1 in
     λ i. one.0 i ∷ rest i

@@ -8,7 +8,7 @@ use Rattle.std.proofs.lemmas.Str.{encode_ascii, IsUtf8-nil}
 use Rattle.std.specs.Str.{IsUtf8, continuation_len}
 use lib.Utf8.{scalar, scalars, encode, encodes, next, low_scalar, scalar_cases}
 use Rattle.jac_stored.specs.Faults.{GoesOn}
-use Rattle.jac_stored.specs.Reading.{Stops, IsBetween, TextsOf, IsTextBefore, is_lead, least_second, most_second, Ends, IsLeft, LeftOf, CanEnd, IsBehindByte, TextSoFar}
+use Rattle.jac_stored.specs.Reading.{Stops, IsBetween, TextsOf, IsTextBefore, is_lead, least_second, most_second, EndsCharacter, IsTextLeft, LeftOf, CanEnd, IsBehindByte, TextSoFar}
 use Rattle.jac_stored.specs.declared.text.Unread.{Unread}
 use Rattle.jac_stored.proofs.Stops.{stops_at_end, stops_here, stops_behind}
 use Rattle.jac_stored.proofs.Cells.{zeros_are}
@@ -71,13 +71,13 @@ lead_from b is l = (grind (arith, nat_tests, is, l), grind (arith, nat_tests, is
 
 abbrev pub FirstAndEnd : List ℕ → Type 0
 FirstAndEnd [] = ⊤
-FirstAndEnd (b ∷ bs) = (is_lead b ≡ true) × Ends (continuation_len b) (least_second b) (most_second b) bs
+FirstAndEnd (b ∷ bs) = (is_lead b ≡ true) × EndsCharacter (continuation_len b) (least_second b) (most_second b) bs
 
 char_first : (c : ℕ) (rest : List ℕ) → scalar c ≡ true → IsUtf8 rest → FirstAndEnd (encode c ++ rest)
 char_first c rest ok u =
     let range = scalar_cases c ok in
     elim (cases_lt c 128) [
-      | inl a ↦ subst (λ l. FirstAndEnd (l ++ rest)) (sym (encode_ascii c a)) (lead_low c a, subst (λ n. Ends n (least_second c) (most_second c) rest) (sym (len_zero c a)) u)
+      | inl a ↦ subst (λ l. FirstAndEnd (l ++ rest)) (sym (encode_ascii c a)) (lead_low c a, subst (λ n. EndsCharacter n (least_second c) (most_second c) rest) (sym (len_zero c a)) u)
       | inr a ↦ elim (cases_lt c 2048) [
         | inl b ↦
             let x = 192 + c / 64 in
@@ -85,7 +85,7 @@ char_first c rest ok u =
             let m = most_is x in
             subst (λ l. FirstAndEnd (l ++ rest)) (sym (two c a b)) (
               lead_high x (omega arith) (omega arith),
-              subst (λ n. Ends n (least_second x) (most_second x) (next c ∷ rest)) (sym (len_one x (omega arith) (omega arith)))
+              subst (λ n. EndsCharacter n (least_second x) (most_second x) (next c ∷ rest)) (sym (len_one x (omega arith) (omega arith)))
                   (record { from = omega arith; to = omega arith }, u),
             )
         | inr b ↦ elim (cases_lt c 65536) [
@@ -95,7 +95,7 @@ char_first c rest ok u =
               let m = most_is x in
               subst (λ l. FirstAndEnd (l ++ rest)) (sym (three c b d)) (
                 lead_high x (omega arith) (omega arith),
-                subst (λ n. Ends n (least_second x) (most_second x) (next (c / 64) ∷ next c ∷ rest)) (sym (len_two x (omega arith) (omega arith)))
+                subst (λ n. EndsCharacter n (least_second x) (most_second x) (next (c / 64) ∷ next c ∷ rest)) (sym (len_two x (omega arith) (omega arith)))
                     (record { from = omega arith; to = omega arith }, (record { from = omega arith; to = omega arith }, u)),
               )
           | inr d ↦
@@ -104,7 +104,7 @@ char_first c rest ok u =
               let m = most_is x in
               subst (λ l. FirstAndEnd (l ++ rest)) (sym (four c d)) (
                 lead_high x (omega arith) (omega arith),
-                subst (λ n. Ends n (least_second x) (most_second x) (next (c / 4096) ∷ next (c / 64) ∷ next c ∷ rest)) (sym (len_three x (omega arith)))
+                subst (λ n. EndsCharacter n (least_second x) (most_second x) (next (c / 4096) ∷ next (c / 64) ∷ next c ∷ rest)) (sym (len_three x (omega arith)))
                     (record { from = omega arith; to = omega arith }, (record { from = omega arith; to = omega arith }, (record { from = omega arith; to = omega arith }, u))),
               )
         ]
@@ -168,16 +168,16 @@ cons_four x y z w bs h f i g j =
 bounds : (low high b : ℕ) → IsBetween low high b → (low ≤ b) × (b ≤ high)
 bounds low high b is = (is.from, is.to)
 
-ends_one : (x : ℕ) (bs : List ℕ) → (0xC2 ≤ x) × (x < 0xE0) → Ends 1 (least_second x) (most_second x) bs → IsUtf8 (x ∷ bs)
+ends_one : (x : ℕ) (bs : List ℕ) → (0xC2 ≤ x) × (x < 0xE0) → EndsCharacter 1 (least_second x) (most_second x) bs → IsUtf8 (x ∷ bs)
 ends_one x [] h e = absurd e
 ends_one x (y ∷ bs) h e = cons_two x y bs h (second_continues x y e.0) e.1
 
-ends_two : (x : ℕ) (bs : List ℕ) → (0xE0 ≤ x) × (x < 0xF0) → Ends 2 (least_second x) (most_second x) bs → IsUtf8 (x ∷ bs)
+ends_two : (x : ℕ) (bs : List ℕ) → (0xE0 ≤ x) × (x < 0xF0) → EndsCharacter 2 (least_second x) (most_second x) bs → IsUtf8 (x ∷ bs)
 ends_two x [] h e = absurd e
 ends_two x (y ∷ []) h e = absurd e.1
 ends_two x (y ∷ z ∷ bs) h e = cons_three x y z bs h (bounds _ _ y e.0) (second_continues x y e.0) (bounds 0x80 0xBF z e.1.0) e.1.1
 
-ends_three : (x : ℕ) (bs : List ℕ) → (0xF0 ≤ x) × (x ≤ 0xF4) → Ends 3 (least_second x) (most_second x) bs → IsUtf8 (x ∷ bs)
+ends_three : (x : ℕ) (bs : List ℕ) → (0xF0 ≤ x) × (x ≤ 0xF4) → EndsCharacter 3 (least_second x) (most_second x) bs → IsUtf8 (x ∷ bs)
 ends_three x [] h e = absurd e
 ends_three x (y ∷ []) h e = absurd e.1
 ends_three x (y ∷ z ∷ []) h e = absurd e.1.1
@@ -186,14 +186,14 @@ ends_three x (y ∷ z ∷ w ∷ bs) h e = cons_four x y z w bs h (bounds _ _ y e
 pub first_to : (b : ℕ) (bs : List ℕ) → FirstAndEnd (b ∷ bs) → IsUtf8 (b ∷ bs)
 first_to b bs f =
     elim (cases_lt b 128) [
-      | inl a ↦ let u : IsUtf8 bs = subst (λ n. Ends n (least_second b) (most_second b) bs) (len_zero b a) f.1 in cons b (b ∷ []) bs (low_scalar b (omega arith)) (encode_ascii b a) u
+      | inl a ↦ let u : IsUtf8 bs = subst (λ n. EndsCharacter n (least_second b) (most_second b) bs) (len_zero b a) f.1 in cons b (b ∷ []) bs (low_scalar b (omega arith)) (encode_ascii b a) u
       | inr a ↦
           let range = lead_from b f.0 a in
           elim (cases_lt b 224) [
-            | inl h ↦ ends_one b bs (range.0, h) (subst (λ n. Ends n (least_second b) (most_second b) bs) (len_one b a h) f.1)
+            | inl h ↦ ends_one b bs (range.0, h) (subst (λ n. EndsCharacter n (least_second b) (most_second b) bs) (len_one b a h) f.1)
             | inr l ↦ elim (cases_lt b 240) [
-              | inl h ↦ ends_two b bs (l, h) (subst (λ n. Ends n (least_second b) (most_second b) bs) (len_two b l h) f.1)
-              | inr k ↦ ends_three b bs (k, range.1) (subst (λ n. Ends n (least_second b) (most_second b) bs) (len_three b k) f.1)
+              | inl h ↦ ends_two b bs (l, h) (subst (λ n. EndsCharacter n (least_second b) (most_second b) bs) (len_two b l h) f.1)
+              | inr k ↦ ends_three b bs (k, range.1) (subst (λ n. EndsCharacter n (least_second b) (most_second b) bs) (len_three b k) f.1)
             ]
           ]
     ]
@@ -206,11 +206,11 @@ one_more_long left bs some long = omega (arith, some, long)
 one_less_long : (left : ℕ) (bs : List ℕ) → suc (length bs) ≡ left → length bs ≡ left - 1
 one_less_long left bs long = omega (arith, long)
 
-ends_closed : (inside low high : ℕ) (text : List ℕ) → inside ≡ 0 → Ends inside low high text ↔ IsUtf8 text
+ends_closed : (inside low high : ℕ) (text : List ℕ) → inside ≡ 0 → EndsCharacter inside low high text ↔ IsUtf8 text
 ends_closed zero low high text none = ((λ h. h), (λ h. h))
 ends_closed (suc n) low high text none = absurd (omega (arith, none))
 
-ends_long : (inside low high : ℕ) (text : List ℕ) → Ends inside low high text → inside ≤ length text
+ends_long : (inside low high : ℕ) (text : List ℕ) → EndsCharacter inside low high text → inside ≤ length text
 ends_long zero low high text h = omega arith
 ends_long (suc n) low high [] h = absurd h
 ends_long (suc n) low high (b ∷ bs) h = let more = ends_long n 0x80 0xBF bs h.1 in omega (arith, more)
@@ -229,7 +229,7 @@ behind_lead u b some closed lead room = record {
   fewer = omega (arith, some);
 }
 
-pub never_lead : (u : Unread) (b : ℕ) → u.inside ≡ 0 → ¬ ((is_lead b ≡ true) × (continuation_len b ≤ u.left - 1)) → (text : List ℕ) → ¬ (IsLeft u (b ∷ text))
+pub never_lead : (u : Unread) (b : ℕ) → u.inside ≡ 0 → ¬ ((is_lead b ≡ true) × (continuation_len b ≤ u.left - 1)) → (text : List ℕ) → ¬ (IsTextLeft u (b ∷ text))
 never_lead u b closed out text is =
     let first = first_from b text ((ends_closed u.inside u.low u.high (b ∷ text) closed).0 is.0) in
     let long = ends_long (continuation_len b) (least_second b) (most_second b) text first.1 in
@@ -238,7 +238,7 @@ never_lead u b closed out text is =
 
 -- a text byte by byte
 
-some_end : (inside low high left : ℕ) → inside ≤ left → low ≤ high → (text : List ℕ) × Ends inside low high text × (length text ≡ left)
+some_end : (inside low high left : ℕ) → inside ≤ left → low ≤ high → (text : List ℕ) × EndsCharacter inside low high text × (length text ≡ left)
 some_end zero low high left room bounds = let zeros = zeros_are left in (replicate left 0, zeros.0, zeros.1)
 some_end (suc n) low high zero room bounds = absurd (omega (arith, room))
 some_end (suc n) low high (suc left) room bounds =
@@ -251,11 +251,11 @@ left_goes u can =
     (r.0, record { thing = r.0; is = (r.1, r.2); after = []; split = sym (append-nil r.0) })
 
 -- what stands in front isn't empty
-left_first : (u : Unread) (b : ℕ) (bs text after : List ℕ) → 0 < u.left → IsLeft u text → b ∷ bs ≡ text ++ after → (more : List ℕ) × IsLeft u (b ∷ more) × (bs ≡ more ++ after)
+left_first : (u : Unread) (b : ℕ) (bs text after : List ℕ) → 0 < u.left → IsTextLeft u text → b ∷ bs ≡ text ++ after → (more : List ℕ) × IsTextLeft u (b ∷ more) × (bs ≡ more ++ after)
 left_first u b bs [] after some is split = absurd (let e : 0 ≡ u.left = is.1 in omega (arith, e, some))
 left_first u b bs (c ∷ text) after some is split =
     let head : c ≡ b = cc in
-    (text, subst (λ x. IsLeft u (x ∷ text)) head is, cc)
+    (text, subst (λ x. IsTextLeft u (x ∷ text)) head is, cc)
 
 led_same : (u next : Unread) (b : ℕ) → 0 < u.left → IsBehindByte u b next → (t : List ℕ) → LeftOf u (b ∷ t) ↔ LeftOf next t
 led_same u next b some behind t = (
@@ -281,11 +281,11 @@ pub text_short : (long : ℕ) (bytes : List ℕ) (u : Unread) (rest : List ℕ) 
 text_short long bytes u rest so_far some none = so_far.stops 0 (subst (λ x. Stops (LeftOf u) x 0) (sym (nil_from_length rest none))
     (stops_at_end (LeftOf u) (left_goes u so_far.can_end) (λ l. empty l.thing l.after l.is l.split)))
   where
-    empty : (text after : List ℕ) → IsLeft u text → ¬ ([] ≡ text ++ after)
+    empty : (text after : List ℕ) → IsTextLeft u text → ¬ ([] ≡ text ++ after)
     empty [] after is e = let long : 0 ≡ u.left = is.1 in omega (arith, long, some)
     empty (b ∷ text) after is e = cc
 
-pub text_out : (long : ℕ) (bytes : List ℕ) (u : Unread) (b : ℕ) (rest after : List ℕ) → TextSoFar long bytes u rest → rest ≡ b ∷ after → 0 < u.left → ((text : List ℕ) → ¬ (IsLeft u (b ∷ text))) → Stops (TextsOf long) bytes (length rest)
+pub text_out : (long : ℕ) (bytes : List ℕ) (u : Unread) (b : ℕ) (rest after : List ℕ) → TextSoFar long bytes u rest → rest ≡ b ∷ after → 0 < u.left → ((text : List ℕ) → ¬ (IsTextLeft u (b ∷ text))) → Stops (TextsOf long) bytes (length rest)
 text_out long bytes u b rest after so_far split some never = so_far.stops (length rest) (subst (λ x. Stops (LeftOf u) x (length x)) (sym split)
     (stops_here (LeftOf u) b after (left_goes u so_far.can_end)
     (λ goes. let l = goes.1 in let f = left_first u b goes.0 l.thing l.after some l.is l.split in never f.0 f.1)))

@@ -95,19 +95,19 @@ tag_of kinds.Text = 2
 tag_of kinds.Bool = 3
 tag_of (kinds.Ref m) = 4
 
-abbrev pub body_of : Value → List ℕ
-body_of (values.Int i) = to_be_bytes w64 (cast_unsigned w64 i)
-body_of (values.Text t) = to_be_bytes w64 (length t) ++ t
-body_of (values.Bool b) = sign_byte b ∷ []
-body_of (values.Ref None) = 0 ∷ []
-body_of (values.Ref (Some id)) = 1 ∷ to_be_bytes w128 id
+abbrev pub text_body : Value → List ℕ
+text_body (values.Int i) = to_be_bytes w64 (cast_unsigned w64 i)
+text_body (values.Text t) = to_be_bytes w64 (length t) ++ t
+text_body (values.Bool b) = sign_byte b ∷ []
+text_body (values.Ref None) = 0 ∷ []
+text_body (values.Ref (Some id)) = 1 ∷ to_be_bytes w128 id
 
 abbrev pub BodiesOf : Kind → List ℕ → Type 0
-BodiesOf kind = Led (IsOf kind) body_of
+BodiesOf kind = Led (IsOf kind) text_body
 
 pub record IsBodyOf (kind : Kind) (bytes : List ℕ) (cell : Value) (after : List ℕ) : Type 0 where
   pub of_kind : IsOf kind cell
-  pub split : bytes ≡ body_of cell ++ after
+  pub split : bytes ≡ text_body cell ++ after
 
 -- a byte of a truth value
 abbrev pub IsTruth : Bool → Type 0
@@ -152,14 +152,14 @@ abbrev pub least_next : ℕ → ℕ
 least_next front = if front % 2 ^ 36 == 0 then 16 else 0
 
 -- the last byte of one
-abbrev pub IsLast : ℕ → ℕ → Type 0
-IsLast model b = (b < 256) × (b % 64 ≡ model)
+abbrev pub IsLastByte : ℕ → ℕ → Type 0
+IsLastByte model b = (b < 256) × (b % 64 ≡ model)
 
 abbrev pub one_byte : ℕ → List ℕ
 one_byte b = b ∷ []
 
 abbrev pub LastsOf : ℕ → List ℕ → Type 0
-LastsOf model = Led (IsLast model) one_byte
+LastsOf model = Led (IsLastByte model) one_byte
 
 -- a text of so many bytes
 abbrev pub IsText : ℕ → List ℕ → Type 0
@@ -189,17 +189,17 @@ abbrev pub most_second : ℕ → ℕ
 most_second b = if b == 0xED then 0x9F else (if b == 0xF4 then 0x8F else 0xBF)
 
 -- so many bytes that end a character, the first of them within bounds, and then a text
-abbrev pub Ends : ℕ → ℕ → ℕ → List ℕ → Type 0
-Ends zero low high text = IsUtf8 text
-Ends (suc n) low high [] = ⊥
-Ends (suc n) low high (b ∷ bs) = IsBetween low high b × Ends n 0x80 0xBF bs
+abbrev pub EndsCharacter : ℕ → ℕ → ℕ → List ℕ → Type 0
+EndsCharacter zero low high text = IsUtf8 text
+EndsCharacter (suc n) low high [] = ⊥
+EndsCharacter (suc n) low high (b ∷ bs) = IsBetween low high b × EndsCharacter n 0x80 0xBF bs
 
 -- what is left of a text
-abbrev pub IsLeft : Unread → List ℕ → Type 0
-IsLeft u text = Ends u.inside u.low u.high text × (length text ≡ u.left)
+abbrev pub IsTextLeft : Unread → List ℕ → Type 0
+IsTextLeft u text = EndsCharacter u.inside u.low u.high text × (length text ≡ u.left)
 
 abbrev pub LeftOf : Unread → List ℕ → Type 0
-LeftOf u = Led (IsLeft u) itself
+LeftOf u = Led (IsTextLeft u) itself
 
 -- some bytes are left of a text
 pub record CanEnd (u : Unread) : Type 0 where
@@ -208,14 +208,14 @@ pub record CanEnd (u : Unread) : Type 0 where
 
 -- what is left behind a byte
 pub record IsBehindByte (u : Unread) (b : ℕ) (next : Unread) : Type 0 where
-  pub same : (text : List ℕ) → IsLeft u (b ∷ text) ↔ IsLeft next text
+  pub same : (text : List ℕ) → IsTextLeft u (b ∷ text) ↔ IsTextLeft next text
   pub can_end : CanEnd next
   pub fewer : next.left < u.left
 
 -- a text in the middle of being read
 pub record TextSoFar (long : ℕ) (bytes : List ℕ) (u : Unread) (rest : List ℕ) : Type 0 where
   pub can_end : CanEnd u
-  pub spelled : (text after : List ℕ) → IsLeft u text → rest ≡ text ++ after
+  pub spelled : (text after : List ℕ) → IsTextLeft u text → rest ≡ text ++ after
       → IsTextBefore long bytes after
   pub stops : (n : ℕ) → Stops (LeftOf u) rest n → Stops (TextsOf long) bytes n
 
@@ -227,7 +227,7 @@ pub record CellsSoFar (kinds : List Kind) (body : List ℕ) (made : List Value) 
   pub stops : (n : ℕ) → Stops (SpellsCells to_come) rest n → Stops (SpellsCells kinds) body n
 
 -- the cells, all of the bytes
-pub record AreSpelled (kinds : List Kind) (body : List ℕ) (cells : List Value) : Type 0 where
+pub record AreCellsSpelled (kinds : List Kind) (body : List ℕ) (cells : List Value) : Type 0 where
   pub fit : AreCells kinds cells
   pub spelled : body ≡ cells_bytes cells
 

@@ -1,6 +1,6 @@
 ghost use Rattle.std.specs.Prelude.{IfOk, IfErr};
 ghost use Rattle.jac_stored.specs.Spelling.{SpellsCells};
-ghost use Rattle.jac_stored.specs.Reading.{StopsBy, AreSpelled};
+ghost use Rattle.jac_stored.specs.Reading.{StopsBy, AreCellsSpelled};
 
 use crate::cell::cell;
 use crate::stop::Stop;
@@ -10,7 +10,7 @@ use std::alloc::Global;
 // The cells of these kinds that are all of the bytes.
 #[tactic(auto, using(crate::proofs::Rows::cells_start, crate::proofs::Rows::cells_step, crate::proofs::Rows::cells_stop))]
 pub(crate) fn cells(alloc: Global, kinds: &[Kind], body: &[u8]) -> Result<Cells, Stop>
-    ensures cells { IfOk result (AreSpelled kinds.now body.now) }
+    ensures cells { IfOk result (AreCellsSpelled kinds.now body.now) }
     ensures stops { IfErr result (StopsBy (SpellsCells kinds.now) body.now) }
 {
     let mut cells = Vec::new(alloc);

@@ -1,6 +1,6 @@
 ghost use Rattle.std.specs.Prelude.{◌≡◌, ◌<◌, ◌≤◌, ◌^◌, ◌∷◌, ◌++◌, ℕ, IfOk, IfErr};
 ghost use Rattle.jac_value.specs.declared.value.Kind.TheVariants as kinds;
-ghost use Rattle.jac_stored.specs.Reading.{StopsBy, IsStopOfBytes, CellsOf, IsCellOf, BodiesOf, IsBodyOf, tag_of, Signs, IdsOf, LastsOf, IsIdIn, IsLast, sign_bytes, most_sign, most_middle, least_next};
+ghost use Rattle.jac_stored.specs.Reading.{StopsBy, IsStopOfBytes, CellsOf, IsCellOf, BodiesOf, IsBodyOf, tag_of, Signs, IdsOf, LastsOf, IsIdIn, IsLastByte, sign_bytes, most_sign, most_middle, least_next};
 
 use crate::number::number;
 use crate::stop::Stop;
@@ -135,7 +135,7 @@ fn least_next(front: u128) -> u128
 #[tactic(auto, using(crate::proofs::Cells::last_short, crate::proofs::Cells::last_out))]
 fn last_byte(bytes: &[u8], model: u8) -> Result<(u8, &[u8]), Stop>
     requires { model < 64 }
-    ensures byte { IfOk result (λ r. IsLast model r.0 × (bytes.now ≡ r.0 ∷ r.1.now)) }
+    ensures byte { IfOk result (λ r. IsLastByte model r.0 × (bytes.now ≡ r.0 ∷ r.1.now)) }
     ensures stops { IfErr result (StopsBy (LastsOf model) bytes.now) }
     ensures of_bytes { IfErr result IsStopOfBytes }
 {

@@ -1,6 +1,6 @@
 ghost use Rattle.std.specs.Prelude.{◌≡◌, ◌<◌, ◌∷◌, ℕ, List, IfOk, IfErr, IfSome, IsNone};
 ghost use Rattle.std.specs.Str.{continuation_len};
-ghost use Rattle.jac_stored.specs.Reading.{StopsBy, TextsOf, IsTextIn, IsTextBefore, IsLeft, CanEnd, IsBehindByte, is_lead, least_second, most_second};
+ghost use Rattle.jac_stored.specs.Reading.{StopsBy, TextsOf, IsTextIn, IsTextBefore, IsTextLeft, CanEnd, IsBehindByte, is_lead, least_second, most_second};
 
 use crate::stop::Stop;
 use jac_value::{Txt, TxtFault};
@@ -61,7 +61,7 @@ fn unread_behind(unread: Unread, byte: u8) -> Option<Unread>
     requires some { 0 < unread.left }
     requires can_end { CanEnd unread }
     ensures next { IfSome result (IsBehindByte unread byte) }
-    ensures none { IsNone result → (text : List ℕ) → ¬ (IsLeft unread (byte ∷ text)) }
+    ensures none { IsNone result → (text : List ℕ) → ¬ (IsTextLeft unread (byte ∷ text)) }
 {
     if unread.inside == 0 {
         unread_behind_lead(unread, byte)
@@ -75,7 +75,7 @@ fn unread_behind_later(unread: Unread, byte: u8) -> Option<Unread>
     requires inside { 0 < unread.inside }
     requires can_end { CanEnd unread }
     ensures next { IfSome result (IsBehindByte unread byte) }
-    ensures none { IsNone result → (text : List ℕ) → ¬ (IsLeft unread (byte ∷ text)) }
+    ensures none { IsNone result → (text : List ℕ) → ¬ (IsTextLeft unread (byte ∷ text)) }
 {
     if byte < unread.low || unread.high < byte {
         return None;
@@ -93,7 +93,7 @@ fn unread_behind_lead(unread: Unread, byte: u8) -> Option<Unread>
     requires some { 0 < unread.left }
     requires closed { unread.inside ≡ 0 }
     ensures next { IfSome result (IsBehindByte unread byte) }
-    ensures none { IsNone result → (text : List ℕ) → ¬ (IsLeft unread (byte ∷ text)) }
+    ensures none { IsNone result → (text : List ℕ) → ¬ (IsTextLeft unread (byte ∷ text)) }
 {
     let left = unread.left - 1;
     let inside = continuation_len(byte);

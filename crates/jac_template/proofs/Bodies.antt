@@ -1,12 +1,12 @@
 -- Statements and views whose templates are expanded, one after another.
 use Rattle.std.proofs.Common.{◌≡◌, inl, inr, ℕ, ◌+◌, ◌&&◌, Bool, true, false, List, [], ◌∷◌, ◌++◌, refl, sym, ◌∙◌, ap, subst, append_assoc, append-nil}
-use Rattle.jac_lang.specs.Mirror.{page_of, pages_of}
+use Rattle.jac_lang.specs.Mirror.{page_of_view, pages_of}
 use Rattle.jac_lang.specs.Syntax.{Statement, Statements, Page}
 use Rattle.jac_lang.specs.Turned.{body_onto}
 use Rattle.jac_lang.specs.declared.pages.View.{View}
 use Rattle.jac_template.specs.Applications.{ExpandsStatement, ExpandsBody, ExpandsView, ExpandsViews, StatementFault, BodyFault, ViewsFault}
 use Rattle.jac_template.specs.Faults.{Fault}
-use Rattle.jac_template.specs.Untemplated.{are_untemplated, are_untemplated_views}
+use Rattle.jac_lang.specs.Untemplated.{are_untemplated, are_untemplated_views}
 
 -- what the statements `left` expand to, behind those so far, all expand to; those so far are turned round
 pub record BodyLeads (all so_far left : Statements) : Type 0 where
@@ -32,9 +32,9 @@ pub body_whole : (all so_far left : Statements) → left ≡ Statements.none →
 body_whole all so_far left end leads = leads.written Statements.none (subst (λ (l : Statements). ExpandsBody l Statements.none) (sym end) refl)
 
 -- one more view
-pub pages_of-push : (views : List View) (v : View) → pages_of (views ++ v ∷ []) ≡ pages_of views ++ page_of v ∷ []
+pub pages_of-push : (views : List View) (v : View) → pages_of (views ++ v ∷ []) ≡ pages_of views ++ page_of_view v ∷ []
 pages_of-push [] v = refl
-pages_of-push (w ∷ views) v = ap (λ (ps : List Page). page_of w ∷ ps) (pages_of-push views v)
+pages_of-push (w ∷ views) v = ap (λ (ps : List Page). page_of_view w ∷ ps) (pages_of-push views v)
 
 -- the same of views
 pub record ViewsLead (all so_far left : List Page) (number : ℕ) : Type 0 where

@@ -1,8 +1,8 @@
 -- The pieces behind the first.
 use Rattle.std.proofs.Common.{◌≡◌, ◌<◌, ℕ, zero, suc, ◌+◌, ◌-◌, Bool, true, false, if◌then◌else◌, List, [], ◌∷◌, length, take, drop, Option, Some, None, refl, sym, ◌∙◌, ap, subst, arith}
 use Rattle.std.proofs.lemmas.List.{drop-drop}
-use Rattle.jac_template.specs.Pieces.{Piece, Cut, cut, piece, begins_with, literal_length, content_length, tag_cut, first_cut, pieces_from}
-use Rattle.jac_template.specs.Tags.{Meaning, MeansAs, Means}
+use Rattle.jac_template.specs.Pieces.{Piece, Cut, piece_cut, piece, begins_with, literal_length, content_length, tag_cut, first_cut, pieces_from}
+use Rattle.jac_template.specs.Tags.{Meaning, MeansAs, MeansTag}
 use Rattle.jac_template.specs.declared.pieces.Kind.{Kind}
 use Rattle.jac_template.specs.declared.pieces.Kind.TheVariants as kinds
 
@@ -29,7 +29,7 @@ sized b bytes = either (begins_with 123 123 (b ∷ bytes)) (begins_with 123 37 (
     either : (output control : Bool) → begins_with 123 123 (b ∷ bytes) ≡ output → begins_with 123 37 (b ∷ bytes) ≡ control
         → 0 < (if output then tag_cut kinds.Output (drop 2 (b ∷ bytes)) (content_length 125 (drop 2 (b ∷ bytes))) else
         if control then tag_cut kinds.Control (drop 2 (b ∷ bytes)) (content_length 37 (drop 2 (b ∷ bytes))) else
-        cut kinds.Literal (take (literal_length (b ∷ bytes)) (b ∷ bytes)) (literal_length (b ∷ bytes))).size
+        piece_cut kinds.Literal (take (literal_length (b ∷ bytes)) (b ∷ bytes)) (literal_length (b ∷ bytes))).size
     either true control e k = tag_sized kinds.Output (drop 2 (b ∷ bytes)) (content_length 125 (drop 2 (b ∷ bytes)))
     either false true e k = tag_sized kinds.Control (drop 2 (b ∷ bytes)) (content_length 37 (drop 2 (b ∷ bytes)))
     either false false e k = rw (e, k) (omega arith)
@@ -52,7 +52,7 @@ first_piece place (b ∷ left) rest some behind size =
 
 -- what a piece means is what its kind and content mean
 pub means_piece : (place : ℕ) (kind : Kind) (content : List ℕ) (c : Cut) (m : Meaning) → kind ≡ c.kind → content ≡ c.content → MeansAs kind place content m
-    → Means (piece place c) m
+    → MeansTag (piece place c) m
 means_piece place kind content c m k e h =
     subst (λ (z : Kind). MeansAs z place c.content m) k (subst (λ (z : List ℕ). MeansAs kind place z m) e h)
 

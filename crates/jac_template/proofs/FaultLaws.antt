@@ -4,7 +4,7 @@ use Rattle.std.proofs.lemmas.Bool.{cases_lt}
 use Rattle.std.proofs.lemmas.List.{take_all}
 use Rattle.std.specs.Str.{IsUtf8, IsValidUpTo}
 use Rattle.jac_tree.specs.Faults.{IsFaultOf}
-use Rattle.jac_tree.specs.Grammar.{Accepted, Spells, IsBegun, IsBegunWithin, IsStrayAt, IsDeepAt, IsUnclosedAt}
+use Rattle.jac_tree.specs.Grammar.{Accepted, Spells, IsBegunDocument, IsBegunWithin, IsStrayAt, IsDeepAt, IsUnclosedAt}
 use Rattle.jac_tree.specs.Plain.{PlainTree, nesting}
 use Rattle.jac_tree.specs.declared.fault.TreeFault.{TreeFault}
 use Rattle.jac_tree.specs.declared.fault.TreeFault.TheVariants as faults
@@ -37,7 +37,7 @@ of_spelled bytes t b spelled shallow =
     sooner_whole (inl less) = sooner 64 b (length bytes) bytes (omega (arith, less)) (subst (λ (z : List ℕ). IsBegunWithin 64 z) (sym all) whole)
     sooner_whole (inr more) = subst (λ (z : List ℕ). IsBegunWithin 64 z) (sym (take_all b bytes more)) whole
 
-begun : (n : ℕ) (bytes : List ℕ) → IsBegunWithin n bytes → IsBegun bytes
+begun : (n : ℕ) (bytes : List ℕ) → IsBegunWithin n bytes → IsBegunDocument bytes
 begun n bytes (rest, t, spelled, shallow) = (rest, t, spelled)
 
 no_valid_front : (bytes : List ℕ) (at : ℕ) → IsUtf8 bytes → IsValidUpTo bytes at → ⊥
@@ -93,7 +93,7 @@ unclosed_stops bytes at u =
 stray_not_deep : (bytes : List ℕ) (a b : ℕ) → IsStrayAt bytes a → IsDeepAt bytes b → ⊥
 stray_not_deep bytes a b s d =
     let same = one_stop bytes a b (stray_stops bytes a s) (deep_stops bytes b d) in
-    s.after (subst (λ n. IsBegun (take (n + 1) bytes)) (sym same) d.after)
+    s.after (subst (λ n. IsBegunDocument (take (n + 1) bytes)) (sym same) d.after)
 
 stray_not_unclosed : (bytes : List ℕ) (a b : ℕ) → IsStrayAt bytes a → IsUnclosedAt bytes b → ⊥
 stray_not_unclosed bytes a b s u =

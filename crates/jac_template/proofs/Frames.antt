@@ -3,7 +3,7 @@ use Rattle.std.proofs.Common.{◌≡◌, ◌≤◌, ◌<◌, ℕ, true, false, n
 use Rattle.std.proofs.lemmas.Bool.Decides.{nat_tests}
 use Rattle.jac_lang.specs.Mirror.{statements_of}
 use Rattle.jac_lang.specs.Syntax.{Statements}
-use Rattle.jac_template.specs.Progress.{OpenBlock, Opening, progress, open_block, open_block_of, opening_of, open_blocks, opened, turned, turned_in, closed, statement, run_order, IsUnclosed}
+use Rattle.jac_template.specs.Progress.{OpenBlock, Opening, progress, open_block, open_block_of, opening_of, open_blocks, block_opened, block_turned, turned_in, block_closed, statement, run_order, IsUnclosed}
 use Rattle.jac_template.specs.Faults.{Fault}
 use Rattle.jac_template.specs.declared.blocks.Context.{Context}
 use Rattle.jac_template.specs.declared.blocks.Frame.{Frame}
@@ -29,7 +29,7 @@ as_many (f ∷ stack) =
 
 -- one more block inside of fewer than 64
 pub opens : (place : ℕ) (opening : Opening) (stack : List Frame) (body : Statements) → length stack < 64
-    → opened place opening (progress (open_blocks stack) body) ≡ Some (progress (open_block place opening body ∷ open_blocks stack) Statements.none)
+    → block_opened place opening (progress (open_blocks stack) body) ≡ Some (progress (open_block place opening body ∷ open_blocks stack) Statements.none)
 opens place opening stack body few =
     let n = as_many stack in
     let test : nat_lt (length (open_blocks stack)) 64 ≡ true = grind (arith, nat_tests, n, few) in
@@ -37,7 +37,7 @@ opens place opening stack body few =
 
 -- and inside of 64
 pub too_deep : (place : ℕ) (opening : Opening) (stack : List Frame) (body : Statements) → 64 ≤ length stack
-    → opened place opening (progress (open_blocks stack) body) ≡ None
+    → block_opened place opening (progress (open_blocks stack) body) ≡ None
 too_deep place opening stack body many =
     let n = as_many stack in
     let test : nat_lt (length (open_blocks stack)) 64 ≡ false = grind (arith, nat_tests, n, many) in
@@ -46,18 +46,18 @@ too_deep place opening stack body many =
 -- the innermost block ends
 pub closes : (all rest now : List Frame) (f : Frame) (body new : Statements) → all ≡ rest ++ f ∷ [] → now ≡ rest
     → new ≡ Statements.more (statement (opening_of f.context) (run_order body)) (statements_of f.before)
-    → closed (open_blocks all) body ≡ Some (progress (open_blocks now) new)
+    → block_closed (open_blocks all) body ≡ Some (progress (open_blocks now) new)
 closes all rest now f body new e same made = rw (pushed all rest f e, same, made) refl
 
-pub no_block_closes : (stack : List Frame) (body : Statements) → length stack ≡ 0 → closed (open_blocks stack) body ≡ None
+pub no_block_closes : (stack : List Frame) (body : Statements) → length stack ≡ 0 → block_closed (open_blocks stack) body ≡ None
 no_block_closes stack body e = rw (none_open stack e) refl
 
 -- the innermost block comes to its `else`
 pub turns : (all rest : List Frame) (f : Frame) (context : Context) (body : Statements) → all ≡ rest ++ f ∷ [] → f.context ≡ context
-    → turned (open_blocks all) body ≡ turned_in f.place (opening_of context) (statements_of f.before) (open_blocks rest) body
+    → block_turned (open_blocks all) body ≡ turned_in f.place (opening_of context) (statements_of f.before) (open_blocks rest) body
 turns all rest f context body e is = rw (pushed all rest f e, is) refl
 
-pub no_block_turns : (stack : List Frame) (body : Statements) → length stack ≡ 0 → turned (open_blocks stack) body ≡ None
+pub no_block_turns : (stack : List Frame) (body : Statements) → length stack ≡ 0 → block_turned (open_blocks stack) body ≡ None
 no_block_turns stack body e = rw (none_open stack e) refl
 
 -- the innermost block has no end

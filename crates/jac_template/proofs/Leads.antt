@@ -5,10 +5,10 @@ use Rattle.std.specs.Option.{option_map}
 use Rattle.jac_lang.specs.Syntax.{Statement, Statements}
 use Rattle.jac_lang.specs.Turned.{body_onto}
 use Rattle.jac_template.specs.Faults.{Fault}
-use Rattle.jac_template.specs.Grammar.{MarkAt, StatementAt, OtherAt, BodyAt, Block, block, within, behind, misplaced, EndFault, FirstFault}
+use Rattle.jac_template.specs.Grammar.{MarkAt, StatementAt, OtherAt, BodyAt, Block, block, blocks_within, blocks_behind, misplaced_fault, EndFault, FirstFault}
 use Rattle.jac_template.specs.Pieces.{Piece}
-use Rattle.jac_template.specs.Progress.{OpenBlock, Opening, Progress, progress, open_block, opened, turned_in, statement, run_order, after, IsUnclosed}
-use Rattle.jac_template.specs.Tags.{Mark, Meaning, Means}
+use Rattle.jac_template.specs.Progress.{OpenBlock, Opening, Progress, progress, open_block, block_opened, turned_in, statement, run_order, progress_after, IsUnclosed}
+use Rattle.jac_template.specs.Tags.{Mark, Meaning, MeansTag}
 
 -- the pieces `from` end the block that is open, `depth` deep, whose body so far is `body`; it is the statement s, and `to` follows
 abbrev pub EndsAs : Opening → ℕ → Statements → List Piece → List Piece → Statement → Type 0
@@ -101,7 +101,7 @@ opened_or_deep true place opening m blocks body ss from inside test is at h =
 opened_or_deep false place opening m blocks body ss from inside test is at h = absurd h
 
 completes : (place : ℕ) (m : Mark) (blocks : List OpenBlock) (body ss : Statements) (from to : List Piece) → MarkAt m from to
-    → CompletesIf (after place m (progress blocks body)) to ss → Completes blocks body from ss
+    → CompletesIf (progress_after place m (progress blocks body)) to ss → Completes blocks body from ss
 completes place (Mark.put e) blocks body ss from to at h = more_first blocks (Statement.put e) body ss from to at h
 completes place (Mark.escape e) blocks body ss from to at h = more_first blocks (Statement.escape e) body ss from to at h
 completes place (Mark.bind x e) blocks body ss from to at h =
@@ -135,7 +135,7 @@ as_many [] = refl
 as_many (b ∷ blocks) = let n = as_many blocks in omega arith
 
 within_opened : (place : ℕ) (opening : Opening) (blocks : List OpenBlock) (body : Statements)
-    → within place (is_choice opening) (blocks_of blocks) ≡ option_map blocks_in (opened place opening (progress blocks body))
+    → blocks_within place (is_choice opening) (blocks_of blocks) ≡ option_map blocks_in (block_opened place opening (progress blocks body))
 within_opened place opening blocks body = rw (as_many blocks) (either (nat_lt (length blocks) 64))
   where
     either : (few : Bool)
@@ -152,7 +152,7 @@ turned_behind place (Opening.second c done) before blocks body = refl
 turned_behind place (Opening.each q) before blocks body = refl
 
 pub behind_after : (place : ℕ) (m : Mark) (blocks : List OpenBlock) (body : Statements)
-    → behind place m (blocks_of blocks) ≡ option_map blocks_in (after place m (progress blocks body))
+    → blocks_behind place m (blocks_of blocks) ≡ option_map blocks_in (progress_after place m (progress blocks body))
 behind_after place (Mark.put e) blocks body = refl
 behind_after place (Mark.escape e) blocks body = refl
 behind_after place (Mark.bind x e) blocks body = within_opened place (Opening.bind x e) blocks body
@@ -177,8 +177,8 @@ leads_from all so_far start = subst (λ (q : Progress). Leads all q all) (sym st
       faulty = λ f h. h;
     }
 
-pub leads_on : (all left rest : List Piece) (p : Piece) (m : Mark) (so_far next : Progress) → left ≡ p ∷ rest → Means p (Meaning.mark m)
-    → after p.place m so_far ≡ Some next → Leads all so_far left → Leads all next rest
+pub leads_on : (all left rest : List Piece) (p : Piece) (m : Mark) (so_far next : Progress) → left ≡ p ∷ rest → MeansTag p (Meaning.mark m)
+    → progress_after p.place m so_far ≡ Some next → Leads all so_far left → Leads all next rest
 leads_on all left rest p m so_far next first means taken leads = record {
   written = λ ss h. leads.written ss
       (completes p.place m so_far.blocks so_far.body ss left rest (p, first, means) (subst (λ (o : Option Progress). CompletesIf o rest ss) (sym taken) h));
@@ -188,14 +188,14 @@ leads_on all left rest p m so_far next first means taken leads = record {
 }
 
 -- the first fault is that of this piece
-pub fault_here : (all left rest : List Piece) (p : Piece) (f : Fault) (so_far : Progress) → left ≡ p ∷ rest → Means p (Meaning.fault f)
+pub fault_here : (all left rest : List Piece) (p : Piece) (f : Fault) (so_far : Progress) → left ≡ p ∷ rest → MeansTag p (Meaning.fault f)
     → Leads all so_far left → FirstFault [] all f
 fault_here all left rest p f so_far first means leads =
     leads.faulty f (subst (λ (ps : List Piece). FirstFault (blocks_in so_far) ps f) (sym first) (inl means))
 
 -- the first fault is that this mark may not stand here
-pub fault_of_place : (all left rest : List Piece) (p : Piece) (m : Mark) (f : Fault) (so_far : Progress) → left ≡ p ∷ rest → Means p (Meaning.mark m)
-    → after p.place m so_far ≡ None → f ≡ misplaced p.place m → Leads all so_far left → FirstFault [] all f
+pub fault_of_place : (all left rest : List Piece) (p : Piece) (m : Mark) (f : Fault) (so_far : Progress) → left ≡ p ∷ rest → MeansTag p (Meaning.mark m)
+    → progress_after p.place m so_far ≡ None → f ≡ misplaced_fault p.place m → Leads all so_far left → FirstFault [] all f
 fault_of_place all left rest p m f so_far first means none is leads =
     leads.faulty f
     (subst (λ (ps : List Piece). FirstFault (blocks_in so_far) ps f) (sym first)

@@ -9,10 +9,10 @@ use Rattle.jac_tree.specs.Plain.{PlainTree}
 use Rattle.jac_tree.specs.declared.fault.TreeFault.{TreeFault}
 use Rattle.jac_template.specs.Expansion.{Expansion, Expands}
 use Rattle.jac_template.specs.Faults.{Fault}
-use Rattle.jac_template.specs.Grammar.{StatementAt, OtherAt, BodyAt, Block, misplaced, EndFault, FirstFault}
+use Rattle.jac_template.specs.Grammar.{StatementAt, OtherAt, BodyAt, Block, misplaced_fault, EndFault, FirstFault}
 use Rattle.jac_template.specs.Pieces.{Piece, pieces}
-use Rattle.jac_template.specs.Progress.{OpenBlock, Opening, Progress, progress, open_block, opened, run_order, after}
-use Rattle.jac_template.specs.Tags.{Mark, Meaning, Form, MeansTree, MeansAs, Means, meaning_of_form, output_of_tree, control_of_tree}
+use Rattle.jac_template.specs.Progress.{OpenBlock, Opening, Progress, progress, open_block, block_opened, run_order, progress_after}
+use Rattle.jac_template.specs.Tags.{Mark, Meaning, Form, MeansTree, MeansAs, MeansTag, meaning_of_form, output_of_tree, control_of_tree}
 use Rattle.jac_template.specs.declared.pieces.Kind.{Kind}
 use Rattle.jac_template.specs.declared.pieces.Kind.TheVariants as kinds
 use Rattle.jac_template.proofs.FaultLaws.{no_fault, one_fault}
@@ -33,7 +33,7 @@ one_as kinds.Output place content m n h k = one_tree place output_of_tree conten
 one_as kinds.Control place content m n h k = one_tree place control_of_tree content m n h k
 one_as kinds.Endless place content m n h k = h ∙ sym k
 
-one_meaning : (p : Piece) (m n : Meaning) → Means p m → Means p n → m ≡ n
+one_meaning : (p : Piece) (m n : Meaning) → MeansTag p m → MeansTag p n → m ≡ n
 one_meaning p m n h k = one_as p.kind p.place p.content m n h k
 
 -- what the pieces come to
@@ -47,11 +47,11 @@ NextIf (Some q) f x go = go q
 
 abbrev Next : ℕ → Meaning → Progress → Expansion → (Progress → Type 0) → Type 0
 Next place (Meaning.fault f) q x go = x ≡ Expansion.fault f
-Next place (Meaning.mark m) q x go = NextIf (after place m q) (misplaced place m) x go
+Next place (Meaning.mark m) q x go = NextIf (progress_after place m q) (misplaced_fault place m) x go
 
 abbrev Runs : List Piece → Progress → Expansion → Type 0
 Runs [] q x = AtEnd q.blocks q.body x
-Runs (p ∷ ps) q x = (m : Meaning) × Means p m × Next p.place m q x (λ next. Runs ps next x)
+Runs (p ∷ ps) q x = (m : Meaning) × MeansTag p m × Next p.place m q x (λ next. Runs ps next x)
 
 -- they come to one thing
 one_end : (blocks : List OpenBlock) (body : Statements) (x y : Expansion) → AtEnd blocks body x → AtEnd blocks body y → x ≡ y
@@ -65,7 +65,7 @@ module _ (Go : Progress → Expansion → Type 0) (x y : Expansion) (one : (q : 
 
   one_next : (place : ℕ) (m : Meaning) (q : Progress) → Next place m q x (λ next. Go next x) → Next place m q y (λ next. Go next y) → x ≡ y
   one_next place (Meaning.fault f) q h k = h ∙ sym k
-  one_next place (Meaning.mark m) q h k = one_if (after place m q) (misplaced place m) h k
+  one_next place (Meaning.mark m) q h k = one_if (progress_after place m q) (misplaced_fault place m) h k
 
 one_run : (ps : List Piece) (q : Progress) (x y : Expansion) → Runs ps q x → Runs ps q y → x ≡ y
 one_run [] q x y h k = one_end q.blocks q.body x y h k
@@ -90,12 +90,12 @@ in_order : (ss : Statements) → run_order (body_onto ss Statements.none) ≡ ss
 in_order ss = turned_twice ss Statements.none Statements.none ∙ before_none ss
 
 -- the first piece is this mark
-marked : (m : Mark) (p : Piece) (from to : List Piece) (q : Progress) (x : Expansion) → from ≡ p ∷ to → Means p (Meaning.mark m)
-    → NextIf (after p.place m q) (misplaced p.place m) x (λ next. Runs to next x) → Runs from q x
+marked : (m : Mark) (p : Piece) (from to : List Piece) (q : Progress) (x : Expansion) → from ≡ p ∷ to → MeansTag p (Meaning.mark m)
+    → NextIf (progress_after p.place m q) (misplaced_fault p.place m) x (λ next. Runs to next x) → Runs from q x
 marked m p from to q x first means go = subst (λ (ps : List Piece). Runs ps q x) (sym first) (Meaning.mark m, means, go)
 
 opened_if : (place : ℕ) (opening : Opening) (blocks : List OpenBlock) (body : Statements) (f : Fault) (x : Expansion) (go : Progress → Type 0) → length blocks < 64
-    → go (progress (open_block place opening body ∷ blocks) Statements.none) → NextIf (opened place opening (progress blocks body)) f x go
+    → go (progress (open_block place opening body ∷ blocks) Statements.none) → NextIf (block_opened place opening (progress blocks body)) f x go
 opened_if place opening blocks body f x go few h =
     let test : nat_lt (length blocks) 64 ≡ true = grind (arith, nat_tests, few) in
     rw test h
@@ -190,12 +190,12 @@ run_fault (p ∷ ps) q f (inl means) = (Meaning.fault f, means, refl)
 run_fault (p ∷ ps) q f (inr (inl (m, means, none, same))) = (
   Meaning.mark m,
   means,
-  none_next (after p.place m q) (misplaced p.place m) f (λ next. Runs ps next (Expansion.fault f)) (sym (behind_after p.place m q.blocks q.body) ∙ none) same,
+  none_next (progress_after p.place m q) (misplaced_fault p.place m) f (λ next. Runs ps next (Expansion.fault f)) (sym (behind_after p.place m q.blocks q.body) ∙ none) same,
 )
 run_fault (p ∷ ps) q f (inr (inr (m, next, means, some, rest))) = (
   Meaning.mark m,
   means,
-  some_next (after p.place m q) next (misplaced p.place m) (Expansion.fault f) (λ z. Runs ps z (Expansion.fault f)) (sym (behind_after p.place m q.blocks q.body) ∙ some)
+  some_next (progress_after p.place m q) next (misplaced_fault p.place m) (Expansion.fault f) (λ z. Runs ps z (Expansion.fault f)) (sym (behind_after p.place m q.blocks q.body) ∙ some)
       (λ z same. run_fault ps z f (subst (λ (blocks : List Block). FirstFault blocks ps f) (sym same) rest)),
 )
 

@@ -4,7 +4,7 @@ use Rattle.jac_lang.specs.Syntax.{Statement, Statements}
 use Rattle.jac_template.specs.Applications.{ExpandsStatement, ExpandsBody}
 use Rattle.jac_template.specs.Grammar.{StatementAt, OtherAt, BodyAt}
 use Rattle.jac_template.specs.Pieces.{Piece, pieces}
-use Rattle.jac_template.specs.Untemplated.{is_untemplated, are_untemplated}
+use Rattle.jac_lang.specs.Untemplated.{is_untemplated, are_untemplated}
 
 both : (a b : Bool) → a ≡ true → b ≡ true → (a && b) ≡ true
 both a b p q = rw (p, q) refl

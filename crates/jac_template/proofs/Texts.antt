@@ -7,7 +7,7 @@ use Rattle.std.specs.Option.{option_map}
 use Rattle.std.specs.Prelude.{Result, Ok, Err, IsOk, MatchResult}
 use Rattle.std.specs.Str.{IsUtf8, IsCharBoundary}
 use Rattle.jac_template.specs.Marked.{HasText}
-use Rattle.jac_template.specs.Pieces.{begins_with, begins_tag, literal_length, content_length, quoted_length, escaped_length, cut, tag_cut, first_cut}
+use Rattle.jac_template.specs.Pieces.{begins_with, begins_tag, literal_length, content_length, quoted_length, escaped_length, piece_cut, tag_cut, first_cut}
 use Rattle.jac_template.specs.declared.pieces.Kind.{Kind}
 use Rattle.jac_template.specs.declared.pieces.Kind.TheVariants as kinds
 
@@ -123,7 +123,7 @@ rest_text (a ∷ b ∷ inside) text = either (begins_with 123 123 (a ∷ b ∷ i
     either : (output control : Bool)
         → IsUtf8 (drop (if output then tag_cut kinds.Output inside (content_length 125 inside) else
         if control then tag_cut kinds.Control inside (content_length 37 inside) else
-        cut kinds.Literal (take (literal_length (a ∷ b ∷ inside)) (a ∷ b ∷ inside)) (literal_length (a ∷ b ∷ inside))).size (a ∷ b ∷ inside))
+        piece_cut kinds.Literal (take (literal_length (a ∷ b ∷ inside)) (a ∷ b ∷ inside)) (literal_length (a ∷ b ∷ inside))).size (a ∷ b ∷ inside))
     either true control = behind_tag_text kinds.Output a b inside (content_length 125 inside) (content_ends 125 inside) text
     either false true = behind_tag_text kinds.Control a b inside (content_length 37 inside) (content_ends 37 inside) text
     either false false = behind_literal (a ∷ b ∷ inside) text
@@ -140,10 +140,10 @@ piece_text left text = either (begins_with 123 123 left) (begins_with 123 37 lef
     either : (output control : Bool)
         → HasText (if output then tag_cut kinds.Output (drop 2 left) (content_length 125 (drop 2 left)) else
         if control then tag_cut kinds.Control (drop 2 left) (content_length 37 (drop 2 left)) else
-        cut kinds.Literal (take (literal_length left) left) (literal_length left)).kind
+        piece_cut kinds.Literal (take (literal_length left) left) (literal_length left)).kind
         (if output then tag_cut kinds.Output (drop 2 left) (content_length 125 (drop 2 left)) else
         if control then tag_cut kinds.Control (drop 2 left) (content_length 37 (drop 2 left)) else
-        cut kinds.Literal (take (literal_length left) left) (literal_length left)).content
+        piece_cut kinds.Literal (take (literal_length left) left) (literal_length left)).content
     either true control = no_literal kinds.Output (drop 2 left) (content_length 125 (drop 2 left)) tt (λ content. tt)
     either false true = no_literal kinds.Control (drop 2 left) (content_length 37 (drop 2 left)) tt (λ content. tt)
     either false false = IsUtf8-take left (literal_length left) text (boundary left (literal_length left) (literal_cut left))

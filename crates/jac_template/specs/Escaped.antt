@@ -3,8 +3,8 @@ use Rattle.std.specs.Prelude.{ℕ, ◌==◌, if◌then◌else◌, List, [], ◌�
 use Rattle.std.specs.List.{flat_map}
 
 -- the five characters that HTML gives a meaning, and every other byte as it is
-abbrev pub html_byte : ℕ → List ℕ
-html_byte b =
+abbrev pub html_escaped_byte : ℕ → List ℕ
+html_escaped_byte b =
     if b == 38 then codes "&amp;" else
     if b == 60 then codes "&lt;" else
     if b == 62 then codes "&gt;" else
@@ -12,5 +12,5 @@ html_byte b =
     if b == 39 then codes "&#39;" else
     b ∷ []
 
-abbrev pub html : List ℕ → List ℕ
-html bytes = flat_map html_byte bytes
+abbrev pub html_escaped : List ℕ → List ℕ
+html_escaped bytes = flat_map html_escaped_byte bytes

@@ -31,15 +31,15 @@ pub record IsFormless {A : Type 0} (place : ℕ) (read : Read A) (fault : Fault)
   pub is_first : read ≡ refused first
   pub told : fault ≡ Fault.form place first
 
-abbrev pub fault_of : TemplateFault → Fault
-fault_of (faults.Unclosed place) = Fault.unclosed place
-fault_of (faults.Stray place) = Fault.stray place
-fault_of (faults.Deep place) = Fault.deep place
-fault_of (faults.Tree place fault) = tree_fault place fault
-fault_of (faults.Form place fault) = form_fault place fault
-fault_of faults.Memory = Fault.memory
+abbrev pub fault_in_template : TemplateFault → Fault
+fault_in_template (faults.Unclosed place) = Fault.unclosed place
+fault_in_template (faults.Stray place) = Fault.stray place
+fault_in_template (faults.Deep place) = Fault.deep place
+fault_in_template (faults.Tree place fault) = tree_fault place fault
+fault_in_template (faults.Form place fault) = form_fault place fault
+fault_in_template faults.Memory = Fault.memory
 
 -- the text is refused, and not for want of memory
-abbrev pub refuses : TemplateFault → Bool
-refuses faults.Memory = false
-refuses fault = true
+abbrev pub refuses_template : TemplateFault → Bool
+refuses_template faults.Memory = false
+refuses_template fault = true

@@ -3,11 +3,11 @@ use Rattle.std.specs.Prelude.{◌≡◌, ◌⊎◌, ℕ, suc, ◌<◌, nat_lt, B
 use Rattle.jac_lang.specs.Syntax.{Statement, Statements}
 use Rattle.jac_template.specs.Faults.{Fault}
 use Rattle.jac_template.specs.Pieces.{Piece}
-use Rattle.jac_template.specs.Tags.{Mark, Meaning, Means}
+use Rattle.jac_template.specs.Tags.{Mark, Meaning, MeansTag}
 
 -- the mark is the first of the pieces `from`, and the pieces `to` follow it
 abbrev pub MarkAt : Mark → List Piece → List Piece → Type 0
-MarkAt m from to = (p : Piece) × (from ≡ p ∷ to) × Means p (Meaning.mark m)
+MarkAt m from to = (p : Piece) × (from ≡ p ∷ to) × MeansTag p (Meaning.mark m)
 
 -- the statement is at the front of the pieces `from`, inside of `depth` blocks, and the pieces `to`
 -- follow it
@@ -54,36 +54,36 @@ abbrev pub block : ℕ → Bool → Block
 block place is_choice = record { place = place; is_choice = is_choice }
 
 -- the open blocks inside of which one more is opened, of which there are at most 64
-abbrev pub within : ℕ → Bool → List Block → Option (List Block)
-within place is_choice blocks = if nat_lt (length blocks) 64
+abbrev pub blocks_within : ℕ → Bool → List Block → Option (List Block)
+blocks_within place is_choice blocks = if nat_lt (length blocks) 64
     then Some (block place is_choice ∷ blocks) else None
 
 -- the blocks without the innermost
-abbrev pub ended : List Block → Option (List Block)
-ended [] = None
-ended (b ∷ blocks) = Some blocks
+abbrev pub blocks_ended : List Block → Option (List Block)
+blocks_ended [] = None
+blocks_ended (b ∷ blocks) = Some blocks
 
 -- the innermost block behind its `else`
-abbrev pub turned : List Block → Option (List Block)
-turned [] = None
-turned (b ∷ blocks) = if b.is_choice then Some (block b.place false ∷ blocks) else None
+abbrev pub blocks_turned : List Block → Option (List Block)
+blocks_turned [] = None
+blocks_turned (b ∷ blocks) = if b.is_choice then Some (block b.place false ∷ blocks) else None
 
 -- the blocks that are open behind a mark at this place, from the innermost one out; none where the
 -- mark may not stand there
-abbrev pub behind : ℕ → Mark → List Block → Option (List Block)
-behind place (Mark.put e) blocks = Some blocks
-behind place (Mark.escape e) blocks = Some blocks
-behind place (Mark.bind x e) blocks = within place false blocks
-behind place (Mark.branch c) blocks = within place true blocks
-behind place (Mark.each q) blocks = within place false blocks
-behind place Mark.otherwise blocks = turned blocks
-behind place Mark.finish blocks = ended blocks
+abbrev pub blocks_behind : ℕ → Mark → List Block → Option (List Block)
+blocks_behind place (Mark.put e) blocks = Some blocks
+blocks_behind place (Mark.escape e) blocks = Some blocks
+blocks_behind place (Mark.bind x e) blocks = blocks_within place false blocks
+blocks_behind place (Mark.branch c) blocks = blocks_within place true blocks
+blocks_behind place (Mark.each q) blocks = blocks_within place false blocks
+blocks_behind place Mark.otherwise blocks = blocks_turned blocks
+blocks_behind place Mark.finish blocks = blocks_ended blocks
 
 -- the fault of a mark that may not stand at this place
-abbrev pub misplaced : ℕ → Mark → Fault
-misplaced place Mark.otherwise = Fault.stray place
-misplaced place Mark.finish = Fault.stray place
-misplaced place m = Fault.deep place
+abbrev pub misplaced_fault : ℕ → Mark → Fault
+misplaced_fault place Mark.otherwise = Fault.stray place
+misplaced_fault place Mark.finish = Fault.stray place
+misplaced_fault place m = Fault.deep place
 
 -- the fault of blocks that are open at the end of the text: the innermost one has no end
 abbrev pub EndFault : List Block → Fault → Type 0
@@ -95,8 +95,8 @@ EndFault (b ∷ blocks) fault = fault ≡ Fault.unclosed b.place
 abbrev pub FirstFault : List Block → List Piece → Fault → Type 0
 FirstFault blocks [] fault = EndFault blocks fault
 FirstFault blocks (p ∷ ps) fault =
-    Means p (Meaning.fault fault)
-    ⊎ ((m : Mark) × Means p (Meaning.mark m) × (behind p.place m blocks ≡ None)
-    × (fault ≡ misplaced p.place m))
-    ⊎ ((m : Mark) × (next : List Block) × Means p (Meaning.mark m)
-    × (behind p.place m blocks ≡ Some next) × FirstFault next ps fault)
+    MeansTag p (Meaning.fault fault)
+    ⊎ ((m : Mark) × MeansTag p (Meaning.mark m) × (blocks_behind p.place m blocks ≡ None)
+    × (fault ≡ misplaced_fault p.place m))
+    ⊎ ((m : Mark) × (next : List Block) × MeansTag p (Meaning.mark m)
+    × (blocks_behind p.place m blocks ≡ Some next) × FirstFault next ps fault)

@@ -5,7 +5,6 @@ pub mod Grammar
 pub mod Faults
 pub mod Expansion
 pub mod Applications
-pub mod Untemplated
 pub mod Quoting
 pub mod Marked
 pub mod Progress

@@ -47,13 +47,13 @@ pub record Cut : Type 0 where
   pub content : List ℕ
   pub size : ℕ
 
-abbrev pub cut : Kind → List ℕ → ℕ → Cut
-cut kind content size = record { kind = kind; content = content; size = size }
+abbrev pub piece_cut : Kind → List ℕ → ℕ → Cut
+piece_cut kind content size = record { kind = kind; content = content; size = size }
 
 -- a tag with these bytes behind its first two, and so many of them before its end
 abbrev pub tag_cut : Kind → List ℕ → Option ℕ → Cut
-tag_cut kind inside (Some n) = cut kind (take n inside) (n + 4)
-tag_cut kind inside None = cut kinds.Endless [] (length inside + 2)
+tag_cut kind inside (Some n) = piece_cut kind (take n inside) (n + 4)
+tag_cut kind inside None = piece_cut kinds.Endless [] (length inside + 2)
 
 abbrev pub first_cut : List ℕ → Cut
 first_cut bytes =
@@ -61,7 +61,7 @@ first_cut bytes =
     (content_length 125 (drop 2 bytes)) else
     if begins_with 123 37 bytes then tag_cut kinds.Control (drop 2 bytes)
     (content_length 37 (drop 2 bytes)) else
-    cut kinds.Literal (take (literal_length bytes) bytes) (literal_length bytes)
+    piece_cut kinds.Literal (take (literal_length bytes) bytes) (literal_length bytes)
 
 -- a piece, and the place of its first byte
 pub record Piece : Type 0 where

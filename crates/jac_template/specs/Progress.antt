@@ -64,8 +64,8 @@ statement (Opening.second c done) body = Statement.branch c done body
 statement (Opening.each q) body = Statement.each q body
 
 -- one more block, of which there are at most 64
-abbrev pub opened : ℕ → Opening → Progress → Option Progress
-opened place opening p =
+abbrev pub block_opened : ℕ → Opening → Progress → Option Progress
+block_opened place opening p =
     if nat_lt (length p.blocks) 64 then Some (progress (open_block place opening p.body ∷ p.blocks)
     Statements.none) else None
 
@@ -76,26 +76,27 @@ turned_in place (Opening.first c) before blocks body =
     Statements.none)
 turned_in place opening before blocks body = None
 
-abbrev pub turned : List OpenBlock → Statements → Option Progress
-turned [] body = None
-turned (b ∷ blocks) body = turned_in b.place b.opening b.before blocks body
+abbrev pub block_turned : List OpenBlock → Statements → Option Progress
+block_turned [] body = None
+block_turned (b ∷ blocks) body = turned_in b.place b.opening b.before blocks body
 
 -- the innermost block behind its `end`
-abbrev pub closed : List OpenBlock → Statements → Option Progress
-closed [] body = None
-closed (b ∷ blocks) body =
+abbrev pub block_closed : List OpenBlock → Statements → Option Progress
+block_closed [] body = None
+block_closed (b ∷ blocks) body =
     Some (progress blocks (Statements.more (statement b.opening (run_order body)) b.before))
 
 -- behind a mark at this place; none where it may not stand there
-abbrev pub after : ℕ → Mark → Progress → Option Progress
-after place (Mark.put e) p = Some (progress p.blocks (Statements.more (Statement.put e) p.body))
-after place (Mark.escape e) p =
+abbrev pub progress_after : ℕ → Mark → Progress → Option Progress
+progress_after place (Mark.put e) p = Some (progress p.blocks (Statements.more
+    (Statement.put e) p.body))
+progress_after place (Mark.escape e) p =
     Some (progress p.blocks (Statements.more (Statement.escape e) p.body))
-after place (Mark.bind x e) p = opened place (Opening.bind x e) p
-after place (Mark.branch c) p = opened place (Opening.first c) p
-after place (Mark.each q) p = opened place (Opening.each q) p
-after place Mark.otherwise p = turned p.blocks p.body
-after place Mark.finish p = closed p.blocks p.body
+progress_after place (Mark.bind x e) p = block_opened place (Opening.bind x e) p
+progress_after place (Mark.branch c) p = block_opened place (Opening.first c) p
+progress_after place (Mark.each q) p = block_opened place (Opening.each q) p
+progress_after place Mark.otherwise p = block_turned p.blocks p.body
+progress_after place Mark.finish p = block_closed p.blocks p.body
 
 -- the fault of the innermost block, which has no end
 abbrev pub IsUnclosed : List OpenBlock → Fault → Type 0

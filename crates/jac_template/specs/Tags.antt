@@ -4,10 +4,10 @@ use Rattle.std.specs.Str.{bytes_eq}
 use Rattle.jac_lang.specs.Syntax.{Expression, Question}
 use Rattle.jac_tree.specs.Faults.{IsFaultOf}
 use Rattle.jac_tree.specs.Grammar.{Accepted}
-use Rattle.jac_tree.specs.Plain.{PlainTree, PlainTrees}
+use Rattle.jac_tree.specs.Plain.{PlainTree, PlainTrees, is_word}
 use Rattle.jac_tree.specs.declared.fault.TreeFault.{TreeFault}
 use Rattle.jac_forms.specs.Expressions.{expression_in_tree, question_in_tree}
-use Rattle.jac_forms.specs.Names.{is_word, name_of_tree}
+use Rattle.jac_forms.specs.Names.{name_of_tree}
 use Rattle.jac_forms.specs.Reads.{Read, got, refused, read_map}
 use Rattle.jac_forms.specs.declared.fault.FormFault.{FormFault}
 use Rattle.jac_template.specs.Faults.{Fault}
@@ -32,26 +32,29 @@ pub data Form : Type 0 where
   formless : FormFault → Form
   mark : Mark → Form
 
-abbrev pub formed : Read Mark → Form
-formed (got m) = Form.mark m
-formed (refused f) = Form.formless f
+abbrev pub form_of_mark : Read Mark → Form
+form_of_mark (got m) = Form.mark m
+form_of_mark (refused f) = Form.formless f
 
 -- `{{ e }}` is `(esc e)`
 abbrev pub output_of_tree : PlainTree → Form
-output_of_tree t = formed (read_map Mark.escape (expression_in_tree [] t))
+output_of_tree t = form_of_mark (read_map Mark.escape (expression_in_tree [] t))
 
 -- `(put e)`, `(if e)`, `(for q)`
 abbrev pub single_of_tree : PlainTree → PlainTree → Form
 single_of_tree head t =
-    if is_word (codes "put") head then formed (read_map Mark.put (expression_in_tree [] t)) else
-    if is_word (codes "if") head then formed (read_map Mark.branch (expression_in_tree [] t)) else
-    if is_word (codes "for") head then formed (read_map Mark.each (question_in_tree 3 [] t)) else
+    if is_word (codes "put") head then form_of_mark (read_map Mark.put
+    (expression_in_tree [] t)) else
+    if is_word (codes "if") head then form_of_mark (read_map Mark.branch
+    (expression_in_tree [] t)) else
+    if is_word (codes "for") head then form_of_mark (read_map Mark.each
+    (question_in_tree 3 [] t)) else
     Form.stray
 
 -- `(let NAME e)`
 abbrev pub named_bind : Option (List ℕ) → PlainTree → Form
 named_bind None t = Form.stray
-named_bind (Some x) t = formed (read_map (Mark.bind x) (expression_in_tree [] t))
+named_bind (Some x) t = form_of_mark (read_map (Mark.bind x) (expression_in_tree [] t))
 
 abbrev pub bind_of_trees : PlainTree → PlainTree → PlainTree → Form
 bind_of_trees head x t = if is_word (codes "let") head then named_bind (name_of_tree x) t
@@ -97,5 +100,5 @@ MeansAs kinds.Output place content m = MeansTree place output_of_tree content m
 MeansAs kinds.Control place content m = MeansTree place control_of_tree content m
 MeansAs kinds.Endless place content m = m ≡ Meaning.fault (Fault.unclosed place)
 
-abbrev pub Means : Piece → Meaning → Type 0
-Means p m = MeansAs p.kind p.place p.content m
+abbrev pub MeansTag : Piece → Meaning → Type 0
+MeansTag p m = MeansAs p.kind p.place p.content m

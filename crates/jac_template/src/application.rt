@@ -1,9 +1,9 @@
 ghost use Rattle.std.specs.Prelude.{◌≡◌, ◌<◌, ◌^◌, ◌++◌, ◌∷◌, [], true, length, IfOk, IfErr, OnOk, IsTrue};
-ghost use Rattle.jac_lang.specs.Mirror.{application_of, page_of, pages_of, statement_of, statements_of};
+ghost use Rattle.jac_lang.specs.Mirror.{application_of, page_of_view, pages_of, statement_of, statements_of};
 ghost use Rattle.jac_lang.specs.Syntax.{Page};
 ghost use Rattle.jac_template.specs.Applications.{Expanded, ExpandsStatement, ExpandsBody, ExpandsView, ExpandsViews, ExpandsApplication, StatementFault, BodyFault, ViewsFault};
-ghost use Rattle.jac_template.specs.Faults.{fault_of, refuses};
-ghost use Rattle.jac_template.specs.Untemplated.{are_untemplated, are_untemplated_views};
+ghost use Rattle.jac_template.specs.Faults.{fault_in_template, refuses_template};
+ghost use Rattle.jac_lang.specs.Untemplated.{are_untemplated, are_untemplated_views};
 
 use crate::TemplateFault;
 use crate::expansion::expand;
@@ -25,8 +25,9 @@ pub fn expand_app(alloc: Global, app: App) -> Result<App, ViewFault>
     requires few { length app.views < 2 ^ 32 }
     ensures application { IfOk result (λ out. ExpandsApplication (application_of app)
         (Expanded.application (application_of out))) }
-    ensures fault { IfErr result (λ f. IsTrue (refuses f.fault)
-        → ExpandsApplication (application_of app) (Expanded.fault f.view (fault_of f.fault))) }
+    ensures fault { IfErr result (λ f. IsTrue (refuses_template f.fault)
+        → ExpandsApplication (application_of app) (Expanded.fault f.view
+        (fault_in_template f.fault))) }
     ensures untemplated { IfOk result (λ out. are_untemplated_views (application_of out).views
         ≡ true) }
 {
@@ -46,8 +47,8 @@ pub fn expand_app(alloc: Global, app: App) -> Result<App, ViewFault>
 fn expand_views(alloc: Global, views: Views) -> Result<Views, ViewFault>
     requires few { length views < 2 ^ 32 }
     ensures views { IfOk result (λ out. ExpandsViews (pages_of views) (pages_of out)) }
-    ensures fault { IfErr result (λ f. IsTrue (refuses f.fault)
-        → ViewsFault 0 (pages_of views) f.view (fault_of f.fault)) }
+    ensures fault { IfErr result (λ f. IsTrue (refuses_template f.fault)
+        → ViewsFault 0 (pages_of views) f.view (fault_in_template f.fault)) }
     ensures untemplated { IfOk result (λ out. are_untemplated_views (pages_of out) ≡ true) }
 {
     let mut out = Vec::new(alloc);
@@ -69,11 +70,12 @@ fn expand_views(alloc: Global, views: Views) -> Result<Views, ViewFault>
 
 // Puts the view with its templates expanded behind the others.
 fn expand_view(alloc: Global, out: &mut Vec<View>, view: View) -> Result<(), TemplateFault>
-    ensures view { OnOk result ((p : Page) × ExpandsView (page_of view) p
+    ensures view { OnOk result ((p : Page) × ExpandsView (page_of_view view) p
         × (are_untemplated p.body ≡ true) × (pages_of out.new.items ≡ pages_of out.old.items ++ p
         ∷ [])) }
-    ensures fault { IfErr result (λ f. IsTrue (refuses f) → BodyFault (statements_of view.body)
-        (fault_of f)) }
+    ensures fault { IfErr result (λ f. IsTrue (refuses_template f) → BodyFault
+        (statements_of view.body)
+        (fault_in_template f)) }
 {
     let View {
         method,
@@ -95,7 +97,8 @@ fn expand_view(alloc: Global, out: &mut Vec<View>, view: View) -> Result<(), Tem
 }
 
 fn push_view(out: &mut Vec<View>, view: View) -> Result<(), Memory>
-    ensures { OnOk result (pages_of out.new.items ≡ pages_of out.old.items ++ page_of view ∷ []) }
+    ensures { OnOk result (pages_of out.new.items ≡ pages_of out.old.items ++ page_of_view view
+        ∷ []) }
 {
     out.push(view)?;
     Ok(())
@@ -104,8 +107,8 @@ fn push_view(out: &mut Vec<View>, view: View) -> Result<(), Memory>
 #[cycle(expand)]
 fn expand_stmts(alloc: Global, stmts: Stmts) -> Result<Stmts, TemplateFault>
     ensures body { IfOk result (λ out. ExpandsBody (statements_of stmts) (statements_of out)) }
-    ensures fault { IfErr result (λ f. IsTrue (refuses f)
-        → BodyFault (statements_of stmts) (fault_of f)) }
+    ensures fault { IfErr result (λ f. IsTrue (refuses_template f)
+        → BodyFault (statements_of stmts) (fault_in_template f)) }
 {
     let mut back = Stmts::End;
     let mut left = stmts;
@@ -121,8 +124,9 @@ fn expand_stmts(alloc: Global, stmts: Stmts) -> Result<Stmts, TemplateFault>
 fn expand_stmt(alloc: Global, stmt: Stmt) -> Result<Stmt, TemplateFault>
     ensures statement { IfOk result (λ out. ExpandsStatement (statement_of stmt)
         (statement_of out)) }
-    ensures fault { IfErr result (λ f. IsTrue (refuses f) → StatementFault (statement_of stmt)
-        (fault_of f)) }
+    ensures fault { IfErr result (λ f. IsTrue (refuses_template f) → StatementFault
+        (statement_of stmt)
+        (fault_in_template f)) }
 {
     match stmt {
         Stmt::Template(text) => {

@@ -1,10 +1,10 @@
 ghost use Rattle.std.specs.Prelude.{◌≡◌, false, ◌∷◌, Some, None, IfOk, IfErr, OnOk, IsTrue, []};
 ghost use Rattle.jac_lang.specs.Mirror.{expression_of, statement_of, statements_of};
 ghost use Rattle.jac_lang.specs.Syntax.{Statements};
-ghost use Rattle.jac_template.specs.Faults.{Fault, fault_of, refuses};
-ghost use Rattle.jac_template.specs.Grammar.{misplaced};
+ghost use Rattle.jac_template.specs.Faults.{Fault, fault_in_template, refuses_template};
+ghost use Rattle.jac_template.specs.Grammar.{misplaced_fault};
 ghost use Rattle.jac_template.specs.Marked.{mark_of};
-ghost use Rattle.jac_template.specs.Progress.{Opening, turned_in, progress, progress_of, open_block_of, open_blocks, opening_of, statement, run_order, opened, turned, closed, after, IsUnclosed};
+ghost use Rattle.jac_template.specs.Progress.{Opening, turned_in, progress, progress_of, open_block_of, open_blocks, opening_of, statement, run_order, block_opened, block_turned, block_closed, progress_after, IsUnclosed};
 
 use crate::TemplateFault;
 use crate::marks::Mark;
@@ -53,11 +53,11 @@ impl Blocks {
 
     /// Goes on with the mark of the tag at this place.
     pub fn take(&mut self, alloc: Global, place: u64, mark: Mark) -> Result<(), TemplateFault>
-        ensures taken { OnOk result (after place (mark_of mark) (progress_of self.old)
+        ensures taken { OnOk result (progress_after place (mark_of mark) (progress_of self.old)
             ≡ Some (progress_of self.new)) }
-        ensures fault { IfErr result (λ f. IsTrue (refuses f)
-            → (after place (mark_of mark) (progress_of self.old) ≡ None)
-            × (fault_of f ≡ misplaced place (mark_of mark))) }
+        ensures fault { IfErr result (λ f. IsTrue (refuses_template f)
+            → (progress_after place (mark_of mark) (progress_of self.old) ≡ None)
+            × (fault_in_template f ≡ misplaced_fault place (mark_of mark))) }
     {
         match mark {
             Mark::Put(e) => match self.add(alloc, Stmt::Put(e)) {
@@ -80,7 +80,8 @@ impl Blocks {
     pub fn finish(self) -> Result<Stmts, TemplateFault>
         ensures whole { IfOk result (λ ss. ((progress_of self).blocks ≡ [])
             × (statements_of ss ≡ run_order (progress_of self).body)) }
-        ensures fault { IfErr result (λ f. IsUnclosed (progress_of self).blocks (fault_of f)) }
+        ensures fault { IfErr result (λ f. IsUnclosed (progress_of self).blocks
+            (fault_in_template f)) }
     {
         let Blocks { mut frames, body } = self;
         match frames.pop() {
@@ -100,11 +101,11 @@ impl Blocks {
     }
 
     fn open(&mut self, place: u64, context: Context) -> Result<(), TemplateFault>
-        ensures taken { OnOk result (opened place (opening_of context) (progress_of self.old)
+        ensures taken { OnOk result (block_opened place (opening_of context) (progress_of self.old)
             ≡ Some (progress_of self.new)) }
-        ensures fault { IfErr result (λ f. IsTrue (refuses f)
-            → (opened place (opening_of context) (progress_of self.old) ≡ None)
-            × (fault_of f ≡ Fault.deep place)) }
+        ensures fault { IfErr result (λ f. IsTrue (refuses_template f)
+            → (block_opened place (opening_of context) (progress_of self.old) ≡ None)
+            × (fault_in_template f ≡ Fault.deep place)) }
     {
         if self.frames.len() >= NESTING_LIMIT {
             return Err(TemplateFault::Deep(place));
@@ -122,11 +123,11 @@ impl Blocks {
     }
 
     fn turn(&mut self, place: u64) -> Result<(), TemplateFault>
-        ensures taken { OnOk result (turned (progress_of self.old).blocks
+        ensures taken { OnOk result (block_turned (progress_of self.old).blocks
             (progress_of self.old).body ≡ Some (progress_of self.new)) }
-        ensures fault { IfErr result (λ f. IsTrue (refuses f)
-            → (turned (progress_of self.old).blocks (progress_of self.old).body ≡ None)
-            × (fault_of f ≡ Fault.stray place)) }
+        ensures fault { IfErr result (λ f. IsTrue (refuses_template f)
+            → (block_turned (progress_of self.old).blocks (progress_of self.old).body ≡ None)
+            × (fault_in_template f ≡ Fault.stray place)) }
     {
         let Some(frame) = self.frames.pop() else {
             return Err(TemplateFault::Stray(place));
@@ -149,7 +150,7 @@ impl Blocks {
         ensures taken { OnOk result (turned_in place (Opening.first (expression_of c))
             (statements_of before) (progress_of self.old).blocks (progress_of self.old).body
             ≡ Some (progress_of self.new)) }
-        ensures fault { IfErr result (λ f. refuses f ≡ false) }
+        ensures fault { IfErr result (λ f. refuses_template f ≡ false) }
     {
         let then = mem::replace(&mut self.body, Stmts::End).before(Stmts::End);
         let frame = Frame {
@@ -164,11 +165,11 @@ impl Blocks {
     }
 
     fn close(&mut self, alloc: Global, place: u64) -> Result<(), TemplateFault>
-        ensures taken { OnOk result (closed (progress_of self.old).blocks
+        ensures taken { OnOk result (block_closed (progress_of self.old).blocks
             (progress_of self.old).body ≡ Some (progress_of self.new)) }
-        ensures fault { IfErr result (λ f. IsTrue (refuses f)
-            → (closed (progress_of self.old).blocks (progress_of self.old).body ≡ None)
-            × (fault_of f ≡ Fault.stray place)) }
+        ensures fault { IfErr result (λ f. IsTrue (refuses_template f)
+            → (block_closed (progress_of self.old).blocks (progress_of self.old).body ≡ None)
+            × (fault_in_template f ≡ Fault.stray place)) }
     {
         let Some(frame) = self.frames.pop() else {
             return Err(TemplateFault::Stray(place));

@@ -1,7 +1,7 @@
 ghost use Rattle.std.specs.Prelude.{IfOk, IfErr, IsTrue};
 ghost use Rattle.jac_lang.specs.Mirror.{statements_of};
 ghost use Rattle.jac_template.specs.Expansion.{Expansion, Expands};
-ghost use Rattle.jac_template.specs.Faults.{fault_of, refuses};
+ghost use Rattle.jac_template.specs.Faults.{fault_in_template, refuses_template};
 
 use crate::TemplateFault;
 use crate::blocks::Blocks;
@@ -16,8 +16,8 @@ use std::alloc::Global;
 pub fn expand(alloc: Global, text: &Txt) -> Result<Stmts, TemplateFault>
     ensures statements { IfOk result
         (λ ss. Expands text.now (Expansion.statements (statements_of ss))) }
-    ensures fault { IfErr result (λ f. IsTrue (refuses f)
-        → Expands text.now (Expansion.fault (fault_of f))) }
+    ensures fault { IfErr result (λ f. IsTrue (refuses_template f)
+        → Expands text.now (Expansion.fault (fault_in_template f))) }
 {
     let mut blocks = Blocks::new(alloc);
     let mut left = text.as_str().as_bytes();

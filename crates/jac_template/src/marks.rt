@@ -1,5 +1,5 @@
 ghost use Rattle.std.specs.Prelude.{◌≡◌, true, IsUtf8, IfOk, IfErr, IsTrue};
-ghost use Rattle.jac_template.specs.Faults.{Fault, fault_of, refuses};
+ghost use Rattle.jac_template.specs.Faults.{Fault, fault_in_template, refuses_template};
 ghost use Rattle.jac_template.specs.Marked.{HasText, IsContentFault, is_of_bytes, mark_of};
 ghost use Rattle.jac_template.specs.Tags.{Meaning, MeansAs};
 ghost use Rattle.jac_tree.specs.Grammar.{Accepted};
@@ -34,8 +34,8 @@ pub fn read_mark(
 ) -> Result<Mark, TemplateFault>
     requires text { HasText kind content.now }
     ensures mark { IfOk result (λ m. MeansAs kind place content.now (Meaning.mark (mark_of m))) }
-    ensures fault { IfErr result (λ f. IsTrue (refuses f)
-        → MeansAs kind place content.now (Meaning.fault (fault_of f))) }
+    ensures fault { IfErr result (λ f. IsTrue (refuses_template f)
+        → MeansAs kind place content.now (Meaning.fault (fault_in_template f))) }
 {
     match kind {
         Kind::Literal => {
@@ -67,8 +67,9 @@ fn literal(alloc: Global, content: &[u8]) -> Result<Mark, Memory>
 
 fn read_content(alloc: Global, place: u64, content: &[u8]) -> Result<Tree, TemplateFault>
     ensures tree { IfOk result (λ t. Accepted content.now (plain t)) }
-    ensures fault { IfErr result (λ f. IsTrue (refuses f) → IsContentFault place content.now
-        (fault_of f)) }
+    ensures fault { IfErr result (λ f. IsTrue (refuses_template f)
+        → IsContentFault place content.now
+        (fault_in_template f)) }
 {
     match read_tree(alloc, content) {
         Ok(tree) => Ok(tree),
@@ -77,8 +78,8 @@ fn read_content(alloc: Global, place: u64, content: &[u8]) -> Result<Tree, Templ
 }
 
 fn content_fault(place: u64, fault: TreeFault) -> TemplateFault
-    ensures { IsTrue (refuses result) → (is_of_bytes fault ≡ true)
-        × (fault_of result ≡ Fault.tree place fault) }
+    ensures { IsTrue (refuses_template result) → (is_of_bytes fault ≡ true)
+        × (fault_in_template result ≡ Fault.tree place fault) }
 {
     match fault {
         TreeFault::Memory => TemplateFault::Memory,

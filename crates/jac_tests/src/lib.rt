@@ -4,7 +4,7 @@
 #![tactic(auto)]
 
 #[cfg(test)]
-mod caching;
+mod cache;
 #[cfg(test)]
 mod facet;
 #[cfg(test)]
@@ -22,7 +22,7 @@ mod lists;
 #[cfg(test)]
 mod rows;
 #[cfg(test)]
-mod searching;
+mod search;
 #[cfg(test)]
 mod stored;
 #[cfg(test)]

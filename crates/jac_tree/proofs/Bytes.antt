@@ -3,7 +3,7 @@ use Rattle.std.proofs.Common.{◌≡◌, ◌≢◌, ◌⊎◌, inl, inr, ℕ, su
 use Rattle.std.proofs.lemmas.Bool.{cases_lt}
 use Rattle.std.proofs.lemmas.Bool.Decides.{nat_tests}
 use Rattle.std.proofs.lemmas.Str.{encode_ascii, inside_one, length-encode, len_utf8_bounds}
-use Rattle.jac_tree.specs.Grammar.{is_white, is_plain_byte, escaped}
+use Rattle.jac_tree.specs.Grammar.{is_white, is_plain_byte, escape_meaning}
 use Rattle.jac_value.specs.Names.{is_atom_byte}
 use Rattle.jac_tree.proofs.Moves.{are_plain_bytes, both_true}
 
@@ -22,10 +22,10 @@ high_atom b h = grind (arith, nat_tests)
 pub plain_other : (b : ℕ) → b ≢ 34 → b ≢ 92 → is_plain_byte b ≡ true
 plain_other b n m = grind (arith, nat_tests)
 
-high_escaped : (b : ℕ) → 128 ≤ b → escaped b ≡ None
+high_escaped : (b : ℕ) → 128 ≤ b → escape_meaning b ≡ None
 high_escaped b h = grind (arith, nat_tests)
 
-pub escaped_small : (e x : ℕ) → escaped e ≡ Some x → (e < 128) × (x < 128)
+pub escaped_small : (e x : ℕ) → escape_meaning e ≡ Some x → (e < 128) × (x < 128)
 escaped_small e x h = grind (arith, nat_tests)
 
 -- the first byte of a character: the character itself, or one above ASCII
@@ -57,8 +57,8 @@ first_white c f w = elim f.kind [ inl e ↦ subst (λ z. is_white z ≡ false) (
 pub first_atom : (c : ℕ) (f : First c) → is_atom_byte c ≡ false → is_atom_byte f.byte ≡ false
 first_atom c f w = elim f.kind [ inl e ↦ subst (λ z. is_atom_byte z ≡ false) (sym e) w | inr h ↦ high_atom _ h ]
 
-pub first_escaped : (c : ℕ) (f : First c) → escaped c ≡ None → escaped f.byte ≡ None
-first_escaped c f w = elim f.kind [ inl e ↦ subst (λ z. escaped z ≡ None) (sym e) w | inr h ↦ high_escaped _ h ]
+pub first_escaped : (c : ℕ) (f : First c) → escape_meaning c ≡ None → escape_meaning f.byte ≡ None
+first_escaped c f w = elim f.kind [ inl e ↦ subst (λ z. escape_meaning z ≡ None) (sym e) w | inr h ↦ high_escaped _ h ]
 
 pub first_other : (c n : ℕ) (f : First c) → n < 128 → c ≢ n → f.byte ≢ n
 first_other c n f small ne q = elim f.kind [ inl e ↦ ne (sym e ∙ q) | inr h ↦ omega arith ]

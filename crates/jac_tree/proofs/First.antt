@@ -8,7 +8,7 @@ use Rattle.std.specs.Str.{IsValidUpTo}
 use Rattle.jac_tree.specs.declared.fault.TreeFault.{TreeFault}
 use Rattle.jac_tree.specs.declared.fault.TreeFault.TheVariants as faults
 use Rattle.jac_tree.specs.Faults.{IsFaultOf}
-use Rattle.jac_tree.specs.Grammar.{Spells, IsBegun, IsBegunWithin, IsStrayAt, IsDeepAt, IsUnclosedAt}
+use Rattle.jac_tree.specs.Grammar.{Spells, IsBegunDocument, IsBegunWithin, IsStrayAt, IsDeepAt, IsUnclosedAt}
 use Rattle.jac_tree.specs.Plain.{PlainTree, nesting}
 use Rattle.jac_tree.specs.Reading.{HasFault}
 
@@ -18,13 +18,13 @@ shorter bytes rest m n h =
     sym (append_assoc (take m bytes) (drop m (take n bytes)) rest)
     ∙ ap (λ z. z ++ rest) (ap (λ z. z ++ drop m (take n bytes)) (sym (take-take m n bytes h)) ∙ take-append-drop m (take n bytes))
 
-begun_less : (bytes : List ℕ) (m n : ℕ) → m ≤ n → IsBegun (take n bytes) → IsBegun (take m bytes)
+begun_less : (bytes : List ℕ) (m n : ℕ) → m ≤ n → IsBegunDocument (take n bytes) → IsBegunDocument (take m bytes)
 begun_less bytes m n h (rest, t, s) = (drop m (take n bytes) ++ rest, t, subst (λ z. Spells z t) (sym (shorter bytes rest m n h)) s)
 
 within_less : (bytes : List ℕ) (m n : ℕ) → m ≤ n → IsBegunWithin 64 (take n bytes) → IsBegunWithin 64 (take m bytes)
 within_less bytes m n h (rest, t, s, k) = (drop m (take n bytes) ++ rest, t, subst (λ z. Spells z t) (sym (shorter bytes rest m n h)) s, k)
 
-any_begun : (bytes : List ℕ) → IsBegunWithin 64 bytes → IsBegun bytes
+any_begun : (bytes : List ℕ) → IsBegunWithin 64 bytes → IsBegunDocument bytes
 any_begun bytes (rest, t, s, k) = (rest, t, s)
 
 whole : (bytes : List ℕ) → IsBegunWithin 64 bytes → IsBegunWithin 64 (take (length bytes) bytes)
@@ -50,7 +50,7 @@ no_end bytes at end n p u = p (within_less bytes (at + 1) (length bytes) (omega 
 stray_not_deep : (bytes : List ℕ) (m n : ℕ) → IsStrayAt bytes m → IsDeepAt bytes n → ⊥
 stray_not_deep bytes m n s d =
     let e = same_place bytes m n s.before d.before (stray_within bytes m s) d.deeper in
-    s.after (subst (λ z. IsBegun (take (z + 1) bytes)) (sym e) d.after)
+    s.after (subst (λ z. IsBegunDocument (take (z + 1) bytes)) (sym e) d.after)
 
 text_is_valid : (bytes : List ℕ) (at : ℕ) → IsUtf8 bytes → IsValidUpTo bytes at → ⊥
 text_is_valid bytes at u v = v.longest (length bytes) v.short (subst IsUtf8 (sym (take-length bytes)) u)

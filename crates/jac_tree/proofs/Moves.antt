@@ -1,6 +1,6 @@
 -- What each byte makes of the ways to complete a document.
 use Rattle.std.proofs.Common.{◌≡◌, ◌≢◌, ◌↔◌, ◌⊎◌, inl, inr, ℕ, ◌+◌, ◌≤◌, Bool, true, false, ◌&&◌, List, [], ◌∷◌, ◌++◌, length, Some, None, refl, sym, ◌∙◌, ap, subst, arith, append_assoc, append-nil, length-append, if◌then◌else◌, max}
-use Rattle.jac_tree.specs.Grammar.{is_white, skip, are_atom_bytes, begins_with_atom_byte, is_plain_byte, escaped, PieceAt, PiecesAt, TreeAt, TreesAt}
+use Rattle.jac_tree.specs.Grammar.{is_white, skip, are_atom_bytes, begins_with_atom_byte, is_plain_byte, escape_meaning, PieceAt, PiecesAt, TreeAt, TreesAt}
 use Rattle.jac_value.specs.Names.{is_atom_byte}
 use Rattle.jac_tree.specs.Plain.{PlainTree, PlainTrees, onto, nesting, nesting_all}
 use Rattle.jac_tree.specs.Plain.PlainTree.{atom, text, list}
@@ -255,16 +255,16 @@ text_plain_all gs x (b ∷ p) bs t w =
     )
 
 -- an escape
-escape_piece : (z e : ℕ) (bs rest : List ℕ) → PieceAt z (92 ∷ e ∷ bs) rest → (escaped e ≡ Some z) × (rest ≡ bs)
+escape_piece : (z e : ℕ) (bs rest : List ℕ) → PieceAt z (92 ∷ e ∷ bs) rest → (escape_meaning e ≡ Some z) × (rest ≡ bs)
 escape_piece z e bs rest (inl (p, q)) =
     let s : z ≡ 92 = cc in
     let r : is_plain_byte 92 ≡ true = subst (λ y. is_plain_byte y ≡ true) s p in cc
 escape_piece z e bs rest (inr (x, p, q)) =
     let s : x ≡ e = cc in
-    (subst (λ y. escaped y ≡ Some z) s p, cc)
+    (subst (λ y. escape_meaning y ≡ Some z) s p, cc)
 
 escape_from : (gs : List PlainTrees) (x y : List ℕ) (e b : ℕ) (bs to : List ℕ) (t : PlainTree)
-    → escaped e ≡ Some b → PiecesAt y (92 ∷ e ∷ bs) to → After gs (text (x ++ y)) to t → InsideText gs (x ++ b ∷ []) bs t
+    → escape_meaning e ≡ Some b → PiecesAt y (92 ∷ e ∷ bs) to → After gs (text (x ++ y)) to t → InsideText gs (x ++ b ∷ []) bs t
 escape_from gs x [] e b bs to t w h k = absurd (apart 34 92 refl (same_head _ _ _ _ (sym h)) (inl refl))
 escape_from gs x (z ∷ y) e b bs to t w (rest, p, h) k =
     let (q, r) = escape_piece z e bs rest p in
@@ -272,18 +272,18 @@ escape_from gs x (z ∷ y) e b bs to t w (rest, p, h) k =
     (y, to, subst (λ v. PiecesAt y v to) r h, (joined gs x y b to t).0 (subst (λ v. After gs (text (x ++ v ∷ y)) to t) s k))
 
 pub text_escape : (gs : List PlainTrees) (x : List ℕ) (e b : ℕ) (bs : List ℕ) (t : PlainTree)
-    → escaped e ≡ Some b → InsideText gs x (92 ∷ e ∷ bs) t ↔ InsideText gs (x ++ b ∷ []) bs t
+    → escape_meaning e ≡ Some b → InsideText gs x (92 ∷ e ∷ bs) t ↔ InsideText gs (x ++ b ∷ []) bs t
 text_escape gs x e b bs t w = (
   λ (y, to, h, k). escape_from gs x y e b bs to t w h k,
   λ (y, to, h, k). (b ∷ y, to, (bs, inr (e, w, refl), h), (joined gs x y b to t).1 k),
 )
 
-no_escape_from : (y : List ℕ) (e : ℕ) (bs to : List ℕ) → escaped e ≡ None → PiecesAt y (92 ∷ e ∷ bs) to → ⊥
+no_escape_from : (y : List ℕ) (e : ℕ) (bs to : List ℕ) → escape_meaning e ≡ None → PiecesAt y (92 ∷ e ∷ bs) to → ⊥
 no_escape_from [] e bs to w h = apart 34 92 refl (same_head _ _ _ _ (sym h)) (inl refl)
-no_escape_from (z ∷ y) e bs to w (rest, p, h) = let q : escaped e ≡ Some z = (escape_piece z e bs rest p).0 in cc
+no_escape_from (z ∷ y) e bs to w (rest, p, h) = let q : escape_meaning e ≡ Some z = (escape_piece z e bs rest p).0 in cc
 
 pub text_no_escape : (gs : List PlainTrees) (x : List ℕ) (e : ℕ) (bs : List ℕ) (t : PlainTree)
-    → escaped e ≡ None → InsideText gs x (92 ∷ e ∷ bs) t → ⊥
+    → escape_meaning e ≡ None → InsideText gs x (92 ∷ e ∷ bs) t → ⊥
 text_no_escape gs x e bs t w (y, to, h, k) = no_escape_from y e bs to w h
 
 -- after the tree of the document

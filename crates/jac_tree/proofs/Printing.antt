@@ -8,7 +8,7 @@ use Rattle.jac_tree.specs.Grammar.{is_white, skip, begins_with_atom_byte, PieceA
 use Rattle.jac_tree.specs.Plain.{PlainTree, PlainTrees}
 use Rattle.jac_tree.specs.Plain.PlainTree.{atom, text, list}
 use Rattle.jac_tree.specs.Plain.PlainTrees.{none, more}
-use Rattle.jac_tree.specs.Printed.{piece_of, pieces_of, printed, printed_all, printed_after, HasAtoms, HaveAtoms}
+use Rattle.jac_tree.specs.Printed.{text_piece, text_pieces, printed_tree, printed_all, printed_after, HasAtoms, HaveAtoms}
 use Rattle.jac_tree.proofs.Bytes.{plain_other}
 use Rattle.jac_tree.proofs.Moves.{both, skip_other}
 
@@ -16,43 +16,43 @@ use Rattle.jac_tree.proofs.Moves.{both, skip_other}
 abbrev pub IsRaw : ℕ → Type 0
 IsRaw b = (b ≢ 10) × (b ≢ 13) × (b ≢ 9) × (b ≢ 92) × (b ≢ 34)
 
-raw_piece : (b : ℕ) → IsRaw b → piece_of b ≡ b ∷ []
+raw_piece : (b : ℕ) → IsRaw b → text_piece b ≡ b ∷ []
 raw_piece b (p, q, r, s, t) = grind (arith, nat_tests)
 
 high_raw : (b : ℕ) → 128 ≤ b → IsRaw b
 high_raw b h = (λ e. omega arith, λ e. omega arith, λ e. omega arith, λ e. omega arith, λ e. omega arith)
 
-pub pieces_append : (a b : List ℕ) → pieces_of (a ++ b) ≡ pieces_of a ++ pieces_of b
+pub pieces_append : (a b : List ℕ) → text_pieces (a ++ b) ≡ text_pieces a ++ text_pieces b
 pieces_append [] b = refl
-pieces_append (x ∷ a) b = ap (λ z. piece_of x ++ z) (pieces_append a b) ∙ sym (append_assoc (piece_of x) (pieces_of a) (pieces_of b))
+pieces_append (x ∷ a) b = ap (λ z. text_piece x ++ z) (pieces_append a b) ∙ sym (append_assoc (text_piece x) (text_pieces a) (text_pieces b))
 
-high_pieces : (xs : List ℕ) → ((k : ℕ) → k < length xs → 128 ≤ get_or xs k 0) → pieces_of xs ≡ xs
+high_pieces : (xs : List ℕ) → ((k : ℕ) → k < length xs → 128 ≤ get_or xs k 0) → text_pieces xs ≡ xs
 high_pieces [] h = refl
 high_pieces (x ∷ xs) h =
     let high : 128 ≤ x = h 0 (omega arith) in
-    ap (λ z. z ++ pieces_of xs) (raw_piece x (high_raw x high)) ∙ ap (λ z. x ∷ z) (high_pieces xs (λ k below. h (suc k) (omega arith)))
+    ap (λ z. z ++ text_pieces xs) (raw_piece x (high_raw x high)) ∙ ap (λ z. x ∷ z) (high_pieces xs (λ k below. h (suc k) (omega arith)))
 
 -- a character without an escape is its own piece
-pub raw_pieces : (c : ℕ) → IsRaw c → pieces_of (encode_utf8 c) ≡ encode_utf8 c
+pub raw_pieces : (c : ℕ) → IsRaw c → text_pieces (encode_utf8 c) ≡ encode_utf8 c
 raw_pieces c raw = elim (cases_lt c 128) [
-  | inl low ↦ subst (λ z. pieces_of z ≡ z) (sym (encode_ascii c low)) (append-nil (piece_of c) ∙ raw_piece c raw)
+  | inl low ↦ subst (λ z. text_pieces z ≡ z) (sym (encode_ascii c low)) (append-nil (text_piece c) ∙ raw_piece c raw)
   | inr big ↦ high_pieces (encode_utf8 c) (λ k below. elim (cases_lt (get_or (encode_utf8 c) k 0) 128) [
     | inl low ↦ let q : c ≡ get_or (encode_utf8 c) k 0 = inside_one c [] (encode_utf8 c) k (sym (append-nil _)) below low in absurd (omega arith)
     | inr h ↦ h
   ])
 ]
 
-piece_at : (x : ℕ) (to : List ℕ) → PieceAt x (piece_of x ++ to) to
+piece_at : (x : ℕ) (to : List ℕ) → PieceAt x (text_piece x ++ to) to
 piece_at x to = elim (cases_eq x 10) [
-  | inl e ↦ subst (λ z. PieceAt z (piece_of z ++ to) to) (sym e) (inr (110, refl, refl))
+  | inl e ↦ subst (λ z. PieceAt z (text_piece z ++ to) to) (sym e) (inr (110, refl, refl))
   | inr p ↦ elim (cases_eq x 13) [
-    | inl e ↦ subst (λ z. PieceAt z (piece_of z ++ to) to) (sym e) (inr (114, refl, refl))
+    | inl e ↦ subst (λ z. PieceAt z (text_piece z ++ to) to) (sym e) (inr (114, refl, refl))
     | inr q ↦ elim (cases_eq x 9) [
-      | inl e ↦ subst (λ z. PieceAt z (piece_of z ++ to) to) (sym e) (inr (116, refl, refl))
+      | inl e ↦ subst (λ z. PieceAt z (text_piece z ++ to) to) (sym e) (inr (116, refl, refl))
       | inr r ↦ elim (cases_eq x 92) [
-        | inl e ↦ subst (λ z. PieceAt z (piece_of z ++ to) to) (sym e) (inr (92, refl, refl))
+        | inl e ↦ subst (λ z. PieceAt z (text_piece z ++ to) to) (sym e) (inr (92, refl, refl))
         | inr s ↦ elim (cases_eq x 34) [
-          | inl e ↦ subst (λ z. PieceAt z (piece_of z ++ to) to) (sym e) (inr (34, refl, refl))
+          | inl e ↦ subst (λ z. PieceAt z (text_piece z ++ to) to) (sym e) (inr (34, refl, refl))
           | inr t ↦ inl (plain_other x t s, ap (λ z. z ++ to) (raw_piece x (p, q, r, s, t)))
         ]
       ]
@@ -60,16 +60,16 @@ piece_at x to = elim (cases_eq x 10) [
   ]
 ]
 
-pieces_at : (x to : List ℕ) → PiecesAt x (pieces_of x ++ 34 ∷ to) to
+pieces_at : (x to : List ℕ) → PiecesAt x (text_pieces x ++ 34 ∷ to) to
 pieces_at [] to = refl
 pieces_at (b ∷ x) to =
-    let e = append_assoc (piece_of b) (pieces_of x) (34 ∷ to) in
-    (pieces_of x ++ 34 ∷ to, subst (λ z. PieceAt b z (pieces_of x ++ 34 ∷ to)) (sym e) (piece_at b (pieces_of x ++ 34 ∷ to)), pieces_at x to)
+    let e = append_assoc (text_piece b) (text_pieces x) (34 ∷ to) in
+    (text_pieces x ++ 34 ∷ to, subst (λ z. PieceAt b z (text_pieces x ++ 34 ∷ to)) (sym e) (piece_at b (text_pieces x ++ 34 ∷ to)), pieces_at x to)
 
 atom_no_white : (b : ℕ) → is_atom_byte b ≡ true → is_white b ≡ false
 atom_no_white b h = grind (arith, nat_tests)
 
-skip_printed : (t : PlainTree) (to : List ℕ) → HasAtoms t → skip (printed t ++ to) ≡ printed t ++ to
+skip_printed : (t : PlainTree) (to : List ℕ) → HasAtoms t → skip (printed_tree t ++ to) ≡ printed_tree t ++ to
 skip_printed (atom []) to (ne, all) = absurd (ne refl)
 skip_printed (atom (b ∷ a)) to (ne, all) = skip_other b (a ++ to) (atom_no_white b (both _ _ all).0)
 skip_printed (text x) to h = refl
@@ -80,11 +80,11 @@ after_ends none to = refl
 after_ends (more t ts) to = refl
 
 mutual
-  tree_at : (t : PlainTree) (to : List ℕ) → HasAtoms t → begins_with_atom_byte to ≡ false → TreeAt t (printed t ++ to) to
+  tree_at : (t : PlainTree) (to : List ℕ) → HasAtoms t → begins_with_atom_byte to ≡ false → TreeAt t (printed_tree t ++ to) to
   tree_at (atom a) to (ne, all) f = (ne, all, refl, f)
   tree_at (text x) to h f =
-      let e : (pieces_of x ++ 34 ∷ []) ++ to ≡ pieces_of x ++ 34 ∷ to = append_assoc (pieces_of x) (34 ∷ []) to in
-      ((pieces_of x ++ 34 ∷ []) ++ to, refl, subst (λ z. PiecesAt x z to) (sym e) (pieces_at x to))
+      let e : (text_pieces x ++ 34 ∷ []) ++ to ≡ text_pieces x ++ 34 ∷ to = append_assoc (text_pieces x) (34 ∷ []) to in
+      ((text_pieces x ++ 34 ∷ []) ++ to, refl, subst (λ z. PiecesAt x z to) (sym e) (pieces_at x to))
   tree_at (list ts) to h f =
       let e : (printed_all ts ++ 41 ∷ []) ++ to ≡ printed_all ts ++ 41 ∷ to = append_assoc (printed_all ts) (41 ∷ []) to in
       ((printed_all ts ++ 41 ∷ []) ++ to, refl, subst (λ z. TreesAt ts z to) (sym e) (all_at ts to h))
@@ -93,29 +93,29 @@ mutual
   all_at none to h = refl
   all_at (more t ts) to (h, k) =
       let rest = printed_after ts ++ 41 ∷ to in
-      let e : (printed t ++ printed_after ts) ++ 41 ∷ to ≡ printed t ++ rest = append_assoc (printed t) (printed_after ts) (41 ∷ to) in
-      let s : skip ((printed t ++ printed_after ts) ++ 41 ∷ to) ≡ printed t ++ rest = ap skip e ∙ skip_printed t rest h in
+      let e : (printed_tree t ++ printed_after ts) ++ 41 ∷ to ≡ printed_tree t ++ rest = append_assoc (printed_tree t) (printed_after ts) (41 ∷ to) in
+      let s : skip ((printed_tree t ++ printed_after ts) ++ 41 ∷ to) ≡ printed_tree t ++ rest = ap skip e ∙ skip_printed t rest h in
       (rest, subst (λ z. TreeAt t z rest) (sym s) (tree_at t rest h (after_ends ts to)), after_at ts to k)
 
   after_at : (ts : PlainTrees) (to : List ℕ) → HaveAtoms ts → TreesAt ts (printed_after ts ++ 41 ∷ to) to
   after_at none to h = refl
   after_at (more t ts) to (h, k) =
       let rest = printed_after ts ++ 41 ∷ to in
-      let e : (printed t ++ printed_after ts) ++ 41 ∷ to ≡ printed t ++ rest = append_assoc (printed t) (printed_after ts) (41 ∷ to) in
-      let s : skip ((printed t ++ printed_after ts) ++ 41 ∷ to) ≡ printed t ++ rest = ap skip e ∙ skip_printed t rest h in
+      let e : (printed_tree t ++ printed_after ts) ++ 41 ∷ to ≡ printed_tree t ++ rest = append_assoc (printed_tree t) (printed_after ts) (41 ∷ to) in
+      let s : skip ((printed_tree t ++ printed_after ts) ++ 41 ∷ to) ≡ printed_tree t ++ rest = ap skip e ∙ skip_printed t rest h in
       (rest, subst (λ z. TreeAt t z rest) (sym s) (tree_at t rest h (after_ends ts to)), after_at ts to k)
 
-pub printed_spells : (t : PlainTree) → HasAtoms t → Spells (printed t) t
+pub printed_spells : (t : PlainTree) → HasAtoms t → Spells (printed_tree t) t
 printed_spells t h =
-    let e : skip (printed t) ≡ printed t ++ [] = ap skip (sym (append-nil (printed t))) ∙ skip_printed t [] h in
+    let e : skip (printed_tree t) ≡ printed_tree t ++ [] = ap skip (sym (append-nil (printed_tree t))) ∙ skip_printed t [] h in
     ([], subst (λ z. TreeAt t z []) (sym e) (tree_at t [] h refl), refl)
 
 -- a character's pieces, and then those of the rest
-pub pieces_put : (out front rest left : List ℕ) → left ≡ front ++ rest → (out ++ pieces_of front) ++ pieces_of rest ≡ out ++ pieces_of left
+pub pieces_put : (out front rest left : List ℕ) → left ≡ front ++ rest → (out ++ text_pieces front) ++ text_pieces rest ≡ out ++ text_pieces left
 pieces_put out front rest left e =
-    append_assoc out (pieces_of front) (pieces_of rest)
+    append_assoc out (text_pieces front) (text_pieces rest)
     ∙ ap (λ z. out ++ z) (sym (pieces_append front rest))
-    ∙ ap (λ z. out ++ pieces_of z) (sym e)
+    ∙ ap (λ z. out ++ text_pieces z) (sym e)
 
 -- a tree that bytes spell has atoms alone where atoms stand
 mutual

@@ -8,7 +8,7 @@ use Rattle.jac_tree.specs.declared.fault.TreeFault.TheVariants as faults
 use Rattle.jac_tree.specs.declared.read.Mode.{Mode}
 use Rattle.jac_tree.specs.Grammar.{Spells, IsBegunWithin, IsStrayAt, IsDeepAt}
 use Rattle.jac_tree.specs.Plain.{PlainTree, PlainTrees, nesting}
-use Rattle.jac_tree.specs.Reading.{Completes, Steps, FaultsFor, HasFault, IsShallow}
+use Rattle.jac_tree.specs.Reading.{Completes, StepsReader, FaultsFor, HasFault, IsShallow}
 use Rattle.jac_tree.proofs.States.{can_end}
 
 -- the reader has read the first `at` bytes of the text
@@ -26,7 +26,7 @@ pub past_within : (text p q : List ℕ) (at : ℕ) → at ≤ length text → dr
 past_within text p q at n e = omega (arith, ap length e, length-drop at text, length-append p q)
 
 pub reading_step : (gs hs : List PlainTrees) (mode next : Mode) (text p q : List ℕ) (at : ℕ) → drop at text ≡ p ++ q
-    → Reading gs mode text at → Steps gs mode p hs next → Reading hs next text (at + length p)
+    → Reading gs mode text at → StepsReader gs mode p hs next → Reading hs next text (at + length p)
 reading_step gs hs mode next text p q at e r s rest t =
     let one = r (p ++ rest) t in
     let two = s rest t in
@@ -37,7 +37,7 @@ reading_step gs hs mode next text p q at e r s rest t =
 
 -- the same, where the length is a number of its own
 pub reading_step_by : (gs hs : List PlainTrees) (mode next : Mode) (text p q : List ℕ) (at n : ℕ) → n ≡ length p → drop at text ≡ p ++ q
-    → Reading gs mode text at → Steps gs mode p hs next → Reading hs next text (at + n)
+    → Reading gs mode text at → StepsReader gs mode p hs next → Reading hs next text (at + n)
 reading_step_by gs hs mode next text p q at n m e r s =
     subst (λ z. Reading hs next text (at + z)) (sym m) (reading_step gs hs mode next text p q at e r s)
 

@@ -9,13 +9,13 @@ use Rattle.jac_tree.specs.declared.fault.TreeFault.{TreeFault}
 use Rattle.jac_tree.specs.declared.fault.TreeFault.TheVariants as faults
 use Rattle.jac_tree.specs.declared.tree.Tree.{Tree}
 use Rattle.jac_tree.specs.declared.tree.Trees.{Trees}
-use Rattle.jac_tree.specs.Grammar.{is_white, skip, begins_with_atom_byte, is_plain_byte, escaped, PieceAt, PiecesAt, TreeAt, TreesAt}
+use Rattle.jac_tree.specs.Grammar.{is_white, skip, begins_with_atom_byte, is_plain_byte, escape_meaning, PieceAt, PiecesAt, TreeAt, TreesAt}
 use Rattle.jac_value.specs.Names.{is_atom_byte}
 use Rattle.jac_tree.specs.Mirror.{plain, plain_all}
 use Rattle.jac_tree.specs.Plain.{PlainTree, PlainTrees, onto, nesting, nesting_all}
 use Rattle.jac_tree.specs.Plain.PlainTree.{atom, text, list}
 use Rattle.jac_tree.specs.Plain.PlainTrees.{none, more}
-use Rattle.jac_tree.specs.Reading.{open_lists, After, Between, InsideAtom, InsideText, Completes, CompletesPlace, Steps, IsStuck, IsTooDeep, FaultsFor, Settles, AreShallow, IsShallow}
+use Rattle.jac_tree.specs.Reading.{open_lists, After, Between, InsideAtom, InsideText, Completes, CompletesPlace, StepsReader, IsStuck, IsTooDeep, FaultsFor, Settles, AreShallow, IsShallow}
 use Rattle.jac_tree.proofs.Bytes.{white_small, atom_small, escaped_small, first_of, first_white, first_atom, first_escaped, first_other, plain_char}
 use Rattle.jac_tree.proofs.Moves.{between_white, between_item, item_list, item_text, item_atom, item_none, between_end, between_no_end, atom_more, atom_end, text_end, text_plain_all, text_escape, text_no_escape, complete_white, complete_other, after_deep, nesting-onto, open_lists-push, same_head, apart}
 
@@ -55,13 +55,13 @@ shallow_few [] h = omega arith
 shallow_few (g ∷ gs) (h, k) = omega arith
 
 -- white
-pub white_step : (gs : List PlainTrees) (c : ℕ) → is_white c ≡ true → Steps gs (modes.Outside places.Open) (encode_utf8 c) gs (modes.Outside places.Open)
+pub white_step : (gs : List PlainTrees) (c : ℕ) → is_white c ≡ true → StepsReader gs (modes.Outside places.Open) (encode_utf8 c) gs (modes.Outside places.Open)
 white_step gs c w rest t =
     subst (λ z. Between gs (z ++ rest) t ↔ Between gs rest t) (sym (encode_ascii c (white_small c w))) (between_white gs c rest t w)
 
 -- a closing bracket
 pub close_step : (gs hs fs : List PlainTrees) (g ts : PlainTrees) (place : Place) → gs ≡ g ∷ fs → ts ≡ onto g none
-    → Settles fs (list ts) hs place → Steps gs (modes.Outside places.Open) (41 ∷ []) hs (modes.Outside place)
+    → Settles fs (list ts) hs place → StepsReader gs (modes.Outside places.Open) (41 ∷ []) hs (modes.Outside place)
 close_step gs hs fs g ts place p q s rest t =
     let ended = between_end g fs rest t in
     let k = s rest t in
@@ -82,7 +82,7 @@ close_stuck gs p rest t h = between_no_end rest t (subst (λ z. Between z (41 �
 opens : (gs : List PlainTrees) (rest : List ℕ) (t : PlainTree) → Between gs (40 ∷ rest) t ↔ Between (none ∷ gs) rest t
 opens gs rest t = chain (between_item gs 40 rest t refl (λ e. omega arith)) (item_list gs rest t)
 
-pub open_step : (gs hs : List PlainTrees) → hs ≡ none ∷ gs → Steps gs (modes.Outside places.Open) (40 ∷ []) hs (modes.Outside places.Open)
+pub open_step : (gs hs : List PlainTrees) → hs ≡ none ∷ gs → StepsReader gs (modes.Outside places.Open) (40 ∷ []) hs (modes.Outside places.Open)
 open_step gs hs p rest t = subst (λ z. Between gs (40 ∷ rest) t ↔ Between z rest t) (sym p) (opens gs rest t)
 
 pub open_shallow : (gs hs : List PlainTrees) → hs ≡ none ∷ gs → length gs < 64 → AreShallow gs → AreShallow hs
@@ -132,7 +132,7 @@ ended : (gs hs : List PlainTrees) (x front rest : List ℕ) (place : Place) (t :
 ended gs hs x front rest place t w s = chain (atom_end gs x (front ++ rest) t w) (s (front ++ rest) t)
 
 pub end_atom_step : (gs hs ks : List PlainTrees) (c : ℕ) (x : List ℕ) (place : Place) (next : Mode) → is_atom_byte c ≡ false
-    → Settles gs (atom x) hs place → Steps hs (modes.Outside place) (encode_utf8 c) ks next
+    → Settles gs (atom x) hs place → StepsReader hs (modes.Outside place) (encode_utf8 c) ks next
     → (rest : List ℕ) (t : PlainTree) → InsideAtom gs x (encode_utf8 c ++ rest) t ↔ Completes ks next rest t
 end_atom_step gs hs ks c x place next a s k rest t =
     let f = first_of c in
@@ -179,20 +179,20 @@ backslash_step gs c x p rest t =
     subst (λ z. InsideText gs x (z ++ rest) t ↔ InsideText gs x (92 ∷ rest) t) (sym e) (λ h. h, λ h. h)
 
 -- after a backslash
-pub escape_step : (gs : List PlainTrees) (c b : ℕ) (x y : List ℕ) → escaped c ≡ Some b → y ≡ x ++ encode_utf8 b
+pub escape_step : (gs : List PlainTrees) (c b : ℕ) (x y : List ℕ) → escape_meaning c ≡ Some b → y ≡ x ++ encode_utf8 b
     → (rest : List ℕ) (t : PlainTree) → InsideText gs x (92 ∷ encode_utf8 c ++ rest) t ↔ InsideText gs y rest t
 escape_step gs c b x y w p rest t =
     let small = escaped_small c b w in
     subst (λ z. InsideText gs x (92 ∷ (z ++ rest)) t ↔ InsideText gs y rest t) (sym (encode_ascii c small.0))
     (subst (λ z. InsideText gs x (92 ∷ c ∷ rest) t ↔ InsideText gs z rest t) (sym (p ∙ ap (λ z. x ++ z) (encode_ascii b small.1))) (text_escape gs x c b rest t w))
 
-pub escape_stuck : (gs : List PlainTrees) (c : ℕ) (x : List ℕ) → escaped c ≡ None → (rest : List ℕ) (t : PlainTree) → InsideText gs x (92 ∷ (take 1 (encode_utf8 c) ++ rest)) t → ⊥
+pub escape_stuck : (gs : List PlainTrees) (c : ℕ) (x : List ℕ) → escape_meaning c ≡ None → (rest : List ℕ) (t : PlainTree) → InsideText gs x (92 ∷ (take 1 (encode_utf8 c) ++ rest)) t → ⊥
 escape_stuck gs c x w rest t h =
     let f = first_of c in
     text_no_escape gs x f.byte rest t (first_escaped c f w) (subst (λ z. InsideText gs x (92 ∷ (z ++ rest)) t) f.front h)
 
 -- after the tree of the document
-pub complete_step : (gs : List PlainTrees) (u : Tree) (c : ℕ) → is_white c ≡ true → Steps gs (modes.Outside (places.Complete u)) (encode_utf8 c) gs (modes.Outside (places.Complete u))
+pub complete_step : (gs : List PlainTrees) (u : Tree) (c : ℕ) → is_white c ≡ true → StepsReader gs (modes.Outside (places.Complete u)) (encode_utf8 c) gs (modes.Outside (places.Complete u))
 complete_step gs u c w rest t =
     let e = encode_ascii c (white_small c w) in
     let one = complete_white c rest w in

@@ -1,8 +1,8 @@
 -- A text spells at most one tree, and no list of it has more trees than the text has bytes.
 use Rattle.std.proofs.Common.{◌≡◌, inl, inr, ℕ, ◌+◌, ◌<◌, ◌≤◌, true, false, List, [], ◌∷◌, ◌++◌, length, Some, refl, sym, ◌∙◌, ap, subst, arith, length-append}
-use Rattle.jac_tree.specs.Grammar.{skip, is_white, are_atom_bytes, begins_with_atom_byte, is_plain_byte, escaped, PieceAt, PiecesAt, TreeAt, TreesAt, Spells}
+use Rattle.jac_tree.specs.Grammar.{skip, is_white, are_atom_bytes, begins_with_atom_byte, is_plain_byte, escape_meaning, PieceAt, PiecesAt, TreeAt, TreesAt, Spells}
 use Rattle.jac_value.specs.Names.{is_atom_byte}
-use Rattle.jac_tree.specs.Plain.{PlainTree, PlainTrees, listed, widest, widest_all}
+use Rattle.jac_tree.specs.Plain.{PlainTree, PlainTrees, tree_list, widest, widest_all}
 use Rattle.jac_tree.specs.Plain.PlainTree.{atom, text, list}
 use Rattle.jac_tree.specs.Plain.PlainTrees.{none, more}
 use Rattle.jac_tree.proofs.Moves.{both, begins, none_from, apart, piece_quote, skip_white, skip_other}
@@ -33,7 +33,7 @@ piece_unique z w from to rest (inr (x, p, e)) (inl (q, f)) =
     let r : is_plain_byte 92 ≡ true = subst (λ y. is_plain_byte y ≡ true) h q in cc
 piece_unique z w from to rest (inr (x, p, e)) (inr (y, q, f)) =
     let h : x ≡ y = cc in
-    let k : escaped x ≡ Some w = subst (λ v. escaped v ≡ Some w) (sym h) q in
+    let k : escape_meaning x ≡ Some w = subst (λ v. escape_meaning v ≡ Some w) (sym h) q in
     (cc, cc)
 
 pieces_unique : (x y from to rest : List ℕ) → PiecesAt x from to → PiecesAt y from rest → (x ≡ y) × (to ≡ rest)
@@ -129,7 +129,7 @@ mutual
       let (i, j) = trees_wide ts inside to h in
       (omega arith, omega arith)
 
-  trees_wide : (ts : PlainTrees) (from to : List ℕ) → TreesAt ts from to → (widest_all ts + length to ≤ length from) × (length (listed ts) + length to < length from)
+  trees_wide : (ts : PlainTrees) (from to : List ℕ) → TreesAt ts from to → (widest_all ts + length to ≤ length from) × (length (tree_list ts) + length to < length from)
   trees_wide none from to h =
       let m : length (skip from) ≡ length (41 ∷ to) = ap length h in
       let n = skip_shorter from in

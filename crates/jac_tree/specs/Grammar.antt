@@ -25,8 +25,8 @@ abbrev pub is_plain_byte : ℕ → Bool
 is_plain_byte b = not (b == 34 || b == 92)
 
 -- what the byte after a backslash stands for: n, r, t, backslash and quote
-abbrev pub escaped : ℕ → Option ℕ
-escaped e =
+abbrev pub escape_meaning : ℕ → Option ℕ
+escape_meaning e =
     if e == 110 then Some 10
     else if e == 114 then Some 13
     else if e == 116 then Some 9
@@ -38,7 +38,7 @@ escaped e =
 abbrev pub PieceAt : ℕ → List ℕ → List ℕ → Type 0
 PieceAt x from to =
     ((is_plain_byte x ≡ true) × (from ≡ x ∷ to))
-    ⊎ ((e : ℕ) × (escaped e ≡ Some x) × (from ≡ 92 ∷ e ∷ to))
+    ⊎ ((e : ℕ) × (escape_meaning e ≡ Some x) × (from ≡ 92 ∷ e ∷ to))
 
 -- pieces that stand for the text, and then a quote, are at the front of `from`, and `to` follows
 -- them
@@ -67,8 +67,8 @@ abbrev pub Spells : List ℕ → PlainTree → Type 0
 Spells bytes t = (to : List ℕ) × TreeAt t (skip bytes) to × (skip to ≡ [])
 
 -- some document begins with the bytes, and one whose tree nests at most n deep does
-abbrev pub IsBegun : List ℕ → Type 0
-IsBegun front = (rest : List ℕ) × (t : PlainTree) × Spells (front ++ rest) t
+abbrev pub IsBegunDocument : List ℕ → Type 0
+IsBegunDocument front = (rest : List ℕ) × (t : PlainTree) × Spells (front ++ rest) t
 
 abbrev pub IsBegunWithin : ℕ → List ℕ → Type 0
 IsBegunWithin n front = (rest : List ℕ) × (t : PlainTree) × Spells (front ++ rest) t
@@ -78,7 +78,7 @@ IsBegunWithin n front = (rest : List ℕ) × (t : PlainTree) × Spells (front ++
 pub record IsStrayAt (bytes : List ℕ) (at : ℕ) : Type 0 where
   pub within : at < length bytes
   pub before : IsBegunWithin 64 (take at bytes)
-  pub after : ¬ (IsBegun (take (at + 1) bytes))
+  pub after : ¬ (IsBegunDocument (take (at + 1) bytes))
 
 -- the byte at this place opens a list inside 64 lists: it is the first with which only documents of
 -- trees that nest deeper than 64 go on
@@ -86,7 +86,7 @@ pub record IsDeepAt (bytes : List ℕ) (at : ℕ) : Type 0 where
   pub within : at < length bytes
   pub opens : slice_index bytes at ≡ 40
   pub before : IsBegunWithin 64 (take at bytes)
-  pub after : IsBegun (take (at + 1) bytes)
+  pub after : IsBegunDocument (take (at + 1) bytes)
   pub deeper : ¬ (IsBegunWithin 64 (take (at + 1) bytes))
 
 -- the bytes, which end at this place, begin a document and are none

@@ -1,5 +1,6 @@
 -- Trees without the places where they lie in memory.
-use Rattle.std.specs.Prelude.{ℕ, ◌+◌, max, List, [], ◌∷◌, length}
+use Rattle.std.specs.Prelude.{ℕ, ◌+◌, max, Bool, false, List, [], ◌∷◌, length}
+use Rattle.std.specs.Str.{bytes_eq}
 
 mutual
   pub data PlainTree : Type 0 where
@@ -12,9 +13,9 @@ mutual
     more : PlainTree → PlainTrees → PlainTrees
 
 -- the trees of a list, as a list
-abbrev pub listed : PlainTrees → List PlainTree
-listed none = []
-listed (more t ts) = t ∷ listed ts
+abbrev pub tree_list : PlainTrees → List PlainTree
+tree_list none = []
+tree_list (more t ts) = t ∷ tree_list ts
 
 -- the first trees turned round, and then the second
 abbrev pub onto : PlainTrees → PlainTrees → PlainTrees
@@ -37,8 +38,19 @@ abbrev mutual
   pub widest : PlainTree → ℕ
   widest (atom a) = 0
   widest (text x) = 0
-  widest (list ts) = max (length (listed ts)) (widest_all ts)
+  widest (list ts) = max (length (tree_list ts)) (widest_all ts)
 
   pub widest_all : PlainTrees → ℕ
   widest_all none = 0
   widest_all (more t ts) = max (widest t) (widest_all ts)
+
+-- how many trees stand in a list
+abbrev pub count : PlainTrees → ℕ
+count none = 0
+count (more t ts) = count ts + 1
+
+-- the tree is this word, as an atom
+abbrev pub is_word : List ℕ → PlainTree → Bool
+is_word word (atom a) = bytes_eq a word
+is_word word (text x) = false
+is_word word (list ts) = false

@@ -4,8 +4,8 @@ use Rattle.jac_tree.specs.Grammar.{are_atom_bytes}
 use Rattle.jac_tree.specs.Plain.{PlainTree, PlainTrees}
 
 -- a byte of a text as it stands between quotes: \n \r \t \\ \" or the byte itself
-abbrev pub piece_of : ℕ → List ℕ
-piece_of b =
+abbrev pub text_piece : ℕ → List ℕ
+text_piece b =
     if b == 10 then 92 ∷ 110 ∷ []
     else if b == 13 then 92 ∷ 114 ∷ []
     else if b == 9 then 92 ∷ 116 ∷ []
@@ -13,25 +13,25 @@ piece_of b =
     else if b == 34 then 92 ∷ 34 ∷ []
     else b ∷ []
 
-abbrev pub pieces_of : List ℕ → List ℕ
-pieces_of [] = []
-pieces_of (b ∷ bs) = piece_of b ++ pieces_of bs
+abbrev pub text_pieces : List ℕ → List ℕ
+text_pieces [] = []
+text_pieces (b ∷ bs) = text_piece b ++ text_pieces bs
 
 -- an atom raw, a text in quotes, a list in brackets with one space between neighbours
 abbrev mutual
-  pub printed : PlainTree → List ℕ
-  printed (PlainTree.atom a) = a
-  printed (PlainTree.text x) = 34 ∷ (pieces_of x ++ 34 ∷ [])
-  printed (PlainTree.list ts) = 40 ∷ (printed_all ts ++ 41 ∷ [])
+  pub printed_tree : PlainTree → List ℕ
+  printed_tree (PlainTree.atom a) = a
+  printed_tree (PlainTree.text x) = 34 ∷ (text_pieces x ++ 34 ∷ [])
+  printed_tree (PlainTree.list ts) = 40 ∷ (printed_all ts ++ 41 ∷ [])
 
   pub printed_all : PlainTrees → List ℕ
   printed_all PlainTrees.none = []
-  printed_all (PlainTrees.more t ts) = printed t ++ printed_after ts
+  printed_all (PlainTrees.more t ts) = printed_tree t ++ printed_after ts
 
   -- the trees that stand behind another one
   pub printed_after : PlainTrees → List ℕ
   printed_after PlainTrees.none = []
-  printed_after (PlainTrees.more t ts) = 32 ∷ (printed t ++ printed_after ts)
+  printed_after (PlainTrees.more t ts) = 32 ∷ (printed_tree t ++ printed_after ts)
 
 -- each atom of the tree is one: a byte or more, all of them atom bytes
 abbrev mutual

@@ -57,8 +57,9 @@ Completes gs (modes.InText x) bytes t = InsideText gs (string_bytes x) bytes t
 Completes gs (modes.InEscape x) bytes t = InsideText gs (string_bytes x) (92 ∷ bytes) t
 
 -- after the bytes `front` a reader in the one state is one in the other
-abbrev pub Steps : List PlainTrees → Mode → List ℕ → List PlainTrees → Mode → Type 0
-Steps gs mode front hs next = (rest : List ℕ) (t : PlainTree) → Completes gs mode (front ++ rest) t
+abbrev pub StepsReader : List PlainTrees → Mode → List ℕ → List PlainTrees → Mode → Type 0
+StepsReader gs mode front hs next = (rest : List ℕ) (t : PlainTree) → Completes gs mode (front
+    ++ rest) t
     ↔ Completes hs next rest t
 
 -- no document goes on with the first of the bytes `front`
@@ -87,7 +88,7 @@ FaultsFor gs mode front at (faults.Unclosed n) = ⊥
 -- a step over the bytes `front`, which stand at the place `at`
 abbrev pub Goes : List PlainTrees → Mode → List ℕ → ℕ → List PlainTrees → Result Mode TreeFault
     → Type 0
-Goes gs mode front at hs (Ok next) = Steps gs mode front hs next
+Goes gs mode front at hs (Ok next) = StepsReader gs mode front hs next
 Goes gs mode front at hs (Err fault) = FaultsFor gs mode front at fault
 
 -- the trees of each open list leave room for the lists round it, 64 in all
@@ -112,9 +113,9 @@ Settles gs u hs place = (rest : List ℕ) (t : PlainTree) → After gs u rest t 
     place rest t
 
 -- what is answered where the bytes end, at the place `at`
-abbrev pub Finishes : List PlainTrees → Mode → ℕ → Result Tree TreeFault → Type 0
-Finishes gs mode at (Ok tree) = (t : PlainTree) → Completes gs mode [] t ↔ (t ≡ plain tree)
-Finishes gs mode at (Err fault) = (fault ≡ faults.Unclosed at)
+abbrev pub FinishesTree : List PlainTrees → Mode → ℕ → Result Tree TreeFault → Type 0
+FinishesTree gs mode at (Ok tree) = (t : PlainTree) → Completes gs mode [] t ↔ (t ≡ plain tree)
+FinishesTree gs mode at (Err fault) = (fault ≡ faults.Unclosed at)
     × ((t : PlainTree) → ¬ (Completes gs mode [] t))
 
 -- a fault of bytes that are a text and aren't too long
@@ -127,7 +128,7 @@ HasFault bytes faults.Long = ⊥
 HasFault bytes (faults.NotUtf8 at) = ⊥
 
 -- the bytes of a text spell the tree that was read, and no other
-abbrev pub Reads : List ℕ → Result Tree TreeFault → Type 0
-Reads bytes (Ok tree) = (nesting (plain tree) ≤ 64)
+abbrev pub ReadsTree : List ℕ → Result Tree TreeFault → Type 0
+ReadsTree bytes (Ok tree) = (nesting (plain tree) ≤ 64)
     × ((t : PlainTree) → Spells bytes t ↔ (t ≡ plain tree))
-Reads bytes (Err fault) = HasFault bytes fault
+ReadsTree bytes (Err fault) = HasFault bytes fault

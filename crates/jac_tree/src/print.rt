@@ -3,7 +3,7 @@ ghost use Rattle.std.specs.String.{string_bytes};
 ghost use Rattle.jac_tree.specs.Grammar.{Accepted, Spells};
 ghost use Rattle.jac_tree.specs.Mirror.{plain, plain_all};
 ghost use Rattle.jac_tree.specs.Plain.{PlainTree, nesting};
-ghost use Rattle.jac_tree.specs.Printed.{pieces_of, printed, printed_all, printed_after, HasAtoms};
+ghost use Rattle.jac_tree.specs.Printed.{text_pieces, printed_tree, printed_all, printed_after, HasAtoms};
 
 use crate::{Tree, Trees};
 use jac_value::{Bytes, Memory};
@@ -13,7 +13,7 @@ use std::alloc::Global;
 /// tab, backslash and quote are `\n`, `\r`, `\t`, `\\` and `\"`, and every other byte stands for
 /// itself.
 pub fn print_tree(alloc: Global, tree: &Tree) -> Result<Bytes, Memory>
-    ensures printed { IfOk result (λ bytes. bytes ≡ printed (plain tree.now)) }
+    ensures printed { IfOk result (λ bytes. bytes ≡ printed_tree (plain tree.now)) }
 
     // What was printed is read back as the tree, where it is within the limits of `read_tree`.
     ensures accepted { IfOk result (λ bytes. HasAtoms (plain tree.now) → nesting (plain tree.now)
@@ -27,7 +27,7 @@ pub fn print_tree(alloc: Global, tree: &Tree) -> Result<Bytes, Memory>
 
 /// A law, with nothing to run: what a tree is printed as spells it.
 pub fn printed_spells_its_tree()
-    ensures { (t : PlainTree) → HasAtoms t → Spells (printed t) t }
+    ensures { (t : PlainTree) → HasAtoms t → Spells (printed_tree t) t }
 {}
 
 /// A law, with nothing to run: a tree that was read can be printed and read again.
@@ -37,7 +37,8 @@ pub fn spelled_has_atoms()
 
 #[cycle(print)]
 fn put_tree(tree: &Tree, to: &mut String) -> Result<(), Memory>
-    ensures { OnOk result (string_bytes to.new ≡ string_bytes to.old ++ printed (plain tree.now)) }
+    ensures { OnOk result (string_bytes to.new ≡ string_bytes to.old ++ printed_tree
+        (plain tree.now)) }
 {
     match tree {
         Tree::Atom(atom) => to.push_str(atom.as_str())?,
@@ -49,7 +50,7 @@ fn put_tree(tree: &Tree, to: &mut String) -> Result<(), Memory>
 
 #[cycle(print)]
 fn put_list(trees: &Trees, to: &mut String) -> Result<(), Memory>
-    ensures { OnOk result (string_bytes to.new ≡ string_bytes to.old ++ printed
+    ensures { OnOk result (string_bytes to.new ≡ string_bytes to.old ++ printed_tree
         (PlainTree.list (plain_all trees.now))) }
 {
     to.push('(')?;
@@ -77,7 +78,7 @@ fn put_after(trees: &Trees, to: &mut String) -> Result<(), Memory>
 }
 
 fn put_text(text: &str, to: &mut String) -> Result<(), Memory>
-    ensures { OnOk result (string_bytes to.new ≡ string_bytes to.old ++ printed
+    ensures { OnOk result (string_bytes to.new ≡ string_bytes to.old ++ printed_tree
         (PlainTree.text text.now)) }
 {
     to.push('"')?;
@@ -90,7 +91,8 @@ fn put_text(text: &str, to: &mut String) -> Result<(), Memory>
 
 // A character of a text.
 fn put_piece(c: char, to: &mut String) -> Result<(), Memory>
-    ensures { OnOk result (string_bytes to.new ≡ string_bytes to.old ++ pieces_of (encode_utf8 c)) }
+    ensures { OnOk result (string_bytes to.new ≡ string_bytes to.old ++ text_pieces
+        (encode_utf8 c)) }
 {
     match c {
         '\n' => to.push_str("\\n")?,

@@ -2,11 +2,11 @@ ghost use Rattle.std.specs.Prelude.{◌≡◌, ◌≢◌, List, false, OnOk, ◌
 ghost use Rattle.std.specs.Str.{IsValidUpTo};
 ghost use Rattle.jac_tree.specs.declared.fault.TreeFault.{TreeFault as AnyFault};
 ghost use Rattle.jac_tree.specs.Faults.{IsFaultOf};
-ghost use Rattle.jac_tree.specs.Grammar.{Accepted, Spells, IsStrayAt, IsDeepAt, IsUnclosedAt, is_white, escaped};
+ghost use Rattle.jac_tree.specs.Grammar.{Accepted, Spells, IsStrayAt, IsDeepAt, IsUnclosedAt, is_white, escape_meaning};
 ghost use Rattle.jac_value.specs.Names.{is_atom_byte};
 ghost use Rattle.jac_tree.specs.Mirror.{plain};
 ghost use Rattle.jac_tree.specs.Plain.{PlainTree, PlainTrees, nesting, widest};
-ghost use Rattle.jac_tree.specs.Reading.{open_lists, Steps, Goes, Settles, Finishes, Reads, AreShallow, IsShallowPlace, IsShallow};
+ghost use Rattle.jac_tree.specs.Reading.{open_lists, StepsReader, Goes, Settles, FinishesTree, ReadsTree, AreShallow, IsShallowPlace, IsShallow};
 
 use crate::{Tree, TreeFault, Trees};
 use jac_value::{Memory, Txt};
@@ -84,7 +84,7 @@ pub fn spells_one_tree()
 
 /// The tree that the text spells, however long it is.
 pub fn read_text(alloc: Global, text: &Txt) -> Result<Tree, TreeFault>
-    ensures reads { Reads text.now result }
+    ensures reads { ReadsTree text.now result }
     ensures wide { IfOk result (λ t. widest (plain t) ≤ length text.now) }
 {
     let tree = read_str(alloc, text.as_str())?;
@@ -92,7 +92,7 @@ pub fn read_text(alloc: Global, text: &Txt) -> Result<Tree, TreeFault>
 }
 
 fn read_str(alloc: Global, text: &str) -> Result<Tree, TreeFault>
-    ensures { Reads text.now result }
+    ensures { ReadsTree text.now result }
 {
     let mut stack = Vec::new(alloc);
     let mut mode = Mode::Outside(Place::Open);
@@ -289,7 +289,7 @@ fn in_atom(
 }
 
 fn in_text(alloc: Global, stack: &mut Vec<Trees>, text: String, c: char) -> Result<Mode, Memory>
-    ensures steps { IfOk result (λ next. Steps (open_lists stack.old.items) (Mode.InText text)
+    ensures steps { IfOk result (λ next. StepsReader (open_lists stack.old.items) (Mode.InText text)
         (encode_utf8 c) (open_lists stack.new.items) next) }
     ensures shallow { IfOk result (λ next. IsShallow (open_lists stack.old.items) (Mode.InText text)
         → IsShallow (open_lists stack.new.items) next) }
@@ -323,7 +323,7 @@ fn in_escape(text: String, c: char, at: u64) -> Result<Mode, TreeFault>
 }
 
 fn finish(mode: Mode, stack: &[Trees], at: u64) -> Result<Tree, TreeFault>
-    ensures finishes { Finishes (open_lists stack.now) mode at result }
+    ensures finishes { FinishesTree (open_lists stack.now) mode at result }
     ensures shallow { IfOk result (λ tree. IsShallow (open_lists stack.now) mode
         → nesting (plain tree) ≤ 64) }
 {
@@ -340,7 +340,7 @@ fn finish(mode: Mode, stack: &[Trees], at: u64) -> Result<Tree, TreeFault>
 }
 
 fn finish_atom(atom: String, stack: &[Trees], at: u64) -> Result<Tree, TreeFault>
-    ensures finishes { Finishes (open_lists stack.now) (Mode.InAtom atom) at result }
+    ensures finishes { FinishesTree (open_lists stack.now) (Mode.InAtom atom) at result }
     ensures shallow { IfOk result (λ tree. nesting (plain tree) ≤ 64) }
 {
     if stack.is_empty() {
@@ -360,7 +360,7 @@ fn pushed(text: String, c: char) -> Result<String, Memory>
 
 // What the character after a backslash stands for.
 fn unescaped(c: char) -> Option<char>
-    ensures { result ≡ escaped c }
+    ensures { result ≡ escape_meaning c }
 {
     match c {
         'n' => Some('\n'),

@@ -18,7 +18,7 @@ use Rattle.jac_lang.specs.declared.queries.Order.{Order}
 use Rattle.jac_lang.specs.declared.queries.Order.TheVariants as orders
 use Rattle.jac_lang.specs.Syntax.{Expression, Expressions, Question}
 use Rattle.jac_lang.specs.Written.{IsName}
-use Rattle.jac_tree.specs.Plain.{PlainTree, PlainTrees}
+use Rattle.jac_tree.specs.Plain.{PlainTree, PlainTrees, count, is_word}
 use Rattle.jac_forms.specs.Places.{child}
 use Rattle.jac_forms.specs.Reads.{Read, got, wrong, many, read_map, read_and_then, up_to}
 use Rattle.jac_forms.specs.declared.fault.FormFault.TheVariants as faults
@@ -26,9 +26,9 @@ use Rattle.jac_forms.specs.declared.fault.Want.{Want}
 use Rattle.jac_forms.specs.declared.fault.Want.TheVariants as wants
 use Rattle.jac_forms.specs.declared.fault.What.{What}
 use Rattle.jac_forms.specs.declared.fault.What.TheVariants as whats
-use Rattle.jac_forms.specs.Names.{count, is_word, name_in_tree, named}
-use Rattle.jac_forms.specs.Expressions.{number_or_name, atom_expression, binder, binder_in_tree, binders_in_trees, some_binders, binders_in_tree, has_few, SortKey, sort_key, key_of, rising, falling, sorting_in_trees, order_in_tree, question, question_if, counted, summed, asked, first_of, none_in_trees, Operands, form_of, expression_of_form, expression_in_tree, expression_in_list, one_in_trees, two_in_trees, pick_in_trees, get_in_trees, expressions_in_trees, query_in_trees, sum_in_trees, question_in_tree, operands_of}
-use Rattle.jac_unparse.specs.TreeOf.{one, two, pair, op_word, trees_of_binders, tree_of_order, tree_of_expression, trees_of_expressions, tree_of_question}
+use Rattle.jac_forms.specs.Names.{name_in_tree, name_read}
+use Rattle.jac_forms.specs.Expressions.{number_or_name, atom_expression, binder, binder_in_tree, binders_in_trees, some_binders, binders_in_tree, has_few, SortKey, sort_key, key_of_sort, rising, falling, sorting_in_trees, order_in_tree, question, question_if, count_expression, sum_expression, any_expression, first_expression, none_in_trees, Operands, form_of, expression_of_form, expression_in_tree, expression_in_list, one_in_trees, two_in_trees, pick_in_trees, get_in_trees, expressions_in_trees, query_in_trees, sum_in_trees, question_in_tree, operands_of}
+use Rattle.jac_unparse.specs.TreeOf.{one, two_trees, pair, op_word, trees_of_binders, tree_of_order, tree_of_expression, trees_of_expressions, tree_of_question}
 use Rattle.jac_forms.specs.declared.words.Form.{Form}
 use Rattle.jac_forms.specs.declared.words.Form.TheVariants as forms
 use Rattle.jac_forms.proofs.Chains.{IfGot, chained, mapped, weaker, where_true, where_false, either, within}
@@ -55,7 +55,7 @@ pub decided : {A : Type 0} (P : A → Type 0) (b : Bool) (o p : Read A) → (b �
 decided P true o p h k = h refl
 decided P false o p h k = k refl
 
-pub named_again : (want : Want) (at : List ℕ) (a : List ℕ) → IsName a → named want at a ≡ got a
+pub named_again : (want : Want) (at : List ℕ) (a : List ℕ) → IsName a → name_read want at a ≡ got a
 named_again want at a h = passed (is_name a) (got a) (wrong want at) h
 
 pub name_again : (at : List ℕ) (a : List ℕ) → IsName a → name_in_tree at (PlainTree.atom a) ≡ got a
@@ -146,12 +146,12 @@ int_again i e to =
 
 free_name_again : (a : List ℕ) → IsFree a → integer_of a ≡ None → IsName a → IsAgain (Expression.name a)
 free_name_again a h e name to =
-    free_atom to a h ∙ ap (number_or_name to a) e ∙ mapping Expression.name (named wants.Expression to a) a (named_again wants.Expression to a name)
+    free_atom to a h ∙ ap (number_or_name to a) e ∙ mapping Expression.name (name_read wants.Expression to a) a (named_again wants.Expression to a name)
 
 number_or_name-again : (at a : List ℕ) → IsFree a → (o : Option ℤ) → integer_of a ≡ o → IfGot (number_or_name at a o) IsAgain
 number_or_name-again at a h (Some i) e = int_again i (respelled a i e)
 number_or_name-again at a h None e =
-    mapped (λ x. (a ≡ x) × IsName a) IsAgain Expression.name (named wants.Expression at a)
+    mapped (λ x. (a ≡ x) × IsName a) IsAgain Expression.name (name_read wants.Expression at a)
     (where_true (λ x. (a ≡ x) × IsName a) (is_name a) (got a) (faults.Form at wants.Expression) (λ name. (refl, name)))
     (λ x (same, name). subst (λ z. IsAgain (Expression.name z)) same (free_name_again a h e name))
 
@@ -232,24 +232,24 @@ query_binders-again most at (PlainTree.text x) = tt
 query_binders-again most at (PlainTree.list ts) = some-again most at ts
 
 abbrev IsKey : SortKey → Type 0
-IsKey key = (to : List ℕ) → key_of to (PlainTree.atom key.binder) (PlainTree.atom key.field) ≡ got key
+IsKey key = (to : List ℕ) → key_of_sort to (PlainTree.atom key.binder) (PlainTree.atom key.field) ≡ got key
 
 key_again : (x f : List ℕ) → IsName x → IsName f → IsKey (sort_key x f)
 key_again x f h k to =
     step (λ name. read_map (sort_key name) (name_in_tree (child to 2) (PlainTree.atom f))) (name_in_tree (child to 1) (PlainTree.atom x)) x (name_again (child to 1) x h)
     ∙ mapping (sort_key x) (name_in_tree (child to 2) (PlainTree.atom f)) f (name_again (child to 2) f k)
 
-key-again : (at : List ℕ) (x f : PlainTree) → IfGot (key_of at x f) IsKey
+key-again : (at : List ℕ) (x f : PlainTree) → IfGot (key_of_sort at x f) IsKey
 key-again at x f =
     chained IsName IsKey (λ name. read_map (sort_key name) (name_in_tree (child at 2) f)) (name_in_tree (child at 1) x) (name-written (child at 1) x) (λ name h.
     mapped IsName IsKey (sort_key name) (name_in_tree (child at 2) f) (name-written (child at 2) f) (λ field k. key_again name field h k))
 
 sorting-again : (at : List ℕ) (ts : PlainTrees) → IfGot (sorting_in_trees at ts) IsOrder
 sorting-again at (PlainTrees.more w (PlainTrees.more x (PlainTrees.more f PlainTrees.none))) =
-    either IsOrder (is_word (codes "up") w) (read_map rising (key_of at x f)) _
-    (mapped IsKey IsOrder rising (key_of at x f) (key-again at x f) (λ key h to. mapping rising (key_of to (PlainTree.atom key.binder) (PlainTree.atom key.field)) key (h to)))
-    (where_true IsOrder (is_word (codes "down") w) (read_map falling (key_of at x f)) (faults.Form at wants.Order) (λ _.
-    mapped IsKey IsOrder falling (key_of at x f) (key-again at x f) (λ key h to. mapping falling (key_of to (PlainTree.atom key.binder) (PlainTree.atom key.field)) key (h to))))
+    either IsOrder (is_word (codes "up") w) (read_map rising (key_of_sort at x f)) _
+    (mapped IsKey IsOrder rising (key_of_sort at x f) (key-again at x f) (λ key h to. mapping rising (key_of_sort to (PlainTree.atom key.binder) (PlainTree.atom key.field)) key (h to)))
+    (where_true IsOrder (is_word (codes "down") w) (read_map falling (key_of_sort at x f)) (faults.Form at wants.Order) (λ _.
+    mapped IsKey IsOrder falling (key_of_sort at x f) (key-again at x f) (λ key h to. mapping falling (key_of_sort to (PlainTree.atom key.binder) (PlainTree.atom key.field)) key (h to))))
 sorting-again at ts = tt
 
 order-again : (at : List ℕ) (t : PlainTree) → IfGot (order_in_tree at t) IsOrder
@@ -285,7 +285,7 @@ op_form ops.Or = refl
 
 two_again : (op : Op) (x y : Expression) → IsAgain x → IsAgain y → IsAgain (Expression.two op x y)
 two_again op x y h k to =
-    let ts = two (tree_of_expression x) (tree_of_expression y) in
+    let ts = two_trees (tree_of_expression x) (tree_of_expression y) in
     ap (λ z. expression_of_form to z (operands_of to ts)) (op_form op)
     ∙ step (λ z. read_map (Expression.two op z) (expression_in_tree (child to 2) (tree_of_expression y))) (expression_in_tree (child to 1) (tree_of_expression x)) x (h (child to 1))
     ∙ mapping (Expression.two op x) (expression_in_tree (child to 2) (tree_of_expression y)) y (k (child to 2))
@@ -322,12 +322,12 @@ form-again at (Some forms.Str) operands h =
     mapped IsAgain IsAgain Expression.str operands.one h.one (λ x k to. mapping Expression.str (expression_in_tree (child to 1) (tree_of_expression x)) x (k (child to 1)))
 form-again at (Some forms.Pick) operands h = h.pick
 form-again at (Some forms.Count) operands h =
-    mapped (IsAsked 1) IsAgain counted (operands.asked 1) (h.asked 1) (λ x k to. mapping counted (question_in_tree 1 (child to 1) (tree_of_question x)) x (k (child to 1)))
+    mapped (IsAsked 1) IsAgain count_expression (operands.asked 1) (h.asked 1) (λ x k to. mapping count_expression (question_in_tree 1 (child to 1) (tree_of_question x)) x (k (child to 1)))
 form-again at (Some forms.Sum) operands h = h.sum
 form-again at (Some forms.AnyOf) operands h =
-    mapped (IsAsked 3) IsAgain asked (operands.asked 3) (h.asked 3) (λ x k to. mapping asked (question_in_tree 3 (child to 1) (tree_of_question x)) x (k (child to 1)))
+    mapped (IsAsked 3) IsAgain any_expression (operands.asked 3) (h.asked 3) (λ x k to. mapping any_expression (question_in_tree 3 (child to 1) (tree_of_question x)) x (k (child to 1)))
 form-again at (Some forms.First) operands h =
-    mapped (IsAsked 3) IsAgain first_of (operands.asked 3) (h.asked 3) (λ x k to. mapping first_of (question_in_tree 3 (child to 1) (tree_of_question x)) x (k (child to 1)))
+    mapped (IsAsked 3) IsAgain first_expression (operands.asked 3) (h.asked 3) (λ x k to. mapping first_expression (question_in_tree 3 (child to 1) (tree_of_question x)) x (k (child to 1)))
 
 mutual
   pub expression-again : (at : List ℕ) (t : PlainTree) → IfGot (expression_in_tree at t) IsAgain
@@ -403,10 +403,10 @@ mutual
 
   sum-again : (at : List ℕ) (ts : PlainTrees) → IfGot (sum_in_trees at ts) IsAgain
   sum-again at (PlainTrees.more q (PlainTrees.more e PlainTrees.none)) =
-      chained (IsAsked 1) IsAgain (λ asked. read_map (summed asked) (expression_in_tree (child at 2) e)) (question_in_tree 1 (child at 1) q) (from-again 1 (child at 1) q) (λ x h.
-      mapped IsAgain IsAgain (summed x) (expression_in_tree (child at 2) e) (expression-again (child at 2) e) (λ y k to.
-      step (λ z. read_map (summed z) (expression_in_tree (child to 2) (tree_of_expression y))) (question_in_tree 1 (child to 1) (tree_of_question x)) x (h (child to 1))
-      ∙ mapping (summed x) (expression_in_tree (child to 2) (tree_of_expression y)) y (k (child to 2))))
+      chained (IsAsked 1) IsAgain (λ any_expression. read_map (sum_expression any_expression) (expression_in_tree (child at 2) e)) (question_in_tree 1 (child at 1) q) (from-again 1 (child at 1) q) (λ x h.
+      mapped IsAgain IsAgain (sum_expression x) (expression_in_tree (child at 2) e) (expression-again (child at 2) e) (λ y k to.
+      step (λ z. read_map (sum_expression z) (expression_in_tree (child to 2) (tree_of_expression y))) (question_in_tree 1 (child to 1) (tree_of_question x)) x (h (child to 1))
+      ∙ mapping (sum_expression x) (expression_in_tree (child to 2) (tree_of_expression y)) y (k (child to 2))))
   sum-again at PlainTrees.none = tt
   sum-again at (PlainTrees.more q PlainTrees.none) = tt
   sum-again at (PlainTrees.more q (PlainTrees.more e (PlainTrees.more d ts))) = tt

@@ -10,17 +10,17 @@ use Rattle.jac_lang.specs.declared.pages.Verb.{Verb}
 use Rattle.jac_lang.specs.declared.pages.Verb.TheVariants as verbs
 use Rattle.jac_lang.specs.Syntax.{Expression, Assigned, FieldGroup, Entity, Page, Application}
 use Rattle.jac_lang.specs.Written.{IsName}
-use Rattle.jac_tree.specs.Plain.{PlainTree, PlainTrees}
+use Rattle.jac_tree.specs.Plain.{PlainTree, PlainTrees, count, is_word}
 use Rattle.jac_forms.specs.Places.{child}
-use Rattle.jac_forms.specs.Reads.{Read, got, refused, wrong, many, read_map, read_and_then, behind, value_of}
+use Rattle.jac_forms.specs.Reads.{Read, got, refused, wrong, many, read_map, read_and_then, read_behind, value_of}
 use Rattle.jac_forms.specs.declared.fault.FormFault.TheVariants as faults
 use Rattle.jac_forms.specs.declared.fault.Want.{Want}
 use Rattle.jac_forms.specs.declared.fault.Want.TheVariants as wants
 use Rattle.jac_forms.specs.declared.fault.What.TheVariants as whats
-use Rattle.jac_forms.specs.Names.{count, is_word, name_in_tree, tail_of, each_in_trees}
+use Rattle.jac_forms.specs.Names.{name_in_tree, tail_of, each_in_trees}
 use Rattle.jac_forms.specs.Expressions.{one_in_trees}
 use Rattle.jac_forms.specs.Statements.{Body, assigned_in_tree, statements_in_trees, creates}
-use Rattle.jac_forms.specs.Applications.{plain_kind_of, one_name_in_trees, kind_in_tree, field, field_in_tree, few_fields, fields_in_tree, params_in_tree, some_guards, guards_in_tree, policy_in_tree, Guarding, guarding, guarding_in_tree, group, group_in_trees, group_in_tree, entity, entity_behind, entity_in_trees, entity_in_tree, method_in_tree, path_in_tree, page, page_in_trees, page_in_tree, is_headed, headed, Items, items, after_model, items_in_trees, application, viewer_in_tree, with_viewer, application_of_items, application_in_trees, application_in_tree}
+use Rattle.jac_forms.specs.Applications.{plain_kind_of, one_name_in_trees, kind_in_tree, field, field_in_tree, few_fields, fields_in_tree, params_in_tree, some_guards, guards_in_tree, policy_in_tree, Guarding, guarding, guarding_in_tree, group, group_in_trees, group_in_tree, entity, entity_behind, entity_in_trees, entity_in_tree, method_in_tree, path_in_tree, page_form, page_in_trees, page_in_tree, is_headed, headed_count, Items, items, after_model, items_in_trees, application, viewer_in_tree, with_viewer, application_of_items, application_in_trees, application_in_tree}
 use Rattle.jac_unparse.specs.TreeOf.{one, form, pair, tree_of_expression, trees_of_assigned, trees_of_statements, tree_of_kind, trees_of_fields, tree_of_guarding, tree_of_group, trees_of_groups, trees_of_parts, tree_of_entity, method_word, tree_of_page, trees_of_pages, models_before, viewer_before, tree_of_application, IsReadable}
 use Rattle.jac_unparse.proofs.Again.{step, mapping, passed, missed, few_enough, decided, name_again, IsAgain, one-again}
 use Rattle.jac_unparse.proofs.AgainStatements.{AreRead, each-again, all-assigned-again, AreCounted, statements-again}
@@ -49,9 +49,9 @@ plain_kind-again a =
     one_of true o p h k = h
     one_of false o p h k = k
 
-reference-again : (at : List ℕ) (t : PlainTree) → IfGot (read_map kinds.Ref (behind wants.Kind at (one_name_in_trees wants.Kind at) (tail_of (codes "ref") t))) IsKind
+reference-again : (at : List ℕ) (t : PlainTree) → IfGot (read_map kinds.Ref (read_behind wants.Kind at (one_name_in_trees wants.Kind at) (tail_of (codes "ref") t))) IsKind
 reference-again at t =
-    mapped IsName IsKind kinds.Ref (behind wants.Kind at (one_name_in_trees wants.Kind at) (tail_of (codes "ref") t))
+    mapped IsName IsKind kinds.Ref (read_behind wants.Kind at (one_name_in_trees wants.Kind at) (tail_of (codes "ref") t))
     (after IsName wants.Kind at (one_name_in_trees wants.Kind at) (tail_of (codes "ref") t) (one_name-read wants.Kind at)) (λ m h to.
     mapping kinds.Ref (name_in_tree (child to 1) (PlainTree.atom m)) m (name_again (child to 1) m h))
 
@@ -202,7 +202,7 @@ path-again at (PlainTree.list ts) = tt
 abbrev IsPage : Page → Type 0
 IsPage v = (to : List ℕ) → page_in_tree to (tree_of_page v) ≡ got v
 
-page-again : (at : List ℕ) (method : Verb) (path : List ℕ) (params : List Field) (b : Body) → IsAPath path → AreParams params → AreCounted 0 b → IfGot (page at method path params b) IsPage
+page-again : (at : List ℕ) (method : Verb) (path : List ℕ) (params : List Field) (b : Body) → IsAPath path → AreParams params → AreCounted 0 b → IfGot (page_form at method path params b) IsPage
 page-again at method path params b h k l =
     let v : Page = record { method = method; path = path; params = params; body = b.statements } in
     where_true IsPage (nat_le b.next 64) (got v) (faults.TooMany at whats.Sites (creates b.statements)) (λ few to.
@@ -210,18 +210,18 @@ page-again at method path params b h k l =
     let p = PlainTree.text path in
     let ps = form (codes "params") (trees_of_fields params) in
     let ss = trees_of_statements b.statements in
-    step (λ u. read_and_then (λ x. read_and_then (λ y. read_and_then (page to u x y) (statements_in_trees to 4 ss 0)) (params_in_tree (child to 3) ps)) (path_in_tree (child to 2) p)) (method_in_tree (child to 1) m) method (method_again (child to 1) method)
-    ∙ step (λ x. read_and_then (λ y. read_and_then (page to method x y) (statements_in_trees to 4 ss 0)) (params_in_tree (child to 3) ps)) (path_in_tree (child to 2) p) path (passed (is_path path) (got path) (wrong wants.Path (child to 2)) h)
-    ∙ step (λ y. read_and_then (page to method path y) (statements_in_trees to 4 ss 0)) (params_in_tree (child to 3) ps) params (k (child to 3))
-    ∙ step (page to method path params) (statements_in_trees to 4 ss 0) b (l to 4)
+    step (λ u. read_and_then (λ x. read_and_then (λ y. read_and_then (page_form to u x y) (statements_in_trees to 4 ss 0)) (params_in_tree (child to 3) ps)) (path_in_tree (child to 2) p)) (method_in_tree (child to 1) m) method (method_again (child to 1) method)
+    ∙ step (λ x. read_and_then (λ y. read_and_then (page_form to method x y) (statements_in_trees to 4 ss 0)) (params_in_tree (child to 3) ps)) (path_in_tree (child to 2) p) path (passed (is_path path) (got path) (wrong wants.Path (child to 2)) h)
+    ∙ step (λ y. read_and_then (page_form to method path y) (statements_in_trees to 4 ss 0)) (params_in_tree (child to 3) ps) params (k (child to 3))
+    ∙ step (page_form to method path params) (statements_in_trees to 4 ss 0) b (l to 4)
     ∙ passed (nat_le b.next 64) (got v) (many whats.Sites to (creates b.statements)) few)
 
 page_parts-again : (at : List ℕ) (ts : PlainTrees) → IfGot (page_in_trees at ts) IsPage
 page_parts-again at (PlainTrees.more m (PlainTrees.more p (PlainTrees.more ps ss))) =
-    freely IsPage (λ method. read_and_then (λ path. read_and_then (λ params. read_and_then (page at method path params) (statements_in_trees at 4 ss 0)) (params_in_tree (child at 3) ps)) (path_in_tree (child at 2) p)) (method_in_tree (child at 1) m) (λ method.
-    chained IsAPath IsPage (λ path. read_and_then (λ params. read_and_then (page at method path params) (statements_in_trees at 4 ss 0)) (params_in_tree (child at 3) ps)) (path_in_tree (child at 2) p) (path-again (child at 2) p) (λ path h.
-    chained AreParams IsPage (λ params. read_and_then (page at method path params) (statements_in_trees at 4 ss 0)) (params_in_tree (child at 3) ps) (params-again (child at 3) ps) (λ params k.
-    chained (AreCounted 0) IsPage (page at method path params) (statements_in_trees at 4 ss 0) (statements-again at 4 ss 0) (λ b l. page-again at method path params b h k l))))
+    freely IsPage (λ method. read_and_then (λ path. read_and_then (λ params. read_and_then (page_form at method path params) (statements_in_trees at 4 ss 0)) (params_in_tree (child at 3) ps)) (path_in_tree (child at 2) p)) (method_in_tree (child at 1) m) (λ method.
+    chained IsAPath IsPage (λ path. read_and_then (λ params. read_and_then (page_form at method path params) (statements_in_trees at 4 ss 0)) (params_in_tree (child at 3) ps)) (path_in_tree (child at 2) p) (path-again (child at 2) p) (λ path h.
+    chained AreParams IsPage (λ params. read_and_then (page_form at method path params) (statements_in_trees at 4 ss 0)) (params_in_tree (child at 3) ps) (params-again (child at 3) ps) (λ params k.
+    chained (AreCounted 0) IsPage (page_form at method path params) (statements_in_trees at 4 ss 0) (statements-again at 4 ss 0) (λ b l. page-again at method path params b h k l))))
 page_parts-again at PlainTrees.none = tt
 page_parts-again at (PlainTrees.more m PlainTrees.none) = tt
 page_parts-again at (PlainTrees.more m (PlainTrees.more p PlainTrees.none)) = tt
@@ -241,14 +241,14 @@ views_alone : (to : List ℕ) (k : ℕ) (vs : List Page) → each_in_trees page_
 views_alone to k [] e = refl
 views_alone to k (v ∷ vs) e = mapping (items []) (each_in_trees page_in_tree to k (trees_of_pages (v ∷ vs))) (v ∷ vs) e
 
-items-again : (at : List ℕ) (k : ℕ) (ts : PlainTrees) → IfGot (items_in_trees at k ts) (AreItems (headed (codes "model") ts))
+items-again : (at : List ℕ) (k : ℕ) (ts : PlainTrees) → IfGot (items_in_trees at k ts) (AreItems (headed_count (codes "model") ts))
 items-again at k PlainTrees.none = record { few = omega arith; same = λ to j. refl }
 items-again at k (PlainTrees.more t ts) =
-    decided (AreItems (headed (codes "model") (PlainTrees.more t ts))) (is_headed (codes "model") t) (read_and_then (λ m. read_map (after_model m) (items_in_trees at (k + 1) ts)) (entity_in_tree (child at k) t)) _
+    decided (AreItems (headed_count (codes "model") (PlainTrees.more t ts))) (is_headed (codes "model") t) (read_and_then (λ m. read_map (after_model m) (items_in_trees at (k + 1) ts)) (entity_in_tree (child at k) t)) _
     (λ e.
-    let more : headed (codes "model") (PlainTrees.more t ts) ≡ headed (codes "model") ts + 1 = ap (λ b. if b then headed (codes "model") ts + 1 else headed (codes "model") ts) e in
-    chained IsEntity (AreItems (headed (codes "model") (PlainTrees.more t ts))) (λ m. read_map (after_model m) (items_in_trees at (k + 1) ts)) (entity_in_tree (child at k) t) (entity-again (child at k) t) (λ m h.
-    mapped (AreItems (headed (codes "model") ts)) (AreItems (headed (codes "model") (PlainTrees.more t ts))) (after_model m) (items_in_trees at (k + 1) ts) (items-again at (k + 1) ts) (λ is l.
+    let more : headed_count (codes "model") (PlainTrees.more t ts) ≡ headed_count (codes "model") ts + 1 = ap (λ b. if b then headed_count (codes "model") ts + 1 else headed_count (codes "model") ts) e in
+    chained IsEntity (AreItems (headed_count (codes "model") (PlainTrees.more t ts))) (λ m. read_map (after_model m) (items_in_trees at (k + 1) ts)) (entity_in_tree (child at k) t) (entity-again (child at k) t) (λ m h.
+    mapped (AreItems (headed_count (codes "model") ts)) (AreItems (headed_count (codes "model") (PlainTrees.more t ts))) (after_model m) (items_in_trees at (k + 1) ts) (items-again at (k + 1) ts) (λ is l.
     let few = l.few in
     record {
       few = omega (arith, few, more);
@@ -257,14 +257,14 @@ items-again at k (PlainTrees.more t ts) =
           ∙ mapping (after_model m) (items_in_trees to (j + 1) (models_before is.models (trees_of_pages is.views))) is (l.same to (j + 1));
     })))
     (λ _.
-    mapped (AreRead page_in_tree trees_of_pages (count (PlainTrees.more t ts))) (AreItems (headed (codes "model") (PlainTrees.more t ts))) (items []) (each_in_trees page_in_tree at k (PlainTrees.more t ts)) (views-again at k (PlainTrees.more t ts)) (λ vs l.
+    mapped (AreRead page_in_tree trees_of_pages (count (PlainTrees.more t ts))) (AreItems (headed_count (codes "model") (PlainTrees.more t ts))) (items []) (each_in_trees page_in_tree at k (PlainTrees.more t ts)) (views-again at k (PlainTrees.more t ts)) (λ vs l.
     record { few = omega arith; same = λ to j. views_alone to j vs (l.same to j) }))
 
-headed_views : (vs : List Page) → headed (codes "model") (trees_of_pages vs) ≡ 0
+headed_views : (vs : List Page) → headed_count (codes "model") (trees_of_pages vs) ≡ 0
 headed_views [] = refl
 headed_views (v ∷ vs) = headed_views vs
 
-headed_models : (ms : List Entity) (vs : List Page) → headed (codes "model") (models_before ms (trees_of_pages vs)) ≡ length ms
+headed_models : (ms : List Entity) (vs : List Page) → headed_count (codes "model") (models_before ms (trees_of_pages vs)) ≡ length ms
 headed_models [] vs = headed_views vs
 headed_models (m ∷ ms) vs = omega (arith, headed_models ms vs)
 
@@ -282,7 +282,7 @@ without_viewer most is small h to =
     let ts = models_before is.models (trees_of_pages is.views) in
     let n = headed_models is.models is.views in
     let few = h.few in
-    few_enough whats.Models to 64 (headed (codes "model") ts) (application_of_items to ts) (omega (arith, n, few, small))
+    few_enough whats.Models to 64 (headed_count (codes "model") ts) (application_of_items to ts) (omega (arith, n, few, small))
     ∙ viewerless to is.models is.views
     ∙ mapping (application None) (items_in_trees to 1 ts) is (h.same to 1)
 
@@ -292,21 +292,21 @@ viewed most name is small named h to =
     let viewer = form (codes "viewer") (one (PlainTree.atom name)) in
     let n = headed_models is.models is.views in
     let few = h.few in
-    few_enough whats.Models to 64 (headed (codes "model") ts) (read_and_then (with_viewer to ts) (viewer_in_tree (child to 1) viewer)) (omega (arith, n, few, small))
+    few_enough whats.Models to 64 (headed_count (codes "model") ts) (read_and_then (with_viewer to ts) (viewer_in_tree (child to 1) viewer)) (omega (arith, n, few, small))
     ∙ step (with_viewer to ts) (viewer_in_tree (child to 1) viewer) name (name_again (child (child to 1) 1) name named)
     ∙ mapping (application (Some name)) (items_in_trees to 2 ts) is (h.same to 2)
 
-fewer_behind : (t : PlainTree) (ts : PlainTrees) → headed (codes "model") ts ≤ headed (codes "model") (PlainTrees.more t ts)
+fewer_behind : (t : PlainTree) (ts : PlainTrees) → headed_count (codes "model") ts ≤ headed_count (codes "model") (PlainTrees.more t ts)
 fewer_behind t ts = split (is_headed (codes "model") t) refl
   where
-    split : (b : Bool) → is_headed (codes "model") t ≡ b → headed (codes "model") ts ≤ headed (codes "model") (PlainTrees.more t ts)
+    split : (b : Bool) → is_headed (codes "model") t ≡ b → headed_count (codes "model") ts ≤ headed_count (codes "model") (PlainTrees.more t ts)
     split true e = rw e (omega arith)
     split false e = rw e (omega arith)
 
 viewer-read : (at : List ℕ) (t : PlainTree) → IfGot (viewer_in_tree at t) IsName
 viewer-read at t = after IsName wants.Item at (one_name_in_trees wants.Item at) (tail_of (codes "viewer") t) (one_name-read wants.Item at)
 
-parts-again : (at : List ℕ) (ts : PlainTrees) → headed (codes "model") ts ≤ 64 → IfGot (application_of_items at ts) IsApplication
+parts-again : (at : List ℕ) (ts : PlainTrees) → headed_count (codes "model") ts ≤ 64 → IfGot (application_of_items at ts) IsApplication
 parts-again at PlainTrees.none small =
     mapped (AreItems 0) IsApplication (application None) (items_in_trees at 1 PlainTrees.none) (items-again at 1 PlainTrees.none) (λ is h. without_viewer 0 is (omega arith) h)
 parts-again at (PlainTrees.more t ts) small =
@@ -314,16 +314,16 @@ parts-again at (PlainTrees.more t ts) small =
     decided IsApplication (is_headed (codes "viewer") t) (read_and_then (with_viewer at ts) (viewer_in_tree (child at 1) t)) (read_map (application None) (items_in_trees at 1 (PlainTrees.more t ts)))
     (λ _.
     chained IsName IsApplication (with_viewer at ts) (viewer_in_tree (child at 1) t) (viewer-read (child at 1) t) (λ name named.
-    mapped (AreItems (headed (codes "model") ts)) IsApplication (application (Some name)) (items_in_trees at 2 ts) (items-again at 2 ts) (λ is h.
-    viewed (headed (codes "model") ts) name is (omega (arith, fewer, small)) named h)))
+    mapped (AreItems (headed_count (codes "model") ts)) IsApplication (application (Some name)) (items_in_trees at 2 ts) (items-again at 2 ts) (λ is h.
+    viewed (headed_count (codes "model") ts) name is (omega (arith, fewer, small)) named h)))
     (λ _.
-    mapped (AreItems (headed (codes "model") (PlainTrees.more t ts))) IsApplication (application None) (items_in_trees at 1 (PlainTrees.more t ts)) (items-again at 1 (PlainTrees.more t ts)) (λ is h.
-    without_viewer (headed (codes "model") (PlainTrees.more t ts)) is small h))
+    mapped (AreItems (headed_count (codes "model") (PlainTrees.more t ts))) IsApplication (application None) (items_in_trees at 1 (PlainTrees.more t ts)) (items-again at 1 (PlainTrees.more t ts)) (λ is h.
+    without_viewer (headed_count (codes "model") (PlainTrees.more t ts)) is small h))
 
 application-again : (at : List ℕ) (t : PlainTree) → IfGot (application_in_tree at t) IsApplication
 application-again at t =
     after IsApplication wants.App at (application_in_trees at) (tail_of (codes "app") t) (λ ts.
-    within IsApplication whats.Models at 64 (headed (codes "model") ts) (application_of_items at ts) (parts-again at ts))
+    within IsApplication whats.Models at 64 (headed_count (codes "model") ts) (application_of_items at ts) (parts-again at ts))
 
 of_value : {A : Type 0} (P : A → Type 0) (o : Read A) (x : A) → value_of o ≡ Some x → IfGot o P → P x
 of_value P (got y) x e h = let same : y ≡ x = cc in subst P same h

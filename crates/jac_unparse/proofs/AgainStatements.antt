@@ -3,14 +3,14 @@ use Rattle.std.proofs.Common.{◌≡◌, ℕ, ◌+◌, refl, ◌∙◌, ap, Opti
 use Rattle.std.specs.Prelude.{codes}
 use Rattle.jac_lang.specs.Syntax.{Expression, Assigned, Statement}
 use Rattle.jac_lang.specs.Written.{IsName}
-use Rattle.jac_tree.specs.Plain.{PlainTree, PlainTrees}
+use Rattle.jac_tree.specs.Plain.{PlainTree, PlainTrees, count}
 use Rattle.jac_forms.specs.Places.{child}
 use Rattle.jac_forms.specs.Reads.{Read, got, read_map, read_and_then}
 use Rattle.jac_forms.specs.declared.fault.Want.{Want}
 use Rattle.jac_forms.specs.declared.fault.Want.TheVariants as wants
-use Rattle.jac_forms.specs.Names.{count, name_in_tree, tail_of, each_in_trees}
+use Rattle.jac_forms.specs.Names.{name_in_tree, tail_of, each_in_trees}
 use Rattle.jac_forms.specs.Expressions.{expression_in_tree, one_in_trees, question_in_tree}
-use Rattle.jac_forms.specs.Statements.{assigned, assigned_in_tree, set_in_tree, assign_in_trees, update_in_trees, delete_in_trees, missing_in_trees, template_in_trees, single_in_trees, Numbered, Body, next_site, numbered, bind, branch, each, create, before_body, Operands, step_of, statement_of_step, statement_in_tree, statement_in_list, bind_in_trees, branch_in_trees, each_of_query, create_in_trees, body_in_tree, statements_in_trees, operands_of}
+use Rattle.jac_forms.specs.Statements.{assigned_field, assigned_in_tree, set_in_tree, assign_in_trees, update_in_trees, delete_in_trees, missing_in_trees, template_in_trees, single_in_trees, Numbered, Body, next_site, numbered_statement, bind_statement, branch, each, create, before_body, StatementOperands, step_of, statement_of_step, statement_in_tree, statement_in_list, bind_in_trees, branch_in_trees, each_of_query, create_in_trees, body_in_tree, statements_in_trees, statement_operands}
 use Rattle.jac_unparse.specs.TreeOf.{pair, tree_of_expression, tree_of_question, trees_of_assigned, tree_of_set, tree_of_statement, trees_of_statements}
 use Rattle.jac_forms.specs.declared.steps.Single.{Single}
 use Rattle.jac_forms.specs.declared.steps.Single.TheVariants as singles
@@ -49,14 +49,14 @@ IsSet a = IsName a.field × IsAgain a.value
 
 assigned-again : (want : Want) (at : List ℕ) (t : PlainTree) → IfGot (assigned_in_tree want at t) IsSet
 assigned-again want at (PlainTree.list (PlainTrees.more f (PlainTrees.more e PlainTrees.none))) =
-    chained IsName IsSet (λ field. read_map (assigned field) (expression_in_tree (child at 1) e)) (name_in_tree (child at 0) f) (name-written (child at 0) f) (λ field h.
-    mapped IsAgain IsSet (assigned field) (expression_in_tree (child at 1) e) (expression-again (child at 1) e) (λ value k. (h, k)))
+    chained IsName IsSet (λ field. read_map (assigned_field field) (expression_in_tree (child at 1) e)) (name_in_tree (child at 0) f) (name-written (child at 0) f) (λ field h.
+    mapped IsAgain IsSet (assigned_field field) (expression_in_tree (child at 1) e) (expression-again (child at 1) e) (λ value k. (h, k)))
 assigned-again want at t = tt
 
 assigned_again : (want : Want) (to : List ℕ) (a : Assigned) → IsSet a → assigned_in_tree want to (pair a.field (tree_of_expression a.value)) ≡ got a
 assigned_again want to a (h, k) =
-    step (λ field. read_map (assigned field) (expression_in_tree (child to 1) (tree_of_expression a.value))) (name_in_tree (child to 0) (PlainTree.atom a.field)) a.field (name_again (child to 0) a.field h)
-    ∙ mapping (assigned a.field) (expression_in_tree (child to 1) (tree_of_expression a.value)) a.value (k (child to 1))
+    step (λ field. read_map (assigned_field field) (expression_in_tree (child to 1) (tree_of_expression a.value))) (name_in_tree (child to 0) (PlainTree.atom a.field)) a.field (name_again (child to 0) a.field h)
+    ∙ mapping (assigned_field a.field) (expression_in_tree (child to 1) (tree_of_expression a.value)) a.value (k (child to 1))
 
 pub all-assigned-again : (want : Want) (at : List ℕ) (ts : PlainTrees) → IfGot (each_in_trees (assigned_in_tree want) at 1 ts) (AreRead (assigned_in_tree want) trees_of_assigned (count ts))
 all-assigned-again want at ts =
@@ -73,13 +73,13 @@ set-again at t =
 
 -- a statement without sites is read again, wherever its sites would begin
 abbrev IsSingle : Statement → Type 0
-IsSingle s = (to : List ℕ) (n : ℕ) → statement_in_tree to (tree_of_statement s) n ≡ got (numbered n s)
+IsSingle s = (to : List ℕ) (n : ℕ) → statement_in_tree to (tree_of_statement s) n ≡ got (numbered_statement n s)
 
 assign-again : (at : List ℕ) (ts : PlainTrees) → IfGot (assign_in_trees at ts) IsSingle
 assign-again at (PlainTrees.more x (PlainTrees.more e PlainTrees.none)) =
     chained IsName IsSingle (λ name. read_map (Statement.assign name) (expression_in_tree (child at 2) e)) (name_in_tree (child at 1) x) (name-written (child at 1) x) (λ name h.
     mapped IsAgain IsSingle (Statement.assign name) (expression_in_tree (child at 2) e) (expression-again (child at 2) e) (λ value k to n.
-    mapping (numbered n) (read_and_then (λ u. read_map (Statement.assign u) (expression_in_tree (child to 2) (tree_of_expression value))) (name_in_tree (child to 1) (PlainTree.atom name))) (Statement.assign name value)
+    mapping (numbered_statement n) (read_and_then (λ u. read_map (Statement.assign u) (expression_in_tree (child to 2) (tree_of_expression value))) (name_in_tree (child to 1) (PlainTree.atom name))) (Statement.assign name value)
     (step (λ u. read_map (Statement.assign u) (expression_in_tree (child to 2) (tree_of_expression value))) (name_in_tree (child to 1) (PlainTree.atom name)) name (name_again (child to 1) name h)
     ∙ mapping (Statement.assign name) (expression_in_tree (child to 2) (tree_of_expression value)) value (k (child to 2)))))
 assign-again at ts = tt
@@ -89,7 +89,7 @@ update-again at (PlainTrees.more m (PlainTrees.more e (PlainTrees.more s PlainTr
     chained IsName IsSingle (λ model. read_and_then (λ target. read_map (Statement.update model target) (set_in_tree (child at 3) s)) (expression_in_tree (child at 2) e)) (name_in_tree (child at 1) m) (name-written (child at 1) m) (λ model h.
     chained IsAgain IsSingle (λ target. read_map (Statement.update model target) (set_in_tree (child at 3) s)) (expression_in_tree (child at 2) e) (expression-again (child at 2) e) (λ target k.
     mapped AreSet IsSingle (Statement.update model target) (set_in_tree (child at 3) s) (set-again (child at 3) s) (λ cells l to n.
-    mapping (numbered n) (read_and_then (λ u. read_and_then (λ v. read_map (Statement.update u v) (set_in_tree (child to 3) (tree_of_set cells))) (expression_in_tree (child to 2) (tree_of_expression target))) (name_in_tree (child to 1) (PlainTree.atom model))) (Statement.update model target cells)
+    mapping (numbered_statement n) (read_and_then (λ u. read_and_then (λ v. read_map (Statement.update u v) (set_in_tree (child to 3) (tree_of_set cells))) (expression_in_tree (child to 2) (tree_of_expression target))) (name_in_tree (child to 1) (PlainTree.atom model))) (Statement.update model target cells)
     (step (λ u. read_and_then (λ v. read_map (Statement.update u v) (set_in_tree (child to 3) (tree_of_set cells))) (expression_in_tree (child to 2) (tree_of_expression target))) (name_in_tree (child to 1) (PlainTree.atom model)) model (name_again (child to 1) model h)
     ∙ step (λ v. read_map (Statement.update model v) (set_in_tree (child to 3) (tree_of_set cells))) (expression_in_tree (child to 2) (tree_of_expression target)) target (k (child to 2))
     ∙ mapping (Statement.update model target) (set_in_tree (child to 3) (tree_of_set cells)) cells (l (child to 3))))))
@@ -99,7 +99,7 @@ delete-again : (at : List ℕ) (ts : PlainTrees) → IfGot (delete_in_trees at t
 delete-again at (PlainTrees.more m (PlainTrees.more e PlainTrees.none)) =
     chained IsName IsSingle (λ model. read_map (Statement.delete model) (expression_in_tree (child at 2) e)) (name_in_tree (child at 1) m) (name-written (child at 1) m) (λ model h.
     mapped IsAgain IsSingle (Statement.delete model) (expression_in_tree (child at 2) e) (expression-again (child at 2) e) (λ target k to n.
-    mapping (numbered n) (read_and_then (λ u. read_map (Statement.delete u) (expression_in_tree (child to 2) (tree_of_expression target))) (name_in_tree (child to 1) (PlainTree.atom model))) (Statement.delete model target)
+    mapping (numbered_statement n) (read_and_then (λ u. read_map (Statement.delete u) (expression_in_tree (child to 2) (tree_of_expression target))) (name_in_tree (child to 1) (PlainTree.atom model))) (Statement.delete model target)
     (step (λ u. read_map (Statement.delete u) (expression_in_tree (child to 2) (tree_of_expression target))) (name_in_tree (child to 1) (PlainTree.atom model)) model (name_again (child to 1) model h)
     ∙ mapping (Statement.delete model) (expression_in_tree (child to 2) (tree_of_expression target)) target (k (child to 2)))))
 delete-again at ts = tt
@@ -114,11 +114,11 @@ template-again at ts = tt
 
 -- a statement of one expression
 with_one-again : (make : Expression → Statement) (at : List ℕ) (ts : PlainTrees)
-    → ((e : Expression) (to : List ℕ) (n : ℕ) → statement_in_tree to (tree_of_statement (make e)) n ≡ read_map (numbered n) (read_map make (expression_in_tree (child to 1) (tree_of_expression e))))
+    → ((e : Expression) (to : List ℕ) (n : ℕ) → statement_in_tree to (tree_of_statement (make e)) n ≡ read_map (numbered_statement n) (read_map make (expression_in_tree (child to 1) (tree_of_expression e))))
     → IfGot (read_map make (one_in_trees wants.Statement at ts)) IsSingle
 with_one-again make at ts by =
     mapped IsAgain IsSingle make (one_in_trees wants.Statement at ts) (one-again wants.Statement at ts) (λ e h to n.
-    by e to n ∙ mapping (numbered n) (read_map make (expression_in_tree (child to 1) (tree_of_expression e))) (make e) (mapping make (expression_in_tree (child to 1) (tree_of_expression e)) e (h (child to 1))))
+    by e to n ∙ mapping (numbered_statement n) (read_map make (expression_in_tree (child to 1) (tree_of_expression e))) (make e) (mapping make (expression_in_tree (child to 1) (tree_of_expression e)) e (h (child to 1))))
 
 single-again : (at : List ℕ) (ts : PlainTrees) (single : Single) → IfGot (single_in_trees at ts single) IsSingle
 single-again at ts singles.Put = with_one-again Statement.put at ts (λ e to n. refl)
@@ -137,12 +137,12 @@ IsCounted n s = (to : List ℕ) → statement_in_tree to (tree_of_statement s.st
 abbrev pub AreCounted : ℕ → Body → Type 0
 AreCounted n b = (to : List ℕ) (k : ℕ) → statements_in_trees to k (trees_of_statements b.statements) n ≡ got b
 
-bind_again : (n : ℕ) (name : List ℕ) (value : Expression) (b : Body) → IsName name → IsAgain value → AreCounted n b → IsCounted n (bind name value b)
+bind_again : (n : ℕ) (name : List ℕ) (value : Expression) (b : Body) → IsName name → IsAgain value → AreCounted n b → IsCounted n (bind_statement name value b)
 bind_again n name value b h k l to =
     let ss = trees_of_statements b.statements in
-    step (λ u. read_and_then (λ v. read_map (bind u v) (statements_in_trees to 3 ss n)) (expression_in_tree (child to 2) (tree_of_expression value))) (name_in_tree (child to 1) (PlainTree.atom name)) name (name_again (child to 1) name h)
-    ∙ step (λ v. read_map (bind name v) (statements_in_trees to 3 ss n)) (expression_in_tree (child to 2) (tree_of_expression value)) value (k (child to 2))
-    ∙ mapping (bind name value) (statements_in_trees to 3 ss n) b (l to 3)
+    step (λ u. read_and_then (λ v. read_map (bind_statement u v) (statements_in_trees to 3 ss n)) (expression_in_tree (child to 2) (tree_of_expression value))) (name_in_tree (child to 1) (PlainTree.atom name)) name (name_again (child to 1) name h)
+    ∙ step (λ v. read_map (bind_statement name v) (statements_in_trees to 3 ss n)) (expression_in_tree (child to 2) (tree_of_expression value)) value (k (child to 2))
+    ∙ mapping (bind_statement name value) (statements_in_trees to 3 ss n) b (l to 3)
 
 branch_again : (n : ℕ) (cond : Expression) (first second : Body) → IsAgain cond → AreCounted n first → AreCounted first.next second → IsCounted n (branch cond first second)
 branch_again n cond first second h k l to =
@@ -162,17 +162,17 @@ create_again n name model cells b h k i l to =
     ∙ mapping (create name model n cells) (statements_in_trees to 4 ss (next_site n)) b (l to 4)
 
 -- what stands behind the head, in each way that some statement takes it
-record AreOperands (operands : Operands) : Type 0 where
+record AreOperands (operands : StatementOperands) : Type 0 where
   single : (one : Single) → IfGot (operands.single one) IsSingle
   bind : (n : ℕ) → IfGot (operands.bind n) (IsCounted n)
   branch : (n : ℕ) → IfGot (operands.branch n) (IsCounted n)
   each : (n : ℕ) → IfGot (operands.each n) (IsCounted n)
   create : (n : ℕ) → IfGot (operands.create n) (IsCounted n)
 
-step-again : (at : List ℕ) (step : Option Step) (operands : Operands) (n : ℕ) → AreOperands operands → IfGot (statement_of_step at step operands n) (IsCounted n)
+step-again : (at : List ℕ) (step : Option Step) (operands : StatementOperands) (n : ℕ) → AreOperands operands → IfGot (statement_of_step at step operands n) (IsCounted n)
 step-again at None operands n h = tt
 step-again at (Some (steps.Single single)) operands n h =
-    mapped IsSingle (IsCounted n) (numbered n) (operands.single single) (h.single single) (λ s k to. k to n)
+    mapped IsSingle (IsCounted n) (numbered_statement n) (operands.single single) (h.single single) (λ s k to. k to n)
 step-again at (Some steps.Let) operands n h = h.bind n
 step-again at (Some steps.If) operands n h = h.branch n
 step-again at (Some steps.For) operands n h = h.each n
@@ -187,7 +187,7 @@ mutual
   list-again : (at : List ℕ) (ts : PlainTrees) (n : ℕ) → IfGot (statement_in_list at ts n) (IsCounted n)
   list-again at PlainTrees.none n = tt
   list-again at (PlainTrees.more head ts) n =
-      step-again at (step_of head) (operands_of at ts) n (record {
+      step-again at (step_of head) (statement_operands at ts) n (record {
         single = single-again at ts;
         bind = bind-again at ts;
         branch = branch-again at ts;
@@ -197,9 +197,9 @@ mutual
 
   bind-again : (at : List ℕ) (ts : PlainTrees) (n : ℕ) → IfGot (bind_in_trees at ts n) (IsCounted n)
   bind-again at (PlainTrees.more x (PlainTrees.more e ss)) n =
-      chained IsName (IsCounted n) (λ name. read_and_then (λ value. read_map (bind name value) (statements_in_trees at 3 ss n)) (expression_in_tree (child at 2) e)) (name_in_tree (child at 1) x) (name-written (child at 1) x) (λ name h.
-      chained IsAgain (IsCounted n) (λ value. read_map (bind name value) (statements_in_trees at 3 ss n)) (expression_in_tree (child at 2) e) (expression-again (child at 2) e) (λ value k.
-      mapped (AreCounted n) (IsCounted n) (bind name value) (statements_in_trees at 3 ss n) (statements-again at 3 ss n) (λ b l. bind_again n name value b h k l)))
+      chained IsName (IsCounted n) (λ name. read_and_then (λ value. read_map (bind_statement name value) (statements_in_trees at 3 ss n)) (expression_in_tree (child at 2) e)) (name_in_tree (child at 1) x) (name-written (child at 1) x) (λ name h.
+      chained IsAgain (IsCounted n) (λ value. read_map (bind_statement name value) (statements_in_trees at 3 ss n)) (expression_in_tree (child at 2) e) (expression-again (child at 2) e) (λ value k.
+      mapped (AreCounted n) (IsCounted n) (bind_statement name value) (statements_in_trees at 3 ss n) (statements-again at 3 ss n) (λ b l. bind_again n name value b h k l)))
   bind-again at PlainTrees.none n = tt
   bind-again at (PlainTrees.more x PlainTrees.none) n = tt
 

@@ -19,11 +19,11 @@ use Rattle.jac_forms.specs.Applications.{application_of_tree}
 abbrev pub one : PlainTree → PlainTrees
 one t = PlainTrees.more t PlainTrees.none
 
-abbrev pub two : PlainTree → PlainTree → PlainTrees
-two t u = PlainTrees.more t (one u)
+abbrev pub two_trees : PlainTree → PlainTree → PlainTrees
+two_trees t u = PlainTrees.more t (one u)
 
 abbrev pub three : PlainTree → PlainTree → PlainTree → PlainTrees
-three t u v = PlainTrees.more t (two u v)
+three t u v = PlainTrees.more t (two_trees u v)
 
 -- `(word tree ..)`
 abbrev pub form : List ℕ → PlainTrees → PlainTree
@@ -31,7 +31,7 @@ form word ts = PlainTree.list (PlainTrees.more (PlainTree.atom word) ts)
 
 -- `(NAME tree)`
 abbrev pub pair : List ℕ → PlainTree → PlainTree
-pair name t = PlainTree.list (two (PlainTree.atom name) t)
+pair name t = PlainTree.list (two_trees (PlainTree.atom name) t)
 
 abbrev pub truth_word : Bool → List ℕ
 truth_word true = codes "true"
@@ -55,8 +55,9 @@ trees_of_binders (b ∷ bs) = PlainTrees.more (pair b.name (PlainTree.atom b.mod
 -- `key`, `(up BINDER FIELD)` or `(down BINDER FIELD)`
 abbrev pub tree_of_order : Order → PlainTree
 tree_of_order orders.Key = PlainTree.atom (codes "key")
-tree_of_order (orders.Up x f) = form (codes "up") (two (PlainTree.atom x) (PlainTree.atom f))
-tree_of_order (orders.Down x f) = form (codes "down") (two (PlainTree.atom x) (PlainTree.atom f))
+tree_of_order (orders.Up x f) = form (codes "up") (two_trees (PlainTree.atom x) (PlainTree.atom f))
+tree_of_order (orders.Down x f) = form (codes "down") (two_trees (PlainTree.atom x)
+    (PlainTree.atom f))
 
 -- `(from ((NAME MODEL) ..) condition order)`
 abbrev pub tree_of_query : List Binder → PlainTree → Order → PlainTree
@@ -76,7 +77,7 @@ abbrev mutual
       form (codes "get") (three (PlainTree.atom m) (PlainTree.atom f) (tree_of_expression e))
   tree_of_expression (Expression.live e) = form (codes "live") (one (tree_of_expression e))
   tree_of_expression (Expression.two op a b) =
-      form (op_word op) (two (tree_of_expression a) (tree_of_expression b))
+      form (op_word op) (two_trees (tree_of_expression a) (tree_of_expression b))
   tree_of_expression (Expression.negated e) = form (codes "not") (one (tree_of_expression e))
   tree_of_expression (Expression.cat es) = form (codes "cat") (trees_of_expressions es)
   tree_of_expression (Expression.str e) = form (codes "str") (one (tree_of_expression e))
@@ -85,7 +86,8 @@ abbrev mutual
   tree_of_expression (Expression.count bs c o) = form (codes "count")
       (one (tree_of_query bs (tree_of_expression c) o))
   tree_of_expression (Expression.sum bs c o e) =
-      form (codes "sum") (two (tree_of_query bs (tree_of_expression c) o) (tree_of_expression e))
+      form (codes "sum") (two_trees (tree_of_query bs (tree_of_expression c) o)
+      (tree_of_expression e))
   tree_of_expression (Expression.any_of bs c o) =
       form (codes "some") (one (tree_of_query bs (tree_of_expression c) o))
   tree_of_expression (Expression.first bs c o) = form (codes "first")
@@ -118,7 +120,7 @@ abbrev mutual
       form (codes "let") (PlainTrees.more (PlainTree.atom x) (PlainTrees.more (tree_of_expression e)
       (trees_of_statements body)))
   tree_of_statement (Statement.assign x e) = form (codes "assign")
-      (two (PlainTree.atom x) (tree_of_expression e))
+      (two_trees (PlainTree.atom x) (tree_of_expression e))
   tree_of_statement (Statement.branch c a b) = form (codes "if") (three (tree_of_expression c)
       (PlainTree.list (trees_of_statements a)) (PlainTree.list (trees_of_statements b)))
   tree_of_statement (Statement.each q body) =
@@ -129,7 +131,7 @@ abbrev mutual
   tree_of_statement (Statement.update m e cells) = form (codes "update")
       (three (PlainTree.atom m) (tree_of_expression e) (tree_of_set cells))
   tree_of_statement (Statement.delete m e) = form (codes "delete")
-      (two (PlainTree.atom m) (tree_of_expression e))
+      (two_trees (PlainTree.atom m) (tree_of_expression e))
   tree_of_statement Statement.missing = form (codes "missing") PlainTrees.none
   tree_of_statement (Statement.redirect e) = form (codes "redirect") (one (tree_of_expression e))
   tree_of_statement (Statement.template t) = form (codes "template") (one (PlainTree.text t))
@@ -159,7 +161,7 @@ tree_of_guarding false guards = form (codes "guards") (trees_of_assigned guards)
 -- `(group hides (policy expression))` or `(group (guards (NAME expression) ..) (policy
 -- expression))`
 abbrev pub tree_of_group : FieldGroup → PlainTree
-tree_of_group g = form (codes "group") (two (tree_of_guarding g.hides g.guards)
+tree_of_group g = form (codes "group") (two_trees (tree_of_guarding g.hides g.guards)
     (form (codes "policy") (one (tree_of_expression g.policy))))
 
 abbrev pub trees_of_groups : List FieldGroup → PlainTrees

@@ -1,6 +1,6 @@
 ghost use Rattle.std.specs.Prelude.{◌≡◌, [], IfOk, codes};
 ghost use Rattle.std.specs.Option.{option_copied};
-ghost use Rattle.jac_lang.specs.Mirror.{application_of, assigned_of, entities_of, entity_of, field_group_of, groups_of, page_of, pages_of};
+ghost use Rattle.jac_lang.specs.Mirror.{application_of, assigned_of, entities_of, entity_of, field_group_of, groups_of, page_of_view, pages_of};
 ghost use Rattle.jac_lang.specs.Syntax.{Application};
 ghost use Rattle.jac_tree.specs.Mirror.{plain, plain_all};
 ghost use Rattle.jac_tree.specs.Plain.{PlainTree};
@@ -179,7 +179,7 @@ fn view_trees(alloc: Global, views: &[View]) -> Result<Trees, Memory>
 }
 
 fn view_tree(alloc: Global, view: &View) -> Result<Tree, Memory>
-    ensures { IfOk result (λ t. plain t ≡ tree_of_page (page_of view.now)) }
+    ensures { IfOk result (λ t. plain t ≡ tree_of_page (page_of_view view.now)) }
 {
     let method = word_tree(alloc, method_word(view.method))?;
     let path = text_tree(alloc, &view.path)?;

@@ -2,7 +2,7 @@ ghost use Rattle.std.specs.Prelude.{◌≡◌, IfOk, codes};
 ghost use Rattle.jac_lang.specs.Mirror.{binders_of, expression_of, expressions_of, question_of};
 ghost use Rattle.jac_tree.specs.Mirror.{plain, plain_all};
 ghost use Rattle.jac_tree.specs.Plain.{PlainTree};
-ghost use Rattle.jac_unparse.specs.TreeOf.{form, one, op_word, three, tree_of_expression, tree_of_order, tree_of_question, trees_of_binders, trees_of_expressions, truth_word, two};
+ghost use Rattle.jac_unparse.specs.TreeOf.{form, one, op_word, three, tree_of_expression, tree_of_order, tree_of_question, trees_of_binders, trees_of_expressions, truth_word, two_trees};
 
 use crate::shapes::{
     form, form_of_one, form_of_three, form_of_two, more, name_tree, number_tree, pair, text_tree,
@@ -63,7 +63,7 @@ fn one_operand(alloc: Global, word: &str, operand: &Expr) -> Result<Tree, Memory
 #[cycle(write)]
 fn two_operands(alloc: Global, word: &str, first: &Expr, second: &Expr) -> Result<Tree, Memory>
     ensures { IfOk result (λ t. plain t ≡ form word.now
-        (two (tree_of_expression (expression_of first.now))
+        (two_trees (tree_of_expression (expression_of first.now))
         (tree_of_expression (expression_of second.now)))) }
 {
     let first = expr_tree(alloc, first)?;
@@ -130,7 +130,7 @@ fn one_query(alloc: Global, word: &str, query: &Query) -> Result<Tree, Memory>
 #[cycle(write)]
 fn sum_tree(alloc: Global, query: &Query, each: &Expr) -> Result<Tree, Memory>
     ensures { IfOk result (λ t. plain t ≡ form (codes "sum")
-        (two (tree_of_question (question_of query.now))
+        (two_trees (tree_of_question (question_of query.now))
         (tree_of_expression (expression_of each.now)))) }
 {
     let query = query_tree(alloc, query)?;
@@ -170,7 +170,7 @@ fn order_tree(alloc: Global, order: &Order) -> Result<Tree, Memory>
 }
 
 fn sorted_tree(alloc: Global, word: &str, binder: &Txt, field: &Txt) -> Result<Tree, Memory>
-    ensures { IfOk result (λ t. plain t ≡ form word.now (two (PlainTree.atom binder.now)
+    ensures { IfOk result (λ t. plain t ≡ form word.now (two_trees (PlainTree.atom binder.now)
         (PlainTree.atom field.now))) }
 {
     let binder = name_tree(alloc, binder)?;

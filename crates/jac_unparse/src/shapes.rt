@@ -2,7 +2,7 @@ ghost use Rattle.std.specs.Prelude.{◌≡◌, IfOk};
 ghost use Rattle.std.specs.Fmt.{signed_decimal};
 ghost use Rattle.jac_tree.specs.Mirror.{plain, plain_all};
 ghost use Rattle.jac_tree.specs.Plain.{PlainTree, PlainTrees};
-ghost use Rattle.jac_unparse.specs.TreeOf.{form, one, pair, three, two};
+ghost use Rattle.jac_unparse.specs.TreeOf.{form, one, pair, three, two_trees};
 
 use jac_tree::{Tree, Trees};
 use jac_value::{Memory, Txt};
@@ -52,7 +52,7 @@ pub fn one(alloc: Global, first: Tree) -> Result<Trees, Memory>
 }
 
 pub fn two(alloc: Global, first: Tree, second: Tree) -> Result<Trees, Memory>
-    ensures { IfOk result (λ ts. plain_all ts ≡ two (plain first) (plain second)) }
+    ensures { IfOk result (λ ts. plain_all ts ≡ two_trees (plain first) (plain second)) }
 {
     let rest = one(alloc, second)?;
     more(alloc, first, rest)
@@ -82,7 +82,7 @@ pub fn form_of_one(alloc: Global, word: &str, first: Tree) -> Result<Tree, Memor
 }
 
 pub fn form_of_two(alloc: Global, word: &str, first: Tree, second: Tree) -> Result<Tree, Memory>
-    ensures { IfOk result (λ t. plain t ≡ form word.now (two (plain first) (plain second))) }
+    ensures { IfOk result (λ t. plain t ≡ form word.now (two_trees (plain first) (plain second))) }
 {
     let rest = two(alloc, first, second)?;
     form(alloc, word, rest)

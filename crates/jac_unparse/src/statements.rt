@@ -2,7 +2,7 @@ ghost use Rattle.std.specs.Prelude.{◌≡◌, IfOk, codes};
 ghost use Rattle.jac_lang.specs.Mirror.{assigned_of, expression_of, question_of, statement_of, statements_of};
 ghost use Rattle.jac_tree.specs.Mirror.{plain, plain_all};
 ghost use Rattle.jac_tree.specs.Plain.{PlainTree, PlainTrees};
-ghost use Rattle.jac_unparse.specs.TreeOf.{form, one, three, tree_of_expression, tree_of_question, tree_of_set, tree_of_statement, trees_of_assigned, trees_of_statements, two};
+ghost use Rattle.jac_unparse.specs.TreeOf.{form, one, three, tree_of_expression, tree_of_question, tree_of_set, tree_of_statement, trees_of_assigned, trees_of_statements, two_trees};
 
 use crate::expressions::{expr_tree, query_tree};
 use crate::shapes::{
@@ -154,7 +154,7 @@ fn one_operand(alloc: Global, word: &str, operand: &Expr) -> Result<Tree, Memory
 }
 
 fn name_and_operand(alloc: Global, word: &str, name: &Txt, operand: &Expr) -> Result<Tree, Memory>
-    ensures { IfOk result (λ t. plain t ≡ form word.now (two (PlainTree.atom name.now)
+    ensures { IfOk result (λ t. plain t ≡ form word.now (two_trees (PlainTree.atom name.now)
         (tree_of_expression (expression_of operand.now)))) }
 {
     let name = name_tree(alloc, name)?;

@@ -2,6 +2,7 @@
 use Rattle.std.proofs.Common.{◌≡◌, ◌∙◌, refl, ap, sym, subst, arith, zero, suc, ℕ, ◌+◌, ◌-◌, ◌<◌, ◌≤◌, ◌==◌, Bool, true, false, if◌then◌else◌, List, [], ◌∷◌, ◌++◌, length, map, Option, Some, None, unwrap_or}
 use Rattle.std.proofs.lemmas.List.{length-map, map-append}
 use Rattle.std.specs.List.{AllByRecursion}
+use Rattle.std.proofs.lemmas.Bool.{eqb-true}
 use Rattle.jac_value.specs.Ids.{model_of_id}
 use Rattle.jac_value.specs.declared.value.Value.{Value}
 use Rattle.jac_lang.specs.Syntax.{Entity}
@@ -12,10 +13,10 @@ use Rattle.jac_rows.specs.declared.plain.PlainRow.{PlainRow}
 use Rattle.jac_rows.specs.declared.row.Row.{Row}
 use Rattle.jac_rows.specs.declared.state.State.{State}
 use Rattle.jac_plain.specs.Records.{plain_row, with_ids}
-use Rattle.jac_keep.specs.Alterations.{AreApart, ArePlaced, altered, named, overlaid, overlaid_from}
-use Rattle.jac_keep.specs.Kept.{applied}
+use Rattle.jac_keep.specs.Alterations.{AreApart, ArePlaced, altered_rows, alternatives_named, overlaid, overlaid_from}
+use Rattle.jac_keep.specs.Kept.{changed_state}
 use Rattle.jac_keep.specs.Records.{alternatives}
-use Rattle.jac_keep.specs.Reshaping.{widened}
+use Rattle.jac_keep.specs.Reshaping.{widened_state}
 use Rattle.jac_keep.specs.Schema.{empties}
 use Rattle.jac_keep.specs.Sound.{AllStand, MayStand}
 use Rattle.jac_keep.specs.declared.alteration.Alteration.{Alteration}
@@ -28,10 +29,9 @@ use Rattle.jac_write.specs.Writes.{cells_at}
 use Rattle.jac_write.proofs.RecordLaws.{cells_shown, few_cells, made_all, of-alternatives, own_all, rising_at, rising_of, rows_named, with_ids_at}
 use Rattle.jac_upgrade.specs.Changed.{has_alternative}
 use Rattle.jac_upgrade.specs.Steps.{AltersBelow, IsRenewed, IsUpgradeOf, is_changed, upgraded_all}
-use Rattle.jac_upgrade.specs.Upgraded.{empty_tables, group_count, upgraded, upgraded_cells, upgraded_rows, upgraded_tables}
+use Rattle.jac_upgrade.specs.Upgraded.{empty_tables, group_count, upgraded_state, upgraded_cells, upgraded_rows, upgraded_tables}
 use Rattle.jac_upgrade.proofs.Extensional.{rising_upgraded, same_rows, upgraded_of}
 use Rattle.jac_upgrade.proofs.Modeling.{made_there, table_of}
-use Rattle.jac_upgrade.proofs.Walking.{equal_ids}
 
 -- the change that keeps the number
 abbrev pub change_of : List Alteration → State → Change
@@ -67,7 +67,7 @@ stand_all : (olds news : List Entity) (s : State) (changed : List Alteration) �
 stand_all olds news s [] sound all = tt
 stand_all olds news s (a ∷ rest) sound all = (stands olds news s a sound all.0, stand_all olds news s rest sound all.1)
 
-pub sound_after : (olds news : List Entity) (s : State) (changed : List Alteration) → IsSound s → AllByRecursion (IsUpgradeOf olds news s) changed → IsSound (applied (change_of changed s) s)
+pub sound_after : (olds news : List Entity) (s : State) (changed : List Alteration) → IsSound s → AllByRecursion (IsUpgradeOf olds news s) changed → IsSound (changed_state (change_of changed s) s)
 sound_after olds news s changed sound all =
     sound-applied (change_of changed s) s sound (omega arith) sound.next.1 (stand_all olds news s changed sound all)
 
@@ -82,7 +82,7 @@ pub record Changes (olds news : List Entity) (s : State) (changed : List Alterat
   pub apart : AreApart changed
   pub below : AltersBelow olds news s (length olds) changed
 
-pub sound_of : (olds news : List Entity) (s : State) (changed : List Alteration) → Changes olds news s changed → IsSound (applied (change_of changed s) s)
+pub sound_of : (olds news : List Entity) (s : State) (changed : List Alteration) → Changes olds news s changed → IsSound (changed_state (change_of changed s) s)
 sound_of olds news s changed c = sound_after olds news s changed c.sound c.below.each
 
 placed_of : (olds news : List Entity) (s : State) (changed : List Alteration) → Changes olds news s changed → ArePlaced changed (length s.tables)
@@ -90,14 +90,14 @@ placed_of olds news s changed c = placed_all olds news s changed c.tables c.belo
 
 -- what holds of all alterations holds of the one that is named
 named_if : (P : Alteration → Type 0) (id : ℕ) (a : Alteration) (rest : List Alteration) (rows : List Row) (b : Bool) → (a.id == id) ≡ b → P a
-    → (named id rest ≡ Some rows → P (record { id = id; rows = rows })) → (if b then Some a.rows else named id rest) ≡ Some rows → P (record { id = id; rows = rows })
+    → (alternatives_named id rest ≡ Some rows → P (record { id = id; rows = rows })) → (if b then Some a.rows else alternatives_named id rest) ≡ Some rows → P (record { id = id; rows = rows })
 named_if P id a rest rows true same p later h =
-    let e : a.id ≡ id = equal_ids a.id id same in
+    let e : a.id ≡ id = eqb-true a.id id same in
     let is : a.rows ≡ rows = cc in
     subst (λ i. P (record { id = i; rows = rows })) e (subst (λ rs. P (record { id = a.id; rows = rs })) is p)
 named_if P id a rest rows false same p later h = later h
 
-named_all : (P : Alteration → Type 0) (id : ℕ) (changed : List Alteration) (rows : List Row) → AllByRecursion P changed → named id changed ≡ Some rows → P (record { id = id; rows = rows })
+named_all : (P : Alteration → Type 0) (id : ℕ) (changed : List Alteration) (rows : List Row) → AllByRecursion P changed → alternatives_named id changed ≡ Some rows → P (record { id = id; rows = rows })
 named_all P id [] rows all h = cc
 named_all P id (a ∷ rest) rows all h = named_if P id a rest rows (a.id == id) refl all.0 (λ later. named_all P id rest rows all.1 later) h
 
@@ -105,9 +105,9 @@ unnamed_if : (b : Bool) (rows : List Row) (rest : Option (List Row)) (c : Bool) 
 unnamed_if true rows rest c later h = cc
 unnamed_if false rows rest c later h = later h
 
-unnamed : (id : ℕ) (changed : List Alteration) → named id changed ≡ None → is_changed id changed ≡ false
+unnamed : (id : ℕ) (changed : List Alteration) → alternatives_named id changed ≡ None → is_changed id changed ≡ false
 unnamed id [] h = refl
-unnamed id (a ∷ rest) h = unnamed_if (a.id == id) a.rows (named id rest) (is_changed id rest) (λ later. unnamed id rest later) h
+unnamed id (a ∷ rest) h = unnamed_if (a.id == id) a.rows (alternatives_named id rest) (is_changed id rest) (λ later. unnamed id rest later) h
 
 none_if : (b there : Bool) (r : Row) (rows : List Row) → ((there ≡ true → ⊥) → rows ≡ []) → ((if b then true else there) ≡ true → ⊥) → (if b then r ∷ rows else rows) ≡ []
 none_if true there r rows later h = absurd (h refl)
@@ -122,18 +122,18 @@ both_ways true h k = cc
 both_ways false h k = cc
 
 -- of a record that isn't named there is no row
-pub none_left : (olds news : List Entity) (s : State) (changed : List Alteration) (id : ℕ) → Changes olds news s changed → model_of_id id < length olds → named id changed ≡ None
+pub none_left : (olds news : List Entity) (s : State) (changed : List Alteration) (id : ℕ) → Changes olds news s changed → model_of_id id < length olds → alternatives_named id changed ≡ None
     → alternatives id (rows_of s.tables (model_of_id id)) ≡ []
 none_left olds news s changed id c within h =
     none_there id (rows_of s.tables (model_of_id id)) (λ there. both_ways (is_changed id changed) (c.below.named id within there) (unnamed id changed h))
 
 -- the alternatives of a record that is named
-pub renewed_of : (olds news : List Entity) (s : State) (changed : List Alteration) (id : ℕ) (rows : List Row) → Changes olds news s changed → named id changed ≡ Some rows
+pub renewed_of : (olds news : List Entity) (s : State) (changed : List Alteration) (id : ℕ) (rows : List Row) → Changes olds news s changed → alternatives_named id changed ≡ Some rows
     → IsUpgradeOf olds news s (record { id = id; rows = rows })
 renewed_of olds news s changed id rows c h = named_all (IsUpgradeOf olds news s) id changed rows c.below.each h
 
 pub after_change : (olds news : List Entity) (s : State) (changed : List Alteration) (id : ℕ) → Changes olds news s changed
-    → alternatives id (table_after changed s (model_of_id id)) ≡ unwrap_or (named id changed) (alternatives id (rows_of s.tables (model_of_id id)))
+    → alternatives id (table_after changed s (model_of_id id)) ≡ unwrap_or (alternatives_named id changed) (alternatives id (rows_of s.tables (model_of_id id)))
 after_change olds news s changed id c = sym (one_read id changed s.tables (placed_of olds news s changed c) c.apart)
 
 nothing_left : (w : ℕ → Bool) (olds news : List Entity) (m id : ℕ) → upgraded_all w olds news m id [] ≡ []
@@ -142,7 +142,7 @@ nothing_left w olds news m id = either_none (stays news w m id (group_count olds
   either_none true = refl
   either_none false = refl
 
-shown_by : (w : ℕ → Bool) (olds news : List Entity) (s : State) (changed : List Alteration) (id : ℕ) (found : Option (List Row)) → Changes olds news s changed → model_of_id id < length olds → named id changed ≡ found
+shown_by : (w : ℕ → Bool) (olds news : List Entity) (s : State) (changed : List Alteration) (id : ℕ) (found : Option (List Row)) → Changes olds news s changed → model_of_id id < length olds → alternatives_named id changed ≡ found
     → cells_at w (unwrap_or found (alternatives id (rows_of s.tables (model_of_id id))))
     ≡ upgraded_all w olds news (model_of_id id) id (cells_at w (alternatives id (rows_of s.tables (model_of_id id))))
 shown_by w olds news s changed id None c within h =
@@ -158,7 +158,7 @@ cells_after : (w : ℕ → Bool) (olds news : List Entity) (s : State) (changed 
     → cells_at w (alternatives id (table_after changed s (model_of_id id)))
     ≡ upgraded_all w olds news (model_of_id id) id (cells_at w (alternatives id (rows_of s.tables (model_of_id id))))
 cells_after w olds news s changed id c within =
-    ap (cells_at w) (after_change olds news s changed id c) ∙ shown_by w olds news s changed id (named id changed) c within refl
+    ap (cells_at w) (after_change olds news s changed id c) ∙ shown_by w olds news s changed id (alternatives_named id changed) c within refl
 
 -- no record of another model has rows
 pub none_other : (next m id : ℕ) (rows : List Row) → AllByRecursion (λ (r : Row). IsMade m next r.id) rows → (model_of_id id ≡ m → ⊥) → alternatives id rows ≡ []
@@ -180,14 +180,14 @@ upgraded_shown w olds news m id table =
 id_shown : (w : ℕ → Bool) (olds news : List Entity) (s : State) (changed : List Alteration) (m id : ℕ) → Changes olds news s changed → m < length olds → (b : Bool) → (model_of_id id == m) ≡ b
     → with_ids (λ i. i == id) (rows_at w (table_after changed s m)) ≡ shown_all w olds news m id (rows_of s.tables m)
 id_shown w olds news s changed m id c within true e =
-    let is : model_of_id id ≡ m = equal_ids (model_of_id id) m e in
+    let is : model_of_id id ≡ m = eqb-true (model_of_id id) m e in
     rows_shown w id (table_after changed s m)
     ∙ ap (map (plain_row id)) (subst (λ k. cells_at w (alternatives id (table_after changed s k)) ≡ upgraded_all w olds news k id (cells_at w (alternatives id (rows_of s.tables k)))) is
     (cells_after w olds news s changed id c (subst (λ k. k < length olds) (sym is) within)))
 id_shown w olds news s changed m id c within false e =
     let other : model_of_id id ≡ m → ⊥ = λ same. grind (arith, e, same) in
     let after : alternatives id (table_after changed s m) ≡ [] =
-    none_other s.number m id (table_after changed s m) (table_of (applied (change_of changed s) s) m (sound_of olds news s changed c)).made other in
+    none_other s.number m id (table_after changed s m) (table_of (changed_state (change_of changed s) s) m (sound_of olds news s changed c)).made other in
     let before : alternatives id (rows_of s.tables m) ≡ [] = none_other s.number m id (rows_of s.tables m) (table_of s m c.sound).made other in
     rows_shown w id (table_after changed s m)
     ∙ ap (λ rows. map (plain_row id) (cells_at w rows)) after
@@ -199,23 +199,23 @@ table_shown : (w : ℕ → Bool) (olds news : List Entity) (s : State) (changed 
     → rows_at w (table_after changed s m) ≡ upgraded_rows w olds news m (rows_at w (rows_of s.tables m))
 table_shown w olds news s changed m c within =
     same_rows (rows_at w (table_after changed s m)) (upgraded_rows w olds news m (rows_at w (rows_of s.tables m)))
-    (rising_at w (table_after changed s m) (table_of (applied (change_of changed s) s) m (sound_of olds news s changed c)).rising)
+    (rising_at w (table_after changed s m) (table_of (changed_state (change_of changed s) s) m (sound_of olds news s changed c)).rising)
     (rising_upgraded w olds news m (rows_at w (rows_of s.tables m)) (rising_at w (rows_of s.tables m) (table_of s m c.sound).rising))
     (λ id. id_shown w olds news s changed m id c within (model_of_id id == m) refl ∙ sym (upgraded_shown w olds news m id (rows_of s.tables m)))
 
 -- all tables
 tables_from : (w : ℕ → Bool) (olds news : List Entity) (changed : List Alteration) (k : ℕ) (ts : List (List Row))
-    → ((i : ℕ) → i < length ts → rows_at w (altered (k + i) changed (rows_of ts i)) ≡ upgraded_rows w olds news (k + i) (rows_at w (rows_of ts i)))
+    → ((i : ℕ) → i < length ts → rows_at w (altered_rows (k + i) changed (rows_of ts i)) ≡ upgraded_rows w olds news (k + i) (rows_at w (rows_of ts i)))
     → map (rows_at w) (overlaid_from k changed ts) ≡ upgraded_tables w olds news k (map (rows_at w) ts)
 tables_from w olds news changed k [] h = refl
 tables_from w olds news changed k (t ∷ ts) h =
     let here : k + 0 ≡ k = omega arith in
-    let one : rows_at w (altered k changed t) ≡ upgraded_rows w olds news k (rows_at w t) =
-    subst (λ n. rows_at w (altered n changed t) ≡ upgraded_rows w olds news n (rows_at w t)) here (h 0 (omega arith)) in
+    let one : rows_at w (altered_rows k changed t) ≡ upgraded_rows w olds news k (rows_at w t) =
+    subst (λ n. rows_at w (altered_rows n changed t) ≡ upgraded_rows w olds news n (rows_at w t)) here (h 0 (omega arith)) in
     let rest : map (rows_at w) (overlaid_from (k + 1) changed ts) ≡ upgraded_tables w olds news (k + 1) (map (rows_at w) ts) =
     tables_from w olds news changed (k + 1) ts (λ i less.
     let next : k + suc i ≡ (k + 1) + i = omega arith in
-    subst (λ n. rows_at w (altered n changed (rows_of ts i)) ≡ upgraded_rows w olds news n (rows_at w (rows_of ts i))) next (h (suc i) (omega (arith, less)))) in
+    subst (λ n. rows_at w (altered_rows n changed (rows_of ts i)) ≡ upgraded_rows w olds news n (rows_at w (rows_of ts i))) next (h (suc i) (omega (arith, less)))) in
     λ i. one i ∷ rest i
 
 tables_shown : (w : ℕ → Bool) (olds news : List Entity) (s : State) (changed : List Alteration) → Changes olds news s changed
@@ -223,10 +223,10 @@ tables_shown : (w : ℕ → Bool) (olds news : List Entity) (s : State) (changed
 tables_shown w olds news s changed c =
     tables_from w olds news changed 0 s.tables (λ i less.
     let same : 0 + i ≡ i = omega arith in
-    let at : rows_at w (altered i changed (rows_of s.tables i)) ≡ upgraded_rows w olds news i (rows_at w (rows_of s.tables i)) =
+    let at : rows_at w (altered_rows i changed (rows_of s.tables i)) ≡ upgraded_rows w olds news i (rows_at w (rows_of s.tables i)) =
     ap (rows_at w) (sym (rows_of-overlaid i changed s.tables (placed_of olds news s changed c)))
     ∙ table_shown w olds news s changed i c (subst (λ n. i < n) c.tables less) in
-    subst (λ n. rows_at w (altered n changed (rows_of s.tables i)) ≡ upgraded_rows w olds news n (rows_at w (rows_of s.tables i))) (sym same) at)
+    subst (λ n. rows_at w (altered_rows n changed (rows_of s.tables i)) ≡ upgraded_rows w olds news n (rows_at w (rows_of s.tables i))) (sym same) at)
 
 pub length_after : (k : ℕ) (changed : List Alteration) (ts : List (List Row)) → length (overlaid_from k changed ts) ≡ length ts
 length_after k changed [] = refl
@@ -238,7 +238,7 @@ empty_shown w (suc n) = ap (λ ts. [] ∷ ts) (empty_shown w n)
 
 -- the state after the change, with empty tables for the added models, shows the upgraded one
 pub law_shows : (w : ℕ → Bool) (olds news : List Entity) (s : State) (changed : List Alteration) (c : Change) → c ≡ change_of changed s → Changes olds news s changed
-    → project_at w (widened (length news) (applied c s)) ≡ upgraded w olds news (project_at w s)
+    → project_at w (widened_state (length news) (changed_state c s)) ≡ upgraded_state w olds news (project_at w s)
 law_shows w olds news s changed c is all =
     let n : ℕ = length news - length (overlaid changed s.tables) in
     let count : n ≡ length news - length (map (rows_at w) s.tables) =
@@ -247,5 +247,5 @@ law_shows w olds news s changed c is all =
     map-append (rows_at w) (overlaid changed s.tables) (empties n)
     ∙ ap (λ ts. ts ++ map (rows_at w) (empties n)) (tables_shown w olds news s changed all)
     ∙ ap (λ ts. upgraded_tables w olds news 0 (map (rows_at w) s.tables) ++ ts) (empty_shown w n ∙ ap empty_tables count) in
-    ap (λ (d : Change). project_at w (widened (length news) (applied d s))) is
+    ap (λ (d : Change). project_at w (widened_state (length news) (changed_state d s))) is
     ∙ ap (λ (ts : List (List PlainRow)). record { tables = ts; number = s.number }) tables

@@ -10,10 +10,10 @@ use Rattle.jac_lang.specs.declared.field_kinds.KindName.TheVariants as kinds
 use Rattle.jac_lang.specs.Lookup.{kind_at, kind_in}
 use Rattle.jac_lang.specs.Syntax.{Entity}
 use Rattle.jac_rows.specs.declared.row.Row.{Row}
-use Rattle.jac_plain.specs.Records.{default_cells, shielded}
+use Rattle.jac_plain.specs.Records.{default_cells, shielded_cells}
 use Rattle.jac_write.specs.Regrouped.{is_guarded_from, regrouped_cells, stays}
 use Rattle.jac_write.specs.Writes.{cells_at}
-use Rattle.jac_upgrade.specs.Steps.{drafted, upgraded_all}
+use Rattle.jac_upgrade.specs.Steps.{drafted_row, upgraded_all}
 use Rattle.jac_upgrade.specs.Upgraded.{draft_of, group_count, upgraded_cells}
 
 -- no field is meant by it
@@ -43,19 +43,19 @@ drafted_if olds news m true c cs ds e = ap (λ l. draft_of olds news m c ∷ l) 
 drafted_if olds news m false c cs ds e = e
 
 -- what drafts show
-cells_drafted : (w : ℕ → Bool) (olds news : List Entity) (m : ℕ) (rows : List Row) → cells_at w (map (drafted olds news m) rows) ≡ map (draft_of olds news m) (cells_at w rows)
+cells_drafted : (w : ℕ → Bool) (olds news : List Entity) (m : ℕ) (rows : List Row) → cells_at w (map (drafted_row olds news m) rows) ≡ map (draft_of olds news m) (cells_at w rows)
 cells_drafted w olds news m [] = refl
 cells_drafted w olds news m (r ∷ rows) =
-    drafted_if olds news m (holds w r.guard) r.cells (cells_at w rows) (cells_at w (map (drafted olds news m) rows)) (cells_drafted w olds news m rows)
+    drafted_if olds news m (holds w r.guard) r.cells (cells_at w rows) (cells_at w (map (drafted_row olds news m) rows)) (cells_drafted w olds news m rows)
 
 stored_each : (w : ℕ → Bool) (olds news : List Entity) (m id : ℕ) (cs : List (List Value))
-    → map (shielded news w m id (is_guarded_from news m (group_count olds m))) (map (draft_of olds news m) cs) ≡ map (upgraded_cells w olds news m id) cs
+    → map (shielded_cells news w m id (is_guarded_from news m (group_count olds m))) (map (draft_of olds news m) cs) ≡ map (upgraded_cells w olds news m id) cs
 stored_each w olds news m id [] = refl
 stored_each w olds news m id (c ∷ cs) = ap (λ l. upgraded_cells w olds news m id c ∷ l) (stored_each w olds news m id cs)
 
 -- what is stored of the drafts is what an upgrade leaves
 pub upgraded_drafts : (w : ℕ → Bool) (olds news : List Entity) (m id first : ℕ) (rows drafts : List Row) (new : List (List Value))
-    → drafts ≡ map (drafted olds news m) rows → first ≡ group_count olds m
+    → drafts ≡ map (drafted_row olds news m) rows → first ≡ group_count olds m
     → (length (cells_at w drafts) ≤ 1 → new ≡ regrouped_cells news w m id first (cells_at w drafts))
     → length (cells_at w rows) ≤ 1 → new ≡ upgraded_all w olds news m id (cells_at w rows)
 upgraded_drafts w olds news m id first rows drafts new are count stored few =

@@ -1,6 +1,6 @@
 -- Plain rows of rising ids are known by the rows of each id.
 use Rattle.std.proofs.Common.{◌≡◌, ◌∙◌, inl, inr, refl, ap, sym, subst, arith, ℕ, ◌<◌, ◌==◌, Bool, true, false, if◌then◌else◌, List, [], ◌∷◌, map}
-use Rattle.std.proofs.lemmas.Bool.{cases_order}
+use Rattle.std.proofs.lemmas.Bool.{cases_order, eqb-true}
 use Rattle.jac_world.specs.World.{StartsAboveBy}
 use Rattle.jac_lang.specs.Syntax.{Entity}
 use Rattle.jac_rows.specs.Good.{ArePlainRows}
@@ -10,7 +10,7 @@ use Rattle.jac_write.specs.Regrouped.{stays}
 use Rattle.jac_write.proofs.RecordLaws.{cells}
 use Rattle.jac_upgrade.specs.Steps.{upgraded_all}
 use Rattle.jac_upgrade.specs.Upgraded.{group_count, upgraded_cells, upgraded_row, upgraded_rows}
-use Rattle.jac_upgrade.proofs.Walking.{equal_ids, same_id}
+use Rattle.jac_upgrade.proofs.Walking.{same_id}
 
 abbrev Above : ℕ → List PlainRow → Type 0
 Above id rows = StartsAboveBy (λ (r : PlainRow). r.id) id rows
@@ -39,7 +39,7 @@ none_lesser id r rows less rising = none_of id (r ∷ rows) less rising
 rest_if : (r : PlainRow) (xs ys : List PlainRow) (id : ℕ) (b : Bool) → (r.id == id) ≡ b → ArePlainRows (r ∷ xs) → ArePlainRows (r ∷ ys)
     → (if b then r ∷ of_id id xs else of_id id xs) ≡ (if b then r ∷ of_id id ys else of_id id ys) → of_id id xs ≡ of_id id ys
 rest_if r xs ys id true e rising others h =
-    let is : r.id ≡ id = equal_ids r.id id e in
+    let is : r.id ≡ id = eqb-true r.id id e in
     ap (λ i. of_id i xs) (sym is) ∙ none_of r.id xs rising.0 rising.1 ∙ sym (none_of r.id ys others.0 others.1) ∙ ap (λ i. of_id i ys) is
 rest_if r xs ys id false e rising others h = h
 
@@ -98,14 +98,14 @@ row_if : (w : ℕ → Bool) (olds news : List Entity) (m id : ℕ) (r : PlainRow
     → of_id id upgraded ≡ all_cells w olds news m id (of_id id rows)
     → of_id id (if there then upgraded_row w olds news m r ∷ upgraded else upgraded) ≡ all_cells w olds news m id (if same then r ∷ of_id id rows else of_id id rows)
 row_if w olds news m id r rows upgraded true true same there e =
-    let is : r.id ≡ id = equal_ids r.id id same in
+    let is : r.id ≡ id = eqb-true r.id id same in
     let kept : stays news w m id (group_count olds m) ≡ true = ap (λ i. stays news w m i (group_count olds m)) (sym is) ∙ there in
     rw (same, kept) (
     (let one : upgraded_row w olds news m r ≡ plain_row id (upgraded_cells w olds news m id r.cells) = ap (λ i. plain_row i (upgraded_cells w olds news m i r.cells)) is in
     let rest : of_id id upgraded ≡ map (plain_row id) (map (upgraded_cells w olds news m id) (map cells (of_id id rows))) = rw kept at e in
     λ i. one i ∷ rest i))
 row_if w olds news m id r rows upgraded true false same there e =
-    let is : r.id ≡ id = equal_ids r.id id same in
+    let is : r.id ≡ id = eqb-true r.id id same in
     let gone : stays news w m id (group_count olds m) ≡ false = ap (λ i. stays news w m i (group_count olds m)) (sym is) ∙ there in
     rw gone (let rest : of_id id upgraded ≡ [] = rw gone at e in rest)
 row_if w olds news m id r rows upgraded false true same there e = rw same e

@@ -8,16 +8,16 @@ use Rattle.jac_lang.proofs.Places.{length-entities}
 use Rattle.jac_plain.specs.Models.{shapes_of}
 use Rattle.jac_rows.specs.Project.{project_at}
 use Rattle.jac_keep.specs.Alterations.{AreApart}
-use Rattle.jac_keep.specs.Kept.{applied}
+use Rattle.jac_keep.specs.Kept.{changed_state}
 use Rattle.jac_keep.specs.KeeperSeen.{IsLeft, KeeperSeen}
-use Rattle.jac_keep.specs.Reshaping.{widened}
+use Rattle.jac_keep.specs.Reshaping.{widened_state}
 use Rattle.jac_keep.specs.Schema.{IsFit}
 use Rattle.jac_keep.specs.declared.alteration.Alteration.{Alteration}
 use Rattle.jac_keep.specs.declared.alteration.Change.{Change}
 use Rattle.jac_upgrade.specs.Changed.{AreIdsOf, changed_ids}
 use Rattle.jac_upgrade.specs.Extends.{models_lack}
 use Rattle.jac_upgrade.specs.Steps.{AltersBelow}
-use Rattle.jac_upgrade.specs.Upgraded.{upgraded}
+use Rattle.jac_upgrade.specs.Upgraded.{upgraded_state}
 use Rattle.jac_upgrade.proofs.Applied.{change_of, law_shows}
 use Rattle.jac_upgrade.proofs.Fits.{Upgrading, law_fits, upgrading}
 use Rattle.jac_upgrade.proofs.Naming.{law_names}
@@ -57,12 +57,12 @@ names app new before middle after number changed t told =
 
 pub shows : (app new : Application) (before middle after : KeeperSeen) (number : ℕ) (changed : List Alteration) (c : Change) → Told app new before middle after number changed → IsTrue after.tells
     → c ≡ record { changed = changed; number = number } → (w : ℕ → Bool)
-    → project_at w (widened (length new.models) (applied c before.state)) ≡ upgraded w app.models new.models (project_at w before.state)
+    → project_at w (widened_state (length new.models) (changed_state c before.state)) ≡ upgraded_state w app.models new.models (project_at w before.state)
 shows app new before middle after number changed c t told is w =
     law_shows w app.models new.models before.state changed c (same_change app new before middle after number changed c t told is)
     (finish app new before middle after number changed t told).all
 
 pub fits : (app new : Application) (before middle after : KeeperSeen) (number : ℕ) (changed : List Alteration) (c : Change) → Told app new before middle after number changed → IsTrue after.tells
-    → c ≡ record { changed = changed; number = number } → IsFit (shapes_of new) (widened (length new.models) (applied c before.state))
+    → c ≡ record { changed = changed; number = number } → IsFit (shapes_of new) (widened_state (length new.models) (changed_state c before.state))
 fits app new before middle after number changed c t told is =
     law_fits app new before.state changed c (same_change app new before middle after number changed c t told is) (finish app new before middle after number changed t told)

@@ -1,6 +1,6 @@
 -- The state after an upgrade is one of the new application.
 use Rattle.std.proofs.Common.{◌≡◌, ◌∙◌, refl, ap, sym, subst, arith, zero, suc, ℕ, ◌+◌, ◌-◌, ◌<◌, ◌≤◌, ◌==◌, ◌&&◌, Bool, true, false, if◌then◌else◌, IsTrue, List, [], ◌∷◌, ◌++◌, length, drop, map, Option, Some, None, unwrap_or}
-use Rattle.std.proofs.lemmas.Bool.{and_parts}
+use Rattle.std.proofs.lemmas.Bool.{and_parts, and_from, eqb-true}
 use Rattle.std.specs.Prelude.{slice_get, IsSomeAnd}
 use Rattle.std.specs.List.{AllByRecursion}
 use Rattle.jac_value.specs.Ids.{is_wide, model_of_id}
@@ -8,7 +8,7 @@ use Rattle.jac_value.specs.declared.value.Kind.{Kind}
 use Rattle.jac_value.specs.declared.value.Kind.TheVariants as kind
 use Rattle.jac_value.specs.declared.value.Value.{Value}
 use Rattle.jac_value.specs.Values.{default_value, has_kind}
-use Rattle.jac_world.specs.World.{holds, wanted}
+use Rattle.jac_world.specs.World.{holds, guard_wants}
 use Rattle.jac_check.specs.Well.{is_well}
 use Rattle.jac_lang.specs.declared.field_kinds.Field.{Field}
 use Rattle.jac_lang.specs.Lookup.{fields_at, is_nested_at, kind_named}
@@ -20,10 +20,10 @@ use Rattle.jac_rows.specs.declared.state.State.{State}
 use Rattle.jac_plain.specs.Models.{kinds_of_fields, shapes_of, shapes_of_models}
 use Rattle.jac_plain.specs.Records.{default_cells}
 use Rattle.jac_plain.proofs.GoodLaws.{kinds_shielded}
-use Rattle.jac_keep.specs.Alterations.{AreApart, named, overlaid}
-use Rattle.jac_keep.specs.Kept.{applied}
+use Rattle.jac_keep.specs.Alterations.{AreApart, alternatives_named, overlaid}
+use Rattle.jac_keep.specs.Kept.{changed_state}
 use Rattle.jac_keep.specs.Records.{AreOf, alternatives}
-use Rattle.jac_keep.specs.Reshaping.{widened}
+use Rattle.jac_keep.specs.Reshaping.{widened_state}
 use Rattle.jac_keep.specs.Schema.{IsFit, empties}
 use Rattle.jac_keep.specs.declared.alteration.Alteration.{Alteration}
 use Rattle.jac_keep.specs.declared.alteration.Change.{Change}
@@ -38,15 +38,11 @@ use Rattle.jac_upgrade.specs.Upgraded.{draft_of, group_count, upgraded_cells}
 use Rattle.jac_upgrade.proofs.Applied.{Changes, after_change, change_of, length_after, none_left, none_other, renewed_of, sound_of, table_after}
 use Rattle.jac_upgrade.proofs.Modeling.{IsTableOf, made_there, table_of}
 use Rattle.jac_upgrade.proofs.Prefixes.{at_least, kinds_grown, same_nested}
-use Rattle.jac_upgrade.proofs.Walking.{all_mapped, equal_ids, same_id}
+use Rattle.jac_upgrade.proofs.Walking.{all_mapped, same_id}
 
 -- cells of the kinds of the model's fields
 abbrev Fits : List Entity → ℕ → List Value → Type 0
 Fits models m cells = have_kinds (kinds_of_fields models (fields_at models m)) cells ≡ true
-
-both_true : (a b : Bool) → a ≡ true → b ≡ true → (a && b) ≡ true
-both_true true b p q = q
-both_true false b p q = p
 
 default_kind : (k : Kind) → has_kind k (default_value k) ≡ true
 default_kind kind.Int = refl
@@ -57,7 +53,7 @@ default_kind (kind.Ref m) = refl
 defaults_fit : (models : List Entity) (fields : List Field) → have_kinds (kinds_of_fields models fields) (default_cells models fields) ≡ true
 defaults_fit models [] = refl
 defaults_fit models (f ∷ fields) =
-    both_true (has_kind (kind_named models f.kind) (default_value (kind_named models f.kind))) (have_kinds (kinds_of_fields models fields) (default_cells models fields))
+    and_from (has_kind (kind_named models f.kind) (default_value (kind_named models f.kind))) (have_kinds (kinds_of_fields models fields) (default_cells models fields))
     (default_kind (kind_named models f.kind)) (defaults_fit models fields)
 
 kinds_append : (ks ls : List Kind) (cs ds : List Value) → have_kinds ks cs ≡ true → have_kinds ls ds ≡ true → have_kinds (ks ++ ls) (cs ++ ds) ≡ true
@@ -66,7 +62,7 @@ kinds_append [] ls (c ∷ cs) ds p q = cc
 kinds_append (k ∷ ks) ls [] ds p q = cc
 kinds_append (k ∷ ks) ls (c ∷ cs) ds p q =
     let parts = and_parts (has_kind k c) (have_kinds ks cs) p in
-    both_true (has_kind k c) (have_kinds (ks ++ ls) (cs ++ ds)) parts.0 (kinds_append ks ls cs ds parts.1 q)
+    and_from (has_kind k c) (have_kinds (ks ++ ls) (cs ++ ds)) parts.0 (kinds_append ks ls cs ds parts.1 q)
 
 -- a draft, and what is stored of it
 draft_fits : (app : Application) (news : List Entity) (m : ℕ) (cells : List Value) → IsTrue (is_well app) → models_lack 0 app.models news ≡ None → m < length app.models
@@ -107,7 +103,7 @@ module _ (Q : List Value → Type 0) where
   each_shown : (rows : List Row) → AreMet rows → ((w : ℕ → Bool) → AllByRecursion Q (cells_at w rows)) → AllByRecursion (λ (r : Row). Q r.cells) rows
   each_shown [] met all = tt
   each_shown (r ∷ rows) met all = (
-    shown_if (holds (wanted r.guard) r.guard) r.cells (cells_at (wanted r.guard) rows) met.0 (all (wanted r.guard)),
+    shown_if (holds (guard_wants r.guard) r.guard) r.cells (cells_at (guard_wants r.guard) rows) met.0 (all (guard_wants r.guard)),
     each_shown rows met.1 (λ w. later_if (holds w r.guard) r.cells (cells_at w rows) (all w)),
   )
 
@@ -179,7 +175,7 @@ records_of shapes s m good =
 
 -- a row of a record that has one
 wide_if : (id k : ℕ) (nested b later : Bool) → (k == id) ≡ b → is_wide k ≡ nested → (later ≡ true → is_wide id ≡ nested) → (if b then true else later) ≡ true → is_wide id ≡ nested
-wide_if id k nested true later same one rest h = subst (λ i. is_wide i ≡ nested) (equal_ids k id same) one
+wide_if id k nested true later same one rest h = subst (λ i. is_wide i ≡ nested) (eqb-true k id same) one
 wide_if id k nested false later same one rest h = rest h
 
 wide_there : (models : List Entity) (next m id : ℕ) (rows : List Row) → m < length models → AllByRecursion (λ (r : Row). IsRecord (shapes_of_models models models) m next r.id r.cells) rows
@@ -231,7 +227,7 @@ module _ (app new : Application) (s : State) (changed : List Alteration) (u : Up
       (all_mapped (λ (r : Row). Fits new.models m r.cells) (λ (r : Row). IsRecord (shapes_of new) m s.number id r.cells) rows
       (λ r h. record { made = made; fit = shape_to new.models new.models m id r.cells more h wide }) kinds)
 
-  found_records : (id : ℕ) (found : Option (List Row)) → model_of_id id < length app.models → named id changed ≡ found
+  found_records : (id : ℕ) (found : Option (List Row)) → model_of_id id < length app.models → alternatives_named id changed ≡ found
       → AllByRecursion (IsRecordOf (model_of_id id)) (unwrap_or found (alternatives id (rows_of s.tables (model_of_id id))))
   found_records id None within h =
       subst (AllByRecursion (IsRecordOf (model_of_id id))) (sym (none_left app.models new.models s changed id u.all within h)) tt
@@ -239,14 +235,14 @@ module _ (app new : Application) (s : State) (changed : List Alteration) (u : Up
 
   id_records : (m id : ℕ) (b : Bool) → m < length app.models → (model_of_id id == m) ≡ b → AllByRecursion (IsRecordOf m) (alternatives id (table_after changed s m))
   id_records m id true within e =
-      let is : model_of_id id ≡ m = equal_ids (model_of_id id) m e in
+      let is : model_of_id id ≡ m = eqb-true (model_of_id id) m e in
       subst (λ k. AllByRecursion (IsRecordOf k) (alternatives id (table_after changed s k))) is
       (subst (AllByRecursion (IsRecordOf (model_of_id id))) (sym (after_change app.models new.models s changed id u.all))
-      (found_records id (named id changed) (subst (λ k. k < length app.models) (sym is) within) refl))
+      (found_records id (alternatives_named id changed) (subst (λ k. k < length app.models) (sym is) within) refl))
   id_records m id false within e =
       let other : model_of_id id ≡ m → ⊥ = λ same. grind (arith, e, same) in
       subst (AllByRecursion (IsRecordOf m))
-      (sym (none_other s.number m id (table_after changed s m) (table_of (applied (change_of changed s) s) m (sound_of app.models new.models s changed u.all)).made other)) tt
+      (sym (none_other s.number m id (table_after changed s m) (table_of (changed_state (change_of changed s) s) m (sound_of app.models new.models s changed u.all)).made other)) tt
 
   table_records : (m : ℕ) → m < length app.models → AllByRecursion (IsRecordOf m) (table_after changed s m)
   table_records m within = each_record (IsRecordOf m) (table_after changed s m) (λ id. id_records m id (model_of_id id == m) within refl)
@@ -280,7 +276,7 @@ length_append [] ys = omega arith
 length_append (x ∷ xs) ys = grind (arith, length_append xs ys)
 
 pub law_fits : (app new : Application) (s : State) (changed : List Alteration) (c : Change) → c ≡ change_of changed s → Upgrading app new s changed
-    → IsFit (shapes_of new) (widened (length new.models) (applied c s))
+    → IsFit (shapes_of new) (widened_state (length new.models) (changed_state c s))
 law_fits app new s changed c is u =
     let after : List (List Row) = overlaid changed s.tables in
     let n : ℕ = length new.models - length after in
@@ -290,9 +286,9 @@ law_fits app new s changed c is u =
     tables_by (λ model (r : Row). IsRecord (shapes_of new) model s.number r.id r.cells) 0 after (λ i less.
     let here : i ≡ 0 + i = omega arith in
     let within : i < length app.models = subst (λ k. i < k) same less in
-    let rising : AreRising (rows_of after i) = (table_of (applied (change_of changed s) s) i (sound_of app.models new.models s changed u.all)).rising in
+    let rising : AreRising (rows_of after i) = (table_of (changed_state (change_of changed s) s) i (sound_of app.models new.models s changed u.all)).rising in
     (rising, subst (λ k. AllByRecursion (λ (r : Row). IsRecord (shapes_of new) k s.number r.id r.cells) (rows_of after i)) here (table_records app new s changed u i within))) in
-    subst (λ (d : Change). IsFit (shapes_of new) (widened (length new.models) (applied d s))) (sym is) (record {
+    subst (λ (d : Change). IsFit (shapes_of new) (widened_state (length new.models) (changed_state d s))) (sym is) (record {
       good = (u.fit.good.0, tables_append (λ model (r : Row). IsRecord (shapes_of new) model s.number r.id r.cells) 0 n after guarded);
       tables = (
           let long : length (after ++ empties n) ≡ length after + n = length_append after (empties n) ∙ ap (λ k. length after + k) (length_empties n) in

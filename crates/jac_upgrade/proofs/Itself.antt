@@ -4,6 +4,7 @@ use Rattle.std.proofs.lemmas.Bool.Decides.{nat_tests, Decides-eqb}
 use Rattle.std.proofs.lemmas.List.{drop_all}
 use Rattle.std.proofs.lemmas.List.Quantifiers.{position-Some}
 use Rattle.std.proofs.lemmas.Slice.Eq.{slice_eq-Decides}
+use Rattle.std.proofs.lemmas.Bool.{and_from}
 use mathlib.Core.Bool.{beq}
 use Rattle.jac_value.specs.declared.value.Value.{Value}
 use Rattle.jac_lang.specs.declared.field_kinds.Field.{Field}
@@ -13,11 +14,11 @@ use Rattle.jac_lang.specs.Lookup.{same_text, fields_at, groups_at, group_for, gr
 use Rattle.jac_lang.specs.Syntax.{Assigned, Entity, Expression, FieldGroup}
 use Rattle.jac_rows.specs.declared.plain.PlainRow.{PlainRow}
 use Rattle.jac_rows.specs.declared.plain.PlainState.{PlainState}
-use Rattle.jac_plain.specs.Records.{default_cells, each_cell, is_hidden, public_cell, shielded}
+use Rattle.jac_plain.specs.Records.{default_cells, each_cell, is_hidden, public_cell, shielded_cells}
 use Rattle.jac_write.specs.Regrouped.{is_from, is_guarded_from, stays}
 use Rattle.jac_upgrade.specs.Alike.{same_field, same_group, same_kind, same_guards}
 use Rattle.jac_upgrade.specs.Extends.{fields_lack, groups_lack, model_lack, models_lack}
-use Rattle.jac_upgrade.specs.Upgraded.{draft_of, empty_tables, group_count, upgraded, upgraded_row, upgraded_rows, upgraded_tables}
+use Rattle.jac_upgrade.specs.Upgraded.{draft_of, empty_tables, group_count, upgraded_state, upgraded_row, upgraded_rows, upgraded_tables}
 
 text_itself : (a : List ℕ) → same_text a a ≡ true
 text_itself a = (slice_eq-Decides Decides-eqb a a (same_text a a) refl).1 refl
@@ -28,23 +29,19 @@ kind_itself kinds.Text = refl
 kind_itself kinds.Bool = refl
 kind_itself (kinds.Ref model) = text_itself model
 
-both_true : (a b : Bool) → a ≡ true → b ≡ true → (a && b) ≡ true
-both_true true b p q = q
-both_true false b p q = p
-
 field_itself : (f : Field) → same_field f f ≡ true
-field_itself f = both_true (same_text f.name f.name) (same_kind f.kind f.kind) (text_itself f.name) (kind_itself f.kind)
+field_itself f = and_from (same_text f.name f.name) (same_kind f.kind f.kind) (text_itself f.name) (kind_itself f.kind)
 
 guards_itself : (gs : List Assigned) → same_guards gs gs ≡ true
 guards_itself [] = refl
-guards_itself (g ∷ gs) = both_true (same_text g.field g.field) (same_guards gs gs) (text_itself g.field) (guards_itself gs)
+guards_itself (g ∷ gs) = and_from (same_text g.field g.field) (same_guards gs gs) (text_itself g.field) (guards_itself gs)
 
 flag_itself : (b : Bool) → beq b b ≡ true
 flag_itself true = refl
 flag_itself false = refl
 
 group_itself : (g : FieldGroup) → same_group g g ≡ true
-group_itself g = both_true (beq g.hides g.hides) (same_guards g.guards g.guards) (flag_itself g.hides) (guards_itself g.guards)
+group_itself g = and_from (beq g.hides g.hides) (same_guards g.guards g.guards) (flag_itself g.hides) (guards_itself g.guards)
 
 fields_itself : (m n : ℕ) (fs : List Field) → fields_lack m n fs fs ≡ None
 fields_itself m n [] = refl
@@ -56,7 +53,7 @@ groups_itself m n (g ∷ gs) = rw (group_itself g) (groups_itself m (n + 1) gs)
 
 model_itself : (m : ℕ) (e : Entity) → model_lack m e e ≡ None
 model_itself m e =
-    rw (both_true (same_text e.name e.name) (beq e.nested e.nested) (text_itself e.name) (flag_itself e.nested), fields_itself m 0 e.fields) (groups_itself m 0 e.groups)
+    rw (and_from (same_text e.name e.name) (beq e.nested e.nested) (text_itself e.name) (flag_itself e.nested), fields_itself m 0 e.fields) (groups_itself m 0 e.groups)
 
 models_itself : (m : ℕ) (es : List Entity) → models_lack m es es ≡ None
 models_itself m [] = refl
@@ -103,7 +100,7 @@ draft_same models m cells =
 row_same : (w : ℕ → Bool) (models : List Entity) (m : ℕ) (r : PlainRow) → upgraded_row w models models m r ≡ r
 row_same w models m r =
     let draft : List Value = draft_of models models m r.cells in
-    let cells : shielded models w m r.id (is_guarded_from models m (group_count models m)) draft ≡ r.cells =
+    let cells : shielded_cells models w m r.id (is_guarded_from models m (group_count models m)) draft ≡ r.cells =
     each_same _ 0 draft (λ f cell. kept_cell (is_guarded_from models m (group_count models m) f) (is_hidden models w m r.id f) (public_cell models m r.id draft f cell) cell (not_new models m f))
     ∙ draft_same models m r.cells in
     ap (λ (cs : List Value). record { id = r.id; cells = cs }) cells
@@ -120,7 +117,7 @@ none_empty : (n : ℕ) → n ≡ 0 → empty_tables n ≡ []
 none_empty zero h = refl
 none_empty (suc n) h = absurd (omega (arith, h))
 
-pub law_upgraded : (w : ℕ → Bool) (models : List Entity) (t : PlainState) → length models ≤ length t.tables → upgraded w models models t ≡ t
+pub law_upgraded : (w : ℕ → Bool) (models : List Entity) (t : PlainState) → length models ≤ length t.tables → upgraded_state w models models t ≡ t
 law_upgraded w models t below =
     let none : empty_tables (length models - length t.tables) ≡ [] = none_empty (length models - length t.tables) (omega (arith, below)) in
     let tables : upgraded_tables w models models 0 t.tables ++ empty_tables (length models - length t.tables) ≡ t.tables =

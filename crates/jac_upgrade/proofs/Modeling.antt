@@ -1,6 +1,6 @@
 -- The alterations of the records of one model after another.
 use Rattle.std.proofs.Common.{◌≡◌, ◌∙◌, inl, inr, refl, ap, sym, subst, arith, zero, suc, ℕ, ◌+◌, ◌<◌, ◌==◌, ◌||◌, Bool, true, false, if◌then◌else◌, IsTrue, List, [], ◌∷◌, ◌++◌, length}
-use Rattle.std.proofs.lemmas.Bool.{and_parts, cases_lt}
+use Rattle.std.proofs.lemmas.Bool.{and_parts, cases_lt, eqb-true, or_left, or_right}
 use Rattle.std.specs.List.{AllByRecursion}
 use Rattle.jac_value.specs.Ids.{is_id_of, is_narrow, is_wide, model_of_id}
 use Rattle.jac_lang.specs.Syntax.{Entity}
@@ -14,7 +14,7 @@ use Rattle.jac_keep.specs.declared.alteration.Alteration.{Alteration}
 use Rattle.jac_keep.proofs.OrderLaws.{ordered_if_rising}
 use Rattle.jac_upgrade.specs.Changed.{has_alternative}
 use Rattle.jac_upgrade.specs.Steps.{AltersBelow, AltersRows, IsUpgradeIn, IsUpgradeOf, is_changed}
-use Rattle.jac_upgrade.proofs.Walking.{all_append, all_mapped, changed_append, equal_ids, or_left, or_right}
+use Rattle.jac_upgrade.proofs.Walking.{all_append, all_mapped, changed_append}
 
 -- a table of a sound state
 pub record IsTableOf (next m : ℕ) (rows : List Row) : Type 0 where
@@ -37,7 +37,7 @@ table_of s m sound =
 
 -- a record that has a row was made
 made_case : (next m id k : ℕ) (b later : Bool) → (k == id) ≡ b → IsMade m next k → (later ≡ true → IsMade m next id) → (if b then true else later) ≡ true → IsMade m next id
-made_case next m id k true later same one rest h = subst (λ i. IsMade m next i) (equal_ids k id same) one
+made_case next m id k true later same one rest h = subst (λ i. IsMade m next i) (eqb-true k id same) one
 made_case next m id k false later same one rest h = rest h
 
 pub made_there : (next m id : ℕ) (rows : List Row) → AllByRecursion (λ (r : Row). IsMade m next r.id) rows → has_alternative id rows ≡ true → IsMade m next id
@@ -49,7 +49,7 @@ pub below_none : (olds news : List Entity) (s : State) → AltersBelow olds news
 below_none olds news s = record { each = tt; named = λ id less h. absurd (omega (arith, less)) }
 
 model_of : (id m : ℕ) → is_id_of id m ≡ true → model_of_id id ≡ m
-model_of id m h = equal_ids (model_of_id id) m (and_parts (is_narrow id || is_wide id) (model_of_id id == m) h).1
+model_of id m h = eqb-true (model_of_id id) m (and_parts (is_narrow id || is_wide id) (model_of_id id == m) h).1
 
 upgrade_of : (olds news : List Entity) (s : State) (m : ℕ) (a : Alteration) → m < length olds → IsUpgradeIn olds news m (rows_of s.tables m) a → IsUpgradeOf olds news s a
 upgrade_of olds news s m a within h =

@@ -1,10 +1,10 @@
 -- The records that the change of an upgrade names.
 use Rattle.std.proofs.Common.{◌≡◌, ◌∙◌, inl, inr, refl, ap, sym, subst, ℕ, ◌≤◌, ◌==◌, ◌||◌, Bool, true, false, if◌then◌else◌, List, [], ◌∷◌, length}
-use Rattle.std.proofs.lemmas.Bool.{cases_lt}
+use Rattle.std.proofs.lemmas.Bool.{cases_lt, eqb-true}
 use Rattle.std.proofs.lemmas.Option.{slice_get_past}
 use Rattle.std.specs.List.{AllByRecursion}
 use Rattle.jac_value.specs.Ids.{model_of_id}
-use Rattle.jac_world.specs.World.{IsAscending, IsRisingBy, StartsAboveBy, shown}
+use Rattle.jac_world.specs.World.{IsAscending, IsRisingBy, StartsAboveBy, shown_by}
 use Rattle.jac_lang.specs.Syntax.{Entity}
 use Rattle.jac_rows.specs.Tables.{rows_of, rows_or_none}
 use Rattle.jac_rows.specs.declared.row.Row.{Row}
@@ -13,7 +13,6 @@ use Rattle.jac_keep.specs.declared.alteration.Alteration.{Alteration}
 use Rattle.jac_upgrade.specs.Changed.{AreIdsOf, changed_ids, has_alternative}
 use Rattle.jac_upgrade.specs.Steps.{IsUpgradeOf, is_changed}
 use Rattle.jac_upgrade.proofs.Applied.{Changes}
-use Rattle.jac_upgrade.proofs.Walking.{equal_ids}
 
 above_ids : (k : ℕ) (xs : List Alteration) → StartsAboveBy (λ (a : Alteration). a.id) k xs → StartsAboveBy (λ (x : ℕ). x) k (changed_ids xs)
 above_ids k [] h = tt
@@ -27,12 +26,12 @@ or_as_if : (b c d : Bool) → c ≡ d → (b || c) ≡ (if b then true else d)
 or_as_if true c d e = refl
 or_as_if false c d e = e
 
-shown_ids : (id : ℕ) (xs : List Alteration) → shown (changed_ids xs) id ≡ is_changed id xs
+shown_ids : (id : ℕ) (xs : List Alteration) → shown_by (changed_ids xs) id ≡ is_changed id xs
 shown_ids id [] = refl
-shown_ids id (a ∷ xs) = or_as_if (a.id == id) (shown (changed_ids xs) id) (is_changed id xs) (shown_ids id xs)
+shown_ids id (a ∷ xs) = or_as_if (a.id == id) (shown_by (changed_ids xs) id) (is_changed id xs) (shown_ids id xs)
 
 there_if : (F : ℕ → Bool) (id : ℕ) (a : Alteration) (rest : Bool) (b : Bool) → (a.id == id) ≡ b → F a.id ≡ true → (rest ≡ true → F id ≡ true) → (if b then true else rest) ≡ true → F id ≡ true
-there_if F id a rest true same one later h = subst (λ i. F i ≡ true) (equal_ids a.id id same) one
+there_if F id a rest true same one later h = subst (λ i. F i ≡ true) (eqb-true a.id id same) one
 there_if F id a rest false same one later h = later h
 
 -- each record that is named has a row

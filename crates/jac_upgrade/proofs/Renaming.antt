@@ -4,12 +4,13 @@ use Rattle.std.specs.List.{AllByRecursion, Contains}
 use Rattle.std.specs.List.Sorted.{IsPermutation}
 use Rattle.std.proofs.lemmas.List.Elements.{All-contains_itself, All-from_recursion, recursion_from_All}
 use Rattle.std.proofs.lemmas.List.Sorted.{All-permutation, Contains-permutation, IsPermutation-sym}
+use Rattle.std.proofs.lemmas.Bool.{eqb-true, or_left, or_right}
 use Rattle.jac_rows.specs.declared.row.Row.{Row}
-use Rattle.jac_keep.specs.Alterations.{renamed}
+use Rattle.jac_keep.specs.Alterations.{with_alteration}
 use Rattle.jac_keep.specs.Records.{AreOf}
 use Rattle.jac_keep.specs.declared.alteration.Alteration.{Alteration}
-use Rattle.jac_upgrade.specs.Steps.{IsOwn, is_changed}
-use Rattle.jac_upgrade.proofs.Walking.{all_mapped, equal_ids, or_left, or_right, same_id, there_if}
+use Rattle.jac_upgrade.specs.Steps.{IsOwnAlteration, is_changed}
+use Rattle.jac_upgrade.proofs.Walking.{all_mapped, same_id, there_if}
 
 abbrev pub Other : ℕ → Alteration → Type 0
 Other id a = (a.id == id) ≡ false
@@ -41,8 +42,8 @@ changed_permuted id xs ys permuted h =
     (changed_none id xs (recursion_from_All (Other id) xs
     (All-permutation (Other id) ys xs (IsPermutation-sym xs ys permuted) (All-from_recursion (Other id) ys (none_changed id ys none))))))
 
-pub own_permuted : (xs ys : List Alteration) → IsPermutation xs ys → AllByRecursion IsOwn xs → AllByRecursion IsOwn ys
-own_permuted xs ys permuted own = recursion_from_All IsOwn ys (All-permutation IsOwn xs ys permuted (All-from_recursion IsOwn xs own))
+pub own_permuted : (xs ys : List Alteration) → IsPermutation xs ys → AllByRecursion IsOwnAlteration xs → AllByRecursion IsOwnAlteration ys
+own_permuted xs ys permuted own = recursion_from_All IsOwnAlteration ys (All-permutation IsOwnAlteration xs ys permuted (All-from_recursion IsOwnAlteration xs own))
 
 pub within_permuted : (xs ys zs : List Alteration) → IsPermutation xs ys → AllByRecursion (Contains ys) zs → AllByRecursion (Contains xs) zs
 within_permuted xs ys zs permuted all =
@@ -69,19 +70,19 @@ all_step P id rows a rest more false true p all later = (p, all.1)
 all_step P id rows a rest more false false p all later = (p, all)
 
 -- what holds of the alteration that is put and of the others holds of all
-pub all_renamed : (P : Alteration → Type 0) (id : ℕ) (rows : List Row) (xs : List Alteration) → P (placed id rows) → AllByRecursion P xs → AllByRecursion P (renamed id rows xs)
+pub all_renamed : (P : Alteration → Type 0) (id : ℕ) (rows : List Row) (xs : List Alteration) → P (placed id rows) → AllByRecursion P xs → AllByRecursion P (with_alteration id rows xs)
 all_renamed P id rows [] p all = (p, tt)
 all_renamed P id rows (a ∷ rest) p all =
-    all_step P id rows a rest (renamed id rows rest) (nat_lt a.id id) (a.id == id) p all (all_renamed P id rows rest p all.1)
+    all_step P id rows a rest (with_alteration id rows rest) (nat_lt a.id id) (a.id == id) p all (all_renamed P id rows rest p all.1)
 
 here_step : (id : ℕ) (rows : List Row) (a : Alteration) (rest more : List Alteration) (less same : Bool) → is_changed id more ≡ true → is_changed id (step id rows a rest more less same) ≡ true
 here_step id rows a rest more true same h = there_if (a.id == id) (is_changed id more) h
 here_step id rows a rest more false true h = rw (same_id id) refl
 here_step id rows a rest more false false h = rw (same_id id) refl
 
-pub changed_here : (id : ℕ) (rows : List Row) (xs : List Alteration) → is_changed id (renamed id rows xs) ≡ true
+pub changed_here : (id : ℕ) (rows : List Row) (xs : List Alteration) → is_changed id (with_alteration id rows xs) ≡ true
 changed_here id rows [] = rw (same_id id) refl
-changed_here id rows (a ∷ rest) = here_step id rows a rest (renamed id rows rest) (nat_lt a.id id) (a.id == id) (changed_here id rows rest)
+changed_here id rows (a ∷ rest) = here_step id rows a rest (with_alteration id rows rest) (nat_lt a.id id) (a.id == id) (changed_here id rows rest)
 
 later_if : (b c d : Bool) → (c ≡ true → d ≡ true) → (if b then true else c) ≡ true → (if b then true else d) ≡ true
 later_if true c d f h = refl
@@ -90,13 +91,13 @@ later_if false c d f h = f h
 kept_step : (k id : ℕ) (rows : List Row) (a : Alteration) (rest more : List Alteration) (less same : Bool) → (a.id == id) ≡ same → (is_changed k rest ≡ true → is_changed k more ≡ true)
     → is_changed k (a ∷ rest) ≡ true → is_changed k (step id rows a rest more less same) ≡ true
 kept_step k id rows a rest more true same e f h = later_if (a.id == k) (is_changed k rest) (is_changed k more) f h
-kept_step k id rows a rest more false true e f h = subst (λ i. (if i == k then true else is_changed k rest) ≡ true) (equal_ids a.id id e) h
+kept_step k id rows a rest more false true e f h = subst (λ i. (if i == k then true else is_changed k rest) ≡ true) (eqb-true a.id id e) h
 kept_step k id rows a rest more false false e f h = there_if (id == k) (is_changed k (a ∷ rest)) h
 
-pub changed_kept : (k id : ℕ) (rows : List Row) (xs : List Alteration) → is_changed k xs ≡ true → is_changed k (renamed id rows xs) ≡ true
+pub changed_kept : (k id : ℕ) (rows : List Row) (xs : List Alteration) → is_changed k xs ≡ true → is_changed k (with_alteration id rows xs) ≡ true
 changed_kept k id rows [] h = cc
 changed_kept k id rows (a ∷ rest) h =
-    kept_step k id rows a rest (renamed id rows rest) (nat_lt a.id id) (a.id == id) refl (λ later. changed_kept k id rows rest later) h
+    kept_step k id rows a rest (with_alteration id rows rest) (nat_lt a.id id) (a.id == id) refl (λ later. changed_kept k id rows rest later) h
 
 -- one alteration is put among those before
 moved_if : (i k : ℕ) (b : Bool) (before after left : Bool) → (i == k) ≡ b → (b ≡ true → after ≡ true) → (before ≡ true → after ≡ true) → (before || (if b then true else left)) ≡ true → (after || left) ≡ true
@@ -105,8 +106,8 @@ moved_if i k false true after left e here kept h = or_left after left (kept refl
 moved_if i k false false after left e here kept h = or_right after left h
 
 pub named_put : (k id : ℕ) (rows : List Row) (changed left : List Alteration) → (is_changed k changed || is_changed k (placed id rows ∷ left)) ≡ true
-    → (is_changed k (renamed id rows changed) || is_changed k left) ≡ true
+    → (is_changed k (with_alteration id rows changed) || is_changed k left) ≡ true
 named_put k id rows changed left h =
-    moved_if id k (id == k) (is_changed k changed) (is_changed k (renamed id rows changed)) (is_changed k left) refl
-    (λ same. (let e : id ≡ k = equal_ids id k same in subst (λ i. is_changed i (renamed id rows changed) ≡ true) e (changed_here id rows changed)))
+    moved_if id k (id == k) (is_changed k changed) (is_changed k (with_alteration id rows changed)) (is_changed k left) refl
+    (λ same. (let e : id ≡ k = eqb-true id k same in subst (λ i. is_changed i (with_alteration id rows changed) ≡ true) e (changed_here id rows changed)))
     (λ before. changed_kept k id rows changed before) h

@@ -1,13 +1,14 @@
 -- A walk over the rows of a table, record by record.
 use Rattle.std.proofs.Common.{◌≡◌, ◌≢◌, ◌∙◌, refl, ap, sym, subst, arith, zero, suc, ℕ, ◌+◌, ◌<◌, ◌≤◌, ◌==◌, ◌||◌, Bool, true, false, if◌then◌else◌, List, [], ◌∷◌, ◌++◌, append_assoc, append-nil, add-one, take, drop, length, Some, None, slice_get}
 use Rattle.std.specs.List.{AllByRecursion}
+use Rattle.std.proofs.lemmas.Bool.{eqb-true, or_left, or_right}
 use Rattle.jac_value.specs.Ids.{is_id_of}
 use Rattle.jac_lang.specs.Syntax.{Entity}
 use Rattle.jac_rows.specs.declared.row.Row.{Row}
 use Rattle.jac_keep.specs.Records.{alternatives, AreOrdered}
 use Rattle.jac_keep.specs.declared.alteration.Alteration.{Alteration}
 use Rattle.jac_upgrade.specs.Changed.{has_alternative}
-use Rattle.jac_upgrade.specs.Steps.{AltersFirst, AltersRows, IsOwn, IsRenewed, IsUpgradeIn, first_count, front_count, is_changed, starts_with}
+use Rattle.jac_upgrade.specs.Steps.{AltersFirst, AltersRows, IsOwnAlteration, IsRenewed, IsUpgradeIn, first_count, front_count, is_changed, starts_with}
 
 pub all_append : {X : Type 0} (P : X → Type 0) (xs ys : List X) → AllByRecursion P xs → AllByRecursion P ys → AllByRecursion P (xs ++ ys)
 all_append P [] ys a b = b
@@ -16,9 +17,6 @@ all_append P (x ∷ xs) ys a b = (a.0, all_append P xs ys a.1 b)
 pub all_mapped : {X : Type 0} (P Q : X → Type 0) (xs : List X) → ((x : X) → P x → Q x) → AllByRecursion P xs → AllByRecursion Q xs
 all_mapped P Q [] f a = tt
 all_mapped P Q (x ∷ xs) f a = (f x a.0, all_mapped P Q xs f a.1)
-
-pub equal_ids : (a b : ℕ) → (a == b) ≡ true → a ≡ b
-equal_ids a b h = grind (arith, h)
 
 pub same_id : (a : ℕ) → (a == a) ≡ true
 same_id a = grind arith
@@ -32,18 +30,10 @@ pub changed_append : (id : ℕ) (xs ys : List Alteration) → is_changed id (xs 
 changed_append id [] ys = refl
 changed_append id (a ∷ xs) ys = ap (λ (b : Bool). if a.id == id then true else b) (changed_append id xs ys) ∙ or_if (a.id == id) (is_changed id xs) (is_changed id ys)
 
-pub or_left : (a b : Bool) → a ≡ true → (a || b) ≡ true
-or_left true b h = refl
-or_left false b h = cc
-
-pub or_right : (a b : Bool) → b ≡ true → (a || b) ≡ true
-or_right true b h = refl
-or_right false b h = h
-
 -- the first row's record
 starts_at : (id : ℕ) (rows : List Row) (r : Row) → slice_get rows 0 ≡ Some r → starts_with id rows ≡ true → r.id ≡ id
 starts_at id [] r is h = cc
-starts_at id (x ∷ rows) r is h = let same : x ≡ r = cc in ap (λ (y : Row). y.id) (sym same) ∙ equal_ids x.id id h
+starts_at id (x ∷ rows) r is h = let same : x ≡ r = cc in ap (λ (y : Row). y.id) (sym same) ∙ eqb-true x.id id h
 
 start_there : (rows : List Row) (r : Row) → slice_get rows 0 ≡ Some r → starts_with r.id rows ≡ true
 start_there [] r is = cc
@@ -92,7 +82,7 @@ strictly id r rows less all = all_mapped (λ (x : Row). r.id ≤ x.id) (λ (x : 
 front_case : (id : ℕ) (r : Row) (rows : List Row) (b : Bool) → (r.id == id) ≡ b → id ≤ r.id → AreOrdered (r ∷ rows) → Front id rows (front_count id rows)
     → Front id (r ∷ rows) (if b then front_count id rows + 1 else 0)
 front_case id r rows true same least ordered rest =
-    let e : r.id ≡ id = equal_ids r.id id same in
+    let e : r.id ≡ id = eqb-true r.id id same in
     record {
       own = rw (same, add-one) (ap (λ rs. r ∷ rs) rest.own);
       above = rw add-one rest.above;
@@ -129,7 +119,7 @@ there_dropped (suc k) id (r ∷ rows) h = there_if (r.id == id) (has_alternative
 
 -- a row of the record stands above a lesser id
 above_case : (id i k : ℕ) (b later : Bool) → (k == i) ≡ b → id < k → (later ≡ true → id < i) → (if b then true else later) ≡ true → id < i
-above_case id i k true later same less rest h = subst (λ j. id < j) (equal_ids k i same) less
+above_case id i k true later same less rest h = subst (λ j. id < j) (eqb-true k i same) less
 above_case id i k false later same less rest h = rest h
 
 above_there : (id i : ℕ) (rows : List Row) → AllByRecursion (λ (x : Row). id < x.id) rows → has_alternative i rows ≡ true → id < i
@@ -141,7 +131,7 @@ above_there id i (r ∷ rows) all h =
 pub record Walked (olds news : List Entity) (m : ℕ) (rows left : List Row) (start made : List Alteration) : Type 0 where
   pub more : List Alteration
   pub added : made ≡ start ++ more
-  pub own : AllByRecursion IsOwn more
+  pub own : AllByRecursion IsOwnAlteration more
   pub each : AreOrdered rows → AllByRecursion (IsUpgradeIn olds news m rows) more
   pub named : AreOrdered rows → (id : ℕ) → is_id_of id m ≡ true → has_alternative id rows ≡ true → (is_changed id more || has_alternative id left) ≡ true
   pub there : AreOrdered rows → (id : ℕ) → has_alternative id left ≡ true → has_alternative id rows ≡ true
@@ -196,7 +186,7 @@ step_each olds news m rows r left start made new w f o =
     let all : alternatives r.id rows ≡ take n (r ∷ left) = w.same o r.id here ∙ own.own in
     all_mapped (λ (a : Alteration). (is_id_of a.id m ≡ true) × (starts_with a.id (take n (r ∷ left)) ≡ true) × IsRenewed olds news m a.id (take n (r ∷ left)) a.rows) (IsUpgradeIn olds news m rows) f.more
     (λ a h. (
-    let e : r.id ≡ a.id = equal_ids r.id a.id (sym (first_of a.id r left) ∙ h.1) in
+    let e : r.id ≡ a.id = eqb-true r.id a.id (sym (first_of a.id r left) ∙ h.1) in
     record {
       one = h.0;
       there = ap (λ i. has_alternative i rows) (sym e) ∙ w.there o r.id here;
@@ -218,7 +208,7 @@ walk_goes olds news m n rows (r ∷ left) start made new some count w first =
     subst (λ i. Walked olds news m rows (drop i (r ∷ left)) start new) (sym count) (record {
       more = w.more ++ f.more;
       added = f.added ∙ ap (λ xs. xs ++ f.more) w.added ∙ append_assoc start w.more f.more;
-      own = all_append IsOwn w.more f.more w.own f.own;
+      own = all_append IsOwnAlteration w.more f.more w.own f.own;
       each = λ o. all_append (IsUpgradeIn olds news m rows) w.more f.more (w.each o) (step_each olds news m rows r left start made new w f o);
       named = λ o id one h. (
           let own : Front r.id (r ∷ left) k = first_front r left (w.ordered o) in

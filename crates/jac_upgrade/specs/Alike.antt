@@ -19,15 +19,15 @@ abbrev pub is_bool : KindName → Bool
 is_bool kinds.Bool = true
 is_bool k = false
 
-abbrev pub is_reference : List ℕ → KindName → Bool
-is_reference model (kinds.Ref named) = same_text model named
-is_reference model k = false
+abbrev pub is_reference_to : List ℕ → KindName → Bool
+is_reference_to model (kinds.Ref named) = same_text model named
+is_reference_to model k = false
 
 abbrev pub same_kind : KindName → KindName → Bool
 same_kind kinds.Int k = is_int k
 same_kind kinds.Text k = is_text k
 same_kind kinds.Bool k = is_bool k
-same_kind (kinds.Ref model) k = is_reference model k
+same_kind (kinds.Ref model) k = is_reference_to model k
 
 abbrev pub same_field : Field → Field → Bool
 same_field f g = same_text f.name g.name && same_kind f.kind g.kind

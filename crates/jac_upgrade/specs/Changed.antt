@@ -1,7 +1,7 @@
 -- The change that brings a state to an application.
 use Rattle.std.specs.Prelude.{◌≡◌, ℕ, ◌==◌, Bool, false, true, if◌then◌else◌, List, [], ◌∷◌, map}
 use Rattle.jac_value.specs.Ids.{model_of_id}
-use Rattle.jac_world.specs.World.{shown, IsAscending}
+use Rattle.jac_world.specs.World.{shown_by, IsAscending}
 use Rattle.jac_rows.specs.declared.row.Row.{Row}
 use Rattle.jac_rows.specs.declared.state.State.{State}
 use Rattle.jac_rows.specs.Tables.{rows_of}
@@ -19,4 +19,4 @@ changed_ids changed = map (λ a. a.id) changed
 -- the records of the state that have a row, each once, by rising id
 pub record AreIdsOf (s : State) (ids : List ℕ) : Type 0 where
   pub ascending : IsAscending ids
-  pub each : (id : ℕ) → shown ids id ≡ has_alternative id (rows_of s.tables (model_of_id id))
+  pub each : (id : ℕ) → shown_by ids id ≡ has_alternative id (rows_of s.tables (model_of_id id))

@@ -8,9 +8,9 @@ use Rattle.jac_upgrade.specs.Alike.{same_field, same_group}
 use Rattle.jac_upgrade.specs.declared.fault.UpgradeFault.{UpgradeFault}
 use Rattle.jac_upgrade.specs.declared.fault.UpgradeFault.TheVariants as faults
 
-abbrev pub fault_of : {A : Type 0} → Result A UpgradeFault → Option UpgradeFault
-fault_of (Ok a) = None
-fault_of (Err fault) = Some fault
+abbrev pub upgrade_fault : {A : Type 0} → Result A UpgradeFault → Option UpgradeFault
+upgrade_fault (Ok a) = None
+upgrade_fault (Err fault) = Some fault
 
 -- the first fault, or else the second
 abbrev pub or_else : Option UpgradeFault → Option UpgradeFault → Option UpgradeFault

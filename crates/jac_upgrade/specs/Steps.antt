@@ -3,7 +3,7 @@ use Rattle.std.specs.Prelude.{◌≡◌, ℕ, ◌+◌, ◌<◌, ◌≤◌, ◌==
 use Rattle.std.specs.List.{AllByRecursion}
 use Rattle.jac_value.specs.Ids.{is_id_of, model_of_id}
 use Rattle.jac_value.specs.declared.value.Value.{Value}
-use Rattle.jac_world.specs.World.{holds, wanted}
+use Rattle.jac_world.specs.World.{holds, guard_wants}
 use Rattle.jac_lang.specs.Syntax.{Entity}
 use Rattle.jac_rows.specs.Tables.{rows_of}
 use Rattle.jac_rows.specs.declared.row.Row.{Row}
@@ -16,12 +16,12 @@ use Rattle.jac_upgrade.specs.Changed.{has_alternative}
 use Rattle.jac_upgrade.specs.Upgraded.{draft_of, group_count, upgraded_cells}
 
 -- a row with these cells, and the defaults of the fields that were added
-abbrev pub drafted : List Entity → List Entity → ℕ → Row → Row
-drafted olds news m r = record r { cells = draft_of olds news m r.cells }
+abbrev pub drafted_row : List Entity → List Entity → ℕ → Row → Row
+drafted_row olds news m r = record r { cells = draft_of olds news m r.cells }
 
 -- the guard of each row can be met
 abbrev pub AreMet : List Row → Type 0
-AreMet rows = AllByRecursion (λ (r : Row). holds (wanted r.guard) r.guard ≡ true) rows
+AreMet rows = AllByRecursion (λ (r : Row). holds (guard_wants r.guard) r.guard ≡ true) rows
 
 -- what an upgrade leaves of the cells of the alternatives of a record
 abbrev pub upgraded_all : (ℕ → Bool) → List Entity → List Entity → ℕ → ℕ → List (List Value)
@@ -45,8 +45,8 @@ pub record IsUpgradeIn (olds news : List Entity) (m : ℕ) (rows : List Row) (a 
     pub renewed : IsRenewed olds news m a.id (alternatives a.id rows) a.rows
 
 -- the alteration has rows of its own record alone
-abbrev pub IsOwn : Alteration → Type 0
-IsOwn a = AreOf a.id a.rows
+abbrev pub IsOwnAlteration : Alteration → Type 0
+IsOwnAlteration a = AreOf a.id a.rows
 
 abbrev pub is_changed : ℕ → List Alteration → Bool
 is_changed id [] = false
@@ -62,7 +62,7 @@ pub record AltersFirst (olds news : List Entity) (m : ℕ) (rows : List Row)
     (old new : List Alteration) : Type 0 where
   pub more : List Alteration
   pub added : new ≡ old ++ more
-  pub own : AllByRecursion IsOwn more
+  pub own : AllByRecursion IsOwnAlteration more
   pub each : AllByRecursion (λ (a : Alteration). (is_id_of a.id m ≡ true)
       × (starts_with a.id rows ≡ true) × IsRenewed olds news m a.id rows a.rows) more
   pub named : (id : ℕ) → is_id_of id m ≡ true → starts_with id rows ≡ true
@@ -82,7 +82,7 @@ pub record AltersRows (olds news : List Entity) (m : ℕ) (rows : List Row)
     (old new : List Alteration) : Type 0 where
   pub more : List Alteration
   pub added : new ≡ old ++ more
-  pub own : AllByRecursion IsOwn more
+  pub own : AllByRecursion IsOwnAlteration more
   pub each : AreOrdered rows → AllByRecursion (IsUpgradeIn olds news m rows) more
   pub named : AreOrdered rows → (id : ℕ) → is_id_of id m ≡ true → has_alternative id rows ≡ true
       → is_changed id more ≡ true

@@ -5,7 +5,7 @@ use Rattle.jac_lang.specs.Lookup.{fields_at, groups_at}
 use Rattle.jac_lang.specs.Syntax.{Entity}
 use Rattle.jac_rows.specs.declared.plain.PlainRow.{PlainRow}
 use Rattle.jac_rows.specs.declared.plain.PlainState.{PlainState}
-use Rattle.jac_plain.specs.Records.{default_cells, plain_row, shielded}
+use Rattle.jac_plain.specs.Records.{default_cells, plain_row, shielded_cells}
 use Rattle.jac_write.specs.Regrouped.{is_guarded_from, stays}
 
 -- how many groups the model has, which are those that stand in front of the added ones
@@ -21,7 +21,8 @@ draft_of olds news m cells = cells ++ default_cells news (drop (length (fields_a
 -- over the draft
 abbrev pub upgraded_cells : (ℕ → Bool) → List Entity → List Entity → ℕ → ℕ → List Value → List Value
 upgraded_cells w olds news m id cells =
-    shielded news w m id (is_guarded_from news m (group_count olds m)) (draft_of olds news m cells)
+    shielded_cells news w m id (is_guarded_from news m (group_count olds m))
+    (draft_of olds news m cells)
 
 abbrev pub upgraded_row : (ℕ → Bool) → List Entity → List Entity → ℕ → PlainRow → PlainRow
 upgraded_row w olds news m r = plain_row r.id (upgraded_cells w olds news m r.id r.cells)
@@ -47,8 +48,8 @@ empty_tables zero = []
 empty_tables (suc n) = [] ∷ empty_tables n
 
 -- a model that was added has no records
-abbrev pub upgraded : (ℕ → Bool) → List Entity → List Entity → PlainState → PlainState
-upgraded w olds news t = record {
+abbrev pub upgraded_state : (ℕ → Bool) → List Entity → List Entity → PlainState → PlainState
+upgraded_state w olds news t = record {
   tables = upgraded_tables w olds news 0 t.tables ++ empty_tables (length news - length t.tables);
   number = t.number;
 }

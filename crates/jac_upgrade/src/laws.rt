@@ -2,7 +2,7 @@ ghost use Rattle.std.specs.Prelude.{◌≡◌, ◌≤◌, ℕ, Bool, None, List,
 ghost use Rattle.jac_lang.specs.Syntax.{Entity};
 ghost use Rattle.jac_rows.specs.declared.plain.PlainState.{PlainState};
 ghost use Rattle.jac_upgrade.specs.Extends.{models_lack};
-ghost use Rattle.jac_upgrade.specs.Upgraded.{upgraded};
+ghost use Rattle.jac_upgrade.specs.Upgraded.{upgraded_state};
 
 /// A law: an application extends itself.
 pub fn extends_itself()
@@ -13,5 +13,5 @@ pub fn extends_itself()
 /// itself.
 pub fn upgraded_to_itself()
     ensures { (w : ℕ → Bool) (models : List Entity) (t : PlainState)
-        → length models ≤ length t.tables → upgraded w models models t ≡ t }
+        → length models ≤ length t.tables → upgraded_state w models models t ≡ t }
 {}

@@ -2,18 +2,18 @@
 //! to it.
 #![tactic(auto)]
 
-mod collecting;
-mod drafting;
-mod extending;
+mod collection;
+mod drafts;
+mod extension;
 mod fault;
 mod laws;
 mod likeness;
-mod ordering;
-mod recording;
+mod order;
+mod records;
+mod renewal;
 mod schema;
-mod upgrading;
 
-pub use extending::extends;
+pub use extension::extends;
 pub use fault::UpgradeFault;
 pub use laws::{extends_itself, upgraded_to_itself};
-pub use upgrading::upgrade;
+pub use renewal::upgrade;

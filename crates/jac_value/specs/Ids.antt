@@ -1,5 +1,5 @@
 -- The numbers of records and of labels.
-use Rattle.std.specs.Prelude.{ℕ, ◌+◌, ◌*◌, ◌/◌, ◌%◌, ◌^◌, Bool, ◌&&◌, ◌||◌, ◌==◌, nat_lt, nat_le}
+use Rattle.std.specs.Prelude.{ℕ, ◌+◌, ◌*◌, ◌/◌, ◌%◌, ◌^◌, zero, suc, List, [], ◌∷◌, ◌++◌, Bool, ◌&&◌, ◌||◌, ◌==◌, nat_lt, nat_le}
 
 -- the id that a creating statement gives: `n` numbers the accepted request, `s` the statement in
 -- its view, `m` the model
@@ -40,3 +40,8 @@ group_of_label label = label % 8
 -- the numbers that are ids of a model
 abbrev pub is_id_of : ℕ → ℕ → Bool
 is_id_of number model = (is_narrow number || is_wide number) && model_of_id number == model
+
+-- the labels of a record's first groups
+abbrev pub labels_below : ℕ → ℕ → List ℕ
+labels_below id zero = []
+labels_below id (suc n) = labels_below id n ++ label_of id n ∷ []

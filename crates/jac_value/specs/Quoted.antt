@@ -11,8 +11,8 @@ hex_escape b = codes "\\x" ++ hex_digit (b / 16) ∷ (hex_digit (b % 16) ∷ [])
 
 -- LF, CR, backslash and quote have short escapes; what is neither visible ASCII nor a space is
 -- `\xHH`
-abbrev pub escaped : ℕ → List ℕ
-escaped b =
+abbrev pub escaped_byte : ℕ → List ℕ
+escaped_byte b =
     if b == 10 then codes "\\n" else
     if b == 13 then codes "\\r" else
     if b == 92 then codes "\\\\" else
@@ -23,8 +23,8 @@ escaped b =
 -- the bytes, one after another
 abbrev pub all_escaped : List ℕ → List ℕ
 all_escaped [] = []
-all_escaped (b ∷ bs) = escaped b ++ all_escaped bs
+all_escaped (b ∷ bs) = escaped_byte b ++ all_escaped bs
 
 -- the bytes in quotes
-abbrev pub quoted : List ℕ → List ℕ
-quoted bytes = codes "\"" ++ all_escaped bytes ++ codes "\""
+abbrev pub quoted_bytes : List ℕ → List ℕ
+quoted_bytes bytes = codes "\"" ++ all_escaped bytes ++ codes "\""

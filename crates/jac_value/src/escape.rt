@@ -1,6 +1,6 @@
 ghost use Rattle.std.specs.Prelude.{◌≡◌, ◌<◌, IfOk, OnOk, ◌++◌, ◌∷◌, []};
 ghost use Rattle.std.specs.String.{string_bytes};
-ghost use Rattle.jac_value.specs.Quoted.{quoted, escaped, hex_escape, hex_digit};
+ghost use Rattle.jac_value.specs.Quoted.{quoted_bytes, escaped_byte, hex_escape, hex_digit};
 
 use crate::{Memory, Txt};
 use std::alloc::Global;
@@ -8,7 +8,7 @@ use std::alloc::Global;
 /// The bytes in quotes, as a line of output has them: LF, CR, backslash and quote have their short
 /// escapes, and every other byte below 0x20 or above 0x7E is `\xHH` in lower case.
 pub fn escape_line(alloc: Global, bytes: &[u8]) -> Result<Txt, Memory>
-    ensures { IfOk result (λ t. t ≡ quoted bytes.now) }
+    ensures { IfOk result (λ t. t ≡ quoted_bytes bytes.now) }
 {
     let mut text = String::new(alloc);
     text.push('"')?;
@@ -20,7 +20,7 @@ pub fn escape_line(alloc: Global, bytes: &[u8]) -> Result<Txt, Memory>
 }
 
 fn push_escaped(text: &mut String, byte: u8) -> Result<(), Memory>
-    ensures { OnOk result (string_bytes text.new ≡ string_bytes text.old ++ escaped byte) }
+    ensures { OnOk result (string_bytes text.new ≡ string_bytes text.old ++ escaped_byte byte) }
 {
     match byte {
         b'\n' => text.push_str("\\n")?,

@@ -3,10 +3,10 @@ use Rattle.std.proofs.Common.{◌≡◌, ◌∙◌, ◌↔◌, arith, refl, ap, 
 use Rattle.std.specs.List.{list_all}
 use Rattle.std.specs.Option.{option_map}
 use Rattle.std.proofs.lemmas.List.Folds.{list_all-append}
-use Rattle.std.proofs.lemmas.Bool.{and_parts, or_left, or_right}
+use Rattle.std.proofs.lemmas.Bool.{and_parts, or_left, or_right, and_from}
 use Rattle.std.proofs.lemmas.Bool.Decides.{Decides-eqb, nat_tests}
 use Rattle.jac_value.specs.Ids.{model_of_id, record_of_label, group_of_label}
-use Rattle.jac_world.specs.World.{shown}
+use Rattle.jac_world.specs.World.{shown_by}
 use Rattle.jac_lang.specs.Syntax.{Application}
 use Rattle.jac_rows.specs.declared.plain.PlainState.{PlainState}
 use Rattle.jac_plain.specs.Policies.{is_allowed, with_label, AreAllowed, IsLiveLabel, IsSettled, ShowsForbidden}
@@ -32,10 +32,6 @@ was_not : (b : Bool) → not b ≡ true → b ≡ false
 was_not true h = cc
 was_not false h = refl
 
-both_true : (a b : Bool) → a ≡ true → b ≡ true → (a && b) ≡ true
-both_true true b p q = q
-both_true false b p q = p
-
 module _ (app : Application) (t : PlainState) (viewer : Option ℕ) where
   abbrev Allowed : ℕ → Bool
   Allowed k = is_allowed app t viewer k
@@ -45,26 +41,26 @@ module _ (app : Application) (t : PlainState) (viewer : Option ℕ) where
 
   -- one of the labels isn't allowed
   record IsForbidden (labels : List ℕ) (k : ℕ) : Type 0 where
-    pub is_shown : shown labels k ≡ true
+    pub is_shown : shown_by labels k ≡ true
     pub forbidden : Allowed k ≡ false
 
   first_if : (x k : ℕ) (xs : List ℕ) (b : Bool) → Allowed x ≡ b → (if b then First xs else Some x) ≡ Some k → (First xs ≡ Some k → IsForbidden xs k) → IsForbidden (x ∷ xs) k
-  first_if x k xs true e h later = let found = later h in record { is_shown = or_right (x == k) (shown xs k) found.is_shown; forbidden = found.forbidden }
+  first_if x k xs true e h later = let found = later h in record { is_shown = or_right (x == k) (shown_by xs k) found.is_shown; forbidden = found.forbidden }
   first_if x k xs false e h later =
       let is : x ≡ k = ap (label_in x) h in
-      record { is_shown = or_left (x == k) (shown xs k) (ap (λ j. x == j) (sym is) ∙ itself x); forbidden = ap Allowed (sym is) ∙ e }
+      record { is_shown = or_left (x == k) (shown_by xs k) (ap (λ j. x == j) (sym is) ∙ itself x); forbidden = ap Allowed (sym is) ∙ e }
 
   first_is : (labels : List ℕ) (k : ℕ) → First labels ≡ Some k → IsForbidden labels k
   first_is [] k h = absurd cc
   first_is (x ∷ xs) k h = first_if x k xs (Allowed x) refl h (first_is xs k)
 
-  none_if : (x k : ℕ) (xs : List ℕ) (b same : Bool) → Allowed x ≡ b → (x == k) ≡ same → (if b then First xs else Some x) ≡ None → (same || shown xs k) ≡ true →
-      (First xs ≡ None → shown xs k ≡ true → Allowed k ≡ true) → Allowed k ≡ true
+  none_if : (x k : ℕ) (xs : List ℕ) (b same : Bool) → Allowed x ≡ b → (x == k) ≡ same → (if b then First xs else Some x) ≡ None → (same || shown_by xs k) ≡ true →
+      (First xs ≡ None → shown_by xs k ≡ true → Allowed k ≡ true) → Allowed k ≡ true
   none_if x k xs true true e f h s later = ap Allowed (sym ((Decides-eqb x k).0 f)) ∙ e
   none_if x k xs true false e f h s later = later h s
   none_if x k xs false same e f h s later = absurd cc
 
-  pub none_all : (labels : List ℕ) → First labels ≡ None → (k : ℕ) → shown labels k ≡ true → Allowed k ≡ true
+  pub none_all : (labels : List ℕ) → First labels ≡ None → (k : ℕ) → shown_by labels k ≡ true → Allowed k ≡ true
   none_all [] h k s = cc
   none_all (x ∷ xs) h k s = none_if x k xs (Allowed x) (x == k) refl refl h s (λ a b. none_all xs a k b)
 
@@ -72,9 +68,9 @@ module _ (app : Application) (t : PlainState) (viewer : Option ℕ) where
   all_if x xs true e own rest = rest
   all_if x xs false e own rest = absurd (true≢false (sym own ∙ e))
 
-  pub all_none : (labels : List ℕ) → ((k : ℕ) → shown labels k ≡ true → Allowed k ≡ true) → First labels ≡ None
+  pub all_none : (labels : List ℕ) → ((k : ℕ) → shown_by labels k ≡ true → Allowed k ≡ true) → First labels ≡ None
   all_none [] each = refl
-  all_none (x ∷ xs) each = all_if x xs (Allowed x) refl (each x (or_left (x == x) (shown xs x) (itself x))) (all_none xs (λ k s. each k (or_right (x == k) (shown xs k) s)))
+  all_none (x ∷ xs) each = all_if x xs (Allowed x) refl (each x (or_left (x == x) (shown_by xs x) (itself x))) (all_none xs (λ k s. each k (or_right (x == k) (shown_by xs k) s)))
 
   -- the first one is that of the rest, where the one before it is allowed
   pub first_on : (labels rest : List ℕ) (x : ℕ) (all : Option ℕ) (answer : Bool) → labels ≡ x ∷ rest → answer ≡ Allowed x → answer ≡ true → First labels ≡ all → First rest ≡ all
@@ -90,7 +86,7 @@ module _ (app : Application) (t : PlainState) (viewer : Option ℕ) where
 
 named : (k : ℕ) → names_its_label (as_reason k) ≡ true
 named k =
-    both_true (model_of_id (record_of_label k) == model_of_id (record_of_label k)) (group_of_label k == group_of_label k)
+    and_from (model_of_id (record_of_label k) == model_of_id (record_of_label k)) (group_of_label k == group_of_label k)
     (itself (model_of_id (record_of_label k))) (itself (group_of_label k))
 
 none_of : (o : Option ℕ) → option_map as_reason o ≡ None → o ≡ None
@@ -108,29 +104,29 @@ module _ (scene : PlainScene) where
       let is : as_reason j ≡ reason = ap (reason_in (as_reason j)) h in
       let allowed : Bool = is_allowed scene.app (world_beside scene k) scene.viewer j in
       subst (λ (r : Reason). stands_against scene k r ≡ true) is
-      (both_true (shown (beside scene k) j) (names_its_label (as_reason j) && not allowed) found.is_shown
-      (both_true (names_its_label (as_reason j)) (not allowed) (named j) (ap not found.forbidden)))
+      (and_from (shown_by (beside scene k) j) (names_its_label (as_reason j) && not allowed) found.is_shown
+      (and_from (names_its_label (as_reason j)) (not allowed) (named j) (ap not found.forbidden)))
 
-  some_if : (k : ℕ) (o : Option ℕ) → Then k (beside scene k) ≡ o → ShowsForbidden scene.app scene.worlds scene.viewer (shown (beside scene k)) → is_some (option_map as_reason o) ≡ true
+  some_if : (k : ℕ) (o : Option ℕ) → Then k (beside scene k) ≡ o → ShowsForbidden scene.app scene.worlds scene.viewer (shown_by (beside scene k)) → is_some (option_map as_reason o) ≡ true
   some_if k None e one = absurd (true≢false (sym (none_all scene.app (world_beside scene k) scene.viewer (beside scene k) e one.label one.is_shown) ∙ one.forbidden))
   some_if k (Some j) e one = refl
 
   pub law_stands : (k : ℕ) (reason : Reason) → why_hidden scene k ≡ Some reason → stands_against scene k reason ≡ true
   law_stands k reason h = stands_if k reason (Then k (beside scene k)) refl h
 
-  pub law_full : AreExplained scene → (k : ℕ) → IsLiveLabel scene.app scene.worlds k → shown scene.labels k ≡ false → ShowsForbidden scene.app scene.worlds scene.viewer (with_label k (shown scene.labels))
+  pub law_full : AreExplained scene → (k : ℕ) → IsLiveLabel scene.app scene.worlds k → shown_by scene.labels k ≡ false → ShowsForbidden scene.app scene.worlds scene.viewer (with_label k (shown_by scene.labels))
   law_full explained k live hidden =
       let r = explained.reason k live hidden in
       let allowed : Bool = is_allowed scene.app (world_beside scene k) scene.viewer r.label in
-      let parts = and_parts (shown (beside scene k) r.label) (names_its_label r && not allowed) (explained.stands k live hidden) in
-      let refusing : ShowsForbidden scene.app scene.worlds scene.viewer (shown (beside scene k)) = record {
+      let parts = and_parts (shown_by (beside scene k) r.label) (names_its_label r && not allowed) (explained.stands k live hidden) in
+      let refusing : ShowsForbidden scene.app scene.worlds scene.viewer (shown_by (beside scene k)) = record {
         label = r.label;
         is_shown = parts.0;
         forbidden = was_not allowed (and_parts (names_its_label r) (not allowed) parts.1).1;
       } in
       subst (λ (w : ℕ → Bool). ShowsForbidden scene.app scene.worlds scene.viewer w) (grown k scene.labels) refusing
 
-  pub law_settled : IsSettled scene.app scene.worlds scene.viewer scene.labels → (k : ℕ) → IsLiveLabel scene.app scene.worlds k → shown scene.labels k ≡ false → is_some (why_hidden scene k) ≡ true
+  pub law_settled : IsSettled scene.app scene.worlds scene.viewer scene.labels → (k : ℕ) → IsLiveLabel scene.app scene.worlds k → shown_by scene.labels k ≡ false → is_some (why_hidden scene k) ≡ true
   law_settled settled k live hidden =
       some_if k (Then k (beside scene k)) refl
       (subst (λ (w : ℕ → Bool). ShowsForbidden scene.app scene.worlds scene.viewer w) (sym (grown k scene.labels)) (settled.full k live hidden))
@@ -146,7 +142,7 @@ module _ (scene : PlainScene) where
 
   one_stands : (k : ℕ) (o : Option Reason) → why_hidden scene k ≡ o → AllStand (why_of k o)
   one_stands k None is = refl
-  one_stands k (Some reason) is = both_true (stands_against scene k reason) true (law_stands k reason is) refl
+  one_stands k (Some reason) is = and_from (stands_against scene k reason) true (law_stands k reason is) refl
 
   at_stands : (k : ℕ) (b : Bool) → AllStand (if b then [] else why_of k (why_hidden scene k))
   at_stands k true = refl
@@ -157,7 +153,7 @@ module _ (scene : PlainScene) where
   all_stand [] = refl
   all_stand (k ∷ ks) =
       list_all-append (is_standing scene) (why_at scene k) (all_whys scene ks)
-      ∙ both_true (list_all (is_standing scene) (why_at scene k)) (list_all (is_standing scene) (all_whys scene ks)) (at_stands k (shown scene.labels k)) (all_stand ks)
+      ∙ and_from (list_all (is_standing scene) (why_at scene k)) (list_all (is_standing scene) (all_whys scene ks)) (at_stands k (shown_by scene.labels k)) (all_stand ks)
 
   -- one label more was asked
   pub whys_on : (left more : List ℕ) (x : ℕ) (made new all : List Explanation) → left ≡ x ∷ more → new ≡ made ++ why_at scene x → made ++ all_whys scene left ≡ all → new ++ all_whys scene more ≡ all

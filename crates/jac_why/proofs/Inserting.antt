@@ -1,7 +1,7 @@
 -- A rising list with one number more in its place.
 use Rattle.std.proofs.Common.{◌≡◌, ℕ, ◌<◌, ◌==◌, ◌||◌, Bool, true, false, if◌then◌else◌, nat_lt, List, [], ◌∷◌, refl, ap, sym, ◌∙◌, inl, inr, suc, arith}
 use Rattle.std.proofs.lemmas.Bool.Decides.{eqb_tells, leb_tells}
-use Rattle.jac_world.specs.World.{shown, IsAscending, StartsAboveBy}
+use Rattle.jac_world.specs.World.{shown_by, IsAscending, StartsAboveBy}
 use Rattle.jac_world.proofs.Bisected.{ascending_same}
 use Rattle.jac_plain.specs.Policies.{with_label}
 use Rattle.jac_why.specs.Whys.{with_one_more}
@@ -16,14 +16,14 @@ shown_twice true c = refl
 shown_twice false c = refl
 
 -- the list shows one number more
-pub shown-inserted : (k : ℕ) (xs : List ℕ) (j : ℕ) → shown (with_one_more k xs) j ≡ (k == j || shown xs j)
+pub shown-inserted : (k : ℕ) (xs : List ℕ) (j : ℕ) → shown_by (with_one_more k xs) j ≡ (k == j || shown_by xs j)
 shown-inserted k [] j = refl
 shown-inserted k (x ∷ xs) j =
-    elim (nat_lt x k) as (λ b. shown (if b then x ∷ with_one_more k xs else (if x == k then x ∷ xs else k ∷ (x ∷ xs))) j ≡ (k == j || (x == j || shown xs j))) [
-      | true ↦ ap (λ b. x == j || b) (shown-inserted k xs j) ∙ shown_later (x == j) (k == j) (shown xs j)
+    elim (nat_lt x k) as (λ b. shown_by (if b then x ∷ with_one_more k xs else (if x == k then x ∷ xs else k ∷ (x ∷ xs))) j ≡ (k == j || (x == j || shown_by xs j))) [
+      | true ↦ ap (λ b. x == j || b) (shown-inserted k xs j) ∙ shown_later (x == j) (k == j) (shown_by xs j)
       | false ↦
           elim (eqb_tells x k) [
-            | inl h ↦ rw h.0 (rw h.1 (shown_twice (k == j) (shown xs j)))
+            | inl h ↦ rw h.0 (rw h.1 (shown_twice (k == j) (shown_by xs j)))
             | inr h ↦ rw h.0 refl
           ]
     ]
@@ -50,8 +50,8 @@ ascending-inserted k (x ∷ xs) r =
     ]
 
 -- an assignment with one label more
-pub with_inserted : (k : ℕ) (old new : List ℕ) → IsAscending old → IsAscending new → ((j : ℕ) → shown new j ≡ (k == j || shown old j)) → new ≡ with_one_more k old
+pub with_inserted : (k : ℕ) (old new : List ℕ) → IsAscending old → IsAscending new → ((j : ℕ) → shown_by new j ≡ (k == j || shown_by old j)) → new ≡ with_one_more k old
 with_inserted k old new rises rises_too grown = ascending_same new (with_one_more k old) rises_too (ascending-inserted k old rises) (λ j. grown j ∙ sym (shown-inserted k old j))
 
-pub grown : (k : ℕ) (old : List ℕ) → shown (with_one_more k old) ≡ with_label k (shown old)
+pub grown : (k : ℕ) (old : List ℕ) → shown_by (with_one_more k old) ≡ with_label k (shown_by old)
 grown k old i j = shown-inserted k old j i

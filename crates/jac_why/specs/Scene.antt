@@ -4,8 +4,8 @@ use Rattle.jac_lang.specs.Mirror.{application_of}
 use Rattle.jac_lang.specs.Syntax.{Application}
 use Rattle.jac_rows.specs.declared.state.State.{State}
 use Rattle.jac_plain.specs.Requests.{Worlds}
-use Rattle.jac_resolve.specs.Rounds.{worlds_of}
 use Rattle.jac_why.specs.declared.scene.Scene.{Scene}
+use Rattle.jac_plain.specs.Shown.{worlds_of}
 
 pub record PlainScene : Type 0 where
   pub app : Application

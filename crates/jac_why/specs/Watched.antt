@@ -2,7 +2,7 @@
 use Rattle.std.specs.Prelude.{◌≡◌, ◌==◌, ◌||◌, ℕ, Bool, true, false, List}
 use Rattle.std.specs.Ordering.{nat_cmp}
 use Rattle.std.specs.BTreeMap.{get}
-use Rattle.jac_world.specs.World.{shown}
+use Rattle.jac_world.specs.World.{shown_by}
 use Rattle.jac_plain.specs.Policies.{is_allowed, with_label}
 use Rattle.jac_recall.specs.Recalled.{watched_in}
 use Rattle.jac_why.specs.declared.watch.Watchers.{Watchers}
@@ -15,8 +15,8 @@ asks_again watchers k j = watched_in (get nat_cmp watchers.lists k) j
 -- the second label is allowed where the first is shown too as it is without it
 abbrev pub IsUnmoved : PlainScene → ℕ → ℕ → Type 0
 IsUnmoved scene k j =
-    is_allowed scene.app (scene.worlds (with_label k (shown scene.labels))) scene.viewer j
-    ≡ is_allowed scene.app (scene.worlds (shown scene.labels)) scene.viewer j
+    is_allowed scene.app (scene.worlds (with_label k (shown_by scene.labels))) scene.viewer j
+    ≡ is_allowed scene.app (scene.worlds (shown_by scene.labels)) scene.viewer j
 
 -- one label more is asked again, where it has to be
 pub record IsWatching (scene : PlainScene) (label : ℕ) (old new : Watchers) : Type 0 where
@@ -27,7 +27,7 @@ pub record IsWatching (scene : PlainScene) (label : ℕ) (old new : Watchers) : 
 -- of the labels that are shown, but for those that are left, each is asked again where it has
 -- to be, and no other is
 pub record AreWatching (scene : PlainScene) (left : List ℕ) (watchers : Watchers) : Type 0 where
-  pub among : (k j : ℕ) → asks_again watchers k j ≡ true → shown scene.labels j ≡ true
+  pub among : (k j : ℕ) → asks_again watchers k j ≡ true → shown_by scene.labels j ≡ true
   pub unmoved :
-      (k j : ℕ) → shown scene.labels j ≡ true → shown left j ≡ false
+      (k j : ℕ) → shown_by scene.labels j ≡ true → shown_by left j ≡ false
       → asks_again watchers k j ≡ false → IsUnmoved scene k j

@@ -1,7 +1,7 @@
 -- What stands against the labels that a viewer isn't shown.
 use Rattle.std.specs.Prelude.{◌≡◌, ◌&&◌, ◌==◌, ◌++◌, ℕ, Bool, not, nat_lt, true, false, if◌then◌else◌, List, [], ◌∷◌, Option, Some, None}
 use Rattle.std.specs.Option.{option_map}
-use Rattle.jac_world.specs.World.{shown}
+use Rattle.jac_world.specs.World.{shown_by}
 use Rattle.jac_lang.specs.Syntax.{Application}
 use Rattle.jac_rows.specs.declared.plain.PlainState.{PlainState}
 use Rattle.jac_plain.specs.Policies.{is_allowed, IsLiveLabel}
@@ -34,7 +34,7 @@ module _ (scene : PlainScene) where
 
   -- the world that they show
   abbrev pub world_beside : ℕ → PlainState
-  world_beside k = scene.worlds (shown (beside k))
+  world_beside k = scene.worlds (shown_by (beside k))
 
   -- what stands against a label: the least of those that are shown, and of it, that isn't
   -- allowed under them
@@ -47,7 +47,7 @@ module _ (scene : PlainScene) where
   -- isn't allowed under them
   abbrev pub stands_against : ℕ → Reason → Bool
   stands_against k r =
-      shown (beside k) r.label
+      shown_by (beside k) r.label
       && (names_its_label r && not (is_allowed scene.app (world_beside k) scene.viewer r.label))
 
   -- whether what is found for a label stands against it
@@ -56,7 +56,7 @@ module _ (scene : PlainScene) where
 
   -- what stands against a label, where it isn't shown
   abbrev pub why_at : ℕ → List Explanation
-  why_at k = if shown scene.labels k then [] else why_of k (why_hidden k)
+  why_at k = if shown_by scene.labels k then [] else why_of k (why_hidden k)
 
   -- the labels that aren't shown, in their order, with what stands against each
   abbrev pub all_whys : List ℕ → List Explanation
@@ -66,7 +66,7 @@ module _ (scene : PlainScene) where
   -- a reason stands against each live label that isn't shown
   pub record AreExplained : Type 0 where
     pub reason :
-        (k : ℕ) → IsLiveLabel scene.app scene.worlds k → shown scene.labels k ≡ false → Reason
+        (k : ℕ) → IsLiveLabel scene.app scene.worlds k → shown_by scene.labels k ≡ false → Reason
     pub stands :
         (k : ℕ) (live : IsLiveLabel scene.app scene.worlds k)
-        (hidden : shown scene.labels k ≡ false) → stands_against k (reason k live hidden) ≡ true
+        (hidden : shown_by scene.labels k ≡ false) → stands_against k (reason k live hidden) ≡ true

@@ -1,15 +1,15 @@
 //! Which policy stands against a hidden label.
 ghost use Rattle.std.specs.Prelude.{◌≡◌, ◌≤◌, ◌++◌, [], IfOk, OnOk, IsTrue};
 ghost use Rattle.std.specs.Option.{option_map};
-ghost use Rattle.jac_world.specs.World.{shown};
+ghost use Rattle.jac_world.specs.World.{shown_by};
 ghost use Rattle.jac_lang.specs.Mirror.{application_of};
 ghost use Rattle.jac_keep.specs.Worked.{state_of, IsTold, ReadsWork};
 ghost use Rattle.jac_plain.specs.Policies.{is_allowed, AreAllowed};
-ghost use Rattle.jac_resolve.specs.Rounds.{worlds_of};
 ghost use Rattle.jac_why.specs.Named.{as_reason};
 ghost use Rattle.jac_why.specs.Scene.{scene_on};
 ghost use Rattle.jac_why.specs.Watched.{IsWatching, AreWatching};
 ghost use Rattle.jac_why.specs.Whys.{with_one_more, first_forbidden, why_hidden, stands_against, why_of, why_at, all_whys};
+ghost use Rattle.jac_plain.specs.Shown.{worlds_of};
 
 use crate::memory::from_world;
 use crate::watch::Watchers;
@@ -238,7 +238,7 @@ fn find_forbidden<K: Keeper, M: Ledger>(
     requires { IsTrue (K.seen work.old.keeper.now).store.attached }
     ensures first { IsTold K.seen work.new → IfOk result (λ r.
         r ≡ first_forbidden (application_of app.now)
-        (worlds_of (state_of K.seen work.old) (shown a.now)) viewer.now labels.now) }
+        (worlds_of (state_of K.seen work.old) (shown_by a.now)) viewer.now labels.now) }
     ensures later { evaluations.old ≤ evaluations.new }
     ensures reads { ReadsWork K.seen work.old work.new result }
 {
@@ -263,7 +263,7 @@ fn ask<K: Keeper, M: Ledger>(
     requires { IsTrue (K.seen work.old.keeper.now).store.attached }
     ensures answer { IsTold K.seen work.new → IfOk result (λ b.
         b ≡ is_allowed (application_of app.now)
-        (worlds_of (state_of K.seen work.old) (shown a.now)) viewer label) }
+        (worlds_of (state_of K.seen work.old) (shown_by a.now)) viewer label) }
     ensures later { evaluations.old ≤ evaluations.new }
     ensures reads { ReadsWork K.seen work.old work.new result }
 {

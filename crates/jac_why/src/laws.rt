@@ -1,6 +1,6 @@
 ghost use Rattle.std.specs.Prelude.{◌≡◌, ◌↔◌, ℕ, false, true, List, Some, None, is_some};
 ghost use Rattle.std.specs.List.{list_all};
-ghost use Rattle.jac_world.specs.World.{shown};
+ghost use Rattle.jac_world.specs.World.{shown_by};
 ghost use Rattle.jac_plain.specs.Policies.{with_label, AreAllowed, IsLiveLabel, IsSettled, ShowsForbidden};
 ghost use Rattle.jac_why.specs.declared.reasons.Reason.{Reason as Told};
 ghost use Rattle.jac_why.specs.Scene.{PlainScene};
@@ -10,14 +10,15 @@ ghost use Rattle.jac_why.specs.Whys.{beside, why_hidden, stands_against, is_stan
 /// added.
 pub fn explained_is_full()
     ensures { (scene : PlainScene) → AreExplained scene
-        → (k : ℕ) → IsLiveLabel scene.app scene.worlds k → shown scene.labels k ≡ false
-        → ShowsForbidden scene.app scene.worlds scene.viewer (with_label k (shown scene.labels)) }
+        → (k : ℕ) → IsLiveLabel scene.app scene.worlds k → shown_by scene.labels k ≡ false
+        → ShowsForbidden scene.app scene.worlds scene.viewer (with_label k
+        (shown_by scene.labels)) }
 {}
 
 /// A law: beside settled labels something stands against each live label that isn't shown.
 pub fn settled_is_explained()
     ensures { (scene : PlainScene) → IsSettled scene.app scene.worlds scene.viewer scene.labels
-        → (k : ℕ) → IsLiveLabel scene.app scene.worlds k → shown scene.labels k ≡ false
+        → (k : ℕ) → IsLiveLabel scene.app scene.worlds k → shown_by scene.labels k ≡ false
         → is_some (why_hidden scene k) ≡ true }
 {}
 

@@ -2,7 +2,7 @@
 ghost use Rattle.std.specs.Prelude.{◌≡◌, ◌==◌, ◌||◌, ◌&&◌, ℕ, false, IfOk, OnOk};
 ghost use Rattle.std.specs.Ordering.{nat_cmp};
 ghost use Rattle.std.specs.BTreeMap.{get};
-ghost use Rattle.jac_world.specs.World.{shown};
+ghost use Rattle.jac_world.specs.World.{shown_by};
 ghost use Rattle.jac_recall.specs.Recalled.{watched_in};
 ghost use Rattle.jac_why.specs.Watched.{asks_again};
 
@@ -30,7 +30,7 @@ impl Watchers {
     /// The label is asked again with each of those that it consulted.
     pub fn watch(&mut self, alloc: Global, label: Label, consulted: &[Label]) -> Result<(), Memory>
         ensures { OnOk result ((k j : ℕ) → asks_again self.new k j
-            ≡ ((shown consulted.now k && label == j) || asks_again self.old k j)) }
+            ≡ ((shown_by consulted.now k && label == j) || asks_again self.old k j)) }
     {
         watch_all(&mut self.lists, alloc, consulted, label)
     }
@@ -38,7 +38,7 @@ impl Watchers {
     /// The labels that are asked where this one is shown too: those that consulted it, and it.
     pub fn asked(&self, alloc: Global, label: Label) -> Result<Labels, Memory>
         ensures { IfOk result (λ ls. (j : ℕ) →
-            shown ls j ≡ (label == j || asks_again self.now label j)) }
+            shown_by ls j ≡ (label == j || asks_again self.now label j)) }
     {
         let mut labels = self.watchers(alloc, label)?;
         labels.add(label)?;
@@ -46,7 +46,7 @@ impl Watchers {
     }
 
     fn watchers(&self, alloc: Global, label: Label) -> Result<Labels, Memory>
-        ensures { IfOk result (λ ls. (j : ℕ) → shown ls j ≡ asks_again self.now label j) }
+        ensures { IfOk result (λ ls. (j : ℕ) → shown_by ls j ≡ asks_again self.now label j) }
     {
         match self.lists.get(&label) {
             Some(watchers) => watchers.copy(alloc),
@@ -62,7 +62,7 @@ fn watch_all(
     label: Label,
 ) -> Result<(), Memory>
     ensures { OnOk result ((k j : ℕ) → watched_in (get nat_cmp lists.new k) j
-        ≡ ((shown consulted.now k && label == j) || watched_in (get nat_cmp lists.old k) j)) }
+        ≡ ((shown_by consulted.now k && label == j) || watched_in (get nat_cmp lists.old k) j)) }
 {
     'labels: for watched in consulted {
         watch(lists, alloc, *watched, label)?;

@@ -9,7 +9,7 @@ use Rattle.jac_words.specs.Grammar.{jac}
 use Rattle.jac_words.specs.declared.words.Command.{Command}
 use Rattle.jac_words.specs.declared.words.Command.TheVariants as commands
 use Rattle.jac_words.specs.Commands.{HasCount}
-use Rattle.jac_words.specs.Words.{between, number_within, number_in, is_number, labels_of, file_in, option_in, options_in, check_in, replay_in, serve_in, demo_in, dump_in, upgrade_in, why_in, command_named, entered_command, unless_fault, command_of}
+use Rattle.jac_words.specs.Words.{number_between, number_within, positive_number, is_number_word, labels_of_word, file_in, option_in, options_in, check_in, replay_in, serve_in, demo_in, dump_in, upgrade_in, why_in, command_named, entered_command, unless_fault, command_of}
 use Rattle.std.specs.Str.Parse.{digits_value}
 use Rattle.std.specs.Str.{bytes_eq}
 
@@ -42,7 +42,7 @@ both false most_is n least most = tt
 at_most : (a b : ℕ) → nat_le a b ≡ true → a ≤ b
 at_most a b h = grind (arith, nat_tests)
 
-is_between : (n : ℕ) → IsBetween (between 1 2000 n)
+is_between : (n : ℕ) → IsBetween (number_between 1 2000 n)
 is_between n = both (nat_le 1 n) (nat_le n 2000) n (at_most 1 n) (at_most n 2000)
 
 if_between : (b : Bool) (o : Option ℕ) → IsBetween o → IsBetween (if b then o else None)
@@ -51,7 +51,7 @@ if_between false o h = tt
 
 then_between : (o : Option (List ℕ)) → IsBetween (option_and_then (number_within 1 2000) o)
 then_between None = tt
-then_between (Some word) = if_between (is_number word) (between 1 2000 (digits_value 10 word)) (is_between (digits_value 10 word))
+then_between (Some word) = if_between (is_number_word word) (number_between 1 2000 (digits_value 10 word)) (is_between (digits_value 10 word))
 
 demo_of : (o : Option ℕ) → IsBetween o → HasCounts (option_map (λ n. commands.Demo n) o)
 demo_of None h = tt
@@ -67,15 +67,15 @@ replay_counts rows =
 serve_counts : (rows : List Row) → HasCounts (serve_in rows)
 serve_counts rows =
     then_counts _ _ (file_in (codes "APP") rows)
-    (λ app. then_counts _ _ (number_in 65_535 (codes "PORT") rows) (λ port. then_counts _ _ (number_in 1_000_000 (codes "COUNT") rows) (λ count. map_counts _ _ (options_in rows) (λ options. tt))))
+    (λ app. then_counts _ _ (positive_number 65_535 (codes "PORT") rows) (λ port. then_counts _ _ (positive_number 1_000_000 (codes "COUNT") rows) (λ count. map_counts _ _ (options_in rows) (λ options. tt))))
 
 demo_counts : (rows : List Row) → HasCounts (demo_in rows)
-demo_counts rows = demo_of (number_in 2_000 (codes "N") rows) (then_between (first_of (codes "N") rows))
+demo_counts rows = demo_of (positive_number 2_000 (codes "N") rows) (then_between (first_of (codes "N") rows))
 
 dump_counts : (rows : List Row) → HasCounts (dump_in rows)
 dump_counts rows =
     then_counts _ _ (file_in (codes "APP") rows)
-    (λ app. then_counts _ _ (option_and_then labels_of (first_of (codes "LABELS") rows)) (λ labels. map_counts _ _ (option_in (codes "db") rows) (λ db. tt)))
+    (λ app. then_counts _ _ (option_and_then labels_of_word (first_of (codes "LABELS") rows)) (λ labels. map_counts _ _ (option_in (codes "db") rows) (λ db. tt)))
 
 upgrade_counts : (rows : List Row) → HasCounts (upgrade_in rows)
 upgrade_counts rows =

@@ -16,49 +16,51 @@ use Rattle.jac_words.specs.declared.words.Options.{Options}
 -- ---- texts and numbers
 
 -- a text that isn't empty
-abbrev pub filled : List ℕ → Option (List ℕ)
-filled text = if length text == 0 then None else Some text
+abbrev pub filled_text : List ℕ → Option (List ℕ)
+filled_text text = if length text == 0 then None else Some text
 
 -- a 0 (48) with more behind it
 abbrev pub has_leading_zero : List ℕ → Bool
 has_leading_zero word = slice_index word 0 == 48 && nat_lt 1 (length word)
 
 -- decimal digits, with no sign, and with a leading zero only in `0` itself
-abbrev pub is_number : List ℕ → Bool
-is_number word = nat_lt 0 (length word) && list_all is_ascii_digit word && not
+abbrev pub is_number_word : List ℕ → Bool
+is_number_word word = nat_lt 0 (length word) && list_all is_ascii_digit word && not
     (has_leading_zero word)
 
-abbrev pub between : ℕ → ℕ → ℕ → Option ℕ
-between least most number = if nat_le least number && nat_le number most then Some number else None
+abbrev pub number_between : ℕ → ℕ → ℕ → Option ℕ
+number_between least most number = if nat_le least number && nat_le number most then Some number
+    else None
 
 -- the number that the word writes, where it is within
 abbrev pub number_within : ℕ → ℕ → List ℕ → Option ℕ
-number_within least most word = if is_number word then between least most (digits_value 10 word)
+number_within least most word = if is_number_word word then number_between least most
+    (digits_value 10 word)
     else None
 
-abbrev pub label_of : List ℕ → Option ℕ
-label_of word = number_within 0 (2 ^ 128 - 1) word
+abbrev pub label_of_word : List ℕ → Option ℕ
+label_of_word word = number_within 0 (2 ^ 128 - 1) word
 
 abbrev pub labels_of_parts : List (List ℕ) → Option (List ℕ)
 labels_of_parts [] = Some []
 labels_of_parts (part ∷ parts) = option_and_then (λ label. option_map (λ labels. label ∷ labels)
-    (labels_of_parts parts)) (label_of part)
+    (labels_of_parts parts)) (label_of_word part)
 
 -- `-` for no label, or labels with commas (44) between them
-abbrev pub labels_of : List ℕ → Option (List ℕ)
-labels_of word = if bytes_eq word (codes "-") then Some []
+abbrev pub labels_of_word : List ℕ → Option (List ℕ)
+labels_of_word word = if bytes_eq word (codes "-") then Some []
     else labels_of_parts (slice_split (λ b. b == 44) word)
 
 -- ---- what the words gave a command
 
 -- the file that an operand names
 abbrev pub file_in : List ℕ → List Row → Option (List ℕ)
-file_in id rows = option_and_then filled (first_of id rows)
+file_in id rows = option_and_then filled_text (first_of id rows)
 
 -- the file that an option names, where the option is there; an empty name gives no command
 abbrev pub option_of : Option (List ℕ) → Option (Option (List ℕ))
 option_of None = Some None
-option_of (Some text) = option_map (λ file. Some file) (filled text)
+option_of (Some text) = option_map (λ file. Some file) (filled_text text)
 
 abbrev pub option_in : List ℕ → List Row → Option (Option (List ℕ))
 option_in id rows = option_of (first_of id rows)
@@ -68,8 +70,8 @@ abbrev pub flag_in : List ℕ → List Row → Bool
 flag_in id rows = option_map_or (λ text. bytes_eq text (codes "true")) (first_of id rows) false
 
 -- a number from 1 on
-abbrev pub number_in : ℕ → List ℕ → List Row → Option ℕ
-number_in most id rows = option_and_then (number_within 1 most) (first_of id rows)
+abbrev pub positive_number : ℕ → List ℕ → List Row → Option ℕ
+positive_number most id rows = option_and_then (number_within 1 most) (first_of id rows)
 
 abbrev pub options_in : List Row → Option Options
 options_in rows =
@@ -121,12 +123,12 @@ serve_in rows =
       lazy = options.lazy;
     }))
     (options_in rows))
-    (number_in 1_000_000 (codes "COUNT") rows))
-    (number_in 65_535 (codes "PORT") rows))
+    (positive_number 1_000_000 (codes "COUNT") rows))
+    (positive_number 65_535 (codes "PORT") rows))
     (file_in (codes "APP") rows)
 
 abbrev pub demo_in : List Row → Option Command
-demo_in rows = option_map (λ n. commands.Demo n) (number_in 2_000 (codes "N") rows)
+demo_in rows = option_map (λ n. commands.Demo n) (positive_number 2_000 (codes "N") rows)
 
 abbrev pub dump_in : List Row → Option Command
 dump_in rows =
@@ -134,7 +136,7 @@ dump_in rows =
     option_and_then (λ labels.
     option_map (λ db. commands.Dump (record { app = app; labels = labels; db = db }))
     (option_in (codes "db") rows))
-    (option_and_then labels_of (first_of (codes "LABELS") rows)))
+    (option_and_then labels_of_word (first_of (codes "LABELS") rows)))
     (file_in (codes "APP") rows)
 
 -- without a store there is nothing to upgrade

@@ -2,7 +2,7 @@ ghost use Rattle.std.specs.Prelude.{◌≡◌, ◌≢◌, ◌≤◌, IfOk, IfSom
 ghost use Rattle.std.specs.Option.{option_map, option_and_then};
 ghost use Rattle.clap.specs.Words.{first_of, found_of, kind_of, rows_of, subcommand_rows_of};
 ghost use Rattle.jac_route.specs.Words.{viewer_read};
-ghost use Rattle.jac_words.specs.Words.{filled, labels_of, file_in, option_in, flag_in, number_in, number_within, options_in, check_in, replay_in, serve_in, demo_in, dump_in, upgrade_in, why_in, command_named, entered_command, command_of};
+ghost use Rattle.jac_words.specs.Words.{filled_text, labels_of_word, file_in, option_in, flag_in, positive_number, number_within, options_in, check_in, replay_in, serve_in, demo_in, dump_in, upgrade_in, why_in, command_named, entered_command, command_of};
 
 mod grammar;
 mod labels;
@@ -335,7 +335,7 @@ fn flag_in(matches: &ArgMatches<'_>, id: &str) -> bool
 }
 
 fn filled(alloc: Global, text: &str) -> Result<Option<Txt>, Memory>
-    ensures { IfOk result (λ file. file ≡ filled text.now) }
+    ensures { IfOk result (λ file. file ≡ filled_text text.now) }
 {
     if text.is_empty() {
         return Ok(None);
@@ -345,7 +345,7 @@ fn filled(alloc: Global, text: &str) -> Result<Option<Txt>, Memory>
 }
 
 fn port_in(matches: &ArgMatches<'_>) -> Option<u16>
-    ensures { result ≡ number_in 65_535 (codes "PORT") (rows_of (found_of matches.now)) }
+    ensures { result ≡ positive_number 65_535 (codes "PORT") (rows_of (found_of matches.now)) }
 {
     match number_in(matches, "PORT", 65_535) {
         Some(number) => Some(number as u16),
@@ -354,7 +354,7 @@ fn port_in(matches: &ArgMatches<'_>) -> Option<u16>
 }
 
 fn count_in(matches: &ArgMatches<'_>) -> Option<u32>
-    ensures { result ≡ number_in 1_000_000 (codes "COUNT") (rows_of (found_of matches.now)) }
+    ensures { result ≡ positive_number 1_000_000 (codes "COUNT") (rows_of (found_of matches.now)) }
 {
     match number_in(matches, "COUNT", 1_000_000) {
         Some(number) => Some(number as u32),
@@ -364,7 +364,7 @@ fn count_in(matches: &ArgMatches<'_>) -> Option<u32>
 
 // A number from 1 on.
 fn number_in(matches: &ArgMatches<'_>, id: &str, most: u64) -> Option<u64>
-    ensures number { result ≡ number_in most id.now (rows_of (found_of matches.now)) }
+    ensures number { result ≡ positive_number most id.now (rows_of (found_of matches.now)) }
     ensures within { IfSome result (λ n. n ≤ most) }
 {
     match value_in(matches, id) {
@@ -384,7 +384,8 @@ fn small_number(word: &[u8], most: u64) -> Option<u64>
 }
 
 fn labels_in(alloc: Global, matches: &ArgMatches<'_>) -> Result<Option<Labels>, Memory>
-    ensures { IfOk result (λ labels. labels ≡ option_and_then labels_of (first_of (codes "LABELS")
+    ensures { IfOk result (λ labels. labels ≡ option_and_then labels_of_word (first_of
+        (codes "LABELS")
         (rows_of (found_of matches.now)))) }
 {
     match value_in(matches, "LABELS") {

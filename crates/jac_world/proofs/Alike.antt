@@ -4,7 +4,7 @@ use Rattle.std.specs.Bool.{Decides}
 use Rattle.std.specs.Cmp.{unsigned_Decides, booleans_Decides}
 use Rattle.std.proofs.lemmas.Bool.Decides.{nat_tests, Decides-and}
 use mathlib.Core.Bool.{beq}
-use Rattle.jac_world.specs.World.{holds, wanted, IsRising, StartsAbove}
+use Rattle.jac_world.specs.World.{holds, guard_wants, IsRising, StartsAbove}
 use Rattle.jac_world.proofs.Merging.{equals, beq_not}
 use Rattle.jac_world.proofs.Contradict.{and_true, left_true, same_sign, sign_is, holds_past, can_hold}
 
@@ -22,8 +22,8 @@ turned_first p g b w r = rw (equals p.0) (ap (λ rest. beq p.1 b && rest) (turne
 -- where a guard holds that has no label up to the first of another, that other one doesn't always hold
 unlike_first : (p : ℕ × Bool) (g h : List (ℕ × Bool)) → StartsAbove p.0 h → IsRising h → ((w : ℕ → Bool) → holds w (p ∷ g) ≡ holds w h) → ⊥
 unlike_first p g h s r alike =
-    let v : ℕ → Bool = turned p.0 (not p.1) (wanted h) in
-    let here : holds v h ≡ true = turned_past p.0 (not p.1) (wanted h) h s r ∙ can_hold h r in
+    let v : ℕ → Bool = turned p.0 (not p.1) (guard_wants h) in
+    let here : holds v h ≡ true = turned_past p.0 (not p.1) (guard_wants h) h s r ∙ can_hold h r in
     let there : holds v (p ∷ g) ≡ false = rw (equals p.0, beq_not p.1) refl in
     let clash : false ≡ true = sym there ∙ alike v ∙ here in
     cc
@@ -38,8 +38,8 @@ module _ (p q : ℕ × Bool) (g h : List (ℕ × Bool)) (label : p.0 ≡ q.0) (r
 
   sign : p.1 ≡ q.1
   sign =
-      let all : (beq q.1 q.1 && holds (wanted h) h) ≡ true = and_true _ _ (same_sign q.1) (can_hold h s.1) in
-      sym (sign_is p.1 q.1 (left_true _ _ (either_sign q.1 (wanted h) ∙ all)))
+      let all : (beq q.1 q.1 && holds (guard_wants h) h) ≡ true = and_true _ _ (same_sign q.1) (can_hold h s.1) in
+      sym (sign_is p.1 q.1 (left_true _ _ (either_sign q.1 (guard_wants h) ∙ all)))
 
   rest_alike : (w : ℕ → Bool) → holds w g ≡ holds w h
   rest_alike w =

@@ -5,7 +5,7 @@ use Rattle.std.specs.Ordering.{nat_cmp}
 use Rattle.std.proofs.lemmas.Bool.{cases_lt}
 use Rattle.std.proofs.lemmas.Bool.Decides.{nat_tests, Decides-eqb}
 use Rattle.std.proofs.lemmas.List.Sorted.{searched}
-use Rattle.jac_world.specs.World.{shown, IsAscending, StartsAboveBy}
+use Rattle.jac_world.specs.World.{shown_by, IsAscending, StartsAboveBy}
 
 above_first : (x : ℕ) (xs : List ℕ) → IsAscending (x ∷ xs) → (j : ℕ) → j < length xs → x < get_or xs j 0
 above_first x [] up j less = absurd (omega (arith, less))
@@ -29,16 +29,16 @@ or_right : (a b : Bool) → b ≡ true → (a || b) ≡ true
 or_right true b p = refl
 or_right false b p = p
 
-none_is : (xs : List ℕ) (x : ℕ) → ((k : ℕ) → k < length xs → (get_or xs k 0 == x) ≡ false) → shown xs x ≡ false
+none_is : (xs : List ℕ) (x : ℕ) → ((k : ℕ) → k < length xs → (get_or xs k 0 == x) ≡ false) → shown_by xs x ≡ false
 none_is [] x differ = refl
 none_is (y ∷ xs) x differ = rw (differ 0 (omega arith)) (none_is xs x (λ k less. differ (suc k) (omega (arith, less))))
 
-one_is : (xs : List ℕ) (x i : ℕ) → i < length xs → get_or xs i 0 ≡ x → shown xs x ≡ true
+one_is : (xs : List ℕ) (x i : ℕ) → i < length xs → get_or xs i 0 ≡ x → shown_by xs x ≡ true
 one_is [] x i less at = absurd (omega (arith, less))
 one_is (y ∷ xs) x zero less at = rw at (rw (itself x) refl)
-one_is (y ∷ xs) x (suc i) less at = or_right (y == x) (shown xs x) (one_is xs x i (omega (arith, less)) at)
+one_is (y ∷ xs) x (suc i) less at = or_right (y == x) (shown_by xs x) (one_is xs x i (omega (arith, less)) at)
 
-pub among : (xs : List ℕ) (x : ℕ) (r : Result ℕ ℕ) → IsAscending xs → IsBinarySearchResult (λ y. nat_cmp y x) xs r → is_ok r ≡ shown xs x
+pub among : (xs : List ℕ) (x : ℕ) (r : Result ℕ ℕ) → IsAscending xs → IsBinarySearchResult (λ y. nat_cmp y x) xs r → is_ok r ≡ shown_by xs x
 among xs x (Ok i) up found =
     let at = searched xs x (Ok i) found (rises xs up) in
     sym (one_is xs x i at.0 at.1)
@@ -89,32 +89,32 @@ swap false true c = refl
 swap false false c = refl
 
 -- they show one label more
-pub shows_with : (xs : List ℕ) (x i : ℕ) → i ≤ length xs → (k : ℕ) → shown (insert xs i x) k ≡ ((x == k) || shown xs k)
+pub shows_with : (xs : List ℕ) (x i : ℕ) → i ≤ length xs → (k : ℕ) → shown_by (insert xs i x) k ≡ ((x == k) || shown_by xs k)
 shows_with xs x zero within k = refl
 shows_with [] x (suc i) within k = absurd (omega (arith, within))
-shows_with (y ∷ ys) x (suc i) within k = ap (λ b. (y == k) || b) (shows_with ys x i (omega (arith, within)) k) ∙ swap (y == k) (x == k) (shown ys k)
+shows_with (y ∷ ys) x (suc i) within k = ap (λ b. (y == k) || b) (shows_with ys x i (omega (arith, within)) k) ∙ swap (y == k) (x == k) (shown_by ys k)
 
 -- a label that was found is shown already
-pub shows_found : (xs : List ℕ) (x : ℕ) → shown xs x ≡ true → (k : ℕ) → shown xs k ≡ ((x == k) || shown xs k)
+pub shows_found : (xs : List ℕ) (x : ℕ) → shown_by xs x ≡ true → (k : ℕ) → shown_by xs k ≡ ((x == k) || shown_by xs k)
 shows_found xs x s k = found_if (x == k) refl
   where
-    found_if : (b : Bool) → (x == k) ≡ b → shown xs k ≡ (b || shown xs k)
-    found_if true e = ap (shown xs) (sym ((Decides-eqb x k).0 e)) ∙ s
+    found_if : (b : Bool) → (x == k) ≡ b → shown_by xs k ≡ (b || shown_by xs k)
+    found_if true e = ap (shown_by xs) (sym ((Decides-eqb x k).0 e)) ∙ s
     found_if false e = refl
 
 -- each label behind the first is above it
-above_all : (x : ℕ) (xs : List ℕ) → IsAscending (x ∷ xs) → (k : ℕ) → shown xs k ≡ true → x < k
+above_all : (x : ℕ) (xs : List ℕ) → IsAscending (x ∷ xs) → (k : ℕ) → shown_by xs k ≡ true → x < k
 above_all x [] up k s = absurd cc
 above_all x (y ∷ ys) up k s = above_if (y == k) refl s (λ later. (let first : x < y = up.0 in let rest : y < k = above_all y ys up.1 k later in omega (arith, first, rest)))
   where
-    above_if : (b : Bool) → (y == k) ≡ b → (b || shown ys k) ≡ true → (shown ys k ≡ true → x < k) → x < k
+    above_if : (b : Bool) → (y == k) ≡ b → (b || shown_by ys k) ≡ true → (shown_by ys k ≡ true → x < k) → x < k
     above_if true e t later = let is : y ≡ k = (Decides-eqb y k).0 e in let first : x < y = up.0 in omega (arith, first, is)
     above_if false e t later = later t
 
-below_not : (x : ℕ) (xs : List ℕ) → IsAscending (x ∷ xs) → (k : ℕ) → (x == k) ≡ true → shown xs k ≡ false
-below_not x xs up k e = not_if (shown xs k) refl
+below_not : (x : ℕ) (xs : List ℕ) → IsAscending (x ∷ xs) → (k : ℕ) → (x == k) ≡ true → shown_by xs k ≡ false
+below_not x xs up k e = not_if (shown_by xs k) refl
   where
-    not_if : (b : Bool) → shown xs k ≡ b → b ≡ false
+    not_if : (b : Bool) → shown_by xs k ≡ b → b ≡ false
     not_if true s = absurd (let lt : x < k = above_all x xs up k s in let is : x ≡ k = (Decides-eqb x k).0 e in omega (arith, lt, is))
     not_if false s = refl
 
@@ -141,51 +141,51 @@ head_without x y k rest less = head_if (x == k) (y == k) refl refl
     head_if false c e f = refl
 
 -- they show one label less
-pub shows_without : (xs : List ℕ) (x i : ℕ) → IsAscending xs → i < length xs → get_or xs i 0 ≡ x → (k : ℕ) → shown (remove xs i) k ≡ (not (x == k) && shown xs k)
+pub shows_without : (xs : List ℕ) (x i : ℕ) → IsAscending xs → i < length xs → get_or xs i 0 ≡ x → (k : ℕ) → shown_by (remove xs i) k ≡ (not (x == k) && shown_by xs k)
 shows_without [] x i up less at k = absurd (omega (arith, less))
 shows_without (y ∷ ys) x zero up less at k = rw (sym at) (first_if (y == k) refl)
   where
-    first_if : (b : Bool) → (y == k) ≡ b → shown ys k ≡ (not b && (b || shown ys k))
+    first_if : (b : Bool) → (y == k) ≡ b → shown_by ys k ≡ (not b && (b || shown_by ys k))
     first_if true e = below_not y ys up k e
     first_if false e = refl
 shows_without (y ∷ ys) x (suc i) up less at k =
     let later : i < length ys = omega (arith, less) in
     let above : y < x = subst (λ (n : ℕ). y < n) at (above_first y ys up i later) in
-    ap (λ b. (y == k) || b) (shows_without ys x i up.1 later at k) ∙ head_without y x k (shown ys k) above
+    ap (λ b. (y == k) || b) (shows_without ys x i up.1 later at k) ∙ head_without y x k (shown_by ys k) above
 
 -- a label that wasn't found is hidden already
-pub hides_missing : (xs : List ℕ) (x : ℕ) → shown xs x ≡ false → (k : ℕ) → shown xs k ≡ (not (x == k) && shown xs k)
+pub hides_missing : (xs : List ℕ) (x : ℕ) → shown_by xs x ≡ false → (k : ℕ) → shown_by xs k ≡ (not (x == k) && shown_by xs k)
 hides_missing xs x s k = missing_if (x == k) refl
   where
-    missing_if : (b : Bool) → (x == k) ≡ b → shown xs k ≡ (not b && shown xs k)
-    missing_if true e = ap (shown xs) (sym ((Decides-eqb x k).0 e)) ∙ s
+    missing_if : (b : Bool) → (x == k) ≡ b → shown_by xs k ≡ (not b && shown_by xs k)
+    missing_if true e = ap (shown_by xs) (sym ((Decides-eqb x k).0 e)) ∙ s
     missing_if false e = refl
 
-first_same : (x y : ℕ) (xs ys : List ℕ) → IsAscending (x ∷ xs) → IsAscending (y ∷ ys) → ((k : ℕ) → shown (x ∷ xs) k ≡ shown (y ∷ ys) k) → x ≡ y
+first_same : (x y : ℕ) (xs ys : List ℕ) → IsAscending (x ∷ xs) → IsAscending (y ∷ ys) → ((k : ℕ) → shown_by (x ∷ xs) k ≡ shown_by (y ∷ ys) k) → x ≡ y
 first_same x y xs ys up_x up_y same =
     first_if (y == x) (x == y) refl refl
-    (sym (same x) ∙ ap (λ b. b || shown xs x) (itself x))
-    (same y ∙ ap (λ b. b || shown ys y) (itself y))
+    (sym (same x) ∙ ap (λ b. b || shown_by xs x) (itself x))
+    (same y ∙ ap (λ b. b || shown_by ys y) (itself y))
   where
-    first_if : (b c : Bool) → (y == x) ≡ b → (x == y) ≡ c → (b || shown ys x) ≡ true → (c || shown xs y) ≡ true → x ≡ y
+    first_if : (b c : Bool) → (y == x) ≡ b → (x == y) ≡ c → (b || shown_by ys x) ≡ true → (c || shown_by xs y) ≡ true → x ≡ y
     first_if true c e f s t = sym ((Decides-eqb y x).0 e)
     first_if false true e f s t = (Decides-eqb x y).0 f
     first_if false false e f s t = absurd (let a : y < x = above_all y ys up_y x s in let b : x < y = above_all x xs up_x y t in omega (arith, a, b))
 
 -- rising labels that show the same are one list
-pub ascending_same : (xs ys : List ℕ) → IsAscending xs → IsAscending ys → ((k : ℕ) → shown xs k ≡ shown ys k) → xs ≡ ys
+pub ascending_same : (xs ys : List ℕ) → IsAscending xs → IsAscending ys → ((k : ℕ) → shown_by xs k ≡ shown_by ys k) → xs ≡ ys
 ascending_same [] [] up_x up_y same = refl
-ascending_same [] (y ∷ ys) up_x up_y same = absurd (let e : false ≡ true = same y ∙ ap (λ b. b || shown ys y) (itself y) in cc)
-ascending_same (x ∷ xs) [] up_x up_y same = absurd (let e : true ≡ false = sym (ap (λ b. b || shown xs x) (itself x)) ∙ same x in cc)
+ascending_same [] (y ∷ ys) up_x up_y same = absurd (let e : false ≡ true = same y ∙ ap (λ b. b || shown_by ys y) (itself y) in cc)
+ascending_same (x ∷ xs) [] up_x up_y same = absurd (let e : true ≡ false = sym (ap (λ b. b || shown_by xs x) (itself x)) ∙ same x in cc)
 ascending_same (x ∷ xs) (y ∷ ys) up_x up_y same =
     let is : x ≡ y = first_same x y xs ys up_x up_y same in
     let rest : xs ≡ ys = ascending_same xs ys up_x.1 up_y.1 (λ k. rest_if k (x == k) refl) in
     ap (λ (i : ℕ). i ∷ xs) is ∙ ap (λ l. y ∷ l) rest
   where
-    rest_if : (k : ℕ) (b : Bool) → (x == k) ≡ b → shown xs k ≡ shown ys k
+    rest_if : (k : ℕ) (b : Bool) → (x == k) ≡ b → shown_by xs k ≡ shown_by ys k
     rest_if k true e =
         let is : x ≡ y = first_same x y xs ys up_x up_y same in
         below_not x xs up_x k e ∙ sym (below_not y ys up_y k (ap (λ (i : ℕ). i == k) (sym is) ∙ e))
     rest_if k false e =
         let is : x ≡ y = first_same x y xs ys up_x up_y same in
-        ap (λ b. b || shown xs k) (sym e) ∙ same k ∙ ap (λ b. b || shown ys k) (ap (λ (i : ℕ). i == k) (sym is) ∙ e)
+        ap (λ b. b || shown_by xs k) (sym e) ∙ same k ∙ ap (λ b. b || shown_by ys k) (ap (λ (i : ℕ). i == k) (sym is) ∙ e)

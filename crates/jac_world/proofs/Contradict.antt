@@ -2,7 +2,7 @@ use Rattle.std.proofs.Common.{◌≡◌, ℕ, ◌<◌, ◌≤◌, ◌+◌, ◌==
 use Rattle.std.specs.List.{AllByRecursion}
 use Rattle.std.proofs.lemmas.Bool.Decides.{nat_tests, Decides-eqb}
 use mathlib.Core.Bool.{beq}
-use Rattle.jac_world.specs.World.{holds, both, holding, has_pair, names, wanted, contradict, IsApart, ArePairwiseApart, IsRising, StartsAbove}
+use Rattle.jac_world.specs.World.{holds, both, holding, has_pair, names, guard_wants, contradict, IsApart, ArePairwiseApart, IsRising, StartsAbove}
 use Rattle.jac_world.proofs.Merging.{absent, equals, no_clash}
 
 pub and_true : (a b : Bool) → a ≡ true → b ≡ true → (a && b) ≡ true
@@ -59,12 +59,12 @@ wanted_first true = refl
 wanted_first false = refl
 
 -- a guard holds where what it wants is shown
-pub can_hold : (g : List (ℕ × Bool)) → IsRising g → holds (wanted g) g ≡ true
+pub can_hold : (g : List (ℕ × Bool)) → IsRising g → holds (guard_wants g) g ≡ true
 can_hold [] r = refl
 can_hold (p ∷ g) r =
-    let first : beq p.1 (wanted (p ∷ g) p.0) ≡ true = rw (equals p.0) (rw (absent p.0 true g r.0 r.1) (wanted_first p.1)) in
-    let later : (j : ℕ) → p.0 < j → wanted (p ∷ g) j ≡ wanted g j = λ j lt. (let d : (p.0 == j) ≡ false = grind (arith, nat_tests) in rw d refl) in
-    and_true _ _ first (holds_past p.0 (wanted (p ∷ g)) (wanted g) g later r.0 r.1 ∙ can_hold g r.1)
+    let first : beq p.1 (guard_wants (p ∷ g) p.0) ≡ true = rw (equals p.0) (rw (absent p.0 true g r.0 r.1) (wanted_first p.1)) in
+    let later : (j : ℕ) → p.0 < j → guard_wants (p ∷ g) j ≡ guard_wants g j = λ j lt. (let d : (p.0 == j) ≡ false = grind (arith, nat_tests) in rw d refl) in
+    and_true _ _ first (holds_past p.0 (guard_wants (p ∷ g)) (guard_wants g) g later r.0 r.1 ∙ can_hold g r.1)
 
 told_more : (a b c : Bool) (P : Type 0) → ((a && b) || c) ≡ true → (a ≡ true → b ≡ true → P) → (c ≡ true → P) → P
 told_more true true c P h p q = p refl refl
@@ -145,12 +145,12 @@ keeps_sign false true y h n = cc
 keeps_sign false false y h n = rw (n refl) refl
 
 -- what h wants shown as well leaves g, where the two do not contradict
-joint_holds : (v : ℕ → Bool) (g h : List (ℕ × Bool)) → contradict g h ≡ false → holds v g ≡ true → holds (λ k. v k || wanted h k) g ≡ true
+joint_holds : (v : ℕ → Bool) (g h : List (ℕ × Bool)) → contradict g h ≡ false → holds v g ≡ true → holds (λ k. v k || guard_wants h k) g ≡ true
 joint_holds v [] h c e = refl
 joint_holds v (p ∷ g) h c e =
     let n : has_pair h p.0 (not p.1) ≡ false = left_false _ _ c in
     and_true _ _
-    (keeps_sign p.1 (v p.0) (wanted h p.0) (left_true _ _ e) (λ f. ap (λ b. has_pair h p.0 (not b)) (sym f) ∙ n))
+    (keeps_sign p.1 (v p.0) (guard_wants h p.0) (left_true _ _ e) (λ f. ap (λ b. has_pair h p.0 (not b)) (sym f) ∙ n))
     (joint_holds v g h (right_false _ _ c) (right_true _ _ e))
 
 or_swap : (a b : Bool) → (a || b) ≡ (b || a)
@@ -171,10 +171,10 @@ not_both false b p q r = cc
 pub apart_contradict : (g h : List (ℕ × Bool)) → IsRising g → IsRising h → IsApart g h → contradict g h ≡ true
 apart_contradict g h r s a =
     is_true (contradict g h)
-    (λ c. not_both (holds (λ k. wanted g k || wanted h k) g) (holds (λ k. wanted g k || wanted h k) h)
-    (joint_holds (wanted g) g h c (can_hold g r))
-    (ap (λ (v : ℕ → Bool). holds v h) (λ i k. or_swap (wanted g k) (wanted h k) i) ∙ joint_holds (wanted h) h g (contradict-sym h g ∙ c) (can_hold h s))
-    (a (λ k. wanted g k || wanted h k)))
+    (λ c. not_both (holds (λ k. guard_wants g k || guard_wants h k) g) (holds (λ k. guard_wants g k || guard_wants h k) h)
+    (joint_holds (guard_wants g) g h c (can_hold g r))
+    (ap (λ (v : ℕ → Bool). holds v h) (λ i k. or_swap (guard_wants g k) (guard_wants h k) i) ∙ joint_holds (guard_wants h) h g (contradict-sym h g ∙ c) (can_hold h s))
+    (a (λ k. guard_wants g k || guard_wants h k)))
 
 none_with : (a b : Bool) (n : ℕ) → (a ≡ true → (if b then 1 else 0) + n ≡ 0) → (a && b) ≡ false
 none_with true true n h = let e : 1 + n ≡ 0 = h refl in absurd (omega arith)

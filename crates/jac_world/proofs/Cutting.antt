@@ -1,15 +1,15 @@
 use Rattle.std.proofs.Common.{◌≡◌, ℕ, ◌<◌, ◌+◌, ◌&&◌, Bool, true, false, not, if◌then◌else◌, Option, Some, None, List, [], ◌∷◌, ◌++◌, length, suc, append-nil, refl, ap, sym, ◌∙◌, arith}
 use Rattle.std.specs.List.{AllByRecursion}
 use mathlib.Core.Bool.{beq}
-use Rattle.jac_world.specs.World.{holds, both, holding, kept, IsMeet, BreaksEarlier, FollowCut}
-use Rattle.jac_world.specs.CutOff.{listed, AddsMeet, IsCutOff}
+use Rattle.jac_world.specs.World.{holds, both, holding, kept_count, IsMeet, BreaksEarlier, FollowCut}
+use Rattle.jac_world.specs.CutOff.{guard_list, AddsMeet, IsCutOff}
 
 -- where the cutting stands: the guards so far, self with the passed labels of the cut as they are, and the labels to come
 pub record Cutting (self cut : List (ℕ × Bool)) (items : List (List (ℕ × Bool))) (prefix rest : List (ℕ × Bool)) : Type 0 where
   pub exact : (w : ℕ → Bool) → holding w items + (if holds w prefix && not (holds w rest) then 1 else 0) ≡ (if holds w self && not (holds w cut) then 1 else 0)
   pub order : FollowCut cut items
   pub earlier : AllByRecursion (λ g. BreaksEarlier cut g prefix) items
-  pub passed : (w : ℕ → Bool) → holds w prefix ≡ true → kept w cut + length rest ≡ kept w rest + length cut
+  pub passed : (w : ℕ → Bool) → holds w prefix ≡ true → kept_count w cut + length rest ≡ kept_count w rest + length cut
 
 pub cut_start : (self cut : List (ℕ × Bool)) → Cutting self cut [] self cut
 cut_start self cut = record { exact = λ w. omega arith; order = tt; earlier = tt; passed = λ w h. refl }
@@ -19,7 +19,7 @@ holding-append w [] hs = omega arith
 holding-append w (g ∷ gs) hs = omega (arith, holding-append w gs hs)
 
 -- what was added holds where both hold
-added_holds : (w : ℕ → Bool) (g h : List (ℕ × Bool)) (m : Option (List (ℕ × Bool))) → IsMeet g h m → holding w (listed m) ≡ (if both w g h then 1 else 0)
+added_holds : (w : ℕ → Bool) (g h : List (ℕ × Bool)) (m : Option (List (ℕ × Bool))) → IsMeet g h m → holding w (guard_list m) ≡ (if both w g h then 1 else 0)
 added_holds w g h None e = rw (e w) refl
 added_holds w g h (Some x) e = rw (e w) (omega arith)
 
@@ -70,7 +70,7 @@ follow_push : (cut g : List (ℕ × Bool)) (gs : List (List (ℕ × Bool))) → 
 follow_push cut g [] f a = (tt, tt)
 follow_push cut g (x ∷ gs) f a = (all_push (BreaksEarlier cut x) gs g f.0 a.0, follow_push cut g gs f.1 a.1)
 
-follow_added : (cut prefix h : List (ℕ × Bool)) (items new : List (List (ℕ × Bool))) → FollowCut cut items → AllByRecursion (λ x. BreaksEarlier cut x prefix) items → (m : Option (List (ℕ × Bool))) → IsMeet prefix h m → new ≡ items ++ listed m → FollowCut cut new
+follow_added : (cut prefix h : List (ℕ × Bool)) (items new : List (List (ℕ × Bool))) → FollowCut cut items → AllByRecursion (λ x. BreaksEarlier cut x prefix) items → (m : Option (List (ℕ × Bool))) → IsMeet prefix h m → new ≡ items ++ guard_list m → FollowCut cut new
 follow_added cut prefix h items new f a None e n = rw (n, append-nil) f
 follow_added cut prefix h items new f a (Some x) e n =
     rw n (follow_push cut x items f (stronger cut prefix x items (λ w p. left_true _ _ (sym (e w) ∙ p)) a))
@@ -90,16 +90,16 @@ one_less w l k m c a b = omega arith
 no_more : (n k t : ℕ) → n + k ≡ t → k ≡ 0 → n ≡ t
 no_more n k t a b = omega arith
 
-kept_none : (w : ℕ → Bool) (p : ℕ × Bool) (ps : List (ℕ × Bool)) → beq (not p.1) (w p.0) ≡ true → kept w (p ∷ ps) ≡ 0
+kept_none : (w : ℕ → Bool) (p : ℕ × Bool) (ps : List (ℕ × Bool)) → beq (not p.1) (w p.0) ≡ true → kept_count w (p ∷ ps) ≡ 0
 kept_none w p ps h = rw (unlike p.1 (w p.0) h) refl
 
-kept_more : (w : ℕ → Bool) (p : ℕ × Bool) (ps : List (ℕ × Bool)) → beq p.1 (w p.0) ≡ true → kept w (p ∷ ps) ≡ kept w ps + 1
+kept_more : (w : ℕ → Bool) (p : ℕ × Bool) (ps : List (ℕ × Bool)) → beq p.1 (w p.0) ≡ true → kept_count w (p ∷ ps) ≡ kept_count w ps + 1
 kept_more w p ps h = rw h refl
 
 earlier_added : (cut prefix next : List (ℕ × Bool)) (p : ℕ × Bool) (more : List (ℕ × Bool)) (items new : List (List (ℕ × Bool))) →
-    ((w : ℕ → Bool) → holds w prefix ≡ true → kept w cut + length (p ∷ more) ≡ kept w (p ∷ more) + length cut) →
+    ((w : ℕ → Bool) → holds w prefix ≡ true → kept_count w cut + length (p ∷ more) ≡ kept_count w (p ∷ more) + length cut) →
     AllByRecursion (λ x. BreaksEarlier cut x prefix) items → (m : Option (List (ℕ × Bool))) → IsMeet prefix ((p.0, not p.1) ∷ []) m → ((w : ℕ → Bool) → holds w next ≡ both w prefix (p ∷ [])) →
-    new ≡ items ++ listed m → AllByRecursion (λ x. BreaksEarlier cut x next) new
+    new ≡ items ++ guard_list m → AllByRecursion (λ x. BreaksEarlier cut x next) new
 earlier_added cut prefix next p more items new s a None e k n =
     rw (n, append-nil) (stronger cut prefix next items (λ w q. left_true _ _ (sym (k w) ∙ q)) a)
 earlier_added cut prefix next p more items new s a (Some x) e k n =
@@ -108,29 +108,29 @@ earlier_added cut prefix next p more items new s a (Some x) e k n =
     (λ v w q r.
     let q' : (holds v prefix && (beq (not p.1) (v p.0) && true)) ≡ true = sym (e v) ∙ q in
     let r' : (holds w prefix && (beq p.1 (w p.0) && true)) ≡ true = sym (k w) ∙ r in
-    let a1 : kept v cut + length (p ∷ more) ≡ kept v (p ∷ more) + length cut = s v (left_true _ _ q') in
-    let a2 : kept w cut + length (p ∷ more) ≡ kept w (p ∷ more) + length cut = s w (left_true _ _ r') in
-    let b1 : kept v (p ∷ more) ≡ 0 = kept_none v p more (as_signed (holds v prefix) _ q') in
-    let b2 : kept w (p ∷ more) ≡ kept w more + 1 = kept_more w p more (as_signed (holds w prefix) _ r') in
+    let a1 : kept_count v cut + length (p ∷ more) ≡ kept_count v (p ∷ more) + length cut = s v (left_true _ _ q') in
+    let a2 : kept_count w cut + length (p ∷ more) ≡ kept_count w (p ∷ more) + length cut = s w (left_true _ _ r') in
+    let b1 : kept_count v (p ∷ more) ≡ 0 = kept_none v p more (as_signed (holds v prefix) _ q') in
+    let b2 : kept_count w (p ∷ more) ≡ kept_count w more + 1 = kept_more w p more (as_signed (holds w prefix) _ r') in
     lower _ _ _ _ _ _ _ a1 a2 b1 b2))
 
 pub cut_step : (self cut : List (ℕ × Bool)) (items new : List (List (ℕ × Bool))) (prefix next more : List (ℕ × Bool)) (p : ℕ × Bool) → Cutting self cut items prefix (p ∷ more) → AddsMeet prefix ((p.0, not p.1) ∷ []) items new → IsMeet prefix (p ∷ []) (Some next) → Cutting self cut new next more
 cut_step self cut items new prefix next more p c a m =
     record {
-      exact = λ w. rw (m w) (sum_step _ _ _ _ _ _ _ (ap (holding w) a.added ∙ holding-append w items (listed a.meet)) (added_holds w prefix ((p.0, not p.1) ∷ []) a.meet a.is_meet) (step_count (holds w prefix) p.1 (w p.0) (holds w more)) (c.exact w));
+      exact = λ w. rw (m w) (sum_step _ _ _ _ _ _ _ (ap (holding w) a.added ∙ holding-append w items (guard_list a.meet)) (added_holds w prefix ((p.0, not p.1) ∷ []) a.meet a.is_meet) (step_count (holds w prefix) p.1 (w p.0) (holds w more)) (c.exact w));
       order = follow_added cut prefix ((p.0, not p.1) ∷ []) items new c.order c.earlier a.meet a.is_meet a.added;
       earlier = earlier_added cut prefix next p more items new c.passed c.earlier a.meet a.is_meet m a.added;
       passed = λ w h.
           (let h' : (holds w prefix && (beq p.1 (w p.0) && true)) ≡ true = sym (m w) ∙ h in
-          let e : kept w cut + length (p ∷ more) ≡ kept w (p ∷ more) + length cut = c.passed w (left_true _ _ h') in
-          let f : kept w (p ∷ more) ≡ kept w more + 1 = kept_more w p more (as_signed (holds w prefix) _ h') in
+          let e : kept_count w cut + length (p ∷ more) ≡ kept_count w (p ∷ more) + length cut = c.passed w (left_true _ _ h') in
+          let f : kept_count w (p ∷ more) ≡ kept_count w more + 1 = kept_more w p more (as_signed (holds w prefix) _ h') in
           one_less _ _ _ _ _ e f);
     }
 
 pub cut_last : (self cut : List (ℕ × Bool)) (items new : List (List (ℕ × Bool))) (prefix more : List (ℕ × Bool)) (p : ℕ × Bool) → Cutting self cut items prefix (p ∷ more) → AddsMeet prefix ((p.0, not p.1) ∷ []) items new → IsMeet prefix (p ∷ []) None → IsCutOff self cut new
 cut_last self cut items new prefix more p c a m =
     record {
-      exact = λ w. sum_last _ _ _ _ _ (ap (holding w) a.added ∙ holding-append w items (listed a.meet)) (added_holds w prefix ((p.0, not p.1) ∷ []) a.meet a.is_meet ∙ last_count (holds w prefix) p.1 (w p.0) (holds w more) (m w)) (c.exact w);
+      exact = λ w. sum_last _ _ _ _ _ (ap (holding w) a.added ∙ holding-append w items (guard_list a.meet)) (added_holds w prefix ((p.0, not p.1) ∷ []) a.meet a.is_meet ∙ last_count (holds w prefix) p.1 (w p.0) (holds w more) (m w)) (c.exact w);
       order = follow_added cut prefix ((p.0, not p.1) ∷ []) items new c.order c.earlier a.meet a.is_meet a.added;
     }
 

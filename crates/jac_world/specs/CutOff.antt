@@ -1,15 +1,15 @@
 use Rattle.std.specs.Prelude.{◌≡◌, ℕ, Bool, not, ◌&&◌, if◌then◌else◌, Option, Some, None, List, [], ◌∷◌, ◌++◌}
 use Rattle.jac_world.specs.World.{holds, holding, IsMeet, FollowCut}
 
-abbrev pub listed : Option (List (ℕ × Bool)) → List (List (ℕ × Bool))
-listed None = []
-listed (Some g) = g ∷ []
+abbrev pub guard_list : Option (List (ℕ × Bool)) → List (List (ℕ × Bool))
+guard_list None = []
+guard_list (Some g) = g ∷ []
 
 -- the conjunction of g and h was added, where they can hold together
 pub record AddsMeet (g h : List (ℕ × Bool)) (old new : List (List (ℕ × Bool))) : Type 0 where
   pub meet : Option (List (ℕ × Bool))
   pub is_meet : IsMeet g h meet
-  pub added : new ≡ old ++ listed meet
+  pub added : new ≡ old ++ guard_list meet
 
 -- one of the guards holds where g holds and the cut doesn't, and they follow the cut
 pub record IsCutOff (g cut : List (ℕ × Bool)) (gs : List (List (ℕ × Bool))) : Type 0 where

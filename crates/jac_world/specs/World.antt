@@ -6,8 +6,8 @@ use mathlib.Core.Bool.{beq}
 -- with signs.
 
 -- what a list of shown labels shows
-abbrev pub shown : List ℕ → ℕ → Bool
-shown a k = list_any (λ x. x == k) a
+abbrev pub shown_by : List ℕ → ℕ → Bool
+shown_by a k = list_any (λ x. x == k) a
 
 -- a guard holds where each of its labels is shown or hidden as its sign says
 abbrev pub holds : (ℕ → Bool) → List (ℕ × Bool) → Bool
@@ -68,18 +68,18 @@ ArePairwiseApart [] = ⊤
 ArePairwiseApart (g ∷ gs) = AllByRecursion (IsApart g) gs × ArePairwiseApart gs
 
 -- the assignment that shows what the guard wants shown, and no more
-abbrev pub wanted : List (ℕ × Bool) → ℕ → Bool
-wanted g k = has_pair g k true
+abbrev pub guard_wants : List (ℕ × Bool) → ℕ → Bool
+guard_wants g k = has_pair g k true
 
 -- how many labels of a guard, from its first on, are as their signs say before one isn't
-abbrev pub kept : (ℕ → Bool) → List (ℕ × Bool) → ℕ
-kept w [] = 0
-kept w (p ∷ ps) = if beq p.1 (w p.0) then kept w ps + 1 else 0
+abbrev pub kept_count : (ℕ → Bool) → List (ℕ × Bool) → ℕ
+kept_count w [] = 0
+kept_count w (p ∷ ps) = if beq p.1 (w p.0) then kept_count w ps + 1 else 0
 
 -- where the first guard holds, the cut is broken at an earlier label than where the second holds
 abbrev pub BreaksEarlier : List (ℕ × Bool) → List (ℕ × Bool) → List (ℕ × Bool) → Type 0
 BreaksEarlier cut g h = (v w : ℕ → Bool) → holds v g ≡ true → holds w h ≡ true
-    → kept v cut < kept w cut
+    → kept_count v cut < kept_count w cut
 
 -- the guards come in the order of the labels at which they break the cut
 abbrev pub FollowCut : List (ℕ × Bool) → List (List (ℕ × Bool)) → Type 0

@@ -1,5 +1,5 @@
 ghost use Rattle.std.specs.Prelude.{◌≡◌, ℕ, not, ◌==◌, ◌||◌, ◌&&◌, [], IfOk, OnOk, OnErr};
-ghost use Rattle.jac_world.specs.World.{shown, IsAscending};
+ghost use Rattle.jac_world.specs.World.{shown_by, IsAscending};
 
 use crate::{Label, Memory, add_among, is_among, remove_among};
 use std::alloc::Global;
@@ -32,7 +32,7 @@ impl Assignment {
     }
 
     pub fn shows(&self, label: Label) -> bool
-        ensures { result ≡ shown self.now label }
+        ensures { result ≡ shown_by self.now label }
     {
         is_among(self.labels.as_slice(), label)
     }
@@ -46,7 +46,7 @@ impl Assignment {
 
     /// The same labels and this one.
     pub fn with(&self, alloc: Global, label: Label) -> Result<Assignment, Memory>
-        ensures { IfOk result (λ a. (k : ℕ) → shown a k ≡ (label == k || shown self.now k)) }
+        ensures { IfOk result (λ a. (k : ℕ) → shown_by a k ≡ (label == k || shown_by self.now k)) }
     {
         let mut more = self.copy(alloc)?;
         more.add(label)?;
@@ -56,7 +56,7 @@ impl Assignment {
     /// Shows this label too, whatever was shown.
     pub fn add(&mut self, label: Label) -> Result<(), Memory>
         ensures added { OnOk result ((k : ℕ)
-            → shown self.new k ≡ (label == k || shown self.old k)) }
+            → shown_by self.new k ≡ (label == k || shown_by self.old k)) }
         ensures kept { OnErr result (self.new ≡ self.old) }
     {
         add_among(&mut self.labels, label)
@@ -64,7 +64,7 @@ impl Assignment {
 
     /// Hides this label, whatever was shown.
     pub fn remove(&mut self, label: Label)
-        ensures { (k : ℕ) → shown self.new k ≡ (not (label == k) && shown self.old k) }
+        ensures { (k : ℕ) → shown_by self.new k ≡ (not (label == k) && shown_by self.old k) }
     {
         remove_among(&mut self.labels, label);
     }

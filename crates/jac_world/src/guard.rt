@@ -1,5 +1,5 @@
 ghost use Rattle.std.specs.Prelude.{◌≡◌, ℕ, Bool, ◌+◌, ◌&&◌, ◌∷◌, [], not, true, if◌then◌else◌, IfOk, IfSome, OnOk, IsNone, IsTrue, ◌↔◌};
-ghost use Rattle.jac_world.specs.World.{shown, holds, holding, both, IsMeet, IsRising, contradict, wanted, ArePairwiseApart, FollowCut};
+ghost use Rattle.jac_world.specs.World.{shown_by, holds, holding, both, IsMeet, IsRising, contradict, guard_wants, ArePairwiseApart, FollowCut};
 ghost use Rattle.jac_world.specs.CutOff.{AddsMeet, IsCutOff};
 
 use crate::{Assignment, Guards, Label, Memory};
@@ -74,7 +74,7 @@ impl Guard {
     }
 
     pub fn holds(&self, assignment: &Assignment) -> bool
-        ensures { result ≡ holds (shown assignment.now) self.now }
+        ensures { result ≡ holds (shown_by assignment.now) self.now }
     {
         self.list()
             .iter()
@@ -85,7 +85,7 @@ impl Guard {
     pub fn pairs(&self) -> &[(Label, bool)]
         ensures pairs { result.now ≡ self.now }
         ensures rising { IsRising self.now }
-        ensures can_be_met { holds (wanted self.now) self.now ≡ true }
+        ensures can_be_met { holds (guard_wants self.now) self.now ≡ true }
     {
         self.list()
     }

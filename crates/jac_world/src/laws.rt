@@ -1,5 +1,5 @@
 ghost use Rattle.std.specs.Prelude.{◌≡◌, ℕ, Bool, List, true, IsTrue, ◌↔◌};
-ghost use Rattle.jac_world.specs.World.{holds, names, contradict, wanted, IsRising, IsApart};
+ghost use Rattle.jac_world.specs.World.{holds, names, contradict, guard_wants, IsRising, IsApart};
 
 /// A law: whether a guard holds depends on the labels that it names alone.
 pub fn holds_by_names()
@@ -15,7 +15,7 @@ pub fn contradict_where_apart()
 
 /// A law: a guard holds under the assignment that shows what it wants shown.
 pub fn holds_somewhere()
-    ensures { (g : List (ℕ × Bool)) → IsRising g → holds (wanted g) g ≡ true }
+    ensures { (g : List (ℕ × Bool)) → IsRising g → holds (guard_wants g) g ≡ true }
 {}
 
 /// A law: guards that hold under the same assignments are equal.

@@ -7,7 +7,7 @@ mod guards;
 mod label;
 mod laws;
 mod memory;
-mod rising;
+mod rising_list;
 mod steps;
 
 pub use assignment::Assignment;
@@ -16,5 +16,5 @@ pub use guards::Guards;
 pub use label::Label;
 pub use laws::{contradict_where_apart, holds_by_names, holds_somewhere, same_where_alike};
 pub use memory::Memory;
-pub use rising::{add_among, is_among, remove_among};
+pub use rising_list::{add_among, is_among, remove_among};
 pub use steps::Steps;

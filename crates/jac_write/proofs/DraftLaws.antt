@@ -3,14 +3,14 @@ use Rattle.std.proofs.lemmas.List.{drop_all}
 use Rattle.std.proofs.Common.{◌≡◌, ◌∙◌, sym, refl, ap, ℕ, ◌+◌, ◌<◌, ◌≤◌, not, Bool, true, false, if◌then◌else◌, List, [], ◌∷◌, ◌++◌, append_assoc, append-nil, map, length, drop, suc, drop-cons, add-one, get_or}
 use Rattle.jac_value.specs.declared.value.Value.{Value}
 use Rattle.jac_world.specs.World.{holds}
-use Rattle.jac_facet.specs.Leaves.{seen}
+use Rattle.jac_facet.specs.Leaves.{leaves_seen}
 use Rattle.jac_facet.specs.Shape.{Shape, at}
 use Rattle.jac_lang.specs.declared.field_kinds.Field.{Field}
 use Rattle.jac_lang.specs.Lookup.{kind_at}
 use Rattle.jac_lang.specs.Syntax.{Entity}
 use Rattle.jac_expr.specs.Tupled.{all_at}
 use Rattle.jac_rows.specs.declared.row.Row.{Row}
-use Rattle.jac_plain.specs.Records.{each_cell, fitting, shielded}
+use Rattle.jac_plain.specs.Records.{each_cell, fitting, shielded_cells}
 use Rattle.jac_write.specs.declared.cells.Spot.{Spot}
 use Rattle.jac_write.specs.declared.cells.Spot.TheVariants.{Behind, At}
 use Rattle.jac_write.specs.Drafts.{with_cell, with_each, stored_at}
@@ -35,10 +35,10 @@ leaf_if : (b : Bool) (spot : Spot) (cells : List Value) (v : Value) (vs : List V
 leaf_if true spot cells v vs = refl
 leaf_if false spot cells v vs = refl
 
-with_each_is : (w : ℕ → Bool) (spot : Spot) (cells : List Value) (leaves : List (List (ℕ × Bool) × Value)) → with_each w spot cells leaves ≡ map (λ x. with_cell spot x cells) (seen w leaves)
+with_each_is : (w : ℕ → Bool) (spot : Spot) (cells : List Value) (leaves : List (List (ℕ × Bool) × Value)) → with_each w spot cells leaves ≡ map (λ x. with_cell spot x cells) (leaves_seen w leaves)
 with_each_is w spot cells [] = refl
 with_each_is w spot cells (p ∷ leaves) =
-    ap (λ cs. (if holds w p.0 then with_cell spot p.1 cells ∷ [] else []) ++ cs) (with_each_is w spot cells leaves) ∙ leaf_if (holds w p.0) spot cells p.1 (seen w leaves)
+    ap (λ cs. (if holds w p.0 then with_cell spot p.1 cells ∷ [] else []) ++ cs) (with_each_is w spot cells leaves) ∙ leaf_if (holds w p.0) spot cells p.1 (leaves_seen w leaves)
 
 seen_if : (b : Bool) (spot : Spot) (cells : List Value) (v : Value) → map (λ x. with_cell spot x cells) (if b then v ∷ [] else []) ≡ map (with_cell spot v) (if b then cells ∷ [] else [])
 seen_if true spot cells v = refl
@@ -46,7 +46,7 @@ seen_if false spot cells v = refl
 
 -- one value is seen where the guard holds
 pub each_seen : (w : ℕ → Bool) (spot : Spot) (cells : List Value) (guard : List (ℕ × Bool)) (v : Value) (leaves : List (List (ℕ × Bool) × Value))
-    → seen w leaves ≡ (if holds w guard then v ∷ [] else [])
+    → leaves_seen w leaves ≡ (if holds w guard then v ∷ [] else [])
     → with_each w spot cells leaves ≡ map (with_cell spot v) (if holds w guard then cells ∷ [] else [])
 each_seen w spot cells guard v leaves e =
     with_each_is w spot cells leaves ∙ ap (map (λ x. with_cell spot x cells)) e ∙ seen_if (holds w guard) spot cells v
@@ -140,9 +140,9 @@ begun_if true step c = refl
 begun_if false step c = refl
 
 pub stored_begun : (models : List Entity) (w : ℕ → Bool) (m id : ℕ) (named : ℕ → Bool) (draft : Row) (cs : List (List Value)) → cs ≡ (if holds w draft.guard then [] ∷ [] else [])
-    → finished (each_cell (stored_at models w m id named draft.cells) 0 draft.cells) cs ≡ map (shielded models w m id named) (cells_at w (draft ∷ []))
+    → finished (each_cell (stored_at models w m id named draft.cells) 0 draft.cells) cs ≡ map (shielded_cells models w m id named) (cells_at w (draft ∷ []))
 stored_begun models w m id named draft cs e =
-    ap (finished (shielded models w m id named draft.cells)) e ∙ begun_if (holds w draft.guard) (shielded models w m id named) draft.cells
+    ap (finished (shielded_cells models w m id named draft.cells)) e ∙ begun_if (holds w draft.guard) (shielded_cells models w m id named) draft.cells
 
 parted_if : (shown hidden : Bool) (p c : Value) → not shown ≡ hidden → (if shown then c else p) ≡ (if hidden then p else c)
 parted_if true true p c e = cc

@@ -3,7 +3,7 @@ use Rattle.std.proofs.Common.{◌≡◌, ◌∙◌, refl, ap, ℕ, Bool, true, f
 use Rattle.std.proofs.Common.{IsTrue, ◌<◌}
 use Rattle.jac_value.specs.declared.value.Value.{Value}
 use Rattle.jac_world.specs.World.{holds}
-use Rattle.jac_facet.specs.Leaves.{seen}
+use Rattle.jac_facet.specs.Leaves.{leaves_seen}
 use Rattle.jac_rows.specs.Good.{IsSound}
 use Rattle.jac_rows.specs.Project.{project_at}
 use Rattle.jac_rows.specs.declared.state.State.{State}
@@ -11,15 +11,15 @@ use Rattle.jac_keep.specs.KeeperSeen.{KeeperSeen, IsLeft}
 use Rattle.jac_keep.specs.Worked.{IsTold, state_of}
 use Rattle.jac_keep.specs.declared.alteration.Alterations.{Alterations}
 use Rattle.jac_keep.specs.declared.work.WorkOver.{WorkOver}
-use Rattle.jac_write.specs.Writes.{KeepsOrMerges, PlainTables, numbered, Written, Writes, WritesEach, StaysTold, after_each}
+use Rattle.jac_write.specs.Writes.{KeepsOrMerges, PlainTables, numbered_tables, Written, Writes, WritesEach, StaysTold, tables_after_each}
 
 -- what is left to write, before it what was
 pub record WritingEach (n : ℕ) (step : (ℕ → Bool) → Value → PlainTables → PlainTables) (all left : List (List (ℕ × Bool) × Value)) (old now : State) : Type 0 where
-  pub here : (w : ℕ → Bool) → after_each (step w) (seen w left) (project_at w now).tables ≡ after_each (step w) (seen w all) (project_at w old).tables
-  pub sound : IsSound (numbered n now)
+  pub here : (w : ℕ → Bool) → tables_after_each (step w) (leaves_seen w left) (project_at w now).tables ≡ tables_after_each (step w) (leaves_seen w all) (project_at w old).tables
+  pub sound : IsSound (numbered_tables n now)
 
 abbrev pub IsWriting : ((ℕ → Bool) → Value → PlainTables → PlainTables) → List (List (ℕ × Bool) × Value) → List (List (ℕ × Bool) × Value) → State → State → Type 0
-IsWriting step all left old now = (n : ℕ) → IsSound (numbered n old) → WritingEach n step all left old now
+IsWriting step all left old now = (n : ℕ) → IsSound (numbered_tables n old) → WritingEach n step all left old now
 
 -- a loop that writes through a work
 pub record LoopWrites {K : Type 0} (sight : K → KeeperSeen) (old now : WorkOver K Alterations) (model : ℕ) (writing : Type 0) : Type 0 where
@@ -32,9 +32,9 @@ pub record LoopWrites {K : Type 0} (sight : K → KeeperSeen) (old now : WorkOve
   pub merged : IsTold sight now → KeepsOrMerges (state_of sight old) (state_of sight now)
 
 one_more : (step : Value → PlainTables → PlainTables) (b : Bool) (v : Value) (vs : List Value) (now next : PlainTables) → next ≡ (if b then step v now else now)
-    → after_each step vs next ≡ after_each step (if b then v ∷ vs else vs) now
-one_more step true v vs now next e = ap (after_each step vs) e
-one_more step false v vs now next e = ap (after_each step vs) e
+    → tables_after_each step vs next ≡ tables_after_each step (if b then v ∷ vs else vs) now
+one_more step true v vs now next e = ap (tables_after_each step vs) e
+one_more step false v vs now next e = ap (tables_after_each step vs) e
 
 -- the write of one leaf
 pub write_next : (step : (ℕ → Bool) → Value → PlainTables → PlainTables) (all rest : List (List (ℕ × Bool) × Value)) (guard : List (ℕ × Bool)) (v : Value) (old now next : State)
@@ -43,7 +43,7 @@ write_next step all rest guard v old now next before write n sound =
     let was : WritingEach n step all ((guard, v) ∷ rest) old now = before n sound in
     let is : Written n (λ w. step w v) guard now next = write n was.sound in
     record {
-      here = λ w. one_more (step w) (holds w guard) v (seen w rest) (project_at w now).tables (project_at w next).tables (is.left w) ∙ was.here w;
+      here = λ w. one_more (step w) (holds w guard) v (leaves_seen w rest) (project_at w now).tables (project_at w next).tables (is.left w) ∙ was.here w;
       sound = is.sound;
     }
 
@@ -53,17 +53,17 @@ write_start step all old n sound = record { here = λ w. refl; sound = sound }
 pub write_end : (step : (ℕ → Bool) → Value → PlainTables → PlainTables) (all : List (List (ℕ × Bool) × Value)) (old new : State) → IsWriting step all [] old new → WritesEach step all old new
 write_end step all old new done n sound = record { left = (done n sound).here; sound = (done n sound).sound }
 
-one_if : (step : Value → PlainTables → PlainTables) (b : Bool) (v : Value) (tables : PlainTables) → after_each step (if b then v ∷ [] else []) tables ≡ (if b then step v tables else tables)
+one_if : (step : Value → PlainTables → PlainTables) (b : Bool) (v : Value) (tables : PlainTables) → tables_after_each step (if b then v ∷ [] else []) tables ≡ (if b then step v tables else tables)
 one_if step true v tables = refl
 one_if step false v tables = refl
 
 -- one value is seen where the path condition holds
 pub write_seen : (step : (ℕ → Bool) → Value → PlainTables → PlainTables) (leaves : List (List (ℕ × Bool) × Value)) (pc : List (ℕ × Bool)) (value_at : (ℕ → Bool) → Value) (old new : State)
-    → ((w : ℕ → Bool) → seen w leaves ≡ (if holds w pc then value_at w ∷ [] else [])) → WritesEach step leaves old new → Writes (λ w. step w (value_at w)) pc old new
+    → ((w : ℕ → Bool) → leaves_seen w leaves ≡ (if holds w pc then value_at w ∷ [] else [])) → WritesEach step leaves old new → Writes (λ w. step w (value_at w)) pc old new
 write_seen step leaves pc value_at old new is each n sound = record {
   left = λ w.
       (each n sound).left w
-      ∙ ap (λ vs. after_each (step w) vs (project_at w old).tables) (is w)
+      ∙ ap (λ vs. tables_after_each (step w) vs (project_at w old).tables) (is w)
       ∙ one_if (step w) (holds w pc) (value_at w) (project_at w old).tables;
   sound = (each n sound).sound;
 }

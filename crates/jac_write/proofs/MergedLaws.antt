@@ -11,19 +11,19 @@ use Rattle.jac_rows.specs.declared.row.Row.{Row}
 use Rattle.jac_rows.specs.declared.state.State.{State}
 use Rattle.jac_plain.specs.Records.{plain_row}
 use Rattle.jac_keep.proofs.AlteringLaws.{alternatives-altered, are_of}
-use Rattle.jac_keep.specs.Alterations.{altered, overlaid_from}
+use Rattle.jac_keep.specs.Alterations.{altered_rows, overlaid_from}
 use Rattle.jac_keep.specs.Kept.{state_with}
 use Rattle.jac_keep.specs.Records.{alternatives, AreOf}
 use Rattle.jac_keep.specs.declared.alteration.Alteration.{Alteration}
-use Rattle.jac_merged.specs.Merged.{AreMerged, AreOwn, Shows}
+use Rattle.jac_merged.specs.Merged.{AreMerged, AreOfRecord, Shows}
 use Rattle.jac_write.specs.Writes.{KeepsOrMerges, cells_at}
 use Rattle.jac_write.proofs.RecordLaws.{cells}
 
-pub own_all : (id : ℕ) (rows : List Row) → All (λ (r : Row). r.id ≡ id) rows → AreOwn id rows
+pub own_all : (id : ℕ) (rows : List Row) → All (λ (r : Row). r.id ≡ id) rows → AreOfRecord id rows
 own_all id [] all = tt
 own_all id (r ∷ rows) all = (all 0 r (omega arith), own_all id rows (λ k d h. all (suc k) d (omega (arith, h))))
 
-pub all_own : (id : ℕ) (rows : List Row) → AreOwn id rows → All (λ (r : Row). r.id ≡ id) rows
+pub all_own : (id : ℕ) (rows : List Row) → AreOfRecord id rows → All (λ (r : Row). r.id ≡ id) rows
 all_own id [] own k d h = absurd (omega (arith, h))
 all_own id (r ∷ rows) own zero d h = own.0
 all_own id (r ∷ rows) own (suc k) d h = all_own id rows own.1 k d (omega (arith, h))
@@ -56,9 +56,9 @@ chosen true new was now merged e = inr (subst AreMerged (sym e) merged)
 chosen false new was now merged e = inl e
 
 put_in_table : (i id : ℕ) (new table : List Row) → AreOf id new → AreMerged new
-    → Now (alternatives i table) (alternatives i (altered (model_of_id i) (one id new) table))
+    → Now (alternatives i table) (alternatives i (altered_rows (model_of_id i) (one id new) table))
 put_in_table i id new table own merged =
-    chosen (id == i) new (alternatives i table) (alternatives i (altered (model_of_id i) (one id new) table)) merged
+    chosen (id == i) new (alternatives i table) (alternatives i (altered_rows (model_of_id i) (one id new) table)) merged
     (alternatives-altered i (one id new) table (tt, tt) (own, tt))
 
 put_from : (i id k m : ℕ) (new : List Row) (tables : List (List Row)) → AreOf id new → AreMerged new → model_of_id i ≡ k + m
@@ -66,7 +66,7 @@ put_from : (i id k m : ℕ) (new : List Row) (tables : List (List Row)) → AreO
 put_from i id k m new [] own merged e = inl refl
 put_from i id k zero new (t ∷ tables) own merged e =
     let here : model_of_id i ≡ k = omega (arith, e) in
-    subst (λ model. Now (alternatives i t) (alternatives i (altered model (one id new) t))) here (put_in_table i id new t own merged)
+    subst (λ model. Now (alternatives i t) (alternatives i (altered_rows model (one id new) t))) here (put_in_table i id new t own merged)
 put_from i id k (suc m) new (t ∷ tables) own merged e = put_from i id (k + 1) m new tables own merged (omega (arith, e))
 
 -- the alternatives that take the place of a record's are merged

@@ -3,6 +3,7 @@ use Rattle.std.proofs.Common.{◌≡◌, ◌∙◌, sym, subst, refl, ap, arith,
 use Rattle.std.proofs.lemmas.List.{append_assoc}
 use Rattle.std.specs.Prelude.{slice_set}
 use Rattle.std.specs.List.{AllByRecursion}
+use Rattle.std.proofs.lemmas.Bool.{eqb-true}
 use Rattle.jac_value.specs.Ids.{model_of_id}
 use Rattle.jac_value.specs.declared.value.Value.{Value}
 use Rattle.jac_world.specs.World.{holds, IsRisingBy, StartsAboveBy}
@@ -14,15 +15,15 @@ use Rattle.jac_rows.specs.Tables.{rows_of}
 use Rattle.jac_rows.specs.declared.plain.PlainRow.{PlainRow}
 use Rattle.jac_rows.specs.declared.row.Row.{Row}
 use Rattle.jac_rows.specs.declared.state.State.{State}
-use Rattle.jac_plain.specs.Records.{plain_row, with_ids, with_row, changed, without}
+use Rattle.jac_plain.specs.Records.{plain_row, with_ids, with_row, changed_rows, without}
 use Rattle.jac_keep.specs.declared.alteration.Alteration.{Alteration}
 use Rattle.jac_keep.specs.declared.alteration.Change.{Change}
 use Rattle.jac_keep.proofs.AlteringLaws.{are_of}
-use Rattle.jac_keep.specs.Alterations.{altered, overlaid_from}
-use Rattle.jac_keep.specs.Kept.{state_with, applied}
-use Rattle.jac_keep.specs.Records.{with_id, alternatives, before, behind, placed, AreOf}
+use Rattle.jac_keep.specs.Alterations.{altered_rows, overlaid_from}
+use Rattle.jac_keep.specs.Kept.{state_with, changed_state}
+use Rattle.jac_keep.specs.Records.{with_id, alternatives, before, behind, placed_rows, AreOf}
 use Rattle.jac_keep.specs.Sound.{MayStand, AllStand}
-use Rattle.jac_write.specs.Writes.{PlainTables, numbered, Written, cells_at}
+use Rattle.jac_write.specs.Writes.{PlainTables, numbered_tables, Written, cells_at}
 
 abbrev id_of : PlainRow → ℕ
 id_of r = r.id
@@ -50,7 +51,7 @@ pub with_ids_at : (w : ℕ → Bool) (test : ℕ → Bool) (rows : List Row) →
 with_ids_at w test [] = refl
 with_ids_at w test (r ∷ rows) = passing_if w test r rows (test r.id) (holds w r.guard) refl refl (with_ids_at w test rows)
 
-placed_at : (w : ℕ → Bool) (id : ℕ) (new rows : List Row) → rows_at w (placed id new rows) ≡ spliced id (rows_at w new) (rows_at w rows)
+placed_at : (w : ℕ → Bool) (id : ℕ) (new rows : List Row) → rows_at w (placed_rows id new rows) ≡ spliced id (rows_at w new) (rows_at w rows)
 placed_at w id new rows =
     rows_at-append w (before id rows ++ new) (behind id rows)
     ∙ rw (rows_at-append w (before id rows) new, with_ids_at w (λ i. nat_lt i id) rows, with_ids_at w (λ i. nat_lt id i) rows) refl
@@ -59,7 +60,7 @@ abbrev one : ℕ → List Row → List Alteration
 one id new = record { id = id; rows = new } ∷ []
 
 altered_at : (w : ℕ → Bool) (id model : ℕ) (new t : List Row) (same : Bool) → (model_of_id id == model) ≡ same
-    → rows_at w (altered model (one id new) t) ≡ (if same then spliced id (rows_at w new) (rows_at w t) else rows_at w t)
+    → rows_at w (altered_rows model (one id new) t) ≡ (if same then spliced id (rows_at w new) (rows_at w t) else rows_at w t)
 altered_at w id model new t true s = rw s (placed_at w id new t)
 altered_at w id model new t false s = rw s refl
 
@@ -118,7 +119,7 @@ record Beyond (id : ℕ) (rows : List PlainRow) : Type 0 where
   here : with_ids (λ i. i == id) rows ≡ []
   high : with_ids (λ i. nat_lt id i) rows ≡ rows
   left : without id rows ≡ rows
-  same : (f : List Value → List Value) → changed id f rows ≡ rows
+  same : (f : List Value → List Value) → changed_rows id f rows ≡ rows
 
 beyond : (id k : ℕ) (rows : List PlainRow) → StartsAboveBy id_of k rows → IsRisingBy id_of rows → id ≤ k → Beyond id rows
 beyond id k [] a h le = record { low = refl; here = refl; high = refl; left = refl; same = λ f. refl }
@@ -182,8 +183,8 @@ abbrev renewed : (List Value → List Value) → ℕ → List PlainRow → List 
 renewed f id rows = map (plain_row id) (map f (map cells rows))
 
 changed_case : (f : List Value → List Value) (id : ℕ) (r : PlainRow) (rows : List PlainRow) (a b : Bool) → nat_lt r.id id ≡ a → (r.id == id) ≡ b → ArePlainRows (r ∷ rows)
-    → spliced id (renewed f id (with_ids (λ i. i == id) rows)) rows ≡ changed id f rows
-    → spliced id (renewed f id (with_ids (λ i. i == id) (r ∷ rows))) (r ∷ rows) ≡ changed id f (r ∷ rows)
+    → spliced id (renewed f id (with_ids (λ i. i == id) rows)) rows ≡ changed_rows id f rows
+    → spliced id (renewed f id (with_ids (λ i. i == id) (r ∷ rows))) (r ∷ rows) ≡ changed_rows id f (r ∷ rows)
 changed_case f id r rows true b less same h e =
     let other : (r.id == id) ≡ false = grind (arith, less) in
     let low : nat_lt id r.id ≡ false = grind (arith, less) in
@@ -200,7 +201,7 @@ changed_case f id r rows false false less same h e =
 
 -- a record's own rows with their cells changed
 pub spliced_changed : (f : List Value → List Value) (id : ℕ) (rows : List PlainRow) → ArePlainRows rows
-    → spliced id (renewed f id (with_ids (λ i. i == id) rows)) rows ≡ changed id f rows
+    → spliced id (renewed f id (with_ids (λ i. i == id) rows)) rows ≡ changed_rows id f rows
 spliced_changed f id [] h = refl
 spliced_changed f id (r ∷ rows) h = changed_case f id r rows (nat_lt r.id id) (r.id == id) refl refl h (spliced_changed f id rows h.1)
 
@@ -318,17 +319,17 @@ sound_table IsRow from (suc i) (t ∷ ts) h =
     let same : from + 1 + i ≡ from + suc i = omega arith in
     (rest.0, subst (λ k. AllByRecursion (IsRow k) (rows_of ts i)) same rest.1)
 
-table_rising : (n m : ℕ) (s : State) → IsSound (numbered n s) → AreRising (rows_of s.tables m)
+table_rising : (n m : ℕ) (s : State) → IsSound (numbered_tables n s) → AreRising (rows_of s.tables m)
 table_rising n m s sound = (sound_table (λ model (r : Row). IsMade model n r.id) 0 m s.tables sound.tables).0
 
-table_made : (n m : ℕ) (s : State) → IsSound (numbered n s) → AllByRecursion (λ (r : Row). IsMade m n r.id) (rows_of s.tables m)
+table_made : (n m : ℕ) (s : State) → IsSound (numbered_tables n s) → AllByRecursion (λ (r : Row). IsMade m n r.id) (rows_of s.tables m)
 table_made n m s sound =
     let here : 0 + m ≡ m = omega arith in
     subst (λ k. AllByRecursion (λ (r : Row). IsMade k n r.id) (rows_of s.tables m)) here (sound_table (λ model (r : Row). IsMade model n r.id) 0 m s.tables sound.tables).1
 
 -- a change leaves a sound state, as the keeper's crate has it
 abbrev pub SoundLaw : Type 0
-SoundLaw = (c : Change) (s : State) → IsSound s → s.number ≤ c.number → c.number ≤ 2 ^ 40 → AllStand c.number c.changed → IsSound (applied c s)
+SoundLaw = (c : Change) (s : State) → IsSound s → s.number ≤ c.number → c.number ≤ 2 ^ 40 → AllStand c.number c.changed → IsSound (changed_state c s)
 
 -- what a step on rows of a record makes of its cells
 abbrev pub IsStepOn : ℕ → (List PlainRow → List PlainRow) → (List (List Value) → List (List Value)) → Type 0
@@ -337,7 +338,7 @@ IsStepOn id step g = (rows : List PlainRow) → ArePlainRows rows → step rows 
 pub step_without : (id : ℕ) → IsStepOn id (without id) (λ cs. [])
 step_without id rows h = sym (spliced_without id rows h)
 
-pub step_changed : (id : ℕ) (f : List Value → List Value) → IsStepOn id (changed id f) (map f)
+pub step_changed : (id : ℕ) (f : List Value → List Value) → IsStepOn id (changed_rows id f) (map f)
 step_changed id f rows h = sym (spliced_changed f id rows h)
 
 pub step_with_row : (id : ℕ) (new : List Value) → IsStepOn id (with_row (plain_row id new)) (λ cs. new ∷ [])
@@ -369,7 +370,7 @@ ShowCells rows put = (w : ℕ → Bool) → length (cells_at w rows) ≤ 1 → c
 
 -- new alternatives show at most one, so those that show the same may take their place
 pub shows_put : (n id m : ℕ) (s : State) (guard : List (ℕ × Bool)) (new put : List Row) (g : (ℕ → Bool) → List (List Value) → List (List Value))
-    → IsSound (numbered n s)
+    → IsSound (numbered_tables n s)
     → ((w : ℕ → Bool) → cells_at w new ≡ (if holds w guard then g w (cells_at w (alternatives id (rows_of s.tables m))) else cells_at w (alternatives id (rows_of s.tables m))))
     → ((w : ℕ → Bool) (cs : List (List Value)) → length cs ≤ 1 → length (g w cs) ≤ 1)
     → ShowCells new put
@@ -382,7 +383,7 @@ shows_put n id m s guard new put g sound shows few same w =
 -- new alternatives of a record, where the guard holds those that the step leaves and else those that were
 pub written : SoundLaw → (n id m : ℕ) (s : State) (guard : List (ℕ × Bool)) (new : List Row)
     (g : (ℕ → Bool) → List (List Value) → List (List Value)) (step : (ℕ → Bool) → List PlainRow → List PlainRow)
-    → IsSound (numbered n s) → model_of_id id ≡ m → IsMade m n id → AreOf id new
+    → IsSound (numbered_tables n s) → model_of_id id ≡ m → IsMade m n id → AreOf id new
     → ((w : ℕ → Bool) → cells_at w new ≡ (if holds w guard then g w (cells_at w (alternatives id (rows_of s.tables m))) else cells_at w (alternatives id (rows_of s.tables m))))
     → ((w : ℕ → Bool) (cs : List (List Value)) → length cs ≤ 1 → length (g w cs) ≤ 1)
     → ((w : ℕ → Bool) → IsStepOn id (step w) (g w))
@@ -404,7 +405,7 @@ written law n id m s guard new g step sound model made own shows few is =
           ∙ ap (λ rows. slice_set (project_at w s).tables m (spliced id rows (rows_at w table))) (rows_named w id new own)
           ∙ shown_case id m (project_at w s).tables (rows_at w table) (step w) (g w) (cells_at w new) (holds w guard)
           (shown_rows w m s.tables) (rising_at w table rising) (is w) (shows w ∙ rw (cells_shown w id table) refl) (own_rows w id table);
-      sound = law (record { changed = one id new; number = n }) (numbered n s) sound (omega arith) sound.next.1 (stand, tt);
+      sound = law (record { changed = one id new; number = n }) (numbered_tables n s) sound (omega arith) sound.next.1 (stand, tt);
     }
 
 untouched_case : (m : ℕ) (tables : PlainTables) (rows : List PlainRow) (b : Bool) → rows ≡ rows_of tables m → tables ≡ (if b then slice_set tables m rows else tables)
@@ -413,7 +414,7 @@ untouched_case m tables rows false e = refl
 
 -- a record that isn't there
 pub absent : (n id m : ℕ) (s : State) (guard : List (ℕ × Bool)) (g : (ℕ → Bool) → List (List Value) → List (List Value)) (step : (ℕ → Bool) → List PlainRow → List PlainRow)
-    → IsSound (numbered n s) → alternatives id (rows_of s.tables m) ≡ [] → ((w : ℕ → Bool) → g w [] ≡ []) → ((w : ℕ → Bool) → IsStepOn id (step w) (g w))
+    → IsSound (numbered_tables n s) → alternatives id (rows_of s.tables m) ≡ [] → ((w : ℕ → Bool) → g w [] ≡ []) → ((w : ℕ → Bool) → IsStepOn id (step w) (g w))
     → Written n (λ w ts. slice_set ts m (step w (rows_of ts m))) guard s s
 absent n id m s guard g step sound none left is =
     let table = rows_of s.tables m in
@@ -431,9 +432,6 @@ absent n id m s guard g step sound none left is =
       sound = sound;
     }
 
-equal_ids : (a b : ℕ) → (a == b) ≡ true → a ≡ b
-equal_ids a b h = grind (arith, h)
-
 differs : (b : Bool) → (b ≡ true → ⊥) → b ≡ false
 differs true h = absurd (h refl)
 differs false h = refl
@@ -442,12 +440,12 @@ none_if_other : (m n id : ℕ) (table : List Row) → (m ≡ model_of_id id → 
 none_if_other m n id [] h made = refl
 none_if_other m n id (r ∷ rows) h made =
     let is : model_of_id r.id ≡ m = made.0.of_model in
-    let other : (r.id == id) ≡ false = differs (r.id == id) (λ same. h (sym is ∙ ap model_of_id (equal_ids r.id id same))) in
+    let other : (r.id == id) ≡ false = differs (r.id == id) (λ same. h (sym is ∙ ap model_of_id (eqb-true r.id id same))) in
     rw other (none_if_other m n id rows h made.1)
 
 made_case : (m n id : ℕ) (r : Row) (others rows : List Row) (b : Bool) → (r.id == id) ≡ b → (if b then r ∷ others else others) ≡ rows → IsMade m n r.id
     → (others ≡ rows → IsMade m n id) → IsMade m n id
-made_case m n id r others rows true same e made rest = subst (λ i. IsMade m n i) (equal_ids r.id id same) made
+made_case m n id r others rows true same e made rest = subst (λ i. IsMade m n i) (eqb-true r.id id same) made
 made_case m n id r others rows false same e made rest = rest e
 
 -- a record that is there was made
@@ -456,10 +454,10 @@ made_of m n id [] first rest e made = cc
 made_of m n id (r ∷ rows) first rest e made =
     made_case m n id r (alternatives id rows) (first ∷ rest) (r.id == id) refl e made.0 (λ more. made_of m n id rows first rest more made.1)
 
-pub record_made : (n m id : ℕ) (s : State) (first : Row) (rest : List Row) → IsSound (numbered n s) → alternatives id (rows_of s.tables m) ≡ first ∷ rest → IsMade m n id
+pub record_made : (n m id : ℕ) (s : State) (first : Row) (rest : List Row) → IsSound (numbered_tables n s) → alternatives id (rows_of s.tables m) ≡ first ∷ rest → IsMade m n id
 record_made n m id s first rest sound e = made_of m n id (rows_of s.tables m) first rest e (table_made n m s sound)
 
-pub no_other : (n m id : ℕ) (s : State) → IsSound (numbered n s) → (m ≡ model_of_id id → ⊥) → alternatives id (rows_of s.tables m) ≡ []
+pub no_other : (n m id : ℕ) (s : State) → IsSound (numbered_tables n s) → (m ≡ model_of_id id → ⊥) → alternatives id (rows_of s.tables m) ≡ []
 no_other n m id s sound h = none_if_other m n id (rows_of s.tables m) h (table_made n m s sound)
 
 left_case_of : (b : Bool) (t : PlainTables) → t ≡ (if b then t else t)
@@ -467,7 +465,7 @@ left_case_of true t = refl
 left_case_of false t = refl
 
 -- a step that leaves the tables
-pub idle : (n : ℕ) (s : State) (guard : List (ℕ × Bool)) (step : (ℕ → Bool) → PlainTables → PlainTables) → ((w : ℕ → Bool) (ts : PlainTables) → step w ts ≡ ts) → IsSound (numbered n s)
+pub idle : (n : ℕ) (s : State) (guard : List (ℕ × Bool)) (step : (ℕ → Bool) → PlainTables → PlainTables) → ((w : ℕ → Bool) (ts : PlainTables) → step w ts ≡ ts) → IsSound (numbered_tables n s)
     → Written n step guard s s
 idle n s guard step same sound = record {
   left = λ w.
@@ -493,7 +491,7 @@ first_of (r ∷ rows) h = record { first = r; rest = rows; is = refl }
 pub absent_by : (n id m : ℕ) (old new : State) (guard : List (ℕ × Bool)) (rows : List Row)
     (g : (ℕ → Bool) → List (List Value) → List (List Value)) (step : (ℕ → Bool) → List PlainRow → List PlainRow)
     → ((w : ℕ → Bool) → g w [] ≡ []) → ((w : ℕ → Bool) → IsStepOn id (step w) (g w))
-    → IsSound (numbered n old) → rows ≡ alternatives id (rows_of old.tables m) → true ≡ (length rows == 0) → new ≡ old
+    → IsSound (numbered_tables n old) → rows ≡ alternatives id (rows_of old.tables m) → true ≡ (length rows == 0) → new ≡ old
     → Written n (λ w ts. slice_set ts m (step w (rows_of ts m))) guard old new
 absent_by n id m old new guard rows g step left is sound exact none same =
     subst (λ s. Written n (λ w ts. slice_set ts m (step w (rows_of ts m))) guard old s) (sym same)
@@ -503,7 +501,7 @@ absent_by n id m old new guard rows g step left is sound exact none same =
 pub replaced_by : SoundLaw → (n id m : ℕ) (old mid new : State) (guard : List (ℕ × Bool)) (rows given kept put : List Row)
     (g : (ℕ → Bool) → List (List Value) → List (List Value)) (step : (ℕ → Bool) → List PlainRow → List PlainRow)
     → ((w : ℕ → Bool) (cs : List (List Value)) → length cs ≤ 1 → length (g w cs) ≤ 1) → ((w : ℕ → Bool) → IsStepOn id (step w) (g w))
-    → IsSound (numbered n old) → model_of_id id ≡ m → rows ≡ alternatives id (rows_of old.tables m) → false ≡ (length given == 0) → given ≡ rows
+    → IsSound (numbered_tables n old) → model_of_id id ≡ m → rows ≡ alternatives id (rows_of old.tables m) → false ≡ (length given == 0) → given ≡ rows
     → All (λ (r : Row). r.id ≡ id) put
     → ((w : ℕ → Bool) → cells_at w kept ≡ (if holds w guard then g w (cells_at w given) else cells_at w given))
     → ShowCells kept put → mid ≡ old → new ≡ state_with id put mid

@@ -18,7 +18,7 @@ use Rattle.jac_plain.specs.World.{record_with}
 use Rattle.jac_keep.proofs.AlteringLaws.{are_of}
 use Rattle.jac_keep.specs.Kept.{state_with}
 use Rattle.jac_keep.specs.Records.{alternatives}
-use Rattle.jac_write.specs.Writes.{numbered, Written, cells_at}
+use Rattle.jac_write.specs.Writes.{numbered_tables, Written, cells_at}
 use Rattle.jac_write.proofs.RecordLaws.{ShowCells, SoundLaw, cells, cells_shown, record_made, shown_rows, shows_put, step_with_row, written}
 
 absent_if : (b : Bool) (r : PlainRow) (found : Option PlainRow) (rows : List PlainRow) → stands (if b then Some r else found) ≡ false → (stands found ≡ false → rows ≡ [])
@@ -49,7 +49,7 @@ made_by m n id fits before =
 -- a new record beside the alternatives that stand, none of which holds where it does
 pub created : SoundLaw → (n id m : ℕ) (old mid new : State) (pc : List (ℕ × Bool)) (rows given all put : List Row) (made : (ℕ → Bool) → List Value)
     → number_of_id id < n → is_id_of id m ≡ true → ((w : ℕ → Bool) → holds w pc ≡ true → stands (record_with id (rows_of (project_at w old).tables m)) ≡ false)
-    → IsSound (numbered n old) → rows ≡ alternatives id (rows_of old.tables m) → given ≡ rows
+    → IsSound (numbered_tables n old) → rows ≡ alternatives id (rows_of old.tables m) → given ≡ rows
     → All (λ (r : Row). r.id ≡ id) put
     → ((w : ℕ → Bool) → cells_at w all ≡ cells_at w given ++ (if holds w pc then made w ∷ [] else []))
     → ShowCells all put → mid ≡ old → new ≡ state_with id put mid
@@ -87,12 +87,12 @@ remade w guard put store old outside within drafts new out into is all =
 not_both : (b : Bool) → b ≡ false → b ≡ true → ⊥
 not_both b f t = cc
 
-none_by : (n m id : ℕ) (s : State) (rows : List Row) → rows ≡ alternatives id (rows_of s.tables m) → IsSound (numbered n s) → is_id_of id m ≡ false → rows ≡ []
+none_by : (n m id : ℕ) (s : State) (rows : List Row) → rows ≡ alternatives id (rows_of s.tables m) → IsSound (numbered_tables n s) → is_id_of id m ≡ false → rows ≡ []
 none_by n m id s [] e sound other = refl
 none_by n m id s (r ∷ rows) e sound other = absurd (not_both (is_id_of id m) other (record_made n m id s r rows sound (sym e)).is_one)
 
 -- a number that is no id of the model has no alternatives in its table
-pub no_record : (n m id : ℕ) (s : State) → IsSound (numbered n s) → is_id_of id m ≡ false → alternatives id (rows_of s.tables m) ≡ []
+pub no_record : (n m id : ℕ) (s : State) → IsSound (numbered_tables n s) → is_id_of id m ≡ false → alternatives id (rows_of s.tables m) ≡ []
 no_record n m id s sound other = none_by n m id s (alternatives id (rows_of s.tables m)) refl sound other
 
 pub few_mapped : (f : List Value → List Value) (cs : List (List Value)) → length cs ≤ 1 → length (map f cs) ≤ 1

@@ -3,7 +3,7 @@ use Rattle.std.specs.Prelude.{ℕ, nat_le, Bool, false, not, ◌&&◌, if◌then
 use Rattle.jac_value.specs.declared.value.Value.{Value}
 use Rattle.jac_lang.specs.Lookup.{fields_at, groups_at, group_in, hiding_place}
 use Rattle.jac_lang.specs.Syntax.{Entity}
-use Rattle.jac_plain.specs.Records.{is_hidden_by, shielded}
+use Rattle.jac_plain.specs.Records.{is_hidden_by, shielded_cells}
 
 -- a group is the one at this place, or stands behind it
 abbrev pub is_from : ℕ → Option ℕ → Bool
@@ -26,4 +26,4 @@ abbrev pub regrouped_cells : List Entity → (ℕ → Bool) → ℕ → ℕ → 
     → List (List Value)
 regrouped_cells models shown m id first drafts =
     if stays models shown m id first
-    then map (shielded models shown m id (is_guarded_from models m first)) drafts else []
+    then map (shielded_cells models shown m id (is_guarded_from models m first)) drafts else []

@@ -3,7 +3,7 @@ use Rattle.std.specs.Prelude.{◌≡◌, ◌⊎◌, ℕ, ◌+◌, ◌<◌, ◌==
 use Rattle.jac_value.specs.declared.value.Value.{Value}
 use Rattle.jac_value.specs.Ids.{model_of_id, number_of_id}
 use Rattle.jac_world.specs.World.{holds}
-use Rattle.jac_facet.specs.Leaves.{seen}
+use Rattle.jac_facet.specs.Leaves.{leaves_seen}
 use Rattle.jac_facet.specs.Shape.{Shape, at}
 use Rattle.jac_lang.specs.declared.field_kinds.Field.{Field}
 use Rattle.jac_lang.specs.Lookup.{fields_at, kind_at}
@@ -11,7 +11,7 @@ use Rattle.jac_lang.specs.Mirror.{application_of}
 use Rattle.jac_lang.specs.Syntax.{Entity}
 use Rattle.jac_merged.specs.Merged.{AreMerged}
 use Rattle.jac_plain.specs.Expressions.{stands}
-use Rattle.jac_plain.specs.Records.{fitting, plain_row, shielded, every_field, changed, tables_after}
+use Rattle.jac_plain.specs.Records.{fitting, plain_row, shielded_cells, every_field, changed_rows, tables_after}
 use Rattle.jac_plain.specs.Statements.{is_kept, tables_made as tables_kept}
 use Rattle.jac_plain.specs.World.{record_with}
 use Rattle.jac_rows.specs.Good.{IsSound}
@@ -43,8 +43,8 @@ abbrev pub PlainTables : Type 0
 PlainTables = List (List PlainRow)
 
 -- the tables with this next number
-abbrev pub numbered : ℕ → State → State
-numbered n s = record s { number = n }
+abbrev pub numbered_tables : ℕ → State → State
+numbered_tables n s = record s { number = n }
 
 -- where the path condition holds the tables are what the step leaves, elsewhere they are as before;
 -- and tables that are sound with the next number n stay so
@@ -52,12 +52,12 @@ pub record Written (n : ℕ) (step : (ℕ → Bool) → PlainTables → PlainTab
     (old new : State) : Type 0 where
   pub left : (w : ℕ → Bool) → (project_at w new).tables ≡ (if holds w pc
       then step w (project_at w old).tables else (project_at w old).tables)
-  pub sound : IsSound (numbered n new)
+  pub sound : IsSound (numbered_tables n new)
 
 -- what a write leaves of tables that are sound
 abbrev pub Writes : ((ℕ → Bool) → PlainTables → PlainTables) → List (ℕ × Bool) → State → State
     → Type 0
-Writes step pc old new = (n : ℕ) → IsSound (numbered n old) → Written n step pc old new
+Writes step pc old new = (n : ℕ) → IsSound (numbered_tables n old) → Written n step pc old new
 
 -- a work that is told after a write was told before, and it is told after where its keeper still
 -- tells
@@ -77,20 +77,22 @@ each_holding w [] c = []
 each_holding w (g ∷ gs) c = (if holds w g then c ∷ [] else []) ++ each_holding w gs c
 
 -- the tables after a step for each of the values
-abbrev pub after_each : (Value → PlainTables → PlainTables) → List Value → PlainTables → PlainTables
-after_each step [] tables = tables
-after_each step (v ∷ vs) tables = after_each step vs (step v tables)
+abbrev pub tables_after_each : (Value → PlainTables → PlainTables) → List Value → PlainTables
+    → PlainTables
+tables_after_each step [] tables = tables
+tables_after_each step (v ∷ vs) tables = tables_after_each step vs (step v tables)
 
 -- the tables are what a step for each value that is seen leaves
 pub record WrittenEach (n : ℕ) (step : (ℕ → Bool) → Value → PlainTables → PlainTables)
     (leaves : List (List (ℕ × Bool) × Value)) (old new : State) : Type 0 where
-  pub left : (w : ℕ → Bool) → (project_at w new).tables ≡ after_each (step w) (seen w leaves)
+  pub left : (w : ℕ → Bool) → (project_at w new).tables ≡ tables_after_each (step w)
+      (leaves_seen w leaves)
       (project_at w old).tables
-  pub sound : IsSound (numbered n new)
+  pub sound : IsSound (numbered_tables n new)
 
 abbrev pub WritesEach : ((ℕ → Bool) → Value → PlainTables → PlainTables)
     → List (List (ℕ × Bool) × Value) → State → State → Type 0
-WritesEach step leaves old new = (n : ℕ) → IsSound (numbered n old)
+WritesEach step leaves old new = (n : ℕ) → IsSound (numbered_tables n old)
     → WrittenEach n step leaves old new
 
 -- the tables with one row of the model at this place
@@ -106,12 +108,13 @@ fitted_from models fields f (v ∷ vs) = fitting (kind_at models fields f) v ∷
 
 -- the cells of a new record, as they are stored
 abbrev pub made_cells : List Entity → (ℕ → Bool) → ℕ → ℕ → List Value → List Value
-made_cells models w m id cells = shielded models w m id every_field
+made_cells models w m id cells = shielded_cells models w m id every_field
     (fitted_from models (fields_at models m) 0 cells)
 
 -- the tables with a new record of these cells, where the record is kept
-abbrev pub tables_made : List Entity → (ℕ → Bool) → ℕ → ℕ → List Value → PlainTables → PlainTables
-tables_made models w m id cells tables =
+abbrev pub tables_created : List Entity → (ℕ → Bool) → ℕ → ℕ → List Value → PlainTables
+    → PlainTables
+tables_created models w m id cells tables =
     tables_kept (is_kept models w m id) m (plain_row id (made_cells models w m id cells)) tables
 
 -- what a create leaves of tables that are sound, where the record comes before the next number and
@@ -122,7 +125,7 @@ Creates id step pc old new =
     (n : ℕ) → number_of_id id < n
     → ((w : ℕ → Bool) → holds w pc ≡ true
     → stands (record_with id (rows_of (project_at w old).tables (model_of_id id))) ≡ false)
-    → IsSound (numbered n old) → Written n step pc old new
+    → IsSound (numbered_tables n old) → Written n step pc old new
 
 -- what the facets of fields show, each with its field's place
 abbrev pub sets_at : (ℕ → Bool) → List (ℕ × Shape Value) → List (ℕ × Value)
@@ -143,11 +146,11 @@ is_put (s ∷ sets) f = if s.0 == f then true else is_put sets f
 -- the cells of a record that stands, as they are stored once these are put in
 abbrev pub remade_cells : List Entity → (ℕ → Bool) → ℕ → ℕ → List (ℕ × Value) → List Value
     → List Value
-remade_cells models w m id sets old = shielded models w m id (is_put sets)
+remade_cells models w m id sets old = shielded_cells models w m id (is_put sets)
     (put_in models (fields_at models m) sets old)
 
 -- the tables with these cells put into the record that the value refers to
 abbrev pub tables_remade : List Entity → (ℕ → Bool) → ℕ → Value → List (ℕ × Value) → PlainTables
     → PlainTables
 tables_remade models w m target sets tables = tables_after m target
-    (λ id rows. changed id (remade_cells models w m id sets) rows) tables
+    (λ id rows. changed_rows id (remade_cells models w m id sets) rows) tables

@@ -8,11 +8,11 @@ ghost use Rattle.jac_keep.specs.Worked.{state_of, IsTold, WritesWork};
 ghost use Rattle.jac_plain.specs.Records.{plain_row, tables_with};
 ghost use Rattle.jac_rows.specs.declared.row.Row.{Row as Seen};
 ghost use Rattle.jac_world.specs.World.{holds};
-ghost use Rattle.jac_write.specs.Writes.{Creates, KeepsOrMerges, StaysTold, cells_at, made_cells, tables_made, models_for};
+ghost use Rattle.jac_write.specs.Writes.{Creates, KeepsOrMerges, StaysTold, cells_at, made_cells, tables_created, models_for};
 
 use crate::alternatives::put_rows;
 use crate::drafts::new_drafts;
-use crate::hiding::kept_under;
+use crate::hidden::kept_under;
 use crate::merged::merged_rows;
 use crate::named::Named;
 use crate::stored::add_stored;
@@ -110,7 +110,7 @@ pub fn create<K: Keeper, L: Ledger>(
     requires each_field { length cells.now ≡ length (fields_at (application_of app.now).models
         (model_of_id id)) }
     ensures left { IsTold K.seen work.new
-        → OnOk result (Creates id (λ w. tables_made (application_of app.now).models w
+        → OnOk result (Creates id (λ w. tables_created (application_of app.now).models w
         (model_of_id id) id (all_at w cells.now)) pc.now (state_of K.seen work.old)
         (state_of K.seen work.new)) }
     ensures told { OnOk result (StaysTold K.seen work.old work.new) }

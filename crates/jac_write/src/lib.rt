@@ -3,12 +3,13 @@
 
 mod alternatives;
 mod cells;
+mod change;
 mod creation;
 mod deletion;
 mod drafts;
 mod fit;
-mod grouping;
-mod hiding;
+mod groups;
+mod hidden;
 mod memory;
 mod merged;
 mod named;
@@ -17,11 +18,10 @@ mod schema;
 mod sets;
 mod stored;
 mod subject;
-mod updating;
 
+pub use change::update;
 pub use creation::create;
 pub use deletion::delete;
-pub use grouping::regrouped;
+pub use groups::regrouped;
 pub use public_values::public_value;
 pub use sets::Sets;
-pub use updating::update;

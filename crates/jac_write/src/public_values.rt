@@ -4,7 +4,7 @@ ghost use Rattle.jac_value.specs.Ids.{is_id_of, number_of_id};
 ghost use Rattle.jac_value.specs.Values.{default_value};
 ghost use Rattle.jac_lang.specs.Lookup.{fields_at, kind_at};
 ghost use Rattle.jac_lang.specs.Mirror.{application_of, expression_of};
-ghost use Rattle.jac_world.specs.World.{shown};
+ghost use Rattle.jac_world.specs.World.{shown_by};
 ghost use Rattle.jac_rows.specs.Good.{IsSound};
 ghost use Rattle.jac_rows.specs.Project.{project_at};
 ghost use Rattle.jac_plain.specs.Expressions.{mean};
@@ -114,7 +114,7 @@ fn value_in<L: Ledger>(
       models = (application_of app.now).models;
       this = Some id;
       viewer = None;
-      tables = (project_at (shown []) keeper.old.state).tables;
+      tables = (project_at (shown_by []) keeper.old.state).tables;
     })
         (expression_of e.now) []) }
 {

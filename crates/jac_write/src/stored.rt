@@ -2,7 +2,7 @@
 ghost use Rattle.std.specs.Prelude.{◌≡◌, ◌<◌, ◌∷◌, [], ◌++◌, ◌&&◌, ℕ, Bool, true, length, map, slice_get, Some, if◌then◌else◌, All, IfOk, OnOk};
 ghost use Rattle.jac_facet.specs.Shape.{at};
 ghost use Rattle.jac_lang.specs.Lookup.{fields_at};
-ghost use Rattle.jac_plain.specs.Records.{is_hidden, public_cell, shielded};
+ghost use Rattle.jac_plain.specs.Records.{is_hidden, public_cell, shielded_cells};
 ghost use Rattle.jac_rows.specs.declared.row.Row.{Row as Seen};
 ghost use Rattle.jac_value.specs.Ids.{is_id_of};
 ghost use Rattle.jac_world.specs.World.{holds};
@@ -157,7 +157,7 @@ fn stored_draft<L: Ledger>(
     requires id { is_id_of subject.now.id subject.now.model ≡ true }
     ensures own { IfOk result (λ v. All (λ (r : Seen). r.id ≡ subject.now.id) v.items) }
     ensures shown { IfOk result (λ v. (w : ℕ → Bool)
-        → cells_at w v.items ≡ map (shielded (models_for subject.now) w subject.now.model
+        → cells_at w v.items ≡ map (shielded_cells (models_for subject.now) w subject.now.model
         subject.now.id (named_by (models_for subject.now) subject.now.model w named.entry))
         (cells_at w (draft.now ∷ []))) }
 {
@@ -184,7 +184,8 @@ fn add_stored_draft<L: Ledger>(
     requires own { All (λ (r : Seen). r.id ≡ subject.now.id) out.old.items }
     ensures own { OnOk result (All (λ (r : Seen). r.id ≡ subject.now.id) out.new.items) }
     ensures shown { OnOk result ((w : ℕ → Bool) → cells_at w out.new.items ≡ cells_at w
-        out.old.items ++ map (shielded (models_for subject.now) w subject.now.model subject.now.id
+        out.old.items ++ map (shielded_cells (models_for subject.now) w subject.now.model
+        subject.now.id
         (named_by (models_for subject.now) subject.now.model w named.entry))
         (cells_at w (draft.now ∷ []))) }
 {
@@ -209,7 +210,8 @@ pub(crate) fn add_stored<L: Ledger>(
     requires own { All (λ (r : Seen). r.id ≡ subject.now.id) out.old.items }
     ensures own { OnOk result (All (λ (r : Seen). r.id ≡ subject.now.id) out.new.items) }
     ensures shown { OnOk result ((w : ℕ → Bool) → cells_at w out.new.items ≡ cells_at w
-        out.old.items ++ map (shielded (models_for subject.now) w subject.now.model subject.now.id
+        out.old.items ++ map (shielded_cells (models_for subject.now) w subject.now.model
+        subject.now.id
         (named_by (models_for subject.now) subject.now.model w named.entry))
         (cells_at w drafts.now)) }
 {

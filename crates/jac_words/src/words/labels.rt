@@ -1,7 +1,7 @@
 ghost use Rattle.std.specs.Prelude.{◌≡◌, ◌==◌, ◌||◌, ℕ, IfOk};
 ghost use Rattle.std.specs.List.{slice_split};
-ghost use Rattle.jac_world.specs.World.{shown};
-ghost use Rattle.jac_words.specs.Words.{label_of, labels_of, labels_of_parts};
+ghost use Rattle.jac_world.specs.World.{shown_by};
+ghost use Rattle.jac_words.specs.Words.{label_of_word, labels_of_word, labels_of_parts};
 
 use super::numbers::number_within;
 use jac_value::{Memory, first_part};
@@ -32,7 +32,7 @@ impl Labels {
 
     /// The assignment that shows these labels and no other.
     pub fn assignment(&self, alloc: Global) -> Result<Assignment, Memory>
-        ensures { IfOk result (λ a. (k : ℕ) → shown a k ≡ shown self.now k) }
+        ensures { IfOk result (λ a. (k : ℕ) → shown_by a k ≡ shown_by self.now k) }
     {
         let mut assignment = Assignment::empty(alloc);
         let mut left = self.labels.as_slice();
@@ -45,7 +45,8 @@ impl Labels {
 }
 
 fn with_label(alloc: Global, assignment: &Assignment, label: Label) -> Result<Assignment, Memory>
-    ensures { IfOk result (λ a. (k : ℕ) → shown a k ≡ (label == k || shown assignment.now k)) }
+    ensures { IfOk result (λ a. (k : ℕ) → shown_by a k ≡ (label == k
+        || shown_by assignment.now k)) }
 {
     match assignment.with(alloc, label) {
         Ok(more) => Ok(more),
@@ -55,7 +56,7 @@ fn with_label(alloc: Global, assignment: &Assignment, label: Label) -> Result<As
 
 /// The labels that a word writes: `-` for none, or numbers with commas between them.
 pub(super) fn labels_of(alloc: Global, word: &[u8]) -> Result<Option<Labels>, Memory>
-    ensures { IfOk result (λ labels. labels ≡ labels_of word.now) }
+    ensures { IfOk result (λ labels. labels ≡ labels_of_word word.now) }
 {
     if word == b"-".as_slice() {
         return Ok(Some(Labels {
@@ -83,7 +84,7 @@ fn labels_of_parts(alloc: Global, word: &[u8]) -> Result<Option<Labels>, Memory>
 }
 
 fn label_of(word: &[u8]) -> Option<Label>
-    ensures { result ≡ label_of word.now }
+    ensures { result ≡ label_of_word word.now }
 {
     match number_within(word, 0, u128::MAX) {
         Some(number) => Some(Label(number)),

@@ -2,7 +2,7 @@ ghost use Rattle.std.specs.Prelude.{◌≡◌, ◌<◌, ◌^◌, ◌&&◌, nat_l
 ghost use Rattle.std.specs.Char.{is_ascii_digit};
 ghost use Rattle.std.specs.List.{list_all};
 ghost use Rattle.std.specs.Str.Parse.{digits_value};
-ghost use Rattle.jac_words.specs.Words.{between, has_leading_zero, is_number, number_within};
+ghost use Rattle.jac_words.specs.Words.{number_between, has_leading_zero, is_number_word, number_within};
 
 use std::str::from_utf8;
 
@@ -20,7 +20,7 @@ pub(super) fn number_within(word: &[u8], least: u128, most: u128) -> Option<u128
 }
 
 fn between(least: u128, most: u128, number: u128) -> Option<u128>
-    ensures { result ≡ between least most number }
+    ensures { result ≡ number_between least most number }
 {
     if least <= number && number <= most {
         Some(number)
@@ -30,7 +30,7 @@ fn between(least: u128, most: u128, number: u128) -> Option<u128>
 }
 
 fn is_number(word: &[u8]) -> bool
-    ensures { result ≡ is_number word.now }
+    ensures { result ≡ is_number_word word.now }
 {
     !word.is_empty() && are_digits(word) && !has_leading_zero(word)
 }

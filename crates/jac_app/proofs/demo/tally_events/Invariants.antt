@@ -5,7 +5,7 @@ use Rattle.jac_events.specs.Lines.{line_of}
 use Rattle.jac_value.specs.Parts.{option_now, length_left, parts_left}
 use Rattle.jac_calendar.specs.Asking.{IsAsking}
 use Rattle.jac_app.specs.Demo.{IsBounded}
-use Rattle.jac_serving.specs.Desk.{MayServe, Keeps, kept}
+use Rattle.jac_serving.specs.Desk.{MayServe, KeepsDesk, kept}
 use Rattle.jac_serving.specs.Outside.{WentTo, span}
 use Rattle.jac_desk.specs.Answered.{answering}
 use Rattle.jac_desk.specs.Seen.{desk_seen}
@@ -23,7 +23,7 @@ invariant-lines g l =
       asking : All (λ line. IsAsking (line_of line)) (parts_left 10 (option_now l.left));
       desk : MayServe answering (desk_seen K.seen l.desk);
       eager : l.desk.lazy ≡ false;
-      keeps : Keeps answering (desk_seen K.seen l.fn.desk) (desk_seen K.seen l.desk);
+      keeps : KeepsDesk answering (desk_seen K.seen l.fn.desk) (desk_seen K.seen l.desk);
       went : WentTo (span (U.seen l.fn.audit) (U.seen l.audit))
           (Tallying (application_of l.fn.desk.service.now) (kept (desk_seen K.seen l.fn.desk) (desk_seen K.seen l.desk)) l.bytes (option_now l.left) l.summary);
     }

@@ -1,7 +1,7 @@
 use Rattle.jac_http.specs.Requests.{IsTaken}
-use Rattle.jac_hub.specs.Hub.{seen}
-use Rattle.jac_serving.specs.Desk.{Keeps}
-use Rattle.jac_serving.specs.Serve.{handled}
+use Rattle.jac_hub.specs.Hub.{hub_seen}
+use Rattle.jac_serving.specs.Desk.{KeepsDesk}
+use Rattle.jac_serving.specs.Serve.{Handles}
 use Rattle.jac_serving.proofs.NextLemmas.{next-either, next-seen}
 use Rattle.jac_desk.specs.Answered.{answering}
 use Rattle.jac_desk.specs.Seen.{whose, desk_seen}
@@ -13,10 +13,10 @@ returns-clause-next g c =
     let before = c.args.desk.now in
     let after = c.next.new.handler in
     next-seen IsTaken before after (λ a. (desk_seen K.seen a).holding)
-    (λ x conn heard sent y. Keeps answering (desk_seen K.seen x) (desk_seen K.seen y)
-    × handled x.spelling (answering (whose x)) (desk_seen K.seen x).holding conn heard sent (desk_seen K.seen y).holding)
-    (handled before.spelling (answering (whose before)))
-    (λ conn heard sent h. h.1) (seen c.args.hub.now) _ _ _ c.next.ensures.next
+    (λ x conn heard sent y. KeepsDesk answering (desk_seen K.seen x) (desk_seen K.seen y)
+    × Handles x.spelling (answering (whose x)) (desk_seen K.seen x).holding conn heard sent (desk_seen K.seen y).holding)
+    (Handles before.spelling (answering (whose before)))
+    (λ conn heard sent h. h.1) (hub_seen c.args.hub.now) _ _ _ c.next.ensures.next
 
 pub returns-clause-keeps : goal.returns-clause-keeps
 returns-clause-keeps g c =
@@ -24,13 +24,13 @@ returns-clause-keeps g c =
     let before = c.args.desk.now in
     let after = c.next.new.handler in
     next-either IsTaken before after
-    (λ x conn heard sent y. Keeps answering (desk_seen K.seen x) (desk_seen K.seen y)
-    × handled x.spelling (answering (whose x)) (desk_seen K.seen x).holding conn heard sent (desk_seen K.seen y).holding)
-    (Keeps answering (desk_seen K.seen before) (desk_seen K.seen after))
+    (λ x conn heard sent y. KeepsDesk answering (desk_seen K.seen x) (desk_seen K.seen y)
+    × Handles x.spelling (answering (whose x)) (desk_seen K.seen x).holding conn heard sent (desk_seen K.seen y).holding)
+    (KeepsDesk answering (desk_seen K.seen before) (desk_seen K.seen after))
     (λ same. record {
       same = λ i. whose (same i);
       store = λ i. (K.seen (same i).keeper.now).store;
       ready = rw same c.requires.ready;
       settled = rw same c.requires.settled;
     })
-    (λ conn heard sent h. h.0) (seen c.args.hub.now) _ _ _ c.next.ensures.next
+    (λ conn heard sent h. h.0) (hub_seen c.args.hub.now) _ _ _ c.next.ensures.next

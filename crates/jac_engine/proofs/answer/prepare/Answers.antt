@@ -1,6 +1,6 @@
 use Rattle.jac_lang.specs.Mirror.{application_of}
-use Rattle.jac_engine.specs.Prepared.{worlds_of}
 use Rattle.jac_engine.proofs.answer.prepare.Goals as goal
+use Rattle.jac_plain.specs.Shown.{worlds_of}
 
 pub prepare_by-requires-clause-seated : goal.prepare_by-requires-clause-seated
 prepare_by-requires-clause-seated g c = λ told.

@@ -4,11 +4,11 @@ use Rattle.jac_lang.specs.Mirror.{statements_of}
 use Rattle.jac_plain.specs.Reading.{are_reading}
 use Rattle.jac_rows.specs.declared.state.State.{State}
 use Rattle.jac_engine.specs.Answers.{lazy_answer}
-use Rattle.jac_engine.specs.Prepared.{worlds_of}
 use Rattle.jac_engine.specs.Visits.{app_of, visit_at}
-use Rattle.jac_opening.specs.Served.{are_untemplated}
 use Rattle.jac_engine.proofs.AnswerLaws.{lazily_shown}
 use Rattle.jac_engine.proofs.answer.show_lazily.Goals as goal
+use Rattle.jac_plain.specs.Shown.{worlds_of}
+use Rattle.jac_lang.specs.Untemplated.{are_untemplated}
 
 pub shown_lazily-requires-clause-reading : goal.shown_lazily-requires-clause-reading
 shown_lazily-requires-clause-reading g c =

@@ -1,5 +1,5 @@
 use Rattle.std.proofs.Common.{◌<◌, ◌^◌, ◌∙◌, ap, refl, inr, arith, IsTrue}
-use Rattle.jac_lang.specs.Mirror.{application_of, page_of}
+use Rattle.jac_lang.specs.Mirror.{application_of, page_of_view}
 use Rattle.jac_lang.proofs.Places.{length-entities}
 use Rattle.jac_engine.specs.Answers.{asked_with, page_answer, visit_of}
 use Rattle.jac_engine.proofs.AnswerLaws.{page_stored, change_stored, settled_after}
@@ -35,7 +35,7 @@ stored_page-requires-clause-ready g c = λ told.
     let left = c.in_ok-number.ensures.reads.left in
     let start = c.requires.start (left.told told) in
     let few : c.in_ok-number.number < 2 ^ 40 = omega (arith, c.in_ok-number.ensures.in_range.1, c.if-number-eq-LAST_NUMBER.false) in
-    rw (left.same_state told) (ready_to_store (application_of c.args.visited.now.app.now) (page_of c.args.visited.now.view.now) (asked_with c.args.visited.now.path.now c.args.visited.now.ask.now) c.in_ok-number.number (g.K.Keeper.seen c.args.keeper.now).state c.requires.served start
+    rw (left.same_state told) (ready_to_store (application_of c.args.visited.now.app.now) (page_of_view c.args.visited.now.view.now) (asked_with c.args.visited.now.path.now c.args.visited.now.ask.now) c.in_ok-number.number (g.K.Keeper.seen c.args.keeper.now).state c.requires.served start
     c.requires.few (c.in_ok-number.ensures.exact told) few)
 
 pub returns-clause-stored : goal.returns-clause-stored
@@ -44,7 +44,7 @@ returns-clause-stored g c =
     let left = c.in_ok-number.ensures.reads.left in
     let s = (g.K.Keeper.seen c.args.keeper.now).state in
     let n = c.in_ok-number.number in
-    let v = page_of c.args.visited.now.view.now in
+    let v = page_of_view c.args.visited.now.view.now in
     let few : n < 2 ^ 40 = omega (arith, c.in_ok-number.ensures.in_range.1, c.if-number-eq-LAST_NUMBER.false) in
     let made = c.in_ok-stored.ensures.made in
     let shown = c.in_ok-stored.stored.shown in

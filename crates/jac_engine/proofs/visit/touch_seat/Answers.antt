@@ -1,7 +1,7 @@
 use Rattle.jac_keep.specs.Worked.{state_of}
-use Rattle.jac_engine.specs.Prepared.{worlds_of}
 use Rattle.jac_engine.specs.Visits.{app_of, viewer_at}
 use Rattle.jac_engine.proofs.visit.touch_seat.Goals as goal
+use Rattle.jac_plain.specs.Shown.{worlds_of}
 
 pub returns-clause-seated : goal.returns-clause-seated
 returns-clause-seated g c = λ told.

@@ -2,8 +2,8 @@ use Rattle.std.proofs.Common.{◌∙◌, ap}
 use Rattle.jac_facet.specs.Shape.{at}
 use Rattle.jac_keep.specs.Worked.{state_of}
 use Rattle.jac_plain.specs.World.{got_of}
-use Rattle.jac_expr.specs.Seen.{world_at}
 use Rattle.jac_expr.proofs.reading.get.Goals as goal
+use Rattle.jac_plain.specs.Shown.{world_at}
 
 pub returns-in_ok-read-in-Some-clause-value : goal.returns-in_ok-read-in-Some-clause-value
 returns-in_ok-read-in-Some-clause-value g c told ctx w held =

@@ -4,7 +4,7 @@ use Rattle.jac_rows.specs.Project.{rows_at, project_at}
 use Rattle.jac_rows.specs.Tables.{rows_of}
 use Rattle.jac_keep.specs.Worked.{state_of}
 use Rattle.jac_query.specs.Field.{field_of}
-use Rattle.jac_plain.specs.World.{cell_of, referred}
+use Rattle.jac_plain.specs.World.{cell_of, referred_record}
 use Rattle.jac_expr.proofs.Rows.{field-shown}
 use Rattle.jac_expr.proofs.reading.read_one.Goals as goal
 
@@ -15,4 +15,4 @@ returns-in_ok-cell-in-Ref-Some-clause-value g c told w =
     c.in_ok-cell-in-Ref-Some.ensures w
     ∙ ap (λ rows. field_of c.args.field c.args.absent.now (rows_at w rows)) c.as_slice.ensures
     ∙ field-shown w c.in-Ref-Some.id c.args.model c.args.field c.args.absent.now state.tables c.in_ok-rows-in-Ref-Some.rows (c.in_ok-rows-in-Ref-Some.ensures.rows told)
-    ∙ ap (λ v. cell_of (referred v (rows_of (project_at w state).tables c.args.model)) c.args.field c.args.absent.now) (sym reference)
+    ∙ ap (λ v. cell_of (referred_record v (rows_of (project_at w state).tables c.args.model)) c.args.field c.args.absent.now) (sym reference)

@@ -3,7 +3,7 @@ use Rattle.std.specs.Prelude.{codes}
 use Rattle.jac_lang.specs.Mirror.{entity_of, entities_of}
 use Rattle.jac_tree.specs.Plain.{PlainTrees}
 use Rattle.jac_tree.specs.Mirror.{plain, plain_all}
-use Rattle.jac_forms.specs.Applications.{is_headed, headed, items_in_trees}
+use Rattle.jac_forms.specs.Applications.{is_headed, headed_count, items_in_trees}
 use Rattle.jac_forms.specs.Places.{path_of}
 use Rattle.jac_forms.proofs.Gathered.{gathered, gathered-more, headed-more}
 use Rattle.jac_forms.proofs.Made.{seen-pushed}
@@ -15,7 +15,7 @@ models-preserved c =
     let ts = plain_all c.deref-left.result.now in
     let left : plain_all c.models.left.now ≡ PlainTrees.more t ts = rw (c.in-More.is, ← c.deref-in-More.ensures, ← c.deref-left.ensures) refl in
     let head : is_headed (codes "model") t ≡ true = search rules in
-    let counted : headed (codes "model") (plain_all c.models.left.now) ≡ headed (codes "model") ts + 1 = ap (headed (codes "model")) left ∙ headed-more (codes "model") t ts head in
+    let counted : headed_count (codes "model") (plain_all c.models.left.now) ≡ headed_count (codes "model") ts + 1 = ap (headed_count (codes "model")) left ∙ headed-more (codes "model") t ts head in
     let at = path_of c.args.place.now in
     let all = items_in_trees at c.args.first (plain_all c.args.trees.now) in
     record {

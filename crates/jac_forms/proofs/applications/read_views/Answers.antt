@@ -1,5 +1,5 @@
 use Rattle.std.proofs.Common.{rules, ap, arith, length, ◌≡◌, refl, subst}
-use Rattle.jac_lang.specs.Mirror.{page_of, pages_of}
+use Rattle.jac_lang.specs.Mirror.{page_of_view, pages_of}
 use Rattle.jac_tree.specs.Plain.{PlainTrees}
 use Rattle.jac_tree.specs.Mirror.{plain, plain_all}
 use Rattle.jac_forms.specs.Names.{each_in_trees}
@@ -17,9 +17,9 @@ views-preserved c =
     record {
       few = search rules;
       fits = search rules;
-      made = made-more page_in_tree at (pages_of c.views.views.items) (pages_of c.push.new.self.items) (page_of c.in_ok-view.view)
+      made = made-more page_in_tree at (pages_of c.views.views.items) (pages_of c.push.new.self.items) (page_of_view c.in_ok-view.view)
           c.views.number _ _ (plain c.deref.result.now) (plain_all c.deref-left.result.now) all
-          (seen-pushed page_of pages_of refl (λ _ _. refl) c.views.views.items c.push.new.self.items c.in_ok-view.view c.in_ok-push.ensures.items)
+          (seen-pushed page_of_view pages_of refl (λ _ _. refl) c.views.views.items c.push.new.self.items c.in_ok-view.view c.in_ok-push.ensures.items)
           (search rules) c.child.ensures c.in_ok-view.ensures.value
           (subst (λ (ts : PlainTrees). made_before (pages_of c.views.views.items) (each_in_trees page_in_tree at c.views.number ts) ≡ all) left c.views.invariant.made);
     }

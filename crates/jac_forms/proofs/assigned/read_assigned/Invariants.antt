@@ -1,6 +1,6 @@
 use Rattle.std.proofs.Common.{◌≡◌}
 use Rattle.jac_lang.specs.Mirror.{assigned_of}
-use Rattle.jac_lang.specs.Turned.{turned}
+use Rattle.jac_lang.specs.Turned.{turned_round}
 use Rattle.jac_tree.specs.Mirror.{plain_all}
 use Rattle.jac_forms.specs.Names.{each_in_trees}
 use Rattle.jac_forms.specs.Places.{path_of}
@@ -11,5 +11,5 @@ use Rattle.jac_forms.proofs.assigned.read_assigned.Given as goal
 -- the fields so far, before those of the rest, are those of all
 abbrev pub invariant-fields : goal.invariant-fields
 invariant-fields l =
-    read_map (turned (assigned_of l.back)) (each_in_trees (assigned_in_tree l.fn.want) (path_of l.fn.place) l.number (plain_all l.left))
+    read_map (turned_round (assigned_of l.back)) (each_in_trees (assigned_in_tree l.fn.want) (path_of l.fn.place) l.number (plain_all l.left))
     ≡ each_in_trees (assigned_in_tree l.fn.want) (path_of l.fn.place) 1 (plain_all l.trees)

@@ -2,7 +2,6 @@ use Rattle.std.proofs.Common.{rules, ◌≡◌, IfErr, IsTrue, true}
 use Rattle.std.proofs.Common.{refl, sym, subst, ◌∙◌}
 use Rattle.std.specs.Prelude.{codes}
 use Rattle.jac_lang.specs.Syntax.{Question}
-use Rattle.jac_forms.specs.Names.{is_word}
 use Rattle.jac_forms.specs.Places.{child, path_of}
 use Rattle.jac_forms.specs.Reads.{Read, refused}
 use Rattle.jac_forms.proofs.QueryShape.{question-parts}
@@ -10,6 +9,7 @@ use Rattle.jac_tree.specs.Mirror.{plain}
 use Rattle.jac_forms.specs.Expressions.{most_binders, has_few}
 use Rattle.jac_forms.specs.Refusal.{refuses}
 use Rattle.jac_forms.proofs.expressions.+read.Goals as goal
+use Rattle.jac_tree.specs.Plain.{is_word}
 
 pub read_asked-returns-in_err-query-clause-fault : goal.read_asked-returns-in_err-query-clause-fault
 read_asked-returns-in_err-query-clause-fault t c = rw (c.in-More.is, ← c.deref.ensures, c.in-End.is, ← c.deref-2.ensures, ← c.child.ensures) (search rules)

@@ -1,10 +1,11 @@
 use Rattle.std.proofs.Common.{◌≡◌, ◌+◌, vec_len}
 use Rattle.jac_tree.specs.Mirror.{plain_all}
 use Rattle.jac_forms.specs.Applications.{field_in_tree}
-use Rattle.jac_forms.specs.Names.{count, each_in_trees}
+use Rattle.jac_forms.specs.Names.{each_in_trees}
 use Rattle.jac_forms.specs.Places.{path_of}
 use Rattle.jac_forms.proofs.Made.{made_before}
 use Rattle.jac_forms.proofs.fields.read_each.Given as goal
+use Rattle.jac_tree.specs.Plain.{count}
 
 -- the fields so far, before those of the rest, are those of all
 abbrev pub invariant-fields : goal.invariant-fields

@@ -1,8 +1,8 @@
 use Rattle.std.proofs.Common.{rules, ◌≡◌, ◌+◌, refl, ap, subst, arith}
 use Rattle.jac_lang.specs.Mirror.{field_group_of, groups_of}
-use Rattle.jac_tree.specs.Plain.{PlainTrees}
+use Rattle.jac_tree.specs.Plain.{PlainTrees, count}
 use Rattle.jac_tree.specs.Mirror.{plain, plain_all}
-use Rattle.jac_forms.specs.Names.{count, each_in_trees}
+use Rattle.jac_forms.specs.Names.{each_in_trees}
 use Rattle.jac_forms.specs.Places.{path_of}
 use Rattle.jac_forms.specs.Applications.{group_in_tree}
 use Rattle.jac_forms.proofs.Made.{made_before, made-more, seen-pushed}

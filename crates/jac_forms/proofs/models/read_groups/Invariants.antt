@@ -2,10 +2,11 @@ use Rattle.std.proofs.Common.{◌≡◌, ◌+◌, vec_len}
 use Rattle.jac_lang.specs.Mirror.{groups_of}
 use Rattle.jac_tree.specs.Mirror.{plain_all}
 use Rattle.jac_forms.specs.Applications.{group_in_tree}
-use Rattle.jac_forms.specs.Names.{count, each_in_trees}
+use Rattle.jac_forms.specs.Names.{each_in_trees}
 use Rattle.jac_forms.specs.Places.{path_of}
 use Rattle.jac_forms.proofs.Made.{made_before}
 use Rattle.jac_forms.proofs.models.read_groups.Given as goal
+use Rattle.jac_tree.specs.Plain.{count}
 
 -- the groups so far, before those of the rest, are those of all
 abbrev pub invariant-groups : goal.invariant-groups

@@ -1,7 +1,7 @@
 use Rattle.std.proofs.Common.{◌≡◌, ◌+◌}
 use Rattle.jac_tree.specs.Mirror.{plain_all}
-use Rattle.jac_forms.specs.Names.{count}
 use Rattle.jac_forms.proofs.names.count.Given as goal
+use Rattle.jac_tree.specs.Plain.{count}
 
 -- the trees so far and those of the rest are all
 abbrev pub invariant-trees : goal.invariant-trees

@@ -1,6 +1,6 @@
 use Rattle.std.proofs.Common.{◌≡◌, ◌+◌, ◌++◌, ◌∷◌, length, ◌∙◌, ap, arith, rules}
 use Rattle.std.specs.Vec.Iter.{into_iter_items}
-use Rattle.jac_keep.specs.Opened.{rows_in, IsReady}
+use Rattle.jac_keep.specs.Opened.{rows_in, IsReadyTable}
 use Rattle.jac_keep.proofs.OpeningLaws.{both, rows_in-pushed, ready-pushed}
 use Rattle.jac_keep.proofs.opening.open_all.Goals as goal
 
@@ -15,7 +15,7 @@ tables-preserved c =
       ap (λ all. rows_in all ++ rest) c.push_reserved.ensures.items ∙ rows_in-pushed os o rest ∙ ap (λ t. rows_in os ++ t ∷ rest) c.open-one.ensures.rows ∙ before.0,
       (λ told.
           let each = both c.tables.ready c.open-one.result.1 told in
-          let one : IsReady (0 + length os) c.args.changed.now o = rw index at (c.open-one.ensures.ready each.1) in
+          let one : IsReadyTable (0 + length os) c.args.changed.now o = rw index at (c.open-one.ensures.ready each.1) in
           rw c.push_reserved.ensures.items (ready-pushed 0 c.args.changed.now os o (before.1 each.0) one)),
       omega (arith, before.2, c.push_reserved.ensures.len, c.push_reserved.ensures.capacity),
     )

@@ -1,7 +1,7 @@
 use Rattle.std.proofs.Common.{◌≡◌, nat_le}
 use Rattle.jac_tree.specs.Mirror.{plain_all}
-use Rattle.jac_keep.specs.Schema.{count}
 use Rattle.jac_keep.proofs.schema.is_up_to.Given as goal
+use Rattle.jac_tree.specs.Plain.{count}
 
 -- what is left fits the room that is left where all fits
 abbrev pub invariant-trees : goal.invariant-trees

@@ -1,7 +1,8 @@
 use Rattle.std.proofs.Common.{◌≡◌, ◌≤◌, ◌+◌}
 use Rattle.jac_tree.specs.Mirror.{plain_all}
-use Rattle.jac_keep.specs.Schema.{count, place_from}
+use Rattle.jac_keep.specs.Schema.{place_from}
 use Rattle.jac_keep.proofs.schema.place_of.Given as goal
+use Rattle.jac_tree.specs.Plain.{count}
 
 abbrev pub invariant-models : goal.invariant-models
 invariant-models l = record {

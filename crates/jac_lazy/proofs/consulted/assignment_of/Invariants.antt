@@ -1,7 +1,7 @@
 use Rattle.std.proofs.Common.{◌≡◌, ℕ, ◌||◌, drop}
-use Rattle.jac_world.specs.World.{shown}
+use Rattle.jac_world.specs.World.{shown_by}
 use Rattle.jac_lazy.proofs.consulted.assignment_of.Given as goal
 
 -- a label was added, or is left
 abbrev pub invariant-labels : goal.invariant-labels
-invariant-labels l = (k : ℕ) → (shown l.a k || shown (drop l.label-index l.consulted) k) ≡ shown l.consulted k
+invariant-labels l = (k : ℕ) → (shown_by l.a k || shown_by (drop l.label-index l.consulted) k) ≡ shown_by l.consulted k

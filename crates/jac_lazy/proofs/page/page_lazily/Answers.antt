@@ -6,11 +6,11 @@ use Rattle.jac_keep.specs.Worked.{state_of}
 use Rattle.jac_pruned.specs.Consulted.{Grows}
 use Rattle.jac_pruned.proofs.Growing.{grows_then}
 use Rattle.jac_resolve.specs.Recalled.{IsPassed}
-use Rattle.jac_resolve.specs.Rounds.{worlds_of}
 use Rattle.jac_resolve.specs.Live.{AreLiveOf}
 use Rattle.jac_lazy.specs.Steady.{IsSteady}
 use Rattle.jac_lazy.proofs.Shown.{counted_more, ended_steady, fewer_left}
 use Rattle.jac_lazy.proofs.page.page_lazily.Goals as goal
+use Rattle.jac_plain.specs.Shown.{worlds_of}
 
 pub returns-then-after-before-clause-steady : goal.returns-then-after-before-clause-steady
 returns-then-after-before-clause-steady g c told =

@@ -1,5 +1,5 @@
 use Rattle.std.proofs.Common.{◌∙◌, sym}
-use Rattle.jac_hub.specs.Hub.{seen}
+use Rattle.jac_hub.specs.Hub.{hub_seen}
 use Rattle.jac_links.specs.Link.{as_sink}
 use Rattle.jac_links.proofs.LinkEvents.{piece_stands, piece_cut, cut_cause, piece_last, piece_missed}
 use Rattle.jac_serving.specs.Outside.{sinks}
@@ -15,7 +15,7 @@ returns-in-Ok-clause-served g c =
     (Went-after (as_sink (N.seen c.args.link.now)) (as_sink (N.seen c.take_piece.new.link)) (as_sink (N.seen c.serve_event.new.link)) (U.seen c.args.audit.now) (U.seen c.serve_event.new.audit) _ _
     c.in-Ok-Some.ensures.lasts c.in-Ok-Some.ensures.none_put
     (λ out audit answers.
-    piece_stands (D.answering (D.seen c.args.desk.now).of) c.args.conn c.args.served (seen c.args.hub.now) (seen c.serve_event.new.hub)
+    piece_stands (D.answering (D.seen c.args.desk.now).of) c.args.conn c.args.served (hub_seen c.args.hub.now) (hub_seen c.serve_event.new.hub)
     (N.seen c.args.link.now) (N.seen c.take_piece.new.link) (N.seen c.serve_event.new.link) (D.seen c.args.desk.now).holding (D.seen c.serve_event.new.desk).holding
     (sinks (as_sink (N.seen c.take_piece.new.link)) (as_sink (N.seen c.serve_event.new.link)) (U.seen c.args.audit.now) (U.seen c.serve_event.new.audit)) c.in-Ok-Some.bytes out audit c.in-Ok.brought
     c.in-Ok.ensures.answered.out_lasts.told c.in-Ok.ensures.left (rw c.in-Ok-Some.field-0-is at c.in-Ok-Some.ensures.taken) answers)
@@ -32,7 +32,7 @@ returns-in-Ok-Some-clause-served g c =
     (Went-after (as_sink (N.seen c.args.link.now)) (as_sink (N.seen c.take_piece.new.link)) (as_sink (N.seen c.serve_event.new.link)) (U.seen c.args.audit.now) (U.seen c.serve_event.new.audit) _ _
     c.in-Ok-Some.ensures.lasts c.in-Ok-Some.ensures.none_put
     (λ out audit answers.
-    piece_cut (D.answering (D.seen c.args.desk.now).of) c.args.conn c.args.served cut.lost cut.count (seen c.args.hub.now) (seen c.serve_event.new.hub)
+    piece_cut (D.answering (D.seen c.args.desk.now).of) c.args.conn c.args.served cut.lost cut.count (hub_seen c.args.hub.now) (hub_seen c.serve_event.new.hub)
     (N.seen c.args.link.now) (N.seen c.take_piece.new.link) (N.seen c.serve_event.new.link) (U.seen c.args.audit.now) (U.seen c.serve_event.new.audit)
     (D.seen c.args.desk.now).holding (D.seen c.serve_event.new.desk).holding c.in-Ok-Some.bytes out audit
     answered.out_lasts.told c.in-Err.ensures.left c.in-Ok-Some.ensures.lasts.later (rw c.in-Ok-Some.field-0-is at c.in-Ok-Some.ensures.taken) answers)
@@ -54,7 +54,7 @@ returns-in-Ok-None-clause-served g c =
     let U = g.U.Sink in
     let D = g.D.Desk in
     Went-quiet (as_sink (N.seen c.args.link.now)) (as_sink (N.seen c.take_piece.new.link)) (U.seen c.args.audit.now) _ c.in-Ok-None.ensures.lasts c.in-Ok-None.ensures.none_put
-    (piece_last (D.answering (D.seen c.args.desk.now).of) c.args.conn c.args.served (seen c.args.hub.now) (N.seen c.args.link.now) (N.seen c.take_piece.new.link) (D.seen c.args.desk.now).holding
+    (piece_last (D.answering (D.seen c.args.desk.now).of) c.args.conn c.args.served (hub_seen c.args.hub.now) (N.seen c.args.link.now) (N.seen c.take_piece.new.link) (D.seen c.args.desk.now).holding
     (rw c.in-Ok-None.field-0-is at c.in-Ok-None.ensures.taken))
 
 pub returns-in-Err-Link-clause-served : goal.returns-in-Err-Link-clause-served
@@ -63,5 +63,5 @@ returns-in-Err-Link-clause-served g c =
     let U = g.U.Sink in
     let D = g.D.Desk in
     Went-quiet (as_sink (N.seen c.args.link.now)) (as_sink (N.seen c.take_piece.new.link)) (U.seen c.args.audit.now) _ c.in-Err-Link.ensures.lasts c.in-Err-Link.ensures.none_put
-    (piece_missed (D.answering (D.seen c.args.desk.now).of) c.args.conn c.args.served (seen c.args.hub.now) (N.seen c.args.link.now) (N.seen c.take_piece.new.link) (D.seen c.args.desk.now).holding
+    (piece_missed (D.answering (D.seen c.args.desk.now).of) c.args.conn c.args.served (hub_seen c.args.hub.now) (N.seen c.args.link.now) (N.seen c.take_piece.new.link) (D.seen c.args.desk.now).holding
     (rw c.in-Err-Link.field-0-is at c.in-Err-Link.ensures.taken))

@@ -1,5 +1,5 @@
 use Rattle.std.proofs.Common.{arith, Ok, Err}
-use Rattle.jac_hub.specs.Hub.{seen}
+use Rattle.jac_hub.specs.Hub.{hub_seen}
 use Rattle.jac_serving.specs.Desk.{kept}
 use Rattle.jac_serving.specs.Outside.{span}
 use Rattle.jac_links.specs.declared.link.Standing.TheVariants as standings
@@ -35,7 +35,7 @@ serve_piece-requires-clause-idle g c = c.pieces.invariant.went.holds.idle
 pub serve_piece-requires-clause-following : goal.serve_piece-requires-clause-following
 serve_piece-requires-clause-following g c =
     let D = g.D.Desk in
-    of-keeps D.answering (D.seen c.args.desk.now) (D.seen c.pieces.desk) (λ (app : Answering). IsFollowing app (seen c.pieces.hub)) c.pieces.invariant.keeps
+    of-keeps D.answering (D.seen c.args.desk.now) (D.seen c.pieces.desk) (λ (app : Answering). IsFollowing app (hub_seen c.pieces.hub)) c.pieces.invariant.keeps
     (record { known = c.pieces.invariant.went.holds.known; like = c.pieces.invariant.went.holds.like })
 
 pub serve_piece-requires-clause-begun : goal.serve_piece-requires-clause-begun
@@ -46,10 +46,10 @@ pieces-smaller g c =
     let N = g.N.Link in
     let D = g.D.Desk in
     let served = rw c.in-Ok-Open.field-0-is at c.in-Ok-Open.ensures.served in
-    pieces_less (D.answering (D.seen c.args.desk.now).of) c.lawful.ensures c.requests_are_read.ensures c.args.conn c.args.first (seen c.pieces.hub) (seen c.serve_piece.new.hub)
+    pieces_less (D.answering (D.seen c.args.desk.now).of) c.lawful.ensures c.requests_are_read.ensures c.args.conn c.args.first (hub_seen c.pieces.hub) (hub_seen c.serve_piece.new.hub)
     (N.seen c.args.link.now) (N.seen c.pieces.link) (N.seen c.serve_piece.new.link) (D.seen c.args.desk.now).holding (D.seen c.pieces.desk).holding (D.seen c.serve_piece.new.desk).holding
     c.pieces.count c.in-Ok-Open.more _ _ _ _ served.out_lasts.told c.pieces.invariant.went.holds
-    (piece-of D.answering (D.seen c.args.desk.now) (D.seen c.pieces.desk) c.pieces.invariant.keeps c.args.conn (seen c.pieces.hub) (seen c.serve_piece.new.hub)
+    (piece-of D.answering (D.seen c.args.desk.now) (D.seen c.pieces.desk) c.pieces.invariant.keeps c.args.conn (hub_seen c.pieces.hub) (hub_seen c.serve_piece.new.hub)
     (span (N.seen c.pieces.link) (N.seen c.serve_piece.new.link)) (kept (D.seen c.pieces.desk) (D.seen c.serve_piece.new.desk)) c.pieces.count (Ok (standings.Open c.in-Ok-Open.more)) served.out served.audit served.holds)
 
 pub pieces-preserved : goal.pieces-preserved
@@ -66,10 +66,10 @@ pieces-preserved g c =
       went =
           Went-then (as_sink (N.seen c.args.link.now)) (as_sink (N.seen c.pieces.link)) (as_sink (N.seen c.serve_piece.new.link)) (U.seen c.args.audit.now) (U.seen c.pieces.audit) (U.seen c.serve_piece.new.audit) _ _ _
           (λ o au p bu so_far piece.
-          pieces_open (D.answering (D.seen c.args.desk.now).of) c.lawful.ensures c.requests_are_read.ensures c.args.conn c.args.first (seen c.pieces.hub) (seen c.serve_piece.new.hub)
+          pieces_open (D.answering (D.seen c.args.desk.now).of) c.lawful.ensures c.requests_are_read.ensures c.args.conn c.args.first (hub_seen c.pieces.hub) (hub_seen c.serve_piece.new.hub)
           (N.seen c.args.link.now) (N.seen c.pieces.link) (N.seen c.serve_piece.new.link) (D.seen c.args.desk.now).holding (D.seen c.pieces.desk).holding (D.seen c.serve_piece.new.desk).holding
           c.pieces.count c.in-Ok-Open.more o au p bu served.out_lasts.told so_far
-          (piece-of D.answering (D.seen c.args.desk.now) (D.seen c.pieces.desk) c.pieces.invariant.keeps c.args.conn (seen c.pieces.hub) (seen c.serve_piece.new.hub)
+          (piece-of D.answering (D.seen c.args.desk.now) (D.seen c.pieces.desk) c.pieces.invariant.keeps c.args.conn (hub_seen c.pieces.hub) (hub_seen c.serve_piece.new.hub)
           (span (N.seen c.pieces.link) (N.seen c.serve_piece.new.link)) (kept (D.seen c.pieces.desk) (D.seen c.serve_piece.new.desk)) c.pieces.count (Ok (standings.Open c.in-Ok-Open.more)) p bu piece))
           before.went served;
     }
@@ -79,10 +79,10 @@ overflow_sub-result g c =
     let N = g.N.Link in
     let D = g.D.Desk in
     let served = rw c.in-Ok-Over.field-0-is at c.in-Ok-Over.ensures.served in
-    pieces_last (D.answering (D.seen c.args.desk.now).of) c.lawful.ensures c.requests_are_read.ensures c.args.conn c.args.first (seen c.pieces.hub) (seen c.serve_piece.new.hub)
+    pieces_last (D.answering (D.seen c.args.desk.now).of) c.lawful.ensures c.requests_are_read.ensures c.args.conn c.args.first (hub_seen c.pieces.hub) (hub_seen c.serve_piece.new.hub)
     (N.seen c.args.link.now) (N.seen c.pieces.link) (N.seen c.serve_piece.new.link) (D.seen c.args.desk.now).holding (D.seen c.pieces.desk).holding (D.seen c.serve_piece.new.desk).holding
     c.pieces.count c.in-Ok-Over.last _ _ _ _ served.out_lasts.told c.pieces.invariant.went.holds
-    (piece-of D.answering (D.seen c.args.desk.now) (D.seen c.pieces.desk) c.pieces.invariant.keeps c.args.conn (seen c.pieces.hub) (seen c.serve_piece.new.hub)
+    (piece-of D.answering (D.seen c.args.desk.now) (D.seen c.pieces.desk) c.pieces.invariant.keeps c.args.conn (hub_seen c.pieces.hub) (hub_seen c.serve_piece.new.hub)
     (span (N.seen c.pieces.link) (N.seen c.serve_piece.new.link)) (kept (D.seen c.pieces.desk) (D.seen c.serve_piece.new.desk)) c.pieces.count (Ok (standings.Over c.in-Ok-Over.last)) served.out served.audit served.holds)
 
 pub returns-in-Ok-Over-clause-served : goal.returns-in-Ok-Over-clause-served
@@ -93,10 +93,10 @@ returns-in-Ok-Over-clause-served g c =
     let served = rw c.in-Ok-Over.field-0-is at c.in-Ok-Over.ensures.served in
     Went-then (as_sink (N.seen c.args.link.now)) (as_sink (N.seen c.pieces.link)) (as_sink (N.seen c.serve_piece.new.link)) (U.seen c.args.audit.now) (U.seen c.pieces.audit) (U.seen c.serve_piece.new.audit) _ _ _
     (λ o au p bu so_far piece.
-    pieces_over (D.answering (D.seen c.args.desk.now).of) c.lawful.ensures c.requests_are_read.ensures c.args.conn c.args.first (seen c.pieces.hub) (seen c.serve_piece.new.hub)
+    pieces_over (D.answering (D.seen c.args.desk.now).of) c.lawful.ensures c.requests_are_read.ensures c.args.conn c.args.first (hub_seen c.pieces.hub) (hub_seen c.serve_piece.new.hub)
     (N.seen c.args.link.now) (N.seen c.pieces.link) (N.seen c.serve_piece.new.link) (D.seen c.args.desk.now).holding (D.seen c.pieces.desk).holding (D.seen c.serve_piece.new.desk).holding
     c.pieces.count c.in-Ok-Over.last o au p bu served.out_lasts.told c.pieces.invariant.went.out_lasts.later so_far
-    (piece-of D.answering (D.seen c.args.desk.now) (D.seen c.pieces.desk) c.pieces.invariant.keeps c.args.conn (seen c.pieces.hub) (seen c.serve_piece.new.hub)
+    (piece-of D.answering (D.seen c.args.desk.now) (D.seen c.pieces.desk) c.pieces.invariant.keeps c.args.conn (hub_seen c.pieces.hub) (hub_seen c.serve_piece.new.hub)
     (span (N.seen c.pieces.link) (N.seen c.serve_piece.new.link)) (kept (D.seen c.pieces.desk) (D.seen c.serve_piece.new.desk)) c.pieces.count (Ok (standings.Over c.in-Ok-Over.last)) p bu piece))
     c.pieces.invariant.went served
 
@@ -107,10 +107,10 @@ returns-in-Err-clause-served g c =
     let D = g.D.Desk in
     Went-then (as_sink (N.seen c.args.link.now)) (as_sink (N.seen c.pieces.link)) (as_sink (N.seen c.serve_piece.new.link)) (U.seen c.args.audit.now) (U.seen c.pieces.audit) (U.seen c.serve_piece.new.audit) _ _ _
     (λ o au p bu so_far piece.
-    pieces_halt (D.answering (D.seen c.args.desk.now).of) c.lawful.ensures c.requests_are_read.ensures c.args.conn c.args.first (seen c.pieces.hub) (seen c.serve_piece.new.hub)
+    pieces_halt (D.answering (D.seen c.args.desk.now).of) c.lawful.ensures c.requests_are_read.ensures c.args.conn c.args.first (hub_seen c.pieces.hub) (hub_seen c.serve_piece.new.hub)
     (N.seen c.args.link.now) (N.seen c.pieces.link) (N.seen c.serve_piece.new.link) (D.seen c.args.desk.now).holding (D.seen c.pieces.desk).holding (D.seen c.serve_piece.new.desk).holding
     c.pieces.count o au p bu c.in-Err.ensures.served.out_lasts.told so_far c.in-Err.halt
-    (piece-of D.answering (D.seen c.args.desk.now) (D.seen c.pieces.desk) c.pieces.invariant.keeps c.args.conn (seen c.pieces.hub) (seen c.serve_piece.new.hub)
+    (piece-of D.answering (D.seen c.args.desk.now) (D.seen c.pieces.desk) c.pieces.invariant.keeps c.args.conn (hub_seen c.pieces.hub) (hub_seen c.serve_piece.new.hub)
     (span (N.seen c.pieces.link) (N.seen c.serve_piece.new.link)) (kept (D.seen c.pieces.desk) (D.seen c.serve_piece.new.desk)) c.pieces.count (Err c.in-Err.halt) p bu piece))
     c.pieces.invariant.went c.in-Err.ensures.served
 

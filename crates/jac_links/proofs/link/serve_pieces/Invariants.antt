@@ -1,8 +1,8 @@
 use Rattle.std.proofs.Common.{◌-◌, ◌<◌, ◌^◌, false}
 use Rattle.jac_hub.specs.Channel.{LIMIT}
-use Rattle.jac_hub.specs.Hub.{seen}
+use Rattle.jac_hub.specs.Hub.{hub_seen}
 use Rattle.jac_links.specs.Link.{as_sink}
-use Rattle.jac_serving.specs.Desk.{MayServe, Keeps, kept}
+use Rattle.jac_serving.specs.Desk.{MayServe, KeepsDesk, kept}
 use Rattle.jac_serving.specs.Outside.{Went, sinks, span}
 use Rattle.jac_links.proofs.LinkProgress.{LinkProgress, taken_by}
 use Rattle.jac_links.proofs.link.serve_pieces.Given as goal
@@ -15,10 +15,10 @@ invariant-pieces g l =
     record {
       few : l.first < 2 ^ 63;
       may_serve : MayServe D.answering (D.seen l.desk);
-      keeps : Keeps D.answering (D.seen l.fn.desk) (D.seen l.desk);
+      keeps : KeepsDesk D.answering (D.seen l.fn.desk) (D.seen l.desk);
       went : Went (sinks (as_sink (N.seen l.fn.link)) (as_sink (N.seen l.link)) (U.seen l.fn.audit) (U.seen l.audit))
-          (LinkProgress (D.answering (D.seen l.fn.desk).of) l.conn l.first (seen l.hub) (span (N.seen l.fn.link) (N.seen l.link)) (kept (D.seen l.fn.desk) (D.seen l.desk)) l.count false);
+          (LinkProgress (D.answering (D.seen l.fn.desk).of) l.conn l.first (hub_seen l.hub) (span (N.seen l.fn.link) (N.seen l.link)) (kept (D.seen l.fn.desk) (D.seen l.desk)) l.count false);
     }
 
 abbrev pub decreases-pieces : goal.decreases-pieces
-decreases-pieces g l = LIMIT - taken_by (seen l.hub) l.conn
+decreases-pieces g l = LIMIT - taken_by (hub_seen l.hub) l.conn

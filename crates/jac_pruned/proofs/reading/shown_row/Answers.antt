@@ -2,7 +2,7 @@ use Rattle.std.proofs.Common.{rules, ◌≡◌, ◌∙◌, ◌∷◌, ◌==◌, 
 use Rattle.jac_world.specs.World.{holds}
 use Rattle.jac_rows.specs.Project.{rows_at}
 use Rattle.jac_plain.specs.World.{record_with}
-use Rattle.jac_pruned.specs.Alike.{asked}
+use Rattle.jac_pruned.specs.Alike.{asked_alternative}
 use Rattle.jac_pruned.proofs.Growing.{agrees_less, grows_then}
 use Rattle.jac_pruned.proofs.Joining.{answer_of, answer_joined}
 use Rattle.jac_pruned.specs.Own.{is_own_pair, is_own_row, names_own}
@@ -19,7 +19,7 @@ returns-then-branch-clause-row c w agree =
     (sym (c.rows.invariant.left w (agrees_less _ _ _ _ c.in_ok-shows.ensures.grows agree))
     ∙ ap (λ l. answer_of c.args.field (record_with c.args.id (rows_at w l))) left
     ∙ answer_joined w c.args.id c.args.field alike.guard.items row c.in-Some.more.now alike.behind.now (c.in_ok-alike.ensures.same w)
-    ∙ ap (λ b. if b then Some (asked c.args.field row.id row.cells) else answer_of c.args.field (record_with c.args.id (rows_at w alike.behind.now)))
+    ∙ ap (λ b. if b then Some (asked_alternative c.args.field row.id row.cells) else answer_of c.args.field (record_with c.args.id (rows_at w alike.behind.now)))
     (ap (λ g. (row.id == c.args.id) && holds w g) (sym c.as_slice.ensures.value) ∙ sym shows))
 
 pub rows-preserved : goal.rows-preserved
@@ -43,7 +43,7 @@ rows-preserved c =
           sym
           (ap (λ l. answer_of c.args.field (record_with c.args.id (rows_at w l))) left
           ∙ answer_joined w c.args.id c.args.field alike.guard.items row c.in-Some.more.now alike.behind.now (c.in_ok-alike.ensures.same w)
-          ∙ ap (λ b. if b then Some (asked c.args.field row.id row.cells) else answer_of c.args.field (record_with c.args.id (rows_at w alike.behind.now)))
+          ∙ ap (λ b. if b then Some (asked_alternative c.args.field row.id row.cells) else answer_of c.args.field (record_with c.args.id (rows_at w alike.behind.now)))
           (ap (λ g. (row.id == c.args.id) && holds w g) (sym c.as_slice.ensures.value) ∙ sym shows))
           ∙ before.left w (agrees_less _ _ _ _ c.in_ok-shows.ensures.grows agree);
     }

@@ -2,13 +2,14 @@ use Rattle.std.proofs.Common.{◌≡◌, rules, ℕ, ◌+◌, List, Option, drop
 use Rattle.jac_lang.specs.Mirror.{binders_of, statements_of}
 use Rattle.jac_keep.specs.Worked.{state_of}
 use Rattle.jac_plain.specs.Expressions.{bound}
-use Rattle.jac_plain.specs.Statements.{for_each, leaves_all, scoped}
-use Rattle.jac_pruned.specs.Runs.{setting_at, setting_around, run_in}
+use Rattle.jac_plain.specs.Statements.{for_each, leaves_all, scoped_run}
+use Rattle.jac_pruned.specs.Runs.{run_in}
 use Rattle.jac_pruned.proofs.Bound.{bound-is}
 use Rattle.jac_pruned.proofs.Growing.{agrees_less, grows_then}
 use Rattle.jac_pruned.proofs.Running.{from_same, scopes, tuple_more}
 use Rattle.jac_pruned.proofs.Working.{next}
 use Rattle.jac_pruned.proofs.run.+run.Goals as goal
+use Rattle.jac_plain.specs.Shown.{setting_around, setting_at}
 
 pub execute_bound-returns-clause-left : goal.execute_bound-returns-clause-left
 execute_bound-returns-clause-left g t c told w agree =
@@ -48,7 +49,7 @@ execute_tuples-tuples-preserved g t c =
             let pieces2 = c.execute_bound.new.run.pieces.items in
             tuple_more bs body ids (drop i tuples) (drop (i + 1) tuples) (run_in w start env pieces) (run_in w start env2 pieces2)
             (for_each bs body tuples (run_in w start c.args.run.now.env.items c.args.run.now.pieces.items)) (next tuples ids i c.ids-item.is c.tuples-test.true)
-            (from_same (scoped (bound bs ids env) (body ids)) w start (state_of g.K.Keeper.seen c.tuples.work) env env2 pieces pieces2
+            (from_same (scoped_run (bound bs ids env) (body ids)) w start (state_of g.K.Keeper.seen c.tuples.work) env env2 pieces pieces2
             (before.read.same.same_state before_told) (c.in_ok-execute_bound.ensures.left told w agree))
             (before.read.told before_told w (agrees_less _ _ _ _ c.in_ok-execute_bound.ensures.grows agree));
         same = search rules;

@@ -2,13 +2,14 @@ use Rattle.std.proofs.Common.{◌≡◌, ◌≤◌, ◌+◌, ◌*◌, ℕ, Bool,
 use Rattle.jac_lang.specs.declared.statements.Stmt.{size-Stmt}
 use Rattle.jac_lang.specs.declared.statements.Stmts.{size-Stmts}
 use Rattle.jac_lang.specs.Mirror.{binders_of, statements_of}
-use Rattle.jac_world.specs.World.{shown}
+use Rattle.jac_world.specs.World.{shown_by}
 use Rattle.jac_keep.specs.Worked.{state_of}
 use Rattle.jac_plain.specs.Statements.{for_each, leaves_all}
 use Rattle.jac_pruned.specs.Consulted.{Agrees, Grows}
-use Rattle.jac_pruned.specs.Runs.{setting_at, setting_around, run_in, AreReading}
+use Rattle.jac_pruned.specs.Runs.{run_in, AreReading}
 use Rattle.jac_pruned.proofs.Working.{LoopOver}
 use Rattle.jac_pruned.proofs.run.+run.Given as goal
+use Rattle.jac_plain.specs.Shown.{setting_around, setting_at}
 
 -- what the statements that are left leave from here, all leave from the start
 abbrev pub invariant-execute_all-body : goal.invariant-execute_all-body
@@ -19,7 +20,7 @@ invariant-execute_all-body g l =
       reading : AreReading (statements_of l.left);
       grown : Grows l.fn.support l.support;
       read : LoopOver k.seen l.fn.work l.work
-          ((w : ℕ → Bool) → Agrees l.support (shown l.at.assignment.now) w →
+          ((w : ℕ → Bool) → Agrees l.support (shown_by l.at.assignment.now) w →
           let setting = setting_at l.at.app.now l.at.ctx.now w in
           let s = state_of k.seen l.fn.work in
           leaves_all setting (statements_of l.left) (run_in w s l.run.env.items l.run.pieces.items) ≡ leaves_all setting (statements_of l.stmts) (run_in w s l.fn.run.env.items l.fn.run.pieces.items));
@@ -32,7 +33,7 @@ invariant-execute_tuples-tuples g l =
     record {
       grown : Grows l.fn.support l.support;
       read : LoopOver k.seen l.fn.work l.work
-          ((w : ℕ → Bool) → Agrees l.support (shown l.at.assignment.now) w →
+          ((w : ℕ → Bool) → Agrees l.support (shown_by l.at.assignment.now) w →
           let body = λ (ids : List ℕ). leaves_all (setting_around l.at.app.now l.at.ctx.now ids w) (statements_of l.body) in
           let bs = binders_of l.binders in
           let s = state_of k.seen l.fn.work in

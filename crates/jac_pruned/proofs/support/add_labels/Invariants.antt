@@ -1,5 +1,5 @@
 use Rattle.std.proofs.Common.{◌≡◌, ℕ, true, ◌||◌, Option, drop}
-use Rattle.jac_world.specs.World.{shown, names}
+use Rattle.jac_world.specs.World.{shown_by, names}
 use Rattle.jac_pruned.specs.Consulted.{Grows}
 use Rattle.jac_pruned.specs.Own.{IsOwn, names_own}
 use Rattle.jac_pruned.proofs.support.add_labels.Given as goal
@@ -10,5 +10,5 @@ invariant-pairs l =
     record {
       grown : Grows l.fn.support l.support;
       own : (this : Option ℕ) → names_own this l.pairs ≡ true → IsOwn this l.fn.support → IsOwn this l.support;
-      consulted : (k : ℕ) → names l.pairs k ≡ true → (shown l.support k || names (drop l.pair-index l.pairs) k) ≡ true;
+      consulted : (k : ℕ) → names l.pairs k ≡ true → (shown_by l.support k || names (drop l.pair-index l.pairs) k) ≡ true;
     }

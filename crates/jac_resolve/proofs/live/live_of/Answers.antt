@@ -4,10 +4,10 @@ use Rattle.jac_rows.specs.declared.state.State.{State}
 use Rattle.jac_keep.specs.Worked.{state_of}
 use Rattle.jac_plain.specs.Policies.{IsLiveLabel}
 use Rattle.jac_pruned.proofs.Working.{next}
-use Rattle.jac_resolve.specs.Rounds.{worlds_of}
 use Rattle.jac_resolve.proofs.Greedy.{first_is_shown, none_left}
 use Rattle.jac_resolve.proofs.Living.{live_on, live_all}
 use Rattle.jac_resolve.proofs.live.live_of.Goals as goal
+use Rattle.jac_plain.specs.Shown.{worlds_of}
 
 pub labels-preserved : goal.labels-preserved
 labels-preserved g c =

@@ -2,9 +2,9 @@ use Rattle.std.proofs.Common.{drop}
 use Rattle.jac_lang.specs.Mirror.{application_of}
 use Rattle.jac_keep.specs.Worked.{state_of}
 use Rattle.jac_pruned.proofs.Working.{LoopOver}
-use Rattle.jac_resolve.specs.Rounds.{worlds_of}
 use Rattle.jac_resolve.proofs.Living.{AreLiveBut}
 use Rattle.jac_resolve.proofs.live.live_of.Given as goal
+use Rattle.jac_plain.specs.Shown.{worlds_of}
 
 abbrev pub invariant-labels : goal.invariant-labels
 invariant-labels g l =

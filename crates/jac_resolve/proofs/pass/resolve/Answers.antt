@@ -4,9 +4,10 @@ use Rattle.jac_lang.specs.Mirror.{application_of}
 use Rattle.jac_rows.specs.declared.state.State.{State}
 use Rattle.jac_keep.specs.Worked.{state_of}
 use Rattle.jac_pruned.specs.Local.{IsLocalCase}
-use Rattle.jac_resolve.specs.Rounds.{AreLive, worlds_of}
+use Rattle.jac_resolve.specs.Rounds.{AreLive}
 use Rattle.jac_resolve.proofs.Room.{live_most}
 use Rattle.jac_resolve.proofs.pass.resolve.Goals as goal
+use Rattle.jac_plain.specs.Shown.{worlds_of}
 
 pub returns-in_err-assignment-clause-bounded : goal.returns-in_err-assignment-clause-bounded
 returns-in_err-assignment-clause-bounded g c told local labels up live =

@@ -1,14 +1,14 @@
 use Rattle.std.proofs.Common.{◌≡◌, ℕ, true, List, [], sym, subst, rules, arith}
-use Rattle.jac_world.specs.World.{shown}
+use Rattle.jac_world.specs.World.{shown_by}
 use Rattle.jac_lang.specs.Mirror.{application_of}
 use Rattle.jac_rows.specs.declared.state.State.{State}
 use Rattle.jac_keep.specs.Worked.{state_of}
 use Rattle.jac_pruned.specs.Local.{IsLocalCase}
 use Rattle.jac_resolve.specs.Recalled.{IsUnderway}
-use Rattle.jac_resolve.specs.Rounds.{worlds_of}
 use Rattle.jac_resolve.proofs.Greedy.{within_then}
 use Rattle.jac_resolve.proofs.Room.{spends_same, spends_then}
 use Rattle.jac_resolve.proofs.pass.settle_among.Goals as goal
+use Rattle.jac_plain.specs.Shown.{worlds_of}
 
 pub rounds-init : goal.rounds-init
 rounds-init g c =
@@ -16,7 +16,7 @@ rounds-init g c =
     let viewer = c.args.viewer.now in
     let worlds = worlds_of (state_of g.K.Keeper.seen c.args.work.now) in
     let answers = c.args.answers.now in (
-      (λ j s. absurd (let e : shown [] j ≡ true = subst (λ (l : List ℕ). shown l j ≡ true) c.empty-assignment.ensures s in cc)),
+      (λ j s. absurd (let e : shown_by [] j ≡ true = subst (λ (l : List ℕ). shown_by l j ≡ true) c.empty-assignment.ensures s in cc)),
       omega arith,
       record {
         told = λ told. record {

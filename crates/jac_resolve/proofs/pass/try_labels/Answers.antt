@@ -1,15 +1,15 @@
 use Rattle.std.proofs.Common.{◌≡◌, ◌+◌, ◌≤◌, true, drop, length, sym, subst, rules, arith}
-use Rattle.jac_world.specs.World.{shown}
+use Rattle.jac_world.specs.World.{shown_by}
 use Rattle.jac_lang.specs.Mirror.{application_of}
 use Rattle.jac_rows.specs.declared.state.State.{State}
 use Rattle.jac_keep.specs.Worked.{state_of}
 use Rattle.jac_resolve.specs.Recalled.{IsUnderway, Tries}
 use Rattle.jac_pruned.specs.Local.{IsLocalCase}
-use Rattle.jac_resolve.specs.Rounds.{worlds_of}
 use Rattle.jac_pruned.proofs.Working.{next}
 use Rattle.jac_resolve.proofs.Room.{most_then, spends_most, spends_then}
 use Rattle.jac_resolve.proofs.Greedy.{first_is_shown, advances, filled, retains_on, none_left, stays_within, round_on}
 use Rattle.jac_resolve.proofs.pass.try_labels.Goals as goal
+use Rattle.jac_plain.specs.Shown.{worlds_of}
 
 pub labels-preserved : goal.labels-preserved
 labels-preserved g c =
@@ -22,7 +22,7 @@ labels-preserved g c =
     let start = c.args.a.now in
     let old = c.labels.a in
     let new = c.try_label.new.a in
-    let among : shown labels x ≡ true = first_is_shown labels i x c.label-item.is c.labels-test.true in
+    let among : shown_by labels x ≡ true = first_is_shown labels i x c.label-item.is c.labels-test.true in
     let grows = c.in_ok-one.ensures.grows in
     let same = c.labels.invariant.working.same in
     record {
@@ -59,7 +59,7 @@ returns-in_err-one-clause-most g c told local own =
     let x = c.label-item.result in
     let before = c.in_err-one.ensures.reads.same.told told in
     let moved = c.labels.invariant.working.same.same_state before in
-    let among : shown labels x ≡ true = first_is_shown labels c.labels.label-index x c.label-item.is c.labels-test.true in
+    let among : shown_by labels x ≡ true = first_is_shown labels c.labels.label-index x c.label-item.is c.labels-test.true in
     let spent = (c.labels.invariant.working.told before).is_spent local own in
     most_then labels c.args.evaluations.now c.labels.evaluations c.try_label.new.evaluations c.args.answers.now c.labels.answers spent
     (c.in_err-one.ensures.most told (subst (λ (s : State). IsLocalCase app s viewer) (sym moved) local) labels among spent.own)

@@ -1,5 +1,5 @@
 use Rattle.std.proofs.Common.{◌≡◌, ◌+◌, ◌==◌, Bool, true, is_some, drop, sym, subst, rules, arith}
-use Rattle.jac_world.specs.World.{shown}
+use Rattle.jac_world.specs.World.{shown_by}
 use Rattle.jac_lang.specs.Mirror.{application_of}
 use Rattle.jac_rows.specs.declared.state.State.{State}
 use Rattle.jac_keep.specs.Worked.{state_of}
@@ -7,12 +7,12 @@ use Rattle.jac_plain.specs.Policies.{is_allowed}
 use Rattle.jac_recall.specs.Recalled.{recall}
 use Rattle.jac_resolve.specs.Recalled.{AreRight, Fitting, Stays}
 use Rattle.jac_pruned.specs.Local.{IsLocalCase}
-use Rattle.jac_resolve.specs.Rounds.{worlds_of}
 use Rattle.jac_pruned.proofs.Working.{next}
 use Rattle.jac_resolve.proofs.Greedy.{first_is_shown}
 use Rattle.jac_resolve.proofs.Room.{most_then, spends_then}
 use Rattle.jac_resolve.proofs.Underway.{but_next, grown_then, itself}
 use Rattle.jac_resolve.proofs.pass.watchers_stay.Goals as goal
+use Rattle.jac_plain.specs.Shown.{worlds_of}
 
 pub returns-then-not-stays-clause-spends : goal.returns-then-not-stays-clause-spends
 returns-then-not-stays-clause-spends g c told local labels among own =
@@ -49,7 +49,7 @@ watchers-preserved g c =
     let app = application_of c.args.app.now in
     let viewer = c.args.viewer.now in
     let worlds = worlds_of (state_of g.K.Keeper.seen c.args.work.now) in
-    let w = shown c.args.a.now in
+    let w = shown_by c.args.a.now in
     let all = c.args.watchers.now in
     let i = c.watchers.watcher-index in
     let x = c.watcher-item.result in

@@ -1,6 +1,6 @@
 use Rattle.std.proofs.Common.{rules, sym, subst, Some, ℕ}
 use Rattle.jac_value.specs.Ids.{model_of_id}
-use Rattle.jac_world.specs.World.{shown}
+use Rattle.jac_world.specs.World.{shown_by}
 use Rattle.jac_lang.specs.Mirror.{application_of, field_group_of}
 use Rattle.jac_keep.specs.Worked.{state_of}
 use Rattle.jac_rows.specs.declared.state.State.{State}
@@ -13,13 +13,13 @@ use Rattle.jac_resolve.proofs.permission.allowed.Goals as goal
 
 pub returns-then-not-stands-clause-ticks : goal.returns-then-not-stands-clause-ticks
 returns-then-not-stands-clause-ticks g c told =
-    let stands = c.in_ok-stands-in-Some.ensures.value told (shown c.args.a.now) (agrees_same _ _) in
+    let stands = c.in_ok-stands-in-Some.ensures.value told (shown_by c.args.a.now) (agrees_same _ _) in
     search rules
 
 pub returns-in_ok-holds-in-Some-clause-ticks : goal.returns-in_ok-holds-in-Some-clause-ticks
 returns-in_ok-holds-in-Some-clause-ticks g c told =
     let before = c.in_ok-holds-in-Some.ensures.reads.same.told told in
-    let stands = c.in_ok-stands-in-Some.ensures.value before (shown c.args.a.now) (agrees_same _ _) in
+    let stands = c.in_ok-stands-in-Some.ensures.value before (shown_by c.args.a.now) (agrees_same _ _) in
     search rules
 
 pub returns-in_ok-holds-in-Some-clause-value : goal.returns-in_ok-holds-in-Some-clause-value

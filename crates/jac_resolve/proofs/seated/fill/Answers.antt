@@ -3,10 +3,11 @@ use Rattle.jac_lang.specs.Mirror.{application_of}
 use Rattle.jac_rows.specs.declared.state.State.{State}
 use Rattle.jac_keep.specs.Worked.{state_of}
 use Rattle.jac_resolve.specs.Recalled.{IsUnderway, Retains}
-use Rattle.jac_resolve.specs.Rounds.{Within, worlds_of}
+use Rattle.jac_resolve.specs.Rounds.{Within}
 use Rattle.jac_resolve.specs.Seated.{seat_labels}
 use Rattle.jac_resolve.proofs.Greedy.{retains_same, retains_then, within_same, within_then}
 use Rattle.jac_resolve.proofs.seated.fill.Goals as goal
+use Rattle.jac_plain.specs.Shown.{worlds_of}
 
 pub rounds-init : goal.rounds-init
 rounds-init g c =

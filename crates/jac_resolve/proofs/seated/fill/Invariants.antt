@@ -1,12 +1,13 @@
-use Rattle.jac_world.specs.World.{shown}
+use Rattle.jac_world.specs.World.{shown_by}
 use Rattle.jac_lang.specs.Mirror.{application_of}
 use Rattle.jac_keep.specs.Worked.{state_of}
 use Rattle.jac_resolve.specs.Recalled.{IsUnderway}
-use Rattle.jac_resolve.specs.Rounds.{worlds_of, hidden_count}
+use Rattle.jac_resolve.specs.Rounds.{hidden_count}
 use Rattle.jac_resolve.specs.Seated.{seat_labels}
 use Rattle.jac_pruned.proofs.Working.{LoopOver}
 use Rattle.jac_resolve.proofs.Greedy.{InRounds}
 use Rattle.jac_resolve.proofs.seated.fill.Given as goal
+use Rattle.jac_plain.specs.Shown.{worlds_of}
 
 abbrev pub invariant-rounds : goal.invariant-rounds
 invariant-rounds g l =
@@ -15,4 +16,4 @@ invariant-rounds g l =
     (LoopOver k.seen l.fn.work l.work (IsUnderway (application_of l.app) (worlds_of (state_of k.seen l.fn.work)) l.viewer l.labels l.seat.answers))
 
 abbrev pub decreases-rounds : goal.decreases-rounds
-decreases-rounds g l = hidden_count (shown l.labels) l.tried
+decreases-rounds g l = hidden_count (shown_by l.labels) l.tried

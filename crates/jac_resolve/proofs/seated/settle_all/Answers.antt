@@ -3,11 +3,12 @@ use Rattle.jac_lang.specs.Mirror.{application_of}
 use Rattle.jac_rows.specs.declared.state.State.{State}
 use Rattle.jac_keep.specs.Worked.{state_of}
 use Rattle.jac_recall.specs.declared.seat.Seat.{Seat}
-use Rattle.jac_resolve.specs.Rounds.{AreLive, worlds_of}
+use Rattle.jac_resolve.specs.Rounds.{AreLive}
 use Rattle.jac_resolve.specs.Recalled.{IsPassed}
 use Rattle.jac_resolve.specs.Seated.{IsSeated}
 use Rattle.jac_resolve.proofs.Seating.{seated_all}
 use Rattle.jac_resolve.proofs.seated.settle_all.Goals as goal
+use Rattle.jac_plain.specs.Shown.{worlds_of}
 
 pub returns-clause-seated : goal.returns-clause-seated
 returns-clause-seated g c told =

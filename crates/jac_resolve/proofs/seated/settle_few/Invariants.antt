@@ -2,9 +2,9 @@ use Rattle.std.proofs.Common.{◌≤◌}
 use Rattle.jac_lang.specs.Mirror.{application_of}
 use Rattle.jac_keep.specs.Worked.{state_of}
 use Rattle.jac_pruned.proofs.Working.{LoopOver}
-use Rattle.jac_resolve.specs.Rounds.{worlds_of}
 use Rattle.jac_resolve.proofs.Apart.{StandsWidened}
 use Rattle.jac_resolve.proofs.seated.settle_few.Given as goal
+use Rattle.jac_plain.specs.Shown.{worlds_of}
 
 abbrev pub invariant-widenings : goal.invariant-widenings
 invariant-widenings g l =

@@ -1,5 +1,5 @@
 use Rattle.std.proofs.Common.{◌≡◌, ◌&&◌, ◌∙◌, not, ℕ, List, Option, Some, ap, refl, sym, subst}
-use Rattle.jac_world.specs.World.{shown}
+use Rattle.jac_world.specs.World.{shown_by}
 use Rattle.jac_lang.specs.Mirror.{application_of}
 use Rattle.jac_rows.specs.declared.state.State.{State}
 use Rattle.jac_keep.specs.Worked.{state_of}
@@ -7,10 +7,11 @@ use Rattle.jac_recall.specs.declared.answers.Answers.{Answers}
 use Rattle.jac_recall.specs.declared.seat.Seat.{Seat}
 use Rattle.jac_resolve.specs.Live.{AreLiveOf}
 use Rattle.jac_resolve.specs.Recalled.{AreRefused, IsUnderway, Retains}
-use Rattle.jac_resolve.specs.Rounds.{Within, worlds_of}
+use Rattle.jac_resolve.specs.Rounds.{Within}
 use Rattle.jac_resolve.specs.Seated.{IsSeated, IsSettledApart, IsWidened, Widens, seat_labels}
 use Rattle.jac_resolve.proofs.Apart.{kept_some, same_apart, seated_apart, settled_apart, underway_apart, widened_apart}
 use Rattle.jac_resolve.proofs.seated.settle_near.Goals as goal
+use Rattle.jac_plain.specs.Shown.{worlds_of}
 
 pub fill-requires-clause-underway : goal.fill-requires-clause-underway
 fill-requires-clause-underway g c told =
@@ -26,8 +27,8 @@ fill-requires-clause-underway g c told =
     let before = c.in_ok-tried.ensures.reads.same.told told in
     let moved = c.in_ok-tried.ensures.reads.same.same_state told in
     let seated = c.requires.seated before in
-    let cut : (i : ℕ) → shown rest i ≡ (not (shown near i) && shown labels i) =
-    λ i. c.remove_all.ensures i ∙ ap (λ (l : List ℕ). not (shown l i) && shown labels i) c.as_slice-2.ensures.labels in
+    let cut : (i : ℕ) → shown_by rest i ≡ (not (shown_by near i) && shown_by labels i) =
+    λ i. c.remove_all.ensures i ∙ ap (λ (l : List ℕ). not (shown_by l i) && shown_by labels i) c.as_slice-2.ensures.labels in
     let starts : seat_labels put.labels ≡ rest = ap (λ (s : Seat). seat_labels s.labels) c.put_labels.ensures in
     let same : put.answers ≡ seat.answers = ap (λ (s : Seat). s.answers) c.put_labels.ensures in
     subst (λ (s : State). IsUnderway app (worlds_of s) viewer (seat_labels put.labels) put.answers) (sym moved)
@@ -55,8 +56,8 @@ returns-in-Some-clause-seated g c told =
     let moved = c.in_ok-tried.ensures.reads.same.same_state behind in
     let seated = c.requires.seated before in
     let kept = kept_some app worlds viewer seat labels c.in_ok-rest.ensures seated in
-    let cut : (i : ℕ) → shown rest i ≡ (not (shown near i) && shown labels i) =
-    λ i. c.remove_all.ensures i ∙ ap (λ (l : List ℕ). not (shown l i) && shown labels i) c.as_slice-2.ensures.labels in
+    let cut : (i : ℕ) → shown_by rest i ≡ (not (shown_by near i) && shown_by labels i) =
+    λ i. c.remove_all.ensures i ∙ ap (λ (l : List ℕ). not (shown_by l i) && shown_by labels i) c.as_slice-2.ensures.labels in
     let starts : seat_labels put.labels ≡ rest = ap (λ (s : Seat). seat_labels s.labels) c.put_labels.ensures in
     let same : put.answers ≡ seat.answers = ap (λ (s : Seat). s.answers) c.put_labels.ensures in
     let live = subst (λ (l : List ℕ). AreLiveOf app worlds near l) (sym c.as_slice-3.ensures.value) (subst (λ (l : List ℕ). AreLiveOf app worlds l c.in_ok-tried.tried.items) c.as_slice.ensures.labels (c.in_ok-tried.ensures.live behind)) in
@@ -87,8 +88,8 @@ returns-in-Some-clause-apart g c told =
     let moved = c.in_ok-tried.ensures.reads.same.same_state behind in
     let seated = c.requires.seated before in
     let kept = kept_some app worlds viewer seat labels c.in_ok-rest.ensures seated in
-    let cut : (i : ℕ) → shown rest i ≡ (not (shown near i) && shown labels i) =
-    λ i. c.remove_all.ensures i ∙ ap (λ (l : List ℕ). not (shown l i) && shown labels i) c.as_slice-2.ensures.labels in
+    let cut : (i : ℕ) → shown_by rest i ≡ (not (shown_by near i) && shown_by labels i) =
+    λ i. c.remove_all.ensures i ∙ ap (λ (l : List ℕ). not (shown_by l i) && shown_by labels i) c.as_slice-2.ensures.labels in
     let starts : seat_labels put.labels ≡ rest = ap (λ (s : Seat). seat_labels s.labels) c.put_labels.ensures in
     let same : put.answers ≡ seat.answers = ap (λ (s : Seat). s.answers) c.put_labels.ensures in
     let live = subst (λ (l : List ℕ). AreLiveOf app worlds near l) (sym c.as_slice-3.ensures.value) (subst (λ (l : List ℕ). AreLiveOf app worlds l c.in_ok-tried.tried.items) c.as_slice.ensures.labels (c.in_ok-tried.ensures.live behind)) in
@@ -119,8 +120,8 @@ returns-clause-seated g c told =
     let moved = c.in_ok-tried.ensures.reads.same.same_state behind in
     let seated = c.requires.seated before in
     let kept = kept_some app worlds viewer seat labels c.in_ok-rest.ensures seated in
-    let cut : (i : ℕ) → shown rest i ≡ (not (shown near i) && shown labels i) =
-    λ i. c.remove_all.ensures i ∙ ap (λ (l : List ℕ). not (shown l i) && shown labels i) c.as_slice-2.ensures.labels in
+    let cut : (i : ℕ) → shown_by rest i ≡ (not (shown_by near i) && shown_by labels i) =
+    λ i. c.remove_all.ensures i ∙ ap (λ (l : List ℕ). not (shown_by l i) && shown_by labels i) c.as_slice-2.ensures.labels in
     let starts : seat_labels put.labels ≡ rest = ap (λ (s : Seat). seat_labels s.labels) c.put_labels.ensures in
     let same : put.answers ≡ seat.answers = ap (λ (s : Seat). s.answers) c.put_labels.ensures in
     let live = subst (λ (l : List ℕ). AreLiveOf app worlds near l) (sym c.as_slice-3.ensures.value) (subst (λ (l : List ℕ). AreLiveOf app worlds l c.in_ok-tried.tried.items) c.as_slice.ensures.labels (c.in_ok-tried.ensures.live behind)) in
@@ -151,8 +152,8 @@ returns-clause-apart g c told =
     let moved = c.in_ok-tried.ensures.reads.same.same_state behind in
     let seated = c.requires.seated before in
     let kept = kept_some app worlds viewer seat labels c.in_ok-rest.ensures seated in
-    let cut : (i : ℕ) → shown rest i ≡ (not (shown near i) && shown labels i) =
-    λ i. c.remove_all.ensures i ∙ ap (λ (l : List ℕ). not (shown l i) && shown labels i) c.as_slice-2.ensures.labels in
+    let cut : (i : ℕ) → shown_by rest i ≡ (not (shown_by near i) && shown_by labels i) =
+    λ i. c.remove_all.ensures i ∙ ap (λ (l : List ℕ). not (shown_by l i) && shown_by labels i) c.as_slice-2.ensures.labels in
     let starts : seat_labels put.labels ≡ rest = ap (λ (s : Seat). seat_labels s.labels) c.put_labels.ensures in
     let same : put.answers ≡ seat.answers = ap (λ (s : Seat). s.answers) c.put_labels.ensures in
     let live = subst (λ (l : List ℕ). AreLiveOf app worlds near l) (sym c.as_slice-3.ensures.value) (subst (λ (l : List ℕ). AreLiveOf app worlds l c.in_ok-tried.tried.items) c.as_slice.ensures.labels (c.in_ok-tried.ensures.live behind)) in

@@ -2,9 +2,9 @@ use Rattle.std.proofs.Common.{rules}
 use Rattle.jac_world.specs.World.{IsAscending}
 use Rattle.jac_lang.specs.Mirror.{application_of}
 use Rattle.jac_keep.specs.Worked.{state_of}
-use Rattle.jac_resolve.specs.Rounds.{worlds_of}
 use Rattle.jac_resolve.proofs.Seating.{settled_seated}
 use Rattle.jac_resolve.proofs.seated.settle_seat.Goals as goal
+use Rattle.jac_plain.specs.Shown.{worlds_of}
 
 pub returns-clause-settled : goal.returns-clause-settled
 returns-clause-settled g c told =

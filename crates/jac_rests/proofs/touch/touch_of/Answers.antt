@@ -1,6 +1,6 @@
 use Rattle.std.proofs.Common.{◌≡◌, ◌∙◌, ◌++◌, ℕ, List, ap}
 use Rattle.std.specs.Prelude.{length}
-use Rattle.jac_world.specs.World.{shown}
+use Rattle.jac_world.specs.World.{shown_by}
 use Rattle.jac_lang.specs.Mirror.{application_of}
 use Rattle.jac_rows.specs.declared.row.Row.{Row}
 use Rattle.jac_rows.specs.declared.state.State.{State}
@@ -28,9 +28,9 @@ returns-clause-covered g c = λ told viewer.
     ∙ ap (alternatives_altered s.tables) c.as_slice.ensures.items in
     covered app s over sound c.as_slice.ensures.apart.own placed c.in_ok-touch.touch viewer
     (λ (j : ℕ). c.in_ok-touch.ensures.labels told.told j
-    ∙ ap (λ (state : State). shown (marked_labels state.tables (models_marks app.models 0 c.as_slice-2.result.now c.as_slice-3.result.now app.models)) j) (first.same_state between)
-    ∙ ap (λ o. shown (marked_labels s.tables (models_marks app.models 0 o c.as_slice-3.result.now app.models)) j) c.as_slice-2.ensures.items
-    ∙ ap (λ (r : List Row). shown (marked_labels s.tables (models_marks app.models 0 over r app.models)) j) rows)
+    ∙ ap (λ (state : State). shown_by (marked_labels state.tables (models_marks app.models 0 c.as_slice-2.result.now c.as_slice-3.result.now app.models)) j) (first.same_state between)
+    ∙ ap (λ o. shown_by (marked_labels s.tables (models_marks app.models 0 o c.as_slice-3.result.now app.models)) j) c.as_slice-2.ensures.items
+    ∙ ap (λ (r : List Row). shown_by (marked_labels s.tables (models_marks app.models 0 over r app.models)) j) rows)
     (c.in_ok-touch.ensures.groups
     ∙ ap (λ o. marked_groups (models_marks app.models 0 o c.as_slice-3.result.now app.models)) c.as_slice-2.ensures.items
     ∙ ap (λ (r : List Row). marked_groups (models_marks app.models 0 over r app.models)) rows)

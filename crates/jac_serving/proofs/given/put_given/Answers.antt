@@ -1,5 +1,5 @@
 use Rattle.std.proofs.Common.{arith, Some, None}
-use Rattle.jac_hub.specs.Hub.{seen}
+use Rattle.jac_hub.specs.Hub.{hub_seen}
 use Rattle.jac_serving.proofs.DeskLemmas.{keeps-none, keeps-may, keeps-then, next-of}
 use Rattle.jac_serving.specs.Outside.{sinks}
 use Rattle.jac_serving.proofs.OutsideLemmas.{Went-none, Went-on, Went-then, fails_behind}
@@ -20,7 +20,7 @@ outs-init g c =
       stays = stays-none (T.seen c.args.teller.now);
       went =
           Went-none (T.seen c.args.teller.now).sink (g.U.Sink.seen c.args.audit.now) _
-          (so_far_none T.spells (D.answering desk.of) (seen c.args.hub.now) desk.holding c.args.served);
+          (so_far_none T.spells (D.answering desk.of) (hub_seen c.args.hub.now) desk.holding c.args.served);
     }
 
 pub returns-in-Err-clause-put : goal.returns-in-Err-clause-put
@@ -28,8 +28,8 @@ returns-in-Err-clause-put g c =
     let T = g.T.Teller in
     let U = g.U.Sink in
     let D = g.D.Desk in
-    let between = seen c.outs.hub in
-    let new = seen c.next_out.new.hub in
+    let between = hub_seen c.outs.hub in
+    let new = hub_seen c.next_out.new.hub in
     let a = D.seen c.args.desk.now in
     let b = D.seen c.outs.desk in
     let d = D.seen c.next_out.new.self in
@@ -42,7 +42,7 @@ returns-in-Err-clause-put g c =
     let audit_last = U.seen c.tell_out-told.new.audit in
     Went-then out_first out_next out_last (U.seen c.args.audit.now) (U.seen c.outs.audit) audit_last _ _ _
     (λ o au p bu so_far torn.
-    so_far_lost T.spells (D.answering a.of) (seen c.args.hub.now) between new a.holding b.holding d.holding c.args.served c.outs.so_far o au so_far c.in-Err.lost c.in-Some.given
+    so_far_lost T.spells (D.answering a.of) (hub_seen c.args.hub.now) between new a.holding b.holding d.holding c.args.served c.outs.so_far o au so_far c.in-Err.lost c.in-Some.given
     (sinks out_first out_last (U.seen c.args.audit.now) audit_last) (sinks out_next out_last (U.seen c.outs.audit) audit_last) p bu
     (fails_behind out_first out_next out_last (U.seen c.args.audit.now) (U.seen c.outs.audit) audit_last went.out_lasts.later went.audit_lasts.later)
     next torn)
@@ -52,8 +52,8 @@ pub returns-clause-put : goal.returns-clause-put
 returns-clause-put g c =
     let T = g.T.Teller in
     let D = g.D.Desk in
-    let between = seen c.outs.hub in
-    let new = seen c.next_out.new.hub in
+    let between = hub_seen c.outs.hub in
+    let new = hub_seen c.next_out.new.hub in
     let a = D.seen c.args.desk.now in
     let b = D.seen c.outs.desk in
     let d = D.seen c.next_out.new.self in
@@ -61,7 +61,7 @@ returns-clause-put g c =
     next-of D.answering a b c.spelling-spelling.result T.spells between new None b.holding d.holding c.outs.invariant.keeps c.spelling-spelling.ensures c.in_default.ensures.next in
     Went-on _ _ _
     (λ o au so_far.
-    so_far_all T.spells (D.answering a.of) (seen c.args.hub.now) between new a.holding b.holding d.holding c.args.served c.outs.so_far o au so_far next)
+    so_far_all T.spells (D.answering a.of) (hub_seen c.args.hub.now) between new a.holding b.holding d.holding c.args.served c.outs.so_far o au so_far next)
     c.outs.invariant.went
 
 pub outs-preserved : goal.outs-preserved
@@ -69,8 +69,8 @@ outs-preserved g c =
     let T = g.T.Teller in
     let U = g.U.Sink in
     let D = g.D.Desk in
-    let between = seen c.outs.hub in
-    let new = seen c.next_out.new.hub in
+    let between = hub_seen c.outs.hub in
+    let new = hub_seen c.next_out.new.hub in
     let a = D.seen c.args.desk.now in
     let b = D.seen c.outs.desk in
     let d = D.seen c.next_out.new.self in
@@ -89,7 +89,7 @@ outs-preserved g c =
       went =
           Went-then (T.seen c.args.teller.now).sink out_next out_last (U.seen c.args.audit.now) (U.seen c.outs.audit) audit_last _ _ _
           (λ o au p bu so_far put.
-          so_far_more T.spells (D.answering a.of) (seen c.args.hub.now) between new a.holding b.holding d.holding c.args.served c.outs.so_far o au so_far c.in-Ok.more c.in-Some.given
+          so_far_more T.spells (D.answering a.of) (hub_seen c.args.hub.now) between new a.holding b.holding d.holding c.args.served c.outs.so_far o au so_far c.in-Ok.more c.in-Some.given
           (sinks out_next out_last (U.seen c.outs.audit) audit_last) p bu next put)
           before.went c.in-Ok.ensures.put;
     }

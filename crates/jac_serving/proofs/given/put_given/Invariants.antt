@@ -1,6 +1,6 @@
 use Rattle.std.proofs.Common.{◌+◌, ◌-◌, ◌≤◌, ◌<◌, ◌^◌}
-use Rattle.jac_hub.specs.Hub.{seen, left}
-use Rattle.jac_serving.specs.Desk.{MayServe, Keeps, kept}
+use Rattle.jac_hub.specs.Hub.{hub_seen, puts_left}
+use Rattle.jac_serving.specs.Desk.{MayServe, KeepsDesk, kept}
 use Rattle.jac_serving.specs.Outside.{Went, sinks}
 use Rattle.jac_serving.specs.Serve.{PutsSoFar}
 use Rattle.jac_serving.specs.Teller.{KeepsRest}
@@ -12,14 +12,14 @@ invariant-outs g l =
     let U = g.U.Sink in
     let D = g.D.Desk in
     record {
-      few : l.served + left (seen l.fn.hub) < 2 ^ 64 - 1;
-      fewer : l.so_far.count + left (seen l.hub) ≤ l.served + left (seen l.fn.hub);
+      few : l.served + puts_left (hub_seen l.fn.hub) < 2 ^ 64 - 1;
+      fewer : l.so_far.count + puts_left (hub_seen l.hub) ≤ l.served + puts_left (hub_seen l.fn.hub);
       may_serve : MayServe D.answering (D.seen l.desk);
-      keeps : Keeps D.answering (D.seen l.fn.desk) (D.seen l.desk);
+      keeps : KeepsDesk D.answering (D.seen l.fn.desk) (D.seen l.desk);
       stays : KeepsRest (T.seen l.fn.teller) (T.seen l.teller);
       went : Went (sinks (T.seen l.fn.teller).sink (T.seen l.teller).sink (U.seen l.fn.audit) (U.seen l.audit))
-          (PutsSoFar T.spells (D.answering (D.seen l.fn.desk).of) (seen l.fn.hub) (seen l.hub) (kept (D.seen l.fn.desk) (D.seen l.desk)) l.served l.so_far);
+          (PutsSoFar T.spells (D.answering (D.seen l.fn.desk).of) (hub_seen l.fn.hub) (hub_seen l.hub) (kept (D.seen l.fn.desk) (D.seen l.desk)) l.served l.so_far);
     }
 
 abbrev pub decreases-outs : goal.decreases-outs
-decreases-outs g l = left (seen l.hub)
+decreases-outs g l = puts_left (hub_seen l.hub)

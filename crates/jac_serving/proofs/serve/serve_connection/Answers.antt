@@ -1,5 +1,5 @@
 use Rattle.std.proofs.Common.{arith}
-use Rattle.jac_hub.specs.Hub.{seen}
+use Rattle.jac_hub.specs.Hub.{hub_seen}
 use Rattle.jac_replies.specs.declared.reply.Spelling.TheVariants as spellings
 use Rattle.jac_serving.specs.Answering.{hearing}
 use Rattle.jac_serving.specs.Outside.{sinks}
@@ -14,7 +14,7 @@ put_given-requires-clause-few g c =
     let D = g.D.Desk in
     let x = D.answering (D.seen c.args.desk.now).of in
     let most =
-    step_left (hearing x) c.args.event.now c.requires.following.known c.in-Ok.ensures.0 (seen c.args.hub.now) (seen c.take_event.new.hub)
+    step_left (hearing x) c.args.event.now c.requires.following.known c.in-Ok.ensures.0 (hub_seen c.args.hub.now) (hub_seen c.take_event.new.hub)
     c.requires.idle c.requires.following.like c.in-Ok.ensures.1 in
     omega (arith, c.requires.few, most)
 
@@ -23,7 +23,7 @@ returns-in-Ok-put_given-clause-count g c =
     let D = g.D.Desk in
     let x = D.answering (D.seen c.args.desk.now).of in
     let most =
-    step_left (hearing x) c.args.event.now c.requires.following.known c.in-Ok.ensures.0 (seen c.args.hub.now) (seen c.take_event.new.hub)
+    step_left (hearing x) c.args.event.now c.requires.following.known c.in-Ok.ensures.0 (hub_seen c.args.hub.now) (hub_seen c.take_event.new.hub)
     c.requires.idle c.requires.following.like c.in-Ok.ensures.1 in
     omega (arith, c.in-Ok-put_given.ensures.count, most)
 
@@ -32,15 +32,15 @@ returns-in-Ok-put_given-clause-answered g c =
     let D = g.D.Desk in
     let desk = D.seen c.args.desk.now in
     let x = D.answering desk.of in
-    let old = seen c.args.hub.now in
-    let stepped = seen c.take_event.new.hub in
+    let old = hub_seen c.args.hub.now in
+    let stepped = hub_seen c.take_event.new.hub in
     let taken = c.in-Ok.ensures in
     let brought = c.in-Ok-put_given.brought in
     Went-on _ _ _
     (λ out audit puts n known like. (
       step_kept (hearing x) c.args.line c.args.event.now known taken.0 old stepped like taken.1 taken.3,
       brought.closed,
-      event_whole spellings.Quoted x c.lawful.ensures c.requests_are_read.ensures n c.args.served brought c.args.event.now known taken.0 old stepped (seen c.put_given.new.hub)
+      event_whole spellings.Quoted x c.lawful.ensures c.requests_are_read.ensures n c.args.served brought c.args.event.now known taken.0 old stepped (hub_seen c.put_given.new.hub)
           desk.holding (D.seen c.put_given.new.desk).holding out audit c.requires.idle like taken.1 taken.2 c.requires.desk.ready puts,
     ))
     c.in-Ok-put_given.ensures.put
@@ -50,8 +50,8 @@ returns-in-Err-put_given-clause-answered g c =
     let D = g.D.Desk in
     let desk = D.seen c.args.desk.now in
     let x = D.answering desk.of in
-    let old = seen c.args.hub.now in
-    let stepped = seen c.take_event.new.hub in
+    let old = hub_seen c.args.hub.now in
+    let stepped = hub_seen c.take_event.new.hub in
     let taken = c.in-Ok.ensures in
     let O = g.O.Sink in
     let U = g.U.Sink in
@@ -73,7 +73,7 @@ returns-in-Err-clause-answered g c =
     let out = g.O.Sink.seen c.args.out.now in
     let audit = g.U.Sink.seen c.args.audit.now in
     Went-none out audit _
-    (stopped_answers (D.answering desk.of) (seen c.args.hub.now) (seen c.take_event.new.hub) desk.holding c.args.served c.args.line
+    (stopped_answers (D.answering desk.of) (hub_seen c.args.hub.now) (hub_seen c.take_event.new.hub) desk.holding c.args.served c.args.line
     c.args.event.now c.in-Err.stopped (sinks out out audit audit) c.in-Err.ensures)
 
 pub returns-in-Err-clause-keeps : goal.returns-in-Err-clause-keeps

@@ -1,5 +1,5 @@
 use Rattle.std.proofs.Common.{◌+◌, refl, false}
-use Rattle.jac_hub.specs.Hub.{seen}
+use Rattle.jac_hub.specs.Hub.{hub_seen}
 use Rattle.jac_serving.specs.Outside.{sinks}
 use Rattle.jac_serving.proofs.OutsideLemmas.{Went-on}
 use Rattle.jac_serving.proofs.EventLemmas.{ask_served, ask_torn}
@@ -17,7 +17,7 @@ returns-in-Ok-clause-answered g c =
     (λ out audit put n known like. (
       refl,
       false,
-      ask_served (D.answering desk.of) c.lawful.ensures (seen c.args.hub.now) desk.holding (D.seen c.ask-asked.new.self).holding c.args.served n
+      ask_served (D.answering desk.of) c.lawful.ensures (hub_seen c.args.hub.now) desk.holding (D.seen c.ask-asked.new.self).holding c.args.served n
           c.in-Ask.viewer c.in-Ask.method c.in-Ask.path c.in-Ask.query c.in-Ask.body s out audit known c.ask-asked.result c.requires.idle like c.ask-asked.ensures.asked put,
     ))
     (rw c.as_bytes.ensures at c.in-Ok.ensures.put))

@@ -1,7 +1,7 @@
 use Rattle.std.proofs.Common.{◌∙◌, ◌+◌, ap, List, ℕ, arith, Option, Ok, Err, refl}
 use denote.Ref.{Bor}
 use Rattle.jac_events.specs.Lines.{line_of}
-use Rattle.jac_hub.specs.Hub.{seen}
+use Rattle.jac_hub.specs.Hub.{hub_seen}
 use Rattle.jac_value.specs.Parts.{parts_left, option_now, length_left}
 use Rattle.jac_serving.specs.Answering.{Answering}
 use Rattle.jac_serving.specs.Desk.{kept}
@@ -16,7 +16,7 @@ pub lines-init : goal.lines-init
 lines-init g c =
     let D = g.D.Desk in
     let desk = D.seen c.args.desk.now in
-    let progress = start (D.answering desk.of) c.lawful.ensures (seen c.new-hub.result) desk.holding c.args.bytes.now c.new-hub.ensures c.requires.desk.ready in
+    let progress = start (D.answering desk.of) c.lawful.ensures (hub_seen c.new-hub.result) desk.holding c.args.bytes.now c.new-hub.ensures c.requires.desk.ready in
     record {
       short = c.requires.short;
       lines = omega arith;
@@ -44,11 +44,11 @@ returns-in-Err-clause-served g c =
     let part = sinks (O.seen c.lines.out) out_last (U.seen c.lines.audit) audit_last in
     Went-then (O.seen c.args.out.now) (O.seen c.lines.out) out_last (U.seen c.args.audit.now) (U.seen c.lines.audit) audit_last _ _ _
     (λ o au p bu progress line.
-    stop_at (D.answering a.of) c.lawful.ensures (seen c.lines.hub) (seen c.serve_line.new.hub) a.holding b.holding d.holding
+    stop_at (D.answering a.of) c.lawful.ensures (hub_seen c.lines.hub) (hub_seen c.serve_line.new.hub) a.holding b.holding d.holding
     _ _ (option_now c.first_part.result.1) _ _ all part _ _ _ _ _
     (fails_behind (O.seen c.args.out.now) (O.seen c.lines.out) out_last (U.seen c.args.audit.now) (U.seen c.lines.audit) audit_last went.out_lasts.later went.audit_lasts.later)
     progress parts (line_of c.first_part.result.0.now) refl c.in-Err.stopped
-    (line-of D.answering a b (seen c.lines.hub) (seen c.serve_line.new.hub) (kept b d) c.lines.served (c.lines.number + 1) (line_of c.first_part.result.0.now) (Err c.in-Err.stopped) part p bu c.lines.invariant.keeps line))
+    (line-of D.answering a b (hub_seen c.lines.hub) (hub_seen c.serve_line.new.hub) (kept b d) c.lines.served (c.lines.number + 1) (line_of c.first_part.result.0.now) (Err c.in-Err.stopped) part p bu c.lines.invariant.keeps line))
     went c.in-Err.ensures.answered
 
 pub lines-preserved : goal.lines-preserved
@@ -67,9 +67,9 @@ lines-preserved g c =
     let went =
     Went-then (O.seen c.args.out.now) (O.seen c.lines.out) (O.seen c.serve_line.new.out) (U.seen c.args.audit.now) (U.seen c.lines.audit) (U.seen c.serve_line.new.audit) _ _ _
     (λ o au p bu progress line.
-    go_on (D.answering a.of) c.lawful.ensures (seen c.lines.hub) (seen c.serve_line.new.hub) a.holding b.holding d.holding
+    go_on (D.answering a.of) c.lawful.ensures (hub_seen c.lines.hub) (hub_seen c.serve_line.new.hub) a.holding b.holding d.holding
     _ _ (option_now c.first_part.result.1) _ _ c.in-Ok.count part _ _ _ _ _ progress parts (line_of c.first_part.result.0.now) refl
-    (line-of D.answering a b (seen c.lines.hub) (seen c.serve_line.new.hub) (kept b d) c.lines.served (c.lines.number + 1) (line_of c.first_part.result.0.now) (Ok c.in-Ok.count) part p bu before.keeps line))
+    (line-of D.answering a b (hub_seen c.lines.hub) (hub_seen c.serve_line.new.hub) (kept b d) c.lines.served (c.lines.number + 1) (line_of c.first_part.result.0.now) (Ok c.in-Ok.count) part p bu before.keeps line))
     before.went c.in-Ok.ensures.answered in
     record {
       short = before.short;
@@ -79,7 +79,7 @@ lines-preserved g c =
       keeps = keeps;
       idle = went.holds.idle;
       following =
-          of-keeps D.answering a d (λ (x : Answering). IsFollowing x (seen c.serve_line.new.hub)) keeps
+          of-keeps D.answering a d (λ (x : Answering). IsFollowing x (hub_seen c.serve_line.new.hub)) keeps
           (record { known = went.holds.known; like = went.holds.like });
       went = went;
     }
@@ -90,7 +90,7 @@ returns-clause-served g c =
     let a = D.seen c.args.desk.now in
     Went-on _ _ _
     (λ o au progress.
-    finish_left (D.answering a.of) (seen c.lines.hub) a.holding (D.seen c.lines.desk).holding c.args.bytes.now c.lines.left _ _
+    finish_left (D.answering a.of) (hub_seen c.lines.hub) a.holding (D.seen c.lines.desk).holding c.args.bytes.now c.lines.left _ _
     (sinks (g.O.Sink.seen c.args.out.now) (g.O.Sink.seen c.lines.out) (g.U.Sink.seen c.args.audit.now) (g.U.Sink.seen c.lines.audit)) o au
     c.in_default.not-Some progress)
     c.lines.invariant.went

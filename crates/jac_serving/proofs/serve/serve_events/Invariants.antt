@@ -1,8 +1,8 @@
 use Rattle.std.proofs.Common.{◌≡◌, ◌+◌, ◌*◌, ◌≤◌, ◌<◌, ◌^◌, length}
 use Rattle.jac_hub.specs.declared.hub.Turn.TheVariants.{Idle}
-use Rattle.jac_hub.specs.Hub.{seen}
+use Rattle.jac_hub.specs.Hub.{hub_seen}
 use Rattle.jac_value.specs.Parts.{option_now, length_left}
-use Rattle.jac_serving.specs.Desk.{MayServe, Keeps, kept}
+use Rattle.jac_serving.specs.Desk.{MayServe, KeepsDesk, kept}
 use Rattle.jac_serving.specs.Outside.{Went, sinks}
 use Rattle.jac_serving.specs.Serve.{IsFollowing}
 use Rattle.jac_serving.proofs.ProgressLemmas.{Progress}
@@ -18,11 +18,11 @@ invariant-lines g l =
       lines : l.number + length_left (option_now l.left) ≤ length l.bytes + 1;
       fewer : l.served ≤ l.number * 2 ^ 26;
       may_serve : MayServe D.answering (D.seen l.desk);
-      keeps : Keeps D.answering (D.seen l.fn.desk) (D.seen l.desk);
-      idle : (seen l.hub).turn ≡ Idle;
-      following : IsFollowing (D.answering (D.seen l.desk).of) (seen l.hub);
+      keeps : KeepsDesk D.answering (D.seen l.fn.desk) (D.seen l.desk);
+      idle : (hub_seen l.hub).turn ≡ Idle;
+      following : IsFollowing (D.answering (D.seen l.desk).of) (hub_seen l.hub);
       went : Went (sinks (O.seen l.fn.out) (O.seen l.out) (U.seen l.fn.audit) (U.seen l.audit))
-          (Progress (D.answering (D.seen l.fn.desk).of) (seen l.hub) (kept (D.seen l.fn.desk) (D.seen l.desk)) l.bytes (option_now l.left) l.number l.served);
+          (Progress (D.answering (D.seen l.fn.desk).of) (hub_seen l.hub) (kept (D.seen l.fn.desk) (D.seen l.desk)) l.bytes (option_now l.left) l.number l.served);
     }
 
 abbrev pub decreases-lines : goal.decreases-lines

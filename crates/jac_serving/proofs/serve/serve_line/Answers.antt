@@ -1,6 +1,6 @@
 use Rattle.std.proofs.Common.{refl}
 use Rattle.jac_events.specs.Lines.{line_of}
-use Rattle.jac_hub.specs.Hub.{seen}
+use Rattle.jac_hub.specs.Hub.{hub_seen}
 use Rattle.jac_serving.specs.Outside.{sinks}
 use Rattle.jac_serving.proofs.OutsideLemmas.{Went-none}
 use Rattle.jac_serving.proofs.ProgressLemmas.{line_empty, line_formless}
@@ -13,7 +13,7 @@ returns-in-Ok-None-clause-answered g c =
     let out = g.O.Sink.seen c.args.out.now in
     let audit = g.U.Sink.seen c.args.audit.now in
     Went-none out audit _
-    (line_empty (D.answering desk.of) (seen c.args.hub.now) desk.holding c.args.served c.args.number (sinks out out audit audit) (line_of c.args.line.now)
+    (line_empty (D.answering desk.of) (hub_seen c.args.hub.now) desk.holding c.args.served c.args.number (sinks out out audit audit) (line_of c.args.line.now)
     (rw c.in-Ok-None.field-0-is at c.in-Ok-None.ensures.read))
 
 pub returns-in-Err-BadLine-clause-answered : goal.returns-in-Err-BadLine-clause-answered
@@ -23,5 +23,5 @@ returns-in-Err-BadLine-clause-answered g c =
     let out = g.O.Sink.seen c.args.out.now in
     let audit = g.U.Sink.seen c.args.audit.now in
     Went-none out audit _
-    (line_formless (D.answering desk.of) (seen c.args.hub.now) desk.holding c.args.served c.args.number (sinks out out audit audit) (line_of c.args.line.now)
+    (line_formless (D.answering desk.of) (hub_seen c.args.hub.now) desk.holding c.args.served c.args.number (sinks out out audit audit) (line_of c.args.line.now)
     ((rw c.in-Err-BadLine.field-0-is at c.in-Err-BadLine.ensures.bad) refl))

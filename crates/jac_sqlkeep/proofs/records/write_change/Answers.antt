@@ -2,7 +2,7 @@ use Rattle.std.proofs.Common.{◌≡◌, Err, option_copied, sym, subst, rules}
 use Rattle.sqlite.specs.Held.{Held, state}
 use Rattle.sqlite.specs.State.{HasCleanDisk}
 use Rattle.jac_lines.specs.Statements.{statements_with}
-use Rattle.jac_lines.specs.Transaction.{Transacts, Ends}
+use Rattle.jac_lines.specs.Transaction.{Transacts, EndsCommitted}
 use Rattle.jac_sqlkeep.proofs.Steps.{transacts_end, transacts_none, ends_end, ends_none}
 use Rattle.jac_sqlkeep.proofs.records.write_change.Goals as goal
 
@@ -30,7 +30,7 @@ returns-in-Ok-clause-ends g c clean outside =
     let end = c.commit.new.self.0 in
     let same : end ≡ c.conn-1.given.0 = search rules in
     let early = subst (λ (h : Held g.row.S.Denot). HasCleanDisk (state g.S.Store h)) (sym same) clean in
-    subst (λ (h : Held g.row.S.Denot). Ends (state g.S.Store c.args.conn.now) (state g.S.Store h)) same
+    subst (λ (h : Held g.row.S.Denot). EndsCommitted (state g.S.Store c.args.conn.now) (state g.S.Store h)) same
     (ends_end g.S.Store xs c.args.conn.now c.transaction-tx.result.conn.now c.write.new.tx.conn.now end tt c.commit.result c.transaction-tx.ensures.begun
     c.in-Ok.ensures.inside (λ clean. search rules) c.commit.ensures.err c.commit.ensures.survives early)
 
@@ -40,6 +40,6 @@ returns-in-Err-clause-ends g c clean outside =
     let end = c.rollback.new.self.0 in
     let same : end ≡ c.conn-in-Err-1.given.0 = search rules in
     let early = subst (λ (h : Held g.row.S.Denot). HasCleanDisk (state g.S.Store h)) (sym same) clean in
-    subst (λ (h : Held g.row.S.Denot). Ends (state g.S.Store c.args.conn.now) (state g.S.Store h)) same
+    subst (λ (h : Held g.row.S.Denot). EndsCommitted (state g.S.Store c.args.conn.now) (state g.S.Store h)) same
     (ends_none g.S.Store xs c.args.conn.now c.transaction-tx.result.conn.now c.write.new.tx.conn.now end c.in-Err.error c.transaction-tx.ensures.begun
     c.in-Err.ensures.inside c.rollback.ensures.undone c.rollback.ensures.survives early)

@@ -2,7 +2,7 @@ use Rattle.std.proofs.Common.{◌∙◌, refl, sym, ap, subst, ℕ, List, [], �
 use Rattle.jac_value.specs.declared.value.Value.TheVariants as value
 use Rattle.jac_value.specs.Ids.{model_of_id}
 use Rattle.jac_world.specs.World.{holds}
-use Rattle.jac_facet.specs.Leaves.{seen}
+use Rattle.jac_facet.specs.Leaves.{leaves_seen}
 use Rattle.jac_facet.specs.Shape.{one, at}
 use Rattle.jac_keep.specs.Worked.{state_of}
 use Rattle.jac_lang.specs.Mirror.{application_of, assigned_of, binders_of, expression_of, question_of, statements_of}
@@ -14,12 +14,13 @@ use Rattle.jac_expr.specs.Tupled.{all_at, bindings_of}
 use Rattle.jac_expr.proofs.Bound.{bound-shown}
 use Rattle.jac_expr.proofs.Names.{env_at-append}
 use Rattle.jac_query.specs.declared.tuple.Tuple.{Tuple}
-use Rattle.jac_write.specs.Writes.{Creates, tables_made}
-use Rattle.jac_stmt.specs.Runs.{faceted, setting_at, setting_around, Runs, RunsEach, bound_at, MayBindAt, live_under}
+use Rattle.jac_write.specs.Writes.{Creates, tables_created}
+use Rattle.jac_stmt.specs.Runs.{faceted_run, RunsFaceted, RunsEach, bound_at, MayBindAt, live_under}
 use Rattle.jac_stmt.proofs.FormLaws.{branches, repeats}
 use Rattle.jac_stmt.proofs.RunLaws.{scopes}
 use Rattle.jac_stmt.proofs.WriteLaws.{id_here, made_here, makes}
 use Rattle.jac_stmt.proofs.execution.+exec.Goals as goal
+use Rattle.jac_plain.specs.Shown.{setting_around, setting_at}
 
 pub execute-returns-in_ok-execute_update-in-Update-clause-left : goal.execute-returns-in_ok-execute_update-in-Update-clause-left
 execute-returns-in_ok-execute_update-in-Update-clause-left g t c = λ told. rw c.in-Update.is (c.in_ok-execute_update-in-Update.ensures.left told c.args.frame.now.out)
@@ -45,10 +46,10 @@ execute_bound-returns-clause-left g t c = λ told.
     let more = bindings_of bs ids in
     let old = state_of g.K.Keeper.seen c.args.work.now in
     let new = state_of g.K.Keeper.seen c.execute_all.new.work in
-    let ran : Runs (λ w. leaves_all (setting_around app c.args.here.now.ctx.now ids w) body) (λ n w. MayRunAll n (setting_around app c.args.here.now.ctx.now ids w) body) (λ w. holds w c.args.here.now.pc.now)
-    (faceted old c.bind_tuple.new.env c.args.frame.now.out) (faceted new c.execute_all.new.frame.env c.execute_all.new.frame.out) =
-    subst (λ (x : Ctx). Runs (λ w. leaves_all (setting_at app x w) body) (λ n w. MayRunAll n (setting_at app x w) body) (λ w. holds w c.args.here.now.pc.now)
-    (faceted old c.bind_tuple.new.env c.args.frame.now.out) (faceted new c.execute_all.new.frame.env c.execute_all.new.frame.out))
+    let ran : RunsFaceted (λ w. leaves_all (setting_around app c.args.here.now.ctx.now ids w) body) (λ n w. MayRunAll n (setting_around app c.args.here.now.ctx.now ids w) body) (λ w. holds w c.args.here.now.pc.now)
+    (faceted_run old c.bind_tuple.new.env c.args.frame.now.out) (faceted_run new c.execute_all.new.frame.env c.execute_all.new.frame.out) =
+    subst (λ (x : Ctx). RunsFaceted (λ w. leaves_all (setting_at app x w) body) (λ n w. MayRunAll n (setting_at app x w) body) (λ w. holds w c.args.here.now.pc.now)
+    (faceted_run old c.bind_tuple.new.env c.args.frame.now.out) (faceted_run new c.execute_all.new.frame.env c.execute_all.new.frame.out))
     c.looped-ctx.ensures (c.in_ok-execute_all.ensures.left told) in
     scopes (λ w. leaves_all (setting_around app c.args.here.now.ctx.now ids w) body) (λ n w. MayRunAll n (setting_around app c.args.here.now.ctx.now ids w) body) (λ w. holds w c.args.here.now.pc.now)
     (λ w env. bound bs ids env)
@@ -67,7 +68,7 @@ execute_if-returns-clause-left g t c = λ told.
     branches app ctx (expression_of c.args.c.now) first second c.args.here.now.pc.now (state_of g.K.Keeper.seen c.args.work.now) (state_of g.K.Keeper.seen c.eval.new.work) (state_of g.K.Keeper.seen c.execute_leaves.new.work)
     c.args.frame.now.env c.execute_leaves.new.frame.env c.args.frame.now.out c.execute_leaves.new.frame.out c.in_ok-condition.condition c.as_slice-leaves.result.now
     c.requires.no_record (c.in_ok-condition.ensures.reads.same.same_state before) (c.in_ok-condition.ensures.value before)
-    (λ w. ap (seen w) c.as_slice-leaves.ensures ∙ c.in_ok-leaves.ensures.seen w) (c.in_ok-execute_leaves.ensures.left told)
+    (λ w. ap (leaves_seen w) c.as_slice-leaves.ensures ∙ c.in_ok-leaves.ensures.seen w) (c.in_ok-execute_leaves.ensures.left told)
 
 pub execute_for-returns-clause-left : goal.execute_for-returns-clause-left
 execute_for-returns-clause-left g t c = λ told.
@@ -77,9 +78,9 @@ execute_for-returns-clause-left g t c = λ told.
     let q = question_of c.args.query.now in
     let body = statements_of c.args.body.now in
     let ran : RunsEach (bound_at app ctx q.binders body) (MayBindAt app ctx q.binders body) (live_under c.args.here.now.pc.now c.in_ok-answers.answers)
-    (faceted (state_of g.K.Keeper.seen c.tuples.new.work) c.args.frame.now.env c.args.frame.now.out) (faceted (state_of g.K.Keeper.seen c.execute_tuples.new.work) c.execute_tuples.new.frame.env c.execute_tuples.new.frame.out) =
+    (faceted_run (state_of g.K.Keeper.seen c.tuples.new.work) c.args.frame.now.env c.args.frame.now.out) (faceted_run (state_of g.K.Keeper.seen c.execute_tuples.new.work) c.execute_tuples.new.frame.env c.execute_tuples.new.frame.out) =
     subst (λ (ts : List Tuple). RunsEach (bound_at app ctx q.binders body) (MayBindAt app ctx q.binders body) (live_under c.args.here.now.pc.now ts)
-    (faceted (state_of g.K.Keeper.seen c.tuples.new.work) c.args.frame.now.env c.args.frame.now.out) (faceted (state_of g.K.Keeper.seen c.execute_tuples.new.work) c.execute_tuples.new.frame.env c.execute_tuples.new.frame.out))
+    (faceted_run (state_of g.K.Keeper.seen c.tuples.new.work) c.args.frame.now.env c.args.frame.now.out) (faceted_run (state_of g.K.Keeper.seen c.execute_tuples.new.work) c.execute_tuples.new.frame.env c.execute_tuples.new.frame.out))
     c.as_slice-answers.ensures (c.in_ok-execute_tuples.ensures.left told) in
     repeats app ctx q body c.args.here.now.pc.now (state_of g.K.Keeper.seen c.args.work.now) (state_of g.K.Keeper.seen c.tuples.new.work) (state_of g.K.Keeper.seen c.execute_tuples.new.work)
     c.args.frame.now.env c.execute_tuples.new.frame.env c.args.frame.now.out c.execute_tuples.new.frame.out c.in_ok-answers.answers c.requires.no_record (c.in_ok-answers.ensures.reads.same.same_state before)
@@ -94,8 +95,8 @@ execute_made-returns-clause-left g t c = λ told.
     let id = id_here app c.args.here.now.ctx.now c.args.model c.args.creation.now.site in
     let old = state_of g.K.Keeper.seen c.new_cells.new.work in
     let mid = state_of g.K.Keeper.seen c.create.new.work in
-    let made : Creates id (λ w. tables_made models w (model_of_id id) id (all_at w c.in_ok-cells.cells)) c.args.here.now.pc.now old mid =
-    subst (λ (x : ℕ). Creates x (λ w. tables_made models w (model_of_id x) x (all_at w c.in_ok-cells.cells)) c.args.here.now.pc.now old mid) c.new_id-id.ensures.id (c.in_ok-create.ensures.left at_named) in
+    let made : Creates id (λ w. tables_created models w (model_of_id id) id (all_at w c.in_ok-cells.cells)) c.args.here.now.pc.now old mid =
+    subst (λ (x : ℕ). Creates x (λ w. tables_created models w (model_of_id x) x (all_at w c.in_ok-cells.cells)) c.args.here.now.pc.now old mid) c.new_id-id.ensures.id (c.in_ok-create.ensures.left at_named) in
     makes app c.args.here.now.ctx.now c.args.creation.now.name.now c.args.model c.args.creation.now.site (assigned_of c.args.creation.now.cells.now) (statements_of c.args.creation.now.body.now) c.args.here.now.pc.now
     (state_of g.K.Keeper.seen c.args.work.now) old mid (state_of g.K.Keeper.seen c.execute_named.new.work)
     c.args.frame.now.env c.execute_named.new.frame.env c.args.frame.now.out c.execute_named.new.frame.out c.in_ok-cells.cells c.leaf-made.result

@@ -1,5 +1,5 @@
 use Rattle.std.proofs.Common.{◌≤◌, ◌+◌, ◌*◌, max, length, drop}
-use Rattle.jac_facet.specs.Leaves.{seen}
+use Rattle.jac_facet.specs.Leaves.{leaves_seen}
 use Rattle.jac_keep.specs.Worked.{state_of}
 use Rattle.jac_lang.specs.declared.statements.Stmt.{size-Stmt}
 use Rattle.jac_lang.specs.declared.statements.Stmts.{size-Stmts}
@@ -7,10 +7,11 @@ use Rattle.jac_lang.specs.Mirror.{binders_of, statements_of}
 use Rattle.jac_plain.specs.Making.{MayRunAll}
 use Rattle.jac_plain.specs.Statements.{leaves_all}
 use Rattle.jac_world.specs.World.{holds}
-use Rattle.jac_stmt.specs.Runs.{faceted, setting_at, AreRunnable, bound_at, MayBindAt, chosen_at, MayChooseAt, live_under}
+use Rattle.jac_stmt.specs.Runs.{faceted_run, AreRunnable, bound_at, MayBindAt, chosen_at, MayChooseAt, live_under}
 use Rattle.jac_stmt.proofs.EachLaws.{IsGoing, IsRunningEach}
 use Rattle.jac_stmt.proofs.Looping.{LoopRuns}
 use Rattle.jac_stmt.proofs.execution.+exec.Given as goal
+use Rattle.jac_plain.specs.Shown.{setting_at}
 
 abbrev pub invariant-execute_all-body : goal.invariant-execute_all-body
 invariant-execute_all-body g l =
@@ -20,15 +21,15 @@ invariant-execute_all-body g l =
     × LoopRuns k.seen l.fn.work l.work (length l.here.app.now.models)
     (IsGoing (λ w. leaves_all (setting_at l.here.app.now l.here.ctx.now w) (statements_of l.stmts)) (λ w. leaves_all (setting_at l.here.app.now l.here.ctx.now w) (statements_of l.left))
     (λ n w. MayRunAll n (setting_at l.here.app.now l.here.ctx.now w) (statements_of l.stmts)) (λ n w. MayRunAll n (setting_at l.here.app.now l.here.ctx.now w) (statements_of l.left)) (λ w. holds w l.here.pc.now)
-    (faceted (state_of k.seen l.fn.work) l.fn.frame.env l.fn.frame.out) (faceted (state_of k.seen l.work) l.frame.env l.frame.out))
+    (faceted_run (state_of k.seen l.fn.work) l.fn.frame.env l.fn.frame.out) (faceted_run (state_of k.seen l.work) l.frame.env l.frame.out))
 
 abbrev pub invariant-execute_leaves-leaves : goal.invariant-execute_leaves-leaves
 invariant-execute_leaves-leaves g l =
     let k = g.K.Keeper in
     LoopRuns k.seen l.fn.work l.work (length l.here.app.now.models)
     (IsRunningEach (chosen_at l.here.app.now l.here.ctx.now (statements_of l.first) (statements_of l.second)) (MayChooseAt l.here.app.now l.here.ctx.now (statements_of l.first) (statements_of l.second))
-    (λ w. seen w l.leaves) (λ w. seen w (drop l.leaf-index l.leaves))
-    (faceted (state_of k.seen l.fn.work) l.fn.frame.env l.fn.frame.out) (faceted (state_of k.seen l.work) l.frame.env l.frame.out))
+    (λ w. leaves_seen w l.leaves) (λ w. leaves_seen w (drop l.leaf-index l.leaves))
+    (faceted_run (state_of k.seen l.fn.work) l.fn.frame.env l.fn.frame.out) (faceted_run (state_of k.seen l.work) l.frame.env l.frame.out))
 
 abbrev pub invariant-execute_tuples-tuples : goal.invariant-execute_tuples-tuples
 invariant-execute_tuples-tuples g l =
@@ -36,7 +37,7 @@ invariant-execute_tuples-tuples g l =
     LoopRuns k.seen l.fn.work l.work (length l.here.app.now.models)
     (IsRunningEach (bound_at l.here.app.now l.here.ctx.now (binders_of l.binders) (statements_of l.body)) (MayBindAt l.here.app.now l.here.ctx.now (binders_of l.binders) (statements_of l.body))
     (live_under l.here.pc.now l.tuples) (live_under l.here.pc.now (drop l.tuple-index l.tuples))
-    (faceted (state_of k.seen l.fn.work) l.fn.frame.env l.fn.frame.out) (faceted (state_of k.seen l.work) l.frame.env l.frame.out))
+    (faceted_run (state_of k.seen l.fn.work) l.fn.frame.env l.fn.frame.out) (faceted_run (state_of k.seen l.work) l.frame.env l.frame.out))
 
 abbrev pub decreases-execute_all : goal.decreases-execute_all
 decreases-execute_all g l = 8 * size-Stmts l.stmts.now

@@ -1,5 +1,5 @@
 use Rattle.std.proofs.Common.{rules, sym, subst}
-use Rattle.jac_stored.specs.Reading.{AreSpelled}
+use Rattle.jac_stored.specs.Reading.{AreCellsSpelled}
 use Rattle.jac_stored.proofs.Rows.{cells_trail, cells_end}
 use Rattle.jac_stored.proofs.body.cells.Goals as goal
 
@@ -9,5 +9,5 @@ returns-then-not-is_empty-clause-stops c =
 
 pub returns-clause-cells : goal.returns-clause-cells
 returns-clause-cells c =
-    subst (AreSpelled c.args.kinds.now c.args.body.now) (sym c.from_vec.ensures)
+    subst (AreCellsSpelled c.args.kinds.now c.args.body.now) (sym c.from_vec.ensures)
     (cells_end c.args.kinds.now c.args.body.now c.kinds.cells.items c.kinds.to_come.now c.kinds.rest.now c.kinds.invariant c.in_default.ensures.cases (search rules))

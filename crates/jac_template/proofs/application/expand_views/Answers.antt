@@ -1,7 +1,7 @@
 use Rattle.std.proofs.Common.{rules, ◌≡◌, ◌+◌, ◌∷◌, length, ap, subst, sym, arith}
 use Rattle.std.proofs.lemmas.List.{nil_from_length}
 use Rattle.std.specs.Vec.Iter.{into_iter_items}
-use Rattle.jac_lang.specs.Mirror.{page_of, pages_of}
+use Rattle.jac_lang.specs.Mirror.{page_of_view, pages_of}
 use Rattle.jac_template.proofs.Bodies.{ViewsLead, views_on, views_whole}
 use Rattle.jac_template.proofs.application.expand_views.Goals as goal
 
@@ -16,7 +16,7 @@ views-preserved c =
     record {
       count = omega (arith, counted, next, c.views.invariant.count);
       leads = subst (λ n. ViewsLead (pages_of c.args.views) (pages_of c.expand_view.new.out.items) (pages_of rest) n) (sym next)
-          (views_on _ _ _ _ _ (page_of c.in-Some.view) p c.views.number (ap pages_of parts) made one plain c.views.invariant.leads);
+          (views_on _ _ _ _ _ (page_of_view c.in-Some.view) p c.views.number (ap pages_of parts) made one plain c.views.invariant.leads);
     }
 
 pub returns-clause-views : goal.returns-clause-views

@@ -1,8 +1,8 @@
 use Rattle.std.proofs.Common.{◌≡◌, ◌++◌, ◌∷◌, [], string_bytes}
 use Rattle.std.specs.Str.Iter.{chars_rest}
-use Rattle.jac_tree.specs.Printed.{pieces_of}
+use Rattle.jac_tree.specs.Printed.{text_pieces}
 use Rattle.jac_tree.proofs.print.put_text.Given as goal
 
 -- what was put, before the pieces of what is left, is the pieces of all
 abbrev pub invariant-characters : goal.invariant-characters
-invariant-characters l = string_bytes l.to ++ pieces_of (chars_rest l.c-iterator) ≡ (string_bytes l.fn.to ++ 34 ∷ []) ++ pieces_of l.text
+invariant-characters l = string_bytes l.to ++ text_pieces (chars_rest l.c-iterator) ≡ (string_bytes l.fn.to ++ 34 ∷ []) ++ text_pieces l.text

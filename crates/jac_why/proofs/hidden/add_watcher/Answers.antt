@@ -1,5 +1,5 @@
 use Rattle.std.proofs.Common.{◌∙◌, ◌==◌, ◌&&◌, ◌||◌, ap}
-use Rattle.jac_world.specs.World.{shown}
+use Rattle.jac_world.specs.World.{shown_by}
 use Rattle.jac_keep.specs.Worked.{state_of}
 use Rattle.jac_why.specs.Scene.{scene_on}
 use Rattle.jac_why.specs.Watched.{asks_again}
@@ -12,4 +12,4 @@ returns-clause-watching g c told =
     let old = c.args.watchers.now in
     watching_by (scene_on (state_of g.K.Keeper.seen c.args.work.now) c.args.scene.now) label c.in_ok-consulted.consulted _ old c.watch.new.self
     (c.in_ok-consulted.ensures.value told)
-    (λ k j. c.in_ok-watch.ensures k j ∙ ap (λ ls. (shown ls k && label == j) || asks_again old k j) c.as_slice.ensures.labels)
+    (λ k j. c.in_ok-watch.ensures k j ∙ ap (λ ls. (shown_by ls k && label == j) || asks_again old k j) c.as_slice.ensures.labels)

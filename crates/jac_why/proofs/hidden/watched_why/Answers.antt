@@ -1,6 +1,6 @@
 use Rattle.std.proofs.Common.{◌∙◌, ap, List, ℕ, rules}
 use Rattle.std.specs.Option.{option_map}
-use Rattle.jac_world.specs.World.{shown, IsAscending}
+use Rattle.jac_world.specs.World.{shown_by, IsAscending}
 use Rattle.jac_keep.specs.Worked.{state_of}
 use Rattle.jac_why.specs.Named.{as_reason}
 use Rattle.jac_why.specs.Scene.{scene_on}
@@ -17,6 +17,6 @@ returns-clause-reason g c told allowed watching =
     let up_asked : IsAscending asked = search rules in
     c.as_reason.ensures
     ∙ ap (option_map as_reason) (c.in_ok-first.ensures.first told)
-    ∙ ap (λ (a : List ℕ). option_map as_reason (first_forbidden scene.app (scene.worlds (shown a)) scene.viewer c.as_slice-labels.result.now)) c.in_ok-beside.ensures
-    ∙ ap (λ (ls : List ℕ). option_map as_reason (first_forbidden scene.app (scene.worlds (shown (beside scene k))) scene.viewer ls)) c.as_slice-labels.ensures.labels
+    ∙ ap (λ (a : List ℕ). option_map as_reason (first_forbidden scene.app (scene.worlds (shown_by a)) scene.viewer c.as_slice-labels.result.now)) c.in_ok-beside.ensures
+    ∙ ap (λ (ls : List ℕ). option_map as_reason (first_forbidden scene.app (scene.worlds (shown_by (beside scene k))) scene.viewer ls)) c.as_slice-labels.ensures.labels
     ∙ why_among scene c.args.watchers.now k asked up up_asked allowed watching c.in_ok-asked.ensures

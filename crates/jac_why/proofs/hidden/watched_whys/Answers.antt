@@ -4,12 +4,12 @@ use Rattle.jac_rows.specs.declared.state.State.{State}
 use Rattle.jac_keep.specs.Worked.{state_of}
 use Rattle.jac_plain.specs.Policies.{AreAllowed}
 use Rattle.jac_pruned.proofs.Working.{next}
-use Rattle.jac_resolve.specs.Rounds.{worlds_of}
 use Rattle.jac_why.specs.Scene.{scene_on}
 use Rattle.jac_why.specs.Watched.{AreWatching}
 use Rattle.jac_why.specs.Whys.{why_at, all_whys}
 use Rattle.jac_why.proofs.Explaining.{whys_on}
 use Rattle.jac_why.proofs.hidden.watched_whys.Goals as goal
+use Rattle.jac_plain.specs.Shown.{worlds_of}
 
 pub labels-preserved : goal.labels-preserved
 labels-preserved g c =

@@ -3,11 +3,11 @@ use Rattle.jac_lang.specs.Mirror.{application_of}
 use Rattle.jac_keep.specs.Worked.{state_of}
 use Rattle.jac_plain.specs.Policies.{AreAllowed}
 use Rattle.jac_pruned.proofs.Working.{LoopOver}
-use Rattle.jac_resolve.specs.Rounds.{worlds_of}
 use Rattle.jac_why.specs.Scene.{scene_on}
 use Rattle.jac_why.specs.Watched.{AreWatching}
 use Rattle.jac_why.specs.Whys.{all_whys}
 use Rattle.jac_why.proofs.hidden.watched_whys.Given as goal
+use Rattle.jac_plain.specs.Shown.{worlds_of}
 
 abbrev pub invariant-labels : goal.invariant-labels
 invariant-labels g l =

@@ -2,8 +2,8 @@ use Rattle.std.proofs.Common.{◌≡◌, refl, ◌∙◌, ◌-◌, ◌++◌, IsT
 use Rattle.jac_rows.specs.declared.row.Row.{Row}
 use Rattle.jac_keep.specs.Alterations.{overlaid}
 use Rattle.jac_keep.specs.KeeperState.{KeeperState}
-use Rattle.jac_keep.specs.Kept.{applied}
-use Rattle.jac_keep.specs.Reshaping.{widened}
+use Rattle.jac_keep.specs.Kept.{changed_state}
+use Rattle.jac_keep.specs.Reshaping.{widened_state}
 use Rattle.jac_keep.specs.Schema.{empties}
 use Rattle.jac_keep.proofs.ReshapingLaws.{tables_if_fit, keeping_if_fit}
 use Rattle.jac_keep.proofs.SoundLaws.{tables_of_sound}
@@ -16,7 +16,7 @@ pub reshape_tables-requires-clause-stay : goal.reshape_tables-requires-clause-st
 reshape_tables-requires-clause-stay c =
     let same : c.self.inside.state ≡ c.args.self.now.state = ap (λ k. k.state) (c.self.view_is ∙ c.count_apply.ensures.left) in
     let fits = c.requires.schema in
-    tables_if_fit fits.0 (applied c.args.change.now c.self.inside.state) (rw same (fits.2 refl))
+    tables_if_fit fits.0 (changed_state c.args.change.now c.self.inside.state) (rw same (fits.2 refl))
 
 pub invariant_of-self-2 : goal.invariant_of-self-2
 invariant_of-self-2 c =
@@ -28,7 +28,7 @@ invariant_of-self-2 c =
     let ts = overlaid change.changed c.self.inside.state.tables in
     let tables : c.reshape_tables.new.tables ≡ ts ++ empties (length shapes - length ts) =
     c.in_ok-reshape_tables.ensures.ok ∙ ap (λ n. ts ++ empties (n - length ts)) (c.in_ok-models.ensures shapes fits.1) in
-    keeping_if_fit shapes (applied change c.args.self.now.state) _ _ (fits.2 refl)
+    keeping_if_fit shapes (changed_state change c.args.self.now.state) _ _ (fits.2 refl)
     (ap (λ (us : List (List Row)). record { tables = us; number = change.number }) tables
-    ∙ ap (λ (k : KeeperState). widened (length shapes) (applied change k.state)) kept)
+    ∙ ap (λ (k : KeeperState). widened_state (length shapes) (changed_state change k.state)) kept)
     (c.self.invariant.called attached)

@@ -1,6 +1,6 @@
 use Rattle.std.proofs.Common.{◌≡◌, ◌||◌, ◌&&◌, ℕ, drop, is_some}
 use Rattle.std.specs.List.{list_any}
-use Rattle.jac_world.specs.World.{shown}
+use Rattle.jac_world.specs.World.{shown_by}
 use Rattle.jac_recall.specs.declared.touch.TouchedGroup.{TouchedGroup as Group}
 use Rattle.jac_recall.specs.Recalled.{given_of}
 use Rattle.jac_recall.specs.Touched.{is_for, is_in_group}
@@ -9,5 +9,5 @@ use Rattle.jac_recall.proofs.by_group.ByGroup.add_touched.Given as goal
 -- what the groups that are left add to what was added, all of them add
 abbrev pub invariant-groups : goal.invariant-groups
 invariant-groups l = (k : ℕ) →
-    (shown l.labels.items k || (list_any (λ (g : Group). is_in_group g k && is_for g.viewer l.viewer) (drop l.group-index l.groups) && is_some (given_of l.self k)))
-    ≡ (shown l.fn.labels.items k || (list_any (λ (g : Group). is_in_group g k && is_for g.viewer l.viewer) l.groups && is_some (given_of l.self k)))
+    (shown_by l.labels.items k || (list_any (λ (g : Group). is_in_group g k && is_for g.viewer l.viewer) (drop l.group-index l.groups) && is_some (given_of l.self k)))
+    ≡ (shown_by l.fn.labels.items k || (list_any (λ (g : Group). is_in_group g k && is_for g.viewer l.viewer) l.groups && is_some (given_of l.self k)))

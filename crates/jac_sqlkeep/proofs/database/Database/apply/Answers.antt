@@ -1,6 +1,6 @@
 use Rattle.std.proofs.Common.{IsTrue, length, sym, subst}
 use Rattle.jac_rows.specs.Good.{IsSound}
-use Rattle.jac_keep.specs.Kept.{applied}
+use Rattle.jac_keep.specs.Kept.{changed_state}
 use Rattle.jac_lines.proofs.Kept.{change_told}
 use Rattle.jac_sqlkeep.specs.Based.{Based}
 use Rattle.jac_sqlkeep.proofs.Based.{applies_based, sound_before}
@@ -11,7 +11,7 @@ invariant_of-self g c = (
   c.write_change.ensures.mode c.self.invariant.0,
   λ known. (change_told g.S.Store (length c.self.inside.shape.kinds) c.self.inside.conn c.write_change.new.conn c.args.change.now (g.met.S.Store.shut_if_dirty c.write_change.new.conn.store)
       (λ clean. c.write_change.ensures.ends clean c.self.invariant.0) (c.self.invariant.1 known) c.write_change.result
-      (sound_before g.S.Store c.self.inside.shape.kinds c.self.inside.conn c.args.change.now c.self.inside.known known (subst (λ (v : Based). IsTrue v.tells → IsSound (applied c.args.change.now v.state)) (sym c.self.view_is) c.requires.good))
+      (sound_before g.S.Store c.self.inside.shape.kinds c.self.inside.conn c.args.change.now c.self.inside.known known (subst (λ (v : Based). IsTrue v.tells → IsSound (changed_state c.args.change.now v.state)) (sym c.self.view_is) c.requires.good))
       (rw c.as_slice-models.ensures at c.write_change.ensures.stored) c.write_change.ensures.transacts).kept,
 )
 
@@ -22,6 +22,6 @@ returns g c =
       applies = applies_based g.S.Store c.self.inside.shape.kinds c.self.inside.conn c.write_change.new.conn c.args.change.now c.write_change.result c.self.inside.known
           (λ known. change_told g.S.Store (length c.self.inside.shape.kinds) c.self.inside.conn c.write_change.new.conn c.args.change.now (g.met.S.Store.shut_if_dirty c.write_change.new.conn.store)
           (λ clean. c.write_change.ensures.ends clean c.self.invariant.0) (c.self.invariant.1 known) c.write_change.result
-          (sound_before g.S.Store c.self.inside.shape.kinds c.self.inside.conn c.args.change.now c.self.inside.known known (subst (λ (v : Based). IsTrue v.tells → IsSound (applied c.args.change.now v.state)) (sym c.self.view_is) c.requires.good))
+          (sound_before g.S.Store c.self.inside.shape.kinds c.self.inside.conn c.args.change.now c.self.inside.known known (subst (λ (v : Based). IsTrue v.tells → IsSound (changed_state c.args.change.now v.state)) (sym c.self.view_is) c.requires.good))
           (rw c.as_slice-models.ensures at c.write_change.ensures.stored) c.write_change.ensures.transacts);
     })

@@ -1,6 +1,6 @@
 use Rattle.std.proofs.Common.{IsTrue, length, sym, subst}
-use Rattle.jac_keep.specs.Kept.{applied}
-use Rattle.jac_keep.specs.Reshaping.{widened}
+use Rattle.jac_keep.specs.Kept.{changed_state}
+use Rattle.jac_keep.specs.Reshaping.{widened_state}
 use Rattle.jac_keep.specs.Schema.{IsFit, shapes_by}
 use Rattle.jac_sqlkeep.specs.Based.{Based}
 use Rattle.jac_sqlkeep.proofs.Based.{reshaped_told, reshapes_ok, reshapes_err}
@@ -11,7 +11,7 @@ invariant_of-self g c = (
   c.write_change.ensures.mode c.self.invariant.0,
   λ known. (reshaped_told g.S.Store c.self.inside.shape.kinds c.args.shape.kinds c.args.shape.nested c.self.inside.conn c.write_change.new.conn c.args.change.now c.args.schema.now (g.met.S.Store.shut_if_dirty c.write_change.new.conn.store)
       (λ clean. c.write_change.ensures.ends clean c.self.invariant.0) c.self.inside.known c.self.invariant.1
-      (subst (λ (v : Based). IsTrue v.tells → IsFit (shapes_by c.args.shape.kinds c.args.shape.nested) (widened (length c.args.shape.kinds) (applied c.args.change.now v.state))) (sym c.self.view_is) c.requires.fit)
+      (subst (λ (v : Based). IsTrue v.tells → IsFit (shapes_by c.args.shape.kinds c.args.shape.nested) (widened_state (length c.args.shape.kinds) (changed_state c.args.change.now v.state))) (sym c.self.view_is) c.requires.fit)
       _ (rw c.as_slice-models.ensures at c.in-Ok.ensures.stored) c.in-Ok.ensures.transacts known).kept,
 )
 
@@ -20,7 +20,7 @@ invariant_of-self-in-Err-1 g c = (
   c.write_change.ensures.mode c.self.invariant.0,
   λ known. (reshaped_told g.S.Store c.self.inside.shape.kinds c.args.shape.kinds c.args.shape.nested c.self.inside.conn c.write_change.new.conn c.args.change.now c.args.schema.now (g.met.S.Store.shut_if_dirty c.write_change.new.conn.store)
       (λ clean. c.write_change.ensures.ends clean c.self.invariant.0) c.self.inside.known c.self.invariant.1
-      (subst (λ (v : Based). IsTrue v.tells → IsFit (shapes_by c.args.shape.kinds c.args.shape.nested) (widened (length c.args.shape.kinds) (applied c.args.change.now v.state))) (sym c.self.view_is) c.requires.fit)
+      (subst (λ (v : Based). IsTrue v.tells → IsFit (shapes_by c.args.shape.kinds c.args.shape.nested) (widened_state (length c.args.shape.kinds) (changed_state c.args.change.now v.state))) (sym c.self.view_is) c.requires.fit)
       _ tt c.in-Err.ensures.transacts known).same,
 )
 
@@ -30,7 +30,7 @@ returns-in-Ok g c =
     (reshapes_ok g.S.Store c.self.inside.shape.kinds c.args.shape.kinds c.args.shape.nested c.self.inside.conn c.write_change.new.conn c.args.change.now c.args.schema.now c.self.inside.known
     (reshaped_told g.S.Store c.self.inside.shape.kinds c.args.shape.kinds c.args.shape.nested c.self.inside.conn c.write_change.new.conn c.args.change.now c.args.schema.now (g.met.S.Store.shut_if_dirty c.write_change.new.conn.store)
     (λ clean. c.write_change.ensures.ends clean c.self.invariant.0) c.self.inside.known c.self.invariant.1
-    (subst (λ (v : Based). IsTrue v.tells → IsFit (shapes_by c.args.shape.kinds c.args.shape.nested) (widened (length c.args.shape.kinds) (applied c.args.change.now v.state))) (sym c.self.view_is) c.requires.fit)
+    (subst (λ (v : Based). IsTrue v.tells → IsFit (shapes_by c.args.shape.kinds c.args.shape.nested) (widened_state (length c.args.shape.kinds) (changed_state c.args.change.now v.state))) (sym c.self.view_is) c.requires.fit)
     _ (rw c.as_slice-models.ensures at c.in-Ok.ensures.stored) c.in-Ok.ensures.transacts))
 
 pub returns-in-Err : goal.returns-in-Err
@@ -39,5 +39,5 @@ returns-in-Err g c =
     (reshapes_err g.S.Store c.self.inside.shape.kinds c.args.shape.kinds c.args.shape.nested c.self.inside.conn c.write_change.new.conn c.args.change.now c.args.schema.now c.self.inside.known c.in-Err.error
     (reshaped_told g.S.Store c.self.inside.shape.kinds c.args.shape.kinds c.args.shape.nested c.self.inside.conn c.write_change.new.conn c.args.change.now c.args.schema.now (g.met.S.Store.shut_if_dirty c.write_change.new.conn.store)
     (λ clean. c.write_change.ensures.ends clean c.self.invariant.0) c.self.inside.known c.self.invariant.1
-    (subst (λ (v : Based). IsTrue v.tells → IsFit (shapes_by c.args.shape.kinds c.args.shape.nested) (widened (length c.args.shape.kinds) (applied c.args.change.now v.state))) (sym c.self.view_is) c.requires.fit)
+    (subst (λ (v : Based). IsTrue v.tells → IsFit (shapes_by c.args.shape.kinds c.args.shape.nested) (widened_state (length c.args.shape.kinds) (changed_state c.args.change.now v.state))) (sym c.self.view_is) c.requires.fit)
     _ tt c.in-Err.ensures.transacts))

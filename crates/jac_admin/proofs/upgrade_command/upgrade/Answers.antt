@@ -1,0 +1,129 @@
+use Rattle.std.proofs.Common.{refl, inl, inr, [], arith}
+use Rattle.jac_lang.specs.Mirror.{application_of}
+use Rattle.jac_words.specs.declared.role.Role.TheVariants as roles
+use Rattle.jac_words.specs.declared.words.Command.TheVariants as commands
+use Rattle.jac_serving.specs.Outside.{span}
+use Rattle.jac_ending.specs.Files.{sight}
+use Rattle.jac_serving.proofs.OutsideLemmas.{Took-none}
+use Rattle.jac_ending.proofs.EndingLemmas.{read_within, unread_ends, next_unopened_ends, idle_ends, still_idle}
+use Rattle.jac_ending.proofs.OutsetLemmas.{appless_ends, files_last, spelled_application, spelled_within, within_between}
+use Rattle.jac_admin.proofs.WellLemmas.{is_well_if_spelled}
+use Rattle.jac_admin.proofs.upgrade_command.upgrade.Goals as goal
+
+pub returns-in-Err : goal.returns-in-Err
+returns-in-Err g c =
+    let F = g.F.Files in
+    let command = commands.Upgrade c.args.command.now in
+    let out = g.O.Sink.seen c.args.out.now in
+    let audit = g.U.Sink.seen c.args.audit.now in
+    let k = g.K.Keeper.seen c.args.vault.now in
+    let a = F.seen c.args.files.now in
+    let b = F.seen c.read_app.new.files in
+    idle_ends out audit _
+    (inl (
+      appless_ends (sight a b out out audit audit k k) command (span a b) c.in-Err.ending (within_between a a b b (files_last a) c.in-Err.ensures.lasts (files_last b)) c.in-Err.ensures.appless,
+      still_idle audit k,
+    ))
+
+pub returns-in-Err-read_file : goal.returns-in-Err-read_file
+returns-in-Err-read_file g c =
+    let F = g.F.Files in
+    let command = commands.Upgrade c.args.command.now in
+    let app = application_of c.in-Ok.service in
+    let out = g.O.Sink.seen c.args.out.now in
+    let audit = g.U.Sink.seen c.args.audit.now in
+    let k = g.K.Keeper.seen c.args.vault.now in
+    let a = F.seen c.args.files.now in
+    let b = F.seen c.read_app.new.files in
+    let d = F.seen c.read_file.new.files in
+    let one = c.in-Ok.ensures.lasts in
+    let two = c.in-Err-read_file.ensures.lasts in
+    let seen = sight a d out out audit audit k k in
+    idle_ends out audit _
+    (inl (
+      unread_ends seen command roles.New (span b d) c.in-Err-read_file.ending (
+        (
+          app,
+          spelled_application seen command app
+              (spelled_within (span a d) (span a b) (within_between a a b d (files_last a) one two) c.args.command.now.app app c.in-Ok.ensures.spelled),
+        ),
+        refl,
+      )
+          (within_between a b d d one two (files_last d))
+          c.in-Err-read_file.ensures.unread,
+      still_idle audit k,
+    ))
+
+pub returns-in-Err-open_next : goal.returns-in-Err-open_next
+returns-in-Err-open_next g c =
+    let F = g.F.Files in
+    let command = commands.Upgrade c.args.command.now in
+    let app = application_of c.in-Ok.service in
+    let out = g.O.Sink.seen c.args.out.now in
+    let audit = g.U.Sink.seen c.args.audit.now in
+    let k = g.K.Keeper.seen c.args.vault.now in
+    let a = F.seen c.args.files.now in
+    let b = F.seen c.read_app.new.files in
+    let d = F.seen c.read_file.new.files in
+    let one = c.in-Ok.ensures.lasts in
+    let two = c.in-Ok-read_file.ensures.lasts in
+    let seen = sight a d out out audit audit k k in
+    idle_ends out audit _
+    (inl (
+      next_unopened_ends seen command c.in-Ok-read_file.next c.in-Err-open_next.ending (
+        (
+          app,
+          spelled_application seen command app
+              (spelled_within (span a d) (span a b) (within_between a a b d (files_last a) one two) c.args.command.now.app app c.in-Ok.ensures.spelled),
+        ),
+        refl,
+      )
+          (read_within (span a d) (span b d) (within_between a b d d one two (files_last d))
+          c.args.command.now.next roles.New c.in-Ok-read_file.next (record { short = c.in-Ok-read_file.ensures.short; told = c.in-Ok-read_file.ensures.told }))
+          (rw c.as_slice.ensures at c.in-Err-open_next.ensures.unopened),
+      still_idle audit k,
+    ))
+
+pub upgrade_store-requires-clause-well : goal.upgrade_store-requires-clause-well
+upgrade_store-requires-clause-well g c =
+    let spelled = c.in-Ok.ensures.spelled in
+    is_well_if_spelled spelled.bytes (application_of c.in-Ok.service) spelled.spelled
+
+pub returns : goal.returns
+returns g c =
+    let F = g.F.Files in
+    let O = g.O.Sink in
+    let K = g.K.Keeper in
+    let command = commands.Upgrade c.args.command.now in
+    let app = application_of c.in-Ok.service in
+    let audit = g.U.Sink.seen c.args.audit.now in
+    let a = F.seen c.args.files.now in
+    let b = F.seen c.read_app.new.files in
+    let d = F.seen c.read_file.new.files in
+    let one = c.in-Ok.ensures.lasts in
+    let two = c.in-Ok-read_file.ensures.lasts in
+    let moved = c.upgrade_store.ensures in
+    let seen = sight a d (O.seen c.args.out.now) (O.seen c.upgrade_store.new.out) audit audit (K.seen c.args.vault.now) (K.seen c.upgrade_store.new.vault) in
+    record {
+      out = moved.put;
+      audit = [];
+      out_lasts = moved.lasts;
+      audit_later = omega arith;
+      out_took = moved.took;
+      audit_took = Took-none audit;
+      holds = inr (record {
+        old = app;
+        new = application_of c.in-Ok-open_next.service;
+        application = spelled_application seen command app
+            (spelled_within (span a d) (span a b) (within_between a a b d (files_last a) one two) c.args.command.now.app app c.in-Ok.ensures.spelled);
+        next = record {
+          bytes = c.in-Ok-read_file.next;
+          read = read_within (span a d) (span b d) (within_between a b d d one two (files_last d))
+              c.args.command.now.next roles.New c.in-Ok-read_file.next (record { short = c.in-Ok-read_file.ensures.short; told = c.in-Ok-read_file.ensures.told });
+          spelled = rw c.as_slice.ensures at c.in-Ok-open_next.ensures.opened;
+        };
+        no_audit = refl;
+        unaimed = λ told. refl;
+        ends = moved.holds;
+      });
+    }

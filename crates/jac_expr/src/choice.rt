@@ -1,0 +1,120 @@
+ghost use Rattle.std.specs.Prelude.{◌≡◌, ℕ, Bool, true, [], ◌∷◌, Some, IfOk, IfSome};
+ghost use Rattle.jac_value.specs.declared.value.Value.{Value as Plain};
+ghost use Rattle.jac_value.specs.declared.value.Value.TheVariants.{Bool as Truth};
+ghost use Rattle.jac_world.specs.World.{holds};
+ghost use Rattle.jac_facet.specs.Shape.{at};
+ghost use Rattle.jac_facet.specs.Leaves.{leaves_seen};
+ghost use Rattle.jac_plain.specs.Expressions.{is_true, pick, two};
+ghost use Rattle.jac_expr.specs.Leafed.{last_by};
+
+use jac_facet::Facet;
+use jac_lang::Op;
+use jac_plain::is_true;
+use jac_value::{Memory, Value};
+use jac_world::{Guard, Steps};
+use std::alloc::Global;
+use std::sync::ledger::Ledger;
+
+/// Whether the condition is true, where it is the same wherever the path condition holds.
+pub(crate) fn decided(
+    alloc: Global,
+    pc: &Guard,
+    condition: &Facet<Value>,
+) -> Result<Option<bool>, Memory>
+    ensures { IfOk result (λ o. IfSome o (λ t. (w : ℕ → Bool) → holds w pc.now ≡ true
+        → is_true (at w condition.now) ≡ t)) }
+{
+    let leaves = condition.leaves_under(alloc, pc)?;
+    Ok(only_truth(leaves.as_slice()))
+}
+
+fn only_truth(leaves: &[(Guard, Value)]) -> Option<bool>
+    ensures { IfSome result (λ t. (w : ℕ → Bool) (x : Plain) → leaves_seen w leaves.now ≡ x ∷ []
+        → is_true x ≡ t) }
+{
+    match leaves {
+        [leaf] => Some(is_true(&leaf.1)),
+        _ => None,
+    }
+}
+
+/// What an `and` or an `or` comes to by its first operand alone, where that is the same wherever
+/// the path condition holds.
+pub(crate) fn settled(
+    alloc: Global,
+    pc: &Guard,
+    op: Op,
+    first: &Facet<Value>,
+) -> Result<Option<bool>, Memory>
+    ensures { IfOk result (λ o. IfSome o (λ t. (w : ℕ → Bool) (other : Plain)
+        → holds w pc.now ≡ true → two op (at w first.now) other ≡ Truth t)) }
+{
+    match op {
+        Op::And => {
+            let truth = decided(alloc, pc, first)?;
+            Ok(if_truth(truth, false))
+        }
+        Op::Or => {
+            let truth = decided(alloc, pc, first)?;
+            Ok(if_truth(truth, true))
+        }
+        _ => Ok(None),
+    }
+}
+
+// This truth, where it is the one that is known.
+fn if_truth(known: Option<bool>, truth: bool) -> Option<bool>
+    ensures { IfSome result (λ t. (t ≡ truth) × (known ≡ Some truth)) }
+{
+    match known {
+        Some(found) => if found == truth { Some(found) } else { None },
+        None => None,
+    }
+}
+
+// The first facet where the condition is true, else the second.
+pub(crate) fn choose<L: Ledger>(
+    alloc: Global,
+    pc: &Guard,
+    condition: &Facet<Value>,
+    first: &Facet<Value>,
+    second: &Facet<Value>,
+    splits: &mut Steps<L>,
+) -> Result<Facet<Value>, Memory>
+    ensures { IfOk result (λ f. (w : ℕ → Bool) → holds w pc.now ≡ true
+        → at w f ≡ pick (is_true (at w condition.now)) (at w first.now) (at w second.now)) }
+{
+    let leaves = condition.leaves_under(alloc, pc)?;
+    let chosen = choose_by(alloc, leaves.as_slice(), first, second, splits)?;
+    Ok(chosen)
+}
+
+fn choose_by<L: Ledger>(
+    alloc: Global,
+    leaves: &[(Guard, Value)],
+    first: &Facet<Value>,
+    second: &Facet<Value>,
+    splits: &mut Steps<L>,
+) -> Result<Facet<Value>, Memory>
+    ensures { IfOk result (λ f. (w : ℕ → Bool)
+        → at w f ≡ last_by (λ v. pick (is_true v) (at w first.now) (at w second.now))
+        (at w second.now) (leaves_seen w leaves.now)) }
+{
+    let mut chosen = second.copy(alloc)?;
+    'leaves: for leaf in leaves {
+        let side = side_of(&leaf.1, first, second);
+        chosen = Facet::under(alloc, &leaf.0, side, &chosen, splits)?;
+    }
+    Ok(chosen)
+}
+
+fn side_of<'f>(
+    condition: &Value,
+    first: &'f Facet<Value>,
+    second: &'f Facet<Value>,
+) -> &'f Facet<Value>
+    ensures { (w : ℕ → Bool) → at w result.now ≡ pick (is_true condition.now) (at w first.now)
+        (at w second.now) }
+{
+    if is_true(condition) { first } else { second }
+}

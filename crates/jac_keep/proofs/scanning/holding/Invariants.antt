@@ -1,8 +1,0 @@
-use Rattle.std.proofs.Common.{◌≡◌, ℕ, ◌||◌, drop}
-use Rattle.jac_world.specs.World.{shown}
-use Rattle.jac_keep.specs.Holding.{holds_cell}
-use Rattle.jac_keep.proofs.scanning.holding.Given as goal
-
--- a record that has the value was found, or is left
-abbrev pub invariant-rows : goal.invariant-rows
-invariant-rows l = (k : ℕ) → (shown l.ids k || holds_cell l.field l.value (drop l.row-index l.rows) k) ≡ holds_cell l.field l.value l.rows k

@@ -1,5 +1,0 @@
-use Rattle.std.proofs.Common.{◌≡◌, ◌++◌, take}
-use Rattle.jac_keep.proofs.splitting.add_copies.Given as goal
-
-abbrev pub invariant-new : goal.invariant-new
-invariant-new l = l.rows.items ≡ l.fn.rows.items ++ take l.row-index l.new

@@ -1,7 +1,0 @@
-use Rattle.jac_pruned.proofs.sorting.sort.Goals as goal
-
-pub returns-in-Up-clause-sorted : goal.returns-in-Up-clause-sorted
-returns-in-Up-clause-sorted g c = rw (c.in-Up.is, ← c.as_slice-all.ensures.value) c.sort_by.ensures.sorted
-
-pub returns-in-Down-clause-sorted : goal.returns-in-Down-clause-sorted
-returns-in-Down-clause-sorted g c = rw (c.in-Down.is, ← c.as_slice-all-in-Down.ensures.value) c.sort_by-in-Down.ensures.sorted

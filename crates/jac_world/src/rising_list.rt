@@ -1,0 +1,45 @@
+//! Labels by rising number, each once: searched by bisection, and changed in place.
+ghost use Rattle.std.specs.Prelude.{◌≡◌, ℕ, not, ◌==◌, ◌||◌, ◌&&◌, OnOk, OnErr};
+ghost use Rattle.jac_world.specs.World.{shown_by, IsAscending};
+
+use crate::{Label, Memory};
+
+/// Whether the label is among the labels. It takes the logarithm of their number.
+pub fn is_among(labels: &[Label], label: Label) -> bool
+    requires { IsAscending labels.now }
+    ensures { result ≡ shown_by labels.now label }
+{
+    labels.binary_search(&label).is_ok()
+}
+
+/// The same labels and this one.
+pub fn add_among(labels: &mut Vec<Label>, label: Label) -> Result<(), Memory>
+    requires { IsAscending labels.old.items }
+    ensures added { OnOk result ((k : ℕ) → shown_by labels.new.items k
+        ≡ (label == k || shown_by labels.old.items k)) }
+    ensures ascending { IsAscending labels.new.items }
+    ensures kept { OnErr result (labels.new.items ≡ labels.old.items) }
+{
+    match labels.as_slice().binary_search(&label) {
+        Ok(_) => Ok(()),
+        Err(place) => {
+            labels.insert(place, label)?;
+            Ok(())
+        }
+    }
+}
+
+/// The same labels but this one.
+pub fn remove_among(labels: &mut Vec<Label>, label: Label)
+    requires { IsAscending labels.old.items }
+    ensures removed { (k : ℕ) → shown_by labels.new.items k
+        ≡ (not (label == k) && shown_by labels.old.items k) }
+    ensures ascending { IsAscending labels.new.items }
+{
+    match labels.as_slice().binary_search(&label) {
+        Ok(place) => {
+            labels.remove(place);
+        }
+        Err(_) => {}
+    }
+}
