@@ -1,9 +1,7 @@
 -- A diary with guarded fields, records that are hidden and records that are made in a loop.
-use Rattle.std.specs.Prelude.{ℕ, Bool, true, false, List, [], ◌∷◌, Option, Some, None, codes}
-use Rattle.jac_value.specs.declared.value.Value.{Value}
+use Rattle.std.specs.Prelude.{ℕ, Bool, true, false, if◌then◌else◌, List, [], ◌∷◌, Option, Some, None, codes}
 use Rattle.jac_value.specs.declared.value.Value.TheVariants as value
 use Rattle.jac_world.specs.World.{shown_by}
-use Rattle.jac_lang.specs.declared.bindings.Binding.{Binding}
 use Rattle.jac_lang.specs.declared.field_kinds.KindName.TheVariants as kinds
 use Rattle.jac_lang.specs.Syntax.{Entity, Expression, Statement, FieldGroup, Application}
 use Rattle.jac_rows.specs.declared.plain.PlainRow.{PlainRow}
@@ -91,6 +89,19 @@ dentist = event_row (codes "dentist") (Some 4096) false (codes "clinic")
 abbrev pub diary_with : PlainRow → PlainState
 diary_with event = record { tables = couple ∷ [] ∷ (event ∷ []) ∷ [] ∷ []; number = 3 }
 
+-- notes whose words are guarded: for others they are the number of the record
+abbrev pub numbered_models : List Entity
+numbered_models = record {
+  name = codes "Note";
+  nested = false;
+  fields = a_field (codes "words") kinds.Text ∷ [];
+  groups = record {
+    guards = sets (codes "words") (Expression.str Expression.this) ∷ [];
+    hides = false;
+    policy = Expression.bool false;
+  } ∷ [];
+} ∷ []
+
 -- a request of Ann's of this number, with these labels shown
 abbrev pub asked_for : List ℕ → ℕ → Setting
 asked_for labels number = record {
@@ -120,6 +131,15 @@ make_dentist = Statement.create (codes "d") (codes "Event") 0
     (sets (codes "title") (word (codes "dentist")) ∷ sets (codes "host") Expression.viewer
     ∷ sets (codes "place") (word (codes "clinic")) ∷ []) (steps [])
 
+-- an event of this site, in which these statements stand
+abbrev pub makes_event : ℕ → List Statement → Statement
+makes_event site ss = Statement.create (codes "d") (codes "Event") site [] (steps ss)
+
+-- an invitation
+abbrev pub makes_invite : Statement
+makes_invite = Statement.create (codes "i") (codes "Invite") 0
+    (sets (codes "to") (the (codes "u")) ∷ []) (steps [])
+
 abbrev pub make_entry : Statement
 make_entry = Statement.create (codes "n") (codes "Entry") 1
     (sets (codes "words") (word (codes "hm")) ∷ sets (codes "owner") Expression.viewer ∷ [])
@@ -131,3 +151,8 @@ entry_state owner = record {
   tables = couple ∷ [] ∷ [] ∷ (row 8259 (value.Text (codes "hm") ∷ value.Ref owner ∷ []) ∷ []) ∷ [];
   number = 3;
 }
+
+-- the diary with an event of Ann's at the dentist, as the labels that are shown leave it
+abbrev pub guarded_diary : (ℕ → Bool) → PlainState
+guarded_diary w = diary_with (event_row (if w 65552 then codes "dentist" else codes "private")
+    (Some 4096) false (if w 65553 then codes "clinic" else codes "with 4096"))

@@ -1,3 +1,4 @@
+pub mod States
 pub mod Terms
 pub mod Library
 pub mod Diary

@@ -2,7 +2,7 @@ ghost use Rattle.std.specs.Prelude.{◌≡◌, ◌∷◌, true, false, codes, po
 ghost use Rattle.jac_value.specs.declared.value.Value.TheVariants as value;
 ghost use Rattle.jac_lang.specs.declared.queries.Order.TheVariants as orders;
 ghost use Rattle.jac_lang.specs.Syntax.{Expression};
-ghost use Rattle.jac_plain.specs.Expressions.{mean};
+ghost use Rattle.jac_plain.specs.Expressions.{has_none, mean};
 ghost use Rattle.jac_samples.specs.Terms.{num, minus, word, truth, the, add, sub, mul, eq, lt, and_also, or_also, cat_of, a_binder, sole};
 ghost use Rattle.jac_samples.specs.Library.{library, in_library, bound_there, names_value, row, first_made};
 
@@ -198,6 +198,8 @@ pub fn counts()
         (truth true) orders.Key) ≡ value.Int (pos 0) }
     ensures no_binder { in_library (Expression.count [] (truth true) orders.Key)
         ≡ value.Int (pos 0) }
+    ensures without { has_none [] ≡ true }
+    ensures with_one { has_none (sole (codes "b") (codes "Book")) ≡ false }
     ensures cents { in_library (Expression.sum (sole (codes "b") (codes "Book")) (truth true)
         orders.Key (Expression.get (codes "Book") (codes "cents") (the (codes "b"))))
         ≡ value.Int (pos 3400) }

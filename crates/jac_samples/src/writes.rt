@@ -2,11 +2,13 @@ ghost use Rattle.std.specs.Prelude.{◌≡◌, ◌∷◌, true, false, codes, po
 ghost use Rattle.jac_value.specs.declared.value.Value.TheVariants as value;
 ghost use Rattle.jac_lang.specs.declared.queries.Order.TheVariants as orders;
 ghost use Rattle.jac_lang.specs.Syntax.{Expression, Statement};
+ghost use Rattle.jac_world.specs.World.{shown_by};
 ghost use Rattle.jac_rows.specs.Tables.{rows_of};
+ghost use Rattle.jac_plain.specs.Records.{public_cell, shielded_cells, every_field};
 ghost use Rattle.jac_plain.specs.Statements.{leaves_all};
 ghost use Rattle.jac_samples.specs.Terms.{num, word, truth, the, eq, a_binder, sole, asks, sets, steps};
 ghost use Rattle.jac_samples.specs.Library.{library_tables, emma, odyssey, row, asked_by_ann, begun_with, leaves_library, puts, books_left, names_value, first_made};
-ghost use Rattle.jac_samples.specs.Diary.{bare_diary, couple, event_row, dentist, diary_with, events_left, leaves_diary, diary_puts, make_dentist, make_entry};
+ghost use Rattle.jac_samples.specs.Diary.{bare_diary, couple, event_row, dentist, diary_with, events_left, leaves_diary, diary_puts, make_dentist, make_entry, numbered_models};
 
 /// `create` makes a record whose id is (number · 64 + place) · 64 + the place of its model, in the
 /// order of ids; a field that isn't named has its kind's default, and the name is bound for the
@@ -132,6 +134,10 @@ pub fn guards_fields()
     ensures unguarded { events_left [] (Statement.update (codes "Event") (the (codes "e"))
         (sets (codes "open") (truth true) ∷ []) ∷ []) (diary_with dentist).tables
         ≡ event_row (codes "dentist") (Some 4096) true (codes "clinic") ∷ [] }
+    ensures number { public_cell numbered_models 0 4096 (value.Text (codes "hm") ∷ []) 0
+        (value.Text (codes "hm")) ≡ value.Text (codes "4096") }
+    ensures number_stored { shielded_cells numbered_models (shown_by []) 0 4096 every_field
+        (value.Text (codes "hm") ∷ []) ≡ value.Text (codes "4096") ∷ [] }
 {}
 
 /// A record of a model with a group that hides is made where its label is shown; the name that its

@@ -13,3 +13,11 @@ returns-clause-title c = refl
 pub returns-clause-others : goal.returns-clause-others
 unfolding digits
 returns-clause-others c = refl
+
+pub returns-clause-number : goal.returns-clause-number
+unfolding digits
+returns-clause-number c = refl
+
+pub returns-clause-number_stored : goal.returns-clause-number_stored
+unfolding digits
+returns-clause-number_stored c = refl
