@@ -14,8 +14,9 @@ as not made, and counts for nothing.
 
 What no example sees is told. With `--prove` the prover is asked of it, by a check of the definition's whole crate in a copy:
 where the definition is refused the turn isn't made, and where a law or the code is, that sees it. Then statements are turned
-as well, words that begin with a capital letter, of which there is no example. `--jobs` copies are at work side by side,
-`--through` are words to run each check through, and what is told in the file of the results isn't tried again."""
+as well, words that begin with a capital letter, of which `meaning.py` knows nothing; where jac_samples stands on their crate
+the prover is asked of its examples too. `--jobs` copies are at work side by side, `--through` are words to run each check
+through, and what is told in the file of the results isn't tried again."""
 import argparse
 import collections
 import concurrent.futures
@@ -45,6 +46,8 @@ EXCHANGED = {'&&': '||', '||': '&&', '<': '≤', '≤': '<', '+ℤ': '-ℤ', '-�
 # Words and signs at which an application begins anew.
 KEYWORDS = {'if', 'then', 'else', 'let', 'in', 'λ', 'record', 'before', '=', '→', '&&', '||', '++', '∷', '==', '≡', '×', '⊎',
             '<', '≤', '+', '*', '/', '%', '^', '+ℤ', '-ℤ', '*ℤ', ':', '.', ';', ','}
+# How the prover tells an example that it refuses.
+EXAMPLE = re.compile(r'(?m)^fn %s::\w+::(\w+): no' % SAMPLES)
 # Functions that say the same of their two arguments in either order: to exchange those turns nothing.
 EVEN = {'same_text', 'equality.ghosts.eq', 'beq'}
 Turn = collections.namedtuple('Turn', 'crate path line kind before after text says')
@@ -348,18 +351,23 @@ class Place:
         return self.folders[crate]
 
     def tried(self, turn):
-        """What the prover says of the turn: that it isn't made, or that a law or the code sees it, or that nothing does."""
-        top = self.folder(turn.crate)
+        """What the prover says of the turn: that it isn't made, or that an example, a law or the code sees it, or that
+        nothing does."""
+        asked = SAMPLES if turn.says and turn.crate in below(SAMPLES)[0] else turn.crate
+        top = self.folder(asked)
         path = os.path.join(top, turn.path)
         with open(path, 'w', encoding='utf-8') as file:
             file.write(turn.text)
-        done = subprocess.run(self.through + ['rt', 'check'], cwd=os.path.join(top, 'crates', turn.crate),
+        done = subprocess.run(self.through + ['rt', 'check'], cwd=os.path.join(top, 'crates', asked),
                               stdout=subprocess.PIPE, stderr=subprocess.STDOUT, check=False)
         shutil.copy(os.path.join(TOP, turn.path), path)
         told = done.stdout.decode(errors='replace')
-        if 'logic=proved' in told:
+        example = EXAMPLE.search(told)
+        if not done.returncode and 'logic=proved' in told:
             return 'SURVIVES'
-        return 'not made' if is_unmade(told, os.path.basename(turn.path)) else 'a law'
+        if is_unmade(told, os.path.basename(turn.path)):
+            return 'not made'
+        return 'example ' + example.group(1) if example else 'a law'
 
     def close(self):
         for folder in self.folders.values():
