@@ -1,9 +1,10 @@
 #!/usr/bin/env python3
 """Walks through the four applications of examples/ with a headless Chromium: the start page, forms that add and
 change, lists, the page of one record, what another viewer gets there, and a page that isn't there. Then two Chromiums
-click through the calendar in turn, each as somebody else, and no page may take longer than 0.3 seconds: in one of three
-walks of 50 clicks, as another program may take the machine for a moment. Words: the program, and a folder for pictures
-of the pages, if they are wanted. Prints each case that fails, and ends with a count. Where Chromium isn't installed
+click through the calendar in turn, each as somebody else, 50 clicks a walk. No page may take longer than 0.3 seconds: as
+another program may take the machine for a moment, a page that does is looked at in a further walk, six at most, and has
+to come in time in one of them. None at all may take 5 seconds, which is what waiting for the other browser took. Words:
+the program, and a folder for pictures of the pages, if they are wanted. Prints each case that fails, and ends with a count. Where Chromium isn't installed
 nothing is done, and that is said."""
 import base64
 import contextlib
@@ -25,7 +26,7 @@ PROGRAM = proved.program(sys.argv[1])
 PICTURES = os.path.abspath(sys.argv[2]) if len(sys.argv) > 2 else None
 NAMES = 'chromium', 'chromium-browser', 'google-chrome'
 WAIT = 30
-CLICKS, MOST, WALKS = 50, 0.3, 3
+CLICKS, MOST, WALKS, NEVER = 50, 0.3, 6, 5
 
 # Fills the form whose action ends so, and sends it as its button does.
 SEND = '''((end, fields) => {
@@ -321,8 +322,8 @@ def two_people(program, run, folder):
 
 
 def in_turn(program, folder):
-    """Whether each page of one of three walks came in time."""
-    results = []
+    """Whether each page came in time in one of the walks, and none as late as when one browser waited for the other."""
+    results, shortest = [], [NEVER] * CLICKS
     for walk_number in range(WALKS):
         with served(PROGRAM, 'app', 10000, os.path.join(TOP, 'examples', 'calendar'), ('--sessions', 'sessions')) as run:
             with run.connect() as line:
@@ -333,10 +334,15 @@ def in_turn(program, folder):
             except Broken as broken:
                 return results + ['two browsers: %s' % broken]
         results += [one and 'two browsers: ' + one for one in wrong]
-        print('two browsers: %d pages, %.3f seconds on the average, %.3f at most' % (len(times), sum(times) / len(times), max(times)))
-        if max(times) <= MOST:
+        shortest = list(map(min, shortest, times))
+        late = sum(1 for seconds in shortest if seconds > MOST)
+        print('two browsers: %d pages, %.3f seconds on the average, %.3f at most, %d late in each walk so far' % (
+            len(times), sum(times) / len(times), max(times), late))
+        if max(times) >= NEVER:
+            return results + ['two browsers: a page took %.1f seconds' % max(times)]
+        if not late:
             return results + [None]
-    return results + ['two browsers: a page took longer than %.1f seconds in each of %d walks' % (MOST, WALKS)]
+    return results + ['two browsers: %d pages took longer than %.1f seconds in each of %d walks' % (late, MOST, WALKS)]
 
 
 def main():
