@@ -1,8 +1,8 @@
 -- Cells whose copies share their values.
 use Rattle.std.specs.Prelude.{List}
 use Rattle.jac_value.specs.declared.value.Value.{Value}
-use Rattle.jac_value.specs.declared.lists.CellList.{CellList}
-use Rattle.jac_value.specs.declared.lists.CellList.TheVariants as list
+use Rattle.jac_value.specs.declared.cells.CellList.{CellList}
+use Rattle.jac_value.specs.declared.cells.CellList.TheVariants as list
 
 -- the values, whether they are a list's own or those that copies share
 abbrev pub listed_cells : CellList → List Value

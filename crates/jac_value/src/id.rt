@@ -1,6 +1,8 @@
 ghost use Rattle.std.specs.Prelude.{◌≡◌, ◌<◌, ◌^◌, true};
 ghost use Rattle.jac_value.specs.Ids.{record_id, label_of, model_of_id, is_narrow, loop_id, is_wide, is_id_of};
 
+use crate::{List, Memory, TryClone};
+use std::alloc::Global;
 use std::marker::Model;
 
 /// The number of a record. Its remainder by 64 is its model. A narrow id is less than 2^52, and its
@@ -17,6 +19,15 @@ impl Model for Id {
     ghost view = { λ a. a.0 };
 
     ghost inverse = { λ n. record { 0 = n } };
+}
+
+/// Ids, in the order of their list.
+pub type Ids = List<Id>;
+
+impl TryClone for Id {
+    fn try_clone(&self, _: Global) -> Result<Id, Memory> {
+        Ok(*self)
+    }
 }
 
 const FIRST_ID: u128 = 4096;

@@ -2,9 +2,11 @@
 #![tactic(auto)]
 
 mod bytes;
+mod cells;
+mod digits;
 mod escape;
 mod id;
-mod lists;
+mod list;
 mod memory;
 mod names;
 mod parts;
@@ -14,13 +16,15 @@ mod text;
 mod value;
 
 pub use bytes::Bytes;
+pub use cells::Cells;
+pub use digits::{are_digits, decimal};
 pub use escape::escape_line;
-pub use id::{Id, id_model, id_of, is_id, is_narrow_id, label_number, loop_id_of};
-pub use lists::{Cells, Ids, Kinds};
+pub use id::{Id, Ids, id_model, id_of, is_id, is_narrow_id, label_number, loop_id_of};
+pub use list::{List, TryClone, try_clone_all};
 pub use memory::Memory;
 pub use names::{are_atom_bytes, is_name};
 pub use parts::first_part;
 pub use paths::{is_path, segment_name, segments_of};
 pub use read::{integer_of, value_of};
-pub use text::{Txt, TxtFault};
-pub use value::{Kind, Value, default_of, text_of};
+pub use text::{Txt, TxtFault, copy_name};
+pub use value::{Kind, Kinds, Value, default_of, text_of};

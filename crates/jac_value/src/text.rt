@@ -1,4 +1,5 @@
 ghost use Rattle.std.specs.Prelude.{◌≡◌, ℕ, [], IfOk, IsErrOf};
+ghost use Rattle.std.specs.Option.{option_copied};
 ghost use Rattle.std.specs.String.{string_bytes};
 ghost use Rattle.std.specs.Str.{IsUtf8, IsValidUpTo};
 ghost use Rattle.std.proofs.Common.{rules};
@@ -134,5 +135,18 @@ impl Ord for Txt {
 
     fn cmp(&self, other: &Txt) -> Ordering {
         self.as_bytes().cmp(&other.as_bytes())
+    }
+}
+
+/// A copy of the name, if there is one.
+pub fn copy_name(alloc: Global, name: Option<&Txt>) -> Result<Option<Txt>, Memory>
+    ensures { IfOk result (λ copy. copy ≡ option_copied name.entry) }
+{
+    match name {
+        None => Ok(None),
+        Some(name) => {
+            let copy = name.copy(alloc)?;
+            Ok(Some(copy))
+        }
     }
 }

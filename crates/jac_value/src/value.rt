@@ -1,7 +1,7 @@
 ghost use Rattle.std.specs.Prelude.{◌≡◌, ◌≢◌, IfOk};
 ghost use Rattle.jac_value.specs.Values.{default_value, value_text};
 
-use crate::{Id, Memory, Txt};
+use crate::{Id, List, Memory, TryClone, Txt};
 use std::alloc::Global;
 
 /// What a field or a parameter holds. A reference names its model by its place in the application.
@@ -11,6 +11,15 @@ pub enum Kind {
     Text,
     Bool,
     Ref(u8),
+}
+
+/// The kinds of the fields of a model, in the order of the text.
+pub type Kinds = List<Kind>;
+
+impl TryClone for Kind {
+    fn try_clone(&self, _: Global) -> Result<Kind, Memory> {
+        Ok(*self)
+    }
 }
 
 /// A value of a field. Ints are ordered by number and texts by bytes; false comes before true, and
@@ -36,6 +45,13 @@ impl Value {
             Value::Bool(truth) => Ok(Value::Bool(*truth)),
             Value::Ref(id) => Ok(Value::Ref(*id)),
         }
+    }
+}
+
+impl TryClone for Value {
+    fn try_clone(&self, alloc: Global) -> Result<Value, Memory> {
+        let copy = self.copy(alloc)?;
+        Ok(copy)
     }
 }
 
