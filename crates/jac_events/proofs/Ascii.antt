@@ -1,29 +1,17 @@
 -- Words of ASCII classes are ASCII, so they are UTF-8.
-use Rattle.std.proofs.Common.{◌≡◌, ℕ, zero, suc, ◌<◌, Bool, true, false, List, [], ◌∷◌, arith, refl}
-use Rattle.std.specs.List.{list_all, slice_index}
-use Rattle.std.specs.Char.{is_ascii_digit, is_ascii_uppercase}
+use Rattle.std.proofs.Common.{◌≡◌, ℕ, ◌<◌, Bool, true, false, List, arith, refl}
+use Rattle.std.specs.List.{list_all}
+use Rattle.std.specs.Char.{is_ascii_uppercase}
 use Rattle.std.specs.Str.{IsAscii}
-use Rattle.std.proofs.lemmas.Bool.{and_parts}
 use Rattle.std.proofs.lemmas.Bool.Decides.{nat_tests}
+use Rattle.jac_value.proofs.Ascii.{ascii_at}
 
 pub not_true : (b : Bool) → (b ≡ true → ⊥) → false ≡ b
 not_true true h = absurd (h refl)
 not_true false h = refl
 
--- bytes that all pass a test which only ASCII passes
-ascii_at : (p : ℕ → Bool) → ((c : ℕ) → p c ≡ true → c < 128) → (bytes : List ℕ) → list_all p bytes ≡ true → (i : ℕ) → slice_index bytes i < 128
-ascii_at p small [] h i = omega arith
-ascii_at p small (c ∷ cs) h zero = small c (and_parts _ _ h).0
-ascii_at p small (c ∷ cs) h (suc i) = ascii_at p small cs (and_parts _ _ h).1 i
-
 small_upper_case : (c : ℕ) → is_ascii_uppercase c ≡ true → c < 128
 small_upper_case c h = grind (arith, nat_tests)
 
-small_digit : (c : ℕ) → is_ascii_digit c ≡ true → c < 128
-small_digit c h = grind (arith, nat_tests)
-
 pub IsAscii-upper_case : (bytes : List ℕ) → list_all is_ascii_uppercase bytes ≡ true → IsAscii bytes
 IsAscii-upper_case bytes h = ascii_at is_ascii_uppercase small_upper_case bytes h
-
-pub IsAscii-digits : (bytes : List ℕ) → list_all is_ascii_digit bytes ≡ true → IsAscii bytes
-IsAscii-digits bytes h = ascii_at is_ascii_digit small_digit bytes h

@@ -1,12 +1,10 @@
-ghost use Rattle.std.specs.Prelude.{◌≡◌, ◌==◌, ◌<◌, ◌^◌, nat_lt, true, if◌then◌else◌, IfOk, IfSome, length, position, Some, None};
+ghost use Rattle.std.specs.Prelude.{◌≡◌, ◌==◌, ◌<◌, ◌^◌, true, IfOk, IfSome, length, position, Some, None};
 ghost use Rattle.std.specs.Option.{option_map};
 ghost use Rattle.std.specs.List.{list_all};
-ghost use Rattle.std.specs.Char.{is_ascii_digit};
-ghost use Rattle.std.specs.Str.Parse.{digits_value};
 ghost use Rattle.jac_value.specs.Names.{is_atom_byte};
 ghost use Rattle.jac_route.specs.Words.{first_word, number_read, viewer_read};
 
-use jac_value::{Memory, Txt, TxtFault};
+use jac_value::{Memory, Txt, TxtFault, are_digits, decimal};
 use std::alloc::Global;
 use std::str;
 
@@ -28,27 +26,6 @@ fn read_number(word: &[u8]) -> Option<u128>
         None
     } else {
         decimal(word)
-    }
-}
-
-fn are_digits(word: &[u8]) -> bool
-    ensures { result ≡ list_all is_ascii_digit word.now }
-{
-    word.iter().all(|byte| byte.is_ascii_digit())
-}
-
-fn decimal(word: &[u8]) -> Option<u128>
-    requires some { 0 < length word.now }
-    requires digits { list_all is_ascii_digit word.now ≡ true }
-    ensures { result ≡ (if nat_lt (digits_value 10 word.now) (2 ^ 128)
-        then Some (digits_value 10 word.now) else None) }
-{
-    match str::from_utf8(word) {
-        Ok(text) => match text.parse::<u128>() {
-            Ok(number) => Some(number),
-            Err(_) => None,
-        },
-        Err(_) => unreachable!(),
     }
 }
 
