@@ -7,11 +7,11 @@ use Rattle.jac_lang.specs.declared.field_kinds.KindName.{KindName}
 use Rattle.jac_lang.specs.declared.field_kinds.KindName.TheVariants as kinds
 use Rattle.jac_lang.specs.declared.pages.Verb.{Verb}
 use Rattle.jac_lang.specs.declared.pages.Verb.TheVariants as verbs
-use Rattle.jac_tree.specs.Plain.{PlainTree, PlainTrees, count, is_word}
+use Rattle.jac_tree.specs.Plain.{PlainTree, PlainTrees, count, is_word, tail_of}
 use Rattle.jac_value.specs.Paths.{is_path}
 use Rattle.jac_forms.specs.Places.{child}
 use Rattle.jac_forms.specs.Reads.{Read, got, wrong, many, read_map, read_and_then, up_to, got_where, read_behind, value_of}
-use Rattle.jac_forms.specs.Names.{name_in_tree, tail_of, each_in_trees}
+use Rattle.jac_forms.specs.Names.{name_in_tree, each_in_trees}
 use Rattle.jac_forms.specs.Expressions.{one_in_trees}
 use Rattle.jac_forms.specs.Statements.{Body, assigned_in_tree, statements_in_trees, creates}
 use Rattle.jac_forms.specs.declared.fault.Want.{Want}

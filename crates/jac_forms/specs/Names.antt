@@ -1,19 +1,11 @@
 -- Words, names, and lists of trees.
-use Rattle.std.specs.Prelude.{ℕ, ◌+◌, Bool, false, if◌then◌else◌, Option, Some, None, List, [], ◌∷◌}
-use Rattle.std.specs.Str.{bytes_eq}
-use Rattle.jac_tree.specs.Plain.{PlainTree, PlainTrees, is_word}
+use Rattle.std.specs.Prelude.{ℕ, ◌+◌, if◌then◌else◌, Option, List, [], ◌∷◌}
+use Rattle.jac_tree.specs.Plain.{PlainTree, PlainTrees}
 use Rattle.jac_value.specs.Names.{is_name}
 use Rattle.jac_forms.specs.Places.{child}
 use Rattle.jac_forms.specs.Reads.{Read, got, wrong, read_map, read_and_then, value_of}
 use Rattle.jac_forms.specs.declared.fault.Want.{Want}
 use Rattle.jac_forms.specs.declared.fault.Want.TheVariants as wants
-
--- the trees of a list behind its head, where that is this word
-abbrev pub tail_of : List ℕ → PlainTree → Option PlainTrees
-tail_of word (PlainTree.atom a) = None
-tail_of word (PlainTree.text x) = None
-tail_of word (PlainTree.list PlainTrees.none) = None
-tail_of word (PlainTree.list (PlainTrees.more w ts)) = if is_word word w then Some ts else None
 
 -- what is read of each tree, of which the first is child k of the list at this path
 abbrev pub each_in_trees : {A : Type 0} → (List ℕ → PlainTree → Read A) → List ℕ → ℕ → PlainTrees

@@ -2,10 +2,10 @@
 use Rattle.std.specs.Prelude.{ℕ, ◌+◌, min, if◌then◌else◌, Option, Some, None, List, codes}
 use Rattle.std.specs.Str.{bytes_eq}
 use Rattle.jac_lang.specs.Syntax.{Expression, Question, Assigned, Statement, Statements}
-use Rattle.jac_tree.specs.Plain.{PlainTree, PlainTrees}
+use Rattle.jac_tree.specs.Plain.{PlainTree, PlainTrees, tail_of}
 use Rattle.jac_forms.specs.Places.{child}
 use Rattle.jac_forms.specs.Reads.{Read, got, wrong, read_map, read_and_then, read_behind}
-use Rattle.jac_forms.specs.Names.{name_in_tree, tail_of, each_in_trees}
+use Rattle.jac_forms.specs.Names.{name_in_tree, each_in_trees}
 use Rattle.jac_forms.specs.Expressions.{expression_in_tree, one_in_trees, question_in_tree}
 use Rattle.jac_forms.specs.declared.fault.Want.{Want}
 use Rattle.jac_forms.specs.declared.fault.Want.TheVariants as wants

@@ -13,10 +13,9 @@ use crate::models::read_model;
 use crate::names::{next_count, next_number};
 use crate::place::Place;
 use crate::views::read_view;
-use crate::words::{is_word, tail_of};
 use crate::{FormFault, Want, What};
 use jac_lang::{App, Models, Views};
-use jac_tree::{Tree, Trees};
+use jac_tree::{Tree, Trees, is_word, tail_of};
 use jac_value::{Memory, Txt};
 use std::alloc::Global;
 

@@ -10,10 +10,9 @@ ghost use Rattle.jac_forms.specs.Refusal.{refuses};
 use crate::expressions::read_expr;
 use crate::names::{next_number, read_name};
 use crate::place::Place;
-use crate::words::tail_of;
 use crate::{FormFault, Want};
 use jac_lang::{Public, Publics};
-use jac_tree::{Tree, Trees};
+use jac_tree::{Tree, Trees, tail_of};
 use std::alloc::Global;
 
 pub fn read_set(alloc: Global, place: &Place<'_>, tree: &Tree) -> Result<Publics, FormFault>

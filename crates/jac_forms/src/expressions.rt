@@ -12,10 +12,10 @@ ghost use Rattle.jac_forms.specs.Refusal.{refuses};
 use crate::names::{next_number, read_name};
 use crate::place::Place;
 use crate::queries::{Most, has_few, read_binders, read_order};
-use crate::words::{Form, form_of, is_word};
+use crate::words::{Form, form_of};
 use crate::{FormFault, Want};
 use jac_lang::{Expr, Exprs, Op, Query};
-use jac_tree::{Tree, Trees};
+use jac_tree::{Tree, Trees, is_word};
 use jac_value::{Txt, integer_of, is_name};
 use std::alloc::Global;
 

@@ -1,52 +1,12 @@
-ghost use Rattle.std.specs.Prelude.{◌≡◌, []};
+ghost use Rattle.std.specs.Prelude.{◌≡◌};
 ghost use Rattle.jac_forms.specs.declared.fault.FormFault.TheVariants as faults;
 
-use jac_value::Memory;
+use jac_value::{List, Memory};
 use std::alloc::{AllocError, AllocFailed, Global};
-use std::marker::Model;
 
 /// The place of a tree within another: child numbers from the root, where the head of a list is
 /// child 0. The root itself has the empty path.
-#[derive(Debug, Drop)]
-pub struct Path {
-    numbers: Vec<u32>,
-}
-
-impl Model for Path {
-    ghost use Rattle.std.specs.Prelude.{List, ℕ};
-
-    ghost Value = { List ℕ };
-
-    ghost view = { λ p. p.numbers.items };
-}
-
-impl Path {
-    pub fn empty(alloc: Global) -> Path
-        ensures { result ≡ [] }
-    {
-        Path {
-            numbers: Vec::new(alloc),
-        }
-    }
-
-    pub fn from_vec(numbers: Vec<u32>) -> Path
-        ensures { result ≡ numbers.items }
-    {
-        Path { numbers }
-    }
-
-    pub fn as_slice(&self) -> &[u32]
-        ensures { result.now ≡ self.now }
-    {
-        self.numbers.as_slice()
-    }
-
-    pub fn into_vec(self) -> Vec<u32>
-        ensures { result.items ≡ self }
-    {
-        self.numbers
-    }
-}
+pub type Path = List<u32>;
 
 /// What should stand where a form is wrong.
 #[derive(Clone, Copy, Debug, PartialEq, Eq)]

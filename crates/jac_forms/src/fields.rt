@@ -7,12 +7,11 @@ ghost use Rattle.jac_forms.specs.Reads.{got, refused};
 ghost use Rattle.jac_forms.specs.Refusal.{refuses};
 ghost use Rattle.jac_tree.specs.Plain.{count};
 
-use crate::names::{count, is_up_to, next_number, read_name};
+use crate::names::{count, next_number, read_name};
 use crate::place::Place;
-use crate::words::tail_of;
 use crate::{FormFault, Want, What};
 use jac_lang::{Field, Fields, KindName};
-use jac_tree::{Tree, Trees};
+use jac_tree::{Tree, Trees, is_up_to, tail_of};
 use jac_value::Txt;
 use std::alloc::Global;
 

@@ -11,12 +11,11 @@ ghost use Rattle.jac_tree.specs.Plain.{count};
 use crate::assigned::read_assigned;
 use crate::expressions::read_only;
 use crate::fields::read_fields;
-use crate::names::{count, is_up_to, next_number, read_name};
+use crate::names::{count, next_number, read_name};
 use crate::place::Place;
-use crate::words::{is_word, tail_of};
 use crate::{FormFault, Want, What};
 use jac_lang::{Expr, Group, Groups, ModelDef, Publics};
-use jac_tree::{Tree, Trees};
+use jac_tree::{Tree, Trees, is_up_to, is_word, tail_of};
 use std::alloc::Global;
 
 pub fn read_model(alloc: Global, place: &Place<'_>, tree: &Tree) -> Result<ModelDef, FormFault>

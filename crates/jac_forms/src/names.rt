@@ -1,4 +1,4 @@
-ghost use Rattle.std.specs.Prelude.{◌≡◌, ◌+◌, ◌<◌, ◌^◌, IfOk, IfErr, IsTrue, nat_le};
+ghost use Rattle.std.specs.Prelude.{◌≡◌, ◌+◌, ◌<◌, ◌^◌, IfOk, IfErr, IsTrue};
 ghost use Rattle.jac_tree.specs.Mirror.{plain, plain_all};
 ghost use Rattle.jac_forms.specs.Names.{name_in_tree};
 ghost use Rattle.jac_forms.specs.Places.{path_of};
@@ -11,22 +11,6 @@ use crate::{FormFault, Want};
 use jac_tree::{Tree, Trees};
 use jac_value::{Memory, Txt, is_name};
 use std::alloc::Global;
-
-/// Whether there are at most so many trees.
-pub fn is_up_to(trees: &Trees, most: u64) -> bool
-    ensures { result ≡ nat_le (count (plain_all trees.now)) most }
-{
-    let mut room = most;
-    let mut left = trees;
-    'trees: while let Trees::More(_, rest) = left {
-        if room == 0 {
-            return false;
-        }
-        room -= 1;
-        left = rest;
-    }
-    true
-}
 
 /// How many trees there are, for a fault to tell.
 pub fn count(trees: &Trees) -> Result<u64, Memory>

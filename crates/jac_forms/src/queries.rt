@@ -6,12 +6,11 @@ ghost use Rattle.jac_forms.specs.Places.{path_of};
 ghost use Rattle.jac_forms.specs.Reads.{got, refused};
 ghost use Rattle.jac_forms.specs.Refusal.{refuses};
 
-use crate::names::{count, is_up_to, next_number, read_name};
+use crate::names::{count, next_number, read_name};
 use crate::place::Place;
-use crate::words::is_word;
 use crate::{FormFault, Want, What};
 use jac_lang::{Binder, Binders, Order};
-use jac_tree::{Tree, Trees};
+use jac_tree::{Tree, Trees, is_up_to, is_word};
 use jac_value::Txt;
 use std::alloc::Global;
 

@@ -10,10 +10,9 @@ use crate::fields::read_params;
 use crate::place::Place;
 use crate::sites::count_sites;
 use crate::statements::read_stmts;
-use crate::words::{is_word, tail_of};
 use crate::{FormFault, Want, What};
 use jac_lang::{Verb, View};
-use jac_tree::{Tree, Trees};
+use jac_tree::{Tree, Trees, is_word, tail_of};
 use jac_value::{Txt, is_path};
 use std::alloc::Global;
 

@@ -1,12 +1,9 @@
 ghost use Rattle.std.specs.Prelude.{◌≡◌};
-ghost use Rattle.std.specs.Option.{option_map};
-ghost use Rattle.jac_tree.specs.Mirror.{plain, plain_all};
+ghost use Rattle.jac_tree.specs.Mirror.{plain};
 ghost use Rattle.jac_forms.specs.Expressions.{asking_of, form_of, form_of_word, op_of, plain_form_of};
-ghost use Rattle.jac_forms.specs.Names.{tail_of};
-ghost use Rattle.jac_tree.specs.Plain.{is_word};
 
 use jac_lang::Op;
-use jac_tree::{Tree, Trees};
+use jac_tree::Tree;
 
 /// The forms of an expression that is a list.
 #[derive(Clone, Copy, Debug, PartialEq, Eq)]
@@ -23,30 +20,6 @@ pub enum Form {
     Sum,
     AnyOf,
     First,
-}
-
-pub fn is_word(tree: &Tree, word: &[u8]) -> bool
-    ensures { result ≡ is_word word.now (plain tree.now) }
-{
-    match tree {
-        Tree::Atom(atom) => atom.as_bytes() == word,
-        Tree::Text(_) => false,
-        Tree::List(_) => false,
-    }
-}
-
-/// What stands behind the head of a list, where that is this word.
-pub fn tail_of<'t>(tree: &'t Tree, word: &[u8]) -> Option<&'t Trees>
-    ensures { option_map (λ ts. plain_all ts.now) result ≡ tail_of word.now (plain tree.now) }
-{
-    match tree {
-        Tree::List(Trees::More(head, rest)) => if is_word(head, word) {
-            Some(&**rest)
-        } else {
-            None
-        },
-        _ => None,
-    }
 }
 
 pub fn form_of(head: &Tree) -> Option<Form>

@@ -8,7 +8,7 @@ use Rattle.jac_value.specs.declared.value.Kind.TheVariants as kinds
 use Rattle.jac_rows.specs.declared.row.Row.{Row}
 use Rattle.jac_rows.specs.declared.state.State.{State}
 use Rattle.jac_rows.specs.Good.{ModelShape, IsGoodByGuards}
-use Rattle.jac_tree.specs.Plain.{PlainTree, PlainTrees, nesting, count, is_word}
+use Rattle.jac_tree.specs.Plain.{PlainTree, PlainTrees, nesting, count, is_word, tail_of}
 use Rattle.jac_tree.specs.Printed.{printed_tree, HasAtoms}
 
 -- what each tree is read as, where all can be read
@@ -16,13 +16,6 @@ abbrev pub each_of : {A : Type 0} → (PlainTree → Option A) → PlainTrees �
 each_of read PlainTrees.none = Some []
 each_of read (PlainTrees.more t ts) = option_and_then (λ first. option_map (λ rest. first ∷ rest)
     (each_of read ts)) (read t)
-
--- the trees of a list behind its head, where that is this word
-abbrev pub trees_behind : List ℕ → PlainTree → Option PlainTrees
-trees_behind word (PlainTree.atom a) = None
-trees_behind word (PlainTree.text x) = None
-trees_behind word (PlainTree.list PlainTrees.none) = None
-trees_behind word (PlainTree.list (PlainTrees.more w ts)) = if is_word word w then Some ts else None
 
 -- NAME
 abbrev pub is_name_tree : PlainTree → Bool
@@ -43,7 +36,7 @@ begins_with_name name (Some (PlainTrees.more x parts)) = is_word name x
 -- the place of the first model of this name, where the first of these trees has the place k
 abbrev pub place_from : ℕ → List ℕ → PlainTrees → Option ℕ
 place_from k name PlainTrees.none = None
-place_from k name (PlainTrees.more t ts) = if begins_with_name name (trees_behind (codes "model") t)
+place_from k name (PlainTrees.more t ts) = if begins_with_name name (tail_of (codes "model") t)
     then Some k else place_from (k + 1) name ts
 
 -- the place of the model that a tree names
@@ -68,7 +61,7 @@ reference_kind models ts = None
 -- a kind: one of those words, or `(ref NAME)`, by the place of the first model of that name
 abbrev pub kind_of_tree : PlainTrees → PlainTree → Option Kind
 kind_of_tree models (PlainTree.atom a) = plain_kind a
-kind_of_tree models t = option_and_then (reference_kind models) (trees_behind (codes "ref") t)
+kind_of_tree models t = option_and_then (reference_kind models) (tail_of (codes "ref") t)
 
 -- `(NAME KIND)`
 abbrev pub kind_of_field : PlainTrees → PlainTree → Option Kind
@@ -79,7 +72,7 @@ kind_of_field models t = None
 -- `(fields (NAME KIND) ..)`
 abbrev pub kinds_of_trees : PlainTrees → PlainTree → Option (List Kind)
 kinds_of_trees models t = option_and_then (each_of (kind_of_field models))
-    (trees_behind (codes "fields") t)
+    (tail_of (codes "fields") t)
 
 -- `hides`, or `(FIELD ..)`: the fields that a group guards
 abbrev pub is_group : PlainTree → Bool
@@ -110,7 +103,7 @@ behind_nested (PlainTrees.more n ts) = if is_word (codes "nested") n then ts
 -- `(fields ..) (groups ..)`
 abbrev pub kinds_of_lists : PlainTrees → PlainTrees → Option (List Kind)
 kinds_of_lists models (PlainTrees.more fields (PlainTrees.more groups PlainTrees.none)) =
-    if have_groups (trees_behind (codes "groups") groups) then kinds_of_trees models fields
+    if have_groups (tail_of (codes "groups") groups) then kinds_of_trees models fields
     else None
 kinds_of_lists models ts = None
 
@@ -128,13 +121,13 @@ is_nested_in (Some (PlainTrees.more x ts)) = starts_nested ts
 
 abbrev pub nested_of_models : PlainTrees → List Bool
 nested_of_models PlainTrees.none = []
-nested_of_models (PlainTrees.more t ts) = is_nested_in (trees_behind (codes "model") t)
+nested_of_models (PlainTrees.more t ts) = is_nested_in (tail_of (codes "model") t)
     ∷ nested_of_models
     ts
 
 -- `(model NAME nested? (fields ..) (groups ..))`
 abbrev pub kinds_of_model : PlainTrees → PlainTree → Option (List Kind)
-kinds_of_model models t = option_and_then (kinds_of_parts models) (trees_behind (codes "model") t)
+kinds_of_model models t = option_and_then (kinds_of_parts models) (tail_of (codes "model") t)
 
 -- at most 64 models
 abbrev pub kinds_of_models : PlainTrees → Option (List (List Kind))
@@ -144,7 +137,7 @@ kinds_of_models models = if nat_le (count models) 64 then each_of (kinds_of_mode
 -- the kinds of the fields of each model of `(schema (model NAME nested? (fields (NAME KIND) ..)
 -- (groups GROUP ..)) ..)`
 abbrev pub kinds_of_schema : PlainTree → Option (List (List Kind))
-kinds_of_schema t = option_and_then kinds_of_models (trees_behind (codes "schema") t)
+kinds_of_schema t = option_and_then kinds_of_models (tail_of (codes "schema") t)
 
 -- which of them are nested
 abbrev pub nested_by : Option PlainTrees → List Bool
@@ -152,7 +145,7 @@ nested_by None = []
 nested_by (Some models) = nested_of_models models
 
 abbrev pub nested_of_schema : PlainTree → List Bool
-nested_of_schema t = nested_by (trees_behind (codes "schema") t)
+nested_of_schema t = nested_by (tail_of (codes "schema") t)
 
 -- the kinds of each model, beside whether it is nested
 abbrev pub shapes_by : List (List Kind) → List Bool → List ModelShape

@@ -1,15 +1,15 @@
-ghost use Rattle.std.specs.Prelude.{◌≡◌, ◌≤◌, ℕ, List, None, Some, IfOk, IfSome, codes, if◌then◌else◌, nat_le};
+ghost use Rattle.std.specs.Prelude.{◌≡◌, ◌≤◌, ℕ, List, None, Some, IfOk, IfSome, codes, if◌then◌else◌};
 ghost use Rattle.std.specs.Str.{bytes_eq};
 ghost use Rattle.std.specs.Option.{option_map};
 ghost use Rattle.jac_rows.specs.Good.{ModelShape};
 ghost use Rattle.jac_tree.specs.Mirror.{plain, plain_all};
 ghost use Rattle.jac_tree.specs.Printed.{printed_tree};
 ghost use Rattle.jac_tree.specs.declared.fault.TreeFault.TheVariants as faults;
-ghost use Rattle.jac_keep.specs.Schema.{IsSchema, are_group_trees, behind_nested, are_name_trees, begins_with_name, trees_behind, each_of, have_groups, is_group, is_name_tree, kind_of_tree, kind_of_field, is_nested_in, kinds_of_trees, kinds_of_lists, kinds_of_model, kinds_of_models, kinds_of_parts, kinds_of_schema, nested_of_models, nested_of_schema, place_from, place_named, plain_kind, reference_kind, shapes_by, shapes_of_schema, starts_nested};
-ghost use Rattle.jac_tree.specs.Plain.{count, is_word};
+ghost use Rattle.jac_keep.specs.Schema.{IsSchema, are_group_trees, behind_nested, are_name_trees, begins_with_name, each_of, have_groups, is_group, is_name_tree, kind_of_tree, kind_of_field, is_nested_in, kinds_of_trees, kinds_of_lists, kinds_of_model, kinds_of_models, kinds_of_parts, kinds_of_schema, nested_of_models, nested_of_schema, place_from, place_named, plain_kind, reference_kind, shapes_by, shapes_of_schema, starts_nested};
+ghost use Rattle.jac_tree.specs.Plain.{count, is_word, tail_of};
 
 use jac_rows::{Flags, KindLists, Shape};
-use jac_tree::{Tree, TreeFault, Trees, print_tree, read_text};
+use jac_tree::{Tree, TreeFault, Trees, is_up_to, is_word, print_tree, read_text, tail_of};
 use jac_value::{Kind, Kinds, Memory, Txt, is_name};
 use std::alloc::Global;
 
@@ -88,7 +88,7 @@ fn shape_of_schema(alloc: Global, tree: &Tree) -> Result<Option<Shape>, Memory>
 fn nested_of_schema(alloc: Global, tree: &Tree) -> Result<Flags, Memory>
     ensures { IfOk result (λ flags. flags ≡ nested_of_schema (plain tree.now)) }
 {
-    match behind(tree, b"schema") {
+    match tail_of(tree, b"schema") {
         Some(models) => {
             let nested = nested_of_models(alloc, models)?;
             Ok(nested)
@@ -103,7 +103,7 @@ fn nested_of_models(alloc: Global, models: &Trees) -> Result<Flags, Memory>
     let mut flags = Vec::new(alloc);
     let mut left = models;
     'models: while let Trees::More(first, rest) = left {
-        flags.push(is_nested_in(behind(first, b"model")))?;
+        flags.push(is_nested_in(tail_of(first, b"model")))?;
         left = rest;
     }
     Ok(Flags::from_vec(flags))
@@ -145,7 +145,7 @@ fn behind_nested(trees: &Trees) -> &Trees
 fn kinds_of_schema(alloc: Global, tree: &Tree) -> Result<Option<KindLists>, Memory>
     ensures { IfOk result (λ kinds. kinds ≡ kinds_of_schema (plain tree.now)) }
 {
-    match behind(tree, b"schema") {
+    match tail_of(tree, b"schema") {
         Some(models) => {
             let kinds = kinds_of_models(alloc, models)?;
             Ok(kinds)
@@ -157,27 +157,12 @@ fn kinds_of_schema(alloc: Global, tree: &Tree) -> Result<Option<KindLists>, Memo
 fn kinds_of_models(alloc: Global, models: &Trees) -> Result<Option<KindLists>, Memory>
     ensures { IfOk result (λ kinds. kinds ≡ kinds_of_models (plain_all models.now)) }
 {
-    if is_up_to(models, MODEL_LIMIT) {
+    if is_up_to(models, u64::from(MODEL_LIMIT)) {
         let kinds = kinds_of_each(alloc, models)?;
         Ok(kinds)
     } else {
         Ok(None)
     }
-}
-
-fn is_up_to(trees: &Trees, most: u8) -> bool
-    ensures { result ≡ nat_le (count (plain_all trees.now)) most }
-{
-    let mut room = most;
-    let mut left = trees;
-    'trees: while let Trees::More(_, rest) = left {
-        if room == 0 {
-            return false;
-        }
-        room -= 1;
-        left = rest;
-    }
-    true
 }
 
 fn kinds_of_each(alloc: Global, models: &Trees) -> Result<Option<KindLists>, Memory>
@@ -202,7 +187,7 @@ fn kinds_of_model(alloc: Global, models: &Trees, tree: &Tree) -> Result<Option<K
     ensures { IfOk result (λ kinds. kinds ≡ kinds_of_model (plain_all models.now)
         (plain tree.now)) }
 {
-    match behind(tree, b"model") {
+    match tail_of(tree, b"model") {
         Some(parts) => {
             let kinds = kinds_of_parts(alloc, models, parts)?;
             Ok(kinds)
@@ -254,7 +239,7 @@ fn kinds_of_fields(alloc: Global, models: &Trees, tree: &Tree) -> Result<Option<
     ensures { IfOk result (λ kinds. kinds ≡ kinds_of_trees (plain_all models.now)
         (plain tree.now)) }
 {
-    match behind(tree, b"fields") {
+    match tail_of(tree, b"fields") {
         Some(fields) => {
             let kinds = kind_of_each(alloc, models, fields)?;
             Ok(kinds)
@@ -306,7 +291,7 @@ fn kind_of(models: &Trees, tree: &Tree) -> Option<Kind>
 {
     match tree {
         Tree::Atom(word) => plain_kind(word.as_str()),
-        _ => match behind(tree, b"ref") {
+        _ => match tail_of(tree, b"ref") {
             Some(trees) => reference(models, trees),
             None => None,
         },
@@ -361,7 +346,7 @@ fn place_of(models: &Trees, name: &[u8]) -> Option<u8>
     let mut place: u8 = 0;
     let mut left = models;
     'models: while let Trees::More(first, rest) = left {
-        if begins_with(behind(first, b"model"), name) {
+        if begins_with(tail_of(first, b"model"), name) {
             return Some(place);
         }
         place += 1;
@@ -380,9 +365,9 @@ fn begins_with(parts: Option<&Trees>, name: &[u8]) -> bool
 }
 
 fn have_groups(tree: &Tree) -> bool
-    ensures { result ≡ have_groups (trees_behind (codes "groups") (plain tree.now)) }
+    ensures { result ≡ have_groups (tail_of (codes "groups") (plain tree.now)) }
 {
-    match behind(tree, b"groups") {
+    match tail_of(tree, b"groups") {
         Some(groups) => are_groups(groups),
         None => false,
     }
@@ -430,28 +415,5 @@ fn is_named(tree: &Tree) -> bool
     match tree {
         Tree::Atom(name) => is_name(name.as_bytes()),
         _ => false,
-    }
-}
-
-fn is_word(tree: &Tree, word: &[u8]) -> bool
-    ensures { result ≡ is_word word.now (plain tree.now) }
-{
-    match tree {
-        Tree::Atom(atom) => atom.as_bytes() == word,
-        _ => false,
-    }
-}
-
-// What stands behind the head of a list, where that is this word.
-fn behind<'t>(tree: &'t Tree, word: &[u8]) -> Option<&'t Trees>
-    ensures { option_map (λ ts. plain_all ts.now) result ≡ trees_behind word.now (plain tree.now) }
-{
-    match tree {
-        Tree::List(Trees::More(head, rest)) => if is_word(head, word) {
-            Some(&**rest)
-        } else {
-            None
-        },
-        _ => None,
     }
 }

@@ -13,7 +13,7 @@ use crate::TemplateFault;
 use crate::marks::Mark;
 use jac_forms::{FormFault, expr_of, query_of};
 use jac_lang::{Expr, Query};
-use jac_tree::{Tree, Trees};
+use jac_tree::{Tree, Trees, is_word};
 use jac_value::{Txt, is_name};
 use std::alloc::Global;
 
@@ -184,15 +184,5 @@ fn read_query(alloc: Global, place: u64, tree: &Tree) -> Result<Query, TemplateF
         Ok(q) => Ok(q),
         Err(FormFault::Memory) => Err(TemplateFault::Memory),
         Err(fault) => Err(TemplateFault::Form(place, fault)),
-    }
-}
-
-fn is_word(tree: &Tree, word: &[u8]) -> bool
-    ensures { result ≡ is_word word.now (plain tree.now) }
-{
-    match tree {
-        Tree::Atom(atom) => atom.as_bytes() == word,
-        Tree::Text(_) => false,
-        Tree::List(_) => false,
     }
 }

@@ -1,5 +1,5 @@
 -- Trees without the places where they lie in memory.
-use Rattle.std.specs.Prelude.{ℕ, ◌+◌, max, Bool, false, List, [], ◌∷◌, length}
+use Rattle.std.specs.Prelude.{ℕ, ◌+◌, max, Bool, false, if◌then◌else◌, Option, Some, None, List, [], ◌∷◌, length}
 use Rattle.std.specs.Str.{bytes_eq}
 
 mutual
@@ -54,3 +54,10 @@ abbrev pub is_word : List ℕ → PlainTree → Bool
 is_word word (atom a) = bytes_eq a word
 is_word word (text x) = false
 is_word word (list ts) = false
+
+-- the trees of a list behind its head, where that is this word
+abbrev pub tail_of : List ℕ → PlainTree → Option PlainTrees
+tail_of word (atom a) = None
+tail_of word (text x) = None
+tail_of word (list none) = None
+tail_of word (list (more w ts)) = if is_word word w then Some ts else None

@@ -3,12 +3,12 @@ use Rattle.std.proofs.Common.{◌≡◌, ℕ, ◌+◌, refl, ◌∙◌, ap, Opti
 use Rattle.std.specs.Prelude.{codes}
 use Rattle.jac_lang.specs.Syntax.{Expression, Assigned, Statement}
 use Rattle.jac_lang.specs.Written.{IsName}
-use Rattle.jac_tree.specs.Plain.{PlainTree, PlainTrees, count}
+use Rattle.jac_tree.specs.Plain.{PlainTree, PlainTrees, count, tail_of}
 use Rattle.jac_forms.specs.Places.{child}
 use Rattle.jac_forms.specs.Reads.{Read, got, read_map, read_and_then}
 use Rattle.jac_forms.specs.declared.fault.Want.{Want}
 use Rattle.jac_forms.specs.declared.fault.Want.TheVariants as wants
-use Rattle.jac_forms.specs.Names.{name_in_tree, tail_of, each_in_trees}
+use Rattle.jac_forms.specs.Names.{name_in_tree, each_in_trees}
 use Rattle.jac_forms.specs.Expressions.{expression_in_tree, one_in_trees, question_in_tree}
 use Rattle.jac_forms.specs.Statements.{assigned_field, assigned_in_tree, set_in_tree, assign_in_trees, update_in_trees, delete_in_trees, missing_in_trees, template_in_trees, single_in_trees, Numbered, Body, next_site, numbered_statement, bind_statement, branch, each, create, before_body, StatementOperands, step_of, statement_of_step, statement_in_tree, statement_in_list, bind_in_trees, branch_in_trees, each_of_query, create_in_trees, body_in_tree, statements_in_trees, statement_operands}
 use Rattle.jac_unparse.specs.TreeOf.{pair, tree_of_expression, tree_of_question, trees_of_assigned, tree_of_set, tree_of_statement, trees_of_statements}

@@ -1,0 +1,47 @@
+ghost use Rattle.std.specs.Prelude.{◌≡◌, nat_le};
+ghost use Rattle.std.specs.Option.{option_map};
+ghost use Rattle.jac_tree.specs.Mirror.{plain, plain_all};
+ghost use Rattle.jac_tree.specs.Plain.{count, is_word, tail_of};
+
+use crate::{Tree, Trees};
+
+/// Whether the tree is this word, as an atom.
+pub fn is_word(tree: &Tree, word: &[u8]) -> bool
+    ensures { result ≡ is_word word.now (plain tree.now) }
+{
+    match tree {
+        Tree::Atom(atom) => atom.as_bytes() == word,
+        Tree::Text(_) => false,
+        Tree::List(_) => false,
+    }
+}
+
+/// What stands behind the head of a list, where that is this word.
+pub fn tail_of<'t>(tree: &'t Tree, word: &[u8]) -> Option<&'t Trees>
+    ensures { option_map (λ ts. plain_all ts.now) result ≡ tail_of word.now (plain tree.now) }
+{
+    match tree {
+        Tree::List(Trees::More(head, rest)) => if is_word(head, word) {
+            Some(&**rest)
+        } else {
+            None
+        },
+        _ => None,
+    }
+}
+
+/// Whether there are at most so many trees.
+pub fn is_up_to(trees: &Trees, most: u64) -> bool
+    ensures { result ≡ nat_le (count (plain_all trees.now)) most }
+{
+    let mut room = most;
+    let mut left = trees;
+    'trees: while let Trees::More(_, rest) = left {
+        if room == 0 {
+            return false;
+        }
+        room -= 1;
+        left = rest;
+    }
+    true
+}
