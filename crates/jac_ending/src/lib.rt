@@ -11,6 +11,6 @@ mod status;
 pub use attachment::attach;
 pub use ending::{Ending, put_fault, status_of};
 pub use files::{open_app, open_next, read_app, read_file, read_sessions};
-pub use names::{copy_name, named};
+pub use names::named;
 pub use outset::{Opened, Opening, open_store};
 pub use status::Status;

@@ -13,12 +13,12 @@ ghost use Rattle.jac_ending.specs.Outset.{command_in, AreFilesRead, BeginsAs, En
 use crate::attachment::attach;
 use crate::ending::Ending;
 use crate::files::{read_app, read_file, read_sessions};
-use crate::names::{copy_name, named};
+use crate::names::named;
 use jac_io::{AuditSink, Failed, Files};
 use jac_keep::Vault;
 use jac_opening::Service;
 use jac_route::Sessions;
-use jac_value::{Bytes, Memory, Txt};
+use jac_value::{Bytes, Memory, Txt, copy_name};
 use jac_words::{Dumping, Explaining, Replay, Role, Serving};
 use std::alloc::Global;
 

@@ -16,7 +16,7 @@ use std::alloc::Global;
 use std::sync::ledger::Ledger;
 
 /// Whether the condition is true, where it is the same wherever the path condition holds.
-pub(crate) fn decided(
+pub(crate) fn truth_under(
     alloc: Global,
     pc: &Guard,
     condition: &Facet<Value>,
@@ -40,7 +40,7 @@ fn only_truth(leaves: &[(Guard, Value)]) -> Option<bool>
 
 /// What an `and` or an `or` comes to by its first operand alone, where that is the same wherever
 /// the path condition holds.
-pub(crate) fn settled(
+pub(crate) fn decided_under(
     alloc: Global,
     pc: &Guard,
     op: Op,
@@ -51,11 +51,11 @@ pub(crate) fn settled(
 {
     match op {
         Op::And => {
-            let truth = decided(alloc, pc, first)?;
+            let truth = truth_under(alloc, pc, first)?;
             Ok(if_truth(truth, false))
         }
         Op::Or => {
-            let truth = decided(alloc, pc, first)?;
+            let truth = truth_under(alloc, pc, first)?;
             Ok(if_truth(truth, true))
         }
         _ => Ok(None),

@@ -5,7 +5,6 @@ ghost use Rattle.jac_facet.specs.Shape.{at, higher};
 ghost use Rattle.jac_facet.specs.Leaves.{leaves_seen, meets, is_shown_before, order_after, IsWhere};
 
 use crate::facet::Node;
-use crate::memory::from_world;
 use crate::{Facet, Leaf, Leaves};
 use jac_value::Memory;
 use jac_world::{Guard, Label};
@@ -96,8 +95,8 @@ fn guard_where(
 ) -> Result<Option<Guard>, Memory>
     ensures { IfOk result (IsWhere guard.now label sign) }
 {
-    let one = from_world(Guard::one(alloc, label, sign))?;
-    let both = from_world(guard.meet(alloc, &one))?;
+    let one = Guard::one(alloc, label, sign)?;
+    let both = guard.meet(alloc, &one)?;
     Ok(both)
 }
 
@@ -109,7 +108,7 @@ fn push_leaf<T: Leaf>(
 ) -> Result<(), Memory>
     ensures { OnOk result (out.new.items ≡ out.old.items ++ (guard.now, value.now) ∷ []) }
 {
-    let guard = from_world(guard.copy(alloc))?;
+    let guard = guard.copy(alloc)?;
     let value = value.copy(alloc)?;
     out.push((guard, value))?;
     Ok(())

@@ -6,7 +6,6 @@ mod facet;
 mod leaf;
 mod leaves;
 mod lists;
-mod memory;
 mod under;
 
 pub use facet::Facet;

@@ -1,40 +1,14 @@
-ghost use Rattle.std.specs.Prelude.{◌≡◌, ◌↔◌, [], None, true, IfOk, IsErr, IsTrue, length, slice_get};
+ghost use Rattle.std.specs.Prelude.{◌≡◌, ◌↔◌, [], None, IfOk, IsErr, IsTrue, length, slice_get};
 ghost use Rattle.jac_io.specs.Linked.{Listens, AsksNext, Returns};
 
 use crate::{Calls, Door, Failed, MemoryLink};
-use jac_value::Memory;
+use jac_value::{List, Memory};
 use std::alloc::Global;
 use std::collections::VecDeque;
 use std::marker::Model;
 
 /// Links in memory, in the order in which they come.
-#[derive(Debug, Drop)]
-pub struct Links {
-    links: Vec<MemoryLink>,
-}
-
-impl Model for Links {
-    ghost use Rattle.std.specs.Prelude.{List};
-    ghost use Rattle.jac_io.specs.LinkState.{LinkState};
-
-    ghost Value = { List LinkState };
-
-    ghost view = { λ l. l.links.items };
-}
-
-impl Links {
-    pub fn from_vec(links: Vec<MemoryLink>) -> Links
-        ensures { result ≡ links.items }
-    {
-        Links { links }
-    }
-
-    pub fn into_vec(self) -> Vec<MemoryLink>
-        ensures { result.items ≡ self }
-    {
-        self.links
-    }
-}
+pub type Links = List<MemoryLink>;
 
 /// A door in memory. A call fails where it is a listed one, and a close also where as many links
 /// were handed back as the door began with. Calls of `listen`, `next` and `close` are counted

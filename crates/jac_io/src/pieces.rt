@@ -1,37 +1,12 @@
 ghost use Rattle.std.specs.Prelude.{◌≡◌, ◌≤◌, ◌+◌, ◌-◌, ◌^◌, length};
 ghost use Rattle.jac_io.specs.LinkState.{cut, first_piece};
 
-use jac_value::Bytes;
+use jac_value::{Bytes, List};
 use std::collections::VecDeque;
 use std::marker::Model;
 
 /// What comes over a connection, a piece for each take.
-#[derive(Debug, Drop)]
-pub struct Pieces {
-    pieces: Vec<Bytes>,
-}
-
-impl Model for Pieces {
-    ghost use Rattle.std.specs.Prelude.{List, ℕ};
-
-    ghost Value = { List (List ℕ) };
-
-    ghost view = { λ p. p.pieces.items };
-}
-
-impl Pieces {
-    pub fn from_vec(pieces: Vec<Bytes>) -> Pieces
-        ensures { result ≡ pieces.items }
-    {
-        Pieces { pieces }
-    }
-
-    pub fn into_vec(self) -> Vec<Bytes>
-        ensures { result.items ≡ self }
-    {
-        self.pieces
-    }
-}
+pub type Pieces = List<Bytes>;
 
 // What wasn't taken yet.
 #[derive(Debug, Drop)]

@@ -28,6 +28,7 @@ pub use keeper::Keeper;
 pub use laws::{record_after_change, sound_after_change, sound_if_good};
 pub use memory_keeper::MemoryKeeper;
 pub use placement::is_in_order;
+pub use places::{count_below, count_through};
 pub use scan::holders;
 pub use schema::{one_schema, shape_of};
 pub use stop::Stop;

@@ -22,7 +22,7 @@ use crate::together::alter_together;
 use crate::{AttachFault, Change, Keeper, Stop, TableIndexes, Vault, shape_of};
 use jac_io::Calls;
 use jac_rows::{Row, Rows, State, Tables};
-use jac_value::{Id, Memory, Txt, Value, id_model};
+use jac_value::{Id, Memory, Txt, Value, copy_name, id_model};
 use std::alloc::Global;
 use std::marker::Model;
 
@@ -188,7 +188,7 @@ impl Keeper for MemoryKeeper {
         ensures reads { Reads (seen_keeper self.old) (seen_keeper self.new) result }
     {
         self.count_read()?;
-        let rows = copy_rows(alloc, self.state.tables.rows(model))?;
+        let rows = Rows::from_slice(alloc, self.state.tables.rows(model))?;
         Ok(rows)
     }
 
@@ -399,18 +399,6 @@ fn count_models(alloc: Global, schema: &Txt) -> Result<usize, Memory>
     }
 }
 
-fn copy_name(alloc: Global, name: Option<&Txt>) -> Result<Option<Txt>, Memory>
-    ensures { IfOk result (λ copy. copy ≡ option_copied name.entry) }
-{
-    match name {
-        Some(name) => {
-            let name = name.copy(alloc)?;
-            Ok(Some(name))
-        }
-        None => Ok(None),
-    }
-}
-
 // All alternatives of each record of which one has the value at the field. The first question for a
 // field makes its index.
 fn find(
@@ -445,18 +433,6 @@ fn take_indexes(alloc: Global, indexes: &mut Option<TableIndexes>) -> TableIndex
     }
 }
 
-// Copies of the rows.
-fn copy_rows(alloc: Global, rows: &[Row]) -> Result<Rows, Memory>
-    ensures { IfOk result (λ r. r ≡ rows.now) }
-{
-    let mut copies = Vec::new(alloc);
-    'rows: for row in rows {
-        let row = row.copy(alloc)?;
-        copies.push(row)?;
-    }
-    Ok(Rows::from_vec(copies))
-}
-
 // Copies of the rows of the record.
 fn copy_of(alloc: Global, state: &State, id: Id) -> Result<Rows, Memory>
     requires { IsSound state.now }
@@ -466,5 +442,5 @@ fn copy_of(alloc: Global, state: &State, id: Id) -> Result<Rows, Memory>
     let place = place_in(rows, id);
     let (_, from) = rows.split_at(place.start);
     let (own, _) = from.split_at(place.count);
-    copy_rows(alloc, own)
+    Rows::from_slice(alloc, own)
 }

@@ -1,8 +1,4 @@
-ghost use Rattle.std.specs.Prelude.{◌≡◌, []};
-
-use jac_value::Txt;
-use std::alloc::Global;
-use std::marker::Model;
+use jac_value::{List, Txt};
 
 /// A kind as the text names it; a reference has the name of its model.
 #[derive(Debug, Drop, PartialEq, Eq)]
@@ -21,44 +17,4 @@ pub struct Field {
 }
 
 /// Fields in the order of the text.
-#[derive(Debug, Drop)]
-pub struct Fields {
-    fields: Vec<Field>,
-}
-
-impl Model for Fields {
-    ghost use Rattle.std.specs.Prelude.{List};
-    ghost use Rattle.jac_lang.specs.declared.field_kinds.Field.{Field as Item};
-
-    ghost Value = { List Item };
-
-    ghost view = { λ f. f.fields.items };
-}
-
-impl Fields {
-    pub fn empty(alloc: Global) -> Fields
-        ensures { result ≡ [] }
-    {
-        Fields {
-            fields: Vec::new(alloc),
-        }
-    }
-
-    pub fn from_vec(fields: Vec<Field>) -> Fields
-        ensures { result ≡ fields.items }
-    {
-        Fields { fields }
-    }
-
-    pub fn as_slice(&self) -> &[Field]
-        ensures { result.now ≡ self.now }
-    {
-        self.fields.as_slice()
-    }
-
-    pub fn into_vec(self) -> Vec<Field>
-        ensures { result.items ≡ self }
-    {
-        self.fields
-    }
-}
+pub type Fields = List<Field>;

@@ -1,7 +1,6 @@
 //! Labels that were consulted, handed out.
 ghost use Rattle.std.specs.Prelude.{◌≡◌, IfOk};
 
-use crate::memory::from_world;
 use jac_pruned::Support;
 use jac_value::Memory;
 use jac_world::Assignment;
@@ -13,7 +12,7 @@ pub(crate) fn assignment_of(alloc: Global, consulted: &Support) -> Result<Assign
 {
     let mut a = Assignment::empty(alloc);
     'labels: for label in consulted.as_slice() {
-        from_world(a.add(*label))?;
+        a.add(*label)?;
     }
     // The labels of an assignment rise.
     let _ = a.as_slice();

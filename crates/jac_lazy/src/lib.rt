@@ -4,7 +4,6 @@
 
 mod consulted;
 mod laws;
-mod memory;
 mod page;
 
 pub use laws::{filled_is_settled, passed_is_settled, rounds_fill, steady_pages};

@@ -4,7 +4,6 @@
 mod choice;
 mod field;
 mod filter;
-mod memory;
 mod product;
 mod sorts;
 mod sums;

@@ -1,7 +1,6 @@
 ghost use Rattle.std.specs.Prelude.{◌≡◌, ◌==◌, ◌||◌, [], ℕ, length, IfOk, OnOk};
 ghost use Rattle.jac_world.specs.World.{shown_by, IsAscending};
 
-use crate::memory::from_world;
 use jac_value::Memory;
 use jac_world::{Label, add_among, is_among};
 use std::alloc::Global;
@@ -67,7 +66,7 @@ impl Labels {
         ensures { OnOk result ((k : ℕ) → shown_by self.new k ≡ (label == k
             || shown_by self.old k)) }
     {
-        from_world(add_among(&mut self.labels, label))
+        add_among(&mut self.labels, label)
     }
 
     pub fn copy(&self, alloc: Global) -> Result<Labels, Memory>

@@ -7,7 +7,6 @@ mod by_group;
 mod labels;
 mod laws;
 mod links;
-mod memory;
 mod seat;
 mod touch;
 

@@ -3,7 +3,6 @@
 
 mod laws;
 mod live;
-mod memory;
 mod pass;
 mod permission;
 mod recall;

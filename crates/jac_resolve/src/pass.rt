@@ -13,7 +13,6 @@ ghost use Rattle.jac_resolve.specs.Rounds.{HasSoundTables, AreLive, MayAdd, Adva
 ghost use Rattle.jac_plain.specs.Shown.{worlds_of};
 
 use crate::live::live_labels;
-use crate::memory::from_world;
 use crate::permission::allowed;
 use crate::recall::remember;
 use jac_keep::{Keeper, Stop, Work};
@@ -191,7 +190,7 @@ fn try_label<K: Keeper, M: Ledger>(
     if answers.refuses(a, label) {
         return Ok(false);
     }
-    from_world(a.add(label))?;
+    a.add(label)?;
     let stay = may_stay(work, app, viewer, a, label, answers, evaluations)?;
     if !stay {
         a.remove(label);

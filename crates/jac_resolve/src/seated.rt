@@ -11,7 +11,6 @@ ghost use Rattle.jac_resolve.specs.Seated.{AreNear, AreNearIf, IsAtRest, IsSeate
 ghost use Rattle.jac_plain.specs.Shown.{worlds_of};
 
 use crate::live::{live_labels, live_of};
-use crate::memory::from_world;
 use crate::pass::{settle_among, try_labels};
 use jac_keep::{Keeper, Stop, Work};
 use jac_lang::App;
@@ -56,7 +55,7 @@ fn copy_labels(alloc: Global, seat: &Seat) -> Result<Assignment, Memory>
     ensures { IfOk result (λ a. seat.now.labels ≡ Some a) }
 {
     match &seat.labels {
-        Some(labels) => from_world(labels.copy(alloc)),
+        Some(labels) => labels.copy(alloc),
         None => unreachable!(),
     }
 }

@@ -1,11 +1,10 @@
-ghost use Rattle.std.specs.Prelude.{◌≡◌, ◌++◌, [], IfOk, OnOk};
+ghost use Rattle.std.specs.Prelude.{◌≡◌, ◌++◌, IfOk, OnOk};
 ghost use Rattle.std.specs.Option.{option_copied};
 ghost use Rattle.jac_route.specs.Pairs.{pairs_in, value_of_name};
 
 use form_urlencoded::parse;
-use jac_value::{Memory, Txt};
+use jac_value::{List, Memory, TryClone, Txt};
 use std::alloc::Global;
-use std::marker::Model;
 
 /// A name and its value, decoded. Bytes that are not UTF-8 stand as U+FFFD.
 #[derive(Debug, Drop)]
@@ -15,19 +14,7 @@ pub struct Pair {
 }
 
 /// Pairs in their order.
-#[derive(Debug, Drop)]
-pub struct Pairs {
-    pairs: Vec<Pair>,
-}
-
-impl Model for Pairs {
-    ghost use Rattle.std.specs.Prelude.{List};
-    ghost use Rattle.jac_route.specs.declared.pairs.Pair.{Pair as Item};
-
-    ghost Value = { List Item };
-
-    ghost view = { λ p. p.pairs.items };
-}
+pub type Pairs = List<Pair>;
 
 impl Pair {
     pub fn copy(&self, alloc: Global) -> Result<Pair, Memory>
@@ -39,43 +26,10 @@ impl Pair {
     }
 }
 
-impl Pairs {
-    pub fn empty(alloc: Global) -> Pairs
-        ensures { result ≡ [] }
-    {
-        Pairs {
-            pairs: Vec::new(alloc),
-        }
-    }
-
-    pub fn from_vec(pairs: Vec<Pair>) -> Pairs
-        ensures { result ≡ pairs.items }
-    {
-        Pairs { pairs }
-    }
-
-    pub fn as_slice(&self) -> &[Pair]
-        ensures { result.now ≡ self.now }
-    {
-        self.pairs.as_slice()
-    }
-
-    pub fn into_vec(self) -> Vec<Pair>
-        ensures { result.items ≡ self }
-    {
-        self.pairs
-    }
-
-    pub fn copy(&self, alloc: Global) -> Result<Pairs, Memory>
-        ensures { IfOk result (λ p. p ≡ self.now) }
-    {
-        let pairs = self.pairs.as_slice();
-        let mut copied = Vec::new(alloc);
-        'pairs: for pair in pairs {
-            let pair = pair.copy(alloc)?;
-            copied.push(pair)?;
-        }
-        Ok(Pairs { pairs: copied })
+impl TryClone for Pair {
+    fn try_clone(&self, alloc: Global) -> Result<Pair, Memory> {
+        let copy = self.copy(alloc)?;
+        Ok(copy)
     }
 }
 
@@ -86,7 +40,7 @@ pub fn pairs_of(alloc: Global, query: &[u8], body: &[u8]) -> Result<Pairs, Memor
     let mut pairs = Vec::new(alloc);
     add_pairs(alloc, query, &mut pairs)?;
     add_pairs(alloc, body, &mut pairs)?;
-    Ok(Pairs { pairs })
+    Ok(Pairs::from_vec(pairs))
 }
 
 // Adds the pairs that the bytes write.

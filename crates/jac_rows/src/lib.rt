@@ -2,7 +2,6 @@
 #![tactic(auto)]
 
 mod laws;
-mod memory;
 mod plain;
 mod projection;
 mod row;

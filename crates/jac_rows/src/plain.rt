@@ -1,7 +1,7 @@
 ghost use Rattle.std.specs.Prelude.{◌≡◌, [], IfOk};
 ghost use Rattle.jac_rows.specs.Tables.{rows_of};
 
-use jac_value::{Cells, Id, Memory};
+use jac_value::{Cells, Id, List, Memory, TryClone};
 use std::alloc::Global;
 use std::marker::Model;
 
@@ -21,60 +21,15 @@ impl PlainRow {
     }
 }
 
+impl TryClone for PlainRow {
+    fn try_clone(&self, alloc: Global) -> Result<PlainRow, Memory> {
+        let copy = self.copy(alloc)?;
+        Ok(copy)
+    }
+}
+
 /// The records of a model as one viewer sees them.
-#[derive(Debug, Drop)]
-pub struct PlainTable {
-    rows: Vec<PlainRow>,
-}
-
-impl Model for PlainTable {
-    ghost use Rattle.std.specs.Prelude.{List};
-    ghost use Rattle.jac_rows.specs.declared.plain.PlainRow.{PlainRow as Item};
-
-    ghost Value = { List Item };
-
-    ghost view = { λ t. t.rows.items };
-}
-
-impl PlainTable {
-    pub fn empty(alloc: Global) -> PlainTable
-        ensures { result ≡ [] }
-    {
-        PlainTable {
-            rows: Vec::new(alloc),
-        }
-    }
-
-    pub fn from_vec(rows: Vec<PlainRow>) -> PlainTable
-        ensures { result ≡ rows.items }
-    {
-        PlainTable { rows }
-    }
-
-    pub fn as_slice(&self) -> &[PlainRow]
-        ensures { result.now ≡ self.now }
-    {
-        self.rows.as_slice()
-    }
-
-    pub fn into_vec(self) -> Vec<PlainRow>
-        ensures { result.items ≡ self }
-    {
-        self.rows
-    }
-
-    pub fn copy(&self, alloc: Global) -> Result<PlainTable, Memory>
-        ensures { IfOk result (λ t. t ≡ self.now) }
-    {
-        let all = self.rows.as_slice();
-        let mut rows = Vec::new(alloc);
-        'rows: for row in all {
-            let row = row.copy(alloc)?;
-            rows.push(row)?;
-        }
-        Ok(PlainTable { rows })
-    }
-}
+pub type PlainTable = List<PlainRow>;
 
 /// One table for each model, in the order of the models. A model beyond them has no records.
 #[derive(Debug, Drop)]

@@ -4,8 +4,7 @@ ghost use Rattle.jac_rows.specs.Tables.{rows_of};
 ghost use Rattle.jac_rows.specs.declared.row.Row.{Row as Item};
 
 use crate::Row;
-use crate::row::copy_rows;
-use jac_value::Memory;
+use jac_value::{Memory, try_clone_all};
 use std::alloc::Global;
 use std::marker::Model;
 
@@ -60,7 +59,7 @@ impl Table {
     pub fn copy(&self, alloc: Global) -> Result<Table, Memory>
         ensures { IfOk result (λ t. t ≡ self.now) }
     {
-        let rows = copy_rows(alloc, self.rows.as_slice())?;
+        let rows = try_clone_all(alloc, self.rows.as_slice())?;
         Ok(Table { rows })
     }
 }

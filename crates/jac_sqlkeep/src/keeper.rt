@@ -20,7 +20,7 @@ use crate::cause::{Unfit, error_of, stop_of};
 use crate::database::Database;
 use jac_keep::{AttachFault, Change, Keeper, Stop, Vault, shape_of};
 use jac_rows::{Rows, Shape};
-use jac_value::{Id, Memory, Txt, Value};
+use jac_value::{Id, Memory, Txt, Value, copy_name};
 use sqlite::Connection;
 use std::alloc::Global;
 use std::marker::Model;
@@ -311,18 +311,6 @@ fn known_of(alloc: Global, name: Option<&Txt>, schema: &Txt) -> Result<Known, Me
         schema,
         shape,
     })
-}
-
-fn copy_name(alloc: Global, name: Option<&Txt>) -> Result<Option<Txt>, Memory>
-    ensures { IfOk result (λ copy. copy ≡ option_copied name.entry) }
-{
-    match name {
-        Some(name) => {
-            let name = name.copy(alloc)?;
-            Ok(Some(name))
-        }
-        None => Ok(None),
-    }
 }
 
 fn known_shape(alloc: Global, schema: &Txt) -> Result<Shape, Memory>

@@ -18,7 +18,6 @@ use crate::Frame;
 use crate::assignments::assign;
 use crate::drafts::{new_cells, read_sets};
 use crate::loops::{looped, new_id};
-use crate::memory::from_world;
 use crate::pieces::{add_missing, add_value};
 use jac_expr::{Ctx, Env, Here, bind_tuple, eval, is_true, tuples};
 use jac_facet::Facet;
@@ -522,7 +521,7 @@ fn execute_tuple<K: Keeper, L: Ledger>(
     ensures told { OnOk result (StaysTold K.seen work.old work.new) }
     ensures keeps { WritesWork K.seen work.old work.new result }
 {
-    match from_world(here.pc.meet(work.alloc, &tuple.guard))? {
+    match here.pc.meet(work.alloc, &tuple.guard)? {
         None => Ok(()),
         Some(within) => {
             let inside = Here {

@@ -7,7 +7,6 @@ mod drafts;
 mod execution;
 mod frame;
 mod loops;
-mod memory;
 mod out;
 mod page;
 mod pieces;

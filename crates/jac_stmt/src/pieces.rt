@@ -7,7 +7,6 @@ ghost use Rattle.jac_world.specs.World.{holds};
 ghost use Rattle.jac_plain.specs.Pieces.{piece_of};
 
 use crate::Out;
-use crate::memory::from_world;
 use jac_facet::Facet;
 use jac_plain::{Form, Piece, make_piece};
 use jac_value::{Memory, Value};
@@ -69,7 +68,7 @@ pub(crate) fn add_missing(alloc: Global, out: &mut Out, pc: &Guard) -> Result<()
         ++ (if holds w pc.now
         then piece.Missing ∷ [] else [])) }
 {
-    let guard = from_world(pc.copy(alloc))?;
+    let guard = pc.copy(alloc)?;
     out.push(guard, Piece::Missing)?;
     Ok(())
 }

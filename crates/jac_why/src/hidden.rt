@@ -1,17 +1,16 @@
 //! Which policy stands against a hidden label.
 ghost use Rattle.std.specs.Prelude.{◌≡◌, ◌≤◌, ◌++◌, [], IfOk, OnOk, IsTrue};
 ghost use Rattle.std.specs.Option.{option_map};
-ghost use Rattle.jac_world.specs.World.{shown_by};
+ghost use Rattle.jac_world.specs.World.{shown_by, with_number};
 ghost use Rattle.jac_lang.specs.Mirror.{application_of};
 ghost use Rattle.jac_keep.specs.Worked.{state_of, IsTold, ReadsWork};
 ghost use Rattle.jac_plain.specs.Policies.{is_allowed, AreAllowed};
 ghost use Rattle.jac_why.specs.Named.{as_reason};
 ghost use Rattle.jac_why.specs.Scene.{scene_on};
 ghost use Rattle.jac_why.specs.Watched.{IsWatching, AreWatching};
-ghost use Rattle.jac_why.specs.Whys.{with_one_more, first_forbidden, why_hidden, stands_against, why_of, why_at, all_whys};
+ghost use Rattle.jac_why.specs.Whys.{first_forbidden, why_hidden, stands_against, why_of, why_at, all_whys};
 ghost use Rattle.jac_plain.specs.Shown.{worlds_of};
 
-use crate::memory::from_world;
 use crate::watch::Watchers;
 use crate::{Explanation, Reason, Scene};
 use jac_keep::{Keeper, Stop, Work};
@@ -273,9 +272,9 @@ fn ask<K: Keeper, M: Ledger>(
 
 // The labels that are shown, and this one.
 fn with_label(alloc: Global, shown: &Assignment, label: Label) -> Result<Assignment, Memory>
-    ensures { IfOk result (λ a. a ≡ with_one_more label shown.now) }
+    ensures { IfOk result (λ a. a ≡ with_number label shown.now) }
 {
-    let beside = from_world(shown.with(alloc, label))?;
+    let beside = shown.with(alloc, label)?;
     // Labels that are read ascend.
     let _ = shown.as_slice();
     let _ = beside.as_slice();

@@ -3,7 +3,6 @@
 
 mod hidden;
 mod laws;
-mod memory;
 mod reasons;
 mod scene;
 mod watch;

@@ -1,7 +1,8 @@
 ghost use Rattle.std.specs.Prelude.{◌≡◌, ℕ, not, ◌==◌, ◌||◌, ◌&&◌, [], IfOk, OnOk, OnErr};
 ghost use Rattle.jac_world.specs.World.{shown_by, IsAscending};
 
-use crate::{Label, Memory, add_among, is_among, remove_among};
+use crate::{Label, add_among, is_among, remove_among};
+use jac_value::Memory;
 use std::alloc::Global;
 use std::marker::Model;
 

@@ -2,7 +2,8 @@ ghost use Rattle.std.specs.Prelude.{◌≡◌, ℕ, Bool, ◌+◌, ◌&&◌, ◌
 ghost use Rattle.jac_world.specs.World.{shown_by, holds, holding, both, IsMeet, IsRising, contradict, guard_wants, ArePairwiseApart, FollowCut};
 ghost use Rattle.jac_world.specs.CutOff.{AddsMeet, IsCutOff};
 
-use crate::{Assignment, Guards, Label, Memory};
+use crate::{Assignment, Guards, Label};
+use jac_value::Memory;
 use std::alloc::Global;
 use std::marker::Model;
 use std::rc::Rc;

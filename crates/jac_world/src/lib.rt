@@ -6,7 +6,6 @@ mod guard;
 mod guards;
 mod label;
 mod laws;
-mod memory;
 mod rising_list;
 mod steps;
 
@@ -15,6 +14,5 @@ pub use guard::Guard;
 pub use guards::Guards;
 pub use label::Label;
 pub use laws::{contradict_where_apart, holds_by_names, holds_somewhere, same_where_alike};
-pub use memory::Memory;
 pub use rising_list::{add_among, is_among, remove_among};
 pub use steps::Steps;

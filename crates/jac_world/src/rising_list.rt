@@ -2,7 +2,8 @@
 ghost use Rattle.std.specs.Prelude.{◌≡◌, ℕ, not, ◌==◌, ◌||◌, ◌&&◌, OnOk, OnErr};
 ghost use Rattle.jac_world.specs.World.{shown_by, IsAscending};
 
-use crate::{Label, Memory};
+use crate::Label;
+use jac_value::Memory;
 
 /// Whether the label is among the labels. It takes the logarithm of their number.
 pub fn is_among(labels: &[Label], label: Label) -> bool

@@ -4,7 +4,6 @@ ghost use Rattle.jac_rows.specs.declared.row.Row.{Row as Seen};
 ghost use Rattle.jac_world.specs.World.{holds};
 ghost use Rattle.jac_write.specs.Writes.{cells_at, each_holding};
 
-use crate::memory::from_world;
 use jac_rows::Row;
 use jac_value::{Cells, Id, Memory};
 use jac_world::Guard;
@@ -42,7 +41,7 @@ fn add_outside(
     ensures shown { OnOk result ((w : ℕ → Bool) → cells_at w out.new.items ≡ cells_at w
         out.old.items ++ (if holds w guard.now then [] else cells_at w (row.now ∷ []))) }
 {
-    let parts = from_world(row.guard.less(alloc, guard))?;
+    let parts = row.guard.less(alloc, guard)?;
     add_parts(alloc, parts.into_vec(), id, &row.cells, out)?;
     Ok(())
 }
@@ -142,7 +141,7 @@ fn add_within(
     ensures shown { OnOk result ((w : ℕ → Bool) → cells_at w out.new.items ≡ cells_at w
         out.old.items ++ (if holds w guard.now then cells_at w (row.now ∷ []) else [])) }
 {
-    match from_world(row.guard.meet(alloc, guard))? {
+    match row.guard.meet(alloc, guard)? {
         Some(both) => {
             add_row(alloc, both, id, &row.cells, out)?;
             Ok(())

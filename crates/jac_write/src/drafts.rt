@@ -13,7 +13,6 @@ ghost use Rattle.jac_write.specs.Writes.{cells_at, fitted_from, put_in, sets_at,
 use crate::alternatives::put_row;
 use crate::cells::{Spot, with_facet};
 use crate::fit::fitted;
-use crate::memory::from_world;
 use crate::schema::field_count;
 use crate::subject::Subject;
 use jac_facet::Facet;
@@ -30,7 +29,7 @@ pub(crate) fn without_cells(alloc: Global, id: Id, guard: &Guard) -> Result<Vec<
     ensures shown { IfOk result (λ v. (w : ℕ → Bool) → cells_at w v.items ≡ (if holds w guard.now
         then [] ∷ [] else [])) }
 {
-    let guard = from_world(guard.copy(alloc))?;
+    let guard = guard.copy(alloc)?;
     let mut rows = Vec::new(alloc);
     put_row(id, guard, Cells::empty(alloc), &mut rows)?;
     Ok(rows)

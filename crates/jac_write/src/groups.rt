@@ -10,7 +10,6 @@ ghost use Rattle.jac_write.specs.Regrouped.{regrouped_cells, stays};
 ghost use Rattle.jac_write.specs.Writes.{cells_at};
 
 use crate::alternatives::within;
-use crate::memory::from_world;
 use crate::merged::merged_rows;
 use crate::named::{Named, is_from};
 use crate::schema::group_that_hides;
@@ -95,7 +94,7 @@ fn shown_guard(alloc: Global, label: Option<Label>) -> Result<Guard, Memory>
 {
     match label {
         Some(label) => {
-            let guard = from_world(Guard::one(alloc, label, true))?;
+            let guard = Guard::one(alloc, label, true)?;
             Ok(guard)
         }
         None => Ok(Guard::empty(alloc)),

@@ -6,7 +6,6 @@ ghost use Rattle.jac_lang.specs.Mirror.{application_of};
 ghost use Rattle.jac_plain.specs.Statements.{is_kept};
 ghost use Rattle.jac_write.specs.Drafts.{IsKeptUnder, hides};
 
-use crate::memory::from_world;
 use crate::schema::group_that_hides;
 use jac_lang::App;
 use jac_value::{Id, Memory, id_model, label_number};
@@ -32,7 +31,7 @@ pub(crate) fn kept_under(
             Ok(guard)
         }
         None => {
-            let guard = from_world(pc.copy(alloc))?;
+            let guard = pc.copy(alloc)?;
             Ok(Some(guard))
         }
     }
@@ -56,7 +55,7 @@ fn hiding_label(app: &App, id: Id) -> Option<Label>
 fn shown_under(alloc: Global, pc: &Guard, label: Label) -> Result<Option<Guard>, Memory>
     ensures { IfOk result (IsKeptUnder (λ w. w label) pc.now) }
 {
-    let shown = from_world(Guard::one(alloc, label, true))?;
-    let guard = from_world(pc.meet(alloc, &shown))?;
+    let shown = Guard::one(alloc, label, true)?;
+    let guard = pc.meet(alloc, &shown)?;
     Ok(guard)
 }

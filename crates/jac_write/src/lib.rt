@@ -10,7 +10,6 @@ mod drafts;
 mod fit;
 mod groups;
 mod hidden;
-mod memory;
 mod merged;
 mod named;
 mod public_values;

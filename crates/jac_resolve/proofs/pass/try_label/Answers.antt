@@ -15,7 +15,7 @@ returns-then-not-stay-clause-tries g c told before hidden =
     let viewer = c.args.viewer.now in
     let a = c.args.a.now in
     let more = c.add.new.self in
-    let also : (k : ℕ) → shown_by more k ≡ with_label c.args.label (shown_by a) k = rw c.in_ok-from_world.ensures at c.add.ensures.added in
+    let also : (k : ℕ) → shown_by more k ≡ with_label c.args.label (shown_by a) k = c.in_ok-add.ensures.added in
     refused_also app worlds viewer a more c.may_stay.new.answers c.args.label also
     (subst (λ (b : Bool). Stays app worlds viewer c.may_stay.new.answers (shown_by more) (is_touched c.args.answers.now c.args.label) b) c.if-not-stay.true (c.in_ok-stay.ensures.value told before.right))
 
@@ -26,7 +26,7 @@ returns-clause-tries g c told before =
     let viewer = c.args.viewer.now in
     let a = c.args.a.now in
     let more = c.add.new.self in
-    let also : (k : ℕ) → shown_by more k ≡ with_label c.args.label (shown_by a) k = rw c.in_ok-from_world.ensures at c.add.ensures.added in
+    let also : (k : ℕ) → shown_by more k ≡ with_label c.args.label (shown_by a) k = c.in_ok-add.ensures.added in
     let underway = underway_added app worlds viewer a more c.args.label c.args.answers.now c.may_stay.new.answers also before
     (c.in_ok-stay.ensures.right told before.right) c.in_ok-stay.ensures.grown
     (subst (λ (b : Bool). Stays app worlds viewer c.may_stay.new.answers (shown_by more) (is_touched c.args.answers.now c.args.label) b) c.if-not-stay.false (c.in_ok-stay.ensures.value told before.right))
@@ -40,7 +40,7 @@ returns-clause-underway g c told before =
     let viewer = c.args.viewer.now in
     let a = c.args.a.now in
     let more = c.add.new.self in
-    let also : (k : ℕ) → shown_by more k ≡ with_label c.args.label (shown_by a) k = rw c.in_ok-from_world.ensures at c.add.ensures.added in
+    let also : (k : ℕ) → shown_by more k ≡ with_label c.args.label (shown_by a) k = c.in_ok-add.ensures.added in
     underway_added app worlds viewer a more c.args.label c.args.answers.now c.may_stay.new.answers also before
     (c.in_ok-stay.ensures.right told before.right) c.in_ok-stay.ensures.grown
     (subst (λ (b : Bool). Stays app worlds viewer c.may_stay.new.answers (shown_by more) (is_touched c.args.answers.now c.args.label) b) c.if-not-stay.false (c.in_ok-stay.ensures.value told before.right))
@@ -50,7 +50,7 @@ pub returns-then-not-stay-clause-grows : goal.returns-then-not-stay-clause-grows
 returns-then-not-stay-clause-grows g c =
     let a = c.args.a.now in
     let more = c.add.new.self in
-    let also : (k : ℕ) → shown_by more k ≡ with_label c.args.label (shown_by a) k = rw c.in_ok-from_world.ensures at c.add.ensures.added in
+    let also : (k : ℕ) → shown_by more k ≡ with_label c.args.label (shown_by a) k = c.in_ok-add.ensures.added in
     let hidden : shown_by a c.args.label ≡ false = search rules in
     taken_back a more c.remove.new.self c.args.label hidden also c.remove.ensures
 
@@ -61,7 +61,7 @@ returns-then-not-stay-clause-underway g c told before =
     let viewer = c.args.viewer.now in
     let a = c.args.a.now in
     let more = c.add.new.self in
-    let also : (k : ℕ) → shown_by more k ≡ with_label c.args.label (shown_by a) k = rw c.in_ok-from_world.ensures at c.add.ensures.added in
+    let also : (k : ℕ) → shown_by more k ≡ with_label c.args.label (shown_by a) k = c.in_ok-add.ensures.added in
     let hidden : shown_by a c.args.label ≡ false = search rules in
     underway_same app worlds viewer a c.remove.new.self c.may_stay.new.answers (taken_back a more c.remove.new.self c.args.label hidden also c.remove.ensures)
     (underway_still app worlds viewer a c.args.answers.now c.may_stay.new.answers before (c.in_ok-stay.ensures.right told before.right) c.in_ok-stay.ensures.grown)
