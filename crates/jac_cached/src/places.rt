@@ -1,7 +1,8 @@
 //! A record's alternatives among the rows of its table, found by bisection.
-ghost use Rattle.std.specs.Prelude.{◌≡◌, ◌≤◌, nat_lt, nat_le, not, length, take, drop, IfOk};
-ghost use Rattle.jac_keep.specs.Records.{AreOrdered, with_id, alternatives};
+ghost use Rattle.std.specs.Prelude.{◌≡◌, IfOk};
+ghost use Rattle.jac_keep.specs.Records.{AreOrdered, alternatives};
 
+use jac_keep::{count_below, count_through};
 use jac_rows::{Row, Rows};
 use jac_value::{Id, Memory};
 use std::alloc::Global;
@@ -14,34 +15,5 @@ pub fn own_rows(alloc: Global, rows: &[Row], id: Id) -> Result<Rows, Memory>
     let (_, from) = rows.split_at(start);
     let count = count_through(from, id);
     let (own, _) = from.split_at(count);
-    copy_rows(alloc, own)
-}
-
-// How many rows have lesser ids.
-fn count_below(rows: &[Row], id: Id) -> usize
-    ensures within { result ≤ length rows.now }
-    ensures high { AreOrdered rows.now
-        → drop result rows.now ≡ with_id (λ i. not (nat_lt i id)) rows.now }
-{
-    rows.partition_point(|row| row.id < id)
-}
-
-// How many rows have no greater ids.
-fn count_through(rows: &[Row], id: Id) -> usize
-    ensures within { result ≤ length rows.now }
-    ensures low { AreOrdered rows.now → take result rows.now ≡ with_id (λ i. nat_le i id) rows.now }
-{
-    rows.partition_point(|row| row.id <= id)
-}
-
-// Copies of the rows.
-fn copy_rows(alloc: Global, rows: &[Row]) -> Result<Rows, Memory>
-    ensures { IfOk result (λ r. r ≡ rows.now) }
-{
-    let mut copies = Vec::new(alloc);
-    'rows: for row in rows {
-        let row = row.copy(alloc)?;
-        copies.push(row)?;
-    }
-    Ok(Rows::from_vec(copies))
+    Rows::from_slice(alloc, own)
 }

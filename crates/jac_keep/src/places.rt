@@ -27,22 +27,22 @@ pub fn place_in(rows: &[Row], id: Id) -> Place
     Place { start, count }
 }
 
-// How many rows have lesser ids.
-fn count_below(rows: &[Row], id: Id) -> usize
-    requires { AreOrdered rows.now }
+/// How many rows have lesser ids.
+pub fn count_below(rows: &[Row], id: Id) -> usize
     ensures within { result ≤ length rows.now }
-    ensures low { take result rows.now ≡ before id rows.now }
-    ensures high { drop result rows.now ≡ with_id (λ i. not (nat_lt i id)) rows.now }
+    ensures low { AreOrdered rows.now → take result rows.now ≡ before id rows.now }
+    ensures high { AreOrdered rows.now
+        → drop result rows.now ≡ with_id (λ i. not (nat_lt i id)) rows.now }
 {
     rows.partition_point(|row| row.id < id)
 }
 
-// How many rows have no greater ids.
-fn count_through(rows: &[Row], id: Id) -> usize
-    requires { AreOrdered rows.now }
+/// How many rows have no greater ids.
+pub fn count_through(rows: &[Row], id: Id) -> usize
     ensures within { result ≤ length rows.now }
-    ensures low { take result rows.now ≡ with_id (λ i. nat_le i id) rows.now }
-    ensures high { drop result rows.now ≡ with_id (λ i. not (nat_le i id)) rows.now }
+    ensures low { AreOrdered rows.now → take result rows.now ≡ with_id (λ i. nat_le i id) rows.now }
+    ensures high { AreOrdered rows.now
+        → drop result rows.now ≡ with_id (λ i. not (nat_le i id)) rows.now }
 {
     rows.partition_point(|row| row.id <= id)
 }
