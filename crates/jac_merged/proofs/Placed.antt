@@ -54,7 +54,7 @@ shown_once true true x e = cc
 shown_once true false x e = refl
 shown_once false b x e = refl
 
-pub join_parts : (r s : Row) → joinable r s ≡ true → (r.id ≡ s.id) × ((r.cells ≡ s.cells) × (differ_once r.guard s.guard ≡ true))
+join_parts : (r s : Row) → joinable r s ≡ true → (r.id ≡ s.id) × ((r.cells ≡ s.cells) × (differ_once r.guard s.guard ≡ true))
 join_parts r s e =
     let parts = and_parts ((r.id == s.id) && same_cells r.cells s.cells) (differ_once r.guard s.guard) e in
     let front = and_parts (r.id == s.id) (same_cells r.cells s.cells) parts.0 in

@@ -1,20 +1,27 @@
 //! Guards that differ in one label's sign alone, and the order of guards.
-ghost use Rattle.std.specs.Prelude.{◌≡◌, ◌<◌, ◌+◌, ◌++◌, true, false, length, take, drop, IfSome, IfOk};
+ghost use Rattle.std.specs.Prelude.{◌≡◌, ◌<◌, ◌+◌, ◌++◌, ℕ, Bool, true, false, length, take, drop, IfSome, IfOk};
 ghost use Rattle.std.specs.Option.{is_some};
+ghost use Rattle.std.specs.List.{list_all};
 ghost use Rattle.jac_merged.specs.Merged.{same_pair, turned_pair, same_pairs, differ_once, pair_before, guard_before, IsJoined};
 
 use jac_value::Memory;
 use jac_world::{Guard, Label};
 use std::alloc::Global;
 
-/// The guard that holds where one of the two does.
-pub fn joined_guard(alloc: Global, one: &Guard, other: &Guard) -> Result<Guard, Memory>
-    requires { differ_once one.now other.now ≡ true }
-    ensures { IfOk result (λ g. IsJoined one.now other.now g) }
+/// The guard that holds where one of the two does, if they differ in one label's sign alone. It
+/// names what the first one does, but that label.
+pub fn join_guards(alloc: Global, one: &Guard, other: &Guard) -> Result<Option<Guard>, Memory>
+    ensures joined { IfOk result (λ o. IfSome o (λ g. IsJoined one.now other.now g)) }
+    ensures fewer { IfOk result (λ o. IfSome o (λ g. (p : (ℕ × Bool) → Bool)
+        → list_all p one.now ≡ true → list_all p g ≡ true)) }
+    ensures found { IfOk result (λ o. is_some o ≡ differ_once one.now other.now) }
 {
     match turned_place(one.pairs(), other.pairs()) {
-        Some(place) => without(alloc, one, other, place),
-        None => unreachable!(),
+        Some(place) => {
+            let guard = without(alloc, one, other, place)?;
+            Ok(Some(guard))
+        }
+        None => Ok(None),
     }
 }
 
@@ -22,7 +29,9 @@ pub fn joined_guard(alloc: Global, one: &Guard, other: &Guard) -> Result<Guard, 
 fn without(alloc: Global, one: &Guard, other: &Guard, place: usize) -> Result<Guard, Memory>
     requires within { place < length one.now }
     requires joined { IsJoined one.now other.now (take place one.now ++ drop (place + 1) one.now) }
-    ensures { IfOk result (λ g. IsJoined one.now other.now g) }
+    ensures joined { IfOk result (λ g. IsJoined one.now other.now g) }
+    ensures fewer { IfOk result (λ g. (p : (ℕ × Bool) → Bool) → list_all p one.now ≡ true
+        → list_all p g ≡ true) }
 {
     let mut pairs = Vec::from_slice(alloc, one.pairs())?;
     let _ = pairs.remove(place);

@@ -5,4 +5,5 @@
 mod guards;
 mod merge;
 
+pub use guards::join_guards;
 pub use merge::merge_rows;

@@ -3,7 +3,7 @@ ghost use Rattle.std.specs.Prelude.{◌≡◌, ◌++◌, ◌∷◌, [], ℕ, tru
 ghost use Rattle.std.specs.List.{insert};
 ghost use Rattle.jac_merged.specs.Merged.{same_cells, joinable, JoinsTo, Shows, AreMerged, AreOfRecord, AreInOrder, place_among};
 
-use crate::guards::{comes_before, differ_once, joined_guard};
+use crate::guards::{comes_before, differ_once, join_guards};
 use jac_rows::{Row, Rows};
 use jac_value::{Memory, Value};
 use std::alloc::Global;
@@ -70,12 +70,14 @@ fn join(alloc: Global, one: Row, other: Row) -> Result<Row, Memory>
     ensures shown { IfOk result (λ row. JoinsTo one other row) }
     ensures own { IfOk result (λ row. row.id ≡ other.id) }
 {
-    let guard = joined_guard(alloc, &one.guard, &other.guard)?;
-    Ok(Row {
-        id: other.id,
-        guard,
-        cells: other.cells,
-    })
+    match join_guards(alloc, &one.guard, &other.guard)? {
+        Some(guard) => Ok(Row {
+            id: other.id,
+            guard,
+            cells: other.cells,
+        }),
+        None => unreachable!(),
+    }
 }
 
 // How many rows stand before the row's place.

@@ -68,20 +68,6 @@ all_if p false x xs h hs = hs
 all_append : {X : Type 0} (p : X → Bool) (xs ys : List X) → list_all p xs ≡ true → list_all p ys ≡ true → list_all p (xs ++ ys) ≡ true
 all_append p xs ys h g = list_all-append p xs ys ∙ and_from (list_all p xs) (list_all p ys) h g
 
-all_take : {X : Type 0} (p : X → Bool) (i : ℕ) (xs : List X) → list_all p xs ≡ true → list_all p (take i xs) ≡ true
-all_take p zero xs h = refl
-all_take p (suc i) [] h = refl
-all_take p (suc i) (x ∷ xs) h = let a = and_parts (p x) (list_all p xs) h in and_from (p x) (list_all p (take i xs)) a.0 (all_take p i xs a.1)
-
-pub all_drop : {X : Type 0} (p : X → Bool) (i : ℕ) (xs : List X) → list_all p xs ≡ true → list_all p (drop i xs) ≡ true
-all_drop p zero xs h = h
-all_drop p (suc i) [] h = refl
-all_drop p (suc i) (x ∷ xs) h = all_drop p i xs (and_parts (p x) (list_all p xs) h).1
-
--- with one taken out
-pub all_without : {X : Type 0} (p : X → Bool) (i j : ℕ) (xs : List X) → list_all p xs ≡ true → list_all p (take i xs ++ drop j xs) ≡ true
-all_without p i j xs h = all_append p (take i xs) (drop j xs) (all_take p i xs h) (all_drop p j xs h)
-
 -- one of them by its place
 pub all_at : {X : Type 0} (p : X → Bool) (xs : List X) (x : X) (i : ℕ) → x ≡ get_or xs i x → i < length xs → list_all p xs ≡ true → p x ≡ true
 all_at p [] x i item below h = absurd (omega (arith, below))

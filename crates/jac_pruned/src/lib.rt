@@ -9,7 +9,6 @@ mod candidate;
 mod choice;
 mod evaluation;
 mod fixed;
-mod memory;
 mod order;
 mod pieces;
 mod presence;

@@ -14,13 +14,13 @@ returns-then-branch-clause-row c w agree =
     let row = c.in-Some.row.now in
     let alike = c.in_ok-alike.alike in
     let left : c.rows.left.now ≡ row ∷ c.in-Some.more.now = search rules in
-    let shows : true ≡ ((row.id == c.args.id) && holds w c.as_slice.result.now) = rw c.if-branch.true at (c.in_ok-shows.ensures.value w agree) in
+    let shows : true ≡ ((row.id == c.args.id) && holds w c.pairs.result.now) = rw c.if-branch.true at (c.in_ok-shows.ensures.value w agree) in
     sym
     (sym (c.rows.invariant.left w (agrees_less _ _ _ _ c.in_ok-shows.ensures.grows agree))
     ∙ ap (λ l. answer_of c.args.field (record_with c.args.id (rows_at w l))) left
-    ∙ answer_joined w c.args.id c.args.field alike.guard.items row c.in-Some.more.now alike.behind.now (c.in_ok-alike.ensures.same w)
+    ∙ answer_joined w c.args.id c.args.field alike.guard row c.in-Some.more.now alike.behind.now (c.in_ok-alike.ensures.same w)
     ∙ ap (λ b. if b then Some (asked_alternative c.args.field row.id row.cells) else answer_of c.args.field (record_with c.args.id (rows_at w alike.behind.now)))
-    (ap (λ g. (row.id == c.args.id) && holds w g) (sym c.as_slice.ensures.value) ∙ sym shows))
+    (ap (λ g. (row.id == c.args.id) && holds w g) (sym c.pairs.ensures.pairs) ∙ sym shows))
 
 pub rows-preserved : goal.rows-preserved
 rows-preserved c =
@@ -32,19 +32,19 @@ rows-preserved c =
       grown = grows_then _ _ _ before.grown c.in_ok-shows.ensures.grows;
       own = λ this all own.
           c.in_ok-shows.ensures.own this
-          (ap (λ g. not (row.id == c.args.id) || names_own this g) c.as_slice.ensures.value
-          ∙ or_less (not (row.id == c.args.id)) (names_own this row.guard) (names_own this alike.guard.items) (c.in_ok-alike.ensures.fewer (is_own_pair this))
+          (ap (λ g. not (row.id == c.args.id) || names_own this g) c.pairs.ensures.pairs
+          ∙ or_less (not (row.id == c.args.id)) (names_own this row.guard) (names_own this alike.guard) (c.in_ok-alike.ensures.fewer (is_own_pair this))
           (all_head (is_own_row this c.args.id) row c.in-Some.more.now c.rows.left.now left (before.rows_left this all)).0)
           (before.own this all own);
       rows_left = λ this all.
           c.in_ok-alike.ensures.left (is_own_row this c.args.id) (all_head (is_own_row this c.args.id) row c.in-Some.more.now c.rows.left.now left (before.rows_left this all)).1;
       left = λ w agree.
-          let shows : false ≡ ((row.id == c.args.id) && holds w c.as_slice.result.now) = rw c.if-branch.false at (c.in_ok-shows.ensures.value w agree) in
+          let shows : false ≡ ((row.id == c.args.id) && holds w c.pairs.result.now) = rw c.if-branch.false at (c.in_ok-shows.ensures.value w agree) in
           sym
           (ap (λ l. answer_of c.args.field (record_with c.args.id (rows_at w l))) left
-          ∙ answer_joined w c.args.id c.args.field alike.guard.items row c.in-Some.more.now alike.behind.now (c.in_ok-alike.ensures.same w)
+          ∙ answer_joined w c.args.id c.args.field alike.guard row c.in-Some.more.now alike.behind.now (c.in_ok-alike.ensures.same w)
           ∙ ap (λ b. if b then Some (asked_alternative c.args.field row.id row.cells) else answer_of c.args.field (record_with c.args.id (rows_at w alike.behind.now)))
-          (ap (λ g. (row.id == c.args.id) && holds w g) (sym c.as_slice.ensures.value) ∙ sym shows))
+          (ap (λ g. (row.id == c.args.id) && holds w g) (sym c.pairs.ensures.pairs) ∙ sym shows))
           ∙ before.left w (agrees_less _ _ _ _ c.in_ok-shows.ensures.grows agree);
     }
 
@@ -54,7 +54,7 @@ returns-then-branch-clause-own c this all own =
     let alike = c.in_ok-alike.alike in
     let left : c.rows.left.now ≡ row ∷ c.in-Some.more.now = search rules in
     c.in_ok-shows.ensures.own this
-    (ap (λ g. not (row.id == c.args.id) || names_own this g) c.as_slice.ensures.value
-    ∙ or_less (not (row.id == c.args.id)) (names_own this row.guard) (names_own this alike.guard.items) (c.in_ok-alike.ensures.fewer (is_own_pair this))
+    (ap (λ g. not (row.id == c.args.id) || names_own this g) c.pairs.ensures.pairs
+    ∙ or_less (not (row.id == c.args.id)) (names_own this row.guard) (names_own this alike.guard) (c.in_ok-alike.ensures.fewer (is_own_pair this))
     (all_head (is_own_row this c.args.id) row c.in-Some.more.now c.rows.left.now left (c.rows.invariant.rows_left this all)).0)
     (c.rows.invariant.own this all own)
