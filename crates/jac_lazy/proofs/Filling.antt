@@ -1,9 +1,8 @@
 -- What steady labels are filled up to is settled; and rounds fill, over plain lists.
 use Rattle.std.proofs.Common.{◌≡◌, ◌∙◌, sym, refl, ap, subst, ℕ, ◌==◌, ◌||◌, Bool, true, false, true≢false, List, [], ◌∷◌, Option}
 use Rattle.std.proofs.lemmas.Bool.Decides.{Decides-eqb}
-use Rattle.jac_world.specs.World.{shown_by, IsAscending}
-use Rattle.jac_open.specs.Allowed.{with_number}
-use Rattle.jac_open.proofs.Inserting.{shown-inserted, ascending-inserted}
+use Rattle.jac_world.specs.World.{shown_by, IsAscending, with_number}
+use Rattle.jac_world.proofs.Inserting.{shown-inserted, ascending-inserted}
 use Rattle.jac_lang.specs.Syntax.{Application}
 use Rattle.jac_plain.specs.Requests.{Worlds}
 use Rattle.jac_plain.specs.Policies.{with_label, IsLiveLabel, ShowsForbidden, AreAllowed, IsSettled}

@@ -3,23 +3,17 @@ use Rattle.std.proofs.Common.{◌≡◌, ◌∙◌, ◌⊎◌, inl, inr, sym, re
 use Rattle.std.specs.List.{list_all}
 use Rattle.std.proofs.lemmas.Bool.{and_parts, or_left, or_right}
 use Rattle.std.proofs.lemmas.Bool.Decides.{nat_tests, Decides-eqb}
-use Rattle.jac_world.specs.World.{shown_by}
-use Rattle.jac_open.specs.Allowed.{with_number}
-use Rattle.jac_open.proofs.Inserting.{shown-inserted}
+use Rattle.jac_world.specs.World.{shown_by, with_number}
+use Rattle.jac_world.proofs.Inserting.{shown-inserted}
 use Rattle.jac_lang.specs.Syntax.{Application}
 use Rattle.jac_plain.specs.Requests.{Visit, Worlds}
 use Rattle.jac_plain.specs.declared.page.Page.{Page}
 use Rattle.jac_plain.specs.Policies.{is_allowed, with_label, IsLiveLabel, ShowsForbidden, AreAllowed}
 use Rattle.jac_resolve.specs.Rounds.{AreLive, hidden_count}
+use Rattle.jac_resolve.proofs.Fewer.{itself, fewer}
 use Rattle.jac_lazy.specs.Steady.{IsPageOf, IsSteady}
 use Rattle.jac_lazy.specs.Filled.{Adds, IsFilled, IsPageOfSettled, all_allowed, may_add, round, rounds, fill}
 use Rattle.jac_lazy.proofs.Filling.{grown, law_filled}
-
-itself : (x : ℕ) → (x == x) ≡ true
-itself x = grind (arith, nat_tests)
-
-same_test : (a b : ℕ) → (a == b) ≡ (b == a)
-same_test a b = grind (arith, nat_tests)
 
 -- a test that all labels meet is met by each; one that they don't all meet fails at one
 
@@ -47,31 +41,6 @@ one_fails f [] h = absurd cc
 one_fails f (x ∷ xs) h = fails_if f x xs (f x) refl h (one_fails f xs)
 
 -- how many of the labels aren't shown
-
-not_more_if : (a b : Bool) (m n : ℕ) → m ≤ n → (if (a || b) then 0 else 1) + m ≤ (if b then 0 else 1) + n
-not_more_if true true m n h = omega arith
-not_more_if true false m n h = omega arith
-not_more_if false true m n h = omega arith
-not_more_if false false m n h = omega arith
-
-not_more : (k : ℕ) (v w : ℕ → Bool) → ((j : ℕ) → w j ≡ with_label k v j) → (xs : List ℕ) → hidden_count w xs ≤ hidden_count v xs
-not_more k v w h [] = omega arith
-not_more k v w h (x ∷ xs) = rw (h x) (not_more_if (k == x) (v x) (hidden_count w xs) (hidden_count v xs) (not_more k v w h xs))
-
-fewer_if : (same rest b : Bool) (m n : ℕ) → m ≤ n → (same ≡ true → b ≡ false) → (rest ≡ true → m < n) → (same || rest) ≡ true → (if (same || b) then 0 else 1) + m < (if b then 0 else 1) + n
-fewer_if true rest true m n h there later s = absurd (let e : true ≡ false = there refl in cc)
-fewer_if true rest false m n h there later s = omega arith
-fewer_if false rest true m n h there later s = let lt : m < n = later s in omega arith
-fewer_if false rest false m n h there later s = let lt : m < n = later s in omega arith
-
-fewer : (k : ℕ) (v w : ℕ → Bool) → v k ≡ false → ((j : ℕ) → w j ≡ with_label k v j) → (xs : List ℕ) → shown_by xs k ≡ true → hidden_count w xs < hidden_count v xs
-fewer k v w hidden h [] s = absurd cc
-fewer k v w hidden h (x ∷ xs) s =
-    rw (h x)
-    (fewer_if (k == x) (shown_by xs k) (v x) (hidden_count w xs) (hidden_count v xs) (not_more k v w h xs)
-    (λ e. ap v (sym ((Decides-eqb k x).0 e)) ∙ hidden)
-    (fewer k v w hidden h xs)
-    (rw (same_test k x) s))
 
 at_most_if : (b : Bool) (m n : ℕ) → m ≤ n → (if b then 0 else 1) + m ≤ suc n
 at_most_if true m n h = omega (arith, h)

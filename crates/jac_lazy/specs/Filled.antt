@@ -1,8 +1,7 @@
 -- How steady labels are filled up to settled ones.
 use Rattle.std.specs.Prelude.{◌≡◌, ℕ, zero, suc, ◌&&◌, ◌||◌, not, Bool, false, if◌then◌else◌, List, [], ◌∷◌, length, Option}
 use Rattle.std.specs.List.{list_all}
-use Rattle.jac_world.specs.World.{shown_by}
-use Rattle.jac_open.specs.Allowed.{with_number}
+use Rattle.jac_world.specs.World.{shown_by, with_number}
 use Rattle.jac_lang.specs.Syntax.{Application}
 use Rattle.jac_plain.specs.Policies.{is_allowed, with_label, IsLiveLabel, ShowsForbidden, AreAllowed, IsSettled}
 use Rattle.jac_plain.specs.Requests.{Visit, Worlds, page}

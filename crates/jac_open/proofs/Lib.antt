@@ -1,4 +1,3 @@
-pub mod Inserting
 pub mod Masked
 pub mod Settling
 pub mod OwnedRows

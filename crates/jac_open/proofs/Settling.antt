@@ -4,7 +4,7 @@ use Rattle.std.proofs.lemmas.Bool.{and_parts, and_from, or_left, or_right, cases
 use Rattle.std.proofs.lemmas.Bool.Decides.{nat_tests, eqb_tells, Decides-eqb}
 use Rattle.std.proofs.lemmas.List.Folds.{list_any-append}
 use Rattle.jac_value.specs.Ids.{label_of, record_of_label, group_of_label, model_of_id, labels_below}
-use Rattle.jac_world.specs.World.{shown_by, IsAscending, StartsAboveBy}
+use Rattle.jac_world.specs.World.{shown_by, IsAscending, StartsAboveBy, with_number}
 use Rattle.jac_lang.specs.Syntax.{FieldGroup, Application}
 use Rattle.jac_rows.specs.Project.{project_at}
 use Rattle.jac_rows.specs.Tables.{rows_of}
@@ -16,8 +16,8 @@ use Rattle.jac_plain.specs.Expressions.{stands}
 use Rattle.jac_plain.specs.Requests.{Worlds}
 use Rattle.jac_plain.specs.Policies.{has_record, is_some_group, labelled_group, policy_world, policy_is_true, is_allowed, with_label, IsLiveLabel, IsSettled}
 use Rattle.jac_open.specs.Open.{is_open_app, AreAlike, AreEven, IsEven, nothing, is_policy_true, IsGranted}
-use Rattle.jac_open.specs.Allowed.{with_number, passing_numbers, labels_of_records, labels_of_tables, allowed_labels}
-use Rattle.jac_open.proofs.Inserting.{shown-inserted, ascending-inserted}
+use Rattle.jac_open.specs.Allowed.{passing_numbers, labels_of_records, labels_of_tables, allowed_labels}
+use Rattle.jac_world.proofs.Inserting.{shown-inserted, ascending-inserted}
 use Rattle.jac_open.proofs.Masked.{same_record, same_allowed}
 
 itself : (x : ℕ) → (x == x) ≡ true

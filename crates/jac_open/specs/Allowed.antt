@@ -1,16 +1,11 @@
 -- The labels that are allowed in a plain state, as a list.
 use Rattle.std.specs.Prelude.{ℕ, zero, suc, ◌==◌, nat_lt, Bool, if◌then◌else◌, List, [], ◌∷◌, ◌++◌, Option}
+use Rattle.jac_world.specs.World.{with_number}
 use Rattle.jac_value.specs.Ids.{label_of, labels_below}
 use Rattle.jac_lang.specs.Syntax.{Application}
 use Rattle.jac_rows.specs.declared.plain.PlainRow.{PlainRow}
 use Rattle.jac_rows.specs.declared.plain.PlainState.{PlainState}
 use Rattle.jac_plain.specs.Policies.{is_allowed}
-
--- a rising list with one more number, once
-abbrev pub with_number : ℕ → List ℕ → List ℕ
-with_number k [] = k ∷ []
-with_number k (x ∷ xs) = if nat_lt x k then x ∷ with_number k xs else (if x == k then x ∷ xs
-    else k ∷ (x ∷ xs))
 
 -- the numbers that pass the test, in rising order, each once
 abbrev pub passing_numbers : (ℕ → Bool) → List ℕ → List ℕ

@@ -11,40 +11,8 @@ use Rattle.jac_pruned.proofs.Working.{next}
 use Rattle.jac_recall.specs.declared.answers.Answers.{Answers}
 use Rattle.jac_resolve.specs.Recalled.{Fills, Grown, IsPassed, IsUnderway, Retains, RemembersForbidden, Tries}
 use Rattle.jac_resolve.specs.Rounds.{hidden_count, AreLive, MayAdd, Advances, Within}
+use Rattle.jac_resolve.proofs.Fewer.{itself, fewer}
 use Rattle.jac_resolve.proofs.Underway.{grown_same, grown_then, refused_still}
-
-same_test : (a b : ℕ) → (a == b) ≡ (b == a)
-same_test a b = grind (arith, nat_tests)
-
-itself : (x : ℕ) → (x == x) ≡ true
-itself x = grind (arith, nat_tests)
-
--- fewer labels are hidden
-
-not_more_if : (a b : Bool) (m n : ℕ) → m ≤ n → (if (a || b) then 0 else 1) + m ≤ (if b then 0 else 1) + n
-not_more_if true true m n h = omega arith
-not_more_if true false m n h = omega arith
-not_more_if false true m n h = omega arith
-not_more_if false false m n h = omega arith
-
-not_more : (k : ℕ) (v w : ℕ → Bool) → ((j : ℕ) → w j ≡ with_label k v j) → (xs : List ℕ) → hidden_count w xs ≤ hidden_count v xs
-not_more k v w h [] = omega arith
-not_more k v w h (x ∷ xs) = rw (h x) (not_more_if (k == x) (v x) (hidden_count w xs) (hidden_count v xs) (not_more k v w h xs))
-
-fewer_if : (same rest b : Bool) (m n : ℕ) → m ≤ n → (same ≡ true → b ≡ false) → (rest ≡ true → m < n) → (same || rest) ≡ true → (if (same || b) then 0 else 1) + m < (if b then 0 else 1) + n
-fewer_if true rest true m n h there later s = absurd (let e : true ≡ false = there refl in cc)
-fewer_if true rest false m n h there later s = omega arith
-fewer_if false rest true m n h there later s = let lt : m < n = later s in omega arith
-fewer_if false rest false m n h there later s = let lt : m < n = later s in omega arith
-
-fewer : (k : ℕ) (v w : ℕ → Bool) → v k ≡ false → ((j : ℕ) → w j ≡ with_label k v j) → (xs : List ℕ) → shown_by xs k ≡ true → hidden_count w xs < hidden_count v xs
-fewer k v w hidden h [] s = absurd cc
-fewer k v w hidden h (x ∷ xs) s =
-    rw (h x)
-    (fewer_if (k == x) (shown_by xs k) (v x) (hidden_count w xs) (hidden_count v xs) (not_more k v w h xs)
-    (λ e. ap v (sym ((Decides-eqb k x).0 e)) ∙ hidden)
-    (fewer k v w hidden h xs)
-    (rw (same_test k x) s))
 
 pub advances : (labels start old new : List ℕ) (k : ℕ) (added one : Bool) → shown_by labels k ≡ true → Advances labels start old added → MayAdd k old new one → Advances labels start new (added || one)
 advances labels start old new k true true s a g = let less : hidden_count (shown_by new) labels < hidden_count (shown_by old) labels = fewer k (shown_by old) (shown_by new) g.0 g.1 labels s in omega arith

@@ -1,6 +1,7 @@
 pub mod Alike
 pub mod Apart
 pub mod Collecting
+pub mod Fewer
 pub mod Greedy
 pub mod Living
 pub mod Local

@@ -9,13 +9,13 @@ use Rattle.jac_rows.specs.declared.plain.PlainState.{PlainState}
 use Rattle.jac_plain.specs.Policies.{is_allowed, with_label, AreAllowed}
 use Rattle.jac_pruned.specs.Consulted.{Agrees}
 use Rattle.jac_pruned.proofs.Growing.{agrees_same}
-use Rattle.jac_why.specs.declared.reasons.Reason.{Reason}
 use Rattle.jac_why.specs.declared.watch.Watchers.{Watchers}
 use Rattle.jac_why.specs.Named.{as_reason}
 use Rattle.jac_why.specs.Watched.{asks_again, IsUnmoved, IsWatching, AreWatching}
 use Rattle.jac_why.specs.Scene.{PlainScene}
 use Rattle.jac_why.specs.Whys.{beside, world_beside, first_forbidden, why_hidden}
-use Rattle.jac_why.proofs.Inserting.{shown-inserted, ascending-inserted, grown}
+use Rattle.jac_world.proofs.Inserting.{shown-inserted, ascending-inserted}
+use Rattle.jac_why.proofs.Inserting.{grown}
 
 -- an assignment with a label more that wasn't consulted
 

@@ -1,7 +1,7 @@
 -- What stands against the labels that a viewer isn't shown.
-use Rattle.std.specs.Prelude.{◌≡◌, ◌&&◌, ◌==◌, ◌++◌, ℕ, Bool, not, nat_lt, true, false, if◌then◌else◌, List, [], ◌∷◌, Option, Some, None}
+use Rattle.std.specs.Prelude.{◌≡◌, ◌&&◌, ◌++◌, ℕ, Bool, not, true, false, if◌then◌else◌, List, [], ◌∷◌, Option, Some, None}
 use Rattle.std.specs.Option.{option_map}
-use Rattle.jac_world.specs.World.{shown_by}
+use Rattle.jac_world.specs.World.{shown_by, with_number}
 use Rattle.jac_lang.specs.Syntax.{Application}
 use Rattle.jac_rows.specs.declared.plain.PlainState.{PlainState}
 use Rattle.jac_plain.specs.Policies.{is_allowed, IsLiveLabel}
@@ -9,12 +9,6 @@ use Rattle.jac_why.specs.declared.reasons.Reason.{Reason}
 use Rattle.jac_why.specs.declared.reasons.Explanation.{Explanation}
 use Rattle.jac_why.specs.Named.{as_reason, names_its_label}
 use Rattle.jac_why.specs.Scene.{PlainScene}
-
--- rising labels with one more in its place, once
-abbrev pub with_one_more : ℕ → List ℕ → List ℕ
-with_one_more k [] = k ∷ []
-with_one_more k (x ∷ xs) =
-    if nat_lt x k then x ∷ with_one_more k xs else (if x == k then x ∷ xs else k ∷ (x ∷ xs))
 
 -- the first of the labels that isn't allowed in a world
 abbrev pub first_forbidden : Application → PlainState → Option ℕ → List ℕ → Option ℕ
@@ -30,7 +24,7 @@ why_of k (Some r) = record { hidden = k; reason = r } ∷ []
 module _ (scene : PlainScene) where
   -- the labels that are shown, and this one
   abbrev pub beside : ℕ → List ℕ
-  beside k = with_one_more k scene.labels
+  beside k = with_number k scene.labels
 
   -- the world that they show
   abbrev pub world_beside : ℕ → PlainState

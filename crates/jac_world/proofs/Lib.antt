@@ -2,4 +2,5 @@ pub mod Alike
 pub mod Bisected
 pub mod Contradict
 pub mod Cutting
+pub mod Inserting
 pub mod Merging

@@ -1,4 +1,4 @@
-use Rattle.std.specs.Prelude.{◌≡◌, ℕ, ◌<◌, Bool, true, false, not, ◌&&◌, ◌==◌, ◌+◌, if◌then◌else◌, Option, Some, None, List, [], ◌∷◌, ⊤}
+use Rattle.std.specs.Prelude.{◌≡◌, ℕ, ◌<◌, Bool, true, false, not, nat_lt, ◌&&◌, ◌==◌, ◌+◌, if◌then◌else◌, Option, Some, None, List, [], ◌∷◌, ⊤}
 use Rattle.std.specs.List.{list_any, list_all, AllByRecursion}
 use mathlib.Core.Bool.{beq}
 
@@ -85,3 +85,9 @@ BreaksEarlier cut g h = (v w : ℕ → Bool) → holds v g ≡ true → holds w 
 abbrev pub FollowCut : List (ℕ × Bool) → List (List (ℕ × Bool)) → Type 0
 FollowCut cut [] = ⊤
 FollowCut cut (g ∷ gs) = AllByRecursion (BreaksEarlier cut g) gs × FollowCut cut gs
+
+-- a rising list with one more number, once
+abbrev pub with_number : ℕ → List ℕ → List ℕ
+with_number k [] = k ∷ []
+with_number k (x ∷ xs) = if nat_lt x k then x ∷ with_number k xs else (if x == k then x ∷ xs
+    else k ∷ (x ∷ xs))

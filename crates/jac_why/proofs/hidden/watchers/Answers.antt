@@ -1,4 +1,4 @@
-use Rattle.std.proofs.Common.{◌≡◌, ◌+◌, ◌≤◌, drop, length, subst, rules, arith}
+use Rattle.std.proofs.Common.{◌+◌, ◌≤◌, drop, length, subst, rules, arith}
 use Rattle.jac_rows.specs.declared.state.State.{State}
 use Rattle.jac_keep.specs.Worked.{state_of}
 use Rattle.jac_pruned.proofs.Working.{next}

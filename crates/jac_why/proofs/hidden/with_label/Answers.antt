@@ -9,5 +9,5 @@ returns c =
     let new = c.in_ok-beside.beside in
     let rises : IsAscending old = search rules in
     let rises_too : IsAscending new = search rules in
-    let grown : (j : ℕ) → shown_by new j ≡ (c.args.label == j || shown_by old j) = rw c.in_ok-beside.ensures at c.with.ensures in
+    let grown : (j : ℕ) → shown_by new j ≡ (c.args.label == j || shown_by old j) = c.in_ok-beside.ensures in
     with_inserted c.args.label old new rises rises_too grown

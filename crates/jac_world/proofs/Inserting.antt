@@ -1,8 +1,7 @@
 -- A rising list with one more number shows that one too, and rises.
 use Rattle.std.proofs.Common.{◌≡◌, ℕ, ◌<◌, ◌==◌, ◌||◌, Bool, true, false, if◌then◌else◌, nat_lt, List, [], ◌∷◌, refl, ap, ◌∙◌, inl, inr, suc, arith}
 use Rattle.std.proofs.lemmas.Bool.Decides.{eqb_tells, leb_tells}
-use Rattle.jac_world.specs.World.{shown_by, IsAscending, StartsAboveBy}
-use Rattle.jac_open.specs.Allowed.{with_number}
+use Rattle.jac_world.specs.World.{shown_by, with_number, IsAscending, StartsAboveBy}
 
 shown_later : (a b c : Bool) → (a || (b || c)) ≡ (b || (a || c))
 shown_later true true c = refl
