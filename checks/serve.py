@@ -2,7 +2,9 @@
 """Asks the built program over real connections, by sockets and by curl: replies byte by byte, connections that are
 kept, forms, cookies and redirects, what can't be read, clients that send nothing, drip or go away and how long they
 hold up others, audits that go on, what is told on standard error, and how a run ends. Words: the program. Prints each
-case that fails, and ends with a count. What needs curl is left out where it isn't installed, and that is said."""
+case that fails, and ends with a count. Where all that is wrong is that something came late, it is looked at again, twice
+at most, since another program may take the machine for a moment. What needs curl is left out where it isn't installed,
+and that is said."""
 import contextlib
 import http.client
 import os
@@ -26,6 +28,11 @@ PROGRAM = proved.program(sys.argv[1])
 HELLO = b'(app (view get "/" (params) (put "hello"))' \
         b' (view get "/large" (params) %s (put "end")))' % (b'(put "%s")' % (b'x' * 1000) * 100)
 LARGE = 100 * 1000 + len('end')
+LOOKS = 3
+
+
+class Late(str):
+    """A case that fails in nothing but its time."""
 
 
 @contextlib.contextmanager
@@ -128,7 +135,7 @@ def asked(line):
 
 def in_time(name, seconds, most):
     """Whether it took no longer; half a second more is for a machine that is busy."""
-    return None if seconds <= most + 0.5 else '%s: %.2f seconds, not %.2f' % (name, seconds, most)
+    return None if seconds <= most + 0.5 else Late('%s: %.2f seconds, not %.2f' % (name, seconds, most))
 
 
 def waited_for():
@@ -215,7 +222,7 @@ def taken_in_turn():
             thread.join()
         mean = statistics.mean(times)
         yield expect('pages of ten clients', len(times), clients * pages)
-        yield None if mean <= 0.15 else 'ten clients: %.3f seconds a page on the average' % mean
+        yield None if mean <= 0.15 else Late('ten clients: %.3f seconds a page on the average' % mean)
 
 
 def gone():
@@ -346,6 +353,16 @@ def forms():
         yield expect('the audit', sum(([line[1], line[2]] for line in lines), []), want)
 
 
+def looked_at(part):
+    """What a part lacks, if anything, by the first look that nothing was late in, or by the last."""
+    for _ in range(LOOKS):
+        results = list(part())
+        wrong = list(filter(None, results))
+        if not wrong or not all(isinstance(one, Late) for one in wrong):
+            break
+    return results
+
+
 def main():
     results = []
     parts = [in_pieces, kept, refused, large, waited_for, dripped, let_go, taken_in_turn, gone, not_taken, taken_port,
@@ -355,7 +372,7 @@ def main():
     else:
         print('left out, as curl is not installed: forms')
     for part in parts:
-        results += list(part())
+        results += looked_at(part)
     for wrong in filter(None, results):
         print('FAILED ' + wrong)
     failed = sum(1 for wrong in results if wrong)
