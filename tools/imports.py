@@ -1,6 +1,8 @@
 #!/usr/bin/env python3
-"""Tells each name that a file brings in from a crate's specs/ or proofs/ and that isn't there, in a second: a check of the
-crate tells it too, after its whole proof. It reads texts alone, so a name that two lines could mean counts as there."""
+"""Tells each name that a file brings in from a crate's specs/ or proofs/ and that isn't there, and each that an .antt file
+uses and doesn't bring in, in some seconds: a check of the crate tells it too, after its whole proof. It reads texts alone.
+A name that two lines could mean counts as there; one is looked for only where some other file brings it in, and counts as
+bound wherever its own file has it before a colon, an equals sign, an arrow of a case or the dot of a λ."""
 import os
 import re
 import subprocess
@@ -13,6 +15,15 @@ HEADS = [re.compile(r"(?m)^\s*(?:(?:abbrev|unfoldable|opaque|pub|record|data) )*
          re.compile(r"\bpub (?:record |data )?([^\W\d][\w'-]*)"),
          re.compile(r"\b(?:record|data) pub ([^\W\d][\w'-]*)")]
 WORD = re.compile(r"[^\W\d][\w'-]*$")
+USE = re.compile(r'(?m)^[ \t]*(?:pub )?(?:ghost )?use [^\n]*')
+NAME = r"[^\W\d][\w'≢-]*"
+TOKEN = re.compile(r"[.◌+*-]?%s◌?|\S" % NAME)
+PLAIN = re.compile(NAME + '$')
+# What the names that a sign binds stand behind.
+BEGINS = {':': '({[→', '=': ';{', '↦': '|[', '.': 'λ'}
+HELD = {'let', 'in', '=', ':'}
+# Words of the prover's own.
+OWN = {'at', 'rw'}
 
 
 def names_of(group):
@@ -28,6 +39,43 @@ def given_by(text):
     names = {name for head in HEADS for name in head.findall(text)}
     names.update(alias for group in GROUP.findall(text) for _, alias in names_of(group))
     return names
+
+
+def brought_in(text):
+    """The names that a file brings in, as it calls them, operators without their places."""
+    names = set()
+    for line in USE.findall(text):
+        group = re.search(r'\{([^}]*)\}', line)
+        if group:
+            names.update(entry.strip().split(' as ')[-1].strip('◌ ') for entry in group[1].split(','))
+        alias = re.search(r' as ([\w-]+)\s*$', line) or re.search(r'\.([\w-]+)\s*$', line)
+        if alias:
+            names.add(alias[1])
+    return names
+
+
+def bound_in(line, tokens):
+    """The names that a line may bind."""
+    names = set()
+    for at, token in enumerate(tokens):
+        if token in BEGINS and not (token == '.' and 'λ' not in tokens[:at]):
+            first = at
+            while first and tokens[first - 1] not in BEGINS[token] and tokens[first - 1] not in HELD:
+                first -= 1
+            names.update(filter(PLAIN.match, tokens[first:at]))
+    head = re.match(r'[^=≡:]*(?= =(?: |$))', line)
+    return names | set(re.findall(NAME, head[0]) if head else ())
+
+
+def lacked(text, brought, known):
+    """The names that a file uses, that others bring in, and that this one neither has nor brings in."""
+    body = re.sub(r'"(?:[^"\\\n]|\\.)*"|--[^\n]*', '', USE.sub('', text))
+    used, bound = set(), set(re.findall(r'(?:^|\W)(?:pub|record|data|module) (?:record |data )?(%s)' % NAME, body))
+    for line in body.split('\n'):
+        tokens = TOKEN.findall(line)
+        used.update(filter(PLAIN.match, tokens))
+        bound |= bound_in(line, tokens)
+    return sorted(name for name in used if name in known and name not in brought and name not in bound and name not in OWN)
 
 
 def main():
@@ -49,6 +97,12 @@ def main():
                 if name not in given[home]:
                     print('%s: %s has no %s' % (path, home, name))
                     lacking += 1
+    brought = {path: brought_in(text) for path, text in texts.items() if path.endswith('.antt') and not path.endswith('/Lib.antt')}
+    known = set().union(*brought.values())
+    for path, names in brought.items():
+        for name in lacked(texts[path], names, known):
+            print('%s: uses %s, which it doesn\'t bring in' % (path, name))
+            lacking += 1
     print('imports: %d files, %d names lacking' % (len(texts), lacking))
     return 1 if lacking else 0
 
