@@ -15,8 +15,9 @@ as not made, and counts for nothing.
 What no example sees is told. With `--prove` the prover is asked of it, by a check of the definition's whole crate in a copy:
 where the definition is refused the turn isn't made, and where a law or the code is, that sees it. Then statements are turned
 as well, words that begin with a capital letter, of which `meaning.py` knows nothing; where jac_samples stands on their crate
-the prover is asked of its examples too. `--jobs` copies are at work side by side, `--through` are words to run each check
-through, and what is told in the file of the results isn't tried again."""
+the prover is asked of its examples too. What is turned of jac_engine is asked of the examples of jac_asks first, among whose
+own definitions it stands then, so that the engine isn't proved for each turn. `--jobs` copies are at work side by side,
+`--through` are words to run each check through, and what is told in the file of the results isn't tried again."""
 import argparse
 import collections
 import concurrent.futures
@@ -38,6 +39,8 @@ SAMPLES, FILES = 'jac_samples', {
     'jac_rows': ('Project', 'Tables', 'Good'),
     'jac_engine': ('Answers',),
 }
+# Crates whose definitions are asked of another one's examples, each by a copy among that one's definitions.
+ASKED = {'jac_engine': 'jac_asks'}
 OPENING, CLOSING = '([{', ')]}'
 TOKEN = re.compile(r'"(?:[^"\\]|\\.)*"|λ|[◌\w.₀-₉]+(?:-[\w.]+)*|[()\[\]{};,]|[^\s\w()\[\]{};,"λ]+')
 EXCHANGED = {'&&': '||', '||': '&&', '<': '≤', '≤': '<', '+ℤ': '-ℤ', '-ℤ': '+ℤ', '*ℤ': '+ℤ', '+': '*', '*': '+', '/': '%',
@@ -47,7 +50,7 @@ EXCHANGED = {'&&': '||', '||': '&&', '<': '≤', '≤': '<', '+ℤ': '-ℤ', '-�
 KEYWORDS = {'if', 'then', 'else', 'let', 'in', 'λ', 'record', 'before', '=', '→', '&&', '||', '++', '∷', '==', '≡', '×', '⊎',
             '<', '≤', '+', '*', '/', '%', '^', '+ℤ', '-ℤ', '*ℤ', ':', '.', ';', ','}
 # How the prover tells an example that it refuses.
-EXAMPLE = re.compile(r'(?m)^fn %s::\w+::(\w+): no' % SAMPLES)
+EXAMPLE = re.compile(r'(?m)^fn (?:%s)::\w+::(\w+): no' % '|'.join([SAMPLES, *ASKED.values()]))
 # Functions that say the same of their two arguments in either order: to exchange those turns nothing.
 EVEN = {'same_text', 'equality.ghosts.eq', 'beq'}
 Turn = collections.namedtuple('Turn', 'crate path line kind before after text says')
@@ -320,22 +323,44 @@ def chosen(words):
     return found[:words.count], total
 
 
-def below(crate):
-    """The crate and those of this repository that it stands on, lowest first."""
+def below(crate, but=()):
+    """The crate and those of this repository that it stands on, but these, lowest first."""
     lines = dict(line.split(':', 1) for line in read('crates.txt').split('\n') if line and not line.startswith('#'))
-    needed = [name for name in lines if name == crate or name in lines[crate].split()]
-    return needed, {name: lines[name] for name in needed}
+    needed, left = set(), [crate]
+    while left:
+        name = left.pop()
+        if name in lines and name not in needed and name not in but:
+            needed.add(name)
+            left += lines[name].split()
+    kept = {name: ' '.join(word for word in lines[name].split() if word not in but) for name in lines if name in needed}
+    return list(kept), kept
 
 
-def copy(folder, crate):
+def copy(folder, crate, but=()):
     """A folder with what this crate needs, libraries too."""
-    needed, lines = below(crate)
+    needed, lines = below(crate, but)
     with open(os.path.join(folder, 'crates.txt'), 'w', encoding='utf-8') as file:
-        file.write(''.join('%s:%s\n' % (name, lines[name]) for name in needed))
+        file.write(''.join('%s: %s\n' % (name, lines[name]) for name in needed))
     shutil.copy(os.path.join(TOP, 'HANDLES'), folder)
     for name in needed:
         shutil.copytree(os.path.join(TOP, 'crates', name), os.path.join(folder, 'crates', name), symlinks=True,
                         ignore=shutil.ignore_patterns('must-fail'))
+
+
+def as_own(folder, crate, asked):
+    """Puts the definitions of a crate that are turned among those of the examples that are asked."""
+    top = os.path.join(folder, 'crates', asked)
+    for name in FILES[crate]:
+        shutil.copy(os.path.join(TOP, 'crates', crate, 'specs', name + '.antt'), os.path.join(top, 'specs'))
+        with open(os.path.join(top, 'specs', 'Lib.antt'), 'a', encoding='utf-8') as file:
+            file.write('pub mod %s\n' % name)
+    for at, _, names in os.walk(top):
+        for name in names:
+            if name.endswith(('.rt', '.antt')):
+                path = os.path.join(at, name)
+                text = read(path).replace('Rattle.%s.specs.' % crate, 'Rattle.%s.specs.' % asked)
+                with open(path, 'w', encoding='utf-8') as file:
+                    file.write(text)
 
 
 class Place:
@@ -344,23 +369,34 @@ class Place:
     def __init__(self, through):
         self.through, self.folders = through, {}
 
-    def folder(self, crate):
-        if crate not in self.folders:
-            self.folders[crate] = tempfile.mkdtemp(prefix='turned-')
-            copy(self.folders[crate], crate)
-        return self.folders[crate]
+    def folder(self, crate, asked):
+        if (crate, asked) not in self.folders:
+            self.folders[crate, asked] = tempfile.mkdtemp(prefix='turned-')
+            copy(self.folders[crate, asked], asked, but=[crate] if ASKED.get(crate) == asked else [])
+            if ASKED.get(crate) == asked:
+                as_own(self.folders[crate, asked], crate, asked)
+        return self.folders[crate, asked]
 
     def tried(self, turn):
         """What the prover says of the turn: that it isn't made, or that an example, a law or the code sees it, or that
         nothing does."""
-        asked = SAMPLES if turn.says and turn.crate in below(SAMPLES)[0] else turn.crate
-        top = self.folder(asked)
-        path = os.path.join(top, turn.path)
+        outcome = self.told(turn, ASKED[turn.crate]) if turn.crate in ASKED else 'SURVIVES'
+        if outcome != 'SURVIVES':
+            return outcome
+        return self.told(turn, SAMPLES if turn.says and turn.crate in below(SAMPLES)[0] else turn.crate)
+
+    def told(self, turn, asked):
+        """What the check of a crate says of the turn."""
+        place = turn.path.replace(turn.crate, asked) if ASKED.get(turn.crate) == asked else turn.path
+        path = os.path.join(self.folder(turn.crate, asked), place)
+        before = read(path)
         with open(path, 'w', encoding='utf-8') as file:
             file.write(turn.text)
+        top = path[:-len(place)]
         done = subprocess.run(self.through + ['rt', 'check'], cwd=os.path.join(top, 'crates', asked),
                               stdout=subprocess.PIPE, stderr=subprocess.STDOUT, check=False)
-        shutil.copy(os.path.join(TOP, turn.path), path)
+        with open(path, 'w', encoding='utf-8') as file:
+            file.write(before)
         told = done.stdout.decode(errors='replace')
         example = EXAMPLE.search(told)
         if not done.returncode and 'logic=proved' in told:
