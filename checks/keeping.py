@@ -22,7 +22,7 @@ import proved
 from compare import Maker, written
 
 TOP = os.path.dirname(os.path.dirname(os.path.abspath(__file__)))
-KEPT = 'crates/jac_sittings/src/sittings.rt', r'(const VIEWERS: usize = )\d+;', r'\g<1>0;'
+KEPT = 'crates/jac_viewer_caches/src/viewer_caches.rt', r'(const VIEWERS: usize = )\d+;', r'\g<1>0;'
 MOST_NUMBERS = 12       # of the requests whose records are named
 MOST_SECONDS = 20       # of one run
 VIEWERS = None, 4096, 8192, 12288, 12289, 16384

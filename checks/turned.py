@@ -1,6 +1,6 @@
 #!/usr/bin/env python3
 """Turns the definitions of the ordinary interpreter, the policies, the requests and the pages one at a time, and sees that
-a computed example of jac_samples fails. It is no part of the gate; what the examples come to is proved there.
+a computed example of jac_semantics_examples fails. It is no part of the gate; what the examples come to is proved there.
 
     python3 checks/turned.py [--count 200] [--seed 1] [--only TEXT] [--list] [--all]
                              [--prove] [--jobs 1] [--through "WORDS"] [--results FILE]
@@ -14,8 +14,8 @@ as not made, and counts for nothing.
 
 What no example sees is told. With `--prove` the prover is asked of it, by a check of the definition's whole crate in a copy:
 where the definition is refused the turn isn't made, and where a law or the code is, that sees it. Then statements are turned
-as well, words that begin with a capital letter, of which `meaning.py` knows nothing; where jac_samples stands on their crate
-the prover is asked of its examples too. What is turned of jac_engine is asked of the examples of jac_asks first, among whose
+as well, words that begin with a capital letter, of which `meaning.py` knows nothing; where jac_semantics_examples stands on their crate
+the prover is asked of its examples too. What is turned of jac_engine is asked of the examples of jac_answer_examples first, among whose
 own definitions it stands then, so that the engine isn't proved for each turn. `--jobs` copies are at work side by side,
 `--through` are words to run each check through, and what is told in the file of the results isn't tried again."""
 import argparse
@@ -34,13 +34,13 @@ sys.dont_write_bytecode = True
 from meaning import Logic, parts                                            # noqa: E402
 from pages import TOP, read                                                 # noqa: E402
 
-SAMPLES, FILES = 'jac_samples', {
+SAMPLES, FILES = 'jac_semantics_examples', {
     'jac_plain': ('Expressions', 'World', 'Statements', 'Policies', 'Requests', 'Reading', 'Records', 'Making', 'Models'),
     'jac_rows': ('Project', 'Tables', 'Good'),
     'jac_engine': ('Answers',),
 }
 # Crates whose definitions are asked of another one's examples, each by a copy among that one's definitions.
-ASKED = {'jac_engine': 'jac_asks'}
+ASKED = {'jac_engine': 'jac_answer_examples'}
 OPENING, CLOSING = '([{', ')]}'
 TOKEN = re.compile(r'"(?:[^"\\]|\\.)*"|λ|[◌\w.₀-₉]+(?:-[\w.]+)*|[()\[\]{};,]|[^\s\w()\[\]{};,"λ]+')
 EXCHANGED = {'&&': '||', '||': '&&', '<': '≤', '≤': '<', '+ℤ': '-ℤ', '-ℤ': '+ℤ', '*ℤ': '+ℤ', '+': '*', '*': '+', '/': '%',

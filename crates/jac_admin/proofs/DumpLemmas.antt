@@ -14,19 +14,19 @@ use Rattle.jac_rows.specs.declared.state.State.{State}
 use Rattle.jac_rows.specs.Project.{rows_at, project_at}
 use Rattle.jac_rows.specs.Tables.{rows_of, rows_or_none}
 use Rattle.jac_keep.specs.KeeperSeen.{KeeperSeen, Store, IsLeft}
-use Rattle.jac_ending.specs.declared.ending.Ending.{Ending}
-use Rattle.jac_ending.specs.declared.ending.Ending.TheVariants as endings
+use Rattle.jac_command_base.specs.declared.exit_reason.ExitReason.{ExitReason}
+use Rattle.jac_command_base.specs.declared.exit_reason.ExitReason.TheVariants as exits
 use Rattle.jac_route.specs.declared.sessions.Session.{Session}
-use Rattle.jac_words.specs.declared.words.Command.TheVariants as commands
-use Rattle.jac_words.specs.declared.words.Dumping.{Dumping}
-use Rattle.jac_serving.specs.Outside.{Span, span, sinks, WentAimed}
-use Rattle.jac_ending.specs.Attached.{AttachesAs}
-use Rattle.jac_ending.specs.Ending.{Closed}
-use Rattle.jac_ending.specs.Outset.{sight_of, AreFilesRead, HasBegun, IsBarred, IsHalted, IsStoppedAiming}
+use Rattle.jac_cli.specs.declared.words.Command.TheVariants as commands
+use Rattle.jac_cli.specs.declared.words.DumpArgs.{DumpArgs}
+use Rattle.jac_serve_events.specs.Outside.{Span, span, sinks, WentAimed}
+use Rattle.jac_command_base.specs.Attached.{AttachesAs}
+use Rattle.jac_command_base.specs.ExitReason.{Closed}
+use Rattle.jac_command_base.specs.Startup.{sight_of, AreFilesRead, HasBegun, IsBarred, IsHalted, IsStoppedAiming}
 use Rattle.jac_admin.specs.Dump.{record_line, table_text, tables_text, number_line, dump_text, EndsRead, IsDumped, EndsDumping, EndsDump}
-use Rattle.jac_serving.proofs.OutsideLemmas.{Rose-widen}
-use Rattle.jac_ending.proofs.EndingLemmas.{is_attached}
-use Rattle.jac_ending.proofs.OutsetLemmas.{application_read, idle_behind, idle_with}
+use Rattle.jac_serve_events.proofs.OutsideLemmas.{Rose-widen}
+use Rattle.jac_command_base.proofs.ExitReasonLemmas.{is_attached}
+use Rattle.jac_command_base.proofs.StartupLemmas.{application_read, idle_behind, idle_with}
 
 -- the text of the tables from one on
 abbrev pub text_from : (ℕ → Bool) → List ModelDef → ℕ → KeeperSeen → List ℕ
@@ -84,7 +84,7 @@ held_step : (model : Entity) (r : PlainRow) (held : Bool) (rest : List PlainRow)
 held_step model r true rest = refl
 held_step model r false rest = refl
 
--- a row before the rows behind it
+-- a row before the rows after it
 pub row_step : (model : Entity) (w : ℕ → Bool) (row : Row) (rest : List Row) →
     table_text model (rows_at w (row ∷ rest)) ≡ (if holds w row.guard then record_line model (record { id = row.id; cells = row.cells }) else []) ++ table_text model (rows_at w rest)
 row_step model w row rest = held_step model (record { id = row.id; cells = row.cells }) (holds w row.guard) (rows_at w rest)
@@ -108,47 +108,47 @@ pub same_shown : (P : (ℕ → Bool) → Type 0) (v w : ℕ → Bool) → ((k : 
 same_shown P v w same h = subst P (λ i k. same k i) h
 
 -- a store that wasn't attached ends the steps
-pub unattached_ends : (db : Option (List ℕ)) (app : Application) (w : ℕ → Bool) (out : Span SinkSeen) (k : Span KeeperSeen) (ending : Ending)
-    → AttachesAs db app k (Err ending) → EndsDumping db app w out k (Err ending) []
-unattached_ends db app w out k endings.StoreFault h = (h.0, inl h.1)
-unattached_ends db app w out k (endings.OtherStore stored wanted) h = h
-unattached_ends db app w out k endings.Memory h = inl h
-unattached_ends db app w out k (endings.ReadFault role) h = absurd h
-unattached_ends db app w out k (endings.TooLong role) h = absurd h
-unattached_ends db app w out k (endings.AppRefused line) h = absurd h
-unattached_ends db app w out k (endings.NewRefused line) h = absurd h
-unattached_ends db app w out k (endings.UpgradeRefused line) h = absurd h
-unattached_ends db app w out k endings.DoorFault h = absurd h
-unattached_ends db app w out k (endings.LineRefused lapse) h = absurd h
-unattached_ends db app w out k (endings.SessionsRefused line) h = absurd h
-unattached_ends db app w out k endings.WriteFault h = absurd h
+pub unattached_ends : (db : Option (List ℕ)) (app : Application) (w : ℕ → Bool) (out : Span SinkSeen) (k : Span KeeperSeen) (exit_reason : ExitReason)
+    → AttachesAs db app k (Err exit_reason) → EndsDumping db app w out k (Err exit_reason) []
+unattached_ends db app w out k exits.StoreFault h = (h.0, inl h.1)
+unattached_ends db app w out k (exits.OtherStore stored wanted) h = h
+unattached_ends db app w out k exits.Memory h = inl h
+unattached_ends db app w out k (exits.ReadFault role) h = absurd h
+unattached_ends db app w out k (exits.TooLong role) h = absurd h
+unattached_ends db app w out k (exits.AppRefused line) h = absurd h
+unattached_ends db app w out k (exits.NewRefused line) h = absurd h
+unattached_ends db app w out k (exits.UpgradeRefused line) h = absurd h
+unattached_ends db app w out k exits.DoorFault h = absurd h
+unattached_ends db app w out k (exits.LineRefused event_fault) h = absurd h
+unattached_ends db app w out k (exits.SessionsRefused line) h = absurd h
+unattached_ends db app w out k exits.WriteFault h = absurd h
 
 -- an attached store was read
 module _ (db : Option (List ℕ)) (app : Application) (w : ℕ → Bool) (out : Span SinkSeen) (before opened after : KeeperSeen)
     (attaches : AttachesAs db app (span before opened) (Ok tt)) (left : IsLeft opened after) where
-  dumped : (result : Result (Unit {0}) Ending) (put : List ℕ) → EndsRead app w out (span opened after) result put → IsDumped db app w out (span before after) result put
+  dumped : (result : Result (Unit {0}) ExitReason) (put : List ℕ) → EndsRead app w out (span opened after) result put → IsDumped db app w out (span before after) result put
   dumped result put ends = record { opened = opened; attached = is_attached db app before opened after attaches left.same_store; left = left; ends = ends }
 
-  pub read_ends : (result : Result (Unit {0}) Ending) (put : List ℕ) → EndsRead app w out (span opened after) result put → EndsDumping db app w out (span before after) result put
+  pub read_ends : (result : Result (Unit {0}) ExitReason) (put : List ℕ) → EndsRead app w out (span opened after) result put → EndsDumping db app w out (span before after) result put
   read_ends (Ok done) put h = dumped (Ok done) put h
-  read_ends (Err endings.StoreFault) put h = (Rose-widen _ _ _ _ attaches.0.later (omega arith) h.1, inr (dumped (Err endings.StoreFault) put h))
-  read_ends (Err endings.Memory) put h = inr (dumped (Err endings.Memory) put h)
-  read_ends (Err endings.WriteFault) put h = dumped (Err endings.WriteFault) put h
-  read_ends (Err (endings.OtherStore stored wanted)) put h = absurd h.puts
-  read_ends (Err (endings.ReadFault role)) put h = dumped (Err (endings.ReadFault role)) put h
-  read_ends (Err (endings.TooLong role)) put h = dumped (Err (endings.TooLong role)) put h
-  read_ends (Err (endings.AppRefused line)) put h = dumped (Err (endings.AppRefused line)) put h
-  read_ends (Err (endings.NewRefused line)) put h = dumped (Err (endings.NewRefused line)) put h
-  read_ends (Err (endings.UpgradeRefused line)) put h = dumped (Err (endings.UpgradeRefused line)) put h
-  read_ends (Err endings.DoorFault) put h = dumped (Err endings.DoorFault) put h
-  read_ends (Err (endings.LineRefused lapse)) put h = dumped (Err (endings.LineRefused lapse)) put h
-  read_ends (Err (endings.SessionsRefused line)) put h = dumped (Err (endings.SessionsRefused line)) put h
+  read_ends (Err exits.StoreFault) put h = (Rose-widen _ _ _ _ attaches.0.later (omega arith) h.1, inr (dumped (Err exits.StoreFault) put h))
+  read_ends (Err exits.Memory) put h = inr (dumped (Err exits.Memory) put h)
+  read_ends (Err exits.WriteFault) put h = dumped (Err exits.WriteFault) put h
+  read_ends (Err (exits.OtherStore stored wanted)) put h = absurd h.puts
+  read_ends (Err (exits.ReadFault role)) put h = dumped (Err (exits.ReadFault role)) put h
+  read_ends (Err (exits.TooLong role)) put h = dumped (Err (exits.TooLong role)) put h
+  read_ends (Err (exits.AppRefused line)) put h = dumped (Err (exits.AppRefused line)) put h
+  read_ends (Err (exits.NewRefused line)) put h = dumped (Err (exits.NewRefused line)) put h
+  read_ends (Err (exits.UpgradeRefused line)) put h = dumped (Err (exits.UpgradeRefused line)) put h
+  read_ends (Err exits.DoorFault) put h = dumped (Err exits.DoorFault) put h
+  read_ends (Err (exits.LineRefused event_fault)) put h = dumped (Err (exits.LineRefused event_fault)) put h
+  read_ends (Err (exits.SessionsRefused line)) put h = dumped (Err (exits.SessionsRefused line)) put h
 
 -- a dump that was halted as it began
-module _ (files : Span FilesSeen) (out audit later : SinkSeen) (keeper : Span KeeperSeen) (dumping : Dumping) (ending : Ending) where
+module _ (files : Span FilesSeen) (out audit later : SinkSeen) (keeper : Span KeeperSeen) (dumping : DumpArgs) (exit_reason : ExitReason) where
   dump_barred : (app : Application) (sessions : List Session) (events : List ℕ) → AreFilesRead (commands.Dump dumping) files app sessions events
-      → IsStoppedAiming (commands.Dump dumping) (span audit later) keeper ending ⊎ IsBarred (commands.Dump dumping) app (span audit later) keeper ending
-      → WentAimed (sinks out out audit later) (EndsDump (sight_of files (span out out) (span audit later) keeper) (commands.Dump dumping) (Err ending))
+      → IsStoppedAiming (commands.Dump dumping) (span audit later) keeper exit_reason ⊎ IsBarred (commands.Dump dumping) app (span audit later) keeper exit_reason
+      → WentAimed (sinks out out audit later) (EndsDump (sight_of files (span out out) (span audit later) keeper) (commands.Dump dumping) (Err exit_reason))
   dump_barred app sessions events read (inl stopped) = absurd stopped.aims
   dump_barred app sessions events read (inr barred) =
       idle_behind out audit later _ barred.aims
@@ -157,19 +157,19 @@ module _ (files : Span FilesSeen) (out audit later : SinkSeen) (keeper : Span Ke
         application = application_read (commands.Dump dumping) files (span out out) (span audit later) keeper app sessions events read;
         no_audit = refl;
         unaimed = λ told. ap (λ (s : SinkSeen). s.aims) barred.aims;
-        ends = unattached_ends dumping.db app (shown_by dumping.labels) (span out out) keeper ending barred.attaches;
+        ends = unattached_ends dumping.db app (shown_by dumping.labels) (span out out) keeper exit_reason barred.attaches;
       }))
 
-  pub dump_halted : IsHalted (commands.Dump dumping) files (span audit later) keeper ending
-      → WentAimed (sinks out out audit later) (EndsDump (sight_of files (span out out) (span audit later) keeper) (commands.Dump dumping) (Err ending))
+  pub dump_halted : IsHalted (commands.Dump dumping) files (span audit later) keeper exit_reason
+      → WentAimed (sinks out out audit later) (EndsDump (sight_of files (span out out) (span audit later) keeper) (commands.Dump dumping) (Err exit_reason))
   dump_halted (inl early) =
       idle_behind out audit later _ early.uncalled
       (inl (early.ends (span out out) (span audit later) keeper, idle_with (span audit later) keeper early.uncalled early.still))
   dump_halted (inr behind) = dump_barred behind.app behind.sessions behind.events behind.read behind.halts
 
 -- one that began, and then read its store
-pub dump_ended : (files : Span FilesSeen) (out_before out_after audit later : SinkSeen) (before opened after : KeeperSeen) (dumping : Dumping) (w : ℕ → Bool)
-    (app : Application) (sessions : List Session) (events : List ℕ) (result : Result (Unit {0}) Ending)
+pub dump_ended : (files : Span FilesSeen) (out_before out_after audit later : SinkSeen) (before opened after : KeeperSeen) (dumping : DumpArgs) (w : ℕ → Bool)
+    (app : Application) (sessions : List Session) (events : List ℕ) (result : Result (Unit {0}) ExitReason)
     → HasBegun (commands.Dump dumping) files (span audit later) (span before opened) app sessions events
     → ((k : ℕ) → w k ≡ shown_by dumping.labels k) → IsLeft opened after → Closed (span out_before out_after) (EndsRead app w (span out_before out_after) (span opened after) result)
     → WentAimed (sinks out_before out_after audit later) (EndsDump (sight_of files (span out_before out_after) (span audit later) (span before after)) (commands.Dump dumping) result)

@@ -13,17 +13,17 @@ use Rattle.jac_keep.specs.Schema.{IsFit}
 use Rattle.jac_keep.proofs.SoundLaws.{sound_if_good}
 use Rattle.jac_resolve.specs.Rounds.{AreLive, HasSoundTables}
 use Rattle.jac_route.specs.declared.sessions.Session.{Session}
-use Rattle.jac_words.specs.declared.words.Command.TheVariants as commands
-use Rattle.jac_words.specs.declared.words.Explaining.{Explaining}
-use Rattle.jac_serving.specs.Outside.{Span, span, sinks, WentAimed}
+use Rattle.jac_cli.specs.declared.words.Command.TheVariants as commands
+use Rattle.jac_cli.specs.declared.words.WhyArgs.{WhyArgs}
+use Rattle.jac_serve_events.specs.Outside.{Span, span, sinks, WentAimed}
 use Rattle.jac_why.specs.declared.reasons.Explanation.{Explanation}
 use Rattle.jac_why.specs.Whys.{all_whys, is_standing}
 use Rattle.jac_why.proofs.Explaining.{all_stand}
-use Rattle.jac_ending.specs.declared.ending.Ending.{Ending}
-use Rattle.jac_ending.specs.Ending.{Closed}
-use Rattle.jac_ending.specs.Outset.{sight_of, AreFilesRead, HasBegun, IsBarred, IsHalted, IsStoppedAiming}
-use Rattle.jac_ending.proofs.OutsetLemmas.{application_read, idle_behind, idle_with}
-use Rattle.jac_admin.specs.Explain.{asker_of, why_line, why_lines, whys_text, scene_with, IsExplanation, EndsExplained, EndsExplain}
+use Rattle.jac_command_base.specs.declared.exit_reason.ExitReason.{ExitReason}
+use Rattle.jac_command_base.specs.ExitReason.{Closed}
+use Rattle.jac_command_base.specs.Startup.{sight_of, AreFilesRead, HasBegun, IsBarred, IsHalted, IsStoppedAiming}
+use Rattle.jac_command_base.proofs.StartupLemmas.{application_read, idle_behind, idle_with}
+use Rattle.jac_admin.specs.Explain.{asker_of, why_line, why_lines, whys_text, context_with, IsExplanation, EndsExplained, EndsExplain}
 use Rattle.jac_plain.specs.Shown.{worlds_of}
 
 -- a state that fits has sound tables
@@ -54,20 +54,20 @@ standing_parts p left more x is stand = and_parts (p x) (list_all p more) (ap (l
 
 -- the lines of all answers, where each was found and then stood the test
 pub all_lines : (app : Application) (viewer : Option ℕ) (s testing : State) (labels live text : List ℕ) (es : List Explanation)
-    → testing ≡ s → es ≡ all_whys (scene_with app viewer s labels) live
-    → (list_all (is_standing (scene_with app viewer testing labels)) es ≡ true → text ≡ whys_text app.models labels es)
-    → text ≡ whys_text app.models labels (all_whys (scene_with app viewer s labels) live)
+    → testing ≡ s → es ≡ all_whys (context_with app viewer s labels) live
+    → (list_all (is_standing (context_with app viewer testing labels)) es ≡ true → text ≡ whys_text app.models labels es)
+    → text ≡ whys_text app.models labels (all_whys (context_with app viewer s labels) live)
 all_lines app viewer s testing labels live text es same found tested =
-    let scene = scene_with app viewer s labels in
-    let tested_now : list_all (is_standing scene) es ≡ true → text ≡ whys_text app.models labels es =
-    subst (λ (t : State). list_all (is_standing (scene_with app viewer t labels)) es ≡ true → text ≡ whys_text app.models labels es) same tested in
-    tested_now (ap (list_all (is_standing scene)) found ∙ all_stand scene live) ∙ ap (whys_text app.models labels) found
+    let context = context_with app viewer s labels in
+    let tested_now : list_all (is_standing context) es ≡ true → text ≡ whys_text app.models labels es =
+    subst (λ (t : State). list_all (is_standing (context_with app viewer t labels)) es ≡ true → text ≡ whys_text app.models labels es) same tested in
+    tested_now (ap (list_all (is_standing context)) found ∙ all_stand context live) ∙ ap (whys_text app.models labels) found
 
 -- what was read at three moments, of which each tells the state of the first
 pub explained : (app : Application) (viewer : Option ℕ) (s settling asking : State) (live labels text : List ℕ)
     → settling ≡ s → asking ≡ s
     → IsAscending live → AreLive app (worlds_of s) live → IsSettled app (worlds_of settling) viewer labels
-    → (AreAllowed app (worlds_of asking) viewer labels → text ≡ whys_text app.models labels (all_whys (scene_with app viewer asking labels) live))
+    → (AreAllowed app (worlds_of asking) viewer labels → text ≡ whys_text app.models labels (all_whys (context_with app viewer asking labels) live))
     → IsExplanation app viewer s text
 explained app viewer s settling asking live labels text one two up are settled lines =
     let settled_now : IsSettled app (worlds_of s) viewer labels = subst (λ (t : State). IsSettled app (worlds_of t) viewer labels) one settled in
@@ -78,15 +78,15 @@ explained app viewer s settling asking live labels text one two up are settled l
       ascending = up;
       are_live = are;
       is_text =
-          subst (λ (t : State). AreAllowed app (worlds_of t) viewer labels → text ≡ whys_text app.models labels (all_whys (scene_with app viewer t labels) live)) two lines
+          subst (λ (t : State). AreAllowed app (worlds_of t) viewer labels → text ≡ whys_text app.models labels (all_whys (context_with app viewer t labels) live)) two lines
           settled_now.allowed;
     }
 
 -- a `why` that was halted as it began
-module _ (files : Span FilesSeen) (out audit later : SinkSeen) (keeper : Span KeeperSeen) (explaining : Explaining) (ending : Ending) where
+module _ (files : Span FilesSeen) (out audit later : SinkSeen) (keeper : Span KeeperSeen) (explaining : WhyArgs) (exit_reason : ExitReason) where
   why_barred : (app : Application) (sessions : List Session) (events : List ℕ) → AreFilesRead (commands.Why explaining) files app sessions events
-      → IsStoppedAiming (commands.Why explaining) (span audit later) keeper ending ⊎ IsBarred (commands.Why explaining) app (span audit later) keeper ending
-      → WentAimed (sinks out out audit later) (EndsExplain (sight_of files (span out out) (span audit later) keeper) (commands.Why explaining) (Err ending))
+      → IsStoppedAiming (commands.Why explaining) (span audit later) keeper exit_reason ⊎ IsBarred (commands.Why explaining) app (span audit later) keeper exit_reason
+      → WentAimed (sinks out out audit later) (EndsExplain (sight_of files (span out out) (span audit later) keeper) (commands.Why explaining) (Err exit_reason))
   why_barred app sessions events read (inl stopped) = absurd stopped.aims
   why_barred app sessions events read (inr barred) =
       idle_behind out audit later _ barred.aims
@@ -95,19 +95,19 @@ module _ (files : Span FilesSeen) (out audit later : SinkSeen) (keeper : Span Ke
         application = application_read (commands.Why explaining) files (span out out) (span audit later) keeper app sessions events read;
         no_audit = refl;
         unaimed = λ told. ap (λ (s : SinkSeen). s.aims) barred.aims;
-        ends = inl (record { ending = ending; ended = refl; attaches = barred.attaches; no_out = refl });
+        ends = inl (record { exit_reason = exit_reason; ended = refl; attaches = barred.attaches; no_out = refl });
       }))
 
-  pub why_halted : IsHalted (commands.Why explaining) files (span audit later) keeper ending
-      → WentAimed (sinks out out audit later) (EndsExplain (sight_of files (span out out) (span audit later) keeper) (commands.Why explaining) (Err ending))
+  pub why_halted : IsHalted (commands.Why explaining) files (span audit later) keeper exit_reason
+      → WentAimed (sinks out out audit later) (EndsExplain (sight_of files (span out out) (span audit later) keeper) (commands.Why explaining) (Err exit_reason))
   why_halted (inl early) =
       idle_behind out audit later _ early.uncalled
       (inl (early.ends (span out out) (span audit later) keeper, idle_with (span audit later) keeper early.uncalled early.still))
   why_halted (inr behind) = why_barred behind.app behind.sessions behind.events behind.read behind.halts
 
 -- one that began, and then asked its store
-pub why_ended : (files : Span FilesSeen) (out_before out_after audit later : SinkSeen) (before opened after : KeeperSeen) (explaining : Explaining)
-    (app : Application) (sessions : List Session) (events : List ℕ) (result : Result (Unit {0}) Ending)
+pub why_ended : (files : Span FilesSeen) (out_before out_after audit later : SinkSeen) (before opened after : KeeperSeen) (explaining : WhyArgs)
+    (app : Application) (sessions : List Session) (events : List ℕ) (result : Result (Unit {0}) ExitReason)
     → HasBegun (commands.Why explaining) files (span audit later) (span before opened) app sessions events → IsLeft opened after
     → Closed (span out_before out_after) (EndsExplained app (asker_of app explaining.viewer) (span out_before out_after) (span opened after) result)
     → WentAimed (sinks out_before out_after audit later) (EndsExplain (sight_of files (span out_before out_after) (span audit later) (span before after)) (commands.Why explaining) result)

@@ -15,21 +15,21 @@ use Rattle.jac_rows.specs.Good.{ModelShape}
 use Rattle.jac_rows.specs.Project.{project_at}
 use Rattle.jac_rows.specs.declared.state.State.{State}
 use Rattle.jac_keep.specs.KeeperSeen.{KeeperSeen, Store, IsLeft}
-use Rattle.jac_keep.specs.Kept.{changed_state}
+use Rattle.jac_keep.specs.ChangedState.{changed_state}
 use Rattle.jac_keep.specs.Reshaping.{widened_state, Reshapes}
 use Rattle.jac_keep.specs.Schema.{IsSchema, IsFit}
 use Rattle.jac_keep.specs.declared.alteration.Alteration.{Alteration}
 use Rattle.jac_keep.specs.declared.alteration.Change.{Change}
 use Rattle.jac_keep.specs.declared.stop.Stop.{Stop}
-use Rattle.jac_opening.specs.Application.{schema_text}
+use Rattle.jac_app_load.specs.Application.{schema_text}
 use Rattle.jac_upgrade.specs.Changed.{AreIdsOf, changed_ids}
 use Rattle.jac_upgrade.specs.Upgraded.{upgraded_state}
 use Rattle.jac_admin.specs.Upgrade.{IsUpgraded}
 use Rattle.jac_admin.proofs.DumpLemmas.{left_then}
-use Rattle.jac_serving.specs.Outside.{span}
-use Rattle.jac_ending.specs.declared.ending.Ending.{Ending}
-use Rattle.jac_ending.specs.declared.ending.Ending.TheVariants as endings
-use Rattle.jac_ending.specs.Attached.{AttachesAs}
+use Rattle.jac_serve_events.specs.Outside.{span}
+use Rattle.jac_command_base.specs.declared.exit_reason.ExitReason.{ExitReason}
+use Rattle.jac_command_base.specs.declared.exit_reason.ExitReason.TheVariants as exits
+use Rattle.jac_command_base.specs.Attached.{AttachesAs}
 
 pub fields_found : (ms : List ModelDef) (i : ℕ) (m : ModelDef) → m ≡ get_or ms i m → i < length ms → m.fields ≡ fields_at (entities_of ms) i
 fields_found ms i m item below = fields-there ms i m (slice_get_read ms (length ms) i m refl below item)
@@ -48,13 +48,13 @@ pub field_missing : (fs : List Field) (i : ℕ) → length fs ≤ i → [] ≡ f
 field_missing fs i past = rw (slice_get_past fs i past) refl
 
 -- the ending of a refusal, as a result
-pub lacking_told : (ending : Ending) (line : List ℕ) → (ending ≡ endings.UpgradeRefused line) ⊎ (ending ≡ endings.Memory)
-    → (◌≡◌ {A = Result (Unit {0}) Ending} (Err ending) (Err (endings.UpgradeRefused line))) ⊎ (◌≡◌ {A = Result (Unit {0}) Ending} (Err ending) (Err endings.Memory))
-lacking_told ending line (inl told) = inl (ap (λ (e : Ending). Err e) told)
-lacking_told ending line (inr memory) = inr (ap (λ (e : Ending). Err e) memory)
+pub lacking_told : (exit_reason : ExitReason) (line : List ℕ) → (exit_reason ≡ exits.UpgradeRefused line) ⊎ (exit_reason ≡ exits.Memory)
+    → (◌≡◌ {A = Result (Unit {0}) ExitReason} (Err exit_reason) (Err (exits.UpgradeRefused line))) ⊎ (◌≡◌ {A = Result (Unit {0}) ExitReason} (Err exit_reason) (Err exits.Memory))
+lacking_told exit_reason line (inl told) = inl (ap (λ (e : ExitReason). Err e) told)
+lacking_told exit_reason line (inr memory) = inr (ap (λ (e : ExitReason). Err e) memory)
 
 -- memory ran out before a store was attached
-pub unattached_still : (db : Option (List ℕ)) (app : Application) (k : KeeperSeen) → AttachesAs db app (span k k) (Err endings.Memory)
+pub unattached_still : (db : Option (List ℕ)) (app : Application) (k : KeeperSeen) → AttachesAs db app (span k k) (Err exits.Memory)
 unattached_still db app k = record {
   no_out = refl;
   no_audit = refl;

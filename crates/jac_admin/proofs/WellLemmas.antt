@@ -9,7 +9,7 @@ use Rattle.jac_check.specs.Well.{is_well}
 use Rattle.jac_check.specs.declared.fault.CheckFault.{CheckFault}
 use Rattle.jac_check.proofs.Well.{well_where_none}
 use Rattle.jac_route.specs.Routes.{Table, table_of}
-use Rattle.jac_opening.specs.Application.{Opened, opened_routed, opened_checked, OpensExpanded, OpensForm, IsApplication}
+use Rattle.jac_app_load.specs.Application.{Opened, opened_routed, opened_checked, OpensExpanded, OpensForm, IsApplication}
 
 routed : (routes : Result Table ℕ) (x app : Application) → Opened.application app ≡ opened_routed routes x → app ≡ x
 routed (Ok routes) x app h = cc

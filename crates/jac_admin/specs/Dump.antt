@@ -14,17 +14,17 @@ use Rattle.jac_rows.specs.declared.plain.PlainState.{PlainState}
 use Rattle.jac_rows.specs.Tables.{rows_of}
 use Rattle.jac_rows.specs.Project.{project_at}
 use Rattle.jac_keep.specs.KeeperSeen.{KeeperSeen, IsLeft}
-use Rattle.jac_words.specs.declared.words.Command.{Command}
-use Rattle.jac_words.specs.declared.words.Command.TheVariants as commands
-use Rattle.jac_ending.specs.declared.ending.Ending.{Ending}
-use Rattle.jac_ending.specs.declared.ending.Ending.TheVariants as endings
-use Rattle.jac_serving.specs.Outside.{Span, span}
-use Rattle.jac_words.specs.Commands.{db_of}
-use Rattle.jac_ending.specs.Files.{Sight, HasApplication}
-use Rattle.jac_ending.specs.Ending.{PutsText}
-use Rattle.jac_opening.specs.Application.{schema_text}
-use Rattle.jac_ending.specs.Attached.{IsAttached, IsUnattached, IsOther}
-use Rattle.jac_ending.specs.Early.{IsEndedEarly}
+use Rattle.jac_cli.specs.declared.words.Command.{Command}
+use Rattle.jac_cli.specs.declared.words.Command.TheVariants as commands
+use Rattle.jac_command_base.specs.declared.exit_reason.ExitReason.{ExitReason}
+use Rattle.jac_command_base.specs.declared.exit_reason.ExitReason.TheVariants as exits
+use Rattle.jac_serve_events.specs.Outside.{Span, span}
+use Rattle.jac_cli.specs.Commands.{db_of}
+use Rattle.jac_command_base.specs.Files.{Sight, HasApplication}
+use Rattle.jac_command_base.specs.ExitReason.{PutsText}
+use Rattle.jac_app_load.specs.Application.{schema_text}
+use Rattle.jac_command_base.specs.Attached.{IsAttached, IsUnattached, IsOther}
+use Rattle.jac_command_base.specs.Early.{IsEndedEarly}
 
 -- ---- the text
 
@@ -78,7 +78,7 @@ IsDumpOf app w k text = IsTrue k.tells → text ≡ dump_text app (project_at w 
 
 -- the text of what the store tells was put, or the front of it
 pub record IsPrinted (app : Application) (w : ℕ → Bool) (out : Span SinkSeen) (k : KeeperSeen)
-    (result : Result (Unit {0}) Ending) (put : List ℕ) : Type 0 where
+    (result : Result (Unit {0}) ExitReason) (put : List ℕ) : Type 0 where
   pub text : List ℕ
   pub told : IsDumpOf app w k text
   pub puts : PutsText out text result put
@@ -86,14 +86,14 @@ pub record IsPrinted (app : Application) (w : ℕ → Bool) (out : Span SinkSeen
 -- an attached store was read: nothing was put where that failed or memory ran out, and else its
 -- text
 abbrev pub EndsRead : Application → (ℕ → Bool) → Span SinkSeen → Span KeeperSeen
-    → Result (Unit {0}) Ending → List ℕ → Type 0
-EndsRead app w out k (Err endings.StoreFault) put = (put ≡ []) × Rose k.before.faults k.after.faults
-EndsRead app w out k (Err endings.Memory) put = put ≡ []
+    → Result (Unit {0}) ExitReason → List ℕ → Type 0
+EndsRead app w out k (Err exits.StoreFault) put = (put ≡ []) × Rose k.before.faults k.after.faults
+EndsRead app w out k (Err exits.Memory) put = put ≡ []
 EndsRead app w out k result put = IsPrinted app w out k.after result put
 
 -- a store was attached and read, which left it as it was
 pub record IsDumped (db : Option (List ℕ)) (app : Application) (w : ℕ → Bool) (out : Span SinkSeen)
-    (k : Span KeeperSeen) (result : Result (Unit {0}) Ending) (put : List ℕ) : Type 0 where
+    (k : Span KeeperSeen) (result : Result (Unit {0}) ExitReason) (put : List ℕ) : Type 0 where
   pub opened : KeeperSeen
   pub attached : IsAttached db app k opened
   pub left : IsLeft opened k.after
@@ -101,18 +101,18 @@ pub record IsDumped (db : Option (List ℕ)) (app : Application) (w : ℕ → Bo
 
 -- how the steps from the attaching on end
 abbrev pub EndsDumping : Option (List ℕ) → Application → (ℕ → Bool) → Span SinkSeen
-    → Span KeeperSeen → Result (Unit {0}) Ending → List ℕ → Type 0
-EndsDumping db app w out k (Err endings.StoreFault) put =
+    → Span KeeperSeen → Result (Unit {0}) ExitReason → List ℕ → Type 0
+EndsDumping db app w out k (Err exits.StoreFault) put =
     Rose k.before.faults k.after.faults
-    × (IsUnattached k put [] ⊎ IsDumped db app w out k (Err endings.StoreFault) put)
-EndsDumping db app w out k (Err (endings.OtherStore stored wanted)) put = (wanted ≡ schema_text app)
+    × (IsUnattached k put [] ⊎ IsDumped db app w out k (Err exits.StoreFault) put)
+EndsDumping db app w out k (Err (exits.OtherStore stored wanted)) put = (wanted ≡ schema_text app)
     × IsOther k stored wanted × IsUnattached k put []
-EndsDumping db app w out k (Err endings.Memory) put = IsUnattached k put []
-    ⊎ IsDumped db app w out k (Err endings.Memory) put
+EndsDumping db app w out k (Err exits.Memory) put = IsUnattached k put []
+    ⊎ IsDumped db app w out k (Err exits.Memory) put
 EndsDumping db app w out k result put = IsDumped db app w out k result put
 
 -- the application was read, and its store was dumped; the audit was left alone
-pub record IsDumping (seen : Sight) (command : Command) (result : Result (Unit {0}) Ending)
+pub record IsDumping (seen : Sight) (command : Command) (result : Result (Unit {0}) ExitReason)
     (out_bytes audit_bytes : List ℕ) : Type 0 where
   pub app : Application
   pub application : HasApplication seen command app
@@ -123,6 +123,6 @@ pub record IsDumping (seen : Sight) (command : Command) (result : Result (Unit {
       out_bytes
 
 -- what the steps of a dump put, and why they ended
-abbrev pub EndsDump : Sight → Command → Result (Unit {0}) Ending → List ℕ → List ℕ → Type 0
+abbrev pub EndsDump : Sight → Command → Result (Unit {0}) ExitReason → List ℕ → List ℕ → Type 0
 EndsDump seen command result out audit = IsEndedEarly seen command result out audit
     ⊎ IsDumping seen command result out audit

@@ -12,20 +12,20 @@ use Rattle.jac_keep.specs.KeeperSeen.{KeeperSeen, IsLeft}
 use Rattle.jac_resolve.specs.Rounds.{AreLive}
 use Rattle.jac_replies.specs.Spelled.{labels_text}
 use Rattle.jac_route.specs.Parameters.{viewer_of}
-use Rattle.jac_words.specs.declared.words.Command.{Command}
-use Rattle.jac_words.specs.declared.words.Command.TheVariants as commands
-use Rattle.jac_words.specs.Commands.{db_of}
-use Rattle.jac_serving.specs.Outside.{Span, span}
+use Rattle.jac_cli.specs.declared.words.Command.{Command}
+use Rattle.jac_cli.specs.declared.words.Command.TheVariants as commands
+use Rattle.jac_cli.specs.Commands.{db_of}
+use Rattle.jac_serve_events.specs.Outside.{Span, span}
 use Rattle.jac_why.specs.declared.reasons.Explanation.{Explanation}
 use Rattle.jac_why.specs.declared.reasons.Reason.{Reason}
 use Rattle.jac_why.specs.Named.{as_reason}
-use Rattle.jac_why.specs.Scene.{PlainScene}
+use Rattle.jac_why.specs.Context.{PlainContext}
 use Rattle.jac_why.specs.Whys.{all_whys}
-use Rattle.jac_ending.specs.declared.ending.Ending.{Ending}
-use Rattle.jac_ending.specs.Attached.{AttachesAs}
-use Rattle.jac_ending.specs.Early.{IsEndedEarly}
-use Rattle.jac_ending.specs.Ending.{PutsText}
-use Rattle.jac_ending.specs.Files.{Sight, HasApplication}
+use Rattle.jac_command_base.specs.declared.exit_reason.ExitReason.{ExitReason}
+use Rattle.jac_command_base.specs.Attached.{AttachesAs}
+use Rattle.jac_command_base.specs.Early.{IsEndedEarly}
+use Rattle.jac_command_base.specs.ExitReason.{PutsText}
+use Rattle.jac_command_base.specs.Files.{Sight, HasApplication}
 use Rattle.jac_admin.specs.Upgrade.{IsStoreUnmoved, IsKept}
 use Rattle.jac_plain.specs.Shown.{worlds_of}
 
@@ -56,8 +56,8 @@ abbrev pub whys_text : List Entity → List ℕ → List Explanation → List �
 whys_text models labels es = shown_line labels ++ why_lines models es
 
 -- the labels with the worlds of a state
-abbrev pub scene_with : Application → Option ℕ → State → List ℕ → PlainScene
-scene_with app viewer s labels = record {
+abbrev pub context_with : Application → Option ℕ → State → List ℕ → PlainContext
+context_with app viewer s labels = record {
   app = app;
   worlds = worlds_of s;
   viewer = viewer;
@@ -73,7 +73,8 @@ pub record IsExplanation (app : Application) (viewer : Option ℕ) (s : State) (
   pub settled : IsSettled app (worlds_of s) viewer labels
   pub ascending : IsAscending live
   pub are_live : AreLive app (worlds_of s) live
-  pub is_text : text ≡ whys_text app.models labels (all_whys (scene_with app viewer s labels) live)
+  pub is_text : text ≡ whys_text app.models labels (all_whys (context_with app viewer s labels)
+      live)
 
 -- ---- the steps
 
@@ -88,7 +89,7 @@ asker_in command app = None
 -- the text of what the store tells was put, or the front of it
 pub record IsTextExplained (app : Application) (viewer : Option ℕ) (out : Span SinkSeen)
     (k : KeeperSeen)
-    (result : Result (Unit {0}) Ending) (put : List ℕ) : Type 0 where
+    (result : Result (Unit {0}) ExitReason) (put : List ℕ) : Type 0 where
   pub text : List ℕ
   pub explains : IsTrue k.tells → IsExplanation app viewer k.state text
   pub puts : PutsText out text result put
@@ -96,13 +97,14 @@ pub record IsTextExplained (app : Application) (viewer : Option ℕ) (out : Span
 -- an attached store was read: nothing was put where that failed or memory ran out, and else its
 -- text
 abbrev pub EndsExplained : Application → Option ℕ → Span SinkSeen → Span KeeperSeen
-    → Result (Unit {0}) Ending → List ℕ → Type 0
+    → Result (Unit {0}) ExitReason → List ℕ → Type 0
 EndsExplained app viewer out k result put =
     IsTextExplained app viewer out k.after result put ⊎ IsKept k result put
 
 -- a store was attached and read, which left it as it was
 pub record IsExplained (db : Option (List ℕ)) (app : Application) (viewer : Option ℕ)
-    (out : Span SinkSeen) (k : Span KeeperSeen) (result : Result (Unit {0}) Ending) (put : List ℕ)
+    (out : Span SinkSeen) (k : Span KeeperSeen) (result : Result (Unit {0}) ExitReason)
+    (put : List ℕ)
     : Type 0 where
   pub opened : KeeperSeen
   pub attached : AttachesAs db app (span k.before opened) (Ok tt)
@@ -111,12 +113,12 @@ pub record IsExplained (db : Option (List ℕ)) (app : Application) (viewer : Op
 
 -- how the steps from the attaching on end
 abbrev pub EndsExplaining : Option (List ℕ) → Application → Option ℕ → Span SinkSeen
-    → Span KeeperSeen → Result (Unit {0}) Ending → List ℕ → Type 0
+    → Span KeeperSeen → Result (Unit {0}) ExitReason → List ℕ → Type 0
 EndsExplaining db app viewer out k result put =
     IsStoreUnmoved db app k result put ⊎ IsExplained db app viewer out k result put
 
 -- the application was read, and its store was asked; the audit was left alone
-pub record IsExplaining (seen : Sight) (command : Command) (result : Result (Unit {0}) Ending)
+pub record IsExplaining (seen : Sight) (command : Command) (result : Result (Unit {0}) ExitReason)
     (out_bytes audit_bytes : List ℕ) : Type 0 where
   pub app : Application
   pub application : HasApplication seen command app
@@ -127,6 +129,6 @@ pub record IsExplaining (seen : Sight) (command : Command) (result : Result (Uni
       out_bytes
 
 -- what the steps of a `why` put, and why they ended
-abbrev pub EndsExplain : Sight → Command → Result (Unit {0}) Ending → List ℕ → List ℕ → Type 0
+abbrev pub EndsExplain : Sight → Command → Result (Unit {0}) ExitReason → List ℕ → List ℕ → Type 0
 EndsExplain seen command result out audit =
     IsEndedEarly seen command result out audit ⊎ IsExplaining seen command result out audit

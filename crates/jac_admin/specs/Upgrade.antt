@@ -10,22 +10,22 @@ use Rattle.jac_plain.specs.Models.{shapes_of}
 use Rattle.jac_plain.specs.Records.{name_in as field_name_in}
 use Rattle.jac_keep.specs.KeeperSeen.{KeeperSeen, IsLeft}
 use Rattle.jac_keep.specs.Schema.{IsFit}
-use Rattle.jac_opening.specs.Application.{schema_text}
-use Rattle.jac_words.specs.declared.words.Command.{Command}
-use Rattle.jac_words.specs.Commands.{db_of}
-use Rattle.jac_serving.specs.Keeping.{IsStill}
-use Rattle.jac_serving.specs.Outside.{Span, span}
+use Rattle.jac_app_load.specs.Application.{schema_text}
+use Rattle.jac_cli.specs.declared.words.Command.{Command}
+use Rattle.jac_cli.specs.Commands.{db_of}
+use Rattle.jac_serve_events.specs.RunSeen.{IsStill}
+use Rattle.jac_serve_events.specs.Outside.{Span, span}
 use Rattle.jac_upgrade.specs.Changed.{AreIdsOf}
 use Rattle.jac_upgrade.specs.Extends.{models_lack}
 use Rattle.jac_upgrade.specs.Upgraded.{upgraded_state}
 use Rattle.jac_upgrade.specs.declared.fault.UpgradeFault.{UpgradeFault}
 use Rattle.jac_upgrade.specs.declared.fault.UpgradeFault.TheVariants as lacks
-use Rattle.jac_ending.specs.declared.ending.Ending.{Ending}
-use Rattle.jac_ending.specs.declared.ending.Ending.TheVariants as endings
-use Rattle.jac_ending.specs.Attached.{AttachesAs}
-use Rattle.jac_ending.specs.Early.{IsEndedEarly}
-use Rattle.jac_ending.specs.Ending.{PutsText}
-use Rattle.jac_ending.specs.Files.{Sight, HasApplication, HasNext}
+use Rattle.jac_command_base.specs.declared.exit_reason.ExitReason.{ExitReason}
+use Rattle.jac_command_base.specs.declared.exit_reason.ExitReason.TheVariants as exits
+use Rattle.jac_command_base.specs.Attached.{AttachesAs}
+use Rattle.jac_command_base.specs.Early.{IsEndedEarly}
+use Rattle.jac_command_base.specs.ExitReason.{PutsText}
+use Rattle.jac_command_base.specs.Files.{Sight, HasApplication, HasNext}
 
 -- ---- the lines
 
@@ -51,21 +51,21 @@ upgraded_line n = codes "upgraded " ++ (decimal n ++ codes " records\n")
 -- the second application doesn't extend the first: the first part that it lacks, or has
 -- otherwise, is told, or memory ran out; the store was not called
 pub record IsLacking (old new : Application) (k : Span KeeperSeen)
-    (result : Result (Unit {0}) Ending) (put : List ℕ) : Type 0 where
+    (result : Result (Unit {0}) ExitReason) (put : List ℕ) : Type 0 where
   pub fault : UpgradeFault
   pub lacks : models_lack 0 old.models new.models ≡ Some fault
   pub told :
-      (result ≡ Err (endings.UpgradeRefused (lack_line old.models fault)))
-      ⊎ (result ≡ Err endings.Memory)
+      (result ≡ Err (exits.UpgradeRefused (lack_line old.models fault)))
+      ⊎ (result ≡ Err exits.Memory)
   pub no_out : put ≡ []
   pub still : IsStill k
 
 -- the store was not attached for the first application, and is as it was
 pub record IsStoreUnmoved (db : Option (List ℕ)) (old : Application) (k : Span KeeperSeen)
-    (result : Result (Unit {0}) Ending) (put : List ℕ) : Type 0 where
-  pub ending : Ending
-  pub ended : result ≡ Err ending
-  pub attaches : AttachesAs db old k (Err ending)
+    (result : Result (Unit {0}) ExitReason) (put : List ℕ) : Type 0 where
+  pub exit_reason : ExitReason
+  pub ended : result ≡ Err exit_reason
+  pub attaches : AttachesAs db old k (Err exit_reason)
   pub no_out : put ≡ []
 
 -- so many records were brought to the second application, under which they are stored from now
@@ -84,50 +84,50 @@ pub record IsUpgraded (old new : Application) (k : Span KeeperSeen) (count : ℕ
 
 -- they were, and how many there are was put, or the front of it
 pub record IsReported (old new : Application) (out : Span SinkSeen) (k : Span KeeperSeen)
-    (result : Result (Unit {0}) Ending) (put : List ℕ) : Type 0 where
+    (result : Result (Unit {0}) ExitReason) (put : List ℕ) : Type 0 where
   pub count : ℕ
   pub upgraded : IsUpgraded old new k count
   pub puts : PutsText out (upgraded_line count) result put
 
 -- a read of the store or its change failed, or memory ran out: its rows, its number and its schema
 -- are as they were
-pub record IsKept (k : Span KeeperSeen) (result : Result (Unit {0}) Ending) (put : List ℕ)
+pub record IsKept (k : Span KeeperSeen) (result : Result (Unit {0}) ExitReason) (put : List ℕ)
     : Type 0 where
   pub left : IsLeft k.before k.after
   pub ended :
-      ((result ≡ Err endings.StoreFault) × Rose k.before.faults k.after.faults)
-      ⊎ (result ≡ Err endings.Memory)
+      ((result ≡ Err exits.StoreFault) × Rose k.before.faults k.after.faults)
+      ⊎ (result ≡ Err exits.Memory)
   pub no_out : put ≡ []
 
 -- an attached store was brought to the second application, all or nothing
 abbrev pub EndsReshaping : Application → Application → Span SinkSeen → Span KeeperSeen
-    → Result (Unit {0}) Ending → List ℕ → Type 0
+    → Result (Unit {0}) ExitReason → List ℕ → Type 0
 EndsReshaping old new out k result put =
     IsReported old new out k result put ⊎ IsKept k result put
 
 -- a store was attached for the first application, and then brought to the second
 pub record IsMoved (db : Option (List ℕ)) (old new : Application) (out : Span SinkSeen)
-    (k : Span KeeperSeen) (result : Result (Unit {0}) Ending) (put : List ℕ) : Type 0 where
+    (k : Span KeeperSeen) (result : Result (Unit {0}) ExitReason) (put : List ℕ) : Type 0 where
   pub opened : KeeperSeen
   pub attached : AttachesAs db old (span k.before opened) (Ok tt)
   pub ends : EndsReshaping old new out (span opened k.after) result put
 
 -- how the steps from the attaching on end
 abbrev pub EndsMoving : Option (List ℕ) → Application → Application → Span SinkSeen
-    → Span KeeperSeen → Result (Unit {0}) Ending → List ℕ → Type 0
+    → Span KeeperSeen → Result (Unit {0}) ExitReason → List ℕ → Type 0
 EndsMoving db old new out k result put =
     IsStoreUnmoved db old k result put ⊎ IsMoved db old new out k result put
 
--- how the steps behind both files end: the store is attached where the second application extends
+-- how the steps after both files end: the store is attached where the second application extends
 -- the first
 abbrev pub EndsUpgrading : Option (List ℕ) → Application → Application → Span SinkSeen
-    → Span KeeperSeen → Result (Unit {0}) Ending → List ℕ → Type 0
+    → Span KeeperSeen → Result (Unit {0}) ExitReason → List ℕ → Type 0
 EndsUpgrading db old new out k result put =
     IsLacking old new k result put
     ⊎ ((models_lack 0 old.models new.models ≡ None) × EndsMoving db old new out k result put)
 
 -- both applications were read; the audit was left alone
-pub record IsUpgrading (seen : Sight) (command : Command) (result : Result (Unit {0}) Ending)
+pub record IsUpgrading (seen : Sight) (command : Command) (result : Result (Unit {0}) ExitReason)
     (out_bytes audit_bytes : List ℕ) : Type 0 where
   pub old : Application
   pub new : Application
@@ -138,6 +138,6 @@ pub record IsUpgrading (seen : Sight) (command : Command) (result : Result (Unit
   pub ends : EndsUpgrading (db_of command) old new seen.out seen.keeper result out_bytes
 
 -- what the steps of an upgrade put, and why they ended
-abbrev pub EndsUpgrade : Sight → Command → Result (Unit {0}) Ending → List ℕ → List ℕ → Type 0
+abbrev pub EndsUpgrade : Sight → Command → Result (Unit {0}) ExitReason → List ℕ → List ℕ → Type 0
 EndsUpgrade seen command result out audit =
     IsEndedEarly seen command result out audit ⊎ IsUpgrading seen command result out audit

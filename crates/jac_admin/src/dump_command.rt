@@ -7,22 +7,22 @@ ghost use Rattle.jac_rows.specs.Project.{rows_at, project_at};
 ghost use Rattle.jac_rows.specs.Tables.{rows_of};
 ghost use Rattle.jac_keep.specs.KeeperSeen.{IsLeft};
 ghost use Rattle.jac_keep.specs.declared.stop.Stop.TheVariants.{Keeper as Failing};
-ghost use Rattle.jac_words.specs.declared.words.Command.TheVariants as commands;
-ghost use Rattle.jac_serving.specs.Outside.{WentAimed, span, sinks};
-ghost use Rattle.jac_ending.specs.Files.{sight};
-ghost use Rattle.jac_ending.specs.Ending.{Closed};
+ghost use Rattle.jac_cli.specs.declared.words.Command.TheVariants as commands;
+ghost use Rattle.jac_serve_events.specs.Outside.{WentAimed, span, sinks};
+ghost use Rattle.jac_command_base.specs.Files.{sight};
+ghost use Rattle.jac_command_base.specs.ExitReason.{Closed};
 ghost use Rattle.jac_admin.specs.Dump.{cell_text, cells_text, record_line, table_text, tables_text, number_line, dump_text, EndsRead, EndsDump};
 
 use itoa::Buffer;
-use jac_ending::{Ending, Opening, open_store};
+use jac_app_load::Service;
+use jac_cli::DumpArgs;
+use jac_command_base::{ExitReason, StoreCommand, open_store};
 use jac_io::{AuditSink, Failed, Files, Sink};
 use jac_keep::{Stop, Vault};
 use jac_lang::{App, Field, ModelDef};
-use jac_opening::Service;
 use jac_rows::Row;
-use jac_serving::put;
+use jac_serve_events::put;
 use jac_value::{Bytes, Memory, Value, escape_line};
-use jac_words::Dumping;
 use jac_world::Assignment;
 use std::alloc::Global;
 
@@ -30,12 +30,12 @@ use std::alloc::Global;
 /// the labels are shown.
 pub fn dump<F: Files, O: Sink, U: AuditSink, K: Vault>(
     alloc: Global,
-    command: &Dumping,
+    command: &DumpArgs,
     files: &mut F,
     out: &mut O,
     audit: &mut U,
     vault: &mut K,
-) -> Result<(), Ending>
+) -> Result<(), ExitReason>
     requires first { (K.seen vault.old).store.called ≡ false }
     ensures { WentAimed (sinks (O.seen out.old) (O.seen out.new) (U.seen audit.old)
         (U.seen audit.new))
@@ -45,11 +45,11 @@ pub fn dump<F: Files, O: Sink, U: AuditSink, K: Vault>(
 {
     let assignment = match command.labels.assignment(alloc) {
         Ok(assignment) => assignment,
-        Err(Memory) => return Err(Ending::Memory),
+        Err(Memory) => return Err(ExitReason::Memory),
     };
-    let opened = match open_store(alloc, Opening::Dump(command), files, audit, vault) {
+    let opened = match open_store(alloc, StoreCommand::Dump(command), files, audit, vault) {
         Ok(opened) => opened,
-        Err(ending) => return Err(ending),
+        Err(exit_reason) => return Err(exit_reason),
     };
     dump_attached(alloc, &opened.service, &assignment, out, vault)
 }
@@ -61,7 +61,7 @@ fn dump_attached<O: Sink, K: Vault>(
     assignment: &Assignment,
     out: &mut O,
     vault: &mut K,
-) -> Result<(), Ending>
+) -> Result<(), ExitReason>
     requires attached { IsTrue (K.seen vault.old).store.attached }
     ensures left { IsLeft (K.seen vault.old) (K.seen vault.new) }
     ensures ends { Closed (span (O.seen out.old) (O.seen out.new))
@@ -72,10 +72,10 @@ fn dump_attached<O: Sink, K: Vault>(
     match state_text(alloc, service.app(), assignment, vault) {
         Ok(text) => match put(out, text.as_slice()) {
             Ok(()) => Ok(()),
-            Err(Failed) => Err(Ending::WriteFault),
+            Err(Failed) => Err(ExitReason::WriteFault),
         },
-        Err(Stop::Keeper) => Err(Ending::StoreFault),
-        Err(Stop::Memory) => Err(Ending::Memory),
+        Err(Stop::Keeper) => Err(ExitReason::StoreFault),
+        Err(Stop::Memory) => Err(ExitReason::Memory),
     }
 }
 

@@ -5,31 +5,31 @@ ghost use Rattle.jac_io.specs.Faults.{Rose};
 ghost use Rattle.jac_lang.specs.Mirror.{application_of, entities_of};
 ghost use Rattle.jac_check.specs.Causes.{entity_name};
 ghost use Rattle.jac_keep.specs.KeeperSeen.{IsLeft};
-ghost use Rattle.jac_keep.specs.Worked.{state_of, IsTold, ReadsWork};
+ghost use Rattle.jac_keep.specs.WorkState.{state_of, IsTold, ReadsWork};
 ghost use Rattle.jac_keep.specs.declared.stop.Stop.TheVariants.{Keeper as Failing};
 ghost use Rattle.jac_plain.specs.Policies.{AreAllowed};
 ghost use Rattle.jac_resolve.specs.Rounds.{HasSoundTables};
 ghost use Rattle.jac_replies.specs.Spelled.{labels_text, more_labels};
-ghost use Rattle.jac_words.specs.declared.words.Command.TheVariants as commands;
-ghost use Rattle.jac_serving.specs.Outside.{IsPut, WentAimed, span, sinks};
-ghost use Rattle.jac_why.specs.Scene.{scene_on};
+ghost use Rattle.jac_cli.specs.declared.words.Command.TheVariants as commands;
+ghost use Rattle.jac_serve_events.specs.Outside.{IsPut, WentAimed, span, sinks};
+ghost use Rattle.jac_why.specs.Context.{context_on};
 ghost use Rattle.jac_why.specs.Whys.{all_whys, is_standing};
-ghost use Rattle.jac_ending.specs.Files.{sight};
-ghost use Rattle.jac_ending.specs.Ending.{Closed};
-ghost use Rattle.jac_admin.specs.Explain.{asker_of, shown_line, reason_text, why_line, why_lines, whys_text, scene_with, IsExplanation, EndsExplained, EndsExplain};
+ghost use Rattle.jac_command_base.specs.Files.{sight};
+ghost use Rattle.jac_command_base.specs.ExitReason.{Closed};
+ghost use Rattle.jac_admin.specs.Explain.{asker_of, shown_line, reason_text, why_line, why_lines, whys_text, context_with, IsExplanation, EndsExplained, EndsExplain};
 ghost use Rattle.jac_plain.specs.Shown.{worlds_of};
 
 use itoa::Buffer;
-use jac_ending::{Ending, Opening, open_store};
+use jac_cli::WhyArgs;
+use jac_command_base::{ExitReason, StoreCommand, open_store};
 use jac_io::{AuditSink, Failed, Files, Sink};
 use jac_keep::{Keeper, Stop, Vault, Work};
 use jac_lang::{App, ModelDef};
 use jac_resolve::{live_labels, resolve};
 use jac_route::viewer_id;
-use jac_serving::put;
+use jac_serve_events::put;
 use jac_value::{Bytes, Id, Memory};
-use jac_why::{Explanation, Reason, Scene, check_reason, whys};
-use jac_words::Explaining;
+use jac_why::{Explanation, Reason, ViewerContext, check_reason, whys};
 use jac_world::{Assignment, Label, Steps};
 use std::alloc::Global;
 use std::sync::ledger::Ledger;
@@ -39,13 +39,13 @@ use std::sync::ledger::Ledger;
 /// once more before its line is made.
 pub fn explain<F: Files, O: Sink, U: AuditSink, K: Vault, M: Ledger>(
     alloc: Global,
-    command: &Explaining,
+    command: &WhyArgs,
     files: &mut F,
     out: &mut O,
     audit: &mut U,
     vault: &mut K,
     evaluations: &mut Steps<M>,
-) -> Result<(), Ending>
+) -> Result<(), ExitReason>
     requires first { (K.seen vault.old).store.called ≡ false }
     ensures { WentAimed
         (sinks (O.seen out.old) (O.seen out.new) (U.seen audit.old) (U.seen audit.new))
@@ -54,9 +54,9 @@ pub fn explain<F: Files, O: Sink, U: AuditSink, K: Vault, M: Ledger>(
         (U.seen audit.old) (U.seen audit.new) (K.seen vault.old) (K.seen vault.new))
         (commands.Why command.now) result) }
 {
-    let opened = match open_store(alloc, Opening::Why(command), files, audit, vault) {
+    let opened = match open_store(alloc, StoreCommand::Why(command), files, audit, vault) {
         Ok(opened) => opened,
-        Err(ending) => return Err(ending),
+        Err(exit_reason) => return Err(exit_reason),
     };
     explain_attached(
         alloc,
@@ -86,7 +86,7 @@ fn explain_attached<O: Sink, K: Vault, M: Ledger>(
     out: &mut O,
     vault: &mut K,
     evaluations: &mut Steps<M>,
-) -> Result<(), Ending>
+) -> Result<(), ExitReason>
     requires attached { IsTrue (K.seen vault.old).store.attached }
     requires sound { IsTrue (K.seen vault.old).tells → HasSoundTables (K.seen vault.old).state }
     ensures left { IsLeft (K.seen vault.old) (K.seen vault.new) }
@@ -98,10 +98,10 @@ fn explain_attached<O: Sink, K: Vault, M: Ledger>(
     match store_text(alloc, app, number, vault, evaluations) {
         Ok(text) => match put_text(out, &text) {
             Ok(()) => Ok(()),
-            Err(Failed) => Err(Ending::WriteFault),
+            Err(Failed) => Err(ExitReason::WriteFault),
         },
-        Err(Stop::Keeper) => Err(Ending::StoreFault),
-        Err(Stop::Memory) => Err(Ending::Memory),
+        Err(Stop::Keeper) => Err(ExitReason::StoreFault),
+        Err(Stop::Memory) => Err(ExitReason::Memory),
     }
 }
 
@@ -168,56 +168,56 @@ fn shown_lines<K: Keeper, M: Ledger>(
         → AreAllowed (application_of app.now) (worlds_of (state_of K.seen work.old))
         viewer.now shown.now
         → IfOk result (λ t. t ≡ whys_text (application_of app.now).models shown.now (all_whys
-        (scene_with (application_of app.now) viewer.now (state_of K.seen work.old) shown.now)
+        (context_with (application_of app.now) viewer.now (state_of K.seen work.old) shown.now)
         live.now)) }
     ensures reads { ReadsWork K.seen work.old work.new result }
 {
-    let scene = Scene {
+    let context = ViewerContext {
         app,
         viewer: *viewer,
         labels: shown,
     };
-    let found = whys(work, &scene, live, evaluations)?;
-    let text = checked_lines(work, &scene, found.as_slice(), evaluations)?;
+    let found = whys(work, &context, live, evaluations)?;
+    let text = checked_lines(work, &context, found.as_slice(), evaluations)?;
     Ok(text)
 }
 
 // A line for each answer that stands the test.
 fn checked_lines<K: Keeper, M: Ledger>(
     work: &mut Work<'_, K>,
-    scene: &Scene<'_>,
+    context: &ViewerContext<'_>,
     whys: &[Explanation],
     evaluations: &mut Steps<M>,
 ) -> Result<Bytes, Stop>
     requires attached { IsTrue (K.seen work.old.keeper.now).store.attached }
     ensures text { IsTold K.seen work.new
-        → list_all (is_standing (scene_on (state_of K.seen work.old) scene.now)) whys.now ≡ true
-        → IfOk result (λ t. t ≡ whys_text (application_of scene.now.app.now).models
-        scene.now.labels.now whys.now) }
+        → list_all (is_standing (context_on (state_of K.seen work.old) context.now)) whys.now ≡ true
+        → IfOk result (λ t. t ≡ whys_text (application_of context.now.app.now).models
+        context.now.labels.now whys.now) }
     ensures reads { ReadsWork K.seen work.old work.new result }
 {
     let mut text = Vec::new(work.alloc);
-    push_shown(&mut text, scene.labels)?;
-    push_checked(work, scene, whys, &mut text, evaluations)?;
+    push_shown(&mut text, context.labels)?;
+    push_checked(work, context, whys, &mut text, evaluations)?;
     Ok(Bytes::from_vec(text))
 }
 
 fn push_checked<K: Keeper, M: Ledger>(
     work: &mut Work<'_, K>,
-    scene: &Scene<'_>,
+    context: &ViewerContext<'_>,
     whys: &[Explanation],
     text: &mut Vec<u8>,
     evaluations: &mut Steps<M>,
 ) -> Result<(), Stop>
     requires attached { IsTrue (K.seen work.old.keeper.now).store.attached }
     ensures text { IsTold K.seen work.new
-        → list_all (is_standing (scene_on (state_of K.seen work.old) scene.now)) whys.now ≡ true
+        → list_all (is_standing (context_on (state_of K.seen work.old) context.now)) whys.now ≡ true
         → OnOk result (text.new.items ≡ text.old.items
-        ++ why_lines (application_of scene.now.app.now).models whys.now) }
+        ++ why_lines (application_of context.now.app.now).models whys.now) }
     ensures reads { ReadsWork K.seen work.old work.new result }
 {
     'whys: for why in whys {
-        push_if_standing(work, scene, why, text, evaluations)?;
+        push_if_standing(work, context, why, text, evaluations)?;
     }
     Ok(())
 }
@@ -225,23 +225,23 @@ fn push_checked<K: Keeper, M: Ledger>(
 // The line of an answer that stands the test.
 fn push_if_standing<K: Keeper, M: Ledger>(
     work: &mut Work<'_, K>,
-    scene: &Scene<'_>,
+    context: &ViewerContext<'_>,
     why: &Explanation,
     text: &mut Vec<u8>,
     evaluations: &mut Steps<M>,
 ) -> Result<(), Stop>
     requires attached { IsTrue (K.seen work.old.keeper.now).store.attached }
     ensures text { IsTold K.seen work.new
-        → is_standing (scene_on (state_of K.seen work.old) scene.now) why.now ≡ true
+        → is_standing (context_on (state_of K.seen work.old) context.now) why.now ≡ true
         → OnOk result (text.new.items ≡ text.old.items
-        ++ why_line (application_of scene.now.app.now).models why.now) }
+        ++ why_line (application_of context.now.app.now).models why.now) }
     ensures reads { ReadsWork K.seen work.old work.new result }
 {
-    let stands = check_reason(work, scene, why.hidden, &why.reason, evaluations)?;
+    let stands = check_reason(work, context, why.hidden, &why.reason, evaluations)?;
     if !stands {
         return Ok(());
     }
-    push_why(text, scene.app.models.as_slice(), why)?;
+    push_why(text, context.app.models.as_slice(), why)?;
     Ok(())
 }
 

@@ -10,23 +10,23 @@ ghost use Rattle.jac_plain.specs.Records.{name_in as field_name_in};
 ghost use Rattle.jac_keep.specs.KeeperSeen.{IsLeft};
 ghost use Rattle.jac_keep.specs.Schema.{IsFit};
 ghost use Rattle.jac_keep.specs.declared.stop.Stop.TheVariants.{Keeper as Failing};
-ghost use Rattle.jac_words.specs.declared.words.Command.TheVariants as commands;
-ghost use Rattle.jac_serving.specs.Outside.{IsPut, WentAimed, span, sinks};
+ghost use Rattle.jac_cli.specs.declared.words.Command.TheVariants as commands;
+ghost use Rattle.jac_serve_events.specs.Outside.{IsPut, WentAimed, span, sinks};
 ghost use Rattle.jac_upgrade.specs.Extends.{models_lack};
-ghost use Rattle.jac_ending.specs.Files.{sight};
-ghost use Rattle.jac_ending.specs.Ending.{Closed};
+ghost use Rattle.jac_command_base.specs.Files.{sight};
+ghost use Rattle.jac_command_base.specs.ExitReason.{Closed};
 ghost use Rattle.jac_admin.specs.Upgrade.{lack_line, upgraded_line, IsUpgraded, EndsReshaping, EndsMoving, EndsUpgrading, EndsUpgrade};
 
 use itoa::Buffer;
-use jac_ending::{Ending, attach, open_next, read_app, read_file};
+use jac_app_load::Service;
+use jac_cli::{Role, UpgradeArgs};
+use jac_command_base::{ExitReason, attach, open_next, read_app, read_file};
 use jac_io::{AuditSink, Failed, Files, Sink};
 use jac_keep::{Stop, Vault};
 use jac_lang::{App, Field, ModelDef};
-use jac_opening::Service;
-use jac_serving::put_three;
+use jac_serve_events::put_three;
 use jac_upgrade::{UpgradeFault, extends};
 use jac_value::{Memory, Txt};
-use jac_words::{Role, Upgrading};
 use jac_world::Steps;
 use std::alloc::Global;
 use std::sync::ledger::Ledger;
@@ -35,13 +35,13 @@ use std::sync::ledger::Ledger;
 /// change that brings its records to the second, and how many they are.
 pub fn upgrade<F: Files, O: Sink, U: AuditSink, K: Vault, L: Ledger>(
     alloc: Global,
-    command: &Upgrading,
+    command: &UpgradeArgs,
     files: &mut F,
     out: &mut O,
     audit: &mut U,
     vault: &mut K,
     splits: &mut Steps<L>,
-) -> Result<(), Ending>
+) -> Result<(), ExitReason>
     requires first { (K.seen vault.old).store.called ≡ false }
     ensures { WentAimed
         (sinks (O.seen out.old) (O.seen out.new) (U.seen audit.old) (U.seen audit.new))
@@ -52,15 +52,15 @@ pub fn upgrade<F: Files, O: Sink, U: AuditSink, K: Vault, L: Ledger>(
 {
     let old = match read_app(alloc, files, &command.app) {
         Ok(service) => service,
-        Err(ending) => return Err(ending),
+        Err(exit_reason) => return Err(exit_reason),
     };
     let next = match read_file(alloc, files, &command.next, Role::New) {
         Ok(next) => next,
-        Err(ending) => return Err(ending),
+        Err(exit_reason) => return Err(exit_reason),
     };
     let new = match open_next(alloc, next.as_slice()) {
         Ok(service) => service,
-        Err(ending) => return Err(ending),
+        Err(exit_reason) => return Err(exit_reason),
     };
     upgrade_store(alloc, &old, &new, &command.db, out, vault, splits)
 }
@@ -74,7 +74,7 @@ fn upgrade_store<O: Sink, K: Vault, L: Ledger>(
     out: &mut O,
     vault: &mut K,
     splits: &mut Steps<L>,
-) -> Result<(), Ending>
+) -> Result<(), ExitReason>
     requires first { (K.seen vault.old).store.called ≡ false }
     requires well { IsTrue (is_well (application_of old.now)) }
     ensures { Closed (span (O.seen out.old) (O.seen out.new))
@@ -89,13 +89,13 @@ fn upgrade_store<O: Sink, K: Vault, L: Ledger>(
 }
 
 // Why the second application doesn't extend the first.
-fn lacking(alloc: Global, old: &App, fault: UpgradeFault) -> Ending
-    ensures { (result ≡ Ending.UpgradeRefused (lack_line (application_of old.now).models fault))
-        ⊎ (result ≡ Ending.Memory) }
+fn lacking(alloc: Global, old: &App, fault: UpgradeFault) -> ExitReason
+    ensures { (result ≡ ExitReason.UpgradeRefused (lack_line (application_of old.now).models fault))
+        ⊎ (result ≡ ExitReason.Memory) }
 {
     match lack_line(alloc, old.models.as_slice(), fault) {
-        Ok(line) => Ending::UpgradeRefused(line),
-        Err(Memory) => Ending::Memory,
+        Ok(line) => ExitReason::UpgradeRefused(line),
+        Err(Memory) => ExitReason::Memory,
     }
 }
 
@@ -185,7 +185,7 @@ fn move_store<O: Sink, K: Vault, L: Ledger>(
     out: &mut O,
     vault: &mut K,
     splits: &mut Steps<L>,
-) -> Result<(), Ending>
+) -> Result<(), ExitReason>
     requires first { (K.seen vault.old).store.called ≡ false }
     requires well { IsTrue (is_well (application_of old.now)) }
     requires extends { models_lack 0 (application_of old.now).models (application_of new.now).models
@@ -197,11 +197,11 @@ fn move_store<O: Sink, K: Vault, L: Ledger>(
 {
     let schema = match old.schema(alloc) {
         Ok(schema) => schema,
-        Err(Memory) => return Err(Ending::Memory),
+        Err(Memory) => return Err(ExitReason::Memory),
     };
     match attach(alloc, old, Some(db), schema, vault) {
         Ok(()) => move_attached(alloc, old, new, out, vault, splits),
-        Err(ending) => Err(ending),
+        Err(exit_reason) => Err(exit_reason),
     }
 }
 
@@ -213,7 +213,7 @@ fn move_attached<O: Sink, K: Vault, L: Ledger>(
     out: &mut O,
     vault: &mut K,
     splits: &mut Steps<L>,
-) -> Result<(), Ending>
+) -> Result<(), ExitReason>
     requires attached { IsTrue (K.seen vault.old).store.attached }
     requires fit { IsTrue (K.seen vault.old).tells →
         IsFit (shapes_of (application_of old.now)) (K.seen vault.old).state }
@@ -228,10 +228,10 @@ fn move_attached<O: Sink, K: Vault, L: Ledger>(
     match move_records(alloc, old, new, vault, splits) {
         Ok(count) => match put_upgraded(out, count) {
             Ok(()) => Ok(()),
-            Err(Failed) => Err(Ending::WriteFault),
+            Err(Failed) => Err(ExitReason::WriteFault),
         },
-        Err(Stop::Keeper) => Err(Ending::StoreFault),
-        Err(Stop::Memory) => Err(Ending::Memory),
+        Err(Stop::Keeper) => Err(ExitReason::StoreFault),
+        Err(Stop::Memory) => Err(ExitReason::Memory),
     }
 }
 

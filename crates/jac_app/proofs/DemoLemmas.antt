@@ -20,33 +20,33 @@ use Rattle.jac_events.specs.declared.event.Event.TheVariants.{Ask as Asking, Beg
 use Rattle.jac_events.specs.Lines.{line_of}
 use Rattle.jac_hub.specs.Hearing.{whole}
 use Rattle.jac_hub.specs.Heard.{no_connections}
-use Rattle.jac_desk.specs.declared.answer.Via.TheVariants as ways
+use Rattle.jac_dispatch.specs.declared.answer.RequestSource.TheVariants as ways
 use Rattle.jac_app.specs.declared.demo.DemoFault.{DemoFault}
 use Rattle.jac_app.specs.declared.demo.DemoFault.TheVariants as faults
-use Rattle.jac_ending.specs.declared.ending.Ending.{Ending}
-use Rattle.jac_ending.specs.declared.ending.Ending.TheVariants as endings
+use Rattle.jac_command_base.specs.declared.exit_reason.ExitReason.{ExitReason}
+use Rattle.jac_command_base.specs.declared.exit_reason.ExitReason.TheVariants as exits
 use Rattle.jac_app.specs.declared.summary.Summary.{Summary}
 use Rattle.jac_app.specs.declared.summary.Tally.{Tally}
-use Rattle.jac_desk.specs.Asked.{ask_in}
+use Rattle.jac_dispatch.specs.Asked.{ask_in}
 use Rattle.jac_app.specs.Demo.{asks_by, bytes_in, labels_shown, labels_in, summary_of, tally_of, summary_after, IsCounted, PutsTally, TalliesAsk, TearsAsk, TalliesLine, Tallied, TalliedTorn, Tallies, IsTalliedOn, EndsTallying, IsDemoTold, EndsCounting, summary_line, demo_script}
 use Rattle.jac_replies.specs.Failed.{status_of_stop}
-use Rattle.jac_desk.specs.Log.{application_hearing}
-use Rattle.jac_serving.specs.Answering.{LogEntry, IsHeardBy}
-use Rattle.jac_serving.specs.Log.{Brings, method_of, audit_line, audit_lines}
+use Rattle.jac_dispatch.specs.Log.{application_hearing}
+use Rattle.jac_serve_events.specs.AnswerSpec.{LogEntry, IsHeardBy}
+use Rattle.jac_serve_events.specs.Log.{Brings, method_of, audit_line, audit_lines}
 use Rattle.jac_replies.specs.Spelled.{audit_text}
-use Rattle.jac_serving.specs.Keeping.{Holding, holding_of, keepers}
-use Rattle.jac_serving.specs.Outside.{Span, span, sinks, IsFront, IsPut, Went, WentAimed, WentTo}
-use Rattle.jac_ending.specs.Attached.{AttachesAs}
-use Rattle.jac_serving.specs.Script.{Script, script_from, script_of, script_step}
-use Rattle.jac_desk.specs.Answered.{IsEntryOf, AreEntries, answering_of}
-use Rattle.jac_serving.proofs.OutsideLemmas.{Lasts-none, Took-none, Rose-widen}
-use Rattle.jac_ending.proofs.EndingLemmas.{is_attached}
-use Rattle.jac_desk.proofs.EntryLemmas.{is_made}
-use Rattle.jac_desk.proofs.EntriesLemmas.{entries-none, entries-one, entries-then}
-use Rattle.jac_serving.proofs.EntriesLemmas.{entries-still}
-use Rattle.jac_serving.proofs.BringsLemmas.{brings-push, brings-begun}
-use Rattle.jac_serving.proofs.EventLemmas.{ask_entry}
-use Rattle.jac_serving.proofs.ProgressLemmas.{served_before, served_push, audited_more, heard_by, is_served_by, nothing_more, early_is_not_whole}
+use Rattle.jac_serve_events.specs.RunSeen.{RunSeen, run_seen_of, keepers}
+use Rattle.jac_serve_events.specs.Outside.{Span, span, sinks, IsFront, IsPut, Went, WentAimed, WentTo}
+use Rattle.jac_command_base.specs.Attached.{AttachesAs}
+use Rattle.jac_serve_events.specs.Script.{Script, script_from, script_of, script_step}
+use Rattle.jac_dispatch.specs.Answered.{IsEntryOf, AreEntries, answer_spec_of}
+use Rattle.jac_serve_events.proofs.OutsideLemmas.{Lasts-none, Took-none, Rose-widen}
+use Rattle.jac_command_base.proofs.ExitReasonLemmas.{is_attached}
+use Rattle.jac_dispatch.proofs.EntryLemmas.{is_made}
+use Rattle.jac_dispatch.proofs.EntriesLemmas.{entries-none, entries-one, entries-then}
+use Rattle.jac_serve_events.proofs.EntriesLemmas.{entries-still}
+use Rattle.jac_serve_events.proofs.BringsLemmas.{brings-push, brings-begun}
+use Rattle.jac_serve_events.proofs.EventLemmas.{ask_entry}
+use Rattle.jac_serve_events.proofs.ProgressLemmas.{served_before, served_push, audited_more, heard_by, is_served_by, nothing_more, early_is_not_whole}
 
 -- a whole put, and a torn one
 pub WentTo-whole : (s : Span SinkSeen) (line : List ℕ) (tally : Tally) (done : Unit {0}) → IsPut {E = Failed} s line (Ok done) → WentTo s (PutsTally line tally (Ok tally))
@@ -66,14 +66,14 @@ pub same_line : (k : ℕ) (rest rest_now : List ℕ) (tally : Tally) (result : R
     → PutsTally (decimal k ++ rest) tally result put → PutsTally (decimal k ++ rest_now) tally result put
 same_line k rest rest_now tally result put same h = subst (λ (r : List ℕ). PutsTally (decimal k ++ r) tally result put) same h
 
-tallies_ask : (app : Application) (k : Span Holding) (served : ℕ) (ask : Ask) (answer : Answer) (result : Result Tally Failed) (put : List ℕ)
+tallies_ask : (app : Application) (k : Span RunSeen) (served : ℕ) (ask : Ask) (answer : Answer) (result : Result Tally Failed) (put : List ℕ)
     → IsEntryOf false app k (whole ask false) answer → PutsTally (audit_text (served + 1) answer.status ask.viewer answer.shown answer.consulted) (tally_of answer) result put
     → TalliesAsk app k served ask result put
 tallies_ask app k served ask answer (Ok tally) put entry h = (answer, entry, h.0, h.1)
 tallies_ask app k served ask answer (Err failed) put entry h = (answer, entry, h)
 
 -- a request was answered, and its audit line put
-pub ask_counted : (app : Application) (k : Span Holding) (served : ℕ) (ask : Ask) (rest : List ℕ) (tally : Tally) (result : Result Tally Failed) (put : List ℕ)
+pub ask_counted : (app : Application) (k : Span RunSeen) (served : ℕ) (ask : Ask) (rest : List ℕ) (tally : Tally) (result : Result Tally Failed) (put : List ℕ)
     → IsCounted app k ask rest tally → (IsTrue k.after.keeper.tells → IsTrue k.before.keeper.tells) → k.before.keeper.faults ≤ k.after.keeper.faults
     → PutsTally (decimal (served + 1) ++ rest) tally result put → TalliesAsk app k served ask result put
 ask_counted app k served ask rest tally result put made told later h =
@@ -81,7 +81,7 @@ ask_counted app k served ask rest tally result put made told later h =
     (PutsTally-same _ _ _ _ result put (ap (λ (t : List ℕ). decimal (served + 1) ++ t) made.made.audit_made) made.tally_is h)
 
 -- a request wasn't answered
-pub ask_stopped : (app : Application) (k : Span Holding) (served : ℕ) (ask : Ask) (viewer : Option ℕ) (stop : Stop) (result : Result Tally Failed) (put : List ℕ)
+pub ask_stopped : (app : Application) (k : Span RunSeen) (served : ℕ) (ask : Ask) (viewer : Option ℕ) (stop : Stop) (result : Result Tally Failed) (put : List ℕ)
     → viewer ≡ ask.viewer → IsEntryOf false app k (whole ask false) (refusal (status_of_stop stop) None)
     → PutsTally (audit_text (served + 1) (status_of_stop stop) viewer None None) (tally_of (refusal (status_of_stop stop) None)) result put → TalliesAsk app k served ask result put
 ask_stopped app k served ask viewer stop result put same entry h =
@@ -125,18 +125,18 @@ summary_push log entry =
     λ i. record { asks = asks i; posts = posts i; gets = gets i; bytes = bytes i; labels = labels i }
 
 -- some lines were served, and these are left
-pub record Tallying (app : Application) (k : Span Holding) (bytes : List ℕ) (left : Option (List ℕ)) (summary : Summary) (audit : List ℕ) : Type 0 where
+pub record Tallying (app : Application) (k : Span RunSeen) (bytes : List ℕ) (left : Option (List ℕ)) (summary : Summary) (audit : List ℕ) : Type 0 where
   pub lines : ℕ
   pub events : List Event
   pub log : List LogEntry
   pub text : List ℕ
   pub script : served_before events (script_from (parts_left 10 left) (lines + 1) (λ c. false)) ≡ script_of bytes
   pub entries : AreEntries false app k log
-  pub brought : Brings (answering_of false app []) no_connections 0 events log text no_connections
+  pub brought : Brings (answer_spec_of false app []) no_connections 0 events log text no_connections
   pub audit_text : audit ≡ audit_lines log
   pub summary_is : summary ≡ summary_of log
 
-pub tally_start : (app : Application) (a : Holding) (bytes : List ℕ) (summary : Summary) → summary ≡ summary_of [] → (IsTrue a.keeper.tells → IsStart app a.keeper.state)
+pub tally_start : (app : Application) (a : RunSeen) (bytes : List ℕ) (summary : Summary) → summary ≡ summary_of [] → (IsTrue a.keeper.tells → IsStart app a.keeper.state)
     → Tallying app (span a a) bytes (Some bytes) summary []
 tally_start app a bytes summary none start = record {
   lines = 0;
@@ -151,7 +151,7 @@ tally_start app a bytes summary none start = record {
 }
 
 -- the lines that are left, by what the first of them writes down
-written_next : {app : Application} {k : Span Holding} {bytes : List ℕ} {left : Option (List ℕ)} {summary : Summary} {audit : List ℕ}
+written_next : {app : Application} {k : Span RunSeen} {bytes : List ℕ} {left : Option (List ℕ)} {summary : Summary} {audit : List ℕ}
     (p : Tallying app k bytes left summary audit) (line : List ℕ) (rest : List (List ℕ)) (written : Option (Option Event)) → parts_left 10 left ≡ line ∷ rest → line_of line ≡ written
     → served_before p.events (script_step (p.lines + 1) written (λ c. false) (script_from rest (p.lines + 1 + 1))) ≡ script_of bytes
 written_next {app} {k} {bytes} {left} p line rest written parts is =
@@ -162,7 +162,7 @@ asks_counted : (summary : Summary) (log : List LogEntry) → summary ≡ summary
 asks_counted summary log is = sym (ap (λ (s : Summary). s.asks) is)
 
 -- a request was answered and counted
-tally_more : (app : Application) (a b c : Holding) (bytes : List ℕ) (left after : Option (List ℕ)) (summary : Summary) (audit line au : List ℕ)
+tally_more : (app : Application) (a b c : RunSeen) (bytes : List ℕ) (left after : Option (List ℕ)) (summary : Summary) (audit line au : List ℕ)
     (viewer : Option ℕ) (method path query body : List ℕ) (tally : Tally)
     → Tallying app (span a b) bytes left summary audit → parts_left 10 left ≡ line ∷ parts_left 10 after
     → line_of line ≡ Some (Some (Asking viewer method path query body))
@@ -182,7 +182,7 @@ tally_more app a b c bytes left after summary audit line au viewer method path q
           served_push p.events event (script_from (parts_left 10 after) (p.lines + 1 + 1) (λ c. false))
           ∙ written_next p line (parts_left 10 after) (Some (Some event)) parts is;
       entries = entries-then false app a b c p.log (entry ∷ []) p.entries (entries-one false app b c entry h.1);
-      brought = brings-push (answering_of false app []) p.events no_connections no_connections 0 p.log (entry ∷ []) p.text event p.brought (answer, refl);
+      brought = brings-push (answer_spec_of false app []) p.events no_connections no_connections 0 p.log (entry ∷ []) p.text event p.brought (answer, refl);
       audit_text = audited_more p.log (entry ∷ []) summary.asks audit au asks p.audit_text (h.2 ∙ sym (append-nil (audit_line (summary.asks + 1) entry)));
       summary_is =
           ap (λ (s : Summary). summary_after s method tally) p.summary_is ∙ ap (λ (t : Tally). summary_after (summary_of p.log) method t) h.3
@@ -190,7 +190,7 @@ tally_more app a b c bytes left after summary audit line au viewer method path q
     }
 
 -- an empty line is passed over
-tally_same : (app : Application) (a b c : Holding) (bytes : List ℕ) (left after : Option (List ℕ)) (summary : Summary) (audit line : List ℕ)
+tally_same : (app : Application) (a b c : RunSeen) (bytes : List ℕ) (left after : Option (List ℕ)) (summary : Summary) (audit line : List ℕ)
     → Tallying app (span a b) bytes left summary audit → parts_left 10 left ≡ line ∷ parts_left 10 after → line_of line ≡ Some None → c ≡ b
     → Tallying app (span a c) bytes after summary audit
 tally_same app a b c bytes left after summary audit line p parts is still = record {
@@ -199,7 +199,7 @@ tally_same app a b c bytes left after summary audit line p parts is still = reco
   log = p.log;
   text = p.text;
   script = written_next p line (parts_left 10 after) (Some None) parts is;
-  entries = entries-still (answering_of false app []) a b c p.log p.entries still;
+  entries = entries-still (answer_spec_of false app []) a b c p.log p.entries still;
   brought = p.brought;
   audit_text = p.audit_text;
   summary_is = p.summary_is;
@@ -212,7 +212,7 @@ no_ok : (X : Type 0) (fault : DemoFault) (y : Summary) → ◌≡◌ {A = Result
 no_ok X fault y e = absurd cc
 
 -- a line was served
-pub tally_on : (app : Application) (a b c : Holding) (bytes : List ℕ) (left after : Option (List ℕ)) (summary new : Summary) (audit line au : List ℕ) (written : Option (Option Event))
+pub tally_on : (app : Application) (a b c : RunSeen) (bytes : List ℕ) (left after : Option (List ℕ)) (summary new : Summary) (audit line au : List ℕ) (written : Option (Option Event))
     → Tallying app (span a b) bytes left summary audit → parts_left 10 left ≡ line ∷ parts_left 10 after → line_of line ≡ written
     → TalliesLine app (span b c) summary written (Ok new) au → Tallying app (span a c) bytes after new (audit ++ au)
 tally_on app a b c bytes left after summary new audit line au None p parts is h = absurd h
@@ -228,18 +228,18 @@ tally_on app a b c bytes left after summary new audit line au (Some (Some (Piece
 tally_on app a b c bytes left after summary new audit line au (Some (Some (Finish n))) p parts is h = absurd h
 
 -- the lines so far were served, and no more
-tallied_with : (early : Bool) (app : Application) (a b c : Holding) (bytes : List ℕ) (left : Option (List ℕ)) (summary : Summary) (audit : List ℕ) (unserved : List Event)
+tallied_with : (early : Bool) (app : Application) (a b c : RunSeen) (bytes : List ℕ) (left : Option (List ℕ)) (summary : Summary) (audit : List ℕ) (unserved : List Event)
     → (p : Tallying app (span a b) bytes left summary audit) → c ≡ b → (script_of bytes).events ≡ p.events ++ unserved → (early ≡ false → unserved ≡ [])
     → Tallied early app (span a c) (script_of bytes).events p.log audit
 tallied_with early app a b c bytes left summary audit unserved p still parts ended = record {
   served =
-      is_served_by early (answering_of false app []) a c (script_of bytes).events p.log
-      (heard_by early (answering_of false app []) p.events unserved (script_of bytes).events p.log p.text no_connections p.brought parts ended) (entries-still (answering_of false app []) a b c p.log p.entries still);
+      is_served_by early (answer_spec_of false app []) a c (script_of bytes).events p.log
+      (heard_by early (answer_spec_of false app []) p.events unserved (script_of bytes).events p.log p.text no_connections p.brought parts ended) (entries-still (answer_spec_of false app []) a b c p.log p.entries still);
   audit_text = p.audit_text;
 }
 
 -- the audit line of a request was torn
-tally_torn : (app : Application) (a b c : Holding) (bytes : List ℕ) (left after : Option (List ℕ)) (summary : Summary) (audit line au : List ℕ)
+tally_torn : (app : Application) (a b c : RunSeen) (bytes : List ℕ) (left after : Option (List ℕ)) (summary : Summary) (audit line au : List ℕ)
     (viewer : Option ℕ) (method path query body : List ℕ)
     → Tallying app (span a b) bytes left summary audit → parts_left 10 left ≡ line ∷ parts_left 10 after
     → line_of line ≡ Some (Some (Asking viewer method path query body))
@@ -257,16 +257,16 @@ tally_torn app a b c bytes left after summary audit line au viewer method path q
       entry = entry;
       more = au;
       served =
-          is_served_by true (answering_of false app []) a c (script_of bytes).events (p.log ++ entry ∷ [])
+          is_served_by true (answer_spec_of false app []) a c (script_of bytes).events (p.log ++ entry ∷ [])
           (subst (λ (es : List Event). IsHeardBy true (application_hearing app []) es (p.log ++ entry ∷ [])) (sym all)
-          (brings-begun (answering_of false app []) p.events unserved event no_connections no_connections 0 p.log (entry ∷ []) p.text p.brought (inr (answer, refl))))
+          (brings-begun (answer_spec_of false app []) p.events unserved event no_connections no_connections 0 p.log (entry ∷ []) p.text p.brought (inr (answer, refl))))
           (entries-then false app a b c p.log (entry ∷ []) p.entries (entries-one false app b c entry h.1));
       torn = subst (λ (n : ℕ). IsFront au (audit_line (n + 1) entry)) (sym (asks_counted summary p.log p.summary_is)) h.2;
       audit_text = ap (λ (t : List ℕ). t ++ au) p.audit_text;
     }
 
 -- serving stopped at a line
-pub tally_stop : (app : Application) (a b c : Holding) (bytes : List ℕ) (left after : Option (List ℕ)) (summary : Summary) (audit line au : List ℕ) (written : Option (Option Event)) (fault : DemoFault)
+pub tally_stop : (app : Application) (a b c : RunSeen) (bytes : List ℕ) (left after : Option (List ℕ)) (summary : Summary) (audit line au : List ℕ) (written : Option (Option Event)) (fault : DemoFault)
     → Tallying app (span a b) bytes left summary audit → parts_left 10 left ≡ line ∷ parts_left 10 after → line_of line ≡ written
     → TalliesLine app (span b c) summary written (Err fault) au → Tallies app (span a c) (script_of bytes) (Err fault) (audit ++ au)
 tally_stop app a b c bytes left after summary audit line au written faults.Memory p parts is h = (
@@ -283,7 +283,7 @@ tally_stop app a b c bytes left after summary audit line au (Some (Some (Piece n
 tally_stop app a b c bytes left after summary audit line au (Some (Some (Finish n))) faults.Write p parts is h = absurd h
 
 -- no line is left
-pub tally_all : (app : Application) (a b : Holding) (bytes : List ℕ) (left : Option (Bor (List ℕ))) (summary : Summary) (audit : List ℕ)
+pub tally_all : (app : Application) (a b : RunSeen) (bytes : List ℕ) (left : Option (Bor (List ℕ))) (summary : Summary) (audit : List ℕ)
     → ((rest : Bor (List ℕ)) → left ≡ Some rest → ⊥) → Tallying app (span a b) bytes (option_now left) summary audit
     → Tallies app (span a b) (script_of bytes) (Ok summary) audit
 tally_all app a b bytes None summary audit none p = (
@@ -302,7 +302,7 @@ unfolding calendar_text
 short_calendar = omega arith
 
 -- memory ran out before the first request
-pub tally_none : (app : Application) (k : Holding) (count : ℕ) → (IsTrue k.keeper.tells → IsStart app k.keeper.state)
+pub tally_none : (app : Application) (k : RunSeen) (count : ℕ) → (IsTrue k.keeper.tells → IsStart app k.keeper.state)
     → Tallies app (span k k) (demo_script count) (Err faults.Memory) []
 tally_none app k count start =
     let none = summary_of [] in
@@ -310,36 +310,36 @@ tally_none app k count start =
     (p.log, tallied_with true app k k k (demo_text count) (Some (demo_text count)) none [] _ p refl (ap (λ (s : Script). s.events) (sym p.script)) early_is_not_whole)
 
 -- a store that wasn't attached ends the counting
-pub tally_unattached : (app : Application) (k : Span Holding) (count : ℕ) (ending : Ending) → AttachesAs None app (keepers k) (Err ending) → k.after.splits ≡ k.before.splits
-    → EndsTallying app k count (Err ending) []
-tally_unattached app k count endings.StoreFault h unsplit = (h.0, record { unattached = h.1; unsplit = unsplit })
-tally_unattached app k count (endings.OtherStore stored wanted) h unsplit = (h.0, h.1, record { unattached = h.2; unsplit = unsplit })
-tally_unattached app k count endings.Memory h unsplit = inl (record { unattached = h; unsplit = unsplit })
-tally_unattached app k count (endings.ReadFault role) h unsplit = absurd h
-tally_unattached app k count (endings.TooLong role) h unsplit = absurd h
-tally_unattached app k count (endings.AppRefused line) h unsplit = absurd h
-tally_unattached app k count (endings.NewRefused line) h unsplit = absurd h
-tally_unattached app k count (endings.UpgradeRefused line) h unsplit = absurd h
-tally_unattached app k count endings.DoorFault h unsplit = absurd h
-tally_unattached app k count (endings.LineRefused lapse) h unsplit = absurd h
-tally_unattached app k count (endings.SessionsRefused line) h unsplit = absurd h
-tally_unattached app k count endings.WriteFault h unsplit = absurd h
+pub tally_unattached : (app : Application) (k : Span RunSeen) (count : ℕ) (exit_reason : ExitReason) → AttachesAs None app (keepers k) (Err exit_reason) → k.after.splits ≡ k.before.splits
+    → EndsTallying app k count (Err exit_reason) []
+tally_unattached app k count exits.StoreFault h unsplit = (h.0, record { unattached = h.1; unsplit = unsplit })
+tally_unattached app k count (exits.OtherStore stored wanted) h unsplit = (h.0, h.1, record { unattached = h.2; unsplit = unsplit })
+tally_unattached app k count exits.Memory h unsplit = inl (record { unattached = h; unsplit = unsplit })
+tally_unattached app k count (exits.ReadFault role) h unsplit = absurd h
+tally_unattached app k count (exits.TooLong role) h unsplit = absurd h
+tally_unattached app k count (exits.AppRefused line) h unsplit = absurd h
+tally_unattached app k count (exits.NewRefused line) h unsplit = absurd h
+tally_unattached app k count (exits.UpgradeRefused line) h unsplit = absurd h
+tally_unattached app k count exits.DoorFault h unsplit = absurd h
+tally_unattached app k count (exits.LineRefused event_fault) h unsplit = absurd h
+tally_unattached app k count (exits.SessionsRefused line) h unsplit = absurd h
+tally_unattached app k count exits.WriteFault h unsplit = absurd h
 
 -- the requests were answered on an attached store
-pub tallied_on : (app : Application) (before opened : KeeperSeen) (splits : ℕ) (after : Holding) (count : ℕ) (result : Result Summary DemoFault) (audit : List ℕ)
+pub tallied_on : (app : Application) (before opened : KeeperSeen) (splits : ℕ) (after : RunSeen) (count : ℕ) (result : Result Summary DemoFault) (audit : List ℕ)
     → AttachesAs None app (span before opened) (Ok tt) → after.keeper.store ≡ opened.store
-    → Tallies app (span (holding_of opened splits) after) (demo_script count) result audit → IsTalliedOn app (span (holding_of before splits) after) count result audit
+    → Tallies app (span (run_seen_of opened splits) after) (demo_script count) result audit → IsTalliedOn app (span (run_seen_of before splits) after) count result audit
 tallied_on app before opened splits after count result audit attaches stays h = record {
   opened = opened;
   attached = is_attached None app before opened after.keeper attaches stays;
   tallies = h;
 }
 
-no_fault : (X : Type 0) (summary : Summary) → ◌≡◌ {A = Result Summary Ending} (Ok summary) (Err endings.WriteFault) → X
+no_fault : (X : Type 0) (summary : Summary) → ◌≡◌ {A = Result Summary ExitReason} (Ok summary) (Err exits.WriteFault) → X
 no_fault X summary is = absurd cc
 
 -- the summary is put whole, or torn, or there is none
-module _ (out_before out_after audit_before audit_after : SinkSeen) (app : Application) (k : Span Holding) (count : ℕ) where
+module _ (out_before out_after audit_before audit_after : SinkSeen) (app : Application) (k : Span RunSeen) (count : ℕ) where
   pub told_whole : (summary : Summary) (done : Unit {0}) → WentTo (span audit_before audit_after) (EndsTallying app k count (Ok summary))
       → IsPut {E = Failed} (span out_before out_after) (summary_line summary) (Ok done)
       → Went (sinks out_before out_after audit_before audit_after) (IsDemoTold (sinks out_before out_after audit_before audit_after) app k count (Ok tt))
@@ -355,7 +355,7 @@ module _ (out_before out_after audit_before audit_after : SinkSeen) (app : Appli
 
   pub told_torn : (summary : Summary) (failed : Failed) → WentTo (span audit_before audit_after) (EndsTallying app k count (Ok summary))
       → IsPut {E = Failed} (span out_before out_after) (summary_line summary) (Err failed)
-      → Went (sinks out_before out_after audit_before audit_after) (IsDemoTold (sinks out_before out_after audit_before audit_after) app k count (Err endings.WriteFault))
+      → Went (sinks out_before out_after audit_before audit_after) (IsDemoTold (sinks out_before out_after audit_before audit_after) app k count (Err exits.WriteFault))
   told_torn summary failed went put = record {
     out = put.put;
     audit = went.put;
@@ -366,22 +366,22 @@ module _ (out_before out_after audit_before audit_after : SinkSeen) (app : Appli
     holds = record { ended = Ok summary; ends = went.holds; rose = λ is. no_fault _ summary is; told = (put.is_put, put.rose) };
   }
 
-pub told_none : (out audit_before audit_after : SinkSeen) (app : Application) (k : Span Holding) (count : ℕ) (ending : Ending)
-    → WentTo (span audit_before audit_after) (EndsTallying app k count (Err ending))
-    → (◌≡◌ {A = Result Summary Ending} (Err ending) (Err endings.WriteFault) → Rose audit_before.faults audit_after.faults)
-    → Went (sinks out out audit_before audit_after) (IsDemoTold (sinks out out audit_before audit_after) app k count (Err ending))
-told_none out audit_before audit_after app k count ending went rose = record {
+pub told_none : (out audit_before audit_after : SinkSeen) (app : Application) (k : Span RunSeen) (count : ℕ) (exit_reason : ExitReason)
+    → WentTo (span audit_before audit_after) (EndsTallying app k count (Err exit_reason))
+    → (◌≡◌ {A = Result Summary ExitReason} (Err exit_reason) (Err exits.WriteFault) → Rose audit_before.faults audit_after.faults)
+    → Went (sinks out out audit_before audit_after) (IsDemoTold (sinks out out audit_before audit_after) app k count (Err exit_reason))
+told_none out audit_before audit_after app k count exit_reason went rose = record {
   out = [];
   audit = went.put;
   out_lasts = Lasts-none out;
   audit_lasts = went.lasts;
   out_took = Took-none out;
   audit_took = went.took;
-  holds = record { ended = Err ending; ends = went.holds; rose = rose; told = (refl, refl) };
+  holds = record { ended = Err exit_reason; ends = went.holds; rose = rose; told = (refl, refl) };
 }
 
--- the steps behind the aim, seen from before it
-pub told_behind : (out_before out_after audit_before audit_aimed audit_after : SinkSeen) (app : Application) (k : Span Holding) (count : ℕ) (result : Result (Unit {0}) Ending) (out audit : List ℕ)
+-- the steps after the aim, seen from before it
+pub told_behind : (out_before out_after audit_before audit_aimed audit_after : SinkSeen) (app : Application) (k : Span RunSeen) (count : ℕ) (result : Result (Unit {0}) ExitReason) (out audit : List ℕ)
     → audit_before.faults ≤ audit_aimed.faults → IsDemoTold (sinks out_before out_after audit_aimed audit_after) app k count result out audit
     → IsDemoTold (sinks out_before out_after audit_before audit_after) app k count result out audit
 told_behind out_before out_after audit_before audit_aimed audit_after app k count result out audit later h = record {
@@ -392,8 +392,8 @@ told_behind out_before out_after audit_before audit_aimed audit_after app k coun
 }
 
 -- the aim failed
-pub unaimed : (out audit_before audit_after : SinkSeen) (failed : Failed) (app : Application) (k : Holding) (count : ℕ) → Aims audit_before audit_after None (Err failed)
-    → WentAimed (sinks out out audit_before audit_after) (EndsCounting (sinks out out audit_before audit_after) app (span k k) count (Err endings.WriteFault))
+pub unaimed : (out audit_before audit_after : SinkSeen) (failed : Failed) (app : Application) (k : RunSeen) (count : ℕ) → Aims audit_before audit_after None (Err failed)
+    → WentAimed (sinks out out audit_before audit_after) (EndsCounting (sinks out out audit_before audit_after) app (span k k) count (Err exits.WriteFault))
 unaimed out audit_before audit_after failed app k count aims = record {
   out = [];
   audit = [];

@@ -3,19 +3,19 @@ use Rattle.std.proofs.Common.{◌≡◌, ◌⊎◌, ℕ, ◌≤◌, inl, inr, So
 use Rattle.jac_io.specs.Seen.{SinkSeen}
 use Rattle.jac_io.specs.Linked.{DoorSeen}
 use Rattle.jac_lang.specs.Syntax.{Application}
-use Rattle.jac_words.specs.declared.words.Command.{Command}
-use Rattle.jac_words.specs.declared.words.Command.TheVariants as commands
-use Rattle.jac_words.specs.declared.role.Role.TheVariants as roles
-use Rattle.jac_ending.specs.declared.status.Status.{Status}
-use Rattle.jac_ending.specs.declared.status.Status.TheVariants as statuses
+use Rattle.jac_cli.specs.declared.words.Command.{Command}
+use Rattle.jac_cli.specs.declared.words.Command.TheVariants as commands
+use Rattle.jac_cli.specs.declared.role.Role.TheVariants as roles
+use Rattle.jac_command_base.specs.declared.status.Status.{Status}
+use Rattle.jac_command_base.specs.declared.status.Status.TheVariants as statuses
 use Rattle.jac_route.specs.declared.sessions.Session.{Session}
-use Rattle.jac_serving.specs.declared.serve.Lapse.{Lapse}
-use Rattle.jac_serving.specs.Script.{script_of}
-use Rattle.jac_serving.specs.Outside.{Span}
-use Rattle.jac_words.specs.Commands.{file_of}
-use Rattle.jac_ending.specs.Files.{Sight, standing_at, HasApplication, HasBadLine, IsOpened}
+use Rattle.jac_serve_events.specs.declared.serve.EventFault.{EventFault}
+use Rattle.jac_serve_events.specs.Script.{script_of}
+use Rattle.jac_serve_events.specs.Outside.{Span}
+use Rattle.jac_cli.specs.Commands.{file_of}
+use Rattle.jac_command_base.specs.Files.{Sight, standing_at, HasApplication, HasBadLine, IsOpened}
 use Rattle.jac_app.specs.Run.{IsSource, Sources, ComesFor}
-use Rattle.jac_ending.proofs.LaterLemmas.{read_later, application_later, next_later, opened_later, reached_later, write_later}
+use Rattle.jac_command_base.proofs.LaterLemmas.{read_later, application_later, next_later, opened_later, reached_later, write_later}
 
 source_later : (seen : Sight) (later : SinkSeen) (command : Command) (bytes : List ℕ) → IsSource seen command bytes → IsSource (standing_at seen later) command bytes
 source_later seen later (commands.Demo n) bytes h = h
@@ -37,9 +37,9 @@ sources_later seen later (commands.Dump dumping) app h = application_later seen 
 sources_later seen later (commands.Why explaining) app h = application_later seen later (commands.Why explaining) app h
 
 line_later : (seen : Sight) (later : SinkSeen) (command : Command)
-    → ((app : Application) × (sessions : List Session) × (events : List ℕ) × IsOpened seen command app sessions events × ((lapse : Lapse) × ((script_of events).refused ≡ Some lapse)))
+    → ((app : Application) × (sessions : List Session) × (events : List ℕ) × IsOpened seen command app sessions events × ((event_fault : EventFault) × ((script_of events).refused ≡ Some event_fault)))
     ⊎ (((app : Application) × HasApplication seen command app) × ((line : ℕ) × HasBadLine seen.files (file_of command roles.Sessions) line))
-    → ((app : Application) × (sessions : List Session) × (events : List ℕ) × IsOpened (standing_at seen later) command app sessions events × ((lapse : Lapse) × ((script_of events).refused ≡ Some lapse)))
+    → ((app : Application) × (sessions : List Session) × (events : List ℕ) × IsOpened (standing_at seen later) command app sessions events × ((event_fault : EventFault) × ((script_of events).refused ≡ Some event_fault)))
     ⊎ (((app : Application) × HasApplication (standing_at seen later) command app) × ((line : ℕ) × HasBadLine seen.files (file_of command roles.Sessions) line))
 line_later seen later command (inl h) = inl (h.0, h.1, h.2, opened_later seen later command h.0 h.1 h.2 h.3, h.4)
 line_later seen later command (inr h) = inr ((h.0.0, application_later seen later command h.0.0 h.0.1), h.1)

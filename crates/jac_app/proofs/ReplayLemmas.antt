@@ -5,143 +5,143 @@ use Rattle.jac_io.specs.declared.sink.Failed.{Failed}
 use Rattle.jac_lang.specs.Syntax.{Application}
 use Rattle.jac_keep.specs.KeeperSeen.{KeeperSeen}
 use Rattle.jac_route.specs.declared.sessions.Session.{Session}
-use Rattle.jac_words.specs.declared.words.Command.{Command}
-use Rattle.jac_words.specs.declared.words.Command.TheVariants as commands
-use Rattle.jac_words.specs.declared.words.Replay.{Replay}
-use Rattle.jac_ending.specs.declared.ending.Ending.{Ending}
-use Rattle.jac_ending.specs.declared.ending.Ending.TheVariants as endings
-use Rattle.jac_serving.specs.declared.serve.Stopped.{Stopped}
-use Rattle.jac_serving.specs.declared.serve.Stopped.TheVariants as stops
-use Rattle.jac_serving.specs.Script.{Script, script_of}
-use Rattle.jac_desk.specs.Answered.{answering_of}
-use Rattle.jac_serving.specs.Keeping.{Holding, holding_of, keepers}
-use Rattle.jac_serving.specs.Outside.{Span, span, Sinks, sinks, WentAimed, WentWith}
-use Rattle.jac_serving.specs.Answering.{Answering}
-use Rattle.jac_serving.specs.Serve.{ServesAs}
-use Rattle.jac_words.specs.Commands.{audit_of, db_of, lazy_of}
-use Rattle.jac_ending.specs.Files.{Sight, sinks_of, IsOpened, IsAimed}
-use Rattle.jac_ending.specs.Ending.{ending_of}
-use Rattle.jac_ending.specs.Attached.{AttachesAs}
-use Rattle.jac_ending.specs.Early.{IsEndedEarly}
-use Rattle.jac_ending.specs.Outset.{sight_of, AreFilesRead, EndsAim, HasBegun, IsBarred, IsHalted, IsStoppedAiming}
+use Rattle.jac_cli.specs.declared.words.Command.{Command}
+use Rattle.jac_cli.specs.declared.words.Command.TheVariants as commands
+use Rattle.jac_cli.specs.declared.words.Replay.{Replay}
+use Rattle.jac_command_base.specs.declared.exit_reason.ExitReason.{ExitReason}
+use Rattle.jac_command_base.specs.declared.exit_reason.ExitReason.TheVariants as exits
+use Rattle.jac_serve_events.specs.declared.serve.ReplayError.{ReplayError}
+use Rattle.jac_serve_events.specs.declared.serve.ReplayError.TheVariants as stops
+use Rattle.jac_serve_events.specs.Script.{Script, script_of}
+use Rattle.jac_dispatch.specs.Answered.{answer_spec_of}
+use Rattle.jac_serve_events.specs.RunSeen.{RunSeen, run_seen_of, keepers}
+use Rattle.jac_serve_events.specs.Outside.{Span, span, Sinks, sinks, WentAimed, WentWith}
+use Rattle.jac_serve_events.specs.AnswerSpec.{AnswerSpec}
+use Rattle.jac_serve_events.specs.Serve.{ServesAs}
+use Rattle.jac_cli.specs.Commands.{audit_of, db_of, lazy_of}
+use Rattle.jac_command_base.specs.Files.{Sight, sinks_of, IsOpened, IsAimed}
+use Rattle.jac_command_base.specs.ExitReason.{exit_reason_of}
+use Rattle.jac_command_base.specs.Attached.{AttachesAs}
+use Rattle.jac_command_base.specs.Early.{IsEndedEarly}
+use Rattle.jac_command_base.specs.Startup.{sight_of, AreFilesRead, EndsAim, HasBegun, IsBarred, IsHalted, IsStoppedAiming}
 use Rattle.jac_app.specs.Held.{held_of}
 use Rattle.jac_app.specs.Replay.{EndsServed, IsServedOn, EndsAttaching, EndsServing, EndsReplay}
-use Rattle.jac_serving.proofs.OutsideLemmas.{Lasts-none, Took-none, FailsWithin, fails_behind, Went-none}
-use Rattle.jac_serving.proofs.ProgressLemmas.{puts_torn_within}
-use Rattle.jac_ending.proofs.EndingLemmas.{is_attached, went_aimed, WentAimed-on}
-use Rattle.jac_ending.proofs.OutsetLemmas.{application_read, ended_early, idle_behind, memory_early}
+use Rattle.jac_serve_events.proofs.OutsideLemmas.{Lasts-none, Took-none, FailsWithin, fails_behind, Went-none}
+use Rattle.jac_serve_events.proofs.ProgressLemmas.{puts_torn_within}
+use Rattle.jac_command_base.proofs.ExitReasonLemmas.{is_attached, went_aimed, WentAimed-on}
+use Rattle.jac_command_base.proofs.StartupLemmas.{application_read, ended_early, idle_behind, memory_early}
 
 -- a store that wasn't attached ends them
-pub attach_ends : (command : Command) (app : Application) (sessions : List Session) (k : Span Holding) (script : Script) (ending : Ending) (s : Sinks)
-    → AttachesAs (db_of command) app (keepers k) (Err ending) → k.after.splits ≡ k.before.splits
-    → EndsAttaching command app sessions k script (Err ending) s [] []
-attach_ends command app sessions k script endings.StoreFault s h unsplit = (h.0, record { unattached = h.1; unsplit = unsplit })
-attach_ends command app sessions k script endings.DoorFault s h unsplit = absurd h
-attach_ends command app sessions k script (endings.OtherStore stored wanted) s h unsplit = (h.0, h.1, record { unattached = h.2; unsplit = unsplit })
-attach_ends command app sessions k script endings.Memory s h unsplit = inl (record { unattached = h; unsplit = unsplit })
-attach_ends command app sessions k script (endings.ReadFault role) s h unsplit = absurd h
-attach_ends command app sessions k script (endings.TooLong role) s h unsplit = absurd h
-attach_ends command app sessions k script (endings.AppRefused line) s h unsplit = absurd h
-attach_ends command app sessions k script (endings.NewRefused line) s h unsplit = absurd h
-attach_ends command app sessions k script (endings.UpgradeRefused line) s h unsplit = absurd h
-attach_ends command app sessions k script (endings.LineRefused lapse) s h unsplit = absurd h
-attach_ends command app sessions k script (endings.SessionsRefused line) s h unsplit = absurd h
-attach_ends command app sessions k script endings.WriteFault s h unsplit = absurd h
+pub attach_ends : (command : Command) (app : Application) (sessions : List Session) (k : Span RunSeen) (script : Script) (exit_reason : ExitReason) (s : Sinks)
+    → AttachesAs (db_of command) app (keepers k) (Err exit_reason) → k.after.splits ≡ k.before.splits
+    → EndsAttaching command app sessions k script (Err exit_reason) s [] []
+attach_ends command app sessions k script exits.StoreFault s h unsplit = (h.0, record { unattached = h.1; unsplit = unsplit })
+attach_ends command app sessions k script exits.DoorFault s h unsplit = absurd h
+attach_ends command app sessions k script (exits.OtherStore stored wanted) s h unsplit = (h.0, h.1, record { unattached = h.2; unsplit = unsplit })
+attach_ends command app sessions k script exits.Memory s h unsplit = inl (record { unattached = h; unsplit = unsplit })
+attach_ends command app sessions k script (exits.ReadFault role) s h unsplit = absurd h
+attach_ends command app sessions k script (exits.TooLong role) s h unsplit = absurd h
+attach_ends command app sessions k script (exits.AppRefused line) s h unsplit = absurd h
+attach_ends command app sessions k script (exits.NewRefused line) s h unsplit = absurd h
+attach_ends command app sessions k script (exits.UpgradeRefused line) s h unsplit = absurd h
+attach_ends command app sessions k script (exits.LineRefused event_fault) s h unsplit = absurd h
+attach_ends command app sessions k script (exits.SessionsRefused line) s h unsplit = absurd h
+attach_ends command app sessions k script exits.WriteFault s h unsplit = absurd h
 
--- the events were served on it, by a desk that is as lazy as the command says
-module _ (command : Command) (app : Application) (sessions : List Session) (before opened : KeeperSeen) (splits : ℕ) (after : Holding) (events : List ℕ)
+-- the events were served on it, by a dispatcher that is as lazy as the command says
+module _ (command : Command) (app : Application) (sessions : List Session) (before opened : KeeperSeen) (splits : ℕ) (after : RunSeen) (events : List ℕ)
     (attaches : AttachesAs (db_of command) app (span before opened) (Ok tt)) (stays : after.keeper.store ≡ opened.store) (lazy : Bool) (same : lazy ≡ lazy_of command) where
-  on : (result : Result (Unit {0}) Ending) (s : Sinks) (o a : List ℕ)
-      → EndsServed (answering_of lazy app sessions) (span (holding_of opened splits) after) (script_of events) result s o a
-      → IsServedOn command app sessions (span (holding_of before splits) after) (script_of events) result s o a
+  on : (result : Result (Unit {0}) ExitReason) (s : Sinks) (o a : List ℕ)
+      → EndsServed (answer_spec_of lazy app sessions) (span (run_seen_of opened splits) after) (script_of events) result s o a
+      → IsServedOn command app sessions (span (run_seen_of before splits) after) (script_of events) result s o a
   on result s o a ends = record {
     opened = opened;
     attached = is_attached (db_of command) app before opened after.keeper attaches stays;
-    ends = subst (λ (is : Bool). EndsServed (answering_of is app sessions) (span (holding_of opened splits) after) (script_of events) result s o a) same ends;
+    ends = subst (λ (is : Bool). EndsServed (answer_spec_of is app sessions) (span (run_seen_of opened splits) after) (script_of events) result s o a) same ends;
   }
 
-  pub served_on : (result : Result (Unit {0}) Ending) (s : Sinks) (o a : List ℕ)
-      → EndsServed (answering_of lazy app sessions) (span (holding_of opened splits) after) (script_of events) result s o a
-      → EndsAttaching command app sessions (span (holding_of before splits) after) (script_of events) result s o a
+  pub served_on : (result : Result (Unit {0}) ExitReason) (s : Sinks) (o a : List ℕ)
+      → EndsServed (answer_spec_of lazy app sessions) (span (run_seen_of opened splits) after) (script_of events) result s o a
+      → EndsAttaching command app sessions (span (run_seen_of before splits) after) (script_of events) result s o a
   served_on (Ok done) s o a h = on (Ok done) s o a h
-  served_on (Err (endings.LineRefused lapse)) s o a h = on (Err (endings.LineRefused lapse)) s o a h
-  served_on (Err endings.WriteFault) s o a h = on (Err endings.WriteFault) s o a h
-  served_on (Err endings.Memory) s o a h = inr (on (Err endings.Memory) s o a h)
-  served_on (Err endings.DoorFault) s o a h = absurd h
-  served_on (Err endings.StoreFault) s o a h = absurd h
-  served_on (Err (endings.OtherStore stored wanted)) s o a h = absurd h
-  served_on (Err (endings.ReadFault role)) s o a h = absurd h
-  served_on (Err (endings.TooLong role)) s o a h = absurd h
-  served_on (Err (endings.AppRefused text)) s o a h = absurd h
-  served_on (Err (endings.NewRefused text)) s o a h = absurd h
-  served_on (Err (endings.UpgradeRefused text)) s o a h = absurd h
-  served_on (Err (endings.SessionsRefused n)) s o a h = absurd h
+  served_on (Err (exits.LineRefused event_fault)) s o a h = on (Err (exits.LineRefused event_fault)) s o a h
+  served_on (Err exits.WriteFault) s o a h = on (Err exits.WriteFault) s o a h
+  served_on (Err exits.Memory) s o a h = inr (on (Err exits.Memory) s o a h)
+  served_on (Err exits.DoorFault) s o a h = absurd h
+  served_on (Err exits.StoreFault) s o a h = absurd h
+  served_on (Err (exits.OtherStore stored wanted)) s o a h = absurd h
+  served_on (Err (exits.ReadFault role)) s o a h = absurd h
+  served_on (Err (exits.TooLong role)) s o a h = absurd h
+  served_on (Err (exits.AppRefused text)) s o a h = absurd h
+  served_on (Err (exits.NewRefused text)) s o a h = absurd h
+  served_on (Err (exits.UpgradeRefused text)) s o a h = absurd h
+  served_on (Err (exits.SessionsRefused n)) s o a h = absurd h
 
 -- serving them stopped
-pub served_stopped : (x : Answering) (k : Span Holding) (events : List ℕ) (stopped : Stopped) (s : Sinks) (o a : List ℕ)
-    → ServesAs x k events (Err stopped) s o a → EndsServed x k (script_of events) (Err (ending_of stopped)) s o a
-served_stopped x k events (stops.Refused lapse) s o a h = h
+pub served_stopped : (x : AnswerSpec) (k : Span RunSeen) (events : List ℕ) (stopped : ReplayError) (s : Sinks) (o a : List ℕ)
+    → ServesAs x k events (Err stopped) s o a → EndsServed x k (script_of events) (Err (exit_reason_of stopped)) s o a
+served_stopped x k events (stops.Refused event_fault) s o a h = h
 served_stopped x k events stops.Write s o a h = h
 served_stopped x k events stops.Memory s o a h = h
 
 -- the last steps end a replay
-pub served_ends : (seen : Sight) (splits : Span ℕ) (command : Command) (app : Application) (sessions : List Session) (events out audit : List ℕ) (result : Result (Unit {0}) Ending)
+pub served_ends : (seen : Sight) (splits : Span ℕ) (command : Command) (app : Application) (sessions : List Session) (events out audit : List ℕ) (result : Result (Unit {0}) ExitReason)
     → IsOpened seen command app sessions events → EndsServing (sinks_of seen) command app sessions (held_of seen splits) (script_of events) result out audit
     → EndsReplay seen splits command result out audit
 served_ends seen splits command app sessions events out audit result opened h =
     inr (record { app = app; sessions = sessions; events = events; opened = opened; ends = h })
 
--- what was torn behind the aim was torn within all
-served_within : (x : Answering) (k : Span Holding) (script : Script) (all part : Sinks) (result : Result (Unit {0}) Ending) (o a : List ℕ) → FailsWithin all part
+-- what was torn after the aim was torn within all
+served_within : (x : AnswerSpec) (k : Span RunSeen) (script : Script) (all part : Sinks) (result : Result (Unit {0}) ExitReason) (o a : List ℕ) → FailsWithin all part
     → EndsServed x k script result part o a → EndsServed x k script result all o a
 served_within x k script all part (Ok done) o a within h = h
-served_within x k script all part (Err (endings.LineRefused lapse)) o a within h = h
-served_within x k script all part (Err endings.WriteFault) o a within h = puts_torn_within x k script all part o a within h
-served_within x k script all part (Err endings.Memory) o a within h = h
-served_within x k script all part (Err endings.DoorFault) o a within h = absurd h
-served_within x k script all part (Err endings.StoreFault) o a within h = absurd h
-served_within x k script all part (Err (endings.OtherStore stored wanted)) o a within h = absurd h
-served_within x k script all part (Err (endings.ReadFault role)) o a within h = absurd h
-served_within x k script all part (Err (endings.TooLong role)) o a within h = absurd h
-served_within x k script all part (Err (endings.AppRefused text)) o a within h = absurd h
-served_within x k script all part (Err (endings.NewRefused text)) o a within h = absurd h
-served_within x k script all part (Err (endings.UpgradeRefused text)) o a within h = absurd h
-served_within x k script all part (Err (endings.SessionsRefused n)) o a within h = absurd h
+served_within x k script all part (Err (exits.LineRefused event_fault)) o a within h = h
+served_within x k script all part (Err exits.WriteFault) o a within h = puts_torn_within x k script all part o a within h
+served_within x k script all part (Err exits.Memory) o a within h = h
+served_within x k script all part (Err exits.DoorFault) o a within h = absurd h
+served_within x k script all part (Err exits.StoreFault) o a within h = absurd h
+served_within x k script all part (Err (exits.OtherStore stored wanted)) o a within h = absurd h
+served_within x k script all part (Err (exits.ReadFault role)) o a within h = absurd h
+served_within x k script all part (Err (exits.TooLong role)) o a within h = absurd h
+served_within x k script all part (Err (exits.AppRefused text)) o a within h = absurd h
+served_within x k script all part (Err (exits.NewRefused text)) o a within h = absurd h
+served_within x k script all part (Err (exits.UpgradeRefused text)) o a within h = absurd h
+served_within x k script all part (Err (exits.SessionsRefused n)) o a within h = absurd h
 
-on_within : (command : Command) (app : Application) (sessions : List Session) (k : Span Holding) (script : Script) (all part : Sinks) (result : Result (Unit {0}) Ending) (o a : List ℕ) → FailsWithin all part
+on_within : (command : Command) (app : Application) (sessions : List Session) (k : Span RunSeen) (script : Script) (all part : Sinks) (result : Result (Unit {0}) ExitReason) (o a : List ℕ) → FailsWithin all part
     → IsServedOn command app sessions k script result part o a → IsServedOn command app sessions k script result all o a
 on_within command app sessions k script all part result o a within h = record {
   opened = h.opened;
   attached = h.attached;
-  ends = served_within (answering_of (lazy_of command) app sessions) (span (holding_of h.opened k.before.splits) k.after) script all part result o a within h.ends;
+  ends = served_within (answer_spec_of (lazy_of command) app sessions) (span (run_seen_of h.opened k.before.splits) k.after) script all part result o a within h.ends;
 }
 
 -- the aim and what follows it
-pub serving_behind : (all part : Sinks) (command : Command) (app : Application) (sessions : List Session) (k : Span Holding) (script : Script) (result : Result (Unit {0}) Ending) (o a : List ℕ)
+pub serving_behind : (all part : Sinks) (command : Command) (app : Application) (sessions : List Session) (k : Span RunSeen) (script : Script) (result : Result (Unit {0}) ExitReason) (o a : List ℕ)
     → FailsWithin all part → IsAimed (audit_of command) all.audit → EndsAttaching command app sessions k script result part o a
     → EndsServing all command app sessions k script result o a
 serving_behind all part command app sessions k script (Ok done) o a within aimed h = (aimed, on_within command app sessions k script all part (Ok done) o a within h)
-serving_behind all part command app sessions k script (Err endings.WriteFault) o a within aimed h =
-    inr (aimed, on_within command app sessions k script all part (Err endings.WriteFault) o a within h)
-serving_behind all part command app sessions k script (Err endings.Memory) o a within aimed (inl h) = (aimed, inl h)
-serving_behind all part command app sessions k script (Err endings.Memory) o a within aimed (inr h) =
-    (aimed, inr (on_within command app sessions k script all part (Err endings.Memory) o a within h))
-serving_behind all part command app sessions k script (Err (endings.LineRefused lapse)) o a within aimed h =
-    (aimed, on_within command app sessions k script all part (Err (endings.LineRefused lapse)) o a within h)
-serving_behind all part command app sessions k script (Err endings.StoreFault) o a within aimed h = (aimed, h)
-serving_behind all part command app sessions k script (Err (endings.OtherStore stored wanted)) o a within aimed h = (aimed, h)
-serving_behind all part command app sessions k script (Err endings.DoorFault) o a within aimed h = absurd h.ends
-serving_behind all part command app sessions k script (Err (endings.ReadFault role)) o a within aimed h = absurd h.ends
-serving_behind all part command app sessions k script (Err (endings.TooLong role)) o a within aimed h = absurd h.ends
-serving_behind all part command app sessions k script (Err (endings.AppRefused text)) o a within aimed h = absurd h.ends
-serving_behind all part command app sessions k script (Err (endings.NewRefused text)) o a within aimed h = absurd h.ends
-serving_behind all part command app sessions k script (Err (endings.UpgradeRefused text)) o a within aimed h = absurd h.ends
-serving_behind all part command app sessions k script (Err (endings.SessionsRefused n)) o a within aimed h = absurd h.ends
+serving_behind all part command app sessions k script (Err exits.WriteFault) o a within aimed h =
+    inr (aimed, on_within command app sessions k script all part (Err exits.WriteFault) o a within h)
+serving_behind all part command app sessions k script (Err exits.Memory) o a within aimed (inl h) = (aimed, inl h)
+serving_behind all part command app sessions k script (Err exits.Memory) o a within aimed (inr h) =
+    (aimed, inr (on_within command app sessions k script all part (Err exits.Memory) o a within h))
+serving_behind all part command app sessions k script (Err (exits.LineRefused event_fault)) o a within aimed h =
+    (aimed, on_within command app sessions k script all part (Err (exits.LineRefused event_fault)) o a within h)
+serving_behind all part command app sessions k script (Err exits.StoreFault) o a within aimed h = (aimed, h)
+serving_behind all part command app sessions k script (Err (exits.OtherStore stored wanted)) o a within aimed h = (aimed, h)
+serving_behind all part command app sessions k script (Err exits.DoorFault) o a within aimed h = absurd h.ends
+serving_behind all part command app sessions k script (Err (exits.ReadFault role)) o a within aimed h = absurd h.ends
+serving_behind all part command app sessions k script (Err (exits.TooLong role)) o a within aimed h = absurd h.ends
+serving_behind all part command app sessions k script (Err (exits.AppRefused text)) o a within aimed h = absurd h.ends
+serving_behind all part command app sessions k script (Err (exits.NewRefused text)) o a within aimed h = absurd h.ends
+serving_behind all part command app sessions k script (Err (exits.UpgradeRefused text)) o a within aimed h = absurd h.ends
+serving_behind all part command app sessions k script (Err (exits.SessionsRefused n)) o a within aimed h = absurd h.ends
 
 -- the aim failed
-pub aim_failed : (out audit_before audit_after : SinkSeen) (command : Command) (failed : Failed) (app : Application) (sessions : List Session) (k : Holding) (script : Script)
+pub aim_failed : (out audit_before audit_after : SinkSeen) (command : Command) (failed : Failed) (app : Application) (sessions : List Session) (k : RunSeen) (script : Script)
     → Aims audit_before audit_after (audit_of command) (Err failed)
-    → WentAimed (sinks out out audit_before audit_after) (EndsServing (sinks out out audit_before audit_after) command app sessions (span k k) script (Err endings.WriteFault))
+    → WentAimed (sinks out out audit_before audit_after) (EndsServing (sinks out out audit_before audit_after) command app sessions (span k k) script (Err exits.WriteFault))
 aim_failed out audit_before audit_after command failed app sessions k script aims = record {
   out = [];
   audit = [];
@@ -170,72 +170,72 @@ few_events files replay app sessions events read =
 
 -- a replay that was halted as it began
 module _ (files : Span FilesSeen) (out audit later : SinkSeen) (before after : KeeperSeen) (splits : ℕ) (replay : Replay) where
-  replay_idle : (ending : Ending) → IsEndedEarly (sight_of files (span out out) (span audit later) (span before after)) (commands.Replay replay) (Err ending) [] [] → later ≡ audit
-      → WentAimed (sinks out out audit later) (EndsReplay (sight_of files (span out out) (span audit later) (span before after)) (span splits splits) (commands.Replay replay) (Err ending))
-  replay_idle ending early uncalled = idle_behind out audit later _ uncalled (inl (early, refl))
+  replay_idle : (exit_reason : ExitReason) → IsEndedEarly (sight_of files (span out out) (span audit later) (span before after)) (commands.Replay replay) (Err exit_reason) [] [] → later ≡ audit
+      → WentAimed (sinks out out audit later) (EndsReplay (sight_of files (span out out) (span audit later) (span before after)) (span splits splits) (commands.Replay replay) (Err exit_reason))
+  replay_idle exit_reason early uncalled = idle_behind out audit later _ uncalled (inl (early, refl))
 
   module _ (app : Application) (sessions : List Session) (events : List ℕ) (read : AreFilesRead (commands.Replay replay) files app sessions events) where
     replay_unaimed : (failed : Failed) → Aims audit later replay.audit (Err failed)
-        → WentAimed (sinks out out audit later) (EndsReplay (sight_of files (span out out) (span audit later) (span before before)) (span splits splits) (commands.Replay replay) (Err endings.WriteFault))
+        → WentAimed (sinks out out audit later) (EndsReplay (sight_of files (span out out) (span audit later) (span before before)) (span splits splits) (commands.Replay replay) (Err exits.WriteFault))
     replay_unaimed failed aims =
         let seen = sight_of files (span out out) (span audit later) (span before before) in
         WentAimed-on (sinks out out audit later) _ _
         (λ o a h.
-        served_ends seen (span splits splits) (commands.Replay replay) app sessions events o a (Err endings.WriteFault)
+        served_ends seen (span splits splits) (commands.Replay replay) app sessions events o a (Err exits.WriteFault)
         (replay_opened files (span out out) (span audit later) (span before before) replay app sessions events read) h)
-        (aim_failed out audit later (commands.Replay replay) failed app sessions (holding_of before splits) (script_of events) aims)
+        (aim_failed out audit later (commands.Replay replay) failed app sessions (run_seen_of before splits) (script_of events) aims)
 
-    replay_barred : (ending : Ending) → Aims audit later replay.audit (Ok tt) → AttachesAs replay.db app (span before after) (Err ending)
-        → WentAimed (sinks out out audit later) (EndsReplay (sight_of files (span out out) (span audit later) (span before after)) (span splits splits) (commands.Replay replay) (Err ending))
-    replay_barred ending aims attaches =
+    replay_barred : (exit_reason : ExitReason) → Aims audit later replay.audit (Ok tt) → AttachesAs replay.db app (span before after) (Err exit_reason)
+        → WentAimed (sinks out out audit later) (EndsReplay (sight_of files (span out out) (span audit later) (span before after)) (span splits splits) (commands.Replay replay) (Err exit_reason))
+    replay_barred exit_reason aims attaches =
         let command = commands.Replay replay in
         let seen = sight_of files (span out out) (span audit later) (span before after) in
-        let k = span (holding_of before splits) (holding_of after splits) in
+        let k = span (run_seen_of before splits) (run_seen_of after splits) in
         went_aimed out out audit later later replay.audit tt aims _ _
         (λ is_aimed o a h.
-        served_ends seen (span splits splits) command app sessions events o a (Err ending)
+        served_ends seen (span splits splits) command app sessions events o a (Err exit_reason)
         (replay_opened files (span out out) (span audit later) (span before after) replay app sessions events read)
-        (serving_behind (sinks out out audit later) (sinks out out later later) command app sessions k (script_of events) (Err ending) o a
+        (serving_behind (sinks out out audit later) (sinks out out later later) command app sessions k (script_of events) (Err exit_reason) o a
         (fails_behind out out out audit later later (omega arith) aims.later) is_aimed h))
-        (Went-none out later (EndsAttaching command app sessions k (script_of events) (Err ending) (sinks out out later later))
-        (attach_ends command app sessions k (script_of events) ending (sinks out out later later) attaches refl))
+        (Went-none out later (EndsAttaching command app sessions k (script_of events) (Err exit_reason) (sinks out out later later))
+        (attach_ends command app sessions k (script_of events) exit_reason (sinks out out later later) attaches refl))
 
-    replay_stopped : (ending : Ending) → after ≡ before → EndsAim replay.audit (span audit later) (Err ending)
-        → WentAimed (sinks out out audit later) (EndsReplay (sight_of files (span out out) (span audit later) (span before after)) (span splits splits) (commands.Replay replay) (Err ending))
-    replay_stopped ending still (inl (failed, is, aims)) =
-        subst (λ (e : Ending). WentAimed (sinks out out audit later) (EndsReplay (sight_of files (span out out) (span audit later) (span before after)) (span splits splits) (commands.Replay replay) (Err e))) (sym is)
-        (subst (λ (k : KeeperSeen). WentAimed (sinks out out audit later) (EndsReplay (sight_of files (span out out) (span audit later) (span before k)) (span splits splits) (commands.Replay replay) (Err endings.WriteFault))) (sym still)
+    replay_stopped : (exit_reason : ExitReason) → after ≡ before → EndsAim replay.audit (span audit later) (Err exit_reason)
+        → WentAimed (sinks out out audit later) (EndsReplay (sight_of files (span out out) (span audit later) (span before after)) (span splits splits) (commands.Replay replay) (Err exit_reason))
+    replay_stopped exit_reason still (inl (failed, is, aims)) =
+        subst (λ (e : ExitReason). WentAimed (sinks out out audit later) (EndsReplay (sight_of files (span out out) (span audit later) (span before after)) (span splits splits) (commands.Replay replay) (Err e))) (sym is)
+        (subst (λ (k : KeeperSeen). WentAimed (sinks out out audit later) (EndsReplay (sight_of files (span out out) (span audit later) (span before k)) (span splits splits) (commands.Replay replay) (Err exits.WriteFault))) (sym still)
         (replay_unaimed failed aims))
-    replay_stopped ending still (inr (is, uncalled)) =
-        subst (λ (e : Ending). WentAimed (sinks out out audit later) (EndsReplay (sight_of files (span out out) (span audit later) (span before after)) (span splits splits) (commands.Replay replay) (Err e))) (sym is)
-        (replay_idle endings.Memory (memory_early (commands.Replay replay) files (span out out) (span audit later) (span before after) uncalled still) uncalled)
+    replay_stopped exit_reason still (inr (is, uncalled)) =
+        subst (λ (e : ExitReason). WentAimed (sinks out out audit later) (EndsReplay (sight_of files (span out out) (span audit later) (span before after)) (span splits splits) (commands.Replay replay) (Err e))) (sym is)
+        (replay_idle exits.Memory (memory_early (commands.Replay replay) files (span out out) (span audit later) (span before after) uncalled still) uncalled)
 
-    replay_behind : (ending : Ending) → IsStoppedAiming (commands.Replay replay) (span audit later) (span before after) ending ⊎ IsBarred (commands.Replay replay) app (span audit later) (span before after) ending
-        → WentAimed (sinks out out audit later) (EndsReplay (sight_of files (span out out) (span audit later) (span before after)) (span splits splits) (commands.Replay replay) (Err ending))
-    replay_behind ending (inr barred) = replay_barred ending barred.aims barred.attaches
-    replay_behind ending (inl stopped) = replay_stopped ending stopped.still stopped.aims
+    replay_behind : (exit_reason : ExitReason) → IsStoppedAiming (commands.Replay replay) (span audit later) (span before after) exit_reason ⊎ IsBarred (commands.Replay replay) app (span audit later) (span before after) exit_reason
+        → WentAimed (sinks out out audit later) (EndsReplay (sight_of files (span out out) (span audit later) (span before after)) (span splits splits) (commands.Replay replay) (Err exit_reason))
+    replay_behind exit_reason (inr barred) = replay_barred exit_reason barred.aims barred.attaches
+    replay_behind exit_reason (inl stopped) = replay_stopped exit_reason stopped.still stopped.aims
 
-  pub replay_halted : (ending : Ending) → IsHalted (commands.Replay replay) files (span audit later) (span before after) ending
-      → WentAimed (sinks out out audit later) (EndsReplay (sight_of files (span out out) (span audit later) (span before after)) (span splits splits) (commands.Replay replay) (Err ending))
-  replay_halted ending (inl early) = replay_idle ending (ended_early (commands.Replay replay) files (span out out) (span audit later) (span before after) ending early) early.uncalled
-  replay_halted ending (inr behind) = replay_behind behind.app behind.sessions behind.events behind.read ending behind.halts
+  pub replay_halted : (exit_reason : ExitReason) → IsHalted (commands.Replay replay) files (span audit later) (span before after) exit_reason
+      → WentAimed (sinks out out audit later) (EndsReplay (sight_of files (span out out) (span audit later) (span before after)) (span splits splits) (commands.Replay replay) (Err exit_reason))
+  replay_halted exit_reason (inl early) = replay_idle exit_reason (ended_early (commands.Replay replay) files (span out out) (span audit later) (span before after) exit_reason early) early.uncalled
+  replay_halted exit_reason (inr behind) = replay_behind behind.app behind.sessions behind.events behind.read exit_reason behind.halts
 
 -- one that began, and then served its events
 pub replay_served : (files : Span FilesSeen) (out_before out_after audit aimed later : SinkSeen) (before opened after : KeeperSeen) (splits more : ℕ) (replay : Replay)
-    (app : Application) (sessions : List Session) (events : List ℕ) (result : Result (Unit {0}) Ending)
+    (app : Application) (sessions : List Session) (events : List ℕ) (result : Result (Unit {0}) ExitReason)
     → HasBegun (commands.Replay replay) files (span audit aimed) (span before opened) app sessions events → after.store ≡ opened.store
-    → WentWith (sinks out_before out_after aimed later) (EndsServed (answering_of replay.lazy app sessions) (span (holding_of opened splits) (holding_of after more)) (script_of events) result)
+    → WentWith (sinks out_before out_after aimed later) (EndsServed (answer_spec_of replay.lazy app sessions) (span (run_seen_of opened splits) (run_seen_of after more)) (script_of events) result)
     → WentAimed (sinks out_before out_after audit later)
     (EndsReplay (sight_of files (span out_before out_after) (span audit later) (span before after)) (span splits more) (commands.Replay replay) result)
 replay_served files out_before out_after audit aimed later before opened after splits more replay app sessions events result begun stays went =
     let command = commands.Replay replay in
     let seen = sight_of files (span out_before out_after) (span audit later) (span before after) in
-    let k = span (holding_of before splits) (holding_of after more) in
+    let k = span (run_seen_of before splits) (run_seen_of after more) in
     went_aimed out_before out_after audit aimed later replay.audit tt begun.aims _ _
     (λ is_aimed o a h.
     served_ends seen (span splits more) command app sessions events o a result
     (replay_opened files (span out_before out_after) (span audit later) (span before after) replay app sessions events begun.read)
     (serving_behind (sinks out_before out_after audit later) (sinks out_before out_after aimed later) command app sessions k (script_of events) result o a
     (fails_behind out_before out_before out_after audit aimed later (omega arith) begun.aims.later) is_aimed
-    (served_on command app sessions before opened splits (holding_of after more) events begun.attaches stays replay.lazy refl result (sinks out_before out_after aimed later) o a h)))
+    (served_on command app sessions before opened splits (run_seen_of after more) events begun.attaches stays replay.lazy refl result (sinks out_before out_after aimed later) o a h)))
     went

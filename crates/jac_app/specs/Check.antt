@@ -1,11 +1,11 @@
 -- How the steps of a check end.
 use Rattle.std.specs.Prelude.{◌⊎◌, ℕ, Result, List, [], ◌++◌, length, codes, decimal}
 use Rattle.jac_lang.specs.Syntax.{Application}
-use Rattle.jac_words.specs.declared.words.Command.{Command}
-use Rattle.jac_ending.specs.declared.ending.Ending.{Ending}
-use Rattle.jac_ending.specs.Files.{Sight, HasApplication, IsIdle}
-use Rattle.jac_ending.specs.Early.{IsEndedEarly}
-use Rattle.jac_ending.specs.Ending.{PutsText}
+use Rattle.jac_cli.specs.declared.words.Command.{Command}
+use Rattle.jac_command_base.specs.declared.exit_reason.ExitReason.{ExitReason}
+use Rattle.jac_command_base.specs.Files.{Sight, HasApplication, IsIdle}
+use Rattle.jac_command_base.specs.Early.{IsEndedEarly}
+use Rattle.jac_command_base.specs.ExitReason.{PutsText}
 
 -- `ok M models, V views`, and how many there are
 abbrev pub checked_text : Application → List ℕ
@@ -13,7 +13,7 @@ checked_text app = codes "ok " ++ decimal (length app.models) ++ codes " models,
     (length app.views) ++ codes " views\n"
 
 -- the application was read, and its counts were put
-pub record PutsChecked (seen : Sight) (command : Command) (result : Result (Unit {0}) Ending)
+pub record PutsChecked (seen : Sight) (command : Command) (result : Result (Unit {0}) ExitReason)
     (out audit : List ℕ) : Type 0 where
   pub app : Application
   pub application : HasApplication seen command app
@@ -21,6 +21,6 @@ pub record PutsChecked (seen : Sight) (command : Command) (result : Result (Unit
   pub idle : IsIdle seen.audit seen.keeper [] audit
 
 -- what the steps of a check put, and why they ended
-abbrev pub EndsCheck : Sight → Command → Result (Unit {0}) Ending → List ℕ → List ℕ → Type 0
+abbrev pub EndsCheck : Sight → Command → Result (Unit {0}) ExitReason → List ℕ → List ℕ → Type 0
 EndsCheck seen command result out audit = IsEndedEarly seen command result out audit
     ⊎ PutsChecked seen command result out audit

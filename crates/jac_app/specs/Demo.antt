@@ -13,27 +13,27 @@ use Rattle.jac_replies.specs.declared.answer.Ask.{Ask}
 use Rattle.jac_events.specs.declared.event.Event.{Event}
 use Rattle.jac_events.specs.declared.event.Event.TheVariants.{Ask as Asking, Begin, Piece, Finish}
 use Rattle.jac_hub.specs.Hearing.{whole}
-use Rattle.jac_desk.specs.declared.answer.Via.TheVariants as ways
+use Rattle.jac_dispatch.specs.declared.answer.RequestSource.TheVariants as ways
 use Rattle.jac_app.specs.declared.demo.DemoFault.{DemoFault}
 use Rattle.jac_app.specs.declared.demo.DemoFault.TheVariants as faults
-use Rattle.jac_ending.specs.declared.ending.Ending.{Ending}
-use Rattle.jac_ending.specs.declared.ending.Ending.TheVariants as endings
+use Rattle.jac_command_base.specs.declared.exit_reason.ExitReason.{ExitReason}
+use Rattle.jac_command_base.specs.declared.exit_reason.ExitReason.TheVariants as exits
 use Rattle.jac_app.specs.declared.summary.Summary.{Summary}
 use Rattle.jac_app.specs.declared.summary.Tally.{Tally}
-use Rattle.jac_opening.specs.Application.{IsApplication, schema_text}
-use Rattle.jac_desk.specs.Asked.{ask_in}
-use Rattle.jac_ending.specs.Ending.{PutsText}
+use Rattle.jac_app_load.specs.Application.{IsApplication, schema_text}
+use Rattle.jac_dispatch.specs.Asked.{ask_in}
+use Rattle.jac_command_base.specs.ExitReason.{PutsText}
 use Rattle.jac_app.specs.Held.{IsUnstarted, IsLeftAlone}
-use Rattle.jac_ending.specs.Files.{IsAimed, IsUnopened}
-use Rattle.jac_serving.specs.Keeping.{Holding, holding_of, keepers, IsStill}
-use Rattle.jac_serving.specs.Answering.{LogEntry}
-use Rattle.jac_serving.specs.Log.{method_of, audit_line, audit_lines}
+use Rattle.jac_command_base.specs.Files.{IsAimed, IsUnopened}
+use Rattle.jac_serve_events.specs.RunSeen.{RunSeen, run_seen_of, keepers, IsStill}
+use Rattle.jac_serve_events.specs.AnswerSpec.{LogEntry}
+use Rattle.jac_serve_events.specs.Log.{method_of, audit_line, audit_lines}
 use Rattle.jac_replies.specs.Spelled.{audit_text}
-use Rattle.jac_serving.specs.Outside.{Span, span, Sinks, IsFront}
-use Rattle.jac_ending.specs.Attached.{IsAttached, IsOther}
-use Rattle.jac_serving.specs.Script.{Script, script_of}
-use Rattle.jac_desk.specs.Answered.{IsAnswerMade, IsEntryOf, answering_of}
-use Rattle.jac_serving.specs.Serve.{IsServed}
+use Rattle.jac_serve_events.specs.Outside.{Span, span, Sinks, IsFront}
+use Rattle.jac_command_base.specs.Attached.{IsAttached, IsOther}
+use Rattle.jac_serve_events.specs.Script.{Script, script_of}
+use Rattle.jac_dispatch.specs.Answered.{IsAnswerMade, IsEntryOf, answer_spec_of}
+use Rattle.jac_serve_events.specs.Serve.{IsServed}
 
 -- how many entries are of requests by this method
 abbrev pub asks_by : List ℕ → List LogEntry → ℕ
@@ -102,7 +102,7 @@ summary_line summary = counts_text summary ++ sizes_text summary ++ codes "\n"
 
 -- a request was answered and its answer stored; this follows the number of its audit line, and this
 -- is counted of it
-pub record IsCounted (app : Application) (k : Span Holding) (ask : Ask) (audit : List ℕ)
+pub record IsCounted (app : Application) (k : Span RunSeen) (ask : Ask) (audit : List ℕ)
     (tally : Tally) : Type 0 where
   pub reply : List ℕ
   pub made : IsAnswerMade false app k ways.Line ask reply audit
@@ -113,15 +113,15 @@ abbrev pub PutsTally : List ℕ → Tally → Result Tally Failed → List ℕ �
 PutsTally line tally (Ok counts) put = (put ≡ line) × (counts ≡ tally)
 PutsTally line tally (Err failed) put = IsFront put line
 
--- the request of an `ask` line is answered, behind so many others, and its audit line is torn
-abbrev pub TearsAsk : Application → Span Holding → ℕ → Ask → List ℕ → Type 0
+-- the request of an `ask` line is answered, after so many others, and its audit line is torn
+abbrev pub TearsAsk : Application → Span RunSeen → ℕ → Ask → List ℕ → Type 0
 TearsAsk app k served ask audit =
     (answer : Answer) × IsEntryOf false app k (whole ask false) answer
     × IsFront audit (audit_text (served + 1) answer.status ask.viewer answer.shown
     answer.consulted)
 
 -- or it is put whole, and this is counted
-abbrev pub TalliesAsk : Application → Span Holding → ℕ → Ask → Result Tally Failed → List ℕ → Type 0
+abbrev pub TalliesAsk : Application → Span RunSeen → ℕ → Ask → Result Tally Failed → List ℕ → Type 0
 TalliesAsk app k served ask (Ok tally) audit =
     (answer : Answer) × IsEntryOf false app k (whole ask false) answer
     × (audit ≡ audit_text (served + 1) answer.status ask.viewer answer.shown answer.consulted)
@@ -129,7 +129,7 @@ TalliesAsk app k served ask (Ok tally) audit =
 TalliesAsk app k served ask (Err failed) audit = TearsAsk app k served ask audit
 
 -- a request is answered and counted
-abbrev pub TalliesBy : Application → Span Holding → Summary → List ℕ → Ask
+abbrev pub TalliesBy : Application → Span RunSeen → Summary → List ℕ → Ask
     → Result Summary DemoFault → List ℕ → Type 0
 TalliesBy app k summary method ask (Ok new) audit =
     (tally : Tally) × TalliesAsk app k summary.asks ask (Ok tally) audit
@@ -137,7 +137,7 @@ TalliesBy app k summary method ask (Ok new) audit =
 TalliesBy app k summary method ask (Err faults.Write) audit = TearsAsk app k summary.asks ask audit
 TalliesBy app k summary method ask (Err faults.Memory) audit = ⊥
 
-abbrev pub TalliesEvent : Application → Span Holding → Summary → Event → Result Summary DemoFault
+abbrev pub TalliesEvent : Application → Span RunSeen → Summary → Event → Result Summary DemoFault
     → List ℕ → Type 0
 TalliesEvent app k summary (Asking viewer method path query body) result audit =
     TalliesBy app k summary method (ask_in app viewer method path query body) result audit
@@ -146,7 +146,7 @@ TalliesEvent app k summary (Piece c bytes) result audit = ⊥
 TalliesEvent app k summary (Finish c) result audit = ⊥
 
 -- a line by what it writes down: nothing or a request, unless memory runs out
-abbrev pub TalliesLine : Application → Span Holding → Summary → Option (Option Event)
+abbrev pub TalliesLine : Application → Span RunSeen → Summary → Option (Option Event)
     → Result Summary DemoFault → List ℕ → Type 0
 TalliesLine app k summary written (Err faults.Memory) audit = (audit ≡ []) × IsStill k
 TalliesLine app k summary None result audit = ⊥
@@ -157,23 +157,23 @@ TalliesLine app k summary (Some (Some event)) result audit = TalliesEvent app k 
 
 -- these events were served, or, where it may stop early, the first of them; the audit has the lines
 -- of the log
-pub record Tallied (early : Bool) (app : Application) (k : Span Holding) (events : List Event)
+pub record Tallied (early : Bool) (app : Application) (k : Span RunSeen) (events : List Event)
     (log : List LogEntry) (audit : List ℕ) : Type 0 where
-  pub served : IsServed early (answering_of false app []) k events log
+  pub served : IsServed early (answer_spec_of false app []) k events log
   pub audit_text : audit ≡ audit_lines log
 
 -- the first events were served, and the audit line of the last of these was torn
-pub record TalliedTorn (app : Application) (k : Span Holding) (events : List Event)
+pub record TalliedTorn (app : Application) (k : Span RunSeen) (events : List Event)
     (audit : List ℕ) : Type 0 where
   pub log : List LogEntry
   pub entry : LogEntry
   pub more : List ℕ
-  pub served : IsServed true (answering_of false app []) k events (log ++ entry ∷ [])
+  pub served : IsServed true (answer_spec_of false app []) k events (log ++ entry ∷ [])
   pub torn : IsFront more (audit_line (length log + 1) entry)
   pub audit_text : audit ≡ audit_lines log ++ more
 
 -- how serving a script in silence ends
-abbrev pub Tallies : Application → Span Holding → Script → Result Summary DemoFault → List ℕ
+abbrev pub Tallies : Application → Span RunSeen → Script → Result Summary DemoFault → List ℕ
     → Type 0
 Tallies app k script (Ok summary) audit =
     (script.refused ≡ None) × ((log : List LogEntry) × Tallied false app k script.events log audit
@@ -187,69 +187,74 @@ abbrev pub demo_script : ℕ → Script
 demo_script count = script_of (demo_text count)
 
 -- a store without a name was attached, and the requests were answered on what it keeps
-pub record IsTalliedOn (app : Application) (k : Span Holding) (count : ℕ)
+pub record IsTalliedOn (app : Application) (k : Span RunSeen) (count : ℕ)
     (result : Result Summary DemoFault) (audit : List ℕ) : Type 0 where
   pub opened : KeeperSeen
   pub attached : IsAttached None app (keepers k) opened
-  pub tallies : Tallies app (span (holding_of opened k.before.splits) k.after) (demo_script count)
+  pub tallies : Tallies app (span (run_seen_of opened k.before.splits) k.after) (demo_script count)
       result audit
 
 -- how the steps from the attaching on end
-abbrev pub EndsTallying : Application → Span Holding → ℕ → Result Summary Ending → List ℕ → Type 0
+abbrev pub EndsTallying : Application → Span RunSeen → ℕ → Result Summary ExitReason → List ℕ → Type
+    0
 EndsTallying app k count (Ok summary) audit = IsTalliedOn app k count (Ok summary) audit
-EndsTallying app k count (Err endings.WriteFault) audit = IsTalliedOn app k count (Err faults.Write)
+EndsTallying app k count (Err exits.WriteFault) audit = IsTalliedOn app k count (Err faults.Write)
     audit
-EndsTallying app k count (Err endings.Memory) audit = IsUnstarted k [] audit
+EndsTallying app k count (Err exits.Memory) audit = IsUnstarted k [] audit
     ⊎ IsTalliedOn app k count (Err faults.Memory) audit
-EndsTallying app k count (Err endings.StoreFault) audit = Rose k.before.keeper.faults
+EndsTallying app k count (Err exits.StoreFault) audit = Rose k.before.keeper.faults
     k.after.keeper.faults × IsUnstarted k [] audit
-EndsTallying app k count (Err (endings.OtherStore stored wanted)) audit =
+EndsTallying app k count (Err (exits.OtherStore stored wanted)) audit =
     (wanted ≡ schema_text app) × IsOther (keepers k) stored wanted × IsUnstarted k [] audit
-EndsTallying app k count (Err ending) audit = ⊥
+EndsTallying app k count (Err exit_reason) audit = ⊥
 
 -- the line of the summary is put, or the front of it where that put fails; no line where there is
 -- no summary
-abbrev pub PutsSummary : Span SinkSeen → Result Summary Ending → Result (Unit {0}) Ending → List ℕ
+abbrev pub PutsSummary : Span SinkSeen → Result Summary ExitReason → Result (Unit {0}) ExitReason →
+    List ℕ
     → Type 0
 PutsSummary out (Ok summary) result put = PutsText out (summary_line summary) result put
-PutsSummary out (Err ending) result put = (result ≡ Err ending) × (put ≡ [])
+PutsSummary out (Err exit_reason) result put = (result ≡ Err exit_reason) × (put ≡ [])
 
 -- the requests were counted, and their summary is told
-pub record IsDemoTold (s : Sinks) (app : Application) (k : Span Holding) (count : ℕ)
-    (result : Result (Unit {0}) Ending) (out audit : List ℕ) : Type 0 where
-  pub ended : Result Summary Ending
+pub record IsDemoTold (s : Sinks) (app : Application) (k : Span RunSeen) (count : ℕ)
+    (result : Result (Unit {0}) ExitReason) (out audit : List ℕ) : Type 0 where
+  pub ended : Result Summary ExitReason
   pub ends : EndsTallying app k count ended audit
-  pub rose : ended ≡ Err endings.WriteFault → Rose s.audit.before.faults s.audit.after.faults
+  pub rose : ended ≡ Err exits.WriteFault → Rose s.audit.before.faults s.audit.after.faults
   pub told : PutsSummary s.out ended result out
 
 -- the audit's aim failed
-pub record IsUnaimed (s : Sinks) (k : Span Holding) (result : Result (Unit {0}) Ending)
+pub record IsUnaimed (s : Sinks) (k : Span RunSeen) (result : Result (Unit {0}) ExitReason)
     (out audit : List ℕ) : Type 0 where
-  pub fault : result ≡ Err endings.WriteFault
+  pub fault : result ≡ Err exits.WriteFault
   pub rose : Rose s.audit.before.faults s.audit.after.faults
   pub untouched : IsLeftAlone s.audit k out audit
 
 -- how the steps from the audit's aim on end
-abbrev pub EndsCounting : Sinks → Application → Span Holding → ℕ → Result (Unit {0}) Ending → List ℕ
+abbrev pub EndsCounting : Sinks → Application → Span RunSeen → ℕ → Result (Unit {0}) ExitReason →
+    List ℕ
     → List ℕ → Type 0
 EndsCounting s app k count result out audit =
     IsUnaimed s k result out audit ⊎ (IsAimed None s.audit
     × IsDemoTold s app k count result out audit)
 
 -- the calendar was read, and the requests were answered
-pub record IsDemo (s : Sinks) (k : Span Holding) (count : ℕ) (result : Result (Unit {0}) Ending)
+pub record IsDemo (s : Sinks) (k : Span RunSeen) (count : ℕ) (result : Result (Unit {0}) ExitReason)
     (out audit : List ℕ) : Type 0 where
   pub app : Application
   pub calendar : IsApplication calendar_text app
   pub ends : EndsCounting s app k count result out audit
 
 -- the calendar wasn't read, or memory ran out before the audit was aimed
-abbrev pub IsUncounted : Sinks → Span Holding → Result (Unit {0}) Ending → List ℕ → List ℕ → Type 0
+abbrev pub IsUncounted : Sinks → Span RunSeen → Result (Unit {0}) ExitReason → List ℕ → List ℕ
+    → Type 0
 IsUncounted s k (Ok done) out audit = ⊥
-IsUncounted s k (Err ending) out audit = IsUnopened calendar_text ending
+IsUncounted s k (Err exit_reason) out audit = IsUnopened calendar_text exit_reason
     × IsLeftAlone s.audit k out audit
 
 -- what the steps of a demo put, and why they ended
-abbrev pub EndsDemo : Sinks → Span Holding → ℕ → Result (Unit {0}) Ending → List ℕ → List ℕ → Type 0
+abbrev pub EndsDemo : Sinks → Span RunSeen → ℕ → Result (Unit {0}) ExitReason → List ℕ → List ℕ
+    → Type 0
 EndsDemo s k count result out audit = IsUncounted s k result out audit
     ⊎ IsDemo s k count result out audit

@@ -4,70 +4,70 @@ use Rattle.jac_io.specs.Faults.{Rose}
 use Rattle.jac_lang.specs.Syntax.{Application}
 use Rattle.jac_keep.specs.KeeperSeen.{KeeperSeen}
 use Rattle.jac_route.specs.declared.sessions.Session.{Session}
-use Rattle.jac_words.specs.declared.words.Command.{Command}
-use Rattle.jac_ending.specs.declared.ending.Ending.{Ending}
-use Rattle.jac_ending.specs.declared.ending.Ending.TheVariants as endings
-use Rattle.jac_opening.specs.Application.{schema_text}
-use Rattle.jac_desk.specs.Answered.{answering_of}
-use Rattle.jac_serving.specs.Answering.{Answering}
-use Rattle.jac_serving.specs.Keeping.{Holding, holding_of, keepers, IsStill}
-use Rattle.jac_serving.specs.Outside.{Span, span, Sinks, HasFaulted}
-use Rattle.jac_words.specs.Commands.{audit_of, db_of, lazy_of}
-use Rattle.jac_ending.specs.Files.{Sight, sinks_of, IsOpened, IsAimed}
-use Rattle.jac_serving.specs.Script.{Script, script_of}
-use Rattle.jac_serving.specs.Serve.{PutsServed, PutsTorn}
-use Rattle.jac_ending.specs.Attached.{IsAttached, IsOther}
-use Rattle.jac_ending.specs.Early.{IsEndedEarly}
+use Rattle.jac_cli.specs.declared.words.Command.{Command}
+use Rattle.jac_command_base.specs.declared.exit_reason.ExitReason.{ExitReason}
+use Rattle.jac_command_base.specs.declared.exit_reason.ExitReason.TheVariants as exits
+use Rattle.jac_app_load.specs.Application.{schema_text}
+use Rattle.jac_dispatch.specs.Answered.{answer_spec_of}
+use Rattle.jac_serve_events.specs.AnswerSpec.{AnswerSpec}
+use Rattle.jac_serve_events.specs.RunSeen.{RunSeen, run_seen_of, keepers, IsStill}
+use Rattle.jac_serve_events.specs.Outside.{Span, span, Sinks, HasFaulted}
+use Rattle.jac_cli.specs.Commands.{audit_of, db_of, lazy_of}
+use Rattle.jac_command_base.specs.Files.{Sight, sinks_of, IsOpened, IsAimed}
+use Rattle.jac_serve_events.specs.Script.{Script, script_of}
+use Rattle.jac_serve_events.specs.Serve.{PutsServed, PutsTorn}
+use Rattle.jac_command_base.specs.Attached.{IsAttached, IsOther}
+use Rattle.jac_command_base.specs.Early.{IsEndedEarly}
 use Rattle.jac_app.specs.Held.{held_of, IsUnstarted, IsLeftAlone}
 
 -- how the events of a script are served on an attached store: what was torn was so on the sink that
 -- failed
-abbrev pub EndsServed : Answering → Span Holding → Script → Result (Unit {0}) Ending → Sinks
+abbrev pub EndsServed : AnswerSpec → Span RunSeen → Script → Result (Unit {0}) ExitReason → Sinks
     → List ℕ → List ℕ → Type 0
 EndsServed x k script (Ok done) s out audit =
     (script.refused ≡ None) × PutsServed false x k script out audit
-EndsServed x k script (Err (endings.LineRefused lapse)) s out audit =
-    (script.refused ≡ Some lapse) × PutsServed false x k script out audit
-EndsServed x k script (Err endings.WriteFault) s out audit = PutsTorn x k script s out audit
-EndsServed x k script (Err endings.Memory) s out audit = PutsServed true x k script out audit
-EndsServed x k script (Err ending) s out audit = ⊥
+EndsServed x k script (Err (exits.LineRefused event_fault)) s out audit =
+    (script.refused ≡ Some event_fault) × PutsServed false x k script out audit
+EndsServed x k script (Err exits.WriteFault) s out audit = PutsTorn x k script s out audit
+EndsServed x k script (Err exits.Memory) s out audit = PutsServed true x k script out audit
+EndsServed x k script (Err exit_reason) s out audit = ⊥
 
 -- a store was attached, and the events were served from what it keeps; attaching it split no facet
 pub record IsServedOn (command : Command) (app : Application) (sessions : List Session)
-    (k : Span Holding) (script : Script) (result : Result (Unit {0}) Ending) (s : Sinks)
+    (k : Span RunSeen) (script : Script) (result : Result (Unit {0}) ExitReason) (s : Sinks)
     (out audit : List ℕ) : Type 0 where
   pub opened : KeeperSeen
   pub attached : IsAttached (db_of command) app (keepers k) opened
-  pub ends : EndsServed (answering_of (lazy_of command) app sessions)
-      (span (holding_of opened k.before.splits) k.after) script result s out audit
+  pub ends : EndsServed (answer_spec_of (lazy_of command) app sessions)
+      (span (run_seen_of opened k.before.splits) k.after) script result s out audit
 
 -- how the steps from the attaching on end
-abbrev pub EndsAttaching : Command → Application → List Session → Span Holding → Script
-    → Result (Unit {0}) Ending → Sinks → List ℕ → List ℕ → Type 0
-EndsAttaching command app sessions k script (Err endings.StoreFault) s out audit =
+abbrev pub EndsAttaching : Command → Application → List Session → Span RunSeen → Script
+    → Result (Unit {0}) ExitReason → Sinks → List ℕ → List ℕ → Type 0
+EndsAttaching command app sessions k script (Err exits.StoreFault) s out audit =
     Rose k.before.keeper.faults k.after.keeper.faults × IsUnstarted k out audit
-EndsAttaching command app sessions k script (Err (endings.OtherStore stored wanted)) s out audit =
+EndsAttaching command app sessions k script (Err (exits.OtherStore stored wanted)) s out audit =
     (wanted ≡ schema_text app) × IsOther (keepers k) stored wanted × IsUnstarted k out audit
-EndsAttaching command app sessions k script (Err endings.Memory) s out audit =
+EndsAttaching command app sessions k script (Err exits.Memory) s out audit =
     IsUnstarted k out audit
-    ⊎ IsServedOn command app sessions k script (Err endings.Memory) s out audit
+    ⊎ IsServedOn command app sessions k script (Err exits.Memory) s out audit
 EndsAttaching command app sessions k script result s out audit =
     IsServedOn command app sessions k script result s out audit
 
--- how the steps from the audit's aim on end: that failed, or a put behind it
-abbrev pub EndsServing : Sinks → Command → Application → List Session → Span Holding → Script
-    → Result (Unit {0}) Ending → List ℕ → List ℕ → Type 0
-EndsServing s command app sessions k script (Err endings.WriteFault) out audit =
+-- how the steps from the audit's aim on end: that failed, or a put after it
+abbrev pub EndsServing : Sinks → Command → Application → List Session → Span RunSeen → Script
+    → Result (Unit {0}) ExitReason → List ℕ → List ℕ → Type 0
+EndsServing s command app sessions k script (Err exits.WriteFault) out audit =
     (HasFaulted s.audit × IsLeftAlone s.audit k out audit)
     ⊎ (IsAimed (audit_of command) s.audit
-    × EndsAttaching command app sessions k script (Err endings.WriteFault) s out audit)
+    × EndsAttaching command app sessions k script (Err exits.WriteFault) s out audit)
 EndsServing s command app sessions k script result out audit =
     IsAimed (audit_of command) s.audit
     × EndsAttaching command app sessions k script result s out audit
 
 -- the files were read, and then the events were served
 pub record IsServing (seen : Sight) (splits : Span ℕ) (command : Command)
-    (result : Result (Unit {0}) Ending) (out audit : List ℕ) : Type 0 where
+    (result : Result (Unit {0}) ExitReason) (out audit : List ℕ) : Type 0 where
   pub app : Application
   pub sessions : List Session
   pub events : List ℕ
@@ -77,7 +77,7 @@ pub record IsServing (seen : Sight) (splits : Span ℕ) (command : Command)
       result out audit
 
 -- what the steps of a replay put, and why they ended
-abbrev pub EndsReplay : Sight → Span ℕ → Command → Result (Unit {0}) Ending
+abbrev pub EndsReplay : Sight → Span ℕ → Command → Result (Unit {0}) ExitReason
     → List ℕ → List ℕ → Type 0
 EndsReplay seen splits command result out audit =
     (IsEndedEarly seen command result out audit × IsStill splits)

@@ -6,36 +6,36 @@ use Rattle.jac_io.specs.Linked.{LinkSeen, DoorSeen, DoorLasts}
 use Rattle.jac_lang.specs.Syntax.{Application}
 use Rattle.jac_route.specs.declared.sessions.Session.{Session}
 use Rattle.jac_route.specs.Sessions.{sessions_in}
-use Rattle.jac_words.specs.declared.words.Command.{Command}
-use Rattle.jac_words.specs.declared.words.Command.TheVariants as commands
-use Rattle.jac_ending.specs.declared.ending.Ending.{Ending}
-use Rattle.jac_words.specs.declared.role.Role.{Role}
-use Rattle.jac_words.specs.declared.role.Role.TheVariants as roles
-use Rattle.jac_serving.specs.declared.serve.Lapse.{Lapse}
-use Rattle.jac_ending.specs.declared.status.Status.{Status}
-use Rattle.jac_ending.specs.declared.status.Status.TheVariants as statuses
-use Rattle.jac_opening.specs.Application.{IsApplication, schema_text}
-use Rattle.jac_serving.specs.Keeping.{IsStill}
-use Rattle.jac_serving.specs.Outside.{Span, span, AWriteFailed, WentAimed}
-use Rattle.jac_words.specs.Words.{command_of}
-use Rattle.jac_words.specs.Commands.{file_of, name_of}
-use Rattle.jac_ending.specs.Files.{Sight, sinks_of, standing_at, IsRead, IsLong, HasApplication, HasNext, HasBadLine, IsOpened, IsReached, IsIdle}
-use Rattle.jac_serving.specs.Script.{script_of}
-use Rattle.jac_words.specs.declared.words.Dumping.{Dumping}
-use Rattle.jac_words.specs.declared.words.Replay.{Replay}
-use Rattle.jac_words.specs.declared.words.Serving.{Serving}
-use Rattle.jac_words.specs.declared.words.Upgrading.{Upgrading}
-use Rattle.jac_words.specs.declared.words.Explaining.{Explaining}
+use Rattle.jac_cli.specs.declared.words.Command.{Command}
+use Rattle.jac_cli.specs.declared.words.Command.TheVariants as commands
+use Rattle.jac_command_base.specs.declared.exit_reason.ExitReason.{ExitReason}
+use Rattle.jac_cli.specs.declared.role.Role.{Role}
+use Rattle.jac_cli.specs.declared.role.Role.TheVariants as roles
+use Rattle.jac_serve_events.specs.declared.serve.EventFault.{EventFault}
+use Rattle.jac_command_base.specs.declared.status.Status.{Status}
+use Rattle.jac_command_base.specs.declared.status.Status.TheVariants as statuses
+use Rattle.jac_app_load.specs.Application.{IsApplication, schema_text}
+use Rattle.jac_serve_events.specs.RunSeen.{IsStill}
+use Rattle.jac_serve_events.specs.Outside.{Span, span, AWriteFailed, WentAimed}
+use Rattle.jac_cli.specs.Words.{command_of}
+use Rattle.jac_cli.specs.Commands.{file_of, name_of}
+use Rattle.jac_command_base.specs.Files.{Sight, sinks_of, standing_at, IsRead, IsLong, HasApplication, HasNext, HasBadLine, IsOpened, IsReached, IsIdle}
+use Rattle.jac_serve_events.specs.Script.{script_of}
+use Rattle.jac_cli.specs.declared.words.DumpArgs.{DumpArgs}
+use Rattle.jac_cli.specs.declared.words.Replay.{Replay}
+use Rattle.jac_cli.specs.declared.words.ServeArgs.{ServeArgs}
+use Rattle.jac_cli.specs.declared.words.UpgradeArgs.{UpgradeArgs}
+use Rattle.jac_cli.specs.declared.words.WhyArgs.{WhyArgs}
 use Rattle.jac_upgrade.specs.Extends.{models_lack}
 use Rattle.jac_upgrade.specs.declared.fault.UpgradeFault.{UpgradeFault}
 use Rattle.jac_admin.specs.Upgrade.{EndsUpgrade}
 use Rattle.jac_admin.specs.Explain.{EndsExplain}
-use Rattle.jac_ending.specs.Ending.{Closes, Finishes}
+use Rattle.jac_command_base.specs.ExitReason.{Closes, Finishes}
 use Rattle.jac_app.specs.Check.{EndsCheck}
 use Rattle.jac_app.specs.Demo.{EndsDemo}
 use Rattle.jac_admin.specs.Dump.{EndsDump}
 use Rattle.jac_demo.specs.Calendar.{calendar_text}
-use Rattle.jac_ending.specs.Attached.{IsOther}
+use Rattle.jac_command_base.specs.Attached.{IsOther}
 use Rattle.jac_app.specs.Held.{held_of}
 use Rattle.jac_app.specs.Replay.{EndsReplay}
 use Rattle.jac_app.specs.Server.{EndsServer}
@@ -51,7 +51,7 @@ IsUncalled door = door.after ≡ door.before
 -- what the steps of a command put, and why they ended; those of `serve` alone call the door, and a
 -- check, a dump and a `why` split no facet
 abbrev pub Ends : {L : Type 0} → (L → LinkSeen) → Sight → Span (DoorSeen L) → Span ℕ → Command
-    → Result (Unit {0}) Ending → List ℕ → List ℕ → Type 0
+    → Result (Unit {0}) ExitReason → List ℕ → List ℕ → Type 0
 Ends line seen door splits (commands.Check app) result out audit =
     EndsCheck seen (commands.Check app) result out audit × IsUncalled door × IsStill splits
 Ends line seen door splits (commands.Replay replay) result out audit =
@@ -72,7 +72,7 @@ Ends line seen door splits (commands.Why explaining) result out audit =
 pub record RunsCommand {L : Type 0} (line : L → LinkSeen) (seen : Sight) (door : Span (DoorSeen L))
     (splits : Span ℕ) (words : List (List ℕ)) (status : Status) (out audit : List ℕ) : Type 0 where
   pub command : Command
-  pub ended : Result (Unit {0}) Ending
+  pub ended : Result (Unit {0}) ExitReason
   pub standing : SinkSeen
   pub served : List ℕ
   pub last : List ℕ
@@ -138,7 +138,7 @@ pub record CanReplay (seen : Sight) (words : List (List ℕ)) : Type 0 where
 -- the same of serving a door, of which no call fails
 pub record CanServe {L : Type 0} (seen : Sight) (door : Span (DoorSeen L)) (words : List (List ℕ)) :
     Type 0 where
-  pub serving : Serving
+  pub serving : ServeArgs
   pub app : Application
   pub is_command : command_of words ≡ Some (commands.Serve serving)
   pub opens : CanOpen seen (commands.Serve serving) app
@@ -154,21 +154,21 @@ pub record CanCheck (seen : Sight) (words : List (List ℕ)) : Type 0 where
 
 -- the same of a dump
 pub record CanDump (seen : Sight) (words : List (List ℕ)) : Type 0 where
-  pub dumping : Dumping
+  pub dumping : DumpArgs
   pub app : Application
   pub is_command : command_of words ≡ Some (commands.Dump dumping)
   pub opens : CanOpen seen (commands.Dump dumping) app
 
 -- the same of a `why`
 pub record CanExplain (seen : Sight) (words : List (List ℕ)) : Type 0 where
-  pub explaining : Explaining
+  pub explaining : WhyArgs
   pub app : Application
   pub is_command : command_of words ≡ Some (commands.Why explaining)
   pub opens : CanOpen seen (commands.Why explaining) app
 
 -- the same of an upgrade, where the second application's file is there, and spells one
 pub record CanUpgrade (seen : Sight) (words : List (List ℕ)) : Type 0 where
-  pub upgrading : Upgrading
+  pub upgrading : UpgradeArgs
   pub old : Application
   pub new : Application
   pub next_bytes : List ℕ
@@ -215,7 +215,7 @@ ComesFor seen door words statuses.LineRefused =
     (command : Command) × (command_of words ≡ Some command)
     × (((app : Application) × (sessions : List Session) × (events : List ℕ)
     × IsOpened seen command app sessions events
-    × ((lapse : Lapse) × ((script_of events).refused ≡ Some lapse)))
+    × ((event_fault : EventFault) × ((script_of events).refused ≡ Some event_fault)))
     ⊎ (((app : Application) × HasApplication seen command app)
     × ((line : ℕ) × HasBadLine seen.files (file_of command roles.Sessions) line)))
 ComesFor seen door words statuses.ReadFault = Rose seen.files.before.faults seen.files.after.faults
@@ -228,7 +228,7 @@ ComesFor seen door words statuses.OtherStore =
     × ((app : Application) × Sources seen command app
     × ((stored : List ℕ) × IsOther seen.keeper stored (schema_text app)))
 ComesFor seen door words statuses.UpgradeRefused =
-    (upgrading : Upgrading) × (command_of words ≡ Some (commands.Upgrade upgrading))
+    (upgrading : UpgradeArgs) × (command_of words ≡ Some (commands.Upgrade upgrading))
     × ((old : Application) × HasApplication seen (commands.Upgrade upgrading) old
     × ((new : Application) × HasNext seen (commands.Upgrade upgrading) new
     × ((fault : UpgradeFault) × (models_lack 0 old.models new.models ≡ Some fault))))

@@ -5,23 +5,23 @@ use Rattle.jac_io.specs.Linked.{LinkSeen, DoorSeen}
 use Rattle.jac_lang.specs.Syntax.{Application}
 use Rattle.jac_keep.specs.KeeperSeen.{KeeperSeen}
 use Rattle.jac_route.specs.declared.sessions.Session.{Session}
-use Rattle.jac_words.specs.declared.words.Command.TheVariants as commands
-use Rattle.jac_words.specs.declared.words.Serving.{Serving}
-use Rattle.jac_links.specs.declared.door.DoorHalt.{DoorHalt}
-use Rattle.jac_links.specs.declared.door.DoorHalt.TheVariants as halts
-use Rattle.jac_links.specs.declared.door.Tally.{Tally}
-use Rattle.jac_ending.specs.declared.ending.Ending.{Ending}
-use Rattle.jac_ending.specs.declared.ending.Ending.TheVariants as endings
-use Rattle.jac_serving.specs.Answering.{Answering}
-use Rattle.jac_serving.specs.Keeping.{Holding, holding_of, keepers, IsStill}
-use Rattle.jac_desk.specs.Answered.{answering_of}
-use Rattle.jac_serving.specs.Outside.{Span, span, Sinks, IsFront, HasFaulted}
-use Rattle.jac_ending.specs.Files.{Sight, sinks_of, HasApplication, HasSessions, IsAimed}
-use Rattle.jac_opening.specs.Application.{schema_text}
-use Rattle.jac_ending.specs.Attached.{IsAttached, IsOther}
-use Rattle.jac_ending.specs.Early.{IsEndedEarly}
+use Rattle.jac_cli.specs.declared.words.Command.TheVariants as commands
+use Rattle.jac_cli.specs.declared.words.ServeArgs.{ServeArgs}
+use Rattle.jac_connections.specs.declared.door.DoorHalt.{DoorHalt}
+use Rattle.jac_connections.specs.declared.door.DoorHalt.TheVariants as halts
+use Rattle.jac_connections.specs.declared.door.Tally.{Tally}
+use Rattle.jac_command_base.specs.declared.exit_reason.ExitReason.{ExitReason}
+use Rattle.jac_command_base.specs.declared.exit_reason.ExitReason.TheVariants as exits
+use Rattle.jac_serve_events.specs.AnswerSpec.{AnswerSpec}
+use Rattle.jac_serve_events.specs.RunSeen.{RunSeen, run_seen_of, keepers, IsStill}
+use Rattle.jac_dispatch.specs.Answered.{answer_spec_of}
+use Rattle.jac_serve_events.specs.Outside.{Span, span, Sinks, IsFront, HasFaulted}
+use Rattle.jac_command_base.specs.Files.{Sight, sinks_of, HasApplication, HasSessions, IsAimed}
+use Rattle.jac_app_load.specs.Application.{schema_text}
+use Rattle.jac_command_base.specs.Attached.{IsAttached, IsOther}
+use Rattle.jac_command_base.specs.Early.{IsEndedEarly}
 use Rattle.jac_app.specs.Held.{held_of, IsUnstarted, IsLeftAlone}
-use Rattle.jac_links.specs.Door.{AreLinksServed}
+use Rattle.jac_connections.specs.Door.{AreLinksServed}
 
 -- `served C connections, K replies`
 abbrev pub served_line : Tally → List ℕ
@@ -29,38 +29,38 @@ served_line tally = codes "served " ++ decimal tally.connections ++ codes " conn
     ++ decimal tally.replies ++ codes " replies\n"
 
 -- why serving a door that halted ends the command
-abbrev pub ending_of_halt : DoorHalt → Ending
-ending_of_halt halts.Door = endings.DoorFault
-ending_of_halt halts.Write = endings.WriteFault
-ending_of_halt halts.Memory = endings.Memory
+abbrev pub exit_reason_of_halt : DoorHalt → ExitReason
+exit_reason_of_halt halts.Door = exits.DoorFault
+exit_reason_of_halt halts.Write = exits.WriteFault
+exit_reason_of_halt halts.Memory = exits.Memory
 
 -- how serving so many connections at most ends, with the line that tells how many there were: a put
 -- failed on the audit, within a connection, or all were served and it was that of this line
-abbrev pub EndsConnections : {L : Type 0} → (L → LinkSeen) → Answering → ℕ → Span (DoorSeen L)
-    → Span Holding → Result (Unit {0}) Ending → Sinks → List ℕ → List ℕ → Type 0
+abbrev pub EndsConnections : {L : Type 0} → (L → LinkSeen) → AnswerSpec → ℕ → Span (DoorSeen L)
+    → Span RunSeen → Result (Unit {0}) ExitReason → Sinks → List ℕ → List ℕ → Type 0
 EndsConnections line x most door k (Ok done) s out audit =
     (tally : Tally) × AreLinksServed line x most door k (Ok tally) audit × (out ≡ served_line tally)
-EndsConnections line x most door k (Err endings.WriteFault) s out audit =
+EndsConnections line x most door k (Err exits.WriteFault) s out audit =
     (AreLinksServed line x most door k (Err halts.Write) audit × (out ≡ [])
     × HasFaulted s.audit)
     ⊎ ((tally : Tally) × AreLinksServed line x most door k (Ok tally) audit
     × IsFront out (served_line tally) × HasFaulted s.out)
-EndsConnections line x most door k (Err endings.DoorFault) s out audit =
+EndsConnections line x most door k (Err exits.DoorFault) s out audit =
     AreLinksServed line x most door k (Err halts.Door) audit × (out ≡ [])
-EndsConnections line x most door k (Err endings.Memory) s out audit =
+EndsConnections line x most door k (Err exits.Memory) s out audit =
     AreLinksServed line x most door k (Err halts.Memory) audit × (out ≡ [])
-EndsConnections line x most door k (Err ending) s out audit = ⊥
+EndsConnections line x most door k (Err exit_reason) s out audit = ⊥
 
 -- a door that tells listened on the port, and its connections were served
 pub record IsListenedAt {L : Type 0} (line : L → LinkSeen) (app : Application)
-    (sessions : List Session) (serving : Serving) (door : Span (DoorSeen L)) (k : Span Holding)
-    (result : Result (Unit {0}) Ending) (s : Sinks) (out audit : List ℕ) : Type 0 where
+    (sessions : List Session) (serving : ServeArgs) (door : Span (DoorSeen L)) (k : Span RunSeen)
+    (result : Result (Unit {0}) ExitReason) (s : Sinks) (out audit : List ℕ) : Type 0 where
   pub listens : IsTrue door.after.tells → door.after.port ≡ Some serving.port
-  pub ends : EndsConnections line (answering_of serving.lazy app sessions) serving.count door k
+  pub ends : EndsConnections line (answer_spec_of serving.lazy app sessions) serving.count door k
       result s out audit
 
 -- a door listens where it did, no link of it was served, and nothing was put
-pub record IsUnheard {L : Type 0} (door : Span (DoorSeen L)) (k : Span Holding)
+pub record IsUnheard {L : Type 0} (door : Span (DoorSeen L)) (k : Span RunSeen)
     (out audit : List ℕ) : Type 0 where
   pub same_port : IsTrue door.after.tells → door.after.port ≡ door.before.port
   pub same_coming : IsTrue door.after.tells → door.after.coming ≡ door.before.coming
@@ -70,60 +70,62 @@ pub record IsUnheard {L : Type 0} (door : Span (DoorSeen L)) (k : Span Holding)
   pub no_audit : audit ≡ []
 
 -- how the steps from the listening on end
-abbrev pub EndsDoor : {L : Type 0} → (L → LinkSeen) → Application → List Session → Serving
-    → Span (DoorSeen L) → Span Holding → Result (Unit {0}) Ending → Sinks → List ℕ → List ℕ
+abbrev pub EndsDoor : {L : Type 0} → (L → LinkSeen) → Application → List Session → ServeArgs
+    → Span (DoorSeen L) → Span RunSeen → Result (Unit {0}) ExitReason → Sinks → List ℕ → List ℕ
     → Type 0
-EndsDoor line app sessions serving door k (Err endings.DoorFault) s out audit =
+EndsDoor line app sessions serving door k (Err exits.DoorFault) s out audit =
     Rose door.before.faults door.after.faults
     × (IsUnheard door k out audit
-    ⊎ IsListenedAt line app sessions serving door k (Err endings.DoorFault) s out audit)
+    ⊎ IsListenedAt line app sessions serving door k (Err exits.DoorFault) s out audit)
 EndsDoor line app sessions serving door k result s out audit =
     IsListenedAt line app sessions serving door k result s out audit
 
 -- a store was attached, and the connections were served from what it keeps; attaching it split no
 -- facet
 pub record IsServedAt {L : Type 0} (line : L → LinkSeen) (app : Application)
-    (sessions : List Session) (serving : Serving) (door : Span (DoorSeen L)) (k : Span Holding)
-    (result : Result (Unit {0}) Ending) (s : Sinks) (out audit : List ℕ) : Type 0 where
+    (sessions : List Session) (serving : ServeArgs) (door : Span (DoorSeen L)) (k : Span RunSeen)
+    (result : Result (Unit {0}) ExitReason) (s : Sinks) (out audit : List ℕ) : Type 0 where
   pub opened : KeeperSeen
   pub attached : IsAttached serving.db app (keepers k) opened
   pub ends : EndsDoor line app sessions serving door
-      (span (holding_of opened k.before.splits) k.after) result s out audit
+      (span (run_seen_of opened k.before.splits) k.after) result s out audit
 
 -- no store was attached, and the door wasn't called
-pub record IsUnserved {L : Type 0} (door : Span (DoorSeen L)) (k : Span Holding)
+pub record IsUnserved {L : Type 0} (door : Span (DoorSeen L)) (k : Span RunSeen)
     (out audit : List ℕ) : Type 0 where
   pub unstarted : IsUnstarted k out audit
   pub uncalled : door.after ≡ door.before
 
 -- how the steps from the attaching on end
-abbrev pub EndsAttached : {L : Type 0} → (L → LinkSeen) → Application → List Session → Serving
-    → Span (DoorSeen L) → Span Holding → Result (Unit {0}) Ending → Sinks → List ℕ → List ℕ
+abbrev pub EndsAttached : {L : Type 0} → (L → LinkSeen) → Application → List Session → ServeArgs
+    → Span (DoorSeen L) → Span RunSeen → Result (Unit {0}) ExitReason → Sinks → List ℕ → List ℕ
     → Type 0
-EndsAttached line app sessions serving door k (Err endings.StoreFault) s out audit =
+EndsAttached line app sessions serving door k (Err exits.StoreFault) s out audit =
     Rose k.before.keeper.faults k.after.keeper.faults × IsUnserved door k out audit
-EndsAttached line app sessions serving door k (Err (endings.OtherStore stored wanted)) s out audit =
+EndsAttached line app sessions serving door k (Err (exits.OtherStore stored wanted)) s out audit =
     (wanted ≡ schema_text app) × IsOther (keepers k) stored wanted × IsUnserved door k out audit
-EndsAttached line app sessions serving door k (Err endings.Memory) s out audit =
+EndsAttached line app sessions serving door k (Err exits.Memory) s out audit =
     IsUnserved door k out audit
-    ⊎ IsServedAt line app sessions serving door k (Err endings.Memory) s out audit
+    ⊎ IsServedAt line app sessions serving door k (Err exits.Memory) s out audit
 EndsAttached line app sessions serving door k result s out audit =
     IsServedAt line app sessions serving door k result s out audit
 
--- how the steps from the audit's aim on end: that failed, or a put behind it
-abbrev pub EndsAimed : {L : Type 0} → (L → LinkSeen) → Sinks → Application → List Session → Serving
-    → Span (DoorSeen L) → Span Holding → Result (Unit {0}) Ending → List ℕ → List ℕ → Type 0
-EndsAimed line s app sessions serving door k (Err endings.WriteFault) out audit =
+-- how the steps from the audit's aim on end: that failed, or a put after it
+abbrev pub EndsAimed : {L : Type 0} → (L → LinkSeen) → Sinks → Application → List Session →
+    ServeArgs
+    → Span (DoorSeen L) → Span RunSeen → Result (Unit {0}) ExitReason → List ℕ → List ℕ → Type 0
+EndsAimed line s app sessions serving door k (Err exits.WriteFault) out audit =
     (HasFaulted s.audit × IsLeftAlone s.audit k out audit × (door.after ≡ door.before))
     ⊎ (IsAimed serving.audit s.audit
-    × EndsAttached line app sessions serving door k (Err endings.WriteFault) s out audit)
+    × EndsAttached line app sessions serving door k (Err exits.WriteFault) s out audit)
 EndsAimed line s app sessions serving door k result out audit =
     IsAimed serving.audit s.audit
     × EndsAttached line app sessions serving door k result s out audit
 
 -- the files were read, and then the connections were served
 pub record IsServer {L : Type 0} (line : L → LinkSeen) (seen : Sight) (door : Span (DoorSeen L))
-    (splits : Span ℕ) (serving : Serving) (result : Result (Unit {0}) Ending) (out audit : List ℕ)
+    (splits : Span ℕ) (serving : ServeArgs) (result : Result (Unit {0}) ExitReason)
+    (out audit : List ℕ)
     : Type 0 where
   pub app : Application
   pub sessions : List Session
@@ -133,8 +135,9 @@ pub record IsServer {L : Type 0} (line : L → LinkSeen) (seen : Sight) (door : 
       result out audit
 
 -- what the steps of `serve` put, and why they ended
-abbrev pub EndsServer : {L : Type 0} → (L → LinkSeen) → Sight → Span (DoorSeen L) → Span ℕ → Serving
-    → Result (Unit {0}) Ending → List ℕ → List ℕ → Type 0
+abbrev pub EndsServer : {L : Type 0} → (L → LinkSeen) → Sight → Span (DoorSeen L) → Span ℕ →
+    ServeArgs
+    → Result (Unit {0}) ExitReason → List ℕ → List ℕ → Type 0
 EndsServer line seen door splits serving result out audit =
     (IsEndedEarly seen (commands.Serve serving) result out audit
     × IsStill splits × (door.after ≡ door.before))

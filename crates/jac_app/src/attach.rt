@@ -4,13 +4,13 @@ ghost use Rattle.jac_lang.specs.Mirror.{application_of};
 ghost use Rattle.jac_plain.specs.Models.{shapes_of};
 ghost use Rattle.jac_keep.specs.Schema.{IsSchema};
 ghost use Rattle.jac_engine.specs.Start.{IsStart};
-ghost use Rattle.jac_serving.specs.Outside.{span};
-ghost use Rattle.jac_opening.specs.Application.{schema_text};
-ghost use Rattle.jac_ending.specs.Attached.{AttachesAs};
+ghost use Rattle.jac_serve_events.specs.Outside.{span};
+ghost use Rattle.jac_app_load.specs.Application.{schema_text};
+ghost use Rattle.jac_command_base.specs.Attached.{AttachesAs};
 
-use jac_ending::Ending;
+use jac_app_load::Service;
+use jac_command_base::ExitReason;
 use jac_keep::Vault;
-use jac_opening::Service;
 use jac_value::Txt;
 use std::alloc::Global;
 
@@ -22,7 +22,7 @@ pub fn attach<K: Vault>(
     db: Option<&Txt>,
     schema: Txt,
     vault: &mut K,
-) -> Result<(), Ending>
+) -> Result<(), ExitReason>
     requires first { (K.seen vault.old).store.called ≡ false }
     requires own { schema ≡ schema_text (application_of service.now) }
     requires schema { IsSchema schema (shapes_of (application_of service.now)) }
@@ -32,5 +32,5 @@ pub fn attach<K: Vault>(
     ensures start { IsTrue (K.seen vault.new).tells
         → OnOk result (IsStart (application_of service.now) (K.seen vault.new).state) }
 {
-    jac_ending::attach(alloc, service, db, schema, vault)
+    jac_command_base::attach(alloc, service, db, schema, vault)
 }

@@ -1,17 +1,17 @@
 ghost use Rattle.std.specs.Prelude.{◌≡◌, length, IfOk};
-ghost use Rattle.jac_words.specs.declared.words.Command.TheVariants as commands;
+ghost use Rattle.jac_cli.specs.declared.words.Command.TheVariants as commands;
 ghost use Rattle.jac_lang.specs.Mirror.{application_of};
-ghost use Rattle.jac_serving.specs.Outside.{IsPut, WentAimed, span, sinks};
-ghost use Rattle.jac_ending.specs.Files.{sight};
+ghost use Rattle.jac_serve_events.specs.Outside.{IsPut, WentAimed, span, sinks};
+ghost use Rattle.jac_command_base.specs.Files.{sight};
 ghost use Rattle.jac_app.specs.Check.{EndsCheck, checked_text};
 
 use itoa::Buffer;
-use jac_ending::{Ending, read_app};
+use jac_app_load::Service;
+use jac_command_base::{ExitReason, read_app};
 use jac_io::{AuditSink, Failed, Files, Sink};
 use jac_keep::Keeper;
 use jac_lang::App;
-use jac_opening::Service;
-use jac_serving::put_five;
+use jac_serve_events::put_five;
 use jac_value::Txt;
 use std::alloc::Global;
 
@@ -23,7 +23,7 @@ pub fn check<F: Files, O: Sink, U: AuditSink, K: Keeper>(
     out: &mut O,
     audit: &mut U,
     vault: &mut K,
-) -> Result<(), Ending>
+) -> Result<(), ExitReason>
     ensures { WentAimed (sinks (O.seen out.old) (O.seen out.new) (U.seen audit.old)
         (U.seen audit.new))
         (EndsCheck (sight (F.seen files.old) (F.seen files.new) (O.seen out.old) (O.seen out.new)
@@ -32,11 +32,11 @@ pub fn check<F: Files, O: Sink, U: AuditSink, K: Keeper>(
 {
     let service = match read_app(alloc, files, name) {
         Ok(service) => service,
-        Err(ending) => return Err(ending),
+        Err(exit_reason) => return Err(exit_reason),
     };
     match put_counts(out, &service) {
         Ok(()) => Ok(()),
-        Err(Failed) => Err(Ending::WriteFault),
+        Err(Failed) => Err(ExitReason::WriteFault),
     }
 }
 

@@ -11,37 +11,37 @@ ghost use Rattle.jac_keep.specs.Schema.{IsSchema};
 ghost use Rattle.jac_engine.specs.Answers.{stores};
 ghost use Rattle.jac_engine.specs.Start.{IsStart};
 ghost use Rattle.jac_replies.specs.Refused.{refusal};
-ghost use Rattle.jac_ending.specs.declared.ending.Ending.TheVariants as endings;
-ghost use Rattle.jac_opening.specs.Application.{IsApplication, schema_text};
-ghost use Rattle.jac_desk.specs.Answered.{AreSeated, answering};
-ghost use Rattle.jac_desk.specs.Asked.{ask_in};
-ghost use Rattle.jac_desk.specs.Seen.{whose, desk_seen};
-ghost use Rattle.jac_calendar.specs.Asking.{IsAsking};
+ghost use Rattle.jac_command_base.specs.declared.exit_reason.ExitReason.TheVariants as exits;
+ghost use Rattle.jac_app_load.specs.Application.{IsApplication, schema_text};
+ghost use Rattle.jac_dispatch.specs.Answered.{AreValidCaches, answer_spec};
+ghost use Rattle.jac_dispatch.specs.Asked.{ask_in};
+ghost use Rattle.jac_dispatch.specs.Seen.{whose, dispatcher_seen};
+ghost use Rattle.jac_calendar_laws.specs.Asking.{IsAsking};
 ghost use Rattle.jac_app.specs.Demo.{EndsCounting, EndsDemo, EndsTallying, IsBounded, IsCounted, IsDemoTold, PutsTally, Tallies, TalliesAsk, TalliesEvent, TalliesLine, demo_script, tally_of};
 ghost use Rattle.jac_replies.specs.Failed.{status_of_stop};
-ghost use Rattle.jac_ending.specs.Files.{IsUnopened};
-ghost use Rattle.jac_serving.specs.Line.{lines_of};
+ghost use Rattle.jac_command_base.specs.Files.{IsUnopened};
+ghost use Rattle.jac_serve_events.specs.Line.{lines_of};
 ghost use Rattle.jac_replies.specs.Spelled.{audit_rest, audit_text};
-ghost use Rattle.jac_serving.specs.Desk.{MayServe, KeepsDesk, kept};
-ghost use Rattle.jac_serving.specs.Keeping.{holding_of};
-ghost use Rattle.jac_serving.specs.Outside.{Went, WentAimed, WentTo, sinks, span};
-ghost use Rattle.jac_serving.specs.Script.{script_of};
+ghost use Rattle.jac_serve_events.specs.Dispatcher.{MayServe, KeepsDispatcher, kept};
+ghost use Rattle.jac_serve_events.specs.RunSeen.{run_seen_of};
+ghost use Rattle.jac_serve_events.specs.Outside.{Went, WentAimed, WentTo, sinks, span};
+ghost use Rattle.jac_serve_events.specs.Script.{script_of};
 
 use crate::attach::attach;
 use crate::counts::Counts;
 use crate::summary::{Summary, Tally, counted, failed_tally, none_counted, put_summary, tally_of};
+use jac_app_load::Service;
+use jac_command_base::{ExitReason, open_app};
 use jac_demo::{demo_app, demo_events};
-use jac_desk::{Answerer, ask_in, ready_answer, store_answer, viewer_in};
-use jac_ending::{Ending, open_app};
+use jac_dispatch::{AppDispatcher, ask_in, ready_answer, store_answer, viewer_in};
 use jac_events::{Event, LineFault, read_line};
 use jac_io::{AuditSink, Failed, Sink};
 use jac_keep::{Keeper, Stop, Vault};
-use jac_opening::Service;
 use jac_replies::{Answer, Ask, Spelling, audit_rest, fixed_of};
 use jac_route::Sessions;
-use jac_serving::{put_failed_audit, put_numbered};
-use jac_sittings::Sittings;
+use jac_serve_events::{put_failed_audit, put_numbered};
 use jac_value::{Bytes, Id, Memory, Txt, first_part};
+use jac_viewer_caches::ViewerCaches;
 use jac_world::Steps;
 use std::alloc::Global;
 use std::sync::ledger::Ledger;
@@ -90,73 +90,78 @@ fn count_answer(alloc: Global, ask: &Ask, answer: &Answer) -> Result<Counted, Me
 // Answers one request and stores what it leaves. What its audit line says is made before, so that
 // nothing is stored without it.
 fn answer_counted<K: Keeper, L: Ledger, M: Ledger>(
-    desk: &mut Answerer<'_, '_, '_, '_, '_, '_, K, L, M>,
+    dispatcher: &mut AppDispatcher<'_, '_, '_, '_, '_, '_, K, L, M>,
     ask: &Ask,
 ) -> Result<Counted, Stop>
-    requires desk { MayServe answering (desk_seen K.seen desk.old) }
-    requires eager { desk.old.lazy ≡ false }
-    ensures counted { IfOk result (λ c. IsCounted (whose desk.old).app
-        (kept (desk_seen K.seen desk.old) (desk_seen K.seen desk.new)) ask.now c.audit c.tally) }
-    ensures reading { stores (whose desk.old).app ask.now ≡ false
-        → desk.new.splits.now ≡ desk.old.splits.now }
-    ensures refused { IsTrue (K.seen desk.new.keeper.now).tells
-        → OnErr result ((K.seen desk.new.keeper.now).state ≡ (K.seen desk.old.keeper.now).state) }
-    ensures told { IsTrue (K.seen desk.new.keeper.now).tells
-        → IsTrue (K.seen desk.old.keeper.now).tells }
-    ensures cause { HasCause (K.seen desk.old.keeper.now).faults
-        (K.seen desk.new.keeper.now).faults result }
-    ensures attached { (K.seen desk.new.keeper.now).store ≡ (K.seen desk.old.keeper.now).store }
-    ensures settled { AreSeated (whose desk.old).app (K.seen desk.new.keeper.now)
-        desk.new.sittings.now }
-    ensures same { whose desk.new ≡ whose desk.old }
+    requires dispatcher { MayServe answer_spec (dispatcher_seen K.seen dispatcher.old) }
+    requires eager { dispatcher.old.lazy ≡ false }
+    ensures counted { IfOk result (λ c. IsCounted (whose dispatcher.old).app
+        (kept (dispatcher_seen K.seen dispatcher.old) (dispatcher_seen K.seen dispatcher.new))
+        ask.now c.audit c.tally) }
+    ensures reading { stores (whose dispatcher.old).app ask.now ≡ false
+        → dispatcher.new.splits.now ≡ dispatcher.old.splits.now }
+    ensures refused { IsTrue (K.seen dispatcher.new.keeper.now).tells
+        → OnErr result ((K.seen dispatcher.new.keeper.now).state ≡
+        (K.seen dispatcher.old.keeper.now).state) }
+    ensures told { IsTrue (K.seen dispatcher.new.keeper.now).tells
+        → IsTrue (K.seen dispatcher.old.keeper.now).tells }
+    ensures cause { HasCause (K.seen dispatcher.old.keeper.now).faults
+        (K.seen dispatcher.new.keeper.now).faults result }
+    ensures attached { (K.seen dispatcher.new.keeper.now).store ≡
+        (K.seen dispatcher.old.keeper.now).store }
+    ensures settled { AreValidCaches (whose dispatcher.old).app (K.seen dispatcher.new.keeper.now)
+        dispatcher.new.viewer_caches.now }
+    ensures same { whose dispatcher.new ≡ whose dispatcher.old }
 {
-    let ready = ready_answer(desk, ask)?;
-    let counted = count_answer(desk.alloc, ask, &ready.prepared.answer)?;
-    store_answer(desk, ask, ready)?;
+    let ready = ready_answer(dispatcher, ask)?;
+    let counted = count_answer(dispatcher.alloc, ask, &ready.prepared.answer)?;
+    store_answer(dispatcher, ask, ready)?;
     Ok(counted)
 }
 
 // The same of an `ask` line.
 fn count_ask<K: Keeper, L: Ledger, M: Ledger>(
-    desk: &mut Answerer<'_, '_, '_, '_, '_, '_, K, L, M>,
+    dispatcher: &mut AppDispatcher<'_, '_, '_, '_, '_, '_, K, L, M>,
     asking: &Asking<'_>,
 ) -> Result<Counted, Stop>
-    requires desk { MayServe answering (desk_seen K.seen desk.old) }
-    requires eager { desk.old.lazy ≡ false }
-    ensures counted { IfOk result (λ c. IsCounted (whose desk.old).app
-        (kept (desk_seen K.seen desk.old) (desk_seen K.seen desk.new))
-        (ask_in (whose desk.old).app asking.now.viewer asking.now.method.now
+    requires dispatcher { MayServe answer_spec (dispatcher_seen K.seen dispatcher.old) }
+    requires eager { dispatcher.old.lazy ≡ false }
+    ensures counted { IfOk result (λ c. IsCounted (whose dispatcher.old).app
+        (kept (dispatcher_seen K.seen dispatcher.old) (dispatcher_seen K.seen dispatcher.new))
+        (ask_in (whose dispatcher.old).app asking.now.viewer asking.now.method.now
         asking.now.path.now asking.now.query.now asking.now.body.now) c.audit
         c.tally) }
-    ensures reading { stores (whose desk.old).app (ask_in (whose desk.old).app
+    ensures reading { stores (whose dispatcher.old).app (ask_in (whose dispatcher.old).app
         asking.now.viewer asking.now.method.now
         asking.now.path.now asking.now.query.now asking.now.body.now) ≡ false
-        → desk.new.splits.now ≡ desk.old.splits.now }
-    ensures refused { IsTrue (K.seen desk.new.keeper.now).tells
-        → OnErr result ((K.seen desk.new.keeper.now).state ≡ (K.seen desk.old.keeper.now).state) }
-    ensures told { IsTrue (K.seen desk.new.keeper.now).tells
-        → IsTrue (K.seen desk.old.keeper.now).tells }
-    ensures cause { HasCause (K.seen desk.old.keeper.now).faults
-        (K.seen desk.new.keeper.now).faults result }
-    ensures attached { (K.seen desk.new.keeper.now).store ≡ (K.seen desk.old.keeper.now).store }
-    ensures settled { AreSeated (whose desk.old).app (K.seen desk.new.keeper.now)
-        desk.new.sittings.now }
-    ensures same { whose desk.new ≡ whose desk.old }
+        → dispatcher.new.splits.now ≡ dispatcher.old.splits.now }
+    ensures refused { IsTrue (K.seen dispatcher.new.keeper.now).tells
+        → OnErr result ((K.seen dispatcher.new.keeper.now).state ≡
+        (K.seen dispatcher.old.keeper.now).state) }
+    ensures told { IsTrue (K.seen dispatcher.new.keeper.now).tells
+        → IsTrue (K.seen dispatcher.old.keeper.now).tells }
+    ensures cause { HasCause (K.seen dispatcher.old.keeper.now).faults
+        (K.seen dispatcher.new.keeper.now).faults result }
+    ensures attached { (K.seen dispatcher.new.keeper.now).store ≡
+        (K.seen dispatcher.old.keeper.now).store }
+    ensures settled { AreValidCaches (whose dispatcher.old).app (K.seen dispatcher.new.keeper.now)
+        dispatcher.new.viewer_caches.now }
+    ensures same { whose dispatcher.new ≡ whose dispatcher.old }
 {
     let ask = ask_in(
-        desk.alloc,
-        desk.service.app(),
+        dispatcher.alloc,
+        dispatcher.service.app(),
         asking.viewer,
         asking.method,
         asking.path,
         asking.query,
         asking.body,
     )?;
-    let counted = answer_counted(desk, &ask)?;
+    let counted = answer_counted(dispatcher, &ask)?;
     Ok(counted)
 }
 
-// Puts the audit line of the k-th request, which is given behind its number.
+// Puts the audit line of the k-th request, which is given after its number.
 fn put_counted<U: AuditSink>(
     audit: &mut U,
     k: u64,
@@ -194,24 +199,26 @@ fn put_stopped<U: AuditSink>(
 // Answers the request of an `ask` line, of which so many were answered before, and puts its audit
 // line.
 fn tally_ask<U: AuditSink, K: Keeper, L: Ledger, M: Ledger>(
-    desk: &mut Answerer<'_, '_, '_, '_, '_, '_, K, L, M>,
+    dispatcher: &mut AppDispatcher<'_, '_, '_, '_, '_, '_, K, L, M>,
     served: u64,
     asking: &Asking<'_>,
     audit: &mut U,
 ) -> Result<Tally, Failed>
     requires few { served < 2 ^ 64 - 1 }
-    requires desk { MayServe answering (desk_seen K.seen desk.old) }
-    requires eager { desk.old.lazy ≡ false }
+    requires dispatcher { MayServe answer_spec (dispatcher_seen K.seen dispatcher.old) }
+    requires eager { dispatcher.old.lazy ≡ false }
     ensures answered { WentTo (span (U.seen audit.old) (U.seen audit.new))
-        (TalliesAsk (whose desk.old).app
-        (kept (desk_seen K.seen desk.old) (desk_seen K.seen desk.new)) served
-        (ask_in (whose desk.old).app asking.now.viewer asking.now.method.now
+        (TalliesAsk (whose dispatcher.old).app
+        (kept (dispatcher_seen K.seen dispatcher.old) (dispatcher_seen K.seen dispatcher.new))
+        served
+        (ask_in (whose dispatcher.old).app asking.now.viewer asking.now.method.now
         asking.now.path.now asking.now.query.now asking.now.body.now) result) }
     ensures cause { OnErr result (Rose (U.seen audit.old).faults (U.seen audit.new).faults) }
-    ensures keeps { KeepsDesk answering (desk_seen K.seen desk.old) (desk_seen K.seen desk.new) }
+    ensures keeps { KeepsDispatcher answer_spec (dispatcher_seen K.seen dispatcher.old)
+        (dispatcher_seen K.seen dispatcher.new) }
 {
-    let service = desk.service;
-    match count_ask(desk, asking) {
+    let service = dispatcher.service;
+    match count_ask(dispatcher, asking) {
         Ok(counted) => put_counted(audit, served + 1, counted.audit.as_bytes(), counted.tally),
         Err(stop) => put_stopped(
             audit,
@@ -224,7 +231,7 @@ fn tally_ask<U: AuditSink, K: Keeper, L: Ledger, M: Ledger>(
 
 // Serves a request, and counts it.
 fn tally_event<U: AuditSink, K: Keeper, L: Ledger, M: Ledger>(
-    desk: &mut Answerer<'_, '_, '_, '_, '_, '_, K, L, M>,
+    dispatcher: &mut AppDispatcher<'_, '_, '_, '_, '_, '_, K, L, M>,
     summary: Summary,
     event: &Event,
     audit: &mut U,
@@ -232,16 +239,18 @@ fn tally_event<U: AuditSink, K: Keeper, L: Ledger, M: Ledger>(
     requires few { summary.asks < 2 ^ 64 - 1 }
     requires bounded { IsBounded summary }
     requires asking { IsAsking (Some (Some event.now)) }
-    requires desk { MayServe answering (desk_seen K.seen desk.old) }
-    requires eager { desk.old.lazy ≡ false }
+    requires dispatcher { MayServe answer_spec (dispatcher_seen K.seen dispatcher.old) }
+    requires eager { dispatcher.old.lazy ≡ false }
     ensures tallied { WentTo (span (U.seen audit.old) (U.seen audit.new))
-        (TalliesEvent (whose desk.old).app
-        (kept (desk_seen K.seen desk.old) (desk_seen K.seen desk.new)) summary event.now result) }
+        (TalliesEvent (whose dispatcher.old).app
+        (kept (dispatcher_seen K.seen dispatcher.old) (dispatcher_seen K.seen dispatcher.new))
+        summary event.now result) }
     ensures cause { result ≡ Err DemoFault.Write
         → Rose (U.seen audit.old).faults (U.seen audit.new).faults }
     ensures bounded { IfOk result (λ more. IsBounded more) }
     ensures count { IfOk result (λ more. more.asks ≤ summary.asks + 1) }
-    ensures keeps { KeepsDesk answering (desk_seen K.seen desk.old) (desk_seen K.seen desk.new) }
+    ensures keeps { KeepsDispatcher answer_spec (dispatcher_seen K.seen dispatcher.old)
+        (dispatcher_seen K.seen dispatcher.new) }
 {
     match event {
         Event::Ask {
@@ -258,7 +267,7 @@ fn tally_event<U: AuditSink, K: Keeper, L: Ledger, M: Ledger>(
                 query,
                 body,
             };
-            match tally_ask(desk, summary.asks, &asking, audit) {
+            match tally_ask(dispatcher, summary.asks, &asking, audit) {
                 Ok(tally) => Ok(counted(summary, method.as_bytes(), tally)),
                 Err(Failed) => Err(DemoFault::Write),
             }
@@ -269,7 +278,7 @@ fn tally_event<U: AuditSink, K: Keeper, L: Ledger, M: Ledger>(
 
 // Serves a line, which is empty or writes down a request.
 fn tally_line<U: AuditSink, K: Keeper, L: Ledger, M: Ledger>(
-    desk: &mut Answerer<'_, '_, '_, '_, '_, '_, K, L, M>,
+    dispatcher: &mut AppDispatcher<'_, '_, '_, '_, '_, '_, K, L, M>,
     summary: Summary,
     line: &[u8],
     audit: &mut U,
@@ -277,20 +286,22 @@ fn tally_line<U: AuditSink, K: Keeper, L: Ledger, M: Ledger>(
     requires few { summary.asks < 2 ^ 64 - 1 }
     requires bounded { IsBounded summary }
     requires asking { IsAsking (line_of line.now) }
-    requires desk { MayServe answering (desk_seen K.seen desk.old) }
-    requires eager { desk.old.lazy ≡ false }
+    requires dispatcher { MayServe answer_spec (dispatcher_seen K.seen dispatcher.old) }
+    requires eager { dispatcher.old.lazy ≡ false }
     ensures tallied { WentTo (span (U.seen audit.old) (U.seen audit.new))
-        (TalliesLine (whose desk.old).app
-        (kept (desk_seen K.seen desk.old) (desk_seen K.seen desk.new)) summary (line_of line.now)
+        (TalliesLine (whose dispatcher.old).app
+        (kept (dispatcher_seen K.seen dispatcher.old) (dispatcher_seen K.seen dispatcher.new))
+        summary (line_of line.now)
         result) }
     ensures cause { result ≡ Err DemoFault.Write
         → Rose (U.seen audit.old).faults (U.seen audit.new).faults }
     ensures bounded { IfOk result (λ more. IsBounded more) }
     ensures count { IfOk result (λ more. more.asks ≤ summary.asks + 1) }
-    ensures keeps { KeepsDesk answering (desk_seen K.seen desk.old) (desk_seen K.seen desk.new) }
+    ensures keeps { KeepsDispatcher answer_spec (dispatcher_seen K.seen dispatcher.old)
+        (dispatcher_seen K.seen dispatcher.new) }
 {
-    match read_line(desk.alloc, line) {
-        Ok(Some(event)) => tally_event(desk, summary, &event, audit),
+    match read_line(dispatcher.alloc, line) {
+        Ok(Some(event)) => tally_event(dispatcher, summary, &event, audit),
         Ok(None) => Ok(summary),
         Err(LineFault::BadLine) => unreachable!(),
         Err(LineFault::Memory) => Err(DemoFault::Memory),
@@ -299,27 +310,29 @@ fn tally_line<U: AuditSink, K: Keeper, L: Ledger, M: Ledger>(
 
 // Serves the requests of a text, line by line.
 fn tally_events<U: AuditSink, K: Keeper, L: Ledger, M: Ledger>(
-    desk: &mut Answerer<'_, '_, '_, '_, '_, '_, K, L, M>,
+    dispatcher: &mut AppDispatcher<'_, '_, '_, '_, '_, '_, K, L, M>,
     bytes: &[u8],
     audit: &mut U,
 ) -> Result<Summary, DemoFault>
     requires short { length bytes.now < 2 ^ 63 }
     requires asking { All (λ line. IsAsking (line_of line)) (lines_of bytes.now) }
-    requires desk { MayServe answering (desk_seen K.seen desk.old) }
-    requires eager { desk.old.lazy ≡ false }
+    requires dispatcher { MayServe answer_spec (dispatcher_seen K.seen dispatcher.old) }
+    requires eager { dispatcher.old.lazy ≡ false }
     ensures tallied { WentTo (span (U.seen audit.old) (U.seen audit.new))
-        (Tallies (whose desk.old).app
-        (kept (desk_seen K.seen desk.old) (desk_seen K.seen desk.new)) (script_of bytes.now)
+        (Tallies (whose dispatcher.old).app
+        (kept (dispatcher_seen K.seen dispatcher.old) (dispatcher_seen K.seen dispatcher.new))
+        (script_of bytes.now)
         result) }
     ensures cause { result ≡ Err DemoFault.Write
         → Rose (U.seen audit.old).faults (U.seen audit.new).faults }
-    ensures keeps { KeepsDesk answering (desk_seen K.seen desk.old) (desk_seen K.seen desk.new) }
+    ensures keeps { KeepsDispatcher answer_spec (dispatcher_seen K.seen dispatcher.old)
+        (dispatcher_seen K.seen dispatcher.new) }
 {
     let mut summary = none_counted();
     let mut left = Some(bytes);
     'lines: while let Some(rest) = left {
         let (line, after) = first_part(rest, b'\n');
-        match tally_line(desk, summary, line, audit) {
+        match tally_line(dispatcher, summary, line, audit) {
             Ok(more) => summary = more,
             Err(fault) => return Err(fault),
         }
@@ -330,29 +343,31 @@ fn tally_events<U: AuditSink, K: Keeper, L: Ledger, M: Ledger>(
 
 // Serves the requests to the calendar.
 fn serve_calendar<U: AuditSink, K: Keeper, L: Ledger, M: Ledger>(
-    desk: &mut Answerer<'_, '_, '_, '_, '_, '_, K, L, M>,
+    dispatcher: &mut AppDispatcher<'_, '_, '_, '_, '_, '_, K, L, M>,
     count: u64,
     audit: &mut U,
 ) -> Result<Summary, DemoFault>
     requires some { 1 ≤ count }
     requires few { count ≤ 2000 }
-    requires desk { MayServe answering (desk_seen K.seen desk.old) }
-    requires eager { desk.old.lazy ≡ false }
+    requires dispatcher { MayServe answer_spec (dispatcher_seen K.seen dispatcher.old) }
+    requires eager { dispatcher.old.lazy ≡ false }
     ensures served { WentTo (span (U.seen audit.old) (U.seen audit.new))
-        (Tallies (whose desk.old).app
-        (kept (desk_seen K.seen desk.old) (desk_seen K.seen desk.new)) (demo_script count)
+        (Tallies (whose dispatcher.old).app
+        (kept (dispatcher_seen K.seen dispatcher.old) (dispatcher_seen K.seen dispatcher.new))
+        (demo_script count)
         result) }
     ensures cause { result ≡ Err DemoFault.Write
         → Rose (U.seen audit.old).faults (U.seen audit.new).faults }
-    ensures keeps { KeepsDesk answering (desk_seen K.seen desk.old) (desk_seen K.seen desk.new) }
+    ensures keeps { KeepsDispatcher answer_spec (dispatcher_seen K.seen dispatcher.old)
+        (dispatcher_seen K.seen dispatcher.new) }
 {
-    match demo_events(desk.alloc, count) {
-        Ok(events) => tally_events(desk, events.as_slice(), audit),
+    match demo_events(dispatcher.alloc, count) {
+        Ok(events) => tally_events(dispatcher, events.as_slice(), audit),
         Err(Memory) => Err(DemoFault::Memory),
     }
 }
 
-// The same over a desk, which ends behind them.
+// The same over a dispatcher, which ends after them.
 fn serve_over<U: AuditSink, K: Vault, L: Ledger, M: Ledger>(
     alloc: Global,
     service: &Service,
@@ -369,15 +384,16 @@ fn serve_over<U: AuditSink, K: Vault, L: Ledger, M: Ledger>(
         (K.seen vault.old).state }
     ensures served { WentTo (span (U.seen audit.old) (U.seen audit.new))
         (Tallies (application_of service.now)
-        (span (holding_of (K.seen vault.old) splits.old) (holding_of (K.seen vault.new) splits.new))
+        (span (run_seen_of (K.seen vault.old) splits.old) (run_seen_of (K.seen vault.new)
+        splits.new))
         (demo_script count) result) }
     ensures cause { result ≡ Err DemoFault.Write
         → Rose (U.seen audit.old).faults (U.seen audit.new).faults }
     ensures store { (K.seen vault.new).store ≡ (K.seen vault.old).store }
 {
     let sessions = Sessions::empty(alloc);
-    let mut sittings = Sittings::none(alloc);
-    let mut desk = Answerer {
+    let mut viewer_caches = ViewerCaches::none(alloc);
+    let mut dispatcher = AppDispatcher {
         keeper: vault,
         splits,
         evaluations,
@@ -385,10 +401,10 @@ fn serve_over<U: AuditSink, K: Vault, L: Ledger, M: Ledger>(
         spelling: Spelling::Quoted,
         service,
         sessions: &sessions,
-        sittings: &mut sittings,
+        viewer_caches: &mut viewer_caches,
         lazy: false,
     };
-    serve_calendar(&mut desk, count, audit)
+    serve_calendar(&mut dispatcher, count, audit)
 }
 
 // Attaches a store without a name, and serves the requests.
@@ -399,7 +415,7 @@ fn tally_attached<U: AuditSink, K: Vault, L: Ledger, M: Ledger>(
     audit: &mut U,
     vault: &mut K,
     counts: &mut Counts<'_, '_, L, M>,
-) -> Result<Summary, Ending>
+) -> Result<Summary, ExitReason>
     requires some { 1 ≤ count }
     requires few { count ≤ 2000 }
     requires first { (K.seen vault.old).store.called ≡ false }
@@ -407,9 +423,9 @@ fn tally_attached<U: AuditSink, K: Vault, L: Ledger, M: Ledger>(
     requires schema { IsSchema schema (shapes_of (application_of service.now)) }
     ensures served { WentTo (span (U.seen audit.old) (U.seen audit.new))
         (EndsTallying (application_of service.now)
-        (span (holding_of (K.seen vault.old) counts.old.splits.now)
-        (holding_of (K.seen vault.new) counts.new.splits.now)) count result) }
-    ensures cause { result ≡ Err endings.WriteFault
+        (span (run_seen_of (K.seen vault.old) counts.old.splits.now)
+        (run_seen_of (K.seen vault.new) counts.new.splits.now)) count result) }
+    ensures cause { result ≡ Err exits.WriteFault
         → Rose (U.seen audit.old).faults (U.seen audit.new).faults }
     ensures same_splits { counts.new.splits.ghost_name ≡ counts.old.splits.ghost_name }
 {
@@ -424,10 +440,10 @@ fn tally_attached<U: AuditSink, K: Vault, L: Ledger, M: Ledger>(
             counts.evaluations,
         ) {
             Ok(summary) => Ok(summary),
-            Err(DemoFault::Write) => Err(Ending::WriteFault),
-            Err(DemoFault::Memory) => Err(Ending::Memory),
+            Err(DemoFault::Write) => Err(ExitReason::WriteFault),
+            Err(DemoFault::Memory) => Err(ExitReason::Memory),
         },
-        Err(ending) => Err(ending),
+        Err(exit_reason) => Err(exit_reason),
     }
 }
 
@@ -440,7 +456,7 @@ fn tell_attached<O: Sink, U: AuditSink, K: Vault, L: Ledger, M: Ledger>(
     audit: &mut U,
     vault: &mut K,
     counts: &mut Counts<'_, '_, L, M>,
-) -> Result<(), Ending>
+) -> Result<(), ExitReason>
     requires some { 1 ≤ count }
     requires few { count ≤ 2000 }
     requires first { (K.seen vault.old).store.called ≡ false }
@@ -450,16 +466,16 @@ fn tell_attached<O: Sink, U: AuditSink, K: Vault, L: Ledger, M: Ledger>(
         (U.seen audit.new))
         (IsDemoTold (sinks (O.seen out.old) (O.seen out.new) (U.seen audit.old) (U.seen audit.new))
         (application_of service.now)
-        (span (holding_of (K.seen vault.old) counts.old.splits.now)
-        (holding_of (K.seen vault.new) counts.new.splits.now)) count result) }
+        (span (run_seen_of (K.seen vault.old) counts.old.splits.now)
+        (run_seen_of (K.seen vault.new) counts.new.splits.now)) count result) }
     ensures same_splits { counts.new.splits.ghost_name ≡ counts.old.splits.ghost_name }
 {
     match tally_attached(service, schema, count, audit, vault, counts) {
         Ok(summary) => match put_summary(out, &summary) {
             Ok(()) => Ok(()),
-            Err(Failed) => Err(Ending::WriteFault),
+            Err(Failed) => Err(ExitReason::WriteFault),
         },
-        Err(ending) => Err(ending),
+        Err(exit_reason) => Err(exit_reason),
     }
 }
 
@@ -472,7 +488,7 @@ fn count_calendar<O: Sink, U: AuditSink, K: Vault, L: Ledger, M: Ledger>(
     audit: &mut U,
     vault: &mut K,
     counts: &mut Counts<'_, '_, L, M>,
-) -> Result<(), Ending>
+) -> Result<(), ExitReason>
     requires some { 1 ≤ count }
     requires few { count ≤ 2000 }
     requires first { (K.seen vault.old).store.called ≡ false }
@@ -483,35 +499,35 @@ fn count_calendar<O: Sink, U: AuditSink, K: Vault, L: Ledger, M: Ledger>(
         (EndsCounting
         (sinks (O.seen out.old) (O.seen out.new) (U.seen audit.old) (U.seen audit.new))
         (application_of service.now)
-        (span (holding_of (K.seen vault.old) counts.old.splits.now)
-        (holding_of (K.seen vault.new) counts.new.splits.now)) count result) }
+        (span (run_seen_of (K.seen vault.old) counts.old.splits.now)
+        (run_seen_of (K.seen vault.new) counts.new.splits.now)) count result) }
     ensures same_splits { counts.new.splits.ghost_name ≡ counts.old.splits.ghost_name }
 {
     match audit.aim(None) {
         Ok(()) => tell_attached(service, schema, count, out, audit, vault, counts),
-        Err(Failed) => Err(Ending::WriteFault),
+        Err(Failed) => Err(ExitReason::WriteFault),
     }
 }
 
 // The calendar, as it is served.
-fn open_calendar(alloc: Global) -> Result<Service, Ending>
+fn open_calendar(alloc: Global) -> Result<Service, ExitReason>
     ensures calendar { IfOk result (λ s. IsApplication calendar_text (application_of s)) }
     ensures unopened { IfErr result (IsUnopened calendar_text) }
 {
     match demo_app(alloc) {
         Ok(text) => read_calendar(alloc, &text),
-        Err(Memory) => Err(Ending::Memory),
+        Err(Memory) => Err(ExitReason::Memory),
     }
 }
 
-fn read_calendar(alloc: Global, text: &Bytes) -> Result<Service, Ending>
+fn read_calendar(alloc: Global, text: &Bytes) -> Result<Service, ExitReason>
     requires calendar { text.now ≡ calendar_text }
     ensures calendar { IfOk result (λ s. IsApplication calendar_text (application_of s)) }
     ensures unopened { IfErr result (IsUnopened calendar_text) }
 {
     match open_app(alloc, text.as_slice()) {
         Ok(service) => Ok(service),
-        Err(ending) => Err(ending),
+        Err(exit_reason) => Err(exit_reason),
     }
 }
 
@@ -524,24 +540,24 @@ pub fn demo<O: Sink, U: AuditSink, K: Vault, L: Ledger, M: Ledger>(
     audit: &mut U,
     vault: &mut K,
     counts: &mut Counts<'_, '_, L, M>,
-) -> Result<(), Ending>
+) -> Result<(), ExitReason>
     requires some { 1 ≤ count }
     requires few { count ≤ 2000 }
     requires first { (K.seen vault.old).store.called ≡ false }
     ensures ends { WentAimed (sinks (O.seen out.old) (O.seen out.new) (U.seen audit.old)
         (U.seen audit.new))
         (EndsDemo (sinks (O.seen out.old) (O.seen out.new) (U.seen audit.old) (U.seen audit.new))
-        (span (holding_of (K.seen vault.old) counts.old.splits.now)
-        (holding_of (K.seen vault.new) counts.new.splits.now)) count result) }
+        (span (run_seen_of (K.seen vault.old) counts.old.splits.now)
+        (run_seen_of (K.seen vault.new) counts.new.splits.now)) count result) }
     ensures same_splits { counts.new.splits.ghost_name ≡ counts.old.splits.ghost_name }
 {
     let service = match open_calendar(counts.alloc) {
         Ok(service) => service,
-        Err(ending) => return Err(ending),
+        Err(exit_reason) => return Err(exit_reason),
     };
     let schema = match service.schema(counts.alloc) {
         Ok(schema) => schema,
-        Err(Memory) => return Err(Ending::Memory),
+        Err(Memory) => return Err(ExitReason::Memory),
     };
     count_calendar(&service, schema, count, out, audit, vault, counts)
 }

@@ -13,6 +13,6 @@ mod server;
 mod summary;
 
 pub use attach::attach as attach_store;
-pub use jac_ending::{Ending, Status};
+pub use jac_command_base::{ExitReason, Status};
 pub use link::serve_link;
 pub use program::run;

@@ -3,24 +3,24 @@ ghost use Rattle.std.specs.Prelude.{◌≡◌, ◌<◌, ◌^◌, Err, IsTrue};
 ghost use Rattle.jac_io.specs.Faults.{Rose};
 ghost use Rattle.jac_lang.specs.Mirror.{application_of};
 ghost use Rattle.jac_engine.specs.Start.{IsStart};
-ghost use Rattle.jac_links.specs.Link.{as_sink, IsLinkServed};
-ghost use Rattle.jac_serving.specs.Keeping.{holding_of};
-ghost use Rattle.jac_serving.specs.Outside.{Went, sinks, span};
-ghost use Rattle.jac_desk.specs.Answered.{answering_of};
+ghost use Rattle.jac_connections.specs.Link.{as_sink, IsLinkServed};
+ghost use Rattle.jac_serve_events.specs.RunSeen.{run_seen_of};
+ghost use Rattle.jac_serve_events.specs.Outside.{Went, sinks, span};
+ghost use Rattle.jac_dispatch.specs.Answered.{answer_spec_of};
 
-use jac_desk::Answerer;
+use jac_app_load::Service;
+use jac_connections::Halt;
+use jac_dispatch::AppDispatcher;
 use jac_io::{AuditSink, Link};
 use jac_keep::Keeper;
-use jac_links::Halt;
-use jac_opening::Service;
 use jac_replies::Spelling;
 use jac_route::Sessions;
-use jac_sittings::Sittings;
+use jac_viewer_caches::ViewerCaches;
 use jac_world::Steps;
 use std::alloc::Global;
 use std::sync::ledger::Ledger;
 
-/// Serves the connection of this number, behind so many replies, over an attached keeper: the count
+/// Serves the connection of this number, after so many replies, over an attached keeper: the count
 /// of its own. What fails of the link ends this connection alone. `run` does the same for each link
 /// of a door.
 pub fn serve_link<N: Link, U: AuditSink, K: Keeper, L: Ledger, M: Ledger>(
@@ -42,9 +42,9 @@ pub fn serve_link<N: Link, U: AuditSink, K: Keeper, L: Ledger, M: Ledger>(
         (K.seen keeper.old).state }
     ensures served { Went (sinks (as_sink (N.seen link.old)) (as_sink (N.seen link.new))
         (U.seen audit.old) (U.seen audit.new))
-        (IsLinkServed (answering_of lazy (application_of service.now) sessions.now) conn first
+        (IsLinkServed (answer_spec_of lazy (application_of service.now) sessions.now) conn first
         (span (N.seen link.old) (N.seen link.new))
-        (span (holding_of (K.seen keeper.old) splits.old) (holding_of
+        (span (run_seen_of (K.seen keeper.old) splits.old) (run_seen_of
         (K.seen keeper.new) splits.new)) result) }
     ensures cause { result ≡ Err Halt.Write
         → Rose (U.seen audit.old).faults (U.seen audit.new).faults }
@@ -52,8 +52,8 @@ pub fn serve_link<N: Link, U: AuditSink, K: Keeper, L: Ledger, M: Ledger>(
         (K.seen keeper.new).state }
     ensures attached { (K.seen keeper.new).store ≡ (K.seen keeper.old).store }
 {
-    let mut sittings = Sittings::none(alloc);
-    let mut desk = Answerer {
+    let mut viewer_caches = ViewerCaches::none(alloc);
+    let mut dispatcher = AppDispatcher {
         keeper,
         splits,
         evaluations,
@@ -61,8 +61,8 @@ pub fn serve_link<N: Link, U: AuditSink, K: Keeper, L: Ledger, M: Ledger>(
         spelling: Spelling::Raw,
         service,
         sessions,
-        sittings: &mut sittings,
+        viewer_caches: &mut viewer_caches,
         lazy,
     };
-    jac_links::serve_link(&mut desk, conn, first, link, audit)
+    jac_connections::serve_link(&mut dispatcher, conn, first, link, audit)
 }

@@ -1,8 +1,8 @@
 ghost use Rattle.std.specs.Prelude.{◌≡◌, IsTrue, IfOk, IfSome, codes, false};
-ghost use Rattle.jac_serving.specs.Outside.{WentAimed, span, sinks};
-ghost use Rattle.jac_words.specs.Commands.{HasCount};
-ghost use Rattle.jac_ending.specs.Files.{sight};
-ghost use Rattle.jac_ending.specs.Ending.{Closed, Closes, Finishes};
+ghost use Rattle.jac_serve_events.specs.Outside.{WentAimed, span, sinks};
+ghost use Rattle.jac_cli.specs.Commands.{HasCount};
+ghost use Rattle.jac_command_base.specs.Files.{sight};
+ghost use Rattle.jac_command_base.specs.ExitReason.{Closed, Closes, Finishes};
 ghost use Rattle.jac_app.specs.Run.{Ends, Runs, IsRun, usage_line};
 ghost use Rattle.jac_io.specs.Linked.{DoorLasts};
 
@@ -12,25 +12,25 @@ use crate::demo::demo;
 use crate::replay::replay;
 use crate::server::serve;
 use jac_admin::{dump, explain, upgrade};
-use jac_ending::{Ending, Status, put_fault, status_of};
+use jac_cli::{Command, command_of};
+use jac_command_base::{ExitReason, Status, put_fault, status_of};
 use jac_io::{AuditSink, Door, Failed, Files, Sink};
 use jac_keep::Vault;
-use jac_serving::put;
+use jac_serve_events::put;
 use jac_value::{Memory, Txt};
-use jac_words::{Command, command_of};
 use jac_world::Steps;
 use std::alloc::Global;
 use std::sync::ledger::Ledger;
 
 // Puts the last line, where the command ended early.
-fn finish<O: Sink>(out: &mut O, command: &Command, ended: Result<(), Ending>) -> Status
+fn finish<O: Sink>(out: &mut O, command: &Command, ended: Result<(), ExitReason>) -> Status
     ensures { Closed (span (O.seen out.old) (O.seen out.new))
         (λ put. Finishes (span (O.seen out.old) (O.seen out.new)) command.now ended put result) }
 {
     match ended {
         Ok(()) => Status::Done,
-        Err(ending) => match put_fault(out, command, &ending) {
-            Ok(()) => status_of(&ending),
+        Err(exit_reason) => match put_fault(out, command, &exit_reason) {
+            Ok(()) => status_of(&exit_reason),
             Err(Failed) => Status::WriteFault,
         },
     }
@@ -70,7 +70,7 @@ fn take_steps<F: Files, O: Sink, U: AuditSink, K: Vault, D: Door, L: Ledger, M: 
     vault: &mut K,
     door: &mut D,
     counts: &mut Counts<'_, '_, L, M>,
-) -> Result<(), Ending>
+) -> Result<(), ExitReason>
     requires count { HasCount command.now }
     requires first { (K.seen vault.old).store.called ≡ false }
     ensures ends { WentAimed (sinks (O.seen out.old) (O.seen out.new) (U.seen audit.old)

@@ -1,60 +1,62 @@
 ghost use Rattle.std.specs.Prelude.{◌≡◌, ◌<◌, ◌^◌, length, IsTrue, false};
 ghost use Rattle.jac_lang.specs.Mirror.{application_of};
 ghost use Rattle.jac_engine.specs.Start.{IsStart};
-ghost use Rattle.jac_serving.specs.Desk.{MayServe, KeepsDesk, kept};
-ghost use Rattle.jac_serving.specs.Keeping.{holding_of};
-ghost use Rattle.jac_desk.specs.Answered.{answering, answering_of};
-ghost use Rattle.jac_desk.specs.Seen.{desk_seen};
-ghost use Rattle.jac_serving.specs.Outside.{WentAimed, WentWith, span, sinks};
-ghost use Rattle.jac_words.specs.declared.words.Command.TheVariants as commands;
-ghost use Rattle.jac_serving.specs.Script.{script_of};
-ghost use Rattle.jac_ending.specs.Ending.{ending_of};
-ghost use Rattle.jac_ending.specs.Files.{sight};
+ghost use Rattle.jac_serve_events.specs.Dispatcher.{MayServe, KeepsDispatcher, kept};
+ghost use Rattle.jac_serve_events.specs.RunSeen.{run_seen_of};
+ghost use Rattle.jac_dispatch.specs.Answered.{answer_spec, answer_spec_of};
+ghost use Rattle.jac_dispatch.specs.Seen.{dispatcher_seen};
+ghost use Rattle.jac_serve_events.specs.Outside.{WentAimed, WentWith, span, sinks};
+ghost use Rattle.jac_cli.specs.declared.words.Command.TheVariants as commands;
+ghost use Rattle.jac_serve_events.specs.Script.{script_of};
+ghost use Rattle.jac_command_base.specs.ExitReason.{exit_reason_of};
+ghost use Rattle.jac_command_base.specs.Files.{sight};
 ghost use Rattle.jac_app.specs.Replay.{EndsServed, EndsReplay};
 
 use crate::counts::Counts;
-use jac_desk::Answerer;
-use jac_ending::{Ending, Opened, Opening, open_store};
+use jac_cli::Replay;
+use jac_command_base::{ExitReason, Opened, StoreCommand, open_store};
+use jac_dispatch::AppDispatcher;
 use jac_io::{AuditSink, Files, Sink};
 use jac_keep::Vault;
 use jac_replies::Spelling;
-use jac_serving::{Stopped, serve_events};
-use jac_sittings::Sittings;
+use jac_serve_events::{ReplayError, serve_events};
 use jac_value::Bytes;
-use jac_words::Replay;
+use jac_viewer_caches::ViewerCaches;
 use jac_world::Steps;
 use std::alloc::Global;
 use std::sync::ledger::Ledger;
 
-fn ending_of(stopped: Stopped) -> Ending
-    ensures { result ≡ ending_of stopped }
+fn exit_reason_of(stopped: ReplayError) -> ExitReason
+    ensures { result ≡ exit_reason_of stopped }
 {
     match stopped {
-        Stopped::Refused(lapse) => Ending::LineRefused(lapse),
-        Stopped::Write => Ending::WriteFault,
-        Stopped::Memory => Ending::Memory,
+        ReplayError::Refused(event_fault) => ExitReason::LineRefused(event_fault),
+        ReplayError::Write => ExitReason::WriteFault,
+        ReplayError::Memory => ExitReason::Memory,
     }
 }
 
 // Serves the events over an attached store.
 fn serve_script<O: Sink, U: AuditSink, K: Vault, L: Ledger, M: Ledger>(
-    desk: &mut Answerer<'_, '_, '_, '_, '_, '_, K, L, M>,
+    dispatcher: &mut AppDispatcher<'_, '_, '_, '_, '_, '_, K, L, M>,
     events: &Bytes,
     out: &mut O,
     audit: &mut U,
-) -> Result<(), Ending>
+) -> Result<(), ExitReason>
     requires short { length events.now < 2 ^ 32 }
-    requires desk { MayServe answering (desk_seen K.seen desk.old) }
+    requires dispatcher { MayServe answer_spec (dispatcher_seen K.seen dispatcher.old) }
     ensures served { WentWith (sinks (O.seen out.old) (O.seen out.new) (U.seen audit.old)
         (U.seen audit.new))
-        (EndsServed (answering_of desk.old.lazy (application_of desk.old.service.now)
-        desk.old.sessions.now) (kept (desk_seen K.seen desk.old) (desk_seen K.seen desk.new))
+        (EndsServed (answer_spec_of dispatcher.old.lazy (application_of dispatcher.old.service.now)
+        dispatcher.old.sessions.now) (kept (dispatcher_seen K.seen dispatcher.old)
+        (dispatcher_seen K.seen dispatcher.new))
         (script_of events.now) result) }
-    ensures keeps { KeepsDesk answering (desk_seen K.seen desk.old) (desk_seen K.seen desk.new) }
+    ensures keeps { KeepsDispatcher answer_spec (dispatcher_seen K.seen dispatcher.old)
+        (dispatcher_seen K.seen dispatcher.new) }
 {
-    match serve_events(desk, events.as_slice(), out, audit) {
+    match serve_events(dispatcher, events.as_slice(), out, audit) {
         Ok(()) => Ok(()),
-        Err(stopped) => Err(ending_of(stopped)),
+        Err(stopped) => Err(exit_reason_of(stopped)),
     }
 }
 
@@ -66,7 +68,7 @@ struct Served<'o> {
     lazy: bool,
 }
 
-// The same over a desk, which ends behind them.
+// The same over a dispatcher, which ends after them.
 fn serve_over<O: Sink, U: AuditSink, K: Vault, L: Ledger, M: Ledger>(
     served: &Served<'_>,
     out: &mut O,
@@ -74,21 +76,22 @@ fn serve_over<O: Sink, U: AuditSink, K: Vault, L: Ledger, M: Ledger>(
     vault: &mut K,
     splits: &mut Steps<L>,
     evaluations: &mut Steps<M>,
-) -> Result<(), Ending>
+) -> Result<(), ExitReason>
     requires short { length served.now.opened.now.events < 2 ^ 32 }
     requires attached { IsTrue (K.seen vault.old).store.attached }
     requires start { IsTrue (K.seen vault.old).tells
         → IsStart (application_of served.now.opened.now.service) (K.seen vault.old).state }
     ensures served { WentWith (sinks (O.seen out.old) (O.seen out.new) (U.seen audit.old)
         (U.seen audit.new))
-        (EndsServed (answering_of served.now.lazy (application_of served.now.opened.now.service)
+        (EndsServed (answer_spec_of served.now.lazy (application_of served.now.opened.now.service)
         served.now.opened.now.sessions)
-        (span (holding_of (K.seen vault.old) splits.old) (holding_of (K.seen vault.new) splits.new))
+        (span (run_seen_of (K.seen vault.old) splits.old) (run_seen_of (K.seen vault.new)
+        splits.new))
         (script_of served.now.opened.now.events) result) }
     ensures store { (K.seen vault.new).store ≡ (K.seen vault.old).store }
 {
-    let mut sittings = Sittings::none(served.alloc);
-    let mut desk = Answerer {
+    let mut viewer_caches = ViewerCaches::none(served.alloc);
+    let mut dispatcher = AppDispatcher {
         keeper: vault,
         splits,
         evaluations,
@@ -96,10 +99,10 @@ fn serve_over<O: Sink, U: AuditSink, K: Vault, L: Ledger, M: Ledger>(
         spelling: Spelling::Quoted,
         service: &served.opened.service,
         sessions: &served.opened.sessions,
-        sittings: &mut sittings,
+        viewer_caches: &mut viewer_caches,
         lazy: served.lazy,
     };
-    serve_script(&mut desk, &served.opened.events, out, audit)
+    serve_script(&mut dispatcher, &served.opened.events, out, audit)
 }
 
 /// The steps of a replay: the application, the sessions, the events, the audit's aim, the store,
@@ -111,7 +114,7 @@ pub fn replay<F: Files, O: Sink, U: AuditSink, K: Vault, L: Ledger, M: Ledger>(
     audit: &mut U,
     vault: &mut K,
     counts: &mut Counts<'_, '_, L, M>,
-) -> Result<(), Ending>
+) -> Result<(), ExitReason>
     requires first { (K.seen vault.old).store.called ≡ false }
     ensures ends { WentAimed (sinks (O.seen out.old) (O.seen out.new) (U.seen audit.old)
         (U.seen audit.new))
@@ -120,10 +123,10 @@ pub fn replay<F: Files, O: Sink, U: AuditSink, K: Vault, L: Ledger, M: Ledger>(
         (span counts.old.splits.now counts.new.splits.now) (commands.Replay command.now) result) }
     ensures same_splits { counts.new.splits.ghost_name ≡ counts.old.splits.ghost_name }
 {
-    let opening = Opening::Replay(command);
+    let opening = StoreCommand::Replay(command);
     let opened = match open_store(counts.alloc, opening, files, audit, vault) {
         Ok(opened) => opened,
-        Err(ending) => return Err(ending),
+        Err(exit_reason) => return Err(exit_reason),
     };
     let served = Served {
         alloc: counts.alloc,

@@ -3,36 +3,36 @@ ghost use Rattle.std.specs.Prelude.{◌≡◌, IsTrue, false};
 ghost use Rattle.jac_io.specs.Linked.{DoorLasts};
 ghost use Rattle.jac_lang.specs.Mirror.{application_of};
 ghost use Rattle.jac_engine.specs.Start.{IsStart};
-ghost use Rattle.jac_serving.specs.Desk.{MayServe, KeepsDesk, kept};
-ghost use Rattle.jac_desk.specs.Answered.{answering, answering_of};
-ghost use Rattle.jac_desk.specs.Seen.{desk_seen};
-ghost use Rattle.jac_serving.specs.Keeping.{holding_of};
-ghost use Rattle.jac_serving.specs.Outside.{IsPut, WentAimed, WentWith, span, sinks};
-ghost use Rattle.jac_ending.specs.Files.{sight};
-ghost use Rattle.jac_app.specs.Server.{served_line, ending_of_halt, EndsConnections, EndsDoor, EndsServer};
+ghost use Rattle.jac_serve_events.specs.Dispatcher.{MayServe, KeepsDispatcher, kept};
+ghost use Rattle.jac_dispatch.specs.Answered.{answer_spec, answer_spec_of};
+ghost use Rattle.jac_dispatch.specs.Seen.{dispatcher_seen};
+ghost use Rattle.jac_serve_events.specs.RunSeen.{run_seen_of};
+ghost use Rattle.jac_serve_events.specs.Outside.{IsPut, WentAimed, WentWith, span, sinks};
+ghost use Rattle.jac_command_base.specs.Files.{sight};
+ghost use Rattle.jac_app.specs.Server.{served_line, exit_reason_of_halt, EndsConnections, EndsDoor, EndsServer};
 
 use crate::counts::Counts;
 use itoa::Buffer;
-use jac_desk::Answerer;
-use jac_ending::{Ending, Opened, Opening, open_store};
+use jac_cli::ServeArgs;
+use jac_command_base::{ExitReason, Opened, StoreCommand, open_store};
+use jac_connections::{DoorHalt, Tally, serve_links};
+use jac_dispatch::AppDispatcher;
 use jac_io::{AuditSink, Door, Failed, Files, Sink};
 use jac_keep::{Keeper, Vault};
-use jac_links::{DoorHalt, Tally, serve_links};
 use jac_replies::Spelling;
-use jac_serving::put_five;
-use jac_sittings::Sittings;
-use jac_words::Serving;
+use jac_serve_events::put_five;
+use jac_viewer_caches::ViewerCaches;
 use jac_world::Steps;
 use std::alloc::Global;
 use std::sync::ledger::Ledger;
 
-fn halted(halt: DoorHalt) -> Ending
-    ensures { result ≡ ending_of_halt halt }
+fn halted(halt: DoorHalt) -> ExitReason
+    ensures { result ≡ exit_reason_of_halt halt }
 {
     match halt {
-        DoorHalt::Door => Ending::DoorFault,
-        DoorHalt::Write => Ending::WriteFault,
-        DoorHalt::Memory => Ending::Memory,
+        DoorHalt::Door => ExitReason::DoorFault,
+        DoorHalt::Write => ExitReason::WriteFault,
+        DoorHalt::Memory => ExitReason::Memory,
     }
 }
 
@@ -56,28 +56,30 @@ fn put_served<O: Sink>(out: &mut O, tally: Tally) -> Result<(), Failed>
 
 // Serves the door's connections, and tells how many there were.
 fn serve_connections<O: Sink, U: AuditSink, K: Keeper, D: Door, L: Ledger, M: Ledger>(
-    desk: &mut Answerer<'_, '_, '_, '_, '_, '_, K, L, M>,
-    serving: &Serving,
+    dispatcher: &mut AppDispatcher<'_, '_, '_, '_, '_, '_, K, L, M>,
+    serving: &ServeArgs,
     out: &mut O,
     audit: &mut U,
     door: &mut D,
-) -> Result<(), Ending>
-    requires desk { MayServe answering (desk_seen K.seen desk.old) }
+) -> Result<(), ExitReason>
+    requires dispatcher { MayServe answer_spec (dispatcher_seen K.seen dispatcher.old) }
     ensures served { WentWith (sinks (O.seen out.old) (O.seen out.new) (U.seen audit.old)
         (U.seen audit.new))
-        (EndsConnections D.Line.seen (answering_of desk.old.lazy
-        (application_of desk.old.service.now) desk.old.sessions.now) serving.now.count
+        (EndsConnections D.Line.seen (answer_spec_of dispatcher.old.lazy
+        (application_of dispatcher.old.service.now) dispatcher.old.sessions.now) serving.now.count
         (span (D.seen door.old) (D.seen door.new))
-        (kept (desk_seen K.seen desk.old) (desk_seen K.seen desk.new)) result) }
+        (kept (dispatcher_seen K.seen dispatcher.old) (dispatcher_seen K.seen dispatcher.new))
+        result) }
     ensures lasts { DoorLasts (D.seen door.old) (D.seen door.new) }
     ensures same_port { IsTrue (D.seen door.new).tells → (D.seen door.new).port
         ≡ (D.seen door.old).port }
-    ensures keeps { KeepsDesk answering (desk_seen K.seen desk.old) (desk_seen K.seen desk.new) }
+    ensures keeps { KeepsDispatcher answer_spec (dispatcher_seen K.seen dispatcher.old)
+        (dispatcher_seen K.seen dispatcher.new) }
 {
-    match serve_links(desk, serving.count, door, audit) {
+    match serve_links(dispatcher, serving.count, door, audit) {
         Ok(tally) => match put_served(out, tally) {
             Ok(()) => Ok(()),
-            Err(Failed) => Err(Ending::WriteFault),
+            Err(Failed) => Err(ExitReason::WriteFault),
         },
         Err(halt) => Err(halted(halt)),
     }
@@ -85,25 +87,28 @@ fn serve_connections<O: Sink, U: AuditSink, K: Keeper, D: Door, L: Ledger, M: Le
 
 // Has the door listen, and serves its connections.
 fn serve_door<O: Sink, U: AuditSink, K: Keeper, D: Door, L: Ledger, M: Ledger>(
-    desk: &mut Answerer<'_, '_, '_, '_, '_, '_, K, L, M>,
-    serving: &Serving,
+    dispatcher: &mut AppDispatcher<'_, '_, '_, '_, '_, '_, K, L, M>,
+    serving: &ServeArgs,
     out: &mut O,
     audit: &mut U,
     door: &mut D,
-) -> Result<(), Ending>
-    requires desk { MayServe answering (desk_seen K.seen desk.old) }
-    requires lazy { desk.old.lazy ≡ serving.now.lazy }
+) -> Result<(), ExitReason>
+    requires dispatcher { MayServe answer_spec (dispatcher_seen K.seen dispatcher.old) }
+    requires lazy { dispatcher.old.lazy ≡ serving.now.lazy }
     ensures served { WentWith (sinks (O.seen out.old) (O.seen out.new) (U.seen audit.old)
         (U.seen audit.new))
-        (EndsDoor D.Line.seen (application_of desk.old.service.now) desk.old.sessions.now
+        (EndsDoor D.Line.seen (application_of dispatcher.old.service.now)
+        dispatcher.old.sessions.now
         serving.now (span (D.seen door.old) (D.seen door.new))
-        (kept (desk_seen K.seen desk.old) (desk_seen K.seen desk.new)) result) }
+        (kept (dispatcher_seen K.seen dispatcher.old) (dispatcher_seen K.seen dispatcher.new))
+        result) }
     ensures lasts { DoorLasts (D.seen door.old) (D.seen door.new) }
-    ensures keeps { KeepsDesk answering (desk_seen K.seen desk.old) (desk_seen K.seen desk.new) }
+    ensures keeps { KeepsDispatcher answer_spec (dispatcher_seen K.seen dispatcher.old)
+        (dispatcher_seen K.seen dispatcher.new) }
 {
     match door.listen(serving.port) {
-        Ok(()) => serve_connections(desk, serving, out, audit, door),
-        Err(Failed) => Err(Ending::DoorFault),
+        Ok(()) => serve_connections(dispatcher, serving, out, audit, door),
+        Err(Failed) => Err(ExitReason::DoorFault),
     }
 }
 
@@ -112,10 +117,10 @@ fn serve_door<O: Sink, U: AuditSink, K: Keeper, D: Door, L: Ledger, M: Ledger>(
 struct Served<'o> {
     alloc: Global,
     opened: &'o Opened,
-    serving: &'o Serving,
+    serving: &'o ServeArgs,
 }
 
-// The same over a desk, which ends behind them.
+// The same over a dispatcher, which ends after them.
 fn serve_over<O: Sink, U: AuditSink, K: Vault, D: Door, L: Ledger, M: Ledger>(
     served: &Served<'_>,
     out: &mut O,
@@ -124,7 +129,7 @@ fn serve_over<O: Sink, U: AuditSink, K: Vault, D: Door, L: Ledger, M: Ledger>(
     door: &mut D,
     splits: &mut Steps<L>,
     evaluations: &mut Steps<M>,
-) -> Result<(), Ending>
+) -> Result<(), ExitReason>
     requires attached { IsTrue (K.seen vault.old).store.attached }
     requires start { IsTrue (K.seen vault.old).tells
         → IsStart (application_of served.now.opened.now.service) (K.seen vault.old).state }
@@ -133,14 +138,15 @@ fn serve_over<O: Sink, U: AuditSink, K: Vault, D: Door, L: Ledger, M: Ledger>(
         (EndsDoor D.Line.seen (application_of served.now.opened.now.service)
         served.now.opened.now.sessions served.now.serving.now
         (span (D.seen door.old) (D.seen door.new))
-        (span (holding_of (K.seen vault.old) splits.old) (holding_of (K.seen vault.new) splits.new))
+        (span (run_seen_of (K.seen vault.old) splits.old) (run_seen_of (K.seen vault.new)
+        splits.new))
         result) }
     ensures lasts { DoorLasts (D.seen door.old) (D.seen door.new) }
     ensures store { (K.seen vault.new).store ≡ (K.seen vault.old).store }
 {
     let serving = served.serving;
-    let mut sittings = Sittings::none(served.alloc);
-    let mut desk = Answerer {
+    let mut viewer_caches = ViewerCaches::none(served.alloc);
+    let mut dispatcher = AppDispatcher {
         keeper: vault,
         splits,
         evaluations,
@@ -148,23 +154,23 @@ fn serve_over<O: Sink, U: AuditSink, K: Vault, D: Door, L: Ledger, M: Ledger>(
         spelling: Spelling::Raw,
         service: &served.opened.service,
         sessions: &served.opened.sessions,
-        sittings: &mut sittings,
+        viewer_caches: &mut viewer_caches,
         lazy: serving.lazy,
     };
-    serve_door(&mut desk, serving, out, audit, door)
+    serve_door(&mut dispatcher, serving, out, audit, door)
 }
 
 /// The steps of `serve`: the application, the sessions, the audit's aim, the store, the door's
 /// port, each connection, and the line that tells how many there were.
 pub fn serve<F: Files, O: Sink, U: AuditSink, K: Vault, D: Door, L: Ledger, M: Ledger>(
-    serving: &Serving,
+    serving: &ServeArgs,
     files: &mut F,
     out: &mut O,
     audit: &mut U,
     vault: &mut K,
     door: &mut D,
     counts: &mut Counts<'_, '_, L, M>,
-) -> Result<(), Ending>
+) -> Result<(), ExitReason>
     requires first { (K.seen vault.old).store.called ≡ false }
     ensures ends { WentAimed (sinks (O.seen out.old) (O.seen out.new) (U.seen audit.old)
         (U.seen audit.new))
@@ -176,10 +182,10 @@ pub fn serve<F: Files, O: Sink, U: AuditSink, K: Vault, D: Door, L: Ledger, M: L
     ensures lasts { DoorLasts (D.seen door.old) (D.seen door.new) }
     ensures same_splits { counts.new.splits.ghost_name ≡ counts.old.splits.ghost_name }
 {
-    let opening = Opening::Serve(serving);
+    let opening = StoreCommand::Serve(serving);
     let opened = match open_store(counts.alloc, opening, files, audit, vault) {
         Ok(opened) => opened,
-        Err(ending) => return Err(ending),
+        Err(exit_reason) => return Err(exit_reason),
     };
     let served = Served {
         alloc: counts.alloc,

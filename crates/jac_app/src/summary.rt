@@ -3,13 +3,13 @@ ghost use Rattle.std.specs.Prelude.{◌≡◌, ◌<◌, ◌-◌, ◌^◌, [], No
 ghost use Rattle.jac_replies.specs.Refused.{refusal};
 ghost use Rattle.jac_app.specs.Demo.{IsBounded, summary_of, summary_after, tally_of, labels_shown, counts_text, sizes_text, summary_line};
 ghost use Rattle.jac_replies.specs.Failed.{status_of_stop};
-ghost use Rattle.jac_serving.specs.Outside.{IsPut, span};
+ghost use Rattle.jac_serve_events.specs.Outside.{IsPut, span};
 
 use itoa::Buffer;
 use jac_io::{Failed, Sink};
 use jac_keep::Stop;
 use jac_replies::Answer;
-use jac_serving::{put, put_five};
+use jac_serve_events::{put, put_five};
 use jac_world::Assignment;
 
 /// A log in numbers: requests, those of POST and of GET, the bytes of all bodies, and the labels in

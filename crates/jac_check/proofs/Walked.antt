@@ -1,4 +1,4 @@
--- A list whose items are tested one by one, each behind those before it.
+-- A list whose items are tested one by one, each after those before it.
 use Rattle.std.proofs.Common.{◌≡◌, ℕ, ◌+◌, ◌<◌, List, [], ◌∷◌, ◌++◌, length, take, drop, get_or, Option, None, sym, ◌∙◌, ap, add-one, drop-cons, take-suc, suc}
 use Rattle.jac_check.specs.Verdict.{◌before◌}
 

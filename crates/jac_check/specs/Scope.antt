@@ -75,7 +75,7 @@ abbrev pub named_binders : List Entity → List Binder → List Named
 named_binders ms [] = []
 named_binders ms (b ∷ bs) = scope_name b.name (reference_to ms b.model) false ∷ named_binders ms bs
 
--- the scope with a query's binders behind the names
+-- the scope with a query's binders after the names
 abbrev pub within : List Binder → Scope → Scope
 within bs s = record s { names = s.names ++ named_binders s.models bs }
 

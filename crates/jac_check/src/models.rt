@@ -28,7 +28,7 @@ pub(crate) fn fields_fault<'a>(app: &App, fields: &'a [Field]) -> Result<(), Cau
     Ok(())
 }
 
-// A field or a parameter, behind those before it.
+// A field or a parameter, after those before it.
 fn field_fault<'a>(app: &App, earlier: &[Field], field: &'a Field) -> Result<(), Cause<'a>>
     ensures { fault_of result ≡ field_fault (application_of app.now).models earlier.now field.now }
 {

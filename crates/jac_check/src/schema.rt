@@ -177,7 +177,7 @@ fn put_guarded(guards: &Publics, to: &mut String) -> Result<(), Memory>
     Ok(())
 }
 
-// The guards that stand behind another one.
+// The guards that stand after another one.
 fn put_guards(guards: &Publics, to: &mut String) -> Result<(), Memory>
     ensures { OnOk result (string_bytes to.new ≡ string_bytes to.old ++ printed_after
         (guard_trees (assigned_of guards.now))) }

@@ -17,7 +17,7 @@ use Rattle.jac_plain.proofs.GoodLaws.{flat_after}
 use Rattle.jac_keep.specs.declared.alteration.Alteration.{Alteration}
 use Rattle.jac_keep.specs.declared.alteration.Change.{Change}
 use Rattle.jac_keep.specs.Alterations.{overlaid_from}
-use Rattle.jac_keep.specs.Kept.{changed_state}
+use Rattle.jac_keep.specs.ChangedState.{changed_state}
 use Rattle.jac_lang.specs.declared.bindings.Binding.{Binding}
 use Rattle.jac_lazy.specs.Steady.{IsPageOf, IsSteady}
 use Rattle.jac_replies.specs.declared.answer.Answer.{Answer}
@@ -25,13 +25,13 @@ use Rattle.jac_replies.specs.declared.answer.Ask.{Ask}
 use Rattle.jac_route.specs.Parameters.{parameters}
 use Rattle.jac_engine.specs.Answers.{visit_of, page_answer, lazy_answer, IsLazyPage, worlds_after}
 use Rattle.jac_engine.specs.Prepared.{AreCovered}
-use Rattle.jac_recall.specs.declared.touch.Touch.{Touch}
-use Rattle.jac_opening.specs.Served.{is_served_body}
+use Rattle.jac_policy_cache.specs.declared.invalidation.Invalidation.{Invalidation}
+use Rattle.jac_app_load.specs.Served.{is_served_body}
 use Rattle.jac_engine.specs.Start.{IsStart}
 use Rattle.jac_engine.specs.Viewed.{Stores}
 use Rattle.jac_engine.specs.Views.{ran_by, ShowsView, LeavesTables, SettlesView}
-use Rattle.jac_recall.specs.declared.seat.Seat.{Seat}
-use Rattle.jac_resolve.specs.Seated.{IsSeated}
+use Rattle.jac_policy_cache.specs.declared.viewer_cache.ViewerCache.{ViewerCache}
+use Rattle.jac_resolve.specs.ValidCache.{IsValidCache}
 use Rattle.jac_engine.proofs.ServedLaws.{storing}
 use Rattle.jac_engine.proofs.ViewLaws.{ordered, may_show, may_store, sound_now, sound_next}
 use Rattle.jac_plain.specs.Shown.{worlds_of}
@@ -116,9 +116,9 @@ settled_after app s ask place change labels stores settled =
 live_numbered : (app : Application) (s : State) (number k : ℕ) → IsLiveLabel app (worlds_of s) k → IsLiveLabel app (worlds_of (record s { number = number })) k
 live_numbered app s number k live = record { group = live.group; seen_by = live.seen_by; stands = live.stands }
 
--- what is touched hangs on the tables alone, and not on the next number
-covered_numbered : (app : Application) (s later : State) (number : ℕ) (touch : Touch) → AreCovered app s later touch → AreCovered app s (record later { number = number }) touch
-covered_numbered app s later number touch covered viewer = record {
+-- what is affected depends on the tables alone, and not on the next number
+covered_numbered : (app : Application) (s later : State) (number : ℕ) (invalidation : Invalidation) → AreCovered app s later invalidation → AreCovered app s (record later { number = number }) invalidation
+covered_numbered app s later number invalidation covered viewer = record {
   living = λ k free.
       let both = (covered viewer).living k free in
       (λ live. live_numbered app later number k (both.0 live), λ live. both.1 (live_numbered app (record later { number = number }) later.number k live));
@@ -126,13 +126,13 @@ covered_numbered app s later number touch covered viewer = record {
 }
 
 -- and so do the labels that are settled, and what was settled for somebody
-pub settles_view : (app : Application) (viewer : Option ℕ) (old later : State) (labels : List ℕ) (seat : Seat) (touch : Touch)
+pub settles_view : (app : Application) (viewer : Option ℕ) (old later : State) (labels : List ℕ) (cache : ViewerCache) (invalidation : Invalidation)
     → ((app : Application) (s t : State) (viewer : Option ℕ) (labels : List ℕ) → s.tables ≡ t.tables → IsSettled app (worlds_of s) viewer labels → IsSettled app (worlds_of t) viewer labels)
-    → ((app : Application) (s t : State) (viewer : Option ℕ) (seat : Seat) → s.tables ≡ t.tables → IsSeated app (worlds_of s) viewer seat → IsSeated app (worlds_of t) viewer seat)
-    → IsSettled app (worlds_of later) viewer labels → IsSeated app (worlds_of later) viewer seat → AreCovered app old later touch
-    → SettlesView app viewer old later.tables labels seat touch
-settles_view app viewer old later labels seat touch settled_by seated_by settled seated covered = record {
+    → ((app : Application) (s t : State) (viewer : Option ℕ) (cache : ViewerCache) → s.tables ≡ t.tables → IsValidCache app (worlds_of s) viewer cache → IsValidCache app (worlds_of t) viewer cache)
+    → IsSettled app (worlds_of later) viewer labels → IsValidCache app (worlds_of later) viewer cache → AreCovered app old later invalidation
+    → SettlesView app viewer old later.tables labels cache invalidation
+settles_view app viewer old later labels cache invalidation settled_by valid_by settled valid covered = record {
   settled = λ n. settled_by app later (record later { number = n }) viewer labels refl settled;
-  seated = λ n. seated_by app later (record later { number = n }) viewer seat refl seated;
-  touched = λ n. covered_numbered app old later n touch covered;
+  valid = λ n. valid_by app later (record later { number = n }) viewer cache refl valid;
+  affected = λ n. covered_numbered app old later n invalidation covered;
 }

@@ -18,7 +18,7 @@ use Rattle.jac_route.specs.declared.lookup.Found.{Found}
 use Rattle.jac_route.specs.declared.lookup.Found.TheVariants as founds
 use Rattle.jac_route.specs.declared.pairs.Pair.{Pair}
 use Rattle.jac_engine.specs.Prepared.{IsPrepared, applied_if}
-use Rattle.jac_opening.specs.Served.{are_served}
+use Rattle.jac_app_load.specs.Served.{are_served}
 use Rattle.jac_engine.specs.Start.{IsStart}
 use Rattle.jac_engine.specs.Viewed.{IsPreparedBy, IsPreparedFor}
 use Rattle.jac_engine.proofs.ServedLaws.{sited_view, placed_view}

@@ -12,7 +12,7 @@ use Rattle.jac_plain.specs.Making.{are_apart}
 use Rattle.jac_plain.specs.Reading.{is_reading, are_reading}
 use Rattle.jac_plain.specs.Requests.{body_in}
 use Rattle.jac_stmt.specs.Runs.{IsRunnable, AreRunnable}
-use Rattle.jac_opening.specs.Served.{behind_sites, have_own_sites, is_served_body, is_served_view, are_served_views, are_served}
+use Rattle.jac_app_load.specs.Served.{behind_sites, have_own_sites, is_served_body, is_served_view, are_served_views, are_served}
 use Rattle.jac_engine.proofs.SiteLaws.{are_below, below, below_parts, apart}
 use Rattle.jac_lang.specs.Untemplated.{is_untemplated, are_untemplated}
 

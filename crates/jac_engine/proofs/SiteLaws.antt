@@ -4,7 +4,7 @@ use Rattle.std.specs.Prelude.{is_some}
 use Rattle.std.proofs.lemmas.Bool.{and_parts, and_from}
 use Rattle.std.proofs.lemmas.Bool.Decides.{nat_tests}
 use Rattle.jac_plain.specs.Making.{is_among, are_apart}
-use Rattle.jac_opening.specs.Served.{behind_sites}
+use Rattle.jac_app_load.specs.Served.{behind_sites}
 
 abbrev pub Rise : ℕ → List ℕ → Type 0
 Rise next xs = is_some (behind_sites next xs) ≡ true

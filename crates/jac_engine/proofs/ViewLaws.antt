@@ -31,7 +31,7 @@ use Rattle.jac_pruned.specs.Runs.{page_ran}
 use Rattle.jac_route.specs.Parameters.{parameters}
 use Rattle.jac_write.specs.Writes.{numbered_tables}
 use Rattle.jac_write.proofs.RecordLaws.{rising_at}
-use Rattle.jac_opening.specs.Served.{is_served_body}
+use Rattle.jac_app_load.specs.Served.{is_served_body}
 use Rattle.jac_engine.specs.Start.{IsStart}
 use Rattle.jac_engine.specs.Views.{setting_in, begun_view, MayRunView, IsReady, ShowsView}
 use Rattle.jac_replies.specs.declared.answer.Ask.{Ask}

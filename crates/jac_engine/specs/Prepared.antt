@@ -7,15 +7,15 @@ use Rattle.jac_rows.specs.declared.state.State.{State}
 use Rattle.jac_plain.specs.Models.{shapes_of}
 use Rattle.jac_plain.specs.Requests.{Worlds}
 use Rattle.jac_keep.specs.declared.alteration.Change.{Change}
-use Rattle.jac_keep.specs.Kept.{changed_state}
+use Rattle.jac_keep.specs.ChangedState.{changed_state}
 use Rattle.jac_engine.specs.Answers.{IsAnswerTo, HasForm, world_left, is_stored}
 use Rattle.jac_engine.specs.Start.{IsStart}
 use Rattle.jac_replies.specs.declared.answer.Ask.{Ask}
 use Rattle.jac_engine.specs.declared.answer.Prepared.{Prepared}
-use Rattle.jac_engine.specs.declared.answer.Seated.{Seated}
-use Rattle.jac_recall.specs.Touched.{IsCovered}
-use Rattle.jac_recall.specs.declared.touch.Touch.{Touch}
-use Rattle.jac_resolve.specs.Seated.{IsSeated}
+use Rattle.jac_engine.specs.declared.answer.PreparedWithCache.{PreparedWithCache}
+use Rattle.jac_policy_cache.specs.Affected.{IsCovered}
+use Rattle.jac_policy_cache.specs.declared.invalidation.Invalidation.{Invalidation}
+use Rattle.jac_resolve.specs.ValidCache.{IsValidCache}
 use Rattle.jac_plain.specs.Shown.{worlds_of}
 
 -- the state after a change, if there is one
@@ -37,20 +37,21 @@ pub record IsPrepared
   pub good : IsTrue tells → IsGood (shapes_of app) s
       → IsGood (shapes_of app) (applied_if p.change s)
 
--- for each viewer, what lies between the worlds of the two states is touched
-abbrev pub AreCovered : Application → State → State → Touch → Type 0
-AreCovered app s later touch = (viewer : Option ℕ)
-    → IsCovered app (worlds_of s) (worlds_of later) touch viewer
+-- for each viewer, what lies between the worlds of the two states is affected
+abbrev pub AreCovered : Application → State → State → Invalidation → Type 0
+AreCovered app s later invalidation = (viewer : Option ℕ)
+    → IsCovered app (worlds_of s) (worlds_of later) invalidation viewer
 
--- a change has its touch
-abbrev pub IsTouchOf : Application → State → Option Change → Option Touch → Type 0
-IsTouchOf app s None touch = ⊤
-IsTouchOf app s (Some change) None = ⊥
-IsTouchOf app s (Some change) (Some touch) = AreCovered app s (changed_state change s) touch
+-- a change has its invalidation
+abbrev pub IsInvalidationOf : Application → State → Option Change → Option Invalidation → Type 0
+IsInvalidationOf app s None invalidation = ⊤
+IsInvalidationOf app s (Some change) None = ⊥
+IsInvalidationOf app s (Some change) (Some invalidation) = AreCovered app s (changed_state change s)
+    invalidation
 
--- what was settled for who asks is so behind the change, which has its touch
-pub record KeepsSeat (tells : Bool) (app : Application) (s : State) (viewer : Option ℕ)
-    (it : Seated) : Type 0 where
-  pub seated : IsTrue tells
-      → IsSeated app (worlds_of (applied_if it.prepared.change s)) viewer it.seat
-  pub touched : IsTrue tells → IsTouchOf app s it.prepared.change it.touch
+-- what was settled for who asks is so after the change, which has its invalidation
+pub record KeepsCache (tells : Bool) (app : Application) (s : State) (viewer : Option ℕ)
+    (it : PreparedWithCache) : Type 0 where
+  pub valid : IsTrue tells
+      → IsValidCache app (worlds_of (applied_if it.prepared.change s)) viewer it.cache
+  pub affected : IsTrue tells → IsInvalidationOf app s it.prepared.change it.invalidation

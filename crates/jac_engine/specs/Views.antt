@@ -16,9 +16,9 @@ use Rattle.jac_write.specs.Writes.{numbered_tables}
 use Rattle.jac_world.specs.World.{shown_by}
 use Rattle.jac_replies.specs.declared.answer.Ask.{Ask}
 use Rattle.jac_plain.specs.Policies.{IsSettled}
-use Rattle.jac_recall.specs.declared.seat.Seat.{Seat}
-use Rattle.jac_recall.specs.declared.touch.Touch.{Touch}
-use Rattle.jac_resolve.specs.Seated.{IsSeated}
+use Rattle.jac_policy_cache.specs.declared.viewer_cache.ViewerCache.{ViewerCache}
+use Rattle.jac_policy_cache.specs.declared.invalidation.Invalidation.{Invalidation}
+use Rattle.jac_resolve.specs.ValidCache.{IsValidCache}
 use Rattle.jac_engine.specs.Prepared.{AreCovered}
 use Rattle.jac_plain.specs.Shown.{worlds_of}
 
@@ -81,11 +81,12 @@ pub record IsReady (app : Application) (v : View) (ask : Ask) (number : ℕ)
   pub new : MayRunView next app v ask number s
 
 -- over the tables, whatever the next number, the labels are settled, and what was settled for the
--- viewer is; and what lies between them and the old state is touched
+-- viewer is; and what lies between them and the old state is affected
 pub record SettlesView (app : Application) (viewer : Option ℕ) (old : State)
-    (tables : List (List Row)) (labels : List ℕ) (seat : Seat) (touch : Touch) : Type 0 where
+    (tables : List (List Row)) (labels : List ℕ) (cache : ViewerCache)
+    (invalidation : Invalidation) : Type 0 where
   pub settled : (n : ℕ)
       → IsSettled app (worlds_of (record { tables = tables; number = n })) viewer labels
-  pub seated : (n : ℕ)
-      → IsSeated app (worlds_of (record { tables = tables; number = n })) viewer seat
-  pub touched : (n : ℕ) → AreCovered app old (record { tables = tables; number = n }) touch
+  pub valid : (n : ℕ)
+      → IsValidCache app (worlds_of (record { tables = tables; number = n })) viewer cache
+  pub affected : (n : ℕ) → AreCovered app old (record { tables = tables; number = n }) invalidation

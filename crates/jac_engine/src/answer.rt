@@ -5,14 +5,14 @@ ghost use Rattle.jac_plain.specs.Requests.{method_in};
 ghost use Rattle.jac_world.specs.World.{IsAscending};
 ghost use Rattle.jac_keep.specs.Cause.{HasCause};
 ghost use Rattle.jac_keep.specs.KeeperSeen.{Reads};
-ghost use Rattle.jac_keep.specs.Kept.{changed_state};
+ghost use Rattle.jac_keep.specs.ChangedState.{changed_state};
 ghost use Rattle.jac_rows.specs.Good.{IsSound};
 ghost use Rattle.jac_route.specs.Found.{found, IsWithin};
 ghost use Rattle.jac_route.specs.Routes.{AreRoutes};
 ghost use Rattle.jac_engine.specs.Answers.{page_answer, lazy_answer, is_post, stores};
-ghost use Rattle.jac_resolve.specs.Seated.{IsSeated};
-ghost use Rattle.jac_engine.specs.Prepared.{IsPrepared, IsTouchOf, KeepsSeat, applied_if};
-ghost use Rattle.jac_opening.specs.Served.{are_served, is_served_body};
+ghost use Rattle.jac_resolve.specs.ValidCache.{IsValidCache};
+ghost use Rattle.jac_engine.specs.Prepared.{IsPrepared, IsInvalidationOf, KeepsCache, applied_if};
+ghost use Rattle.jac_app_load.specs.Served.{are_served, is_served_body};
 ghost use Rattle.jac_engine.specs.Start.{IsStart};
 ghost use Rattle.jac_engine.specs.Visits.{app_of, visit_at, viewer_at};
 ghost use Rattle.jac_engine.specs.Viewed.{IsPreparedBy, IsPreparedFor, IsShown};
@@ -21,14 +21,14 @@ ghost use Rattle.jac_plain.specs.Shown.{worlds_of};
 use crate::lookup::{Visited, view_at};
 use crate::refusal::{refuse, refuse_method};
 use crate::visit::{Labelled, shown_lazily, shown_page, stored_page};
+use jac_app_load::Service;
 use jac_keep::{Change, Keeper, Stop};
 use jac_lang::{App, Verb};
 use jac_lazy::LazyPage;
-use jac_opening::Service;
 use jac_plain::Page;
-use jac_recall::{Seat, Touch};
+use jac_policy_cache::{Invalidation, ViewerCache};
 use jac_replies::{Answer, Ask};
-use jac_resolve::empty_is_seated;
+use jac_resolve::empty_cache_is_valid;
 use jac_route::{Found, Routes, find};
 use jac_value::Memory;
 use jac_world::Steps;
@@ -45,12 +45,12 @@ pub struct Prepared {
 }
 
 /// What was prepared, what is settled for who asks on what it leaves, and what its change may
-/// touch, where there is one.
+/// affect, where there is one.
 #[derive(Debug, Drop)]
-pub struct Seated {
+pub struct PreparedWithCache {
     pub prepared: Prepared,
-    pub seat: Seat,
-    pub touch: Option<Touch>,
+    pub cache: ViewerCache,
+    pub invalidation: Option<Invalidation>,
 }
 
 // How the labels of a page are found.
@@ -59,7 +59,7 @@ struct Manner {
     // Of a GET's page only those are resolved that it consults.
     lazy: bool,
     // What was settled for who asks.
-    seat: Seat,
+    cache: ViewerCache,
 }
 
 /// Answers the request on what the keeper keeps, and changes nothing. The labels of a page are
@@ -86,57 +86,57 @@ pub fn prepare<K: Keeper, L: Ledger, M: Ledger>(
         → splits.new ≡ splits.old }
     ensures reads { Reads (K.seen keeper.old) (K.seen keeper.new) result }
 {
-    empty_is_seated();
-    let seat = Seat::empty(alloc);
-    let manner = Manner { lazy, seat };
-    let seated = prepare_by(alloc, service, keeper, ask, manner, splits, evaluations)?;
-    Ok(prepared_of(seated))
+    empty_cache_is_valid();
+    let cache = ViewerCache::empty(alloc);
+    let manner = Manner { lazy, cache };
+    let valid = prepare_by(alloc, service, keeper, ask, manner, splits, evaluations)?;
+    Ok(prepared_of(valid))
 }
 
-fn prepared_of(seated: Seated) -> Prepared
-    ensures { result ≡ seated.prepared }
+fn prepared_of(valid: PreparedWithCache) -> Prepared
+    ensures { result ≡ valid.prepared }
 {
-    let Seated {
+    let PreparedWithCache {
         prepared,
-        seat: _,
-        touch: _,
-    } = seated;
+        cache: _,
+        invalidation: _,
+    } = valid;
     prepared
 }
 
 /// The same where `lazy` isn't set, over what was settled for who asks on what the keeper keeps:
-/// what is due is settled again, and no policy is asked whose answer is remembered.
-pub fn prepare_seated<K: Keeper, L: Ledger, M: Ledger>(
+/// what is stale is settled again, and no policy is asked whose answer is remembered.
+pub fn prepare_with_cache<K: Keeper, L: Ledger, M: Ledger>(
     alloc: Global,
     service: &Service,
     keeper: &mut K,
     ask: &Ask,
-    seat: Seat,
+    cache: ViewerCache,
     splits: &mut Steps<L>,
     evaluations: &mut Steps<M>,
-) -> Result<Seated, Stop>
+) -> Result<PreparedWithCache, Stop>
     requires attached { IsTrue (K.seen keeper.old).store.attached }
     requires start { IsTrue (K.seen keeper.old).tells
         → IsStart (application_of service.now) (K.seen keeper.old).state }
-    requires seated { IsTrue (K.seen keeper.old).tells
-        → IsSeated (application_of service.now) (worlds_of (K.seen keeper.old).state)
-        ask.now.viewer seat }
+    requires valid { IsTrue (K.seen keeper.old).tells
+        → IsValidCache (application_of service.now) (worlds_of (K.seen keeper.old).state)
+        ask.now.viewer cache }
     ensures prepared { IfOk result (λ r. IsPrepared false (K.seen keeper.new).tells
         (application_of service.now) (K.seen keeper.old).state ask.now r.prepared) }
-    ensures seated { IsTrue (K.seen keeper.new).tells → IfOk result (λ r. IsSeated
+    ensures valid { IsTrue (K.seen keeper.new).tells → IfOk result (λ r. IsValidCache
         (application_of service.now)
         (worlds_of (applied_if r.prepared.change (K.seen keeper.old).state))
-        ask.now.viewer r.seat) }
-    ensures touched { IsTrue (K.seen keeper.new).tells → IfOk result (λ r. IsTouchOf
-        (application_of service.now) (K.seen keeper.old).state r.prepared.change r.touch) }
+        ask.now.viewer r.cache) }
+    ensures affected { IsTrue (K.seen keeper.new).tells → IfOk result (λ r. IsInvalidationOf
+        (application_of service.now) (K.seen keeper.old).state r.prepared.change r.invalidation) }
     ensures unsplit { IfOk result (λ r. IsNone r.prepared.change → splits.new ≡ splits.old) }
     ensures reading { stores (application_of service.now) ask.now ≡ false
         → splits.new ≡ splits.old }
     ensures reads { Reads (K.seen keeper.old) (K.seen keeper.new) result }
 {
-    let manner = Manner { lazy: false, seat };
-    let seated = prepare_by(alloc, service, keeper, ask, manner, splits, evaluations)?;
-    Ok(seated)
+    let manner = Manner { lazy: false, cache };
+    let valid = prepare_by(alloc, service, keeper, ask, manner, splits, evaluations)?;
+    Ok(valid)
 }
 
 // The same in either manner.
@@ -148,16 +148,16 @@ fn prepare_by<K: Keeper, L: Ledger, M: Ledger>(
     manner: Manner,
     splits: &mut Steps<L>,
     evaluations: &mut Steps<M>,
-) -> Result<Seated, Stop>
+) -> Result<PreparedWithCache, Stop>
     requires attached { IsTrue (K.seen keeper.old).store.attached }
     requires start { IsTrue (K.seen keeper.old).tells
         → IsStart (application_of service.now) (K.seen keeper.old).state }
-    requires seated { IsTrue (K.seen keeper.old).tells
-        → IsSeated (application_of service.now) (worlds_of (K.seen keeper.old).state)
-        ask.now.viewer manner.seat }
+    requires valid { IsTrue (K.seen keeper.old).tells
+        → IsValidCache (application_of service.now) (worlds_of (K.seen keeper.old).state)
+        ask.now.viewer manner.cache }
     ensures prepared { IfOk result (λ r. IsPrepared manner.lazy (K.seen keeper.new).tells
         (application_of service.now) (K.seen keeper.old).state ask.now r.prepared) }
-    ensures keeps { IfOk result (KeepsSeat (K.seen keeper.new).tells
+    ensures keeps { IfOk result (KeepsCache (K.seen keeper.new).tells
         (application_of service.now) (K.seen keeper.old).state ask.now.viewer) }
     ensures unsplit { IfOk result (λ r. IsNone r.prepared.change → splits.new ≡ splits.old) }
     ensures reading { stores (application_of service.now) ask.now ≡ false
@@ -165,8 +165,8 @@ fn prepare_by<K: Keeper, L: Ledger, M: Ledger>(
     ensures reads { Reads (K.seen keeper.old) (K.seen keeper.new) result }
 {
     let _app = service.app();
-    let seated = prepare_found(alloc, service, keeper, ask, manner, splits, evaluations)?;
-    Ok(seated)
+    let valid = prepare_found(alloc, service, keeper, ask, manner, splits, evaluations)?;
+    Ok(valid)
 }
 
 // The same, by what the request finds.
@@ -178,17 +178,17 @@ fn prepare_found<K: Keeper, L: Ledger, M: Ledger>(
     manner: Manner,
     splits: &mut Steps<L>,
     evaluations: &mut Steps<M>,
-) -> Result<Seated, Stop>
+) -> Result<PreparedWithCache, Stop>
     requires attached { IsTrue (K.seen keeper.old).store.attached }
     requires start { IsTrue (K.seen keeper.old).tells
         → IsStart (application_of service.now) (K.seen keeper.old).state }
-    requires seated { IsTrue (K.seen keeper.old).tells
-        → IsSeated (application_of service.now) (worlds_of (K.seen keeper.old).state)
-        ask.now.viewer manner.seat }
+    requires valid { IsTrue (K.seen keeper.old).tells
+        → IsValidCache (application_of service.now) (worlds_of (K.seen keeper.old).state)
+        ask.now.viewer manner.cache }
     ensures prepared { IfOk result (λ r. IsPreparedFor manner.lazy
         (found (application_of service.now) ask.now.method ask.now.path) (K.seen keeper.new).tells
         (application_of service.now) (K.seen keeper.old).state ask.now r.prepared) }
-    ensures keeps { IfOk result (KeepsSeat (K.seen keeper.new).tells
+    ensures keeps { IfOk result (KeepsCache (K.seen keeper.new).tells
         (application_of service.now) (K.seen keeper.old).state ask.now.viewer) }
     ensures unsplit { IfOk result (λ r. IsNone r.prepared.change → splits.new ≡ splits.old) }
     ensures reading { stores (application_of service.now) ask.now ≡ false
@@ -206,28 +206,28 @@ fn prepare_found<K: Keeper, L: Ledger, M: Ledger>(
                 place: view,
                 view: view_at(app, view),
             };
-            let seated = answer_view(alloc, keeper, &visited, manner, splits, evaluations)?;
-            Ok(seated)
+            let valid = answer_view(alloc, keeper, &visited, manner, splits, evaluations)?;
+            Ok(valid)
         }
         Found::NoRoute => {
             let prepared = refuse(alloc, 404, None)?;
-            Ok(unmoved(prepared, manner.seat))
+            Ok(unmoved(prepared, manner.cache))
         }
         Found::WrongMethod(allow) => {
             let prepared = refuse_method(alloc, allow)?;
-            Ok(unmoved(prepared, manner.seat))
+            Ok(unmoved(prepared, manner.cache))
         }
     }
 }
 
 // Nothing is stored, and what was settled stays so.
-fn unmoved(prepared: Prepared, seat: Seat) -> Seated
-    ensures { result ≡ record { prepared = prepared; seat = seat; touch = None } }
+fn unmoved(prepared: Prepared, cache: ViewerCache) -> PreparedWithCache
+    ensures { result ≡ record { prepared = prepared; cache = cache; invalidation = None } }
 {
-    Seated {
+    PreparedWithCache {
         prepared,
-        seat,
-        touch: None,
+        cache,
+        invalidation: None,
     }
 }
 
@@ -248,7 +248,7 @@ fn answer_view<K: Keeper, L: Ledger, M: Ledger>(
     manner: Manner,
     splits: &mut Steps<L>,
     evaluations: &mut Steps<M>,
-) -> Result<Seated, Stop>
+) -> Result<PreparedWithCache, Stop>
     requires attached { IsTrue (K.seen keeper.old).store.attached }
     requires served { are_served (app_of visited.now) ≡ true }
     requires few { length (app_of visited.now).models ≤ 64 }
@@ -257,13 +257,13 @@ fn answer_view<K: Keeper, L: Ledger, M: Ledger>(
     requires within { visited.now.place < length visited.now.app.now.views }
     requires view { slice_get (app_of visited.now).views visited.now.place
         ≡ Some (page_of_view visited.now.view.now) }
-    requires seated { IsTrue (K.seen keeper.old).tells → IsSeated (app_of visited.now)
-        (worlds_of (K.seen keeper.old).state) (viewer_at visited.now) manner.seat }
+    requires valid { IsTrue (K.seen keeper.old).tells → IsValidCache (app_of visited.now)
+        (worlds_of (K.seen keeper.old).state) (viewer_at visited.now) manner.cache }
     ensures prepared { IfOk result (λ r. IsPreparedBy manner.lazy
         (method_in (slice_get (app_of visited.now).views visited.now.place))
         (K.seen keeper.new).tells (app_of visited.now) (K.seen keeper.old).state
         (visit_at visited.now) r.prepared) }
-    ensures keeps { IfOk result (KeepsSeat (K.seen keeper.new).tells (app_of visited.now)
+    ensures keeps { IfOk result (KeepsCache (K.seen keeper.new).tells (app_of visited.now)
         (K.seen keeper.old).state (viewer_at visited.now)) }
     ensures unsplit { IfOk result (λ r. IsNone r.prepared.change → splits.new ≡ splits.old) }
     ensures reading { is_post (method_in (slice_get (app_of visited.now).views visited.now.place))
@@ -272,12 +272,12 @@ fn answer_view<K: Keeper, L: Ledger, M: Ledger>(
 {
     match visited.view.method {
         Verb::Get => {
-            let seated = show_by(alloc, keeper, visited, manner, evaluations)?;
-            Ok(seated)
+            let valid = show_by(alloc, keeper, visited, manner, evaluations)?;
+            Ok(valid)
         }
         Verb::Post => {
-            let seated = store(alloc, keeper, visited, manner.seat, splits, evaluations)?;
-            Ok(seated)
+            let valid = store(alloc, keeper, visited, manner.cache, splits, evaluations)?;
+            Ok(valid)
         }
     }
 }
@@ -289,7 +289,7 @@ fn show_by<K: Keeper, M: Ledger>(
     visited: &Visited<'_>,
     manner: Manner,
     evaluations: &mut Steps<M>,
-) -> Result<Seated, Stop>
+) -> Result<PreparedWithCache, Stop>
     requires attached { IsTrue (K.seen keeper.old).store.attached }
     requires start { IsTrue (K.seen keeper.old).tells
         → IsStart (app_of visited.now) (K.seen keeper.old).state }
@@ -298,30 +298,30 @@ fn show_by<K: Keeper, M: Ledger>(
         ≡ Some (page_of_view visited.now.view.now) }
     requires served { is_served_body (app_of visited.now).models verbs.Get
         (statements_of visited.now.view.now.body) ≡ true }
-    requires seated { IsTrue (K.seen keeper.old).tells → IsSeated (app_of visited.now)
-        (worlds_of (K.seen keeper.old).state) (viewer_at visited.now) manner.seat }
+    requires valid { IsTrue (K.seen keeper.old).tells → IsValidCache (app_of visited.now)
+        (worlds_of (K.seen keeper.old).state) (viewer_at visited.now) manner.cache }
     ensures shown { IfOk result (λ r. IsShown manner.lazy (K.seen keeper.new).tells
         (app_of visited.now) (K.seen keeper.old).state (visit_at visited.now) r.prepared) }
-    ensures keeps { IfOk result (KeepsSeat (K.seen keeper.new).tells (app_of visited.now)
+    ensures keeps { IfOk result (KeepsCache (K.seen keeper.new).tells (app_of visited.now)
         (K.seen keeper.old).state (viewer_at visited.now)) }
     ensures reads { Reads (K.seen keeper.old) (K.seen keeper.new) result }
 {
-    let Manner { lazy, seat } = manner;
+    let Manner { lazy, cache } = manner;
     if lazy {
         let prepared = show_lazily(alloc, keeper, visited, evaluations)?;
-        return Ok(unmoved(prepared, seat));
+        return Ok(unmoved(prepared, cache));
     }
-    show(alloc, keeper, visited, seat, evaluations)
+    show(alloc, keeper, visited, cache, evaluations)
 }
 
-// The page of a view that shows, under the labels of the seat.
+// The page of a view that shows, under the labels of the cache.
 fn show<K: Keeper, M: Ledger>(
     alloc: Global,
     keeper: &mut K,
     visited: &Visited<'_>,
-    seat: Seat,
+    cache: ViewerCache,
     evaluations: &mut Steps<M>,
-) -> Result<Seated, Stop>
+) -> Result<PreparedWithCache, Stop>
     requires attached { IsTrue (K.seen keeper.old).store.attached }
     requires start { IsTrue (K.seen keeper.old).tells
         → IsStart (app_of visited.now) (K.seen keeper.old).state }
@@ -329,24 +329,24 @@ fn show<K: Keeper, M: Ledger>(
         ≡ Some (page_of_view visited.now.view.now) }
     requires served { is_served_body (app_of visited.now).models verbs.Get
         (statements_of visited.now.view.now.body) ≡ true }
-    requires seated { IsTrue (K.seen keeper.old).tells → IsSeated (app_of visited.now)
-        (worlds_of (K.seen keeper.old).state) (viewer_at visited.now) seat }
+    requires valid { IsTrue (K.seen keeper.old).tells → IsValidCache (app_of visited.now)
+        (worlds_of (K.seen keeper.old).state) (viewer_at visited.now) cache }
     ensures shown { IfOk result (λ r. IsShown false (K.seen keeper.new).tells
         (app_of visited.now) (K.seen keeper.old).state (visit_at visited.now) r.prepared) }
-    ensures keeps { IfOk result (KeepsSeat (K.seen keeper.new).tells (app_of visited.now)
+    ensures keeps { IfOk result (KeepsCache (K.seen keeper.new).tells (app_of visited.now)
         (K.seen keeper.old).state (viewer_at visited.now)) }
     ensures reads { Reads (K.seen keeper.old) (K.seen keeper.new) result }
 {
     let number = keeper.number()?;
-    let mut seat = seat;
-    let shown = shown_page(alloc, keeper, visited, number, &mut seat, evaluations)?;
-    Ok(Seated {
+    let mut cache = cache;
+    let shown = shown_page(alloc, keeper, visited, number, &mut cache, evaluations)?;
+    Ok(PreparedWithCache {
         prepared: Prepared {
             answer: answer_of(shown),
             change: None,
         },
-        seat,
-        touch: None,
+        cache,
+        invalidation: None,
     })
 }
 
@@ -380,10 +380,10 @@ fn store<K: Keeper, L: Ledger, M: Ledger>(
     alloc: Global,
     keeper: &mut K,
     visited: &Visited<'_>,
-    seat: Seat,
+    cache: ViewerCache,
     splits: &mut Steps<L>,
     evaluations: &mut Steps<M>,
-) -> Result<Seated, Stop>
+) -> Result<PreparedWithCache, Stop>
     requires attached { IsTrue (K.seen keeper.old).store.attached }
     requires start { IsTrue (K.seen keeper.old).tells
         → IsStart (app_of visited.now) (K.seen keeper.old).state }
@@ -393,11 +393,11 @@ fn store<K: Keeper, L: Ledger, M: Ledger>(
     requires served { is_served_body (app_of visited.now).models verbs.Post
         (statements_of visited.now.view.now.body) ≡ true }
     requires few { length (app_of visited.now).models ≤ 64 }
-    requires seated { IsTrue (K.seen keeper.old).tells → IsSeated (app_of visited.now)
-        (worlds_of (K.seen keeper.old).state) (viewer_at visited.now) seat }
+    requires valid { IsTrue (K.seen keeper.old).tells → IsValidCache (app_of visited.now)
+        (worlds_of (K.seen keeper.old).state) (viewer_at visited.now) cache }
     ensures stored { IfOk result (λ r. IsPreparedBy false verbs.Post (K.seen keeper.new).tells
         (app_of visited.now) (K.seen keeper.old).state (visit_at visited.now) r.prepared) }
-    ensures keeps { IfOk result (KeepsSeat (K.seen keeper.new).tells (app_of visited.now)
+    ensures keeps { IfOk result (KeepsCache (K.seen keeper.new).tells (app_of visited.now)
         (K.seen keeper.old).state (viewer_at visited.now)) }
     ensures unsplit { IfOk result (λ r. IsNone r.prepared.change → splits.new ≡ splits.old) }
     ensures reads { Reads (K.seen keeper.old) (K.seen keeper.new) result }
@@ -405,25 +405,25 @@ fn store<K: Keeper, L: Ledger, M: Ledger>(
     let number = keeper.number()?;
     if number == LAST_NUMBER {
         let prepared = refuse(alloc, 507, None)?;
-        return Ok(unmoved(prepared, seat));
+        return Ok(unmoved(prepared, cache));
     }
-    let mut seat = seat;
+    let mut cache = cache;
     let stored = stored_page(
         alloc,
         keeper,
         visited,
         number,
-        &mut seat,
+        &mut cache,
         splits,
         evaluations,
     )?;
-    Ok(Seated {
+    Ok(PreparedWithCache {
         prepared: Prepared {
             answer: answer_of(stored.shown),
             change: Some(stored.change),
         },
-        seat,
-        touch: Some(stored.touch),
+        cache,
+        invalidation: Some(stored.invalidation),
     })
 }
 

@@ -19,7 +19,7 @@ pub(crate) struct Visited<'v> {
 }
 
 /// The view of this number.
-#[tactic(auto, using(jac_opening::proofs::PlaceLaws::page_at))]
+#[tactic(auto, using(jac_app_load::proofs::PlaceLaws::page_at))]
 pub(crate) fn view_at(app: &App, number: u32) -> &View
     requires { number < length app.now.views }
     ensures { slice_get (application_of app.now).views number ≡ Some (page_of_view result.now) }

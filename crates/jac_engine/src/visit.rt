@@ -2,15 +2,15 @@
 ghost use Rattle.std.specs.Prelude.{◌≡◌, ◌<◌, ◌≤◌, ◌+◌, ◌^◌, true, length, slice_get, IfOk, OnOk, IsErrOf, IsTrue, Some};
 ghost use Rattle.jac_io.specs.Faults.{Rose};
 ghost use Rattle.jac_keep.specs.KeeperSeen.{IsLeft};
-ghost use Rattle.jac_keep.specs.Kept.{changed_state};
-ghost use Rattle.jac_keep.specs.Worked.{state_of, IsTold, ReadsWork, WritesWork};
+ghost use Rattle.jac_keep.specs.ChangedState.{changed_state};
+ghost use Rattle.jac_keep.specs.WorkState.{state_of, IsTold, ReadsWork, WritesWork};
 ghost use Rattle.jac_lang.specs.Mirror.{page_of_view as view_of, statements_of};
 ghost use Rattle.jac_rows.specs.Good.{IsSound};
 ghost use Rattle.jac_stmt.specs.Runs.{AreRunnable};
 ghost use Rattle.jac_write.specs.Writes.{StaysTold};
 ghost use Rattle.jac_plain.specs.Policies.{IsSettled};
 ghost use Rattle.jac_plain.specs.Reading.{are_reading};
-ghost use Rattle.jac_resolve.specs.Seated.{IsSeated};
+ghost use Rattle.jac_resolve.specs.ValidCache.{IsValidCache};
 ghost use Rattle.jac_engine.specs.Prepared.{AreCovered};
 ghost use Rattle.jac_engine.specs.Visits.{app_of, found_view, request_at, viewer_at, visit_at};
 ghost use Rattle.jac_lazy.specs.Steady.{IsPageOf, IsSteady};
@@ -20,14 +20,14 @@ ghost use Rattle.jac_pruned.specs.Runs.{IsPageMade};
 
 use crate::lookup::Visited;
 use crate::parameters::bind_alike;
-use jac_expr::Here;
+use jac_expr::FacetedContext;
 use jac_keep::{Change, Keeper, Stop, Work};
 use jac_lazy::{LazyPage, page_lazily};
 use jac_plain::{Ctx, Page};
-use jac_pruned::{At, Support, run_body_at};
-use jac_recall::{Seat, Touch};
-use jac_resolve::{seat_moves, seated_by_tables, settle_seat, settled_by_tables};
-use jac_rests::touch_of;
+use jac_policy_cache::{Invalidation, ViewerCache};
+use jac_policy_deps::invalidation_of;
+use jac_pruned::{Support, WorldContext, run_body_at};
+use jac_resolve::{cache_moves, settle_cache, settled_by_tables, valid_by_tables};
 use jac_route::bind;
 use jac_stmt::{Frame, Out, exec, page_of};
 use jac_world::{Assignment, Guard, Steps};
@@ -41,38 +41,38 @@ pub(crate) struct Labelled {
     pub(crate) labels: Assignment,
 }
 
-/// A page, and what the change that comes with it may touch.
+/// A page, and what the change that comes with it may affect.
 #[derive(Drop)]
-pub(crate) struct Touching {
+pub(crate) struct PageWithInvalidation {
     pub(crate) shown: Labelled,
-    pub(crate) touch: Touch,
+    pub(crate) invalidation: Invalidation,
 }
 
-/// A page, what is to be stored with it, and what that may touch.
+/// A page, what is to be stored with it, and what that may affect.
 #[derive(Drop)]
 pub(crate) struct Stored {
     pub(crate) shown: Labelled,
     pub(crate) change: Change,
-    pub(crate) touch: Touch,
+    pub(crate) invalidation: Invalidation,
 }
 
 /// The page of the view, which writes nothing, under labels that are settled on what the keeper
-/// keeps: those of the seat, once what is due was settled again. It is run in the one world that
+/// keeps: those of the cache, once what is stale was settled again. It is run in the one world that
 /// they show.
 pub(crate) fn shown_page<K: Keeper, M: Ledger>(
     alloc: Global,
     keeper: &mut K,
     visited: &Visited<'_>,
     number: u64,
-    seat: &mut Seat,
+    cache: &mut ViewerCache,
     evaluations: &mut Steps<M>,
 ) -> Result<Labelled, Stop>
     requires attached { IsTrue (K.seen keeper.old).store.attached }
     requires reading { are_reading (statements_of visited.now.view.now.body) ≡ true }
     requires ready { IsTrue (K.seen keeper.old).tells → IsReady (app_of visited.now)
         (found_view visited.now) (request_at visited.now) number (K.seen keeper.old).state }
-    requires seated { IsTrue (K.seen keeper.old).tells → IsSeated (app_of visited.now)
-        (worlds_of (K.seen keeper.old).state) (viewer_at visited.now) seat.old }
+    requires valid { IsTrue (K.seen keeper.old).tells → IsValidCache (app_of visited.now)
+        (worlds_of (K.seen keeper.old).state) (viewer_at visited.now) cache.old }
     ensures made { IfOk result (λ x. IsPageMade x.page) }
     ensures page { IsTrue (K.seen keeper.new).tells → IfOk result (λ x. ShowsView
         (app_of visited.now) (found_view visited.now) (request_at visited.now) number
@@ -80,15 +80,15 @@ pub(crate) fn shown_page<K: Keeper, M: Ledger>(
     ensures settled { IsTrue (K.seen keeper.new).tells → IfOk result (λ x. IsSettled
         (app_of visited.now) (worlds_of (K.seen keeper.old).state) (viewer_at visited.now)
         x.labels) }
-    ensures seated { IsTrue (K.seen keeper.new).tells → OnOk result (IsSeated
+    ensures valid { IsTrue (K.seen keeper.new).tells → OnOk result (IsValidCache
         (app_of visited.now) (worlds_of (K.seen keeper.old).state) (viewer_at visited.now)
-        seat.new) }
+        cache.new) }
     ensures left { IsLeft (K.seen keeper.old) (K.seen keeper.new) }
     ensures rose { IsErrOf result Stop.Keeper
         → Rose (K.seen keeper.old).faults (K.seen keeper.new).faults }
 {
     let mut work = Work::new(alloc, keeper);
-    let shown = show_view(&mut work, visited, number, seat, evaluations)?;
+    let shown = show_view(&mut work, visited, number, cache, evaluations)?;
     Ok(shown)
 }
 
@@ -169,28 +169,28 @@ fn show_view<K: Keeper, M: Ledger>(
     work: &mut Work<'_, K>,
     visited: &Visited<'_>,
     number: u64,
-    seat: &mut Seat,
+    cache: &mut ViewerCache,
     evaluations: &mut Steps<M>,
 ) -> Result<Labelled, Stop>
     requires attached { IsTrue (K.seen work.old.keeper.now).store.attached }
     requires reading { are_reading (statements_of visited.now.view.now.body) ≡ true }
     requires ready { IsTold K.seen work.old → IsReady (app_of visited.now) (found_view visited.now)
         (request_at visited.now) number (state_of K.seen work.old) }
-    requires seated { IsTold K.seen work.old → IsSeated (app_of visited.now)
-        (worlds_of (state_of K.seen work.old)) (viewer_at visited.now) seat.old }
+    requires valid { IsTold K.seen work.old → IsValidCache (app_of visited.now)
+        (worlds_of (state_of K.seen work.old)) (viewer_at visited.now) cache.old }
     ensures made { IfOk result (λ x. IsPageMade x.page) }
     ensures page { IsTold K.seen work.new → IfOk result (λ x. ShowsView (app_of visited.now)
         (found_view visited.now) (request_at visited.now) number (state_of K.seen work.old)
         x.labels x.page) }
     ensures settled { IsTold K.seen work.new → IfOk result (λ x. IsSettled (app_of visited.now)
         (worlds_of (state_of K.seen work.old)) (viewer_at visited.now) x.labels) }
-    ensures seated { IsTold K.seen work.new → OnOk result (IsSeated (app_of visited.now)
-        (worlds_of (state_of K.seen work.old)) (viewer_at visited.now) seat.new) }
+    ensures valid { IsTold K.seen work.new → OnOk result (IsValidCache (app_of visited.now)
+        (worlds_of (state_of K.seen work.old)) (viewer_at visited.now) cache.new) }
     ensures told { OnOk result (StaysTold K.seen work.old work.new) }
     ensures keeps { WritesWork K.seen work.old work.new result }
 {
     let viewer = &visited.ask.viewer;
-    let labels = settle_seat(work, visited.app, viewer, seat, evaluations)?;
+    let labels = settle_cache(work, visited.app, viewer, cache, evaluations)?;
     let page = page_under(work, visited, number, &labels)?;
     Ok(Labelled { page, labels })
 }
@@ -216,7 +216,7 @@ fn page_under<K: Keeper>(
     let env = bind(work.alloc, &view.params, visited.app, visited.path, asked)?;
     let ctx = context(visited, number);
     let mut support = Support::empty(work.alloc);
-    let at = At {
+    let at = WorldContext {
         app: visited.app,
         ctx: &ctx,
         assignment: labels,
@@ -239,14 +239,14 @@ fn context(visited: &Visited<'_>, number: u64) -> Ctx
 }
 
 /// The page of the view, under labels that are settled on what its run leaves, what is to be
-/// stored, and what that may touch. What was settled for who asks is settled on what the run
+/// stored, and what that may affect. What was settled for who asks is settled on what the run
 /// leaves.
 pub(crate) fn stored_page<K: Keeper, L: Ledger, M: Ledger>(
     alloc: Global,
     keeper: &mut K,
     visited: &Visited<'_>,
     number: u64,
-    seat: &mut Seat,
+    cache: &mut ViewerCache,
     splits: &mut Steps<L>,
     evaluations: &mut Steps<M>,
 ) -> Result<Stored, Stop>
@@ -258,15 +258,16 @@ pub(crate) fn stored_page<K: Keeper, L: Ledger, M: Ledger>(
     requires runnable { AreRunnable number (statements_of visited.now.view.now.body) }
     requires ready { IsTrue (K.seen keeper.old).tells → IsReady (app_of visited.now)
         (found_view visited.now) (request_at visited.now) number (K.seen keeper.old).state }
-    requires seated { IsTrue (K.seen keeper.old).tells → IsSeated (app_of visited.now)
-        (worlds_of (K.seen keeper.old).state) (viewer_at visited.now) seat.old }
+    requires valid { IsTrue (K.seen keeper.old).tells → IsValidCache (app_of visited.now)
+        (worlds_of (K.seen keeper.old).state) (viewer_at visited.now) cache.old }
     ensures made { IfOk result (λ x. IsPageMade x.shown.page) }
     ensures page { IsTrue (K.seen keeper.new).tells → IfOk result (λ x. ShowsView
         (app_of visited.now) (found_view visited.now) (request_at visited.now) number
         (K.seen keeper.old).state x.shown.labels x.shown.page) }
     ensures settles { IsTrue (K.seen keeper.new).tells → IfOk result (λ x. SettlesView
         (app_of visited.now) (viewer_at visited.now) (K.seen keeper.old).state
-        (changed_state x.change (K.seen keeper.old).state).tables x.shown.labels seat.new x.touch) }
+        (changed_state x.change (K.seen keeper.old).state).tables x.shown.labels cache.new
+        x.invalidation) }
     ensures stored { IsTrue (K.seen keeper.new).tells → IfOk result (λ x. LeavesTables
         (app_of visited.now) (found_view visited.now) (request_at visited.now) number
         (K.seen keeper.old).state (changed_state x.change (K.seen keeper.old).state).tables) }
@@ -276,19 +277,15 @@ pub(crate) fn stored_page<K: Keeper, L: Ledger, M: Ledger>(
         → Rose (K.seen keeper.old).faults (K.seen keeper.new).faults }
 {
     let mut work = Work::new(alloc, keeper);
-    let Touching { shown, touch } = settle_view(
-        &mut work,
-        visited,
-        number,
-        seat,
-        splits,
-        evaluations,
-    )?;
+    let PageWithInvalidation {
+        shown,
+        invalidation,
+    } = settle_view(&mut work, visited, number, cache, splits, evaluations)?;
     let change = work.into_change(number + 1)?;
     Ok(Stored {
         shown,
         change,
-        touch,
+        invalidation,
     })
 }
 
@@ -297,10 +294,10 @@ fn settle_view<K: Keeper, L: Ledger, M: Ledger>(
     work: &mut Work<'_, K>,
     visited: &Visited<'_>,
     number: u64,
-    seat: &mut Seat,
+    cache: &mut ViewerCache,
     splits: &mut Steps<L>,
     evaluations: &mut Steps<M>,
-) -> Result<Touching, Stop>
+) -> Result<PageWithInvalidation, Stop>
     requires attached { IsTrue (K.seen work.old.keeper.now).store.attached }
     requires tables { IsTrue (K.seen work.old.keeper.now).tells
         → length visited.now.app.now.models ≤ length (K.seen work.old.keeper.now).state.tables }
@@ -309,15 +306,15 @@ fn settle_view<K: Keeper, L: Ledger, M: Ledger>(
     requires runnable { AreRunnable number (statements_of visited.now.view.now.body) }
     requires ready { IsTold K.seen work.old → IsReady (app_of visited.now) (found_view visited.now)
         (request_at visited.now) number (state_of K.seen work.old) }
-    requires seated { IsTrue (K.seen work.old.keeper.now).tells → IsSeated (app_of visited.now)
-        (worlds_of (K.seen work.old.keeper.now).state) (viewer_at visited.now) seat.old }
+    requires valid { IsTrue (K.seen work.old.keeper.now).tells → IsValidCache (app_of visited.now)
+        (worlds_of (K.seen work.old.keeper.now).state) (viewer_at visited.now) cache.old }
     ensures made { IfOk result (λ x. IsPageMade x.shown.page) }
     ensures page { IsTold K.seen work.new → IfOk result (λ x. ShowsView (app_of visited.now)
         (found_view visited.now) (request_at visited.now) number (state_of K.seen work.old)
         x.shown.labels x.shown.page) }
     ensures settles { IsTold K.seen work.new → IfOk result (λ x. SettlesView (app_of visited.now)
         (viewer_at visited.now) (K.seen work.old.keeper.now).state (state_of K.seen work.new).tables
-        x.shown.labels seat.new x.touch) }
+        x.shown.labels cache.new x.invalidation) }
     ensures stored { IsTold K.seen work.new → OnOk result (LeavesTables (app_of visited.now)
         (found_view visited.now) (request_at visited.now) number (state_of K.seen work.old)
         (state_of K.seen work.new).tables) }
@@ -325,9 +322,9 @@ fn settle_view<K: Keeper, L: Ledger, M: Ledger>(
     ensures keeps { WritesWork K.seen work.old work.new result }
 {
     settled_by_tables();
-    seated_by_tables();
-    let touching = store_view(work, visited, number, seat, splits, evaluations)?;
-    Ok(touching)
+    valid_by_tables();
+    let with_invalidation = store_view(work, visited, number, cache, splits, evaluations)?;
+    Ok(with_invalidation)
 }
 
 // Runs the statements of the view, settles the labels on what they leave, and makes the page that
@@ -336,10 +333,10 @@ fn store_view<K: Keeper, L: Ledger, M: Ledger>(
     work: &mut Work<'_, K>,
     visited: &Visited<'_>,
     number: u64,
-    seat: &mut Seat,
+    cache: &mut ViewerCache,
     splits: &mut Steps<L>,
     evaluations: &mut Steps<M>,
-) -> Result<Touching, Stop>
+) -> Result<PageWithInvalidation, Stop>
     requires attached { IsTrue (K.seen work.old.keeper.now).store.attached }
     requires tables { IsTrue (K.seen work.old.keeper.now).tells
         → length visited.now.app.now.models ≤ length (K.seen work.old.keeper.now).state.tables }
@@ -348,18 +345,18 @@ fn store_view<K: Keeper, L: Ledger, M: Ledger>(
     requires runnable { AreRunnable number (statements_of visited.now.view.now.body) }
     requires ready { IsTold K.seen work.old → IsReady (app_of visited.now) (found_view visited.now)
         (request_at visited.now) number (state_of K.seen work.old) }
-    requires seated { IsTrue (K.seen work.old.keeper.now).tells → IsSeated (app_of visited.now)
-        (worlds_of (K.seen work.old.keeper.now).state) (viewer_at visited.now) seat.old }
+    requires valid { IsTrue (K.seen work.old.keeper.now).tells → IsValidCache (app_of visited.now)
+        (worlds_of (K.seen work.old.keeper.now).state) (viewer_at visited.now) cache.old }
     ensures made { IfOk result (λ x. IsPageMade x.shown.page) }
     ensures page { IsTold K.seen work.new → IfOk result (λ x. ShowsView (app_of visited.now)
         (found_view visited.now) (request_at visited.now) number (state_of K.seen work.old)
         x.shown.labels x.shown.page) }
     ensures settled { IsTold K.seen work.new → IfOk result (λ x. IsSettled (app_of visited.now)
         (worlds_of (state_of K.seen work.new)) (viewer_at visited.now) x.shown.labels) }
-    ensures seated { IsTold K.seen work.new → OnOk result (IsSeated (app_of visited.now)
-        (worlds_of (state_of K.seen work.new)) (viewer_at visited.now) seat.new) }
-    ensures touched { IsTold K.seen work.new → IfOk result (λ x. AreCovered (app_of visited.now)
-        (K.seen work.old.keeper.now).state (state_of K.seen work.new) x.touch) }
+    ensures valid { IsTold K.seen work.new → OnOk result (IsValidCache (app_of visited.now)
+        (worlds_of (state_of K.seen work.new)) (viewer_at visited.now) cache.new) }
+    ensures affected { IsTold K.seen work.new → IfOk result (λ x. AreCovered (app_of visited.now)
+        (K.seen work.old.keeper.now).state (state_of K.seen work.new) x.invalidation) }
     ensures stored { IsTold K.seen work.new → OnOk result (LeavesTables (app_of visited.now)
         (found_view visited.now) (request_at visited.now) number (state_of K.seen work.old)
         (state_of K.seen work.new).tables) }
@@ -367,40 +364,40 @@ fn store_view<K: Keeper, L: Ledger, M: Ledger>(
     ensures keeps { WritesWork K.seen work.old work.new result }
 {
     let pieces = run_body(work, visited, number, splits)?;
-    let touch = touch_seat(work, visited, seat)?;
+    let invalidation = invalidate_cache(work, visited, cache)?;
     let viewer = &visited.ask.viewer;
-    let settled = settle_seat(work, visited.app, viewer, seat, evaluations)?;
+    let settled = settle_cache(work, visited.app, viewer, cache, evaluations)?;
     let page = page_of(work.alloc, pieces, &settled)?;
-    Ok(Touching {
+    Ok(PageWithInvalidation {
         shown: Labelled {
             page,
             labels: settled,
         },
-        touch,
+        invalidation,
     })
 }
 
-// What the work may touch, of which nothing is settled any longer for who asks.
-fn touch_seat<K: Keeper>(
+// What the work may affect, of which nothing is settled any longer for who asks.
+fn invalidate_cache<K: Keeper>(
     work: &mut Work<'_, K>,
     visited: &Visited<'_>,
-    seat: &mut Seat,
-) -> Result<Touch, Stop>
+    cache: &mut ViewerCache,
+) -> Result<Invalidation, Stop>
     requires attached { IsTrue (K.seen work.old.keeper.now).store.attached }
     requires sound { IsTrue (K.seen work.old.keeper.now).tells
         → IsSound (K.seen work.old.keeper.now).state }
-    requires seated { IsTrue (K.seen work.old.keeper.now).tells → IsSeated (app_of visited.now)
-        (worlds_of (K.seen work.old.keeper.now).state) (viewer_at visited.now) seat.old }
-    ensures seated { IsTold K.seen work.new → OnOk result (IsSeated (app_of visited.now)
-        (worlds_of (state_of K.seen work.old)) (viewer_at visited.now) seat.new) }
-    ensures touched { IsTold K.seen work.new → IfOk result (AreCovered (app_of visited.now)
+    requires valid { IsTrue (K.seen work.old.keeper.now).tells → IsValidCache (app_of visited.now)
+        (worlds_of (K.seen work.old.keeper.now).state) (viewer_at visited.now) cache.old }
+    ensures valid { IsTold K.seen work.new → OnOk result (IsValidCache (app_of visited.now)
+        (worlds_of (state_of K.seen work.old)) (viewer_at visited.now) cache.new) }
+    ensures affected { IsTold K.seen work.new → IfOk result (AreCovered (app_of visited.now)
         (K.seen work.old.keeper.now).state (state_of K.seen work.old)) }
     ensures reads { ReadsWork K.seen work.old work.new result }
 {
-    seat_moves();
-    let touch = touch_of(work, visited.app)?;
-    seat.unsettle(work.alloc, &visited.ask.viewer, &touch)?;
-    Ok(touch)
+    cache_moves();
+    let invalidation = invalidation_of(work, visited.app)?;
+    cache.invalidate(work.alloc, &visited.ask.viewer, &invalidation)?;
+    Ok(invalidation)
 }
 
 // Runs the statements of the view for all assignments at once.
@@ -427,7 +424,7 @@ fn run_body<K: Keeper, L: Ledger>(
     let mut frame = Frame { env, out };
     let ctx = context(visited, number);
     let everywhere = Guard::empty(work.alloc);
-    let here = Here {
+    let here = FacetedContext {
         app: visited.app,
         ctx: &ctx,
         pc: &everywhere,

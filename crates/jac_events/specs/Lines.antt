@@ -41,7 +41,7 @@ abbrev pub request_of_parts : Option ℕ → List ℕ → List ℕ → List ℕ 
 request_of_parts viewer method target body = Ask viewer method (before_first (λ b. b == 63) target)
     (after_first (λ b. b == 63) target) body
 
--- behind `ask`: `VIEWER METHOD "TARGET" "BODY"`
+-- after `ask`: `VIEWER METHOD "TARGET" "BODY"`
 abbrev pub ask_of : List ℕ → Option Event
 ask_of rest =
     option_and_then (λ viewer.
@@ -59,7 +59,7 @@ ask_of rest =
     (word_at viewer.1))
     (word_at rest)
 
--- behind `data`: `N "BYTES"`
+-- after `data`: `N "BYTES"`
 abbrev pub data_of : List ℕ → Option Event
 data_of rest =
     option_and_then (λ number.

@@ -33,7 +33,7 @@ abbrev mutual
       if c == 10 then None else
       with_byte c (read_quoted bytes)
 
-  -- the same behind a backslash: `\n`, `\r`, `\\`, `\"` and `\xHH`
+  -- the same after a backslash: `\n`, `\r`, `\\`, `\"` and `\xHH`
   pub read_escape : List ℕ → Option (List ℕ × List ℕ)
   read_escape [] = None
   read_escape (c ∷ bytes) =
@@ -44,7 +44,7 @@ abbrev mutual
       if c == 120 then read_hex bytes else
       None
 
-  -- the same behind `\x`
+  -- the same after `\x`
   pub read_hex : List ℕ → Option (List ℕ × List ℕ)
   read_hex [] = None
   read_hex (h ∷ []) = None

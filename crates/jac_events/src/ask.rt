@@ -12,7 +12,7 @@ use jac_value::{Bytes, Memory, Txt, TxtFault};
 use std::alloc::Global;
 use std::str::from_utf8;
 
-/// The request that stands behind the word `ask`, or none where that has another form.
+/// The request that stands after the word `ask`, or none where that has another form.
 pub fn read_ask(alloc: Global, rest: &[u8]) -> Result<Option<Event>, Memory>
     ensures { IfOk result (λ event. event ≡ ask_of rest.now) }
 {

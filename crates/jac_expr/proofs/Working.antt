@@ -2,7 +2,7 @@
 use Rattle.jac_keep.specs.declared.alteration.Alterations.{Alterations}
 use Rattle.jac_keep.specs.declared.work.WorkOver.{WorkOver}
 use Rattle.jac_keep.specs.KeeperSeen.{KeeperSeen}
-use Rattle.jac_keep.specs.Worked.{IsTold, IsUntouched}
+use Rattle.jac_keep.specs.WorkState.{IsTold, IsUntouched}
 
 -- what stays and what doesn't fall, and what was computed so far where the work is told
 pub record LoopOver {K : Type 0} (seen : K → KeeperSeen) (old new : WorkOver K Alterations) (computed : Type 0) : Type 0 where

@@ -2,7 +2,7 @@
 ghost use Rattle.std.specs.Prelude.{◌≡◌, ℕ, Bool, true, List, [], length, IfOk, IsTrue};
 ghost use Rattle.jac_facet.specs.Shape.{at};
 ghost use Rattle.jac_lang.specs.Mirror.{binders_of};
-ghost use Rattle.jac_keep.specs.Worked.{state_of, IsTold, ReadsWork};
+ghost use Rattle.jac_keep.specs.WorkState.{state_of, IsTold, ReadsWork};
 ghost use Rattle.jac_world.specs.World.{holds};
 ghost use Rattle.jac_plain.specs.Expressions.{bound, look, key_of, ordered_tuples, sorted_tuples};
 ghost use Rattle.jac_plain.specs.World.{got};

@@ -5,7 +5,7 @@ ghost use Rattle.jac_world.specs.World.{holds};
 ghost use Rattle.jac_facet.specs.Shape.{at};
 ghost use Rattle.jac_facet.specs.Leaves.{leaves_seen};
 ghost use Rattle.jac_rows.specs.Project.{rows_at, project_at};
-ghost use Rattle.jac_keep.specs.Worked.{state_of, IsTold, ReadsWork};
+ghost use Rattle.jac_keep.specs.WorkState.{state_of, IsTold, ReadsWork};
 ghost use Rattle.jac_lang.specs.declared.application.App.{App};
 ghost use Rattle.jac_plain.specs.Expressions.{is_live};
 ghost use Rattle.jac_plain.specs.declared.context.Ctx.{Ctx as Context};

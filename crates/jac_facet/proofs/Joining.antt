@@ -11,7 +11,7 @@ pub joined : {X Y V : Type 0} (P : X → Y → V → Type 0) (b : Bool) (x xh xl
 joined P true x xh xl y yh yl r rh rl a b c d e p q = rw (← (a refl), ← (c refl), e) p
 joined P false x xh xl y yh yl r rh rl a b c d e p q = rw (← (b refl), ← (d refl), e) q
 
--- a guard's first pair, and the rest of the guard behind it
+-- a guard's first pair, and the rest of the guard after it
 pub under_step : {T : Type 0} (s x r : Bool) (f i o ni oi oo n old : T) → f ≡ (if beq s x then i else o) → i ≡ (if r then ni else oi) → o ≡ oo → (x ≡ s → ni ≡ n) → (x ≡ s → oi ≡ old) → (x ≡ not s → oo ≡ old) → f ≡ (if beq s x && r then n else old)
 under_step true true true f i o ni oi oo n old a b c p q t = a ∙ b ∙ p refl
 under_step true true false f i o ni oi oo n old a b c p q t = a ∙ b ∙ q refl
@@ -34,6 +34,6 @@ right_true : (a b : Bool) → (a && b) ≡ true → b ≡ true
 right_true true b p = p
 right_true false b p = cc
 
--- the first pair is met, and the rest of the cut behind it
+-- the first pair is met, and the rest of the cut after it
 pub prune_step : {T : Type 0} (s x r : Bool) (f b self : T) → (beq s x && r) ≡ true → (r ≡ true → f ≡ b) → (x ≡ s → b ≡ self) → f ≡ self
 prune_step s x r f b self h p q = p (right_true (beq s x) r h) ∙ q (sign_is s x (left_true (beq s x) r h))

@@ -27,7 +27,7 @@ module _ {T : Type 0} where
   seen-push w [] p = refl
   seen-push w (q ∷ ps) p = seen_both (holds w q.0) q.1 (leaves_seen w ps) (leaves_seen w (ps ++ p ∷ [])) _ (seen-push w ps p)
 
-  -- with more guards behind
+  -- with more guards after
   pub before-append : (v w : ℕ → Bool) (old ps : List (List (ℕ × Bool) × T)) → is_shown_before v w (old ++ ps) ≡ (if meets v old || meets w old then is_shown_before v w old else is_shown_before v w ps)
   before-append v w [] ps = refl
   before-append v w (q ∷ old) ps = before_cons (holds v q.0) (holds w q.0) (meets v old) (meets w old) (is_shown_before v w old) (is_shown_before v w ps) (is_shown_before v w (old ++ ps)) (before-append v w old ps)

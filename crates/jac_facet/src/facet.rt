@@ -10,7 +10,7 @@ use std::alloc::Global;
 use std::marker::Model;
 use std::sync::ledger::Ledger;
 
-/// How many labels may stand one behind the other in a facet. What works on a facet, and its drop,
+/// How many labels may stand one after the other in a facet. What works on a facet, and its drop,
 /// recurses once for each of them, and the stack must not decide whether that ends: a facet that
 /// would have more is refused as want of memory.
 pub(crate) const MOST_LABELS: u32 = 1024;
@@ -21,7 +21,7 @@ pub(crate) const MOST_LABELS: u32 = 1024;
 #[derive(Drop)]
 pub struct Facet<T> {
     pub(crate) node: Node<T>,
-    // How many labels stand one behind the other, on the longest path.
+    // How many labels stand one after the other, on the longest path.
     labels: u32,
 }
 
@@ -63,7 +63,7 @@ impl<T: Leaf> Facet<T> {
     }
 
     /// High where the label is shown, else low. Equal sides give that side. A facet may have 1,024
-    /// labels one behind the other; beyond that it wants memory.
+    /// labels one after the other; beyond that it wants memory.
     pub fn split<L: Ledger>(
         alloc: Global,
         label: Label,

@@ -14,7 +14,7 @@ use std::sync::ledger::Ledger;
 
 impl<T: Leaf> Facet<T> {
     /// The new facet where the guard holds, else the old one. A guard of more labels than a facet
-    /// may have one behind the other wants memory.
+    /// may have one after the other wants memory.
     pub fn under<L: Ledger>(
         alloc: Global,
         guard: &Guard,

@@ -18,7 +18,7 @@ abbrev pub IfGot : {A : Type 0} → Read A → (A → Type 0) → Type 0
 IfGot (got x) P = P x
 IfGot (refused fault) P = Unit {0}
 
--- P of what is read of the trees behind a head
+-- P of what is read of the trees after a head
 pub after : {A : Type 0} (P : A → Type 0) (want : Want) (at : List ℕ) (read : PlainTrees → Read A) (o : Option PlainTrees) → ((ts : PlainTrees) → IfGot (read ts) P) → IfGot (read_behind want at read o) P
 after P want at read None k = tt
 after P want at read (Some ts) k = k ts

@@ -20,7 +20,7 @@ module _ {A B : Type 0} (g : A → B) (f : List A → List B) (none : f [] ≡ [
   seen-pushed done new y pushed = ap f pushed ∙ seen-append done (y ∷ []) ∙ ap (λ (s : List B). f done ++ s) (more y [] ∙ ap (λ (s : List B). g y ∷ s) none)
 
 module _ {B : Type 0} (read : List ℕ → PlainTree → Read B) (at : List ℕ) where
-  -- what the tree `t`, which is child k, writes is put behind the others
+  -- what the tree `t`, which is child k, writes is put after the others
   pub made-more : (done new : List B) (b : B) (k next : ℕ) (path : List ℕ) (t : PlainTree) (ts : PlainTrees) (all : Read (List B)) → new ≡ done ++ b ∷ []
       → next ≡ k + 1 → path ≡ child at k → read path t ≡ got b
       → made_before done (each_in_trees read at k (PlainTrees.more t ts)) ≡ all → made_before new (each_in_trees read at next ts) ≡ all

@@ -82,7 +82,7 @@ IsNumbered n s = IsWrittenStatement s.statement × Spans n s.next (sites_in s.st
 abbrev pub AreNumbered : ℕ → Body → Type 0
 AreNumbered n b = AreWrittenStatements b.statements × Spans n b.next (sites b.statements)
 
--- what stands behind the head, in each way that some statement takes it
+-- what stands after the head, in each way that some statement takes it
 record AreOperands (operands : StatementOperands) : Type 0 where
   single : (one : Single) → IfGot (operands.single one) IsPlainStep
   bind : (n : ℕ) → IfGot (operands.bind n) (IsNumbered n)

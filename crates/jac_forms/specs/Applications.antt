@@ -108,7 +108,7 @@ entity name nested fields groups = record {
   groups = groups;
 }
 
--- a model whose fields stand as child k, and behind them its groups, at most 8
+-- a model whose fields stand as child k, and after them its groups, at most 8
 abbrev pub entity_behind : List ℕ → Bool → ℕ → PlainTree → PlainTrees → Read Entity
 entity_behind at nested k x (PlainTrees.more fs gs) =
     up_to whats.Groups at 8 (count gs)

@@ -2,7 +2,7 @@
 use Rattle.std.specs.Prelude.{ℕ, List, [], ◌∷◌, ◌++◌}
 use Rattle.jac_forms.specs.declared.place.Place.{Place, Top, Child'}
 
--- the number behind those of the list
+-- the number after those of the list
 abbrev pub child : List ℕ → ℕ → List ℕ
 child at number = at ++ number ∷ []
 

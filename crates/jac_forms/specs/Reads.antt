@@ -35,7 +35,7 @@ abbrev pub got_where : {A : Type 0} → Want → List ℕ → Option A → Read 
 got_where want at (Some x) = got x
 got_where want at None = wrong want at
 
--- what is read of the trees behind a head, where it is there
+-- what is read of the trees after a head, where it is there
 abbrev pub read_behind : {A : Type 0} → Want → List ℕ → (PlainTrees → Read A) → Option PlainTrees
     → Read A
 read_behind want at read (Some ts) = read ts

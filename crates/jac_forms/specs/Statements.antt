@@ -139,7 +139,7 @@ create x m n cells b = numbered_statement b.next (Statement.create x m n cells b
 abbrev pub before_body : Statement → Body → Body
 before_body s b = body b.next (Statements.more s b.statements)
 
--- what stands behind the head, read in each way that some statement takes it
+-- what stands after the head, read in each way that some statement takes it
 pub record StatementOperands : Type 0 where
   pub single : Single → Read Statement
   pub bind : ℕ → Read Numbered

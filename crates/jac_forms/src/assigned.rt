@@ -30,7 +30,7 @@ pub fn read_set(alloc: Global, place: &Place<'_>, tree: &Tree) -> Result<Publics
     }
 }
 
-/// Fields with their expressions, behind the head of their list; what is none of these is a fault
+/// Fields with their expressions, after the head of their list; what is none of these is a fault
 /// of `want`.
 pub fn read_assigned(
     alloc: Global,

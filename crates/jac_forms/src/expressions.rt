@@ -46,7 +46,7 @@ pub fn query_of(alloc: Global, tree: &Tree) -> Result<Query, FormFault>
     Ok(q)
 }
 
-/// The one expression behind the head of a list; a list of anything else is a fault of `want`.
+/// The one expression after the head of a list; a list of anything else is a fault of `want`.
 pub fn read_only(
     alloc: Global,
     place: &Place<'_>,

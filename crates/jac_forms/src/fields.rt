@@ -141,7 +141,7 @@ fn plain_kind_of(word: &str) -> Option<KindName>
     }
 }
 
-/// The one name behind the head of a list; a list of anything else is a fault of `want`.
+/// The one name after the head of a list; a list of anything else is a fault of `want`.
 pub fn read_only_name(
     alloc: Global,
     place: &Place<'_>,

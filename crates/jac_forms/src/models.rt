@@ -53,7 +53,7 @@ fn read_parts(alloc: Global, place: &Place<'_>, parts: &Trees) -> Result<ModelDe
     Ok(model)
 }
 
-// The parts of a model that stand behind its name, or behind `nested`, from this child on.
+// The parts of a model that stand after its name, or after `nested`, from this child on.
 fn read_behind(
     alloc: Global,
     place: &Place<'_>,

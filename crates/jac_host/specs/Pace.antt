@@ -22,7 +22,7 @@ begun_in Within since now = since
 abbrev pub phase_began : Pace → Instant → Instant
 phase_began pace now = begun_in pace.phase pace.since now
 
--- what is waited for behind a reply, by where the bytes stand
+-- what is waited for after a reply, by where the bytes stand
 abbrev pub phase_behind : Spot → Phase
 phase_behind Between = Kept
 phase_behind (Name matched body) = Within

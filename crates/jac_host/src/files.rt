@@ -103,7 +103,7 @@ impl Sink for Stdout<'_> {
     }
 }
 
-/// The audit's file, which an aim makes where it isn't there, and goes on behind what it holds. An
+/// The audit's file, which an aim makes where it isn't there, and goes on after what it holds. An
 /// audit that is aimed at none drops its bytes. Each put is written through at once.
 #[derive(Drop)]
 pub struct HostAudit<'r> {

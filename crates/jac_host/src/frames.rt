@@ -4,10 +4,10 @@
 // The field that tells how long a body is, with its colon.
 const LENGTH: [u8; 15] = *b"content-length:";
 
-/// Where a connection stands behind the bytes so far.
+/// Where a connection stands after the bytes so far.
 #[derive(Clone, Copy, Debug, PartialEq, Eq)]
 pub(crate) enum Spot {
-    /// Behind a whole request, or ahead of the first.
+    /// After a whole request, or ahead of the first.
     Between,
     /// In a line of a head, whose first bytes so far are so many of those that tell the body's
     /// length.
@@ -20,7 +20,7 @@ pub(crate) enum Spot {
     Body { left: u64 },
 }
 
-/// Where the connection stands behind these bytes more.
+/// Where the connection stands after these bytes more.
 pub(crate) fn spot_behind(spot: Spot, bytes: &[u8]) -> Spot {
     let mut spot = spot;
     'bytes: for byte in bytes {
@@ -29,7 +29,7 @@ pub(crate) fn spot_behind(spot: Spot, bytes: &[u8]) -> Spot {
     spot
 }
 
-// Behind one byte more. Empty lines ahead of a request belong to none.
+// After one byte more. Empty lines ahead of a request belong to none.
 fn next_spot(spot: Spot, byte: u8) -> Spot {
     match (spot, byte) {
         (Spot::Between, b'\r' | b'\n') => Spot::Between,
@@ -60,7 +60,7 @@ fn behind_head(left: u64) -> Spot {
     }
 }
 
-// Behind a letter of a line that began as the one that tells the body's length.
+// After a letter of a line that began as the one that tells the body's length.
 fn behind_letter(matched: usize, body: u64, byte: u8) -> Spot {
     let letter = byte.to_ascii_lowercase();
     match LENGTH.get(matched) {

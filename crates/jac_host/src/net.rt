@@ -17,7 +17,7 @@ const LAST_READS: u32 = 64;
 
 /// A connection of the host. It tells nothing. Each put is written through at once. Its input is at
 /// its end where the peer ended it, and where what is waited for didn't come in time: its first
-/// byte, the rest of a request, or one more request behind a reply.
+/// byte, the rest of a request, or one more request after a reply.
 #[derive(Drop)]
 pub struct HostLink {
     rt: HostRuntime,

@@ -12,7 +12,7 @@ use std::time::{Duration, Instant};
 // moment later.
 const FRESH_MILLIS: u64 = 100;
 
-// How long a connection may bring nothing behind a reply: the next request of one that is kept may
+// How long a connection may bring nothing after a reply: the next request of one that is kept may
 // be under way.
 const KEPT_MILLIS: u64 = 20;
 
@@ -64,7 +64,7 @@ impl Pace {
         self.spot = spot_behind(self.spot, bytes);
     }
 
-    /// A reply was put. Where the bytes so far go on behind its request, they are a front of the
+    /// A reply was put. Where the bytes so far go on after its request, they are a front of the
     /// next one.
     pub(crate) fn put(&mut self, now: Instant)
         ensures phase { self.new.phase ≡ phase_behind self.old.spot }
@@ -89,7 +89,7 @@ impl Pace {
     }
 }
 
-// What is waited for behind a reply, by where the bytes stand.
+// What is waited for after a reply, by where the bytes stand.
 fn phase_behind(spot: Spot) -> Phase
     ensures { result ≡ phase_behind spot }
 {

@@ -8,7 +8,7 @@ use Rattle.httparse.specs.Spans.{name_and_value}
 abbrev pub is_written : ℕ → Bool
 is_written b = not (b == 13 || b == 10)
 
--- LF stands behind LF, or behind CR behind LF, and something is written before
+-- LF stands after LF, or after CR after LF, and something is written before
 abbrev pub ends_blank : List ℕ → Bool
 ends_blank front = list_any is_written front && (ends_with ◌==◌ front (codes "\n\n") || ends_with
     ◌==◌ front (codes "\n\r\n"))

@@ -17,7 +17,7 @@ pub record IsReading (reads : List ℕ → Taken → Type 0) : Type 0 where
   pub within : (bytes : List ℕ) (request : Request) (used : ℕ) → reads bytes (Whole request used)
       → used ≤ length bytes
 
--- the requests stand one behind the other at the front of the bytes, and `rest` follows them
+-- the requests stand one after the other at the front of the bytes, and `rest` follows them
 abbrev pub AreRead : List ℕ → List Request → List ℕ → Type 0
 AreRead bytes [] rest = rest ≡ bytes
 AreRead bytes (request ∷ requests) rest = (used : ℕ) × IsTaken bytes (Whole request used)

@@ -9,7 +9,7 @@ pub struct Request {
     pub body: Bytes,
     /// The token of the session, where a cookie has one.
     pub token: Option<Txt>,
-    /// The connection ends behind the reply.
+    /// The connection ends after the reply.
     pub close: bool,
 }
 

@@ -76,7 +76,7 @@ record IsJoined {I A : Type 0} (h : Hearing I A) (n c : ℕ) (xs ys : List ℕ) 
   pub brought : PieceBrings h n c (xs ++ ys) (known c) (first ++ map earlier second)
   pub left : after_both h (Piece c (xs ++ ys)) (first ++ map earlier second) known ≡ after_both h (Piece c ys) second (after_both h (Piece c xs) first known)
 
--- the connections behind both, where the connection has begun
+-- the connections after both, where the connection has begun
 joined_known : {I A : Type 0} (h : Hearing I A) (c : ℕ) (xs ys : List ℕ) (one : Connection I) (known : Connections I) (first second : List (Entry I A)) → known c ≡ Some one → AreOf c first → AreOf c second
     → AreOf c (map earlier second)
     → after_both h (Piece c (xs ++ ys)) (first ++ map earlier second) known ≡ after_both h (Piece c ys) second (after_both h (Piece c xs) first known)

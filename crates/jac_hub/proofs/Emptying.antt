@@ -77,7 +77,7 @@ module _ {I A H : Type 0} (h : Hearing I A) (handles : H → ℕ → Heard → S
         same = last.same ∙ e.0;
       }
 
--- one reply, behind which the connection is closed
+-- one reply, after which the connection is closed
 closes_behind : {I A H : Type 0} (h : Hearing I A) (handles : H → ℕ → Heard → Sent → H → Type 0) (told : H → ℕ → Heard → Sent → H → A → Type 0) (memory : A)
     (n c : ℕ) (known : Connection I) (entry : Entry I A) (sent : Sent) (channel : ChannelSeen) (hub between_hub new : HubSeen) (out : HubOut) (outs : List HubOut)
     (before between after : H) → IsNextEntry h n c known entry → (with_entry h entry known).ended ≡ true → channel.closed ≡ true
@@ -101,7 +101,7 @@ closes_behind h handles told memory n c known entry sent channel hub between_hub
     false_true : (b : Bool) → b ≡ false → b ≡ true → ⊥
     false_true b e f = cc
 
--- what follows one reply, behind which the connection is served on
+-- what follows one reply, after which the connection is served on
 goes_on : {I A H : Type 0} (h : Hearing I A) (told : H → ℕ → Heard → Sent → H → A → Type 0) (memory : A)
     (n c : ℕ) (known : Connection I) (entry : Entry I A) (sent : Sent) (channel : ChannelSeen) (hub between_hub new : HubSeen) (out : HubOut) (outs : List HubOut)
     (before between after : H) → IsNextEntry h n c known entry
@@ -139,7 +139,7 @@ last_gave h told memory n c known None later hub new before after gave is made =
 last_gave h told memory n c known (Some (GivenReply sent)) later hub new before after gave is made = absurd (none_some (Reply c sent) is)
 last_gave h told memory n c known (Some GivenClosed) later hub new before after gave is made = absurd (none_some (Closed c) is)
 
--- a call that gave something, by whether the connection is closed behind it
+-- a call that gave something, by whether the connection is closed after it
 replied : {I A H : Type 0} (h : Hearing I A) (handles : H → ℕ → Heard → Sent → H → Type 0) (told : H → ℕ → Heard → Sent → H → A → Type 0) (memory : A)
     (n c : ℕ) (known : Connection I) (sent : Sent) (later : ChannelSeen) (closed : Bool) (hub between_hub new : HubSeen) (out : HubOut) (outs : List HubOut)
     (before between after : H) → GaveReply h told memory n c known sent later before between → later.closed ≡ closed → out ≡ Reply c sent

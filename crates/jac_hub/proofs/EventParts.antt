@@ -99,7 +99,7 @@ pieces_part h law handles told memory n c tells bytes (Some channel) known resul
     (breaking-gives h handles told memory n c outs stepped new channel (with_bytes bytes b.one) before after
     (ap (λ (l : HubSeen). l.turn) made) (ap (λ (l : HubSeen). l.channels c) made ∙ at) next_in (sym was.closed ∙ open_still) given)
 
--- an event, and some calls of `next` behind it, gave the beginning of what the definition brings
+-- an event, and some calls of `next` after it, gave the beginning of what the definition brings
 pub event-served_in_part : {I A H : Type 0} (h : Hearing I A) → IsReading h.reads → (handles : H → ℕ → Heard → Sent → H → Type 0)
     (told : H → ℕ → Heard → Sent → H → A → Type 0) (memory : A) (n : ℕ) → Tells h handles told
     → (event : Event) (known : Connections I) (result : Result (Unit {0}) HubFault) (old stepped new : HubSeen) (outs : List HubOut) (before after : H)

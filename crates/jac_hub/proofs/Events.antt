@@ -135,7 +135,7 @@ finish_served h handles told memory n c (Some channel) known result old stepped 
     taken_event h handles told memory n (Finish c) known (set_at c None known) (set_at c None old.channels) stepped new outs before after
     made refl refl refl (set_like h old.channels known c None None like tt) emptied
 
--- the connections behind a piece, where one has begun
+-- the connections after a piece, where one has begun
 pub piece-left : {I A : Type 0} (h : Hearing I A) (c : ℕ) (bytes : List ℕ) (one : Connection I) (known : Connections I) (mine : List (Entry I A)) → known c ≡ Some one
     → AreOf c mine → after_both h (Piece c bytes) mine known ≡ set_at c (Some (with_entries h mine (with_bytes bytes one))) known
 piece-left {I = I} h c bytes one known mine is all =
@@ -222,7 +222,7 @@ pieces_served h law handles told memory n c tells bytes (Some channel) known res
     (breaking-empties h handles told memory n c outs stepped new channel (with_bytes bytes b.one) before after
     (ap (λ (l : HubSeen). l.turn) made) (ap (λ (l : HubSeen). l.channels c) made ∙ at) next_in (sym was.closed ∙ open_still) emptied)
 
--- an event that a hub took, and the calls of `next` behind it, gave what the definition brings
+-- an event that a hub took, and the calls of `next` after it, gave what the definition brings
 pub event-served : {I A H : Type 0} (h : Hearing I A) → IsReading h.reads → (handles : H → ℕ → Heard → Sent → H → Type 0) (told : H → ℕ → Heard → Sent → H → A → Type 0)
     (memory : A) (n : ℕ) → Tells h handles told
     → (event : Event) (known : Connections I) (result : Result (Unit {0}) HubFault) (old stepped new : HubSeen) (outs : List HubOut) (before after : H)

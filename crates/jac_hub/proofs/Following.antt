@@ -31,7 +31,7 @@ take_past (suc n) (x ∷ xs) ys =
 room_left : (l n : ℕ) → l - min l n ≡ l - n
 room_left l n = omega arith
 
--- the bytes of a piece that count stand behind those that are unused
+-- the bytes of a piece that count stand after those that are unused
 pub grown-like : {I A : Type 0} (h : Hearing I A) → IsReading h.reads → (channel : ChannelSeen) (known : Connection I) (bytes : List ℕ)
     → IsLike h channel known → IsLike h (channel_with bytes channel) (with_bytes bytes known)
 grown-like h law channel known bytes like =
@@ -71,12 +71,12 @@ new-like h = record { taken = small LIMIT; unused = none LIMIT; closed = refl }
     none zero = refl
     none (suc l) = refl
 
--- an entry that a connection gets, and how both stand behind it
+-- an entry that a connection gets, and how both stand after it
 pub record GetsNext {I A : Type 0} (h : Hearing I A) (n c : ℕ) (known : Connection I) (entry : Entry I A) (later : ChannelSeen) : Type 0 where
   pub next : IsNextEntry h n c known entry
   pub like : IsLike h later (with_entry h entry known)
 
--- a subject at the front of what is unused is the next; behind it `rest` is unused
+-- a subject at the front of what is unused is the next; after it `rest` is unused
 gets_next : {I A : Type 0} (h : Hearing I A) (n c : ℕ) (channel : ChannelSeen) (known : Connection I) (subject : Subject I) (rest : List ℕ) (answer : A)
     → IsLike h channel known → channel.closed ≡ false → StandsAt h subject channel.unused rest
     → let entry : Entry I A = record { place = n; source = connection c; subject = subject; answer = answer } in

@@ -76,7 +76,7 @@ module _ {I A H : Type 0} (h : Hearing I A) (handles : H → ℕ → Heard → S
       let first : out ≡ Closed c = some_same out (Closed c) e.1 in
       (inr (λ i. first i ∷ last.0 i), last.1 ∙ e.0)
 
--- what is put behind one more reply
+-- what is put after one more reply
 put_behind : {I A : Type 0} (h : Hearing I A) (n c : ℕ) (known : Connection I) (entry : Entry I A) (mine : List (Entry I A)) (out first : HubOut) (outs replies : List HubOut)
     → IsNextEntry h n c known entry → out ≡ first
     → (outs ≡ replies) ⊎ (AreBrought h n c (with_entry h entry known) mine × (is_closed (with_entries h mine (with_entry h entry known)) ≡ true) × (outs ≡ replies ++ Closed c ∷ []))
@@ -124,7 +124,7 @@ closes_behind h handles told memory n c known entry sent between_hub new out out
     goes_on h told memory n c known entry sent out outs before between after next answered is
     (closed_gives h told memory n c (with_entry h entry known) outs between after ended last.0 last.1)
 
--- a call that gave something, by whether the connection is closed behind it
+-- a call that gave something, by whether the connection is closed after it
 replied : {I A H : Type 0} (h : Hearing I A) (handles : H → ℕ → Heard → Sent → H → Type 0) (told : H → ℕ → Heard → Sent → H → A → Type 0) (memory : A)
     (n c : ℕ) (known : Connection I) (sent : Sent) (later : ChannelSeen) (closed : Bool) (hub between_hub new : HubSeen) (out : HubOut) (outs : List HubOut)
     (before between after : H) → GaveReply h told memory n c known sent later before between → later.closed ≡ closed → out ≡ Reply c sent

@@ -1,4 +1,4 @@
--- How a connection stands behind entries and more bytes.
+-- How a connection stands after entries and more bytes.
 use Rattle.std.proofs.Common.{◌≡◌, ap, sym, subst, refl, ℕ, zero, suc, ◌≤◌, ◌||◌, nat_le, Bool, true, false, List, [], ◌∷◌, ◌++◌, take, length, append_assoc, length-append, arith, inl, inr, ◌⊎◌}
 use Rattle.std.proofs.lemmas.Bool.Decides.{nat_tests}
 use Rattle.std.proofs.lemmas.List.{take-append-le}
@@ -76,7 +76,7 @@ next-longer h law n c one entry bytes next = record {
   subject = next_in-longer h law one entry.subject bytes next.subject;
 }
 
--- the entries before a cut and those behind it, without it
+-- the entries before a cut and those after it, without it
 pub brought-joined : {I A : Type 0} (h : Hearing I A) → IsReading h.reads → (n c : ℕ) (one : Connection I) (front back : List (Entry I A)) (bytes : List ℕ)
     → AreBrought h n c one front → AreBrought h n c (with_bytes bytes (with_entries h front one)) back
     → AreBrought h n c (with_bytes bytes one) (front ++ back)

@@ -13,7 +13,7 @@ whole_no_more request used e = cc
 refused_no_more : (status : ℕ) → Refused status ≢ More
 refused_no_more status e = cc
 
--- more bytes behind a subject stay behind it
+-- more bytes after a subject stay after it
 pub stands-longer : {I A : Type 0} (h : Hearing I A) → IsReading h.reads → (subject : Subject I) (from to bytes : List ℕ)
     → StandsAt h subject from to → StandsAt h subject (from ++ bytes) (to ++ bytes)
 stands-longer h law (whole inquiry close) from to bytes (request, used, reads, i, c, at) =

@@ -1,11 +1,11 @@
--- How a connection stands behind entries.
+-- How a connection stands after entries.
 use Rattle.std.proofs.Common.{◌≡◌, ◌∙◌, ap, refl, ℕ, ◌==◌, Bool, true, false, Option, Some, List, [], ◌∷◌, arith}
 use Rattle.std.proofs.lemmas.Bool.Decides.{nat_tests}
 use Rattle.std.specs.Option.{option_map}
 use Rattle.jac_hub.specs.Hearing.{Source, connection, Entry, Hearing}
 use Rattle.jac_hub.specs.Heard.{Connection, Connections, set_at, with_entry, connections_after, after_entries, AreBrought}
 
--- a connection behind entries
+-- a connection after entries
 abbrev pub with_entries : {I A : Type 0} → Hearing I A → List (Entry I A) → Connection I → Connection I
 with_entries h [] known = known
 with_entries h (entry ∷ log) known = with_entries h log (with_entry h entry known)

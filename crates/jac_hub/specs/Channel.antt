@@ -38,7 +38,7 @@ shut channel = record channel { closed = true }
 abbrev pub fixed_500 : Sent
 fixed_500 = Still Memory500 false None
 
--- the connection ends behind what was sent
+-- the connection ends after what was sent
 abbrev pub sent_closes : Sent → Bool
 sent_closes (Made line audit close) = close
 sent_closes (Still status head viewer) = true
@@ -80,7 +80,7 @@ NextOfChannel reads handles c channel result new before after =
     ⊎ ((taken : Taken) × reads channel.unused taken × AnswersFront handles c channel taken result
     new before after)
 
--- behind a reply the connection is closed, or less of it is unused
+-- after a reply the connection is closed, or less of it is unused
 abbrev pub IsNearer : ChannelSeen → Option Given → ChannelSeen → Type 0
 IsNearer old None new = Unit {0}
 IsNearer old (Some Closed) new = Unit {0}

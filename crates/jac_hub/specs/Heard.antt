@@ -73,12 +73,12 @@ after_entries h [] known = known
 after_entries h (entry ∷ log) known = after_entries h log
     (connections_after h entry.source entry known)
 
--- how the connections stand behind an event and its entries
+-- how the connections stand after an event and its entries
 abbrev pub after_both : {I A : Type 0} → Hearing I A → Event → List (Entry I A) → Connections I
     → Connections I
 after_both h event mine known = after_entries h mine (after_event event known)
 
--- behind an event's entries nothing is left to be answered; so a connection is closed where an
+-- after an event's entries nothing is left to be answered; so a connection is closed where an
 -- entry closed it, and where all bytes that count were brought
 abbrev pub is_closed : {I : Type 0} → Connection I → Bool
 is_closed known = known.ended || nat_le LIMIT (length known.bytes)
@@ -95,19 +95,19 @@ StandsAt h (whole inquiry close) from to =
 StandsAt h (refused status) from to = h.reads from (Refused status) × (to ≡ from)
 StandsAt h broken from to = to ≡ from
 
--- the subjects stand one behind the other, and `to` follows them
+-- the subjects stand one after the other, and `to` follows them
 abbrev pub StandAt : {I A : Type 0} → Hearing I A → List (Subject I) → List ℕ → List ℕ → Type 0
 StandAt h [] from to = to ≡ from
 StandAt h (subject ∷ subjects) from to = (rest : List ℕ) × StandsAt h subject from rest
     × StandAt h subjects rest to
 
--- the subject stands behind those that were heard
+-- the subject stands after those that were heard
 abbrev pub IsNextIn : {I A : Type 0} → Hearing I A → Connection I → Subject I → Type 0
 IsNextIn h known subject = (from : List ℕ) × (to : List ℕ) × StandAt h known.heard
     (bytes_counted known)
     from × StandsAt h subject from to
 
--- nothing stands behind them but the beginning of a request
+-- nothing stands after them but the beginning of a request
 abbrev pub IsReadThrough : {I A : Type 0} → Hearing I A → Connection I → Type 0
 IsReadThrough h known = (from : List ℕ) × StandAt h known.heard (bytes_counted known) from
     × h.reads from More

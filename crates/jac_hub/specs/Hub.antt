@@ -77,7 +77,7 @@ out_of c None = None
 out_of c (Some (GivenReply sent)) = Some (Reply c sent)
 out_of c (Some GivenClosed) = Some (Closed c)
 
--- behind a reply the connection is served on, or that it is closed is to come
+-- after a reply the connection is served on, or that it is closed is to come
 abbrev pub turn_behind : ℕ → Option Given → Bool → Turn
 turn_behind c None closed = Idle
 turn_behind c (Some (GivenReply sent)) closed = if closed then Closing c else Serving c

@@ -19,7 +19,7 @@ use Rattle.jac_hub.specs.Channel.{LIMIT, ChannelSeen, sent_closes, fixed_500}
 use Rattle.jac_hub.specs.Hub.{HubSeen, Steps, Nexts}
 
 -- a hub's connection beside that of the definition, while an event's entries are brought: what is
--- unused stands behind what was heard
+-- unused stands after what was heard
 pub record IsLike {I A : Type 0} (h : Hearing I A) (channel : ChannelSeen) (known : Connection I) :
     Type 0 where
   pub taken : channel.taken ≡ min LIMIT (length known.bytes)
@@ -116,7 +116,7 @@ IsLost (Begin c) result = result ≡ Err Memory
 IsLost (Piece c bytes) result = ⊥
 IsLost (Finish c) result = ⊥
 
--- what an event and the calls of `next` behind it gave is what the definition brings
+-- what an event and the calls of `next` after it gave is what the definition brings
 pub record IsBrought {I A H : Type 0} (h : Hearing I A) (told : H → ℕ → Heard → Sent → H → A
     → Type 0) (memory : A) (n : ℕ) (event : Event)
     (known : Connections I) (outs : List HubOut) (new : HubSeen) (before after : H) : Type 0 where
@@ -128,7 +128,7 @@ pub record IsBrought {I A H : Type 0} (h : Hearing I A) (told : H → ℕ → He
   pub like : AreLike h new.channels (after_both h event mine known)
   pub idle : new.turn ≡ Idle
 
--- what an event and some calls of `next` behind it gave is the beginning of that; where a
+-- what an event and some calls of `next` after it gave is the beginning of that; where a
 -- connection was told to be closed, it is all
 pub record IsServedInPart {I A H : Type 0} (h : Hearing I A) (told : H → ℕ → Heard → Sent → H → A
     → Type 0) (memory : A) (n : ℕ) (event : Event)
@@ -140,7 +140,7 @@ pub record IsServedInPart {I A H : Type 0} (h : Hearing I A) (told : H → ℕ �
   pub put : (outs ≡ replies) ⊎ (IsBroughtBy h n event known mine
       × (outs ≡ replies ++ closings event known (after_both h event mine known)))
 
--- events one after another, each taken by `step`, behind which `next` is called until it gives
+-- events one after another, each taken by `step`, after which `next` is called until it gives
 -- nothing
 abbrev pub RunsHub : {H : Type 0} → (List ℕ → Taken → Type 0) → (H → ℕ → Heard → Sent → H → Type 0)
     → HubSeen → List Event → List HubOut → HubSeen → H → H → Type 0

@@ -180,7 +180,7 @@ fn ask<H: Handler>(conn: u32, heard: Heard, handler: &mut H) -> Sent
     handler.handle(conn, &heard)
 }
 
-// The connection ends behind the reply.
+// The connection ends after the reply.
 fn ends(close: bool, sent: &Sent) -> bool
     ensures { result ≡ (close || sent_closes sent.now) }
 {

@@ -19,7 +19,7 @@ pub trait Handler {
     /// What it asks of itself.
     ghost ready: { Self → Type 0 };
 
-    /// Itself before a call, the connection, what was heard, what it sent, and itself behind the
+    /// Itself before a call, the connection, what was heard, what it sent, and itself after the
     /// call.
     ghost handles: { Self → ℕ → HeardSeen → SentSeen → Self → Type 0 };
 

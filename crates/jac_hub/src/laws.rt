@@ -18,7 +18,7 @@ use crate::Handler;
 use jac_http::requests_are_read;
 
 /// A law: a hub that stands where the definition of what is heard does gives for an event exactly
-/// what that brings, and stands there again behind it. Want of memory at a Begin is the one event
+/// what that brings, and stands there again after it. Want of memory at a Begin is the one event
 /// that it may lose.
 pub fn events_are_heard<H: Handler>()
     ensures { (n : ℕ) (event : Event) (known : Connections Request) (result : Result (Unit {0})

@@ -7,13 +7,13 @@ use jac_value::{Bytes, Id};
 /// What is sent for what was heard.
 #[derive(Debug, Drop)]
 pub enum Sent {
-    /// A reply that was made, and its audit line; and whether its connection ends behind it.
+    /// A reply that was made, and its audit line; and whether its connection ends after it.
     Made {
         line: Bytes,
         audit: Bytes,
         close: bool,
     },
-    /// A reply that stands ready, behind which its connection ends.
+    /// A reply that stands ready, after which its connection ends.
     Still {
         status: Fixed,
         head: bool,
@@ -21,7 +21,7 @@ pub enum Sent {
     },
 }
 
-/// The connection ends behind what was sent.
+/// The connection ends after what was sent.
 pub fn closes(sent: &Sent) -> bool
     ensures { result ≡ sent_closes sent.now }
 {

@@ -9,7 +9,7 @@ pub cut_none : (ps : List (List ℕ)) → cut 0 ps ≡ ps
 cut_none [] = refl
 cut_none (p ∷ ps) = refl
 
--- behind the first piece nothing is cut
+-- after the first piece nothing is cut
 pub cut_behind : (n : ℕ) (ps : List (List ℕ)) → cut 0 (drop 1 ps) ≡ drop 1 (cut n ps)
 cut_behind n [] = refl
 cut_behind n (p ∷ ps) = cut_none ps

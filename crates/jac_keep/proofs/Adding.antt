@@ -3,7 +3,7 @@ use Rattle.std.proofs.Common.{◌≡◌, refl, Bool, true, false, ◌&&◌, ◌|
 use Rattle.std.specs.Prelude.{Option, Some, None}
 use Rattle.jac_value.specs.declared.value.Value.{Value}
 use Rattle.jac_index.specs.Triples.{is_same_value}
-use Rattle.jac_keep.specs.Holding.{is_cell}
+use Rattle.jac_keep.specs.MatchingRecords.{is_cell}
 use Rattle.jac_keep.proofs.PlacingLaws.{and-turned}
 
 pub cell_pair : (c v : Value) (o : Option Value) (b : Bool) → o ≡ Some c → (is_same_value c v && b) ≡ (b && is_cell v o)

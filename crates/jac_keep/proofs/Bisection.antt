@@ -103,7 +103,7 @@ next_name_point id a items at point = (
   λ k d low high. point.1 (suc k) d (omega (arith, low)) (omega (arith, high)),
 )
 
--- one more alteration comes to stand behind those of lesser ids
+-- one more alteration comes to stand after those of lesser ids
 renamed_past : (id : ℕ) (new : List Row) (items : List Alteration) (at : ℕ) → IsNamePoint id items at → with_alteration id new items ≡ take at items ++ with_alteration id new (drop at items)
 renamed_past id new [] zero point = refl
 renamed_past id new [] (suc at) point = refl

@@ -12,7 +12,7 @@ use Rattle.jac_keep.specs.Records.{with_id, alternatives, before, behind, placed
 use Rattle.jac_keep.specs.Alterations.{AreOwn, AreApart, ArePlaced, altered_rows, overlaid}
 use Rattle.jac_keep.proofs.AlteringLaws.{placed_if, rows_of-overlaid}
 use Rattle.jac_keep.proofs.PlacingLaws.{with_id-with_id, with_id-like, with_id-placed, with_id-all_of, with_id-none_of}
-use Rattle.jac_keep.specs.Holding.{has_cell, holds_cell, holders, masked_rows, masked_alterations}
+use Rattle.jac_keep.specs.MatchingRecords.{has_cell, holds_cell, holders, masked_rows, masked_alterations}
 
 pub or_assoc : (a b c : Bool) → ((a || b) || c) ≡ (a || (b || c))
 or_assoc true b c = refl

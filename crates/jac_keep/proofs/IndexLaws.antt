@@ -118,7 +118,7 @@ module _ (table : ℕ → List Row) (changed : List Alteration) (i next : ℕ) (
   pub altered_next : AreAltered table (take next changed) old after
   altered_next = subst (λ n. AreAltered table (take n changed) old after) (sym more) altered_suc
 
--- the indexes are those of the tables behind the alterations
+-- the indexes are those of the tables after the alterations
 pub indexes_follow : (tables : List (List Row)) (changed : List Alteration) (old new : TableIndexes) → AreAltered (rows_of tables) changed old new → AreIndexesOf (overlaid changed tables) new
 indexes_follow tables changed old new all m x is =
     subst (λ (rows : List Row). IsIndexOf rows x) (altered_table m changed tables (all.some m x is)) (all.right m x is)

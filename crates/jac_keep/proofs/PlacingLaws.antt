@@ -86,7 +86,7 @@ behind-behind a b rows h = with_id-with_id (λ i. nat_lt a i) (λ i. nat_lt b i)
 behind-behind_less : (a b : ℕ) (rows : List Row) → a < b → behind b (behind a rows) ≡ behind b rows
 behind-behind_less a b rows h = with_id-with_id (λ i. nat_lt b i) (λ i. nat_lt a i) rows ∙ with_id-like (λ i. nat_lt a i && nat_lt b i) (λ i. nat_lt b i) rows (above_above_less a b h)
 
--- what stands before and behind a record, where another record's rows are put in place
+-- what stands before and after a record, where another record's rows are put in place
 before-placed_less : (a b : ℕ) (y rows : List Row) → a < b → AreOf b y → before a (placed_rows b y rows) ≡ before a rows
 before-placed_less a b y rows h own =
     let none : with_id (λ i. nat_lt i a) y ≡ [] = with_id-none_of (λ i. nat_lt i a) b y own (search rules) in

@@ -1,4 +1,4 @@
--- Tables with empty ones behind them, and what a reshape leaves.
+-- Tables with empty ones after them, and what a reshape leaves.
 use Rattle.std.proofs.Common.{◌≡◌, ℕ, suc, ◌+◌, ◌-◌, ◌<◌, ◌≤◌, List, [], ◌∷◌, ◌++◌, length, Option, None, Ok, IsTrue, true≢false, append_assoc, append-nil, sym, ◌∙◌, ap, subst, arith}
 use Rattle.std.proofs.lemmas.List.{length-append}
 use Rattle.jac_rows.specs.Good.{ModelShape, IsSound}

@@ -2,7 +2,7 @@
 use Rattle.std.proofs.Common.{◌≡◌, ◌∙◌, ◌<◌, refl, sym, ap, subst, ℕ, not, ◌&&◌, ◌||◌, List, length, Option, Some, None, unwrap_or}
 use Rattle.jac_index.specs.declared.by_value.ByValue.{ByValue}
 use Rattle.jac_rows.specs.declared.row.Row.{Row}
-use Rattle.jac_keep.specs.Holding.{holds_cell}
+use Rattle.jac_keep.specs.MatchingRecords.{holds_cell}
 use Rattle.jac_keep.specs.Indexed.{field_index, IsByField, IsRewritten, IsFieldAfter, Follows, KeepsFields, Remains, IsIndexKept}
 use Rattle.jac_keep.specs.Records.{AreOf, alternatives, placed_rows}
 use Rattle.jac_keep.specs.declared.table_index.TableIndex.{TableIndex}

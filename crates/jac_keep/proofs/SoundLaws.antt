@@ -11,7 +11,7 @@ use Rattle.jac_keep.specs.Alterations.{altered_rows, overlaid_from}
 use Rattle.jac_keep.specs.Sound.{AreTables, MayStand, AllStand}
 use Rattle.jac_keep.specs.declared.alteration.Change.{Change}
 use Rattle.jac_keep.specs.Records.{with_id, before, behind, placed_rows}
-use Rattle.jac_keep.specs.Kept.{changed_state, state_with}
+use Rattle.jac_keep.specs.ChangedState.{changed_state, state_with}
 use Rattle.jac_rows.specs.Tables.{rows_of}
 use Rattle.jac_rows.specs.Good.{ModelShape, IsMade, AreRising, AreSound, IsSound, IsRecord, AreGuarded, IsGoodByGuards}
 use Rattle.jac_keep.proofs.AlteringLaws.{placed_if}
@@ -81,7 +81,7 @@ pub all-append : (P : Row → Type 0) (xs ys : List Row) → AllByRecursion P xs
 all-append P [] ys a b = b
 all-append P (x ∷ xs) ys a b = (a.0, all-append P xs ys a.1 b)
 
--- the rows that stand before and behind a record have lesser and greater ids
+-- the rows that stand before and after a record have lesser and greater ids
 passing-if : (P : Row → Type 0) (b : Bool) (x : Row) (xs : List Row) → (b ≡ true → P x) → AllByRecursion P xs → AllByRecursion P (if b then x ∷ xs else xs)
 passing-if P true x xs h rest = (h refl, rest)
 passing-if P false x xs h rest = rest

@@ -10,7 +10,7 @@ use Rattle.jac_index.specs.declared.by_value.ByValue.{ByValue}
 use Rattle.jac_index.specs.Triples.{has_index_pair}
 use Rattle.jac_keep.specs.declared.alteration.Alteration.{Alteration}
 use Rattle.jac_keep.specs.Alterations.{alters, altered_rows}
-use Rattle.jac_keep.specs.Holding.{holds_cell}
+use Rattle.jac_keep.specs.MatchingRecords.{holds_cell}
 use Rattle.jac_keep.specs.Records.{alternatives, placed_rows}
 use Rattle.jac_keep.specs.declared.table_index.TableIndex.{TableIndex}
 use Rattle.jac_keep.specs.declared.table_indexes.TableIndexes.{TableIndexes}

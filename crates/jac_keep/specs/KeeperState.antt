@@ -7,7 +7,7 @@ use Rattle.jac_rows.specs.Good.{IsNext, IsSound}
 use Rattle.jac_rows.specs.Good.{ModelShape}
 use Rattle.jac_keep.specs.Indexed.{AreIndexesIfMade}
 use Rattle.jac_keep.specs.KeeperSeen.{KeeperSeen, Store}
-use Rattle.jac_keep.specs.Kept.{changed_state}
+use Rattle.jac_keep.specs.ChangedState.{changed_state}
 use Rattle.jac_keep.specs.Reshaping.{widened_state}
 use Rattle.jac_keep.specs.Schema.{IsSchema, IsFit, empties}
 use Rattle.jac_keep.specs.declared.alteration.Change.{Change}

@@ -1,14 +1,14 @@
 pub mod Records
 pub mod Alterations
 pub mod Cause
-pub mod Kept
+pub mod ChangedState
 pub mod KeeperSeen
-pub mod Worked
+pub mod WorkState
 pub mod Sound
 pub mod KeeperState
 pub mod Opened
 pub mod Schema
 pub mod Attaching
-pub mod Holding
+pub mod MatchingRecords
 pub mod Indexed
 pub mod Reshaping

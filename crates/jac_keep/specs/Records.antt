@@ -12,7 +12,7 @@ with_id test (r ∷ rs) = if test r.id then r ∷ with_id test rs else with_id t
 abbrev pub alternatives : ℕ → List Row → List Row
 alternatives id rows = with_id (λ i. i == id) rows
 
--- the rows before and behind a record's place
+-- the rows before and after a record's place
 abbrev pub before : ℕ → List Row → List Row
 before id rows = with_id (λ i. nat_lt i id) rows
 

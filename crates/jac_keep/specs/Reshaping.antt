@@ -6,10 +6,10 @@ use Rattle.jac_rows.specs.declared.state.State.{State}
 use Rattle.jac_keep.specs.declared.alteration.Change.{Change}
 use Rattle.jac_keep.specs.declared.stop.Stop.{Stop}
 use Rattle.jac_keep.specs.KeeperSeen.{KeeperSeen}
-use Rattle.jac_keep.specs.Kept.{changed_state}
+use Rattle.jac_keep.specs.ChangedState.{changed_state}
 use Rattle.jac_keep.specs.Schema.{IsSchema, empties}
 
--- the state, with empty tables behind its own where it is to have so many
+-- the state, with empty tables after its own where it is to have so many
 abbrev pub widened_state : ℕ → State → State
 widened_state models s = record s { tables = s.tables ++ empties (models - length s.tables) }
 

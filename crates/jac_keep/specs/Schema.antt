@@ -52,7 +52,7 @@ plain_kind a =
     if bytes_eq a (codes "text") then Some kinds.Text else
     if bytes_eq a (codes "bool") then Some kinds.Bool else None
 
--- a reference by the one name behind `ref`
+-- a reference by the one name after `ref`
 abbrev pub reference_kind : PlainTrees → PlainTrees → Option Kind
 reference_kind models (PlainTrees.more x PlainTrees.none) = option_map kinds.Ref
     (place_named models x)
@@ -84,7 +84,7 @@ abbrev pub are_group_trees : PlainTrees → Bool
 are_group_trees PlainTrees.none = true
 are_group_trees (PlainTrees.more t ts) = is_group t && are_group_trees ts
 
--- `(groups GROUP ..)`, by the trees behind its head
+-- `(groups GROUP ..)`, by the trees after its head
 abbrev pub have_groups : Option PlainTrees → Bool
 have_groups None = false
 have_groups (Some ts) = are_group_trees ts
@@ -113,7 +113,7 @@ kinds_of_parts models PlainTrees.none = None
 kinds_of_parts models (PlainTrees.more x ts) = if is_name_tree x
     then kinds_of_lists models (behind_nested ts) else None
 
--- whether a model's parts, behind the word `model`, have the atom `nested` behind the name
+-- whether a model's parts, after the word `model`, have the atom `nested` after the name
 abbrev pub is_nested_in : Option PlainTrees → Bool
 is_nested_in None = false
 is_nested_in (Some PlainTrees.none) = false

@@ -3,7 +3,7 @@ ghost use Rattle.std.specs.Prelude.{◌≡◌, ◌==◌, ◌&&◌, ◌||◌, not
 ghost use Rattle.std.specs.Option.{option_copied};
 ghost use Rattle.jac_value.specs.declared.value.Value.{Value as Cell};
 ghost use Rattle.jac_index.specs.Triples.{has_index_pair};
-ghost use Rattle.jac_keep.specs.Holding.{has_cell, holds_cell};
+ghost use Rattle.jac_keep.specs.MatchingRecords.{has_cell, holds_cell};
 ghost use Rattle.jac_keep.specs.Indexed.{IsByField, IsFieldAfter, IsRewritten};
 
 use jac_index::ByValue;

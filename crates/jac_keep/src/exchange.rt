@@ -19,7 +19,7 @@ pub fn place(rows: &mut Vec<Row>, id: Id, new: Vec<Row>)
 }
 
 // Puts these rows in place of those from `start` to `end`. As many as these are overwritten, so
-// that rows that stand behind them move only where the numbers differ.
+// that rows that stand after them move only where the numbers differ.
 fn exchange(rows: &mut Vec<Row>, start: usize, end: usize, new: Vec<Row>)
     requires order { start ≤ end }
     requires within { end ≤ vec_len rows.old }
@@ -39,7 +39,7 @@ fn exchange(rows: &mut Vec<Row>, start: usize, end: usize, new: Vec<Row>)
 }
 
 // Puts the row at `at`: over the one that stands there, or before `end` where `at` is all that is
-// left. It gives where the rows behind stand then.
+// left. It gives where the rows after stand then.
 fn put_row(rows: &mut Vec<Row>, at: usize, end: usize, row: Row) -> usize
     requires order { at ≤ end }
     requires within { end ≤ vec_len rows.old }

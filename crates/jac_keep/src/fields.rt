@@ -22,7 +22,7 @@ pub fn field_of(fields: &[Option<ByValue>], place: usize) -> Option<&ByValue>
     }
 }
 
-/// Puts an index to its place, behind which there may be none yet.
+/// Puts an index to its place, after which there may be none yet.
 pub fn put_in(
     fields: &mut Vec<Option<ByValue>>,
     place: usize,

@@ -4,9 +4,9 @@ ghost use Rattle.jac_rows.specs.Good.{IsSound};
 ghost use Rattle.jac_rows.specs.declared.state.State.{State};
 ghost use Rattle.jac_rows.specs.Tables.{rows_of};
 ghost use Rattle.jac_keep.specs.Records.{alternatives};
-ghost use Rattle.jac_keep.specs.Holding.{holders};
+ghost use Rattle.jac_keep.specs.MatchingRecords.{holders};
 ghost use Rattle.jac_keep.specs.KeeperSeen.{KeeperSeen, Keeps, Reads};
-ghost use Rattle.jac_keep.specs.Kept.{changed_state};
+ghost use Rattle.jac_keep.specs.ChangedState.{changed_state};
 
 use crate::{Change, Stop};
 use jac_rows::Rows;

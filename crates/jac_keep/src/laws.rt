@@ -6,7 +6,7 @@ ghost use Rattle.jac_rows.specs.declared.state.State.{State};
 ghost use Rattle.jac_keep.specs.declared.alteration.Change.{Change as Changed};
 ghost use Rattle.jac_keep.specs.Records.{alternatives};
 ghost use Rattle.jac_keep.specs.Alterations.{AreApart, ArePlaced, alternatives_named};
-ghost use Rattle.jac_keep.specs.Kept.{changed_state};
+ghost use Rattle.jac_keep.specs.ChangedState.{changed_state};
 ghost use Rattle.jac_keep.specs.Sound.{AllStand};
 
 /// A law: a state that is good by its guards is sound.

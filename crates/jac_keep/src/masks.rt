@@ -2,7 +2,7 @@
 ghost use Rattle.std.specs.Prelude.{◌≡◌, ◌++◌, ◌∷◌, [], IfOk, OnOk};
 ghost use Rattle.std.specs.List.{list_any};
 ghost use Rattle.jac_keep.specs.Alterations.{AreApart};
-ghost use Rattle.jac_keep.specs.Holding.{has_cell, masked_rows, masked_alterations};
+ghost use Rattle.jac_keep.specs.MatchingRecords.{has_cell, masked_rows, masked_alterations};
 
 use crate::scan::has_cell;
 use crate::{Alteration, Alterations};

@@ -61,7 +61,7 @@ pub fn reshape_tables(
     }
 }
 
-/// The tables, and empty ones behind them until there are so many. It takes no memory.
+/// The tables, and empty ones after them until there are so many. It takes no memory.
 pub fn widen(alloc: Global, tables: Vec<Table>, models: usize) -> Vec<Table>
     requires { models ≤ vec_capacity tables }
     ensures { result.items ≡ tables.items ++ empties (models - length tables.items) }

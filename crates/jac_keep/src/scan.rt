@@ -2,7 +2,7 @@
 ghost use Rattle.std.specs.Prelude.{◌≡◌, ◌==◌, ◌&&◌, ◌||◌, ◌++◌, ◌∷◌, [], ℕ, IfOk, OnOk};
 ghost use Rattle.jac_world.specs.World.{shown_by};
 ghost use Rattle.jac_keep.specs.Records.{with_id};
-ghost use Rattle.jac_keep.specs.Holding.{has_cell, holds_cell, holders};
+ghost use Rattle.jac_keep.specs.MatchingRecords.{has_cell, holds_cell, holders};
 
 use jac_index::RisingIds;
 use jac_rows::{Row, Rows};

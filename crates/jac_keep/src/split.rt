@@ -54,7 +54,7 @@ fn place_rows(alloc: Global, id: Id, new: &[Row], rows: Vec<Row>) -> Result<Vec<
     Ok(low)
 }
 
-// The rows before and behind a record's place.
+// The rows before and after a record's place.
 fn split_rows(alloc: Global, id: Id, rows: Vec<Row>) -> Result<(Vec<Row>, Vec<Row>), Memory>
     ensures low { IfOk result (λ p. p.0.items ≡ before id rows.items) }
     ensures high { IfOk result (λ p. p.1.items ≡ behind id rows.items) }

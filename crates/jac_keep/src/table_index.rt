@@ -3,7 +3,7 @@ ghost use Rattle.std.specs.Prelude.{◌≡◌, ℕ, List, IfOk, OnOk};
 ghost use Rattle.jac_rows.specs.declared.row.Row.{Row as Seen};
 ghost use Rattle.jac_world.specs.World.{shown_by, IsAscending};
 ghost use Rattle.jac_keep.specs.Records.{AreOf, AreOrdered, alternatives};
-ghost use Rattle.jac_keep.specs.Holding.{holds_cell, holders};
+ghost use Rattle.jac_keep.specs.MatchingRecords.{holds_cell, holders};
 ghost use Rattle.jac_keep.specs.Indexed.{IsIndexOf, IndexesField, Follows, KeepsFields};
 
 use crate::Alteration;

@@ -5,7 +5,7 @@ ghost use Rattle.jac_rows.specs.Tables.{rows_of};
 ghost use Rattle.jac_value.specs.Ids.{model_of_id};
 ghost use Rattle.jac_keep.specs.Records.{AreOf, AreOrdered};
 ghost use Rattle.jac_keep.specs.Alterations.{alters, overlaid};
-ghost use Rattle.jac_keep.specs.Holding.{holders};
+ghost use Rattle.jac_keep.specs.MatchingRecords.{holders};
 ghost use Rattle.jac_keep.specs.Indexed.{index_at, AreIndexesOf, IndexesModel, Remains, IsIndexKept};
 
 use crate::Alteration;

@@ -1,7 +1,7 @@
 ghost use Rattle.std.specs.Prelude.{◌≡◌, List, Option, IsTrue, IfOk, length, false};
 ghost use Rattle.std.specs.Option.{option_copied};
 ghost use Rattle.jac_rows.specs.Good.{ModelShape};
-ghost use Rattle.jac_keep.specs.Kept.{changed_state};
+ghost use Rattle.jac_keep.specs.ChangedState.{changed_state};
 ghost use Rattle.jac_keep.specs.Schema.{IsSchema, IsFit};
 ghost use Rattle.jac_keep.specs.Attaching.{Attaches};
 ghost use Rattle.jac_keep.specs.Reshaping.{widened_state, Reshapes};

@@ -4,10 +4,10 @@ ghost use Rattle.jac_value.specs.Ids.{model_of_id};
 ghost use Rattle.jac_rows.specs.Tables.{rows_of};
 ghost use Rattle.jac_keep.specs.Records.{alternatives};
 ghost use Rattle.jac_rows.specs.declared.row.Row.{Row as Seen};
-ghost use Rattle.jac_keep.specs.Holding.{holders};
+ghost use Rattle.jac_keep.specs.MatchingRecords.{holders};
 ghost use Rattle.jac_keep.specs.Cause.{HasCause};
-ghost use Rattle.jac_keep.specs.Kept.{state_with, changed_state};
-ghost use Rattle.jac_keep.specs.Worked.{state_of, IsTold, LeavesKeeper, ReadsWork};
+ghost use Rattle.jac_keep.specs.ChangedState.{state_with, changed_state};
+ghost use Rattle.jac_keep.specs.WorkState.{state_of, IsTold, LeavesKeeper, ReadsWork};
 
 use crate::masks::masked;
 use crate::{Alterations, Change, Keeper, Stop};

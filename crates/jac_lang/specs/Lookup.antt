@@ -34,7 +34,7 @@ groups_at models m = groups_in (slice_get models m)
 abbrev pub field_place : List Field → List ℕ → Option ℕ
 field_place fields name = position (λ f. same_text f.name name) fields
 
--- the kind, with a model by its place; a name that no model has counts as the place behind the last
+-- the kind, with a model by its place; a name that no model has counts as the place after the last
 abbrev pub kind_named : List Entity → KindName → Kind
 kind_named models kind.Int = Kind.Int
 kind_named models kind.Text = Kind.Text

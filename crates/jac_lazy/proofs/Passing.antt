@@ -6,13 +6,13 @@ use Rattle.jac_lang.specs.Syntax.{Application}
 use Rattle.jac_plain.specs.Requests.{Worlds}
 use Rattle.jac_plain.specs.Policies.{is_allowed}
 use Rattle.jac_pruned.specs.Consulted.{Agrees}
-use Rattle.jac_recall.specs.declared.answers.Answers.{Answers}
-use Rattle.jac_recall.specs.Recalled.{AreWatched, recall, watches}
-use Rattle.jac_resolve.specs.Recalled.{AreRight, IsPassed, IsUnderway, RemembersForbidden}
+use Rattle.jac_policy_cache.specs.declared.policy_memo.PolicyMemo.{PolicyMemo}
+use Rattle.jac_policy_cache.specs.Memo.{AreWatched, recall, watches}
+use Rattle.jac_resolve.specs.RightMemo.{AreRight, IsPassed, IsUnderway, RemembersForbidden}
 use Rattle.jac_resolve.specs.Live.{AreLiveOf}
 use Rattle.jac_lazy.specs.Steady.{AlwaysAllows, AlwaysForbids, IsSteady}
 
-module _ (app : Application) (worlds : Worlds) (viewer : Option ℕ) (answers : Answers) (consulted : List ℕ) (named : (k j : ℕ) → watches answers k j ≡ true → shown_by consulted k ≡ true) where
+module _ (app : Application) (worlds : Worlds) (viewer : Option ℕ) (answers : PolicyMemo) (consulted : List ℕ) (named : (k j : ℕ) → watches answers k j ≡ true → shown_by consulted k ≡ true) where
   -- what is remembered is the same wherever the same of what was consulted is shown
   recalled_alike : AreWatched answers → (j : ℕ) (v w : ℕ → Bool) → Agrees consulted v w → recall answers j v ≡ recall answers j w
   recalled_alike watched j v w agree = watched.each j v w (λ k watching. agree.each k (named k j watching))

@@ -27,7 +27,7 @@ hidden_below k (x ∷ xs) a r =
 first_shown : (x : ℕ) (xs : List ℕ) → shown_by (x ∷ xs) x ≡ true
 first_shown x xs = or_left (x == x) (shown_by xs x) (itself x)
 
--- what is shown behind the first number is another one
+-- what is shown after the first number is another one
 behind_if : (x k : ℕ) (xs : List ℕ) (b s : Bool) → (x == k) ≡ b → IsAscending (x ∷ xs) → shown_by xs k ≡ true → (b || s) ≡ true → s ≡ true
 behind_if x k xs true s e a among h =
     let none : shown_by xs k ≡ false = ap (shown_by xs) (sym ((Decides-eqb x k).0 e)) ∙ hidden_below x xs a.0 a.1 in

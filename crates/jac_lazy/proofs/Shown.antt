@@ -13,9 +13,9 @@ use Rattle.jac_plain.specs.Statements.{leaves_all}
 use Rattle.jac_pruned.specs.Consulted.{Grows}
 use Rattle.jac_pruned.specs.Runs.{page_ran, run_in}
 use Rattle.jac_pruned.proofs.Growing.{grows_then}
-use Rattle.jac_recall.specs.declared.answers.Answers.{Answers}
-use Rattle.jac_recall.specs.Recalled.{watches}
-use Rattle.jac_resolve.specs.Recalled.{IsPassed}
+use Rattle.jac_policy_cache.specs.declared.policy_memo.PolicyMemo.{PolicyMemo}
+use Rattle.jac_policy_cache.specs.Memo.{watches}
+use Rattle.jac_resolve.specs.RightMemo.{IsPassed}
 use Rattle.jac_resolve.specs.Live.{AreLiveOf}
 use Rattle.jac_lazy.specs.Steady.{IsSteady}
 use Rattle.jac_lazy.proofs.Passing.{passed_steady}
@@ -32,7 +32,7 @@ page_same app ctx w s env view body is number =
 pub nothing_added : (start end : List ℕ) → IsAscending start → IsAscending end → Grows start end → length end ≡ length start → start ≡ end
 nothing_added start end rises rises_too grows same = (grown_longer start end rises rises_too grows).same (omega (arith, same))
 
-pub ended_steady : (app : Application) (worlds : Worlds) (viewer : Option ℕ) (answers : Answers) (start mid end tried labels : List ℕ) → IsAscending start → IsAscending end → IsAscending labels →
+pub ended_steady : (app : Application) (worlds : Worlds) (viewer : Option ℕ) (answers : PolicyMemo) (start mid end tried labels : List ℕ) → IsAscending start → IsAscending end → IsAscending labels →
     Grows start mid → Grows mid end → length end ≡ length start → AreLiveOf app worlds start tried → IsPassed app worlds viewer answers tried labels →
     ((k j : ℕ) → watches answers k j ≡ true → shown_by mid k ≡ true) → IsSteady app worlds viewer end labels
 ended_steady app worlds viewer answers start mid end tried labels rises rises_too ascending first second same are passed named =

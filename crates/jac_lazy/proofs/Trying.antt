@@ -132,7 +132,7 @@ module _ (app : Application) (worlds : Worlds) (viewer : Option ℕ) (consulted 
   stays zero ks old e = refl
   stays (suc n) ks old e = ap (Rounds n ks) e ∙ stays n ks old e
 
-  -- behind as many rounds as labels are hidden, none is added any more
+  -- after as many rounds as labels are hidden, none is added any more
 
   ended_if : (n : ℕ) (ks old : List ℕ) → Moves ks old (Round ks old) → hidden_count (shown_by old) ks ≤ suc n
       → (hidden_count (shown_by (Round ks old)) ks ≤ n → Round ks (Rounds n ks (Round ks old)) ≡ Rounds n ks (Round ks old))

@@ -48,7 +48,7 @@ module _ (app : Application) (worlds : Worlds) (viewer : Option ℕ) (consulted 
   rounds (suc n) ks labels = rounds n ks (round ks labels)
 
   -- from these labels on, the live ones that weren't consulted are tried in their order, again and
-  -- again. Each round adds one of them, up to one that adds none, and no round behind that adds
+  -- again. Each round adds one of them, up to one that adds none, and no round after that adds
   -- any: so as many rounds as there are live labels do it
   abbrev pub fill : List ℕ → List ℕ → List ℕ
   fill live labels = rounds (length live) live labels

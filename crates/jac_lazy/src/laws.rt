@@ -5,8 +5,8 @@ ghost use Rattle.jac_plain.specs.Policies.{IsSettled};
 ghost use Rattle.jac_plain.specs.Requests.{Visit, Worlds};
 ghost use Rattle.jac_plain.specs.declared.page.Page.{Page};
 ghost use Rattle.jac_pruned.specs.Consulted.{Agrees};
-ghost use Rattle.jac_recall.specs.declared.answers.Answers.{Answers};
-ghost use Rattle.jac_resolve.specs.Recalled.{IsPassed};
+ghost use Rattle.jac_policy_cache.specs.declared.policy_memo.PolicyMemo.{PolicyMemo};
+ghost use Rattle.jac_resolve.specs.RightMemo.{IsPassed};
 ghost use Rattle.jac_resolve.specs.Rounds.{AreLive};
 ghost use Rattle.jac_lazy.specs.Steady.{IsPageOf, IsSteady};
 ghost use Rattle.jac_lazy.specs.Filled.{IsFilled, IsPageOfSettled, fill};
@@ -39,7 +39,7 @@ pub fn steady_pages()
 
 /// A law: what a pass over all live labels leaves is settled.
 pub fn passed_is_settled()
-    ensures { (app : Application) (worlds : Worlds) (viewer : Option ℕ) (answers : Answers)
+    ensures { (app : Application) (worlds : Worlds) (viewer : Option ℕ) (answers : PolicyMemo)
         (live labels : List ℕ) → IsAscending labels → AreLive app worlds live →
         IsPassed app worlds viewer answers live labels → IsSettled app worlds viewer labels }
 {}

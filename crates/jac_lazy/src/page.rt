@@ -2,7 +2,7 @@
 ghost use Rattle.std.specs.Prelude.{◌≡◌, ◌<◌, ◌≤◌, ◌^◌, ℕ, Bool, true, None, length, slice_get, IfOk, IsTrue};
 ghost use Rattle.jac_world.specs.World.{shown_by, IsAscending};
 ghost use Rattle.jac_lang.specs.Mirror.{application_of, statements_of};
-ghost use Rattle.jac_keep.specs.Worked.{state_of, IsTold, ReadsWork};
+ghost use Rattle.jac_keep.specs.WorkState.{state_of, IsTold, ReadsWork};
 ghost use Rattle.jac_plain.specs.Reading.{are_reading};
 ghost use Rattle.jac_plain.specs.Requests.{body_in};
 ghost use Rattle.jac_pruned.specs.Consulted.{Agrees, Grows};
@@ -14,8 +14,8 @@ use crate::consulted::assignment_of;
 use jac_keep::{Keeper, Stop, Work};
 use jac_lang::{App, Binding, PlainEnv, Stmts};
 use jac_plain::{Ctx, Page};
-use jac_pruned::{At, Support, run_body_at};
-use jac_recall::Answers;
+use jac_policy_cache::PolicyMemo;
+use jac_pruned::{Support, WorldContext, run_body_at};
 use jac_resolve::{add_consulted, live_of, settle_among};
 use jac_value::Memory;
 use jac_world::{Assignment, Steps};
@@ -61,7 +61,7 @@ pub fn page_lazily<K: Keeper, M: Ledger>(
     let body = body_at(app, view);
     let outside = in_no_loop(ctx);
     let mut consulted = Support::empty(work.alloc);
-    let mut answers = Answers::empty(work.alloc);
+    let mut answers = PolicyMemo::empty(work.alloc);
     'runs: loop {
         let before = count_of(&consulted);
         let tried = live_of(work, app, consulted.as_slice())?;
@@ -75,7 +75,7 @@ pub fn page_lazily<K: Keeper, M: Ledger>(
         )?;
         add_consulted(&answers, &mut consulted)?;
         let bindings = copied(work.alloc, env)?;
-        let at = At {
+        let at = WorldContext {
             app,
             ctx: &outside,
             assignment: &shown,

@@ -5,9 +5,9 @@ use crate::tests::{
     CALENDAR, Line, NO_FAILS, REPLAY, Script, around_of, link_of, run_over, words_of,
 };
 use jac_app::{Status, attach_store, serve_link};
+use jac_app_load::{Service, read_application};
 use jac_io::{Calls, MemoryLink, MemorySink};
 use jac_keep::Keeper;
-use jac_opening::{Service, read_application};
 use jac_route::{Sessions, sessions_of};
 use jac_rows::Row;
 use jac_sqlkeep::{MemoryOpener, SqlKeeper};

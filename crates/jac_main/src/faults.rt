@@ -19,7 +19,7 @@ enum Part {
 }
 
 /// Calls of one part that fail, and what a run of the story leaves where they do. The audit's first
-/// call is that which aims it at its file; behind it come two for each line, the number and what
+/// call is that which aims it at its file; after it come two for each line, the number and what
 /// follows it.
 struct Fault {
     part: Part,

@@ -14,7 +14,7 @@ mod tests;
 
 use jac_app::{Status, run};
 use jac_host::{HostAudit, HostDoor, HostFiles, Stdout};
-use jac_hostkeep::HostVault;
+use jac_host_vault::HostVault;
 use jac_io::{Failed, Sink};
 use jac_rows::{State, Tables};
 use jac_value::{Memory, Txt};

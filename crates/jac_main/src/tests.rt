@@ -306,7 +306,7 @@ fn a_post_past_the_last_number_is_refused(rt: HostRuntime) -> Result<(), Fail> {
     Ok(())
 }
 
-/// An upgrade, and how many tables the store has behind it.
+/// An upgrade, and how many tables the store has after it.
 fn upgraded(alloc: Global, fails: Fails, wanted: &Wanted) -> Result<Option<usize>, Memory> {
     let script = Script {
         words: &["upgrade", "app", "events", "--db", "store"],

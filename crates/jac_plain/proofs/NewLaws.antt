@@ -205,7 +205,7 @@ mutual
       let both = and_parts (is_sited s) (are_sited rest) sited in
       keeps_all k site m around rest fit few less both.1 parts.1 (leaves k s r) (keeps_one k site m around s fit few less both.0 parts.0 r a)
 
--- behind two loops, and in one that isn't flat, nothing is created
+-- after two loops, and in one that isn't flat, nothing is created
 abbrev IsBarren : Loops → Type 0
 IsBarren loops = (nested : Bool) → may_create nested loops ≡ false
 

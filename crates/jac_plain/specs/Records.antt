@@ -126,7 +126,7 @@ abbrev pub with_ids : (ℕ → Bool) → List PlainRow → List PlainRow
 with_ids test [] = []
 with_ids test (r ∷ rows) = if test r.id then r ∷ with_ids test rows else with_ids test rows
 
--- the row in its place: behind the rows of lesser ids, before those of greater ones
+-- the row in its place: after the rows of lesser ids, before those of greater ones
 abbrev pub with_row : PlainRow → List PlainRow → List PlainRow
 with_row row rows = with_ids (λ id. nat_lt id row.id) rows ++ row ∷ with_ids
     (λ id. nat_lt row.id id) rows

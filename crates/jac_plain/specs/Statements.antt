@@ -57,7 +57,7 @@ html bytes = flat_map html_byte bytes
 abbrev pub cut_to : ℕ → Run → Run
 cut_to n r = record r { env = take n r.env }
 
--- the body with these bindings; those beyond the run's own are gone behind it
+-- the body with these bindings; those beyond the run's own are gone after it
 abbrev pub scoped_run : List Binding → (Run → Run) → Run → Run
 scoped_run env body r = cut_to (length r.env) (body (record r { env = env }))
 

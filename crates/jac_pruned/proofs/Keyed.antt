@@ -27,7 +27,7 @@ without_keys : (key : List ℕ → Value) (tuples : List (List ℕ)) → map (λ
 without_keys key [] = refl
 without_keys key (ids ∷ tuples) = ap (λ l. ids ∷ l) (without_keys key tuples)
 
--- the tuples behind their sorted keys
+-- the tuples after their sorted keys
 pub sorted-is : (down : Bool) (key : List ℕ → Value) (tuples : List (List ℕ)) (ps : List (List ℕ × Value)) → ps ≡ keyed_by key tuples →
     map (λ p. p.0) (sorted_by (key_less down) ps) ≡ sorted_tuples (value_less down) key tuples
 sorted-is down key tuples ps e =

@@ -29,7 +29,7 @@ use Rattle.jac_rows.specs.Good.{IsRecord, IsShaped, AreTablesOf, have_kinds}
 use Rattle.jac_rows.specs.Project.{rows_at, project_at}
 use Rattle.jac_rows.specs.Tables.{rows_of}
 use Rattle.jac_keep.specs.Records.{alternatives, with_id}
-use Rattle.jac_keep.specs.Holding.{holders, holds_cell}
+use Rattle.jac_keep.specs.MatchingRecords.{holders, holds_cell}
 use Rattle.jac_value.specs.contracts.value.ValuePartialEq.TheImpl as equality
 use Rattle.jac_pruned.specs.Wanted.{Wanted, behind_first, first_shown, firsts_wanted, rows_with_value, rows_wanted, shown_wanted, tuples_wanted}
 use Rattle.jac_plain.specs.Expressions.{mean, is_true, two, nearest, look_from, bound, binding, extended_tuples, crossed_tuples, tuples_from, kept_by, with_sorted, sorted_tuples, ordered_tuples, answers_by, is_less, key_of, summed_terms, some_of, first_of, pick, is_single, model_of_binder}

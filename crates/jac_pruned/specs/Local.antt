@@ -1,5 +1,5 @@
 -- Local applications, in which what a policy reads of guarded records is its own record, and local
--- states, in which a record's rows hang on its own labels.
+-- states, in which a record's rows depend on its own labels.
 use Rattle.std.specs.Prelude.{◌≡◌, ℕ, ◌&&◌, ◌||◌, Bool, true, false, List, [], ◌∷◌, Option, Some, None, ⊤}
 use Rattle.std.specs.List.{AllByRecursion}
 use Rattle.jac_value.specs.declared.value.Kind.{Kind}

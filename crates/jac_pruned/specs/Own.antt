@@ -1,5 +1,5 @@
--- Supports that hold labels of the record alone whose policy is asked, and what such supports hang
--- on.
+-- Supports that hold labels of the record alone whose policy is asked, and what such supports
+-- depend on.
 use Rattle.std.specs.Prelude.{◌≡◌, ◌==◌, ◌&&◌, ◌||◌, not, ℕ, Bool, true, false, List, [], ◌∷◌, Option, Some, None, Result, OnOk}
 use Rattle.std.specs.List.{list_all}
 use Rattle.jac_value.specs.Ids.{model_of_id, record_of_label}
@@ -18,7 +18,7 @@ use Rattle.jac_rows.specs.Tables.{rows_of}
 use Rattle.jac_keep.specs.declared.stop.Stop.{Stop}
 use Rattle.jac_plain.specs.Expressions.{bound, model_of_binder}
 use Rattle.jac_pruned.specs.Seen.{app_at}
-use Rattle.jac_pruned.specs.declared.fixed.At.{At}
+use Rattle.jac_pruned.specs.declared.world_context.WorldContext.{WorldContext}
 use Rattle.jac_pruned.specs.Tupled.{lengthened_tuples}
 use Rattle.jac_pruned.specs.Local.{are_free, is_free, is_free_viewer, is_free_query, is_local, are_local, IsLocalCase}
 
@@ -125,6 +125,7 @@ asks_locally app free q = free && (is_free_query app.models q.binders q.order &&
 
 -- in a local case, where the test is true, a support that held labels of the record alone does so
 -- afterwards
-abbrev pub KeepsOwn : {T : Type 0} → At → State → Bool → List ℕ → List ℕ → Result T Stop → Type 0
+abbrev pub KeepsOwn : {T : Type 0} → WorldContext → State → Bool → List ℕ → List ℕ → Result T Stop
+    → Type 0
 KeepsOwn at s test old new result = IsLocally (app_at at) s at.ctx.now.viewer test
     → IsOwn at.ctx.now.this old → OnOk result (IsOwn at.ctx.now.this new)

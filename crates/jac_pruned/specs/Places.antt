@@ -3,7 +3,7 @@ use Rattle.std.specs.Prelude.{ℕ, suc, Bool, true, false, List, [], ◌∷◌, 
 use Rattle.jac_lang.specs.declared.bindings.Binding.{Binding}
 use Rattle.jac_lang.specs.Lookup.{same_text}
 
--- a place behind the first binding, or the first where it is the one and there is none behind
+-- a place after the first binding, or the first where it is the one and there is none after
 abbrev pub place_after : Bool → Option ℕ → Option ℕ
 place_after is_one (Some i) = Some (suc i)
 place_after true None = Some 0

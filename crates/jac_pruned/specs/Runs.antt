@@ -13,7 +13,7 @@ use Rattle.jac_plain.specs.declared.page.Piece.{Piece}
 use Rattle.jac_plain.specs.Requests.{page_of}
 use Rattle.jac_plain.specs.Statements.{Setting, Run, leaves_all, loop_of}
 use Rattle.jac_pruned.specs.Consulted.{Agrees}
-use Rattle.jac_pruned.specs.declared.fixed.At.{At}
+use Rattle.jac_pruned.specs.declared.world_context.WorldContext.{WorldContext}
 use Rattle.jac_pruned.specs.declared.progress.Progress.{Progress}
 use Rattle.jac_plain.specs.Shown.{setting_at}
 
@@ -31,7 +31,8 @@ abbrev pub IsPageMade : Page → Type 0
 IsPageMade p = (pieces : List Piece) × (p ≡ page_of pieces)
 
 -- under each assignment that agrees on the labels of the support, the run is what the step leaves
-abbrev pub RunsShown : List ℕ → At → ((ℕ → Bool) → Run → Run) → State → Progress → Progress → Type 0
+abbrev pub RunsShown : List ℕ → WorldContext → ((ℕ → Bool) → Run → Run) → State → Progress →
+    Progress → Type 0
 RunsShown support at step s old new =
     (w : ℕ → Bool) → Agrees support (shown_by at.assignment.now) w
     → run_in w s new.env.items new.pieces.items ≡ step w (run_in w s old.env.items old.pieces.items)

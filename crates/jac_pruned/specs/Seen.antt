@@ -14,19 +14,19 @@ use Rattle.jac_plain.specs.declared.context.Ctx.{Ctx}
 use Rattle.jac_plain.specs.Expressions.{mean}
 use Rattle.jac_plain.specs.World.{World}
 use Rattle.jac_pruned.specs.Consulted.{Agrees}
-use Rattle.jac_pruned.specs.declared.fixed.At.{At}
+use Rattle.jac_pruned.specs.declared.world_context.WorldContext.{WorldContext}
 use Rattle.jac_plain.specs.Shown.{world_at}
 
 -- the application of an evaluation
-abbrev pub app_at : At → Application
+abbrev pub app_at : WorldContext → Application
 app_at at = application_of at.app.now
 
 -- what its expressions are read in under an assignment
-abbrev pub seen_at : At → State → (ℕ → Bool) → World
+abbrev pub seen_at : WorldContext → State → (ℕ → Bool) → World
 seen_at at s w = world_at at.app.now at.ctx.now s w
 
 -- under each assignment that shows the same of the support, the value is the expression's
-abbrev pub MeansAt : List ℕ → At → State → Expression → List Binding → Value → Type 0
+abbrev pub MeansAt : List ℕ → WorldContext → State → Expression → List Binding → Value → Type 0
 MeansAt support at s e env v = (w : ℕ → Bool) → Agrees support (shown_by at.assignment.now) w
     → v ≡ mean (seen_at at s w) e env
 

@@ -1,4 +1,4 @@
-//! Pieces of a page, one behind the other.
+//! Pieces of a page, one after the other.
 ghost use Rattle.std.specs.Prelude.{◌≡◌, [], ◌∷◌, ◌++◌, OnOk};
 ghost use Rattle.jac_plain.specs.declared.page.Piece.TheVariants as piece;
 ghost use Rattle.jac_plain.specs.Pieces.{piece_of};

@@ -4,7 +4,7 @@ ghost use Rattle.jac_value.specs.Ids.{model_of_id};
 ghost use Rattle.jac_world.specs.World.{shown_by};
 ghost use Rattle.jac_rows.specs.Project.{rows_at, project_at};
 ghost use Rattle.jac_rows.specs.Tables.{rows_of};
-ghost use Rattle.jac_keep.specs.Worked.{state_of, IsTold, ReadsWork};
+ghost use Rattle.jac_keep.specs.WorkState.{state_of, IsTold, ReadsWork};
 ghost use Rattle.jac_lang.specs.declared.application.App.{App};
 ghost use Rattle.jac_plain.specs.Expressions.{is_live, stands};
 ghost use Rattle.jac_plain.specs.Policies.{has_id};

@@ -2,7 +2,7 @@
 //! `execute` only looks at the form; each form is a function of its own.
 ghost use Rattle.std.specs.Prelude.{◌≡◌, ◌∷◌, [], ◌++◌, ℕ, Bool, true, None, IfOk, OnOk, IsTrue};
 ghost use Rattle.jac_world.specs.World.{shown_by};
-ghost use Rattle.jac_keep.specs.Worked.{state_of, IsTold, ReadsWork};
+ghost use Rattle.jac_keep.specs.WorkState.{state_of, IsTold, ReadsWork};
 ghost use Rattle.jac_lang.specs.Mirror.{binders_of, expression_of, question_of, statement_of, statements_of};
 ghost use Rattle.jac_lang.specs.Syntax.{Statement};
 ghost use Rattle.jac_plain.specs.Expressions.{bound};
@@ -16,9 +16,9 @@ use crate::Support;
 use crate::assignments::assign;
 use crate::binding::{bind_tuple, bind_value, loop_of};
 use crate::evaluation::{answers_at, eval};
-use crate::fixed::At;
 use crate::pieces::{add_missing, add_value};
 use crate::progress::Progress;
+use crate::world_context::WorldContext;
 use jac_keep::{Keeper, Stop, Work};
 use jac_lang::{Binders, Expr, PlainEnv, Query, Stmt, Stmts};
 use jac_plain::{Ctx, Form, Page, is_true, page_of};
@@ -30,7 +30,7 @@ use jac_value::{Ids, Txt, Value};
 /// statement has none.
 pub fn run_body_at<K: Keeper>(
     work: &mut Work<'_, K>,
-    at: &At<'_>,
+    at: &WorldContext<'_>,
     body: &Stmts,
     env: PlainEnv,
     support: &mut Support,
@@ -50,7 +50,7 @@ pub fn run_body_at<K: Keeper>(
         this: None,
         ..*at.ctx
     };
-    let outside = At { ctx: &ctx, ..*at };
+    let outside = WorldContext { ctx: &ctx, ..*at };
     let mut run = Progress {
         env: env.into_vec(),
         pieces: Vec::new(work.alloc),
@@ -64,7 +64,7 @@ pub fn run_body_at<K: Keeper>(
 #[cycle(run)]
 fn execute_all<K: Keeper>(
     work: &mut Work<'_, K>,
-    at: &At<'_>,
+    at: &WorldContext<'_>,
     run: &mut Progress,
     stmts: &Stmts,
     support: &mut Support,
@@ -91,7 +91,7 @@ fn execute_all<K: Keeper>(
 #[cycle(run)]
 fn execute<K: Keeper>(
     work: &mut Work<'_, K>,
-    at: &At<'_>,
+    at: &WorldContext<'_>,
     run: &mut Progress,
     stmt: &Stmt,
     support: &mut Support,
@@ -130,7 +130,7 @@ fn execute<K: Keeper>(
 // Adds the text of the value to the page.
 fn execute_put<K: Keeper>(
     work: &mut Work<'_, K>,
-    at: &At<'_>,
+    at: &WorldContext<'_>,
     run: &mut Progress,
     e: &Expr,
     support: &mut Support,
@@ -152,7 +152,7 @@ fn execute_put<K: Keeper>(
 // Adds the HTML escape of the value's text.
 fn execute_escape<K: Keeper>(
     work: &mut Work<'_, K>,
-    at: &At<'_>,
+    at: &WorldContext<'_>,
     run: &mut Progress,
     e: &Expr,
     support: &mut Support,
@@ -174,7 +174,7 @@ fn execute_escape<K: Keeper>(
 // Leads to the value's text.
 fn execute_redirect<K: Keeper>(
     work: &mut Work<'_, K>,
-    at: &At<'_>,
+    at: &WorldContext<'_>,
     run: &mut Progress,
     e: &Expr,
     support: &mut Support,
@@ -196,7 +196,7 @@ fn execute_redirect<K: Keeper>(
 // Changes the innermost binding of the name.
 fn execute_assign<K: Keeper>(
     work: &mut Work<'_, K>,
-    at: &At<'_>,
+    at: &WorldContext<'_>,
     run: &mut Progress,
     name: &Txt,
     e: &Expr,
@@ -220,7 +220,7 @@ fn execute_assign<K: Keeper>(
 #[cycle(run)]
 fn execute_let<K: Keeper>(
     work: &mut Work<'_, K>,
-    at: &At<'_>,
+    at: &WorldContext<'_>,
     run: &mut Progress,
     name: &Txt,
     e: &Expr,
@@ -247,7 +247,7 @@ fn execute_let<K: Keeper>(
 #[cycle(run)]
 fn execute_named<K: Keeper>(
     work: &mut Work<'_, K>,
-    at: &At<'_>,
+    at: &WorldContext<'_>,
     run: &mut Progress,
     name: &Txt,
     value: Value,
@@ -275,7 +275,7 @@ fn execute_named<K: Keeper>(
 #[cycle(run)]
 fn execute_if<K: Keeper>(
     work: &mut Work<'_, K>,
-    at: &At<'_>,
+    at: &WorldContext<'_>,
     run: &mut Progress,
     c: &Expr,
     first: &Stmts,
@@ -307,7 +307,7 @@ fn execute_if<K: Keeper>(
 #[cycle(run)]
 fn execute_for<K: Keeper>(
     work: &mut Work<'_, K>,
-    at: &At<'_>,
+    at: &WorldContext<'_>,
     run: &mut Progress,
     query: &Query,
     body: &Stmts,
@@ -335,7 +335,7 @@ fn execute_for<K: Keeper>(
 #[cycle(run)]
 fn execute_tuples<K: Keeper>(
     work: &mut Work<'_, K>,
-    at: &At<'_>,
+    at: &WorldContext<'_>,
     run: &mut Progress,
     binders: &Binders,
     tuples: &[Ids],
@@ -362,7 +362,7 @@ fn execute_tuples<K: Keeper>(
 #[cycle(run)]
 fn execute_bound<K: Keeper>(
     work: &mut Work<'_, K>,
-    at: &At<'_>,
+    at: &WorldContext<'_>,
     run: &mut Progress,
     binders: &Binders,
     ids: &Ids,
@@ -384,7 +384,7 @@ fn execute_bound<K: Keeper>(
         around: loop_of(ids),
         ..*at.ctx
     };
-    let inside = At { ctx: &ctx, ..*at };
+    let inside = WorldContext { ctx: &ctx, ..*at };
     let outer = run.env.len();
     bind_tuple(work.alloc, &mut run.env, binders, ids)?;
     execute_all(work, &inside, run, body, support)?;

@@ -2,7 +2,7 @@
 use Rattle.std.specs.Prelude.{ℕ, ◌==◌, ◌++◌, if◌then◌else◌, Option, None, List, [], ◌∷◌, codes, decimal}
 use Rattle.jac_replies.specs.declared.answer.Answer.{Answer}
 
--- the reason that stands behind a status (RFC 9110, section 15, and RFC 4918, section 11.5)
+-- the reason that stands after a status (RFC 9110, section 15, and RFC 4918, section 11.5)
 abbrev pub reason : ℕ → List ℕ
 reason status =
     if status == 404 then codes "Not Found" else

@@ -35,7 +35,7 @@ abbrev pub viewer_text : Option ℕ → List ℕ
 viewer_text None = codes "-"
 viewer_text (Some id) = decimal id
 
--- each label behind a comma
+-- each label after a comma
 abbrev pub more_labels : List ℕ → List ℕ
 more_labels [] = []
 more_labels (k ∷ ks) = 44 ∷ (decimal k ++ more_labels ks)

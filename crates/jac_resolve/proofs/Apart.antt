@@ -7,26 +7,26 @@ use Rattle.jac_world.specs.World.{shown_by}
 use Rattle.jac_lang.specs.Syntax.{Application}
 use Rattle.jac_plain.specs.Policies.{with_label, IsLiveLabel}
 use Rattle.jac_plain.specs.Requests.{Worlds}
-use Rattle.jac_recall.specs.declared.answers.Answers.{Answers}
-use Rattle.jac_recall.specs.declared.seat.Seat.{Seat}
-use Rattle.jac_recall.specs.Linked.{AreLinked}
-use Rattle.jac_recall.specs.Recalled.{AreWatched, IsLinked, hangs, recall}
-use Rattle.jac_recall.proofs.Rising.{bool_eq}
+use Rattle.jac_policy_cache.specs.declared.policy_memo.PolicyMemo.{PolicyMemo}
+use Rattle.jac_policy_cache.specs.declared.viewer_cache.ViewerCache.{ViewerCache}
+use Rattle.jac_policy_cache.specs.Linked.{AreLinked}
+use Rattle.jac_policy_cache.specs.Memo.{AreWatched, IsLinked, depends, recall}
+use Rattle.jac_policy_cache.proofs.Rising.{bool_eq}
 use Rattle.jac_resolve.specs.Live.{AreLiveOf}
-use Rattle.jac_resolve.specs.Recalled.{AreRefused, AreRight, IsUnderway, Retains}
+use Rattle.jac_resolve.specs.RightMemo.{AreRefused, AreRight, IsUnderway, Retains}
 use Rattle.jac_resolve.specs.Rounds.{Within}
-use Rattle.jac_resolve.specs.Seated.{AreSettledBut, AreSettledButIf, IsSeated, IsSettledApart, IsWidened, StandsRefused, seat_labels}
-use Rattle.jac_resolve.proofs.Seating.{never, one_of, other_answer, recalled_is, refused_is, seated_passed, unhung}
+use Rattle.jac_resolve.specs.ValidCache.{AreSettledBut, AreSettledButIf, IsValidCache, IsSettledApart, IsWidened, StandsRefused, cache_labels}
+use Rattle.jac_resolve.proofs.CacheLemmas.{never, one_of, other_answer, recalled_is, refused_is, valid_passed, unhung}
 use Rattle.jac_resolve.proofs.Underway.{either}
 
 -- what holds of no label of one list holds of none that are among them
 apart_from : (xs ys : List ℕ) → ((k : ℕ) → shown_by xs k ≡ true → shown_by ys k ≡ true) → (k : ℕ) → shown_by ys k ≡ false → shown_by xs k ≡ false
 apart_from xs ys among k apart = one_of (shown_by xs k) (shown_by xs k ≡ false) (λ s. never (shown_by ys k) (shown_by xs k ≡ false) (among k s) apart) (λ e. e)
 
-module _ (app : Application) (worlds : Worlds) (viewer : Option ℕ) (labels due near rest : List ℕ) (answers : Answers) (right : AreRight app worlds viewer answers) (watched : AreWatched answers)
-    (kept : AreSettledBut app worlds answers labels due) (linked : AreLinked answers due near) (cut : (k : ℕ) → shown_by rest k ≡ (not (shown_by near k) && shown_by labels k)) where
-  not_due : (k : ℕ) → shown_by near k ≡ false → shown_by due k ≡ false
-  not_due k apart = apart_from due near linked.among k apart
+module _ (app : Application) (worlds : Worlds) (viewer : Option ℕ) (labels stale near rest : List ℕ) (answers : PolicyMemo) (right : AreRight app worlds viewer answers) (watched : AreWatched answers)
+    (kept : AreSettledBut app worlds answers labels stale) (linked : AreLinked answers stale near) (cut : (k : ℕ) → shown_by rest k ≡ (not (shown_by near k) && shown_by labels k)) where
+  not_stale : (k : ℕ) → shown_by near k ≡ false → shown_by stale k ≡ false
+  not_stale k apart = apart_from stale near linked.among k apart
 
   -- apart from what is near the same are shown
   same : (k : ℕ) → shown_by near k ≡ false → shown_by rest k ≡ shown_by labels k
@@ -39,15 +39,15 @@ module _ (app : Application) (worlds : Worlds) (viewer : Option ℕ) (labels due
       by_near true e h = absurd cc
       by_near false e h = (e, h)
 
-  -- what is remembered of a label that isn't near hangs on none that is
+  -- what is remembered of a label that isn't near depends on none that is
   recalled_apart : (j : ℕ) → shown_by near j ≡ false → (v w : ℕ → Bool) → ((i : ℕ) → shown_by near i ≡ false → v i ≡ w i) → recall answers j v ≡ recall answers j w
   recalled_apart j apart v w alike =
       watched.each j v w
       (λ i watching. alike i (one_of (shown_by near i) (shown_by near i ≡ false) (λ n. never (shown_by near j) (shown_by near i ≡ false) (linked.linked.watchers i j n watching) apart) (λ e. e)))
 
-  stays_if : (k : ℕ) → shown_by near k ≡ false → (recall answers k (shown_by labels) ≡ Some true) ⊎ ((shown_by due k ≡ true) × ((w : ℕ → Bool) → recall answers k w ≡ None)) → recall answers k (shown_by labels) ≡ Some true
+  stays_if : (k : ℕ) → shown_by near k ≡ false → (recall answers k (shown_by labels) ≡ Some true) ⊎ ((shown_by stale k ≡ true) × ((w : ℕ → Bool) → recall answers k w ≡ None)) → recall answers k (shown_by labels) ≡ Some true
   stays_if k apart (inl e) = e
-  stays_if k apart (inr p) = never (shown_by due k) (recall answers k (shown_by labels) ≡ Some true) p.0 (not_due k apart)
+  stays_if k apart (inr p) = never (shown_by stale k) (recall answers k (shown_by labels) ≡ Some true) p.0 (not_stale k apart)
 
   stays_apart : (k : ℕ) → shown_by rest k ≡ true → recall answers k (shown_by rest) ≡ Some true
   stays_apart k s =
@@ -63,7 +63,7 @@ module _ (app : Application) (worlds : Worlds) (viewer : Option ℕ) (labels due
     fitted = record { each = λ k s. ap is_some (stays_apart k s) };
   }
 
-  stays_or : (j : ℕ) → (recall answers j (shown_by labels) ≡ Some true) ⊎ ((shown_by due j ≡ true) × ((w : ℕ → Bool) → recall answers j w ≡ None)) →
+  stays_or : (j : ℕ) → (recall answers j (shown_by labels) ≡ Some true) ⊎ ((shown_by stale j ≡ true) × ((w : ℕ → Bool) → recall answers j w ≡ None)) →
       (recall answers j (shown_by labels) ≡ Some true) ⊎ (recall answers j (shown_by labels) ≡ None)
   stays_or j (inl e) = inl e
   stays_or j (inr p) = inr (p.1 (shown_by labels))
@@ -75,11 +75,11 @@ module _ (app : Application) (worlds : Worlds) (viewer : Option ℕ) (labels due
       near_if : shown_by near j ≡ true → (b : Bool) → (k == j) ≡ b → (b || shown_by labels j) ≡ true → shown_by near j ≡ false
       near_if n true e h = ap (shown_by near) (sym ((Decides-eqb k j).0 e)) ∙ apart
       near_if n false e h =
-          one_of (hangs answers j k) (shown_by near j ≡ false) (λ hung. never (shown_by near k) (shown_by near j ≡ false) (linked.linked.hanging j k n hung) apart)
+          one_of (depends answers j k) (shown_by near j ≡ false) (λ depended. never (shown_by near k) (shown_by near j ≡ false) (linked.linked.dependent j k n depended) apart)
           (λ free. other_answer (recall answers j (shown_by labels)) (shown_by near j ≡ false) (sym (unhung answers j k free (shown_by labels)) ∙ is) (stays_or j (kept.stays j h)))
 
-  module _ (now tried : List ℕ) (known : Answers) (live : AreLiveOf app worlds near tried) (within : Within tried rest now) (retains : Retains rest now answers known) where
-    -- apart from what is near the same are shown behind the tries
+  module _ (now tried : List ℕ) (known : PolicyMemo) (live : AreLiveOf app worlds near tried) (within : Within tried rest now) (retains : Retains rest now answers known) where
+    -- apart from what is near the same are shown after the tries
     pub same_apart : (k : ℕ) → shown_by near k ≡ false → shown_by now k ≡ shown_by labels k
     same_apart k apart = bool_eq (shown_by now k) (shown_by rest k) (λ s. was_if (within k s)) (retains.shows k) ∙ same k apart
       where
@@ -89,7 +89,7 @@ module _ (app : Application) (worlds : Worlds) (viewer : Option ℕ) (labels due
     live_now : (k : ℕ) → shown_by now k ≡ true → IsLiveLabel app worlds k
     live_now k s =
         either (shown_by rest k) (shown_by tried k) (IsLiveLabel app worlds k) (within k s)
-        (λ r. (let was = was_shown k r in kept.live k was.1 (not_due k was.0)))
+        (λ r. (let was = was_shown k r in kept.live k was.1 (not_stale k was.0)))
         (λ t. live.only k t)
 
     refused_now : AreRight app worlds viewer known → (k : ℕ) → shown_by near k ≡ false → StandsRefused answers k (shown_by labels) → StandsRefused known k (shown_by now)
@@ -104,40 +104,40 @@ module _ (app : Application) (worlds : Worlds) (viewer : Option ℕ) (labels due
               recalled_is app worlds viewer known one.label w false right_now (retains.grown.kept one.label w (ap is_some still)) (sym (right.each one.label w false still));
         }
 
-    pub seated_apart : (again : List ℕ) → IsUnderway app worlds viewer now known → AreRefused app worlds viewer known tried now → IsSeated app worlds viewer (record { labels = Some now; answers = known; due = again })
-    seated_apart again underway refused =
-        seated_passed app worlds viewer now again known underway live_now
+    pub valid_apart : (again : List ℕ) → IsUnderway app worlds viewer now known → AreRefused app worlds viewer known tried now → IsValidCache app worlds viewer (record { labels = Some now; answers = known; stale = again })
+    valid_apart again underway refused =
+        valid_passed app worlds viewer now again known underway live_now
         (λ k lives hidden. one_of (shown_by near k) (StandsRefused known k (shown_by now))
         (λ n. refused_is app worlds viewer known k (shown_by now) underway.right (refused.each k (live.every k lives n) hidden))
-        (λ apart. refused_now underway.right k apart (kept.full k lives (sym (same_apart k apart) ∙ hidden) (not_due k apart))))
+        (λ apart. refused_now underway.right k apart (kept.full k lives (sym (same_apart k apart) ∙ hidden) (not_stale k apart))))
 
--- the labels that a seat has
-pub kept_some : (app : Application) (worlds : Worlds) (viewer : Option ℕ) (seat : Seat) (labels : List ℕ) → seat.labels ≡ Some labels → IsSeated app worlds viewer seat → AreSettledBut app worlds seat.answers labels seat.due
-kept_some app worlds viewer seat labels are seated = subst (λ (o : Option (List ℕ)). AreSettledButIf app worlds seat.answers o seat.due) are seated.kept
+-- the labels that a cache has
+pub kept_some : (app : Application) (worlds : Worlds) (viewer : Option ℕ) (cache : ViewerCache) (labels : List ℕ) → cache.labels ≡ Some labels → IsValidCache app worlds viewer cache → AreSettledBut app worlds cache.answers labels cache.stale
+kept_some app worlds viewer cache labels are valid = subst (λ (o : Option (List ℕ)). AreSettledButIf app worlds cache.answers o cache.stale) are valid.kept
 
--- the same are shown in two seats
-shows_alike : (old new : Option (List ℕ)) (labels now : List ℕ) (k : ℕ) → old ≡ Some labels → new ≡ Some now → shown_by now k ≡ shown_by labels k → shown_by (seat_labels new) k ≡ shown_by (seat_labels old) k
-shows_alike old new labels now k is is_now same = ap (λ o. shown_by (seat_labels o) k) is_now ∙ same ∙ sym (ap (λ o. shown_by (seat_labels o) k) is)
+-- the same are shown in two caches
+shows_alike : (old new : Option (List ℕ)) (labels now : List ℕ) (k : ℕ) → old ≡ Some labels → new ≡ Some now → shown_by now k ≡ shown_by labels k → shown_by (cache_labels new) k ≡ shown_by (cache_labels old) k
+shows_alike old new labels now k is is_now same = ap (λ o. shown_by (cache_labels o) k) is_now ∙ same ∙ sym (ap (λ o. shown_by (cache_labels o) k) is)
 
-pub settled_apart : (old new : Seat) (near labels now : List ℕ) → AreLinked old.answers old.due near → old.labels ≡ Some labels → new.labels ≡ Some now → ((k : ℕ) → shown_by near k ≡ false → shown_by now k ≡ shown_by labels k) →
+pub settled_apart : (old new : ViewerCache) (near labels now : List ℕ) → AreLinked old.answers old.stale near → old.labels ≡ Some labels → new.labels ≡ Some now → ((k : ℕ) → shown_by near k ≡ false → shown_by now k ≡ shown_by labels k) →
     IsLinked new.answers near → IsSettledApart old new
 settled_apart old new near labels now linked is is_now same closed = record {
   near = near;
-  due = linked.among;
+  stale = linked.among;
   linked = closed;
   same = λ k apart. shows_alike old.labels new.labels labels now k is is_now (same k apart);
 }
 
-pub widened_apart : (old new : Seat) (near labels now : List ℕ) → AreLinked old.answers old.due near → old.labels ≡ Some labels → new.labels ≡ Some now → ((k : ℕ) → shown_by near k ≡ false → shown_by now k ≡ shown_by labels k) →
-    ((k : ℕ) → shown_by near k ≡ true → shown_by new.due k ≡ true) → IsWidened old new
+pub widened_apart : (old new : ViewerCache) (near labels now : List ℕ) → AreLinked old.answers old.stale near → old.labels ≡ Some labels → new.labels ≡ Some now → ((k : ℕ) → shown_by near k ≡ false → shown_by now k ≡ shown_by labels k) →
+    ((k : ℕ) → shown_by near k ≡ true → shown_by new.stale k ≡ true) → IsWidened old new
 widened_apart old new near labels now linked is is_now same more = record {
-  due = λ k s. more k (linked.among k s);
-  same = λ k apart. shows_alike old.labels new.labels labels now k is is_now (same k (apart_from near new.due more k apart));
+  stale = λ k s. more k (linked.among k s);
+  same = λ k apart. shows_alike old.labels new.labels labels now k is is_now (same k (apart_from near new.stale more k apart));
 }
 
 -- what holds between two widenings
-pub record StandsWidened (app : Application) (worlds : Worlds) (viewer : Option ℕ) (old new : Seat) : Type 0 where
-  pub seated : IsSeated app worlds viewer new
+pub record StandsWidened (app : Application) (worlds : Worlds) (viewer : Option ℕ) (old new : ViewerCache) : Type 0 where
+  pub valid : IsValidCache app worlds viewer new
   pub widened : IsWidened old new
 
 -- links to labels that are all there
@@ -151,8 +151,8 @@ all_true : (p : ℕ → Bool) (xs : List ℕ) (k : ℕ) → list_all p xs ≡ tr
 all_true p [] k all s = absurd cc
 all_true p (x ∷ xs) k all s = all_if p x k (p x) (x == k) (list_all p xs) (shown_by xs k) refl refl all s (λ a t. all_true p xs k a t)
 
-pub linked_back : (answers : Answers) (near all : List ℕ) → AreLinked answers near all → list_all (shown_by near) all ≡ true → IsLinked answers near
+pub linked_back : (answers : PolicyMemo) (near all : List ℕ) → AreLinked answers near all → list_all (shown_by near) all ≡ true → IsLinked answers near
 linked_back answers near all linked back = record {
   watchers = λ k j s w. all_true (shown_by near) all j back (linked.linked.watchers k j (linked.among k s) w);
-  hanging = λ j k s h. all_true (shown_by near) all k back (linked.linked.hanging j k (linked.among j s) h);
+  dependent = λ j k s h. all_true (shown_by near) all k back (linked.linked.dependent j k (linked.among j s) h);
 }

@@ -8,8 +8,8 @@ use Rattle.jac_lang.specs.Syntax.{Application}
 use Rattle.jac_plain.specs.Requests.{Worlds}
 use Rattle.jac_plain.specs.Policies.{with_label, IsSettled}
 use Rattle.jac_pruned.proofs.Working.{next}
-use Rattle.jac_recall.specs.declared.answers.Answers.{Answers}
-use Rattle.jac_resolve.specs.Recalled.{Fills, Grown, IsPassed, IsUnderway, Retains, RemembersForbidden, Tries}
+use Rattle.jac_policy_cache.specs.declared.policy_memo.PolicyMemo.{PolicyMemo}
+use Rattle.jac_resolve.specs.RightMemo.{Fills, Grown, IsPassed, IsUnderway, Retains, RemembersForbidden, Tries}
 use Rattle.jac_resolve.specs.Rounds.{hidden_count, AreLive, MayAdd, Advances, Within}
 use Rattle.jac_resolve.proofs.Fewer.{itself, fewer}
 use Rattle.jac_resolve.proofs.Underway.{grown_same, grown_then, refused_still}
@@ -46,16 +46,16 @@ within_then labels start old new before more j s = then_if (shown_by old j) (sho
     then_if false a b there h = or_right a b h
 
 -- what was shown stays, and what was remembered
-pub retains_same : (labels : List ℕ) (answers : Answers) → Retains labels labels answers answers
+pub retains_same : (labels : List ℕ) (answers : PolicyMemo) → Retains labels labels answers answers
 retains_same labels answers = record { shows = λ j s. s; grown = grown_same answers }
 
-pub retains_then : (start old new : List ℕ) (first answers known : Answers) → Retains start old first answers → Retains old new answers known → Retains start new first known
+pub retains_then : (start old new : List ℕ) (first answers known : PolicyMemo) → Retains start old first answers → Retains old new answers known → Retains start new first known
 retains_then start old new first answers known before more = record {
   shows = λ j s. more.shows j (before.shows j s);
   grown = grown_then first answers known before.grown more.grown;
 }
 
-pub retains_on : (start old new : List ℕ) (first answers known : Answers) (k : ℕ) (one : Bool) → Retains start old first answers → MayAdd k old new one → Grown answers known → Retains start new first known
+pub retains_on : (start old new : List ℕ) (first answers known : PolicyMemo) (k : ℕ) (one : Bool) → Retains start old first answers → MayAdd k old new one → Grown answers known → Retains start new first known
 retains_on start old new first answers known k true before g grown = record {
   shows = λ j s. g.1 j ∙ or_right (k == j) (shown_by old j) (before.shows j s);
   grown = grown_then first answers known before.grown grown;
@@ -77,20 +77,20 @@ first_is_shown xs i x item below = left_is_shown xs i x (rw (next xs x i item be
 
 module _ (app : Application) (worlds : Worlds) (viewer : Option ℕ) where
   -- of the labels that were tried none can be added, unless one was
-  abbrev pub FillsBut : Answers → List ℕ → List ℕ → List ℕ → Bool → Type 0
+  abbrev pub FillsBut : PolicyMemo → List ℕ → List ℕ → List ℕ → Bool → Type 0
   FillsBut answers labels left new true = ⊤
   FillsBut answers labels left new false = (k : ℕ) → shown_by labels k ≡ true → shown_by left k ≡ false → shown_by new k ≡ false → RemembersForbidden app worlds viewer answers (with_label k (shown_by new))
 
-  pub filled : (answers : Answers) (labels left new : List ℕ) (added : Bool) → left ≡ [] → FillsBut answers labels left new added → Fills app worlds viewer answers labels new added
+  pub filled : (answers : PolicyMemo) (labels left new : List ℕ) (added : Bool) → left ≡ [] → FillsBut answers labels left new added → Fills app worlds viewer answers labels new added
   filled answers labels left new true none fills = tt
   filled answers labels left new false none fills = record { each = λ k among hidden. fills k among (ap (λ l. shown_by l k) none) hidden }
 
   -- what is known of the labels that are shown, and of what is remembered, before those that are left are tried
-  pub record Round (labels left new : List ℕ) (answers : Answers) (added : Bool) : Type 0 where
+  pub record Round (labels left new : List ℕ) (answers : PolicyMemo) (added : Bool) : Type 0 where
     pub underway : IsUnderway app worlds viewer new answers
     pub fills : FillsBut answers labels left new added
 
-  fills_if : (answers : Answers) (x k : ℕ) (same rest : Bool) (new : List ℕ) → (x == k) ≡ same → rest ≡ false → shown_by new k ≡ false →
+  fills_if : (answers : PolicyMemo) (x k : ℕ) (same rest : Bool) (new : List ℕ) → (x == k) ≡ same → rest ≡ false → shown_by new k ≡ false →
       (shown_by new x ≡ false → RemembersForbidden app worlds viewer answers (with_label x (shown_by new))) →
       ((same || rest) ≡ false → RemembersForbidden app worlds viewer answers (with_label k (shown_by new))) →
       RemembersForbidden app worlds viewer answers (with_label k (shown_by new))
@@ -99,7 +99,7 @@ module _ (app : Application) (worlds : Worlds) (viewer : Option ℕ) where
       subst (λ (j : ℕ). RemembersForbidden app worlds viewer answers (with_label j (shown_by new))) is (tried (ap (shown_by new) is ∙ hidden))
   fills_if answers x k false rest new e left hidden tried before = before left
 
-  fills_on : (answers known : Answers) (labels more old new : List ℕ) (x : ℕ) (added one : Bool) → Grown answers known → FillsBut answers labels (x ∷ more) old added → MayAdd x old new one →
+  fills_on : (answers known : PolicyMemo) (labels more old new : List ℕ) (x : ℕ) (added one : Bool) → Grown answers known → FillsBut answers labels (x ∷ more) old added → MayAdd x old new one →
       Tries app worlds viewer known x old new one → FillsBut known labels more new (added || one)
   fills_on answers known labels more old new x true one grown before g t = tt
   fills_on answers known labels more old new x false true grown before g t = tt
@@ -113,7 +113,7 @@ module _ (app : Application) (worlds : Worlds) (viewer : Option ℕ) where
           (λ s. refused_still app worlds viewer (with_label k (shown_by old)) answers known grown (before k among s hidden))
 
   -- one label more was tried
-  pub round_on : (labels left old new : List ℕ) (answers known : Answers) (x : ℕ) (more : List ℕ) (added one : Bool) → left ≡ x ∷ more → Grown answers known → Round labels left old answers added →
+  pub round_on : (labels left old new : List ℕ) (answers known : PolicyMemo) (x : ℕ) (more : List ℕ) (added one : Bool) → left ≡ x ∷ more → Grown answers known → Round labels left old answers added →
       MayAdd x old new one → Tries app worlds viewer known x old new one → IsUnderway app worlds viewer new known → Round labels more new known (added || one)
   round_on labels left old new answers known x more added one is grown before g t underway = record {
     underway = underway;
@@ -121,14 +121,14 @@ module _ (app : Application) (worlds : Worlds) (viewer : Option ℕ) where
   }
 
   -- before any was tried
-  pub round_start : (labels new : List ℕ) (answers : Answers) → IsUnderway app worlds viewer new answers → Round labels labels new answers false
+  pub round_start : (labels new : List ℕ) (answers : PolicyMemo) → IsUnderway app worlds viewer new answers → Round labels labels new answers false
   round_start labels new answers underway = record {
     underway = underway;
     fills = λ k among left hidden. absurd (let both : true ≡ false = sym among ∙ left in cc);
   }
 
   -- where none of the live labels can be added, the labels are settled
-  pub passed_settled : (answers : Answers) (live labels : List ℕ) → IsAscending labels → AreLive app worlds live → IsPassed app worlds viewer answers live labels → IsSettled app worlds viewer labels
+  pub passed_settled : (answers : PolicyMemo) (live labels : List ℕ) → IsAscending labels → AreLive app worlds live → IsPassed app worlds viewer answers live labels → IsSettled app worlds viewer labels
   passed_settled answers live labels ascending are passed = record {
     ascending = ascending;
     live = λ k s. are.only k (passed.within k s);
@@ -148,7 +148,7 @@ pub record SoFar (right asked : Type 0) : Type 0 where
   pub so_far : asked
 
 -- what is known in a round, told or not, with a count that doesn't fall, and what is known beside
-pub record InRound (labels start new : List ℕ) (added : Bool) (old known : Answers) (before now : ℕ) (beside : Type 0) : Type 0 where
+pub record InRound (labels start new : List ℕ) (added : Bool) (old known : PolicyMemo) (before now : ℕ) (beside : Type 0) : Type 0 where
   pub later : before ≤ now
   pub advances : Advances labels start new added
   pub within : Within labels start new
@@ -156,7 +156,7 @@ pub record InRound (labels start new : List ℕ) (added : Bool) (old known : Ans
   pub working : beside
 
 -- and between two rounds
-pub record InRounds (labels start new : List ℕ) (old known : Answers) (before now : ℕ) (beside : Type 0) : Type 0 where
+pub record InRounds (labels start new : List ℕ) (old known : PolicyMemo) (before now : ℕ) (beside : Type 0) : Type 0 where
   pub later : before ≤ now
   pub within : Within labels start new
   pub retains : Retains start new old known

@@ -7,6 +7,6 @@ pub mod Living
 pub mod Local
 pub mod Moving
 pub mod Room
-pub mod Seating
+pub mod CacheLemmas
 pub mod Standing
 pub mod Underway

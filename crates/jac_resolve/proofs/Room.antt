@@ -9,11 +9,11 @@ use Rattle.jac_world.proofs.Contradict.{by_names}
 use Rattle.jac_lang.specs.Syntax.{Application}
 use Rattle.jac_plain.specs.Requests.{Worlds}
 use Rattle.jac_resolve.specs.Rounds.{AreLive}
-use Rattle.jac_recall.proofs.Rising.{bool_eq}
-use Rattle.jac_recall.specs.declared.answers.Answers.{Answers}
-use Rattle.jac_recall.specs.declared.answers.Known.{Known}
-use Rattle.jac_recall.specs.Recalled.{or_known, recall, signed_labels, watches}
-use Rattle.jac_resolve.specs.Recalled.{Grown}
+use Rattle.jac_policy_cache.proofs.Rising.{bool_eq}
+use Rattle.jac_policy_cache.specs.declared.policy_memo.PolicyMemo.{PolicyMemo}
+use Rattle.jac_policy_cache.specs.declared.policy_memo.MemoEntry.{MemoEntry}
+use Rattle.jac_policy_cache.specs.Memo.{or_known, recall, signed_labels, watches}
+use Rattle.jac_resolve.specs.RightMemo.{Grown}
 use Rattle.jac_resolve.specs.Room.{AreLocalAnswers, Spends, room, unknown_signs, with_sign}
 use Rattle.jac_resolve.proofs.Underway.{either, known_if, or_same}
 
@@ -32,9 +32,9 @@ unknown_less (suc n) id f g w more =
     let b = unknown_less n id f g (with_sign (label_of id n) false w) more in
     omega (arith, a, b)
 
--- what hangs on labels of a record alone
-abbrev pub HangsOn : ℕ → ((ℕ → Bool) → Option Bool) → Type 0
-HangsOn id f = (v w : ℕ → Bool) → ((j : ℕ) → record_of_label j ≡ id → v j ≡ w j) → f v ≡ f w
+-- what depends on labels of a record alone
+abbrev pub DependsOn : ℕ → ((ℕ → Bool) → Option Bool) → Type 0
+DependsOn id f = (v w : ℕ → Bool) → ((j : ℕ) → record_of_label j ≡ id → v j ≡ w j) → f v ≡ f w
 
 -- alike on the labels of a record, from a group on
 abbrev pub AlikeFrom : ℕ → ℕ → (ℕ → Bool) → (ℕ → Bool) → Type 0
@@ -53,7 +53,7 @@ falls_at None None e h = absurd cc
 falls_at (Some y) b e h = absurd cc
 
 -- what is known now and wasn't is no longer counted
-unknown_falls : (n id : ℕ) (f g : (ℕ → Bool) → Option Bool) (u w : ℕ → Bool) → HangsOn id f → HangsOn id g → ((v : ℕ → Bool) → is_some (f v) ≡ true → is_some (g v) ≡ true) →
+unknown_falls : (n id : ℕ) (f g : (ℕ → Bool) → Option Bool) (u w : ℕ → Bool) → DependsOn id f → DependsOn id g → ((v : ℕ → Bool) → is_some (f v) ≡ true → is_some (g v) ≡ true) →
     f u ≡ None → is_some (g u) ≡ true → AlikeFrom n id u w → unknown_signs n id g w + 1 ≤ unknown_signs n id f w
 unfolding unknown_signs
 unknown_falls zero id f g u w f_own g_own more none some alike =
@@ -99,14 +99,14 @@ all_most : (id : ℕ) (f : (ℕ → Bool) → Option Bool) (w : ℕ → Bool) �
 unfolding doubled
 all_most id f w = unknown_most 8 id f w
 
-pub room_most : (labels : List ℕ) (answers : Answers) → room labels answers ≤ 256 * length labels
+pub room_most : (labels : List ℕ) (answers : PolicyMemo) → room labels answers ≤ 256 * length labels
 room_most [] answers = omega arith
 room_most (k ∷ ks) answers =
     let a = all_most (record_of_label k) (recall answers k) (λ j. false) in
     let b = room_most ks answers in
     omega (arith, a, b)
 
-pub room_less : (labels : List ℕ) (old new : Answers) → Grown old new → room labels new ≤ room labels old
+pub room_less : (labels : List ℕ) (old new : PolicyMemo) → Grown old new → room labels new ≤ room labels old
 room_less [] old new grown = omega arith
 room_less (k ∷ ks) old new grown =
     let a = unknown_less 8 (record_of_label k) (recall old k) (recall new k) (λ j. false) (grown.kept k) in
@@ -114,7 +114,7 @@ room_less (k ∷ ks) old new grown =
     omega (arith, a, b)
 
 -- an answer that wasn't known takes room
-pub room_falls : (labels all : List ℕ) (old new : Answers) (label : ℕ) (w : ℕ → Bool) → shown_by labels label ≡ true → Grown old new → AreLocalAnswers all old → AreLocalAnswers all new → recall old label w ≡ None →
+pub room_falls : (labels all : List ℕ) (old new : PolicyMemo) (label : ℕ) (w : ℕ → Bool) → shown_by labels label ≡ true → Grown old new → AreLocalAnswers all old → AreLocalAnswers all new → recall old label w ≡ None →
     is_some (recall new label w) ≡ true → room labels new + 1 ≤ room labels old
 room_falls [] all old new label w s grown own_old own_new none some = absurd cc
 room_falls (k ∷ ks) all old new label w s grown own_old own_new none some =
@@ -133,7 +133,7 @@ room_falls (k ∷ ks) all old new label w s grown own_old own_new none some =
         omega (arith, a, b)
 
 -- where an answer isn't known there is room
-pub room_some : (labels all : List ℕ) (old : Answers) (label : ℕ) (w : ℕ → Bool) → shown_by labels label ≡ true → AreLocalAnswers all old → recall old label w ≡ None → 1 ≤ room labels old
+pub room_some : (labels all : List ℕ) (old : PolicyMemo) (label : ℕ) (w : ℕ → Bool) → shown_by labels label ≡ true → AreLocalAnswers all old → recall old label w ≡ None → 1 ≤ room labels old
 room_some [] all old label w s own none = absurd cc
 room_some (k ∷ ks) all old label w s own none = some_if (k == label) refl s (λ among. room_some ks all old label w among own none)
   where
@@ -155,7 +155,7 @@ right_true : (a b : Bool) → (a && b) ≡ true → b ≡ true
 right_true true b p = p
 right_true false b p = absurd cc
 
-pub own_by : (old new : Answers) (label : ℕ) (known : Known) (labels : List ℕ) → ((k j : ℕ) → watches new k j ≡ ((names known.when k && label == j) || watches old k j)) →
+pub own_by : (old new : PolicyMemo) (label : ℕ) (known : MemoEntry) (labels : List ℕ) → ((k j : ℕ) → watches new k j ≡ ((names known.when k && label == j) || watches old k j)) →
     ((k : ℕ) (w : ℕ → Bool) → recall new k w ≡ (if label == k then or_known (recall old k w) known w else recall old k w)) →
     AreLocalAnswers labels old → shown_by labels label ≡ true → ((k : ℕ) → names known.when k ≡ true → record_of_label k ≡ record_of_label label) → AreLocalAnswers labels new
 own_by old new label known labels watching recalling before among of_record = record {
@@ -174,7 +174,7 @@ own_by old new label known labels watching recalling before among of_record = re
         (by_names known.when v w (λ j named. alike j (of_record j named ∙ ap record_of_label ((Decides-eqb label k).0 e)))))
     own_if k v w alike false e same = same
 
-pub own_start : (labels : List ℕ) (answers : Answers) → ((k : ℕ) (w : ℕ → Bool) → recall answers k w ≡ None) → ((k j : ℕ) → watches answers k j ≡ false) → AreLocalAnswers labels answers
+pub own_start : (labels : List ℕ) (answers : PolicyMemo) → ((k : ℕ) (w : ℕ → Bool) → recall answers k w ≡ None) → ((k j : ℕ) → watches answers k j ≡ false) → AreLocalAnswers labels answers
 own_start labels answers none nobody = record {
   own = λ k v w alike. none k v ∙ sym (none k w);
   among = λ k j h. absurd (let e : true ≡ false = sym h ∙ nobody k j in cc);
@@ -186,34 +186,34 @@ signed_names w (j ∷ ks) k = ap (λ b. (j == k) || b) (signed_names w ks k)
 
 -- what was spent
 
-pub spends_same : (labels : List ℕ) (n : ℕ) (answers : Answers) → AreLocalAnswers labels answers → Spends labels n n answers answers
+pub spends_same : (labels : List ℕ) (n : ℕ) (answers : PolicyMemo) → AreLocalAnswers labels answers → Spends labels n n answers answers
 spends_same labels n answers own = record { own = own; spent = omega arith }
 
-pub spends_one : (labels : List ℕ) (before now : ℕ) (old new : Answers) → AreLocalAnswers labels new → now ≤ before + 1 → room labels new + 1 ≤ room labels old → Spends labels before now old new
+pub spends_one : (labels : List ℕ) (before now : ℕ) (old new : PolicyMemo) → AreLocalAnswers labels new → now ≤ before + 1 → room labels new + 1 ≤ room labels old → Spends labels before now old new
 spends_one labels before now old new own once falls = record { own = own; spent = omega (arith, once, falls) }
 
-pub spends_then : (labels : List ℕ) (a b c : ℕ) (r s t : Answers) → Spends labels a b r s → Spends labels b c s t → Spends labels a c r t
+pub spends_then : (labels : List ℕ) (a b c : ℕ) (r s t : PolicyMemo) → Spends labels a b r s → Spends labels b c s t → Spends labels a c r t
 spends_then labels a b c r s t first second = record { own = second.own; spent = let f = first.spent in let g = second.spent in omega (arith, f, g) }
 
-pub most_then : (labels : List ℕ) (a b c : ℕ) (r s : Answers) → Spends labels a b r s → c ≤ b + room labels s → c ≤ a + room labels r
+pub most_then : (labels : List ℕ) (a b c : ℕ) (r s : PolicyMemo) → Spends labels a b r s → c ≤ b + room labels s → c ≤ a + room labels r
 most_then labels a b c r s first most = let f = first.spent in omega (arith, f, most)
 
 -- the policy of a label of which nothing is remembered was asked, or is to be
 
-pub most_asked : (labels : List ℕ) (before now : ℕ) (old : Answers) (label : ℕ) (w : ℕ → Bool) → shown_by labels label ≡ true → AreLocalAnswers labels old → recall old label w ≡ None → now ≤ before + 1 →
+pub most_asked : (labels : List ℕ) (before now : ℕ) (old : PolicyMemo) (label : ℕ) (w : ℕ → Bool) → shown_by labels label ≡ true → AreLocalAnswers labels old → recall old label w ≡ None → now ≤ before + 1 →
     now ≤ before + room labels old
 most_asked labels before now old label w among own none once = let some = room_some labels labels old label w among own none in omega (arith, once, some)
 
-pub spends_asked : (labels : List ℕ) (before now : ℕ) (old new : Answers) (label : ℕ) (w : ℕ → Bool) → shown_by labels label ≡ true → Grown old new → AreLocalAnswers labels old → AreLocalAnswers labels new →
+pub spends_asked : (labels : List ℕ) (before now : ℕ) (old new : PolicyMemo) (label : ℕ) (w : ℕ → Bool) → shown_by labels label ≡ true → Grown old new → AreLocalAnswers labels old → AreLocalAnswers labels new →
     recall old label w ≡ None → is_some (recall new label w) ≡ true → now ≤ before + 1 → Spends labels before now old new
 spends_asked labels before now old new label w among grown own_old own_new none some once =
     spends_one labels before now old new own_new once (room_falls labels labels old new label w among grown own_old own_new none some)
 
-pub spends_most : (labels : List ℕ) (before now : ℕ) (old new : Answers) → Spends labels before now old new → now ≤ before + room labels old
+pub spends_most : (labels : List ℕ) (before now : ℕ) (old new : PolicyMemo) → Spends labels before now old new → now ≤ before + room labels old
 spends_most labels before now old new spends = let s = spends.spent in omega (arith, s)
 
 -- where nothing is remembered there is room for all signs of each label's record
-pub all_asked : (labels : List ℕ) (before now : ℕ) (answers : Answers) → now ≤ before + room labels answers → now ≤ before + 256 * length labels
+pub all_asked : (labels : List ℕ) (before now : ℕ) (answers : PolicyMemo) → now ≤ before + room labels answers → now ≤ before + 256 * length labels
 all_asked labels before now answers most = let all = room_most labels answers in omega (arith, most, all)
 
 -- what was computed, and how often a policy was asked for it

@@ -10,10 +10,10 @@ use Rattle.jac_lang.specs.Syntax.{Application}
 use Rattle.jac_plain.specs.Requests.{Worlds}
 use Rattle.jac_plain.specs.Policies.{is_allowed, with_label}
 use Rattle.jac_pruned.specs.Consulted.{Agrees}
-use Rattle.jac_recall.specs.declared.answers.Answers.{Answers}
-use Rattle.jac_recall.specs.declared.answers.Known.{Known}
-use Rattle.jac_recall.specs.Recalled.{AreWatched, known_at, or_known, recall, signed_labels, watches}
-use Rattle.jac_resolve.specs.Recalled.{AreRight, Fitting, Grown, IsRight, IsUnderway, RemembersForbidden, Stays, is_touched}
+use Rattle.jac_policy_cache.specs.declared.policy_memo.PolicyMemo.{PolicyMemo}
+use Rattle.jac_policy_cache.specs.declared.policy_memo.MemoEntry.{MemoEntry}
+use Rattle.jac_policy_cache.specs.Memo.{AreWatched, known_at, or_known, recall, signed_labels, watches}
+use Rattle.jac_resolve.specs.RightMemo.{AreRight, Fitting, Grown, IsRight, IsUnderway, RemembersForbidden, Stays, is_affected}
 
 right_true : (a b : Bool) → (a && b) ≡ true → b ≡ true
 right_true true b p = p
@@ -44,22 +44,22 @@ either false b P h p q = q h
 pub itself : (x : ℕ) → (x == x) ≡ true
 itself x = grind (arith, nat_tests)
 
-pub known_if : (h h' : Bool) (c : Known) → h ≡ h' → (if h then Some c.holds else None) ≡ (if h' then Some c.holds else None)
+pub known_if : (h h' : Bool) (c : MemoEntry) → h ≡ h' → (if h then Some c.holds else None) ≡ (if h' then Some c.holds else None)
 known_if h h' c e = ap (λ b. if b then Some c.holds else None) e
 
-pub or_same : (o p : Option Bool) (c : Known) (v w : ℕ → Bool) → o ≡ p → known_at c v ≡ known_at c w → or_known o c v ≡ or_known p c w
+pub or_same : (o p : Option Bool) (c : MemoEntry) (v w : ℕ → Bool) → o ≡ p → known_at c v ≡ known_at c w → or_known o c v ≡ or_known p c w
 or_same o None c v w e f = ap (λ q. or_known q c v) e ∙ f
 or_same o (Some b) c v w e f = ap (λ q. or_known q c v) e
 
-or_kept : (o : Option Bool) (c : Known) (w : ℕ → Bool) → is_some o ≡ true → is_some (or_known o c w) ≡ true
+or_kept : (o : Option Bool) (c : MemoEntry) (w : ℕ → Bool) → is_some o ≡ true → is_some (or_known o c w) ≡ true
 or_kept (Some b) c w h = refl
 or_kept None c w h = absurd cc
 
-or_fits : (o : Option Bool) (c : Known) (w : ℕ → Bool) → holds w c.when ≡ true → is_some (or_known o c w) ≡ true
+or_fits : (o : Option Bool) (c : MemoEntry) (w : ℕ → Bool) → holds w c.when ≡ true → is_some (or_known o c w) ≡ true
 or_fits (Some b) c w h = refl
 or_fits None c w h = ap (λ b. is_some (if b then Some c.holds else None)) h
 
-or_is : (o : Option Bool) (c : Known) (w : ℕ → Bool) (b x : Bool) → (o ≡ Some b → b ≡ x) → (holds w c.when ≡ true → c.holds ≡ x) → or_known o c w ≡ Some b → b ≡ x
+or_is : (o : Option Bool) (c : MemoEntry) (w : ℕ → Bool) (b x : Bool) → (o ≡ Some b → b ≡ x) → (holds w c.when ≡ true → c.holds ≡ x) → or_known o c w ≡ Some b → b ≡ x
 or_is (Some a) c w b x before here is = before is
 or_is None c w b x before here is = is_if (holds w c.when) refl is
   where
@@ -68,7 +68,7 @@ or_is None c w b x before here is = is_if (holds w c.when) refl is
     is_if false e i = absurd cc
 
 -- what is recalled, and who watches what, once one answer more is remembered
-module _ (old new : Answers) (label : ℕ) (known : Known)
+module _ (old new : PolicyMemo) (label : ℕ) (known : MemoEntry)
     (watching : (k j : ℕ) → watches new k j ≡ ((names known.when k && label == j) || watches old k j))
     (recalling : (k : ℕ) (w : ℕ → Bool) → recall new k w ≡ (if label == k then or_known (recall old k w) known w else recall old k w)) where
   kept_if : (b : Bool) (k : ℕ) (w : ℕ → Bool) → is_some (recall old k w) ≡ true → is_some (if b then or_known (recall old k w) known w else recall old k w) ≡ true
@@ -112,10 +112,10 @@ module _ (old new : Answers) (label : ℕ) (known : Known)
           (λ h. one.each w h ∙ ap (is_allowed app (worlds w) viewer) ((Decides-eqb label k).0 e)) is
       right_if k w b false e is = before.each k w b is
 
-pub grown_same : (answers : Answers) → Grown answers answers
+pub grown_same : (answers : PolicyMemo) → Grown answers answers
 grown_same answers = record { kept = λ k w h. h; watching = λ k j h. h; watched = λ h. h }
 
-pub grown_then : (r s t : Answers) → Grown r s → Grown s t → Grown r t
+pub grown_then : (r s t : PolicyMemo) → Grown r s → Grown s t → Grown r t
 grown_then r s t before after = record {
   kept = λ k w h. after.kept k w (before.kept k w h);
   watching = λ k j h. after.watching k j (before.watching k j h);
@@ -123,7 +123,7 @@ grown_then r s t before after = record {
 }
 
 -- whether a label is shown is nothing to what is remembered of one that doesn't watch it
-pub unwatched : (answers : Answers) → AreWatched answers → (k j : ℕ) → watches answers k j ≡ false → (w : ℕ → Bool) → recall answers j (with_label k w) ≡ recall answers j w
+pub unwatched : (answers : PolicyMemo) → AreWatched answers → (k j : ℕ) → watches answers k j ≡ false → (w : ℕ → Bool) → recall answers j (with_label k w) ≡ recall answers j w
 unwatched answers watched k j absent w = watched.each j (with_label k w) w (λ i watching. differs i watching (k == i) refl)
   where
     differs : (i : ℕ) → watches answers i j ≡ true → (b : Bool) → (k == i) ≡ b → (b || w i) ≡ w i
@@ -141,14 +141,14 @@ shows_own v label own = λ i k. shows_if k (label == k) refl i
 -- what is known of a pass
 module _ (app : Application) (worlds : Worlds) (viewer : Option ℕ) where
   -- an answer that was asked, with the signs of what was consulted
-  pub signed_right : (v : ℕ → Bool) (label : ℕ) (support : List ℕ) (known : Known) → known.when ≡ signed_labels v support →
+  pub signed_right : (v : ℕ → Bool) (label : ℕ) (support : List ℕ) (known : MemoEntry) → known.when ≡ signed_labels v support →
       ((w : ℕ → Bool) → Agrees support v w → known.holds ≡ is_allowed app (worlds w) viewer label) → IsRight app worlds viewer label known
   signed_right v label support known is promise = record {
     each = λ w h. promise w (record { each = signed_agrees v w support (ap (holds w) (sym is) ∙ h) });
   }
 
   -- at the start nothing is shown, and nothing remembered
-  pub underway_start : (answers : Answers) → ((k : ℕ) (w : ℕ → Bool) → recall answers k w ≡ None) → IsUnderway app worlds viewer [] answers
+  pub underway_start : (answers : PolicyMemo) → ((k : ℕ) (w : ℕ → Bool) → recall answers k w ≡ None) → IsUnderway app worlds viewer [] answers
   underway_start answers none = record {
     right = record { each = λ k w b is. absurd (let e : None ≡ Some b = sym (none k w) ∙ is in cc) };
     allowed = λ k s. absurd cc;
@@ -157,7 +157,7 @@ module _ (app : Application) (worlds : Worlds) (viewer : Option ℕ) where
   }
 
   -- what a label was answered under the assignment it is answered once a label is shown that it doesn't watch
-  pub unmoved : (a : List ℕ) (answers : Answers) (k j : ℕ) → IsUnderway app worlds viewer a answers → watches answers k j ≡ false → shown_by a j ≡ true →
+  pub unmoved : (a : List ℕ) (answers : PolicyMemo) (k j : ℕ) → IsUnderway app worlds viewer a answers → watches answers k j ≡ false → shown_by a j ≡ true →
       is_allowed app (worlds (with_label k (shown_by a))) viewer j ≡ true
   unmoved a answers k j before absent s = by_answer (recall answers j (shown_by a)) refl (before.fitted.each j s)
     where
@@ -168,7 +168,7 @@ module _ (app : Application) (worlds : Worlds) (viewer : Option ℕ) where
       by_answer None e h = absurd cc
 
   -- none was added
-  pub underway_still : (a : List ℕ) (old new : Answers) → IsUnderway app worlds viewer a old → AreRight app worlds viewer new → Grown old new → IsUnderway app worlds viewer a new
+  pub underway_still : (a : List ℕ) (old new : PolicyMemo) → IsUnderway app worlds viewer a old → AreRight app worlds viewer new → Grown old new → IsUnderway app worlds viewer a new
   underway_still a old new before right grown = record {
     right = right;
     allowed = before.allowed;
@@ -177,7 +177,7 @@ module _ (app : Application) (worlds : Worlds) (viewer : Option ℕ) where
   }
 
   -- the same are shown
-  pub underway_same : (a new : List ℕ) (answers : Answers) → ((j : ℕ) → shown_by new j ≡ shown_by a j) → IsUnderway app worlds viewer a answers → IsUnderway app worlds viewer new answers
+  pub underway_same : (a new : List ℕ) (answers : PolicyMemo) → ((j : ℕ) → shown_by new j ≡ shown_by a j) → IsUnderway app worlds viewer a answers → IsUnderway app worlds viewer new answers
   underway_same a new answers still before = record {
     right = before.right;
     allowed = λ k s. ap (λ (w : ℕ → Bool). is_allowed app (worlds w) viewer k) same ∙ before.allowed k (sym (still k) ∙ s);
@@ -189,26 +189,26 @@ module _ (app : Application) (worlds : Worlds) (viewer : Option ℕ) where
       same = λ i j. still j i
 
   -- one was
-  pub underway_added : (a more : List ℕ) (k : ℕ) (old new : Answers) → ((j : ℕ) → shown_by more j ≡ with_label k (shown_by a) j) → IsUnderway app worlds viewer a old →
-      AreRight app worlds viewer new → Grown old new → Stays app worlds viewer new (shown_by more) (is_touched old k) true → Fitting new (shown_by more) (is_touched old k) true → IsUnderway app worlds viewer more new
+  pub underway_added : (a more : List ℕ) (k : ℕ) (old new : PolicyMemo) → ((j : ℕ) → shown_by more j ≡ with_label k (shown_by a) j) → IsUnderway app worlds viewer a old →
+      AreRight app worlds viewer new → Grown old new → Stays app worlds viewer new (shown_by more) (is_affected old k) true → Fitting new (shown_by more) (is_affected old k) true → IsUnderway app worlds viewer more new
   underway_added a more k old new also before right grown stays fits = record {
     right = right;
-    allowed = λ j s. allowed_if j s (is_touched old k j) refl;
+    allowed = λ j s. allowed_if j s (is_affected old k j) refl;
     watched = grown.watched before.watched;
-    fitted = record { each = λ j s. fitted_if j s (is_touched old k j) refl };
+    fitted = record { each = λ j s. fitted_if j s (is_affected old k j) refl };
   }
     where
       same : shown_by more ≡ with_label k (shown_by a)
       same = λ i j. also j i
 
-      allowed_if : (j : ℕ) → shown_by more j ≡ true → (b : Bool) → is_touched old k j ≡ b → is_allowed app (worlds (shown_by more)) viewer j ≡ true
+      allowed_if : (j : ℕ) → shown_by more j ≡ true → (b : Bool) → is_affected old k j ≡ b → is_allowed app (worlds (shown_by more)) viewer j ≡ true
       allowed_if j s true e = stays j e s
       allowed_if j s false e =
           let apart = or_parts (k == j) (watches old k j) e in
           let was : shown_by a j ≡ true = sym (ap (λ b. b || shown_by a j) apart.0) ∙ sym (also j) ∙ s in
           ap (λ (w : ℕ → Bool). is_allowed app (worlds w) viewer j) same ∙ unmoved a old k j before apart.1 was
 
-      fitted_if : (j : ℕ) → shown_by more j ≡ true → (b : Bool) → is_touched old k j ≡ b → is_some (recall new j (shown_by more)) ≡ true
+      fitted_if : (j : ℕ) → shown_by more j ≡ true → (b : Bool) → is_affected old k j ≡ b → is_some (recall new j (shown_by more)) ≡ true
       fitted_if j s true e = fits j e s
       fitted_if j s false e =
           let apart = or_parts (k == j) (watches old k j) e in
@@ -217,7 +217,7 @@ module _ (app : Application) (worlds : Worlds) (viewer : Option ℕ) where
           (ap (λ (w : ℕ → Bool). is_some (recall old j w)) same ∙ ap is_some (unwatched old before.watched k j apart.1 (shown_by a)) ∙ before.fitted.each j was)
 
   -- what is known at the end of a pass may be where the next one begins
-  pub underway_none : (a : List ℕ) (answers : Answers) → IsUnderway app worlds viewer a answers → IsUnderway app worlds viewer [] answers
+  pub underway_none : (a : List ℕ) (answers : PolicyMemo) → IsUnderway app worlds viewer a answers → IsUnderway app worlds viewer [] answers
   underway_none a answers before = record {
     right = before.right;
     allowed = λ k s. absurd cc;
@@ -226,7 +226,7 @@ module _ (app : Application) (worlds : Worlds) (viewer : Option ℕ) where
   }
 
   -- it is remembered that the label isn't allowed once it is shown
-  pub refused_known : (a : List ℕ) (answers : Answers) (k : ℕ) → AreRight app worlds viewer answers → recall answers k (with_label k (shown_by a)) ≡ Some false →
+  pub refused_known : (a : List ℕ) (answers : PolicyMemo) (k : ℕ) → AreRight app worlds viewer answers → recall answers k (with_label k (shown_by a)) ≡ Some false →
       RemembersForbidden app worlds viewer answers (with_label k (shown_by a))
   refused_known a answers k right is = record {
     label = k;
@@ -235,14 +235,14 @@ module _ (app : Application) (worlds : Worlds) (viewer : Option ℕ) where
     known = ap is_some is;
   }
 
-  pub refused_also : (a more : List ℕ) (answers : Answers) (k : ℕ) → ((j : ℕ) → shown_by more j ≡ with_label k (shown_by a) j) → RemembersForbidden app worlds viewer answers (shown_by more) →
+  pub refused_also : (a more : List ℕ) (answers : PolicyMemo) (k : ℕ) → ((j : ℕ) → shown_by more j ≡ with_label k (shown_by a) j) → RemembersForbidden app worlds viewer answers (shown_by more) →
       RemembersForbidden app worlds viewer answers (with_label k (shown_by a))
   refused_also a more answers k also refused =
       let same : shown_by more ≡ with_label k (shown_by a) = λ i j. also j i in
       subst (λ (w : ℕ → Bool). RemembersForbidden app worlds viewer answers w) same refused
 
   -- what was remembered still is
-  pub refused_still : (w : ℕ → Bool) (old new : Answers) → Grown old new → RemembersForbidden app worlds viewer old w → RemembersForbidden app worlds viewer new w
+  pub refused_still : (w : ℕ → Bool) (old new : PolicyMemo) → Grown old new → RemembersForbidden app worlds viewer old w → RemembersForbidden app worlds viewer new w
   refused_still w old new grown before = record {
     label = before.label;
     is_shown = before.is_shown;
@@ -251,31 +251,31 @@ module _ (app : Application) (worlds : Worlds) (viewer : Option ℕ) where
   }
 
   -- the answer of a label that is shown
-  pub stays_one : (answers : Answers) (w : ℕ → Bool) (label : ℕ) (b : Bool) → w label ≡ true → b ≡ is_allowed app (worlds w) viewer label → is_some (recall answers label w) ≡ true →
+  pub stays_one : (answers : PolicyMemo) (w : ℕ → Bool) (label : ℕ) (b : Bool) → w label ≡ true → b ≡ is_allowed app (worlds w) viewer label → is_some (recall answers label w) ≡ true →
       Stays app worlds viewer answers w (λ j. label == j) b
   stays_one answers w label true own is known = λ j e s. ap (is_allowed app (worlds w) viewer) (sym ((Decides-eqb label j).0 e)) ∙ sym is
   stays_one answers w label false own is known = record { label = label; is_shown = own; forbidden = sym is; known = known }
 
   -- one that is hidden isn't asked
-  pub stays_hidden : (answers : Answers) (w : ℕ → Bool) (label : ℕ) → w label ≡ false → Stays app worlds viewer answers w (λ j. label == j) true
+  pub stays_hidden : (answers : PolicyMemo) (w : ℕ → Bool) (label : ℕ) → w label ≡ false → Stays app worlds viewer answers w (λ j. label == j) true
   stays_hidden answers w label hidden = λ j e s. absurd (let both : true ≡ false = sym s ∙ ap w (sym ((Decides-eqb label j).0 e)) ∙ hidden in cc)
 
   -- the label, and then those that watch it
-  pub stays_both : (w : ℕ → Bool) (old mid new : Answers) (label : ℕ) (watchers : List ℕ) (b : Bool) → ((j : ℕ) → shown_by watchers j ≡ watches mid label j) → Grown old mid →
-      Stays app worlds viewer mid w (λ j. label == j) true → Stays app worlds viewer new w (shown_by watchers) b → Stays app worlds viewer new w (is_touched old label) b
+  pub stays_both : (w : ℕ → Bool) (old mid new : PolicyMemo) (label : ℕ) (watchers : List ℕ) (b : Bool) → ((j : ℕ) → shown_by watchers j ≡ watches mid label j) → Grown old mid →
+      Stays app worlds viewer mid w (λ j. label == j) true → Stays app worlds viewer new w (shown_by watchers) b → Stays app worlds viewer new w (is_affected old label) b
   stays_both w old mid new label watchers true are grown own stays = λ j e s.
       either (label == j) (watches old label j) (is_allowed app (worlds w) viewer j ≡ true) e (λ same. own j same s) (λ watching. stays j (are j ∙ grown.watching label j watching) s)
   stays_both w old mid new label watchers false are grown own stays = stays
 
-pub fits_one : (answers : Answers) (w : ℕ → Bool) (label : ℕ) (b : Bool) → is_some (recall answers label w) ≡ true → Fitting answers w (λ j. label == j) b
+pub fits_one : (answers : PolicyMemo) (w : ℕ → Bool) (label : ℕ) (b : Bool) → is_some (recall answers label w) ≡ true → Fitting answers w (λ j. label == j) b
 fits_one answers w label true h = λ j e s. ap (λ (k : ℕ). is_some (recall answers k w)) (sym ((Decides-eqb label j).0 e)) ∙ h
 fits_one answers w label false h = tt
 
-pub fits_hidden : (answers : Answers) (w : ℕ → Bool) (label : ℕ) → w label ≡ false → Fitting answers w (λ j. label == j) true
+pub fits_hidden : (answers : PolicyMemo) (w : ℕ → Bool) (label : ℕ) → w label ≡ false → Fitting answers w (λ j. label == j) true
 fits_hidden answers w label hidden = λ j e s. absurd (let both : true ≡ false = sym s ∙ ap w (sym ((Decides-eqb label j).0 e)) ∙ hidden in cc)
 
-pub fits_both : (w : ℕ → Bool) (old mid new : Answers) (label : ℕ) (watchers : List ℕ) (b : Bool) → ((j : ℕ) → shown_by watchers j ≡ watches mid label j) → Grown old mid → Grown mid new →
-    Fitting mid w (λ j. label == j) true → Fitting new w (shown_by watchers) b → Fitting new w (is_touched old label) b
+pub fits_both : (w : ℕ → Bool) (old mid new : PolicyMemo) (label : ℕ) (watchers : List ℕ) (b : Bool) → ((j : ℕ) → shown_by watchers j ≡ watches mid label j) → Grown old mid → Grown mid new →
+    Fitting mid w (λ j. label == j) true → Fitting new w (shown_by watchers) b → Fitting new w (is_affected old label) b
 fits_both w old mid new label watchers true are grown more own fits = λ j e s.
     either (label == j) (watches old label j) (is_some (recall new j w) ≡ true) e (λ same. more.kept j w (own j same s)) (λ watching. fits j (are j ∙ grown.watching label j watching) s)
 fits_both w old mid new label watchers false are grown more own fits = tt
@@ -298,7 +298,7 @@ pub but_end : (P : ℕ → Type 0) (all left : List ℕ) → left ≡ [] → All
 but_end P all left none before j s = before j s (ap (λ l. shown_by l j) none)
 
 -- what is known while watchers are asked, told or not, and what is known beside
-pub record InWatching (before now : ℕ) (old new : Answers) (w : ℕ → Bool) (all left : List ℕ) (beside : Type 0) : Type 0 where
+pub record InWatching (before now : ℕ) (old new : PolicyMemo) (w : ℕ → Bool) (all left : List ℕ) (beside : Type 0) : Type 0 where
   pub later : before ≤ now
   pub grown : Grown old new
   pub fits : AllBut (λ j. w j ≡ true → is_some (recall new j w) ≡ true) all left

@@ -1,6 +1,6 @@
 pub mod Collected
 pub mod Live
-pub mod Recalled
+pub mod RightMemo
 pub mod Room
 pub mod Rounds
-pub mod Seated
+pub mod ValidCache

@@ -2,8 +2,8 @@
 use Rattle.std.specs.Prelude.{◌≡◌, ◌==◌, ◌≤◌, ◌+◌, ℕ, zero, suc, Bool, true, false, List, [], ◌∷◌, Option, is_some, if◌then◌else◌}
 use Rattle.jac_value.specs.Ids.{label_of, record_of_label}
 use Rattle.jac_world.specs.World.{shown_by}
-use Rattle.jac_recall.specs.declared.answers.Answers.{Answers}
-use Rattle.jac_recall.specs.Recalled.{recall, watches}
+use Rattle.jac_policy_cache.specs.declared.policy_memo.PolicyMemo.{PolicyMemo}
+use Rattle.jac_policy_cache.specs.Memo.{recall, watches}
 
 -- an assignment with this sign of a label
 abbrev pub with_sign : ℕ → Bool → (ℕ → Bool) → ℕ → Bool
@@ -16,19 +16,19 @@ unknown_signs (suc n) id f w = unknown_signs n id f (with_sign (label_of id n) t
     + unknown_signs n id f (with_sign (label_of id n) false w)
 
 -- for each of the labels, under how many signs of its record's labels nothing is remembered of it
-abbrev pub room : List ℕ → Answers → ℕ
+abbrev pub room : List ℕ → PolicyMemo → ℕ
 room [] answers = 0
 room (k ∷ ks) answers =
     unknown_signs 8 (record_of_label k) (recall answers k) (λ j. false) + room ks answers
 
--- what is remembered of a label hangs on labels of its own record alone, and those that watch a
+-- what is remembered of a label depends on labels of its own record alone, and those that watch a
 -- label are among these
-pub record AreLocalAnswers (labels : List ℕ) (answers : Answers) : Type 0 where
+pub record AreLocalAnswers (labels : List ℕ) (answers : PolicyMemo) : Type 0 where
   pub own : (k : ℕ) (v w : ℕ → Bool) → ((j : ℕ) → record_of_label j ≡ record_of_label k → v j ≡ w j)
       → recall answers k v ≡ recall answers k w
   pub among : (k j : ℕ) → watches answers k j ≡ true → shown_by labels j ≡ true
 
 -- what was asked is no longer left to ask
-pub record Spends (labels : List ℕ) (before now : ℕ) (old new : Answers) : Type 0 where
+pub record Spends (labels : List ℕ) (before now : ℕ) (old new : PolicyMemo) : Type 0 where
   pub own : AreLocalAnswers labels new
   pub spent : now + room labels new ≤ before + room labels old

@@ -3,12 +3,12 @@ ghost use Rattle.jac_lang.specs.Syntax.{Application};
 ghost use Rattle.jac_rows.specs.declared.state.State.{State};
 ghost use Rattle.jac_plain.specs.Policies.{has_group, IsLiveLabel, IsSettled};
 ghost use Rattle.jac_plain.specs.Requests.{Worlds};
-ghost use Rattle.jac_recall.specs.declared.seat.Seat.{Seat as Kept};
-ghost use Rattle.jac_recall.specs.declared.touch.Touch.{Touch as Change};
-ghost use Rattle.jac_recall.specs.Seats.{IsEmptySeat, Unsettles};
-ghost use Rattle.jac_recall.specs.Touched.{IsCovered};
+ghost use Rattle.jac_policy_cache.specs.declared.viewer_cache.ViewerCache.{ViewerCache as Kept};
+ghost use Rattle.jac_policy_cache.specs.declared.invalidation.Invalidation.{Invalidation as Change};
+ghost use Rattle.jac_policy_cache.specs.ViewerCache.{IsEmptyCache, Invalidates};
+ghost use Rattle.jac_policy_cache.specs.Affected.{IsCovered};
 ghost use Rattle.jac_resolve.specs.Collected.{has_row, AllCanHold};
-ghost use Rattle.jac_resolve.specs.Seated.{IsSeated};
+ghost use Rattle.jac_resolve.specs.ValidCache.{IsValidCache};
 ghost use Rattle.jac_plain.specs.Shown.{worlds_of};
 
 /// A law: where no guard contradicts itself, the live labels are those of all groups of every
@@ -18,7 +18,7 @@ pub fn live_by_rows()
         → (IsLiveLabel app (worlds_of s) k ↔ ((has_group app k && has_row s k) ≡ true)) }
 {}
 
-/// A law: what is settled hangs on the tables of a state alone, and not on its number.
+/// A law: what is settled depends on the tables of a state alone, and not on its number.
 pub fn settled_by_tables()
     ensures { (app : Application) (s t : State) (viewer : Option ℕ) (labels : List ℕ)
         → s.tables ≡ t.tables → IsSettled app (worlds_of s) viewer labels
@@ -26,30 +26,31 @@ pub fn settled_by_tables()
 {}
 
 /// A law: where nothing was asked or settled, all is as it is kept.
-pub fn empty_is_seated()
-    ensures { (app : Application) (worlds : Worlds) (viewer : Option ℕ) (seat : Kept)
-        → IsEmptySeat seat → IsSeated app worlds viewer seat }
+pub fn empty_cache_is_valid()
+    ensures { (app : Application) (worlds : Worlds) (viewer : Option ℕ) (cache : Kept)
+        → IsEmptyCache cache → IsValidCache app worlds viewer cache }
 {}
 
-/// A law: what was settled in some worlds, and is unsettled by what a change to later ones touches,
-/// is kept in the later ones.
-pub fn seat_moves()
-    ensures { (app : Application) (worlds later : Worlds) (viewer : Option ℕ) (touch : Change)
+/// A law: what was settled in some worlds, and is invalidated by what a change to later ones
+/// affects, is kept in the later ones.
+pub fn cache_moves()
+    ensures { (app : Application) (worlds later : Worlds) (viewer : Option ℕ)
+        (invalidation : Change)
         (old new : Kept) →
-        IsSeated app worlds viewer old → Unsettles touch viewer old new
-        → IsCovered app worlds later touch viewer →
-        IsSeated app later viewer new }
+        IsValidCache app worlds viewer old → Invalidates invalidation viewer old new
+        → IsCovered app worlds later invalidation viewer →
+        IsValidCache app later viewer new }
 {}
 
-/// A law: whatever is touched covers that nothing changes.
+/// A law: whatever is affected covers that nothing changes.
 pub fn covered_by_nothing()
-    ensures { (app : Application) (worlds : Worlds) (viewer : Option ℕ) (touch : Change)
-        → IsCovered app worlds worlds touch viewer }
+    ensures { (app : Application) (worlds : Worlds) (viewer : Option ℕ) (invalidation : Change)
+        → IsCovered app worlds worlds invalidation viewer }
 {}
 
-/// A law: what is kept hangs on the tables of a state alone, and not on its number.
-pub fn seated_by_tables()
-    ensures { (app : Application) (s t : State) (viewer : Option ℕ) (seat : Kept)
-        → s.tables ≡ t.tables → IsSeated app (worlds_of s) viewer seat
-        → IsSeated app (worlds_of t) viewer seat }
+/// A law: what is kept depends on the tables of a state alone, and not on its number.
+pub fn valid_by_tables()
+    ensures { (app : Application) (s t : State) (viewer : Option ℕ) (cache : Kept)
+        → s.tables ≡ t.tables → IsValidCache app (worlds_of s) viewer cache
+        → IsValidCache app (worlds_of t) viewer cache }
 {}

@@ -6,14 +6,14 @@ mod live;
 mod pass;
 mod permission;
 mod recall;
-mod seated;
+mod settled_cache;
 
 pub use laws::{
-    covered_by_nothing, empty_is_seated, live_by_rows, seat_moves, seated_by_tables,
-    settled_by_tables,
+    cache_moves, covered_by_nothing, empty_cache_is_valid, live_by_rows, settled_by_tables,
+    valid_by_tables,
 };
 pub use live::{is_live, live_labels, live_of};
 pub use pass::{resolve, settle_among};
 pub use permission::allowed;
 pub use recall::add_consulted;
-pub use seated::settle_seat;
+pub use settled_cache::settle_cache;

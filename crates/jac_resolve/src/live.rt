@@ -4,7 +4,7 @@ ghost use Rattle.jac_world.specs.World.{shown_by, holds, guard_wants, IsAscendin
 ghost use Rattle.jac_lang.specs.Mirror.{application_of, entities_of};
 ghost use Rattle.jac_rows.specs.Tables.{rows_of};
 ghost use Rattle.jac_rows.specs.declared.row.Row.{Row as Alternative};
-ghost use Rattle.jac_keep.specs.Worked.{state_of, IsTold, ReadsWork};
+ghost use Rattle.jac_keep.specs.WorkState.{state_of, IsTold, ReadsWork};
 ghost use Rattle.jac_plain.specs.Policies.{has_group, IsLiveLabel};
 ghost use Rattle.jac_resolve.specs.Rounds.{HasSoundTables, AreLive};
 ghost use Rattle.jac_resolve.specs.Live.{AreLiveOf};
@@ -15,7 +15,7 @@ ghost use Rattle.jac_value.specs.Ids.{labels_below};
 use crate::permission::{has_group, record_of};
 use jac_keep::{Keeper, Stop, Work};
 use jac_lang::{App, ModelDef};
-use jac_recall::Labels;
+use jac_policy_cache::Labels;
 use jac_rows::Row;
 use jac_value::{Id, Memory, label_number};
 use jac_world::Label;

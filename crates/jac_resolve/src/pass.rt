@@ -3,11 +3,11 @@ ghost use Rattle.std.specs.Prelude.{◌≡◌, ◌==◌, ◌≤◌, ◌+◌, ◌
 ghost use Rattle.jac_world.specs.World.{shown_by, holds, names, IsAscending};
 ghost use Rattle.jac_value.specs.Ids.{record_of_label};
 ghost use Rattle.jac_lang.specs.Mirror.{application_of};
-ghost use Rattle.jac_keep.specs.Worked.{state_of, IsTold, ReadsWork};
+ghost use Rattle.jac_keep.specs.WorkState.{state_of, IsTold, ReadsWork};
 ghost use Rattle.jac_pruned.specs.Local.{IsLocalCase};
 ghost use Rattle.jac_plain.specs.Policies.{IsSettled, is_allowed};
-ghost use Rattle.jac_recall.specs.Recalled.{recall};
-ghost use Rattle.jac_resolve.specs.Recalled.{AreRight, Fills, Fitting, Grown, IsPassed, IsRight, IsUnderway, Retains, Stays, Tries, is_touched};
+ghost use Rattle.jac_policy_cache.specs.Memo.{recall};
+ghost use Rattle.jac_resolve.specs.RightMemo.{AreRight, Fills, Fitting, Grown, IsPassed, IsRight, IsUnderway, Retains, Stays, Tries, is_affected};
 ghost use Rattle.jac_resolve.specs.Room.{AreLocalAnswers, Spends, room};
 ghost use Rattle.jac_resolve.specs.Rounds.{HasSoundTables, AreLive, MayAdd, Advances, Within};
 ghost use Rattle.jac_plain.specs.Shown.{worlds_of};
@@ -17,7 +17,7 @@ use crate::permission::allowed;
 use crate::recall::remember;
 use jac_keep::{Keeper, Stop, Work};
 use jac_lang::App;
-use jac_recall::{Answers, Known, signs};
+use jac_policy_cache::{MemoEntry, PolicyMemo, signs};
 use jac_value::Id;
 use jac_world::{Assignment, Label, Steps};
 use std::sync::ledger::Ledger;
@@ -65,7 +65,7 @@ fn settle<K: Keeper, M: Ledger>(
     ensures later { evaluations.old ≤ evaluations.new }
     ensures reads { ReadsWork K.seen work.old work.new result }
 {
-    let mut answers = Answers::empty(work.alloc);
+    let mut answers = PolicyMemo::empty(work.alloc);
     let assignment = settle_among(work, app, viewer, labels, &mut answers, evaluations)?;
     Ok(assignment)
 }
@@ -78,7 +78,7 @@ pub fn settle_among<K: Keeper, M: Ledger>(
     app: &App,
     viewer: &Option<Id>,
     tried: &[Label],
-    answers: &mut Answers,
+    answers: &mut PolicyMemo,
     evaluations: &mut Steps<M>,
 ) -> Result<Assignment, Stop>
     requires attached { IsTrue (K.seen work.old.keeper.now).store.attached }
@@ -119,7 +119,7 @@ pub(crate) fn try_labels<K: Keeper, M: Ledger>(
     viewer: &Option<Id>,
     labels: &[Label],
     a: &mut Assignment,
-    answers: &mut Answers,
+    answers: &mut PolicyMemo,
     evaluations: &mut Steps<M>,
 ) -> Result<bool, Stop>
     requires attached { IsTrue (K.seen work.old.keeper.now).store.attached }
@@ -159,7 +159,7 @@ fn try_label<K: Keeper, M: Ledger>(
     viewer: &Option<Id>,
     label: Label,
     a: &mut Assignment,
-    answers: &mut Answers,
+    answers: &mut PolicyMemo,
     evaluations: &mut Steps<M>,
 ) -> Result<bool, Stop>
     requires attached { IsTrue (K.seen work.old.keeper.now).store.attached }
@@ -200,14 +200,14 @@ fn try_label<K: Keeper, M: Ledger>(
 }
 
 // Whether the label that was added is allowed under the assignment, and so are those that watch it.
-// No answer of another label hangs on it.
+// No answer of another label depends on it.
 fn may_stay<K: Keeper, M: Ledger>(
     work: &mut Work<'_, K>,
     app: &App,
     viewer: &Option<Id>,
     a: &Assignment,
     label: Label,
-    answers: &mut Answers,
+    answers: &mut PolicyMemo,
     evaluations: &mut Steps<M>,
 ) -> Result<bool, Stop>
     requires attached { IsTrue (K.seen work.old.keeper.now).store.attached }
@@ -215,9 +215,9 @@ fn may_stay<K: Keeper, M: Ledger>(
     ensures value { IsTold K.seen work.new → AreRight (application_of app.now)
         (worlds_of (state_of K.seen work.old)) viewer.now answers.old → IfOk result (Stays
         (application_of app.now) (worlds_of (state_of K.seen work.old)) viewer.now answers.new
-        (shown_by a.now) (is_touched answers.old label)) }
+        (shown_by a.now) (is_affected answers.old label)) }
     ensures fits { IfOk result (Fitting answers.new (shown_by a.now)
-        (is_touched answers.old label)) }
+        (is_affected answers.old label)) }
     ensures right { IsTold K.seen work.new → AreRight (application_of app.now)
         (worlds_of (state_of K.seen work.old)) viewer.now answers.old → OnOk result (AreRight
         (application_of app.now) (worlds_of (state_of K.seen work.old)) viewer.now answers.new) }
@@ -258,7 +258,7 @@ fn watchers_stay<K: Keeper, M: Ledger>(
     viewer: &Option<Id>,
     a: &Assignment,
     watchers: &[Label],
-    answers: &mut Answers,
+    answers: &mut PolicyMemo,
     evaluations: &mut Steps<M>,
 ) -> Result<bool, Stop>
     requires attached { IsTrue (K.seen work.old.keeper.now).store.attached }
@@ -301,7 +301,7 @@ fn watcher_stays<K: Keeper, M: Ledger>(
     viewer: &Option<Id>,
     a: &Assignment,
     label: Label,
-    answers: &mut Answers,
+    answers: &mut PolicyMemo,
     evaluations: &mut Steps<M>,
 ) -> Result<bool, Stop>
     requires attached { IsTrue (K.seen work.old.keeper.now).store.attached }
@@ -339,7 +339,7 @@ fn asked_stays<K: Keeper, M: Ledger>(
     viewer: &Option<Id>,
     a: &Assignment,
     label: Label,
-    answers: &mut Answers,
+    answers: &mut PolicyMemo,
     evaluations: &mut Steps<M>,
 ) -> Result<bool, Stop>
     requires attached { IsTrue (K.seen work.old.keeper.now).store.attached }
@@ -376,7 +376,7 @@ fn ask<K: Keeper, M: Ledger>(
     viewer: &Option<Id>,
     a: &Assignment,
     label: Label,
-    answers: &mut Answers,
+    answers: &mut PolicyMemo,
     evaluations: &mut Steps<M>,
 ) -> Result<bool, Stop>
     requires attached { IsTrue (K.seen work.old.keeper.now).store.attached }
@@ -420,7 +420,7 @@ fn evaluate<K: Keeper, M: Ledger>(
     a: &Assignment,
     label: Label,
     evaluations: &mut Steps<M>,
-) -> Result<Known, Stop>
+) -> Result<MemoEntry, Stop>
     requires attached { IsTrue (K.seen work.old.keeper.now).store.attached }
     ensures right { IsTold K.seen work.new → IfOk result
         (IsRight (application_of app.now) (worlds_of (state_of K.seen work.old)) viewer.now label) }
@@ -434,5 +434,5 @@ fn evaluate<K: Keeper, M: Ledger>(
 {
     let (holds, consulted) = allowed(work, app, *viewer, a, label, evaluations)?;
     let when = signs(work.alloc, consulted.as_slice(), a)?;
-    Ok(Known { when, holds })
+    Ok(MemoEntry { when, holds })
 }

@@ -3,7 +3,7 @@ ghost use Rattle.std.specs.Prelude.{◌≡◌, ◌≤◌, ◌+◌, ◌&&◌, [],
 ghost use Rattle.jac_value.specs.Ids.{record_of_label};
 ghost use Rattle.jac_world.specs.World.{shown_by};
 ghost use Rattle.jac_lang.specs.Mirror.{application_of, entity_of, entities_of, field_group_of, groups_of, expression_of};
-ghost use Rattle.jac_keep.specs.Worked.{state_of, IsTold, ReadsWork};
+ghost use Rattle.jac_keep.specs.WorkState.{state_of, IsTold, ReadsWork};
 ghost use Rattle.jac_plain.specs.Expressions.{mean, is_true};
 ghost use Rattle.jac_pruned.specs.Local.{is_free_viewer, is_local, IsLocalCase};
 ghost use Rattle.jac_plain.specs.Policies.{labelled_group, has_group, has_record, policy_world, is_allowed};
@@ -14,7 +14,7 @@ ghost use Rattle.jac_plain.specs.Shown.{worlds_of};
 use jac_keep::{Keeper, Stop, Work};
 use jac_lang::{App, Expr, Group, ModelDef, Models, PlainEnv};
 use jac_plain::Ctx;
-use jac_pruned::{At, Support, eval_at, is_true, record_stands};
+use jac_pruned::{Support, WorldContext, eval_at, is_true, record_stands};
 use jac_value::{Id, id_model};
 use jac_world::{Assignment, Label, Steps};
 use std::sync::ledger::Ledger;
@@ -90,7 +90,7 @@ fn policy_holds<K: Keeper>(
         around: None,
     };
     let env = PlainEnv::empty(work.alloc);
-    let at = At {
+    let at = WorldContext {
         app,
         ctx: &ctx,
         assignment: a,

@@ -7,12 +7,12 @@ ghost use Rattle.jac_world.specs.World.{shown_by, holds, names};
 ghost use Rattle.jac_lang.specs.Syntax.{Application};
 ghost use Rattle.jac_plain.specs.Requests.{Worlds};
 ghost use Rattle.jac_pruned.specs.Consulted.{Grows};
-ghost use Rattle.jac_recall.specs.Recalled.{recall, watched_in, watches};
+ghost use Rattle.jac_policy_cache.specs.Memo.{recall, watched_in, watches};
 ghost use Rattle.jac_resolve.specs.Room.{AreLocalAnswers};
-ghost use Rattle.jac_resolve.specs.Recalled.{AreRight, Grown, IsRight};
+ghost use Rattle.jac_resolve.specs.RightMemo.{AreRight, Grown, IsRight};
 
+use jac_policy_cache::{Labels, MemoEntry, PolicyMemo};
 use jac_pruned::Support;
-use jac_recall::{Answers, Known, Labels};
 use jac_value::Memory;
 use jac_world::Label;
 use std::alloc::Global;
@@ -20,10 +20,10 @@ use std::collections::BTreeMap;
 
 // Remembers an answer of the label, which then watches all labels that were consulted.
 pub(crate) fn remember(
-    answers: &mut Answers,
+    answers: &mut PolicyMemo,
     alloc: Global,
     label: Label,
-    known: Known,
+    known: MemoEntry,
 ) -> Result<(), Memory>
     ensures right { (app : Application) (worlds : Worlds) (viewer : Option ℕ)
         → AreRight app worlds viewer answers.old → IsRight app worlds viewer label known
@@ -41,7 +41,7 @@ pub(crate) fn remember(
 }
 
 /// Adds all labels that were consulted for what is remembered.
-pub fn add_consulted(answers: &Answers, consulted: &mut Support) -> Result<(), Memory>
+pub fn add_consulted(answers: &PolicyMemo, consulted: &mut Support) -> Result<(), Memory>
     ensures added { OnOk result ((k j : ℕ) → watches answers.now k j ≡ true →
         shown_by consulted.new k ≡ true) }
     ensures grows { Grows consulted.old consulted.new }

@@ -4,7 +4,7 @@ use Rattle.jac_value.specs.declared.value.Kind.{Kind}
 use Rattle.jac_rows.specs.Good.{ModelShape}
 use Rattle.jac_rows.specs.declared.state.State.{State}
 use Rattle.jac_keep.specs.Attaching.{Attaches}
-use Rattle.jac_keep.specs.Kept.{changed_state}
+use Rattle.jac_keep.specs.ChangedState.{changed_state}
 use Rattle.jac_keep.specs.Reshaping.{widened_state, Reshapes}
 use Rattle.jac_keep.specs.Schema.{IsSchema, IsFit, shapes_by}
 use Rattle.jac_keep.specs.declared.alteration.Change.{Change}

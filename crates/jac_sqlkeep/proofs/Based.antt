@@ -12,18 +12,18 @@ use Rattle.jac_rows.specs.Tables.{rows_of}
 use Rattle.jac_rows.specs.declared.row.Row.{Row}
 use Rattle.jac_rows.specs.declared.state.State.{State}
 use Rattle.jac_keep.specs.declared.alteration.Change.{Change}
-use Rattle.jac_keep.specs.Kept.{changed_state}
+use Rattle.jac_keep.specs.ChangedState.{changed_state}
 use Rattle.jac_keep.specs.Records.{alternatives}
-use Rattle.jac_keep.specs.Holding.{holders}
-use Rattle.jac_lines.specs.Facts.{Fact}
+use Rattle.jac_keep.specs.MatchingRecords.{holders}
+use Rattle.jac_sql_spec.specs.Facts.{Fact}
 use Rattle.jac_keep.specs.Reshaping.{widened_state}
 use Rattle.jac_keep.specs.Schema.{IsFit, shapes_by}
 use Rattle.jac_keep.proofs.SchemaLaws.{length_shapes, empties_fit}
-use Rattle.jac_lines.specs.Told.{told, tables_in, schema_in}
-use Rattle.jac_lines.specs.Statements.{statements_with}
-use Rattle.jac_lines.specs.Telling.{empty_state, IsAllCommitted, ReadsTold, AppliesTold, ReshapesTold, CanBeStored}
-use Rattle.jac_lines.specs.Transaction.{Transacts, EndsCommitted}
-use Rattle.jac_lines.proofs.Kept.{reshape_told}
+use Rattle.jac_sql_spec.specs.Told.{told, tables_in, schema_in}
+use Rattle.jac_sql_spec.specs.Statements.{statements_with}
+use Rattle.jac_sql_spec.specs.Telling.{empty_state, IsAllCommitted, ReadsTold, AppliesTold, ReshapesTold, CanBeStored}
+use Rattle.jac_sql_spec.specs.Transaction.{Transacts, EndsCommitted}
+use Rattle.jac_sql_spec.proofs.Kept.{reshape_told}
 use Rattle.jac_sqlkeep.specs.Based.{Based, based_keeper, ReadsBased, AppliesBased, ReshapesBased, OpensBased}
 
 never : {A : Type 0} → IsTrue false → A

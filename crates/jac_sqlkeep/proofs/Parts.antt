@@ -10,7 +10,7 @@ use Rattle.sqlite_schema.specs.declared.schema.Kind.{Kind}
 use Rattle.sqlite_schema.specs.declared.schema.Kind.TheVariants.{Integer, Text, Blob}
 use Rattle.sqlite_schema.specs.declared.schema.Schema.{Schema}
 use Rattle.sqlite_schema.specs.declared.schema.Table.{Table}
-use Rattle.jac_lines.specs.Tables.{two_tables, meta, rec, only_key}
+use Rattle.jac_sql_spec.specs.Tables.{two_tables, meta, rec, only_key}
 use Rattle.jac_sqlkeep.specs.Form.{column_of, rec_columns, IsPlainTable}
 
 pub order_is : (o : Order) → o.digits ≡ 0 → o ≡ plain

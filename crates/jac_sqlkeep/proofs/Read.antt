@@ -6,16 +6,16 @@ use Rattle.sqlite_value.specs.Order.{Row as Values, column}
 use Rattle.sqlite_value.specs.declared.value.Value.TheVariants.{Blob}
 use Rattle.sqlite_trees.specs.declared.store.Store.{Ghosts}
 use Rattle.sqlite_schema.specs.declared.schema.Schema.{Schema}
-use Rattle.jac_lines.specs.Tables.{no_tables}
+use Rattle.jac_sql_spec.specs.Tables.{no_tables}
 use Rattle.sqlite.specs.declared.error.Error.{Error}
 use Rattle.sqlite.specs.State.{Shown, QueriesRow}
 use Rattle.sqlite.specs.Held.{Held, state}
 use Rattle.jac_value.specs.declared.value.Kind.{Kind}
 use Rattle.jac_rows.specs.declared.row.Row.{Row}
-use Rattle.jac_stored.specs.Faults.{IsIdOf}
-use Rattle.jac_lines.specs.Statements.{SqlStatement, reading}
-use Rattle.jac_lines.specs.Founding.{IsNumberAsked, IsFrom}
-use Rattle.jac_lines.specs.Reading.{Each, IsRowIn, IsModelRow, AreShown}
+use Rattle.jac_row_codec.specs.Faults.{IsIdOf}
+use Rattle.jac_sql_spec.specs.Statements.{SqlStatement, reading}
+use Rattle.jac_sql_spec.specs.Founding.{IsNumberAsked, IsFrom}
+use Rattle.jac_sql_spec.specs.Reading.{Each, IsRowIn, IsModelRow, AreShown}
 
 -- the rows so far, before the rows of the values from a place on, are those of all values
 pub record MadeTo (Is : Values → Row → Type 0) (found : List Values) (at : ℕ) (made : List Row) : Type 0 where
@@ -37,7 +37,7 @@ module _ (Is : Values → Row → Type 0) (found : List Values) where
   pub each_end : (at : ℕ) (made : List Row) → length found ≤ at → MadeTo Is found at made → Each Is found made
   each_end at made behind so = subst (Each Is found) (append-nil made) (so.leads [] (subst (λ (l : List Values). Each Is l []) (sym (drop_all at found behind)) tt))
 
--- a row behind its id
+-- a row after its id
 pub model_row : (model : ℕ) (kinds : List Kind) (values : Values) (jid : List ℕ) (id : ℕ) → column values 0 ≡ Blob jid → IsIdOf jid model id
     → (r : Result Row Error) → IfOk r (IsRowIn 1 2 kinds values id) → IfOk r (IsModelRow model kinds values)
 model_row model kinds values jid id stored spelled (Ok row) rest =

@@ -6,12 +6,12 @@ use Rattle.sqlite.specs.State.{HasCleanDisk, IsLive}
 use Rattle.jac_value.specs.declared.value.Kind.{Kind}
 use Rattle.jac_keep.specs.Schema.{IsFit, shapes_by}
 use Rattle.jac_keep.proofs.SchemaLaws.{length_shapes}
-use Rattle.jac_lines.specs.Founding.{Finds}
-use Rattle.jac_lines.specs.Tables.{two_tables}
-use Rattle.jac_lines.specs.Telling.{IsAllCommitted}
-use Rattle.jac_lines.specs.Testing.{ShowsKey, ShowsStored}
-use Rattle.jac_lines.specs.Told.{told}
-use Rattle.jac_lines.proofs.Reopened.{other_stored, reopened_kept, reopened_schema, reopened_fit}
+use Rattle.jac_sql_spec.specs.Founding.{Finds}
+use Rattle.jac_sql_spec.specs.Tables.{two_tables}
+use Rattle.jac_sql_spec.specs.Telling.{IsAllCommitted}
+use Rattle.jac_sql_spec.specs.Testing.{ShowsKey, ShowsStored}
+use Rattle.jac_sql_spec.specs.Told.{told}
+use Rattle.jac_sql_spec.proofs.Reopened.{other_stored, reopened_kept, reopened_schema, reopened_fit}
 use Rattle.jac_sqlkeep.specs.Based.{based_keeper, OpensBased}
 use Rattle.jac_sqlkeep.proofs.Based.{opens_told, opens_other}
 

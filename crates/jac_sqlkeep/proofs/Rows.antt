@@ -1,4 +1,4 @@
--- Rows that an earlier run stored, one behind another.
+-- Rows that an earlier run stored, one after another.
 use Rattle.std.proofs.Common.{◌≡◌, refl, sym, ap, subst, ◌∙◌, ℕ, zero, suc, ◌+◌, ◌<◌, ◌≤◌, Bool, true, false, not, ◌&&◌, ◌||◌, ◌==◌, List, [], ◌∷◌, ◌++◌, length, get_or, Option, Some, None, IsSomeAnd, slice_get, unwrap_or, Result, Ok, Err, IfOk, OnOk, OnErr, IsErr, pos, arith}
 use Rattle.std.specs.List.{AllByRecursion}
 use Rattle.std.specs.Bool.{beq}
@@ -16,15 +16,15 @@ use Rattle.jac_value.specs.declared.value.Kind.{Kind}
 use Rattle.jac_world.specs.World.{IsApart}
 use Rattle.jac_rows.specs.Good.{ModelShape, IsNext, IsRecord, IsShaped}
 use Rattle.jac_rows.specs.declared.row.Row.{Row}
-use Rattle.jac_stored.specs.Faults.{IsIdOf}
-use Rattle.jac_stored.specs.Spelling.{guard_bytes}
+use Rattle.jac_row_codec.specs.Faults.{IsIdOf}
+use Rattle.jac_row_codec.specs.Spelling.{guard_bytes}
 use Rattle.jac_keep.specs.Schema.{shapes_by}
-use Rattle.jac_lines.specs.Reading.{IsRowIn}
-use Rattle.jac_lines.specs.Founding.{IsNumberAsked}
-use Rattle.jac_lines.specs.Testing.{MovesOn, ReadsOn, IsStoredRow, AreLinesOf, ShowsRowids, ShowsLines, ShowsStored}
-use Rattle.jac_lines.proofs.Gathered.{Gathered, gathered_start, gathered_next, gathered_end}
-use Rattle.jac_lines.proofs.Reopened.{stored_shown}
-use Rattle.jac_lines.proofs.Sound.{narrow_cells, id_room}
+use Rattle.jac_sql_spec.specs.Reading.{IsRowIn}
+use Rattle.jac_sql_spec.specs.Founding.{IsNumberAsked}
+use Rattle.jac_sql_spec.specs.Testing.{MovesOn, ReadsOn, IsStoredRow, AreLinesOf, ShowsRowids, ShowsLines, ShowsStored}
+use Rattle.jac_sql_spec.proofs.Gathered.{Gathered, gathered_start, gathered_next, gathered_end}
+use Rattle.jac_sql_spec.proofs.Reopened.{stored_shown}
+use Rattle.jac_sql_spec.proofs.Sound.{narrow_cells, id_room}
 
 -- what a question showed, where the rows passed a test
 pub tested : {V E Q : Type 0} (old new : Sql) (text : List ℕ) (items : V → List Values) (P : List Values → Type 0) → ((found : List Values) → Shown text [] old new found → P found → Q)
@@ -96,7 +96,7 @@ stored_row_is kinds nested number model v id jid ks stored is known numbered wid
     have_kinds_of : List Kind → Row → Bool
     have_kinds_of ks r = Rattle.jac_rows.specs.Good.have_kinds ks r.cells
 
--- ---- a row behind the others
+-- ---- a row after the others
 
 pub reads_on_is : (shapes : List ModelShape) (number model id : ℕ) (guards : List (List (ℕ × Bool))) (v : Values) (next_model : ℕ) (row : Row) (before : List (List (ℕ × Bool))) (end_model end_id : ℕ) (end_guards : List (List (ℕ × Bool)))
     → column v 0 ≡ Int (pos next_model) → IsStoredRow shapes number next_model v row → MovesOn model id guards next_model row.id before → end_model ≡ next_model → end_id ≡ row.id → column v 2 ≡ Int (pos (length before))

@@ -17,9 +17,9 @@ use Rattle.sqlite.proofs.InsideLemmas.{inside_keeps, keeps_then}
 use Rattle.sqlite.proofs.Callers.{survives_begin}
 use Rattle.jac_rows.specs.declared.row.Row.{Row as Kept}
 use Rattle.jac_keep.specs.declared.alteration.Alteration.{Alteration}
-use Rattle.jac_lines.specs.Founding.{Tells, FindsSchema}
-use Rattle.jac_lines.specs.Statements.{SqlStatement, reading, removal, addition, additions, replacement, replacements}
-use Rattle.jac_lines.specs.Transaction.{Ran, Inside, Leaves, Transacts, EndsCommitted}
+use Rattle.jac_sql_spec.specs.Founding.{Tells, FindsSchema}
+use Rattle.jac_sql_spec.specs.Statements.{SqlStatement, reading, removal, addition, additions, replacement, replacements}
+use Rattle.jac_sql_spec.specs.Transaction.{Ran, Inside, Leaves, Transacts, EndsCommitted}
 
 pub survives_same : (a : State) (P : Trees → Type 0) → Survives a a P
 survives_same a P = record {
@@ -34,7 +34,7 @@ survives_same a P = record {
 pub keeps_same : (a : State) → KeepsCommit a a
 keeps_same a = record { was_open = λ h. h; committed = λ _. refl }
 
--- the next alternative, and those behind it
+-- the next alternative, and those after it
 pub next_alternative : (rows : List Kept) (alt : ℕ) (row : Kept) → alt < length rows → row ≡ get_or rows alt row
     → additions alt (drop alt rows) ≡ addition alt row ∷ additions (alt + 1) (drop (alt + 1) rows)
 next_alternative rows alt row within is =
@@ -114,7 +114,7 @@ module _ {S : Type 0} (g : Ghosts S) where
   pub halfway_start : (xs : List SqlStatement) (a : Held S) → Halfway xs xs a a
   halfway_start xs a = record { goes = λ _ within. (within, λ _ ran. ran); kept = λ _. keeps_same (state g a); survives = survives_same (state g a) _ }
 
-  -- behind some that ran
+  -- after some that ran
   pub halfway_behind : {T : Type 0} (xs left : List SqlStatement) (a b : Held S) (t : T) → Inside g xs a b (Ok t) → Halfway (xs ++ left) left a b
   halfway_behind xs left a b t one = record {
     goes = λ clean within. let ran = one.ran clean within in (stays xs a b ran within, λ end more. ran_on xs left a b end ran more);

@@ -7,10 +7,10 @@ use Rattle.jac_value.specs.declared.value.Kind.{Kind}
 use Rattle.jac_rows.specs.Good.{IsSound}
 use Rattle.jac_rows.specs.declared.state.State.{State}
 use Rattle.jac_keep.specs.declared.alteration.Change.{Change}
-use Rattle.jac_keep.specs.Kept.{changed_state}
+use Rattle.jac_keep.specs.ChangedState.{changed_state}
 use Rattle.jac_keep.specs.Reshaping.{widened_state}
 use Rattle.jac_keep.specs.Schema.{IsFit, shapes_by}
-use Rattle.jac_lines.specs.Told.{told, schema_in}
+use Rattle.jac_sql_spec.specs.Told.{told, schema_in}
 
 -- the kinds of its models' fields, whether its connection is open, the schema text that it has,
 -- whether it tells its state, and its state

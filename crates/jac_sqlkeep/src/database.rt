@@ -5,12 +5,12 @@ ghost use Rattle.sqlite.specs.State.{IsLive};
 ghost use Rattle.jac_value.specs.Ids.{model_of_id};
 ghost use Rattle.jac_rows.specs.Good.{IsNext, IsSound};
 ghost use Rattle.jac_rows.specs.Tables.{rows_of};
-ghost use Rattle.jac_keep.specs.Kept.{changed_state};
+ghost use Rattle.jac_keep.specs.ChangedState.{changed_state};
 ghost use Rattle.jac_keep.specs.Records.{alternatives};
-ghost use Rattle.jac_keep.specs.Holding.{holders};
+ghost use Rattle.jac_keep.specs.MatchingRecords.{holders};
 ghost use Rattle.jac_keep.specs.Reshaping.{widened_state};
 ghost use Rattle.jac_keep.specs.Schema.{IsFit, shapes_by};
-ghost use Rattle.jac_lines.specs.Tables.{no_tables, two_tables};
+ghost use Rattle.jac_sql_spec.specs.Tables.{no_tables, two_tables};
 ghost use Rattle.jac_sqlkeep.specs.Based.{ReadsBased, AppliesBased, ReshapesBased, OpensBased};
 
 use crate::cause::{CORRUPT, NO_MEMORY, Unfit};
@@ -38,7 +38,7 @@ pub struct Database<S: Alter> {
 impl<S: Alter> Model for Database<S> {
     ghost use Rattle.std.specs.Prelude.{◌≡◌, IsTrue, false, length};
     ghost use Rattle.sqlite.specs.Held.{state};
-    ghost use Rattle.jac_lines.specs.Telling.{IsAllCommitted};
+    ghost use Rattle.jac_sql_spec.specs.Telling.{IsAllCommitted};
     ghost use Rattle.jac_sqlkeep.specs.Based.{Based, based_keeper};
 
     ghost Value = { Based };

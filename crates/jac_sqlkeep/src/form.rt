@@ -3,7 +3,7 @@ ghost use Rattle.std.specs.Prelude.{◌≡◌, ◌∷◌, [], true};
 ghost use Rattle.sqlite_value.specs.Keys.{plain};
 ghost use Rattle.sqlite.specs.Held.{state};
 ghost use Rattle.sqlite.specs.State.{IsLive};
-ghost use Rattle.jac_lines.specs.Tables.{two_tables, meta, rec, only_key};
+ghost use Rattle.jac_sql_spec.specs.Tables.{two_tables, meta, rec, only_key};
 ghost use Rattle.jac_sqlkeep.specs.Form.{column_of, rec_columns, IsPlainTable};
 
 use sqlite::{Alter, Connection};

@@ -6,12 +6,12 @@ ghost use Rattle.sqlite_value.specs.declared.value.Value.TheVariants.{Int};
 ghost use Rattle.sqlite.specs.Held.{state};
 ghost use Rattle.sqlite.specs.State.{HasCleanDisk};
 ghost use Rattle.jac_rows.specs.Good.{IsNext};
-ghost use Rattle.jac_lines.specs.Founding.{HasNumber, IsNumberAsked, IsFrom, FindsSchema, Tells};
-ghost use Rattle.jac_lines.specs.Statements.{founding, numbering, reshaping, settings};
-ghost use Rattle.jac_lines.specs.Tables.{no_tables};
-ghost use Rattle.jac_lines.specs.Telling.{IsAllCommitted, ReadsTold};
-ghost use Rattle.jac_lines.specs.Testing.{IsOneKey, ShowsKey};
-ghost use Rattle.jac_lines.specs.Transaction.{Inside, Transacts, EndsCommitted};
+ghost use Rattle.jac_sql_spec.specs.Founding.{HasNumber, IsNumberAsked, IsFrom, FindsSchema, Tells};
+ghost use Rattle.jac_sql_spec.specs.Statements.{founding, numbering, reshaping, settings};
+ghost use Rattle.jac_sql_spec.specs.Tables.{no_tables};
+ghost use Rattle.jac_sql_spec.specs.Telling.{IsAllCommitted, ReadsTold};
+ghost use Rattle.jac_sql_spec.specs.Testing.{IsOneKey, ShowsKey};
+ghost use Rattle.jac_sql_spec.specs.Transaction.{Inside, Transacts, EndsCommitted};
 
 use crate::cause::{CORRUPT, NO_MEMORY, Unfit};
 use crate::step::run;
@@ -82,7 +82,7 @@ fn number_of(row: &Row) -> Option<u64>
     }
 }
 
-#[tactic(auto, unfolding(jac_lines::specs::Statements::numbering))]
+#[tactic(auto, unfolding(jac_sql_spec::specs::Statements::numbering))]
 fn set_number<S: Alter>(tx: &mut Transaction<'_, S>, number: u64) -> Result<(), Error>
     ensures same { tx.new.conn.ghost_name ≡ tx.old.conn.ghost_name }
     ensures inside { Inside S.Store (numbering number ∷ []) tx.old.conn.now tx.new.conn.now result }
@@ -109,7 +109,7 @@ pub fn set_meta<S: Alter>(
     }
 }
 
-#[tactic(auto, unfolding(jac_lines::specs::Statements::reshaping))]
+#[tactic(auto, unfolding(jac_sql_spec::specs::Statements::reshaping))]
 fn set_schema<S: Alter>(tx: &mut Transaction<'_, S>, number: u64, schema: &Txt) -> Result<(), Error>
     ensures same { tx.new.conn.ghost_name ≡ tx.old.conn.ghost_name }
     ensures inside { Inside S.Store (reshaping number schema.now ∷ []) tx.old.conn.now
@@ -139,7 +139,7 @@ fn is_nothing(schema: &Schema) -> bool
 }
 
 /// Tests that the table has one row, and that its key is 0.
-#[tactic(auto, unfolding(jac_lines::specs::Statements::key_reading))]
+#[tactic(auto, unfolding(jac_sql_spec::specs::Statements::key_reading))]
 pub fn test_key<S: Alter>(conn: &mut Connection<S>) -> Result<(), Unfit>
     ensures shown { HasCleanDisk (state S.Store conn.new)
         → OnOk result (ShowsKey S.Store conn.old conn.new) }
@@ -241,7 +241,7 @@ pub fn make_tables<S: Alter>(conn: &mut Connection<S>, schema: &Txt) -> Result<(
     }
 }
 
-#[tactic(auto, unfolding(jac_lines::specs::Statements::founding))]
+#[tactic(auto, unfolding(jac_sql_spec::specs::Statements::founding))]
 fn found<S: Alter>(tx: &mut Transaction<'_, S>, schema: &Txt) -> Result<(), Error>
     ensures same { tx.new.conn.ghost_name ≡ tx.old.conn.ghost_name }
     ensures inside { Inside S.Store (founding schema.now) tx.old.conn.now tx.new.conn.now result }

@@ -9,22 +9,22 @@ ghost use Rattle.sqlite.specs.State.{HasCleanDisk};
 ghost use Rattle.jac_rows.specs.declared.row.Row.{Row as Kept};
 ghost use Rattle.jac_value.specs.Ids.{model_of_id};
 ghost use Rattle.jac_rows.specs.Tables.{rows_of};
-ghost use Rattle.jac_stored.specs.Faults.{CanBeSpelled};
-ghost use Rattle.jac_stored.specs.Spelling.{guard_bytes, cells_bytes};
+ghost use Rattle.jac_row_codec.specs.Faults.{CanBeSpelled};
+ghost use Rattle.jac_row_codec.specs.Spelling.{guard_bytes, cells_bytes};
 ghost use Rattle.jac_keep.specs.Alterations.{ArePlaced};
 ghost use Rattle.jac_keep.specs.Records.{alternatives};
-ghost use Rattle.jac_lines.specs.Reading.{AreShown, Each, IsModelRow, IsRecordRow, IsRowIn};
-ghost use Rattle.jac_lines.specs.Statements.{model_reading, record_reading, removal, addition, replacement, replacements, statements_with};
-ghost use Rattle.jac_lines.specs.Stands.{AreNarrow};
-ghost use Rattle.jac_lines.specs.Telling.{IsAllCommitted, ReadsTold, CanAllBeSpelled, CanBeStored};
-ghost use Rattle.jac_lines.specs.Transaction.{Inside, Transacts, EndsCommitted};
+ghost use Rattle.jac_sql_spec.specs.Reading.{AreShown, Each, IsModelRow, IsRecordRow, IsRowIn};
+ghost use Rattle.jac_sql_spec.specs.Statements.{model_reading, record_reading, removal, addition, replacement, replacements, statements_with};
+ghost use Rattle.jac_sql_spec.specs.Stands.{AreNarrow};
+ghost use Rattle.jac_sql_spec.specs.Telling.{IsAllCommitted, ReadsTold, CanAllBeSpelled, CanBeStored};
+ghost use Rattle.jac_sql_spec.specs.Transaction.{Inside, Transacts, EndsCommitted};
 
 use crate::cause::{CORRUPT, NO_MEMORY};
 use crate::meta::set_meta;
 use crate::step::run;
 use jac_keep::{Alteration, Change};
+use jac_row_codec::{RowFault, Stored, decode_id, decode_row, encode_id, encode_row};
 use jac_rows::{Row, Rows};
-use jac_stored::{RowFault, Stored, decode_id, decode_row, encode_id, encode_row};
 use jac_value::{Id, Kind, Memory, Txt, id_model};
 use sqlite::types::ValueRef;
 use sqlite::{Alter, Connection, Error, ErrorCode, Row as Found, Transaction, params};
@@ -39,7 +39,7 @@ const REMOVE: &str = "DELETE FROM rec WHERE model = ?1 AND jid = ?2";
 const ADD: &str = "INSERT INTO rec(model, jid, alt, jvars, body) VALUES(?1, ?2, ?3, ?4, ?5)";
 
 /// All rows of the model, by rising id.
-#[tactic(auto, unfolding(jac_lines::specs::Statements::model_reading))]
+#[tactic(auto, unfolding(jac_sql_spec::specs::Statements::model_reading))]
 pub fn read_model<S: Alter>(
     alloc: Global,
     conn: &mut Connection<S>,
@@ -59,7 +59,7 @@ pub fn read_model<S: Alter>(
 }
 
 /// The alternatives of the record.
-#[tactic(auto, unfolding(jac_lines::specs::Statements::record_reading))]
+#[tactic(auto, unfolding(jac_sql_spec::specs::Statements::record_reading))]
 pub fn read_record<S: Alter>(
     alloc: Global,
     conn: &mut Connection<S>,
@@ -280,7 +280,7 @@ fn write_record<S: Alter>(
     Ok(())
 }
 
-#[tactic(auto, unfolding(jac_lines::specs::Statements::removal))]
+#[tactic(auto, unfolding(jac_sql_spec::specs::Statements::removal))]
 fn remove<S: Alter>(tx: &mut Transaction<'_, S>, id: Id) -> Result<(), Error>
     ensures same { tx.new.conn.ghost_name ≡ tx.old.conn.ghost_name }
     ensures inside { Inside S.Store (removal id ∷ []) tx.old.conn.now tx.new.conn.now result }
@@ -307,7 +307,7 @@ fn add<S: Alter>(
     }
 }
 
-#[tactic(auto, unfolding(jac_lines::specs::Statements::addition))]
+#[tactic(auto, unfolding(jac_sql_spec::specs::Statements::addition))]
 fn add_stored<S: Alter>(
     tx: &mut Transaction<'_, S>,
     id: Id,

@@ -1,6 +1,6 @@
 ghost use Rattle.std.specs.Prelude.{◌≡◌, ◌∷◌, []};
 ghost use Rattle.sqlite.specs.Values.{bound};
-ghost use Rattle.jac_lines.specs.Transaction.{Inside};
+ghost use Rattle.jac_sql_spec.specs.Transaction.{Inside};
 
 use sqlite::types::ValueRef;
 use sqlite::{Alter, Error, Transaction};

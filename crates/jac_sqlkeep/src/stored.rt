@@ -9,14 +9,14 @@ ghost use Rattle.jac_value.specs.Ids.{number_of_id};
 ghost use Rattle.jac_world.specs.World.{IsApart};
 ghost use Rattle.jac_rows.specs.Good.{IsNext};
 ghost use Rattle.jac_keep.specs.Schema.{shapes_by};
-ghost use Rattle.jac_lines.specs.Testing.{IsRowidAbove, AreRowidsAbove, MovesOn, ReadsOn, IsStoredRow, AreLinesOf, ShowsRowids, ShowsLines, ShowsStored};
+ghost use Rattle.jac_sql_spec.specs.Testing.{IsRowidAbove, AreRowidsAbove, MovesOn, ReadsOn, IsStoredRow, AreLinesOf, ShowsRowids, ShowsLines, ShowsStored};
 
 use crate::cause::{CORRUPT, NO_MEMORY, Unfit};
 use crate::meta::read_number;
 use crate::models::{is_nested, kinds_of};
 use crate::records::{blob_at, row_in};
+use jac_row_codec::decode_id;
 use jac_rows::{Row, Shape};
-use jac_stored::decode_id;
 use jac_value::{Id, is_narrow_id};
 use jac_world::Guard;
 use sqlite::types::ValueRef;
@@ -47,7 +47,7 @@ pub fn test_stored<S: Alter>(
 }
 
 // Tests that no rowid comes twice.
-#[tactic(auto, unfolding(jac_lines::specs::Statements::rowid_reading))]
+#[tactic(auto, unfolding(jac_sql_spec::specs::Statements::rowid_reading))]
 fn test_rowids<S: Alter>(conn: &mut Connection<S>) -> Result<(), Unfit>
     ensures shown { HasCleanDisk (state S.Store conn.new)
         → OnOk result (ShowsRowids S.Store conn.old conn.new) }
@@ -102,7 +102,7 @@ fn rowid_above(last: Option<i64>, values: &Found) -> Option<i64>
 }
 
 // Tests that the rows are those of tables of this shape.
-#[tactic(auto, unfolding(jac_lines::specs::Statements::all_reading))]
+#[tactic(auto, unfolding(jac_sql_spec::specs::Statements::all_reading))]
 fn test_rows<S: Alter>(
     alloc: Global,
     conn: &mut Connection<S>,
@@ -173,7 +173,7 @@ fn unfit_row(error: Error, at: usize) -> Unfit {
     }
 }
 
-// Reads the row behind those that were read.
+// Reads the row after those that were read.
 fn read_on(
     alloc: Global,
     shape: &Shape,
@@ -244,7 +244,7 @@ fn is_numbered(id: Id, number: u64) -> bool
     0 < request && request < u128::from(number)
 }
 
-// The record, where it is the last one or comes behind it, and the guards of its alternatives that
+// The record, where it is the last one or comes after it, and the guards of its alternatives that
 // were read.
 fn moved(alloc: Global, last: Last, model: u8, id: Id) -> Result<Last, Error>
     ensures { IfOk result (λ before. (before.model ≡ model) × (before.id ≡ id)

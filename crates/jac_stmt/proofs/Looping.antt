@@ -1,7 +1,7 @@
 -- A loop that runs statements through a work.
 use Rattle.std.proofs.Common.{◌≡◌, ◌≤◌, ℕ, length, IsTrue}
 use Rattle.jac_keep.specs.KeeperSeen.{KeeperSeen, IsLeft}
-use Rattle.jac_keep.specs.Worked.{IsTold}
+use Rattle.jac_keep.specs.WorkState.{IsTold}
 use Rattle.jac_keep.specs.declared.alteration.Alterations.{Alterations}
 use Rattle.jac_keep.specs.declared.work.WorkOver.{WorkOver}
 use Rattle.jac_write.specs.Writes.{StaysTold}

@@ -4,7 +4,7 @@ use Rattle.jac_value.specs.declared.value.Value.{Value}
 use Rattle.jac_facet.specs.Shape.{Shape}
 use Rattle.jac_lang.specs.Lookup.{same_text}
 
--- a place behind the first item, or the first where it is the one and there is none behind
+-- a place after the first item, or the first where it is the one and there is none after
 abbrev pub name_place_after : Bool → Option ℕ → Option ℕ
 name_place_after is_one (Some i) = Some (suc i)
 name_place_after true None = Some 0

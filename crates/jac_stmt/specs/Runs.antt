@@ -18,7 +18,7 @@ use Rattle.jac_plain.specs.Making.{MayRun, MayRunAll, MayChoose, with_env}
 use Rattle.jac_plain.specs.Statements.{Setting, Run, choose, scoped_run, with_binding, loop_of, leaves, leaves_all}
 use Rattle.jac_query.specs.Live.{live}
 use Rattle.jac_query.specs.declared.tuple.Tuple.{Tuple}
-use Rattle.jac_expr.specs.declared.here.Here.{Here}
+use Rattle.jac_expr.specs.declared.faceted_context.FacetedContext.{FacetedContext}
 use Rattle.jac_expr.specs.Seen.{env_at}
 use Rattle.jac_write.specs.Writes.{numbered_tables}
 use Rattle.jac_stmt.specs.declared.frame.Frame.{Frame}
@@ -46,7 +46,7 @@ run_at w f = record {
   pieces = leaves_seen w f.out;
 }
 
-abbrev pub setting_here : Here → (ℕ → Bool) → Setting
+abbrev pub setting_here : FacetedContext → (ℕ → Bool) → Setting
 setting_here here w = setting_at here.app.now here.ctx.now w
 
 -- where the test is true the run is what the step leaves, elsewhere it is as before; and tables
@@ -78,10 +78,10 @@ ExecutesAll app ctx ss pc old new =
     (λ w. holds w pc) old new
 
 -- the same of a statement that stands here
-abbrev pub ExecutesHere : Here → Statement → Faceted → Faceted → Type 0
+abbrev pub ExecutesHere : FacetedContext → Statement → Faceted → Faceted → Type 0
 ExecutesHere here s old new = Executes here.app.now here.ctx.now s here.pc.now old new
 
-abbrev pub ExecutesAllHere : Here → Statements → Faceted → Faceted → Type 0
+abbrev pub ExecutesAllHere : FacetedContext → Statements → Faceted → Faceted → Type 0
 ExecutesAllHere here ss old new = ExecutesAll here.app.now here.ctx.now ss here.pc.now old new
 
 abbrev mutual

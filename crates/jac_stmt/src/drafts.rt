@@ -3,7 +3,7 @@ ghost use Rattle.std.specs.Prelude.{◌≡◌, ◌<◌, ◌≤◌, [], ◌∷◌
 ghost use Rattle.jac_expr.specs.Seen.{env_at, world_here};
 ghost use Rattle.jac_expr.specs.Tupled.{all_at};
 ghost use Rattle.jac_facet.specs.Shape.{Shape, at};
-ghost use Rattle.jac_keep.specs.Worked.{state_of, IsTold, ReadsWork};
+ghost use Rattle.jac_keep.specs.WorkState.{state_of, IsTold, ReadsWork};
 ghost use Rattle.jac_lang.specs.Lookup.{fields_at};
 ghost use Rattle.jac_lang.specs.Mirror.{application_of, assigned_of, one_assigned_of};
 ghost use Rattle.jac_plain.specs.Expressions.{mean};
@@ -13,7 +13,7 @@ ghost use Rattle.jac_world.specs.World.{holds};
 ghost use Rattle.jac_write.specs.Writes.{fitted_from, sets_at};
 ghost use Rattle.jac_stmt.specs.Drafts.{placed_sets, put_raw};
 
-use jac_expr::{Env, Here, eval};
+use jac_expr::{Env, FacetedContext, eval};
 use jac_facet::{Facet, Facets};
 use jac_keep::{Keeper, Stop, Work};
 use jac_lang::{App, ModelDef, Public, Publics, field_of, kind_of};
@@ -26,7 +26,7 @@ use std::sync::ledger::Ledger;
 /// The values that are set, each with its field's number. A field that the model hasn't falls away.
 pub(crate) fn read_sets<K: Keeper, L: Ledger>(
     work: &mut Work<'_, K>,
-    here: &Here<'_>,
+    here: &FacetedContext<'_>,
     env: &Env,
     model: u8,
     cells: &Publics,
@@ -56,7 +56,7 @@ pub(crate) fn read_sets<K: Keeper, L: Ledger>(
 // Adds the value that is set, if the model has the field.
 fn read_set<K: Keeper, L: Ledger>(
     work: &mut Work<'_, K>,
-    here: &Here<'_>,
+    here: &FacetedContext<'_>,
     env: &Env,
     model: u8,
     set: &Public,
@@ -89,7 +89,7 @@ fn read_set<K: Keeper, L: Ledger>(
 /// The cells of a new record: the values that are set, and defaults.
 pub(crate) fn new_cells<K: Keeper, L: Ledger>(
     work: &mut Work<'_, K>,
-    here: &Here<'_>,
+    here: &FacetedContext<'_>,
     env: &Env,
     model: u8,
     cells: &Publics,

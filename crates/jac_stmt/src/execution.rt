@@ -3,7 +3,7 @@
 ghost use Rattle.std.specs.Prelude.{◌≡◌, ◌<◌, ◌≤◌, ◌^◌, ◌&&◌, length, None, IfSome, OnOk, IsTrue, Some, ℕ, Bool, List};
 ghost use Rattle.jac_facet.specs.Leaves.{leaves_seen};
 ghost use Rattle.jac_facet.specs.Shape.{at};
-ghost use Rattle.jac_keep.specs.Worked.{state_of, IsTold, WritesWork};
+ghost use Rattle.jac_keep.specs.WorkState.{state_of, IsTold, WritesWork};
 ghost use Rattle.jac_lang.specs.Lookup.{model_place};
 ghost use Rattle.jac_lang.specs.Mirror.{application_of, assigned_of, binders_of, expression_of, question_of, statement_of, statements_of};
 ghost use Rattle.jac_lang.specs.Syntax.{Statement};
@@ -19,7 +19,7 @@ use crate::assignments::assign;
 use crate::drafts::{new_cells, read_sets};
 use crate::loops::{looped, new_id};
 use crate::pieces::{add_missing, add_value};
-use jac_expr::{Ctx, Env, Here, bind_tuple, eval, is_true, tuples};
+use jac_expr::{Ctx, Env, FacetedContext, bind_tuple, eval, is_true, tuples};
 use jac_facet::Facet;
 use jac_keep::{Keeper, Stop, Work};
 use jac_lang::{App, Binders, Expr, Publics, Query, Stmt, Stmts, model_of};
@@ -46,7 +46,7 @@ struct Creation<'s> {
 /// the pieces may hold a part of what was run.
 pub fn exec<K: Keeper, L: Ledger>(
     work: &mut Work<'_, K>,
-    here: &Here<'_>,
+    here: &FacetedContext<'_>,
     frame: &mut Frame,
     stmts: &Stmts,
     splits: &mut Steps<L>,
@@ -67,7 +67,7 @@ pub fn exec<K: Keeper, L: Ledger>(
         this: None,
         ..*here.ctx
     };
-    let here = Here { ctx: &ctx, ..*here };
+    let here = FacetedContext { ctx: &ctx, ..*here };
     execute_all(work, &here, frame, stmts, splits)?;
     Ok(())
 }
@@ -76,7 +76,7 @@ pub fn exec<K: Keeper, L: Ledger>(
 #[cycle(exec)]
 fn execute_all<K: Keeper, L: Ledger>(
     work: &mut Work<'_, K>,
-    here: &Here<'_>,
+    here: &FacetedContext<'_>,
     frame: &mut Frame,
     stmts: &Stmts,
     splits: &mut Steps<L>,
@@ -105,7 +105,7 @@ fn execute_all<K: Keeper, L: Ledger>(
 #[cycle(exec)]
 fn execute<K: Keeper, L: Ledger>(
     work: &mut Work<'_, K>,
-    here: &Here<'_>,
+    here: &FacetedContext<'_>,
     frame: &mut Frame,
     stmt: &Stmt,
     splits: &mut Steps<L>,
@@ -163,7 +163,7 @@ fn execute<K: Keeper, L: Ledger>(
 // Adds the text of the value to the page.
 fn execute_put<K: Keeper, L: Ledger>(
     work: &mut Work<'_, K>,
-    here: &Here<'_>,
+    here: &FacetedContext<'_>,
     frame: &mut Frame,
     e: &Expr,
     splits: &mut Steps<L>,
@@ -185,7 +185,7 @@ fn execute_put<K: Keeper, L: Ledger>(
 // Adds the HTML escape of the value's text.
 fn execute_escape<K: Keeper, L: Ledger>(
     work: &mut Work<'_, K>,
-    here: &Here<'_>,
+    here: &FacetedContext<'_>,
     frame: &mut Frame,
     e: &Expr,
     splits: &mut Steps<L>,
@@ -207,7 +207,7 @@ fn execute_escape<K: Keeper, L: Ledger>(
 // Leads to the value's text.
 fn execute_redirect<K: Keeper, L: Ledger>(
     work: &mut Work<'_, K>,
-    here: &Here<'_>,
+    here: &FacetedContext<'_>,
     frame: &mut Frame,
     e: &Expr,
     splits: &mut Steps<L>,
@@ -229,7 +229,7 @@ fn execute_redirect<K: Keeper, L: Ledger>(
 // Makes the page one that isn't there.
 fn execute_missing<K: Keeper, L: Ledger>(
     work: &mut Work<'_, K>,
-    here: &Here<'_>,
+    here: &FacetedContext<'_>,
     frame: &mut Frame,
     splits: &mut Steps<L>,
 ) -> Result<(), Stop>
@@ -248,7 +248,7 @@ fn execute_missing<K: Keeper, L: Ledger>(
 // Changes the innermost binding of the name.
 fn execute_assign<K: Keeper, L: Ledger>(
     work: &mut Work<'_, K>,
-    here: &Here<'_>,
+    here: &FacetedContext<'_>,
     frame: &mut Frame,
     name: &Txt,
     e: &Expr,
@@ -272,7 +272,7 @@ fn execute_assign<K: Keeper, L: Ledger>(
 #[cycle(exec)]
 fn execute_let<K: Keeper, L: Ledger>(
     work: &mut Work<'_, K>,
-    here: &Here<'_>,
+    here: &FacetedContext<'_>,
     frame: &mut Frame,
     name: &Txt,
     e: &Expr,
@@ -300,7 +300,7 @@ fn execute_let<K: Keeper, L: Ledger>(
 #[cycle(exec)]
 fn execute_named<K: Keeper, L: Ledger>(
     work: &mut Work<'_, K>,
-    here: &Here<'_>,
+    here: &FacetedContext<'_>,
     frame: &mut Frame,
     name: &Txt,
     value: Facet<Value>,
@@ -335,7 +335,7 @@ fn execute_named<K: Keeper, L: Ledger>(
 #[cycle(exec)]
 fn execute_if<K: Keeper, L: Ledger>(
     work: &mut Work<'_, K>,
-    here: &Here<'_>,
+    here: &FacetedContext<'_>,
     frame: &mut Frame,
     c: &Expr,
     first: &Stmts,
@@ -367,7 +367,7 @@ fn execute_if<K: Keeper, L: Ledger>(
 #[cycle(exec)]
 fn execute_leaves<K: Keeper, L: Ledger>(
     work: &mut Work<'_, K>,
-    here: &Here<'_>,
+    here: &FacetedContext<'_>,
     frame: &mut Frame,
     leaves: &[(Guard, Value)],
     first: &Stmts,
@@ -391,7 +391,7 @@ fn execute_leaves<K: Keeper, L: Ledger>(
     ensures keeps { WritesWork K.seen work.old work.new result }
 {
     'leaves: for leaf in leaves {
-        let inside = Here {
+        let inside = FacetedContext {
             pc: &leaf.0,
             ..*here
         };
@@ -404,7 +404,7 @@ fn execute_leaves<K: Keeper, L: Ledger>(
 #[cycle(exec)]
 fn execute_leaf<K: Keeper, L: Ledger>(
     work: &mut Work<'_, K>,
-    here: &Here<'_>,
+    here: &FacetedContext<'_>,
     frame: &mut Frame,
     value: &Value,
     first: &Stmts,
@@ -439,7 +439,7 @@ fn execute_leaf<K: Keeper, L: Ledger>(
 #[cycle(exec)]
 fn execute_for<K: Keeper, L: Ledger>(
     work: &mut Work<'_, K>,
-    here: &Here<'_>,
+    here: &FacetedContext<'_>,
     frame: &mut Frame,
     query: &Query,
     body: &Stmts,
@@ -468,7 +468,7 @@ fn execute_for<K: Keeper, L: Ledger>(
 #[cycle(exec)]
 fn execute_tuples<K: Keeper, L: Ledger>(
     work: &mut Work<'_, K>,
-    here: &Here<'_>,
+    here: &FacetedContext<'_>,
     frame: &mut Frame,
     binders: &Binders,
     tuples: &[Tuple],
@@ -499,7 +499,7 @@ fn execute_tuples<K: Keeper, L: Ledger>(
 #[cycle(exec)]
 fn execute_tuple<K: Keeper, L: Ledger>(
     work: &mut Work<'_, K>,
-    here: &Here<'_>,
+    here: &FacetedContext<'_>,
     frame: &mut Frame,
     binders: &Binders,
     tuple: &Tuple,
@@ -524,7 +524,7 @@ fn execute_tuple<K: Keeper, L: Ledger>(
     match here.pc.meet(work.alloc, &tuple.guard)? {
         None => Ok(()),
         Some(within) => {
-            let inside = Here {
+            let inside = FacetedContext {
                 pc: &within,
                 ..*here
             };
@@ -539,7 +539,7 @@ fn execute_tuple<K: Keeper, L: Ledger>(
 #[cycle(exec)]
 fn execute_bound<K: Keeper, L: Ledger>(
     work: &mut Work<'_, K>,
-    here: &Here<'_>,
+    here: &FacetedContext<'_>,
     frame: &mut Frame,
     binders: &Binders,
     ids: &Ids,
@@ -564,7 +564,7 @@ fn execute_bound<K: Keeper, L: Ledger>(
     let outer = frame.env.as_slice().len();
     let ctx = looped(here.ctx, ids);
     bind_tuple(work.alloc, &mut frame.env, binders, ids)?;
-    let inside = Here { ctx: &ctx, ..*here };
+    let inside = FacetedContext { ctx: &ctx, ..*here };
     execute_all(work, &inside, frame, body, splits)?;
     frame.env.cut(outer);
     Ok(())
@@ -574,7 +574,7 @@ fn execute_bound<K: Keeper, L: Ledger>(
 #[cycle(exec)]
 fn execute_create<K: Keeper, L: Ledger>(
     work: &mut Work<'_, K>,
-    here: &Here<'_>,
+    here: &FacetedContext<'_>,
     frame: &mut Frame,
     creation: &Creation<'_>,
     splits: &mut Steps<L>,
@@ -606,7 +606,7 @@ fn execute_create<K: Keeper, L: Ledger>(
 #[cycle(exec)]
 fn execute_made<K: Keeper, L: Ledger>(
     work: &mut Work<'_, K>,
-    here: &Here<'_>,
+    here: &FacetedContext<'_>,
     frame: &mut Frame,
     creation: &Creation<'_>,
     model: u8,
@@ -654,7 +654,7 @@ fn execute_made<K: Keeper, L: Ledger>(
 // Changes the record that the value refers to; nothing where no model has the name.
 fn execute_update<K: Keeper, L: Ledger>(
     work: &mut Work<'_, K>,
-    here: &Here<'_>,
+    here: &FacetedContext<'_>,
     env: &Env,
     model: &Txt,
     e: &Expr,
@@ -684,7 +684,7 @@ fn execute_update<K: Keeper, L: Ledger>(
 // Takes the record away that the value refers to; nothing where no model has the name.
 fn execute_delete<K: Keeper, L: Ledger>(
     work: &mut Work<'_, K>,
-    here: &Here<'_>,
+    here: &FacetedContext<'_>,
     env: &Env,
     model: &Txt,
     e: &Expr,

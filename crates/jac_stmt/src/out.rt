@@ -48,7 +48,7 @@ impl Out {
         self.items
     }
 
-    /// Adds the piece behind all others.
+    /// Adds the piece after all others.
     pub(crate) fn push(&mut self, guard: Guard, piece: Piece) -> Result<(), Memory>
         ensures ok { OnOk result (self.new ≡ self.old ++ (guard, piece) ∷ []) }
         ensures err { OnErr result (self.new ≡ self.old) }

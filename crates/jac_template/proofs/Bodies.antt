@@ -8,7 +8,8 @@ use Rattle.jac_template.specs.Applications.{ExpandsStatement, ExpandsBody, Expan
 use Rattle.jac_template.specs.Faults.{Fault}
 use Rattle.jac_lang.specs.Untemplated.{are_untemplated, are_untemplated_views}
 
--- what the statements `left` expand to, behind those so far, all expand to; those so far are turned round
+-- what the statements `left` expand to, after those so far, all expand to; those so far are turned
+-- round
 pub record BodyLeads (all so_far left : Statements) : Type 0 where
   pub written : (out : Statements) → ExpandsBody left out → ExpandsBody all (body_onto so_far out)
   pub faulty : (f : Fault) → BodyFault left f → BodyFault all f

@@ -1,4 +1,4 @@
--- The pieces behind the first.
+-- The pieces after the first.
 use Rattle.std.proofs.Common.{◌≡◌, ◌<◌, ℕ, zero, suc, ◌+◌, ◌-◌, Bool, true, false, if◌then◌else◌, List, [], ◌∷◌, length, take, drop, Option, Some, None, refl, sym, ◌∙◌, ap, subst, arith}
 use Rattle.std.proofs.lemmas.List.{drop-drop}
 use Rattle.jac_template.specs.Pieces.{Piece, Cut, piece_cut, piece, begins_with, literal_length, content_length, tag_cut, first_cut, pieces_from}
@@ -34,7 +34,7 @@ sized b bytes = either (begins_with 123 123 (b ∷ bytes)) (begins_with 123 37 (
     either false true e k = tag_sized kinds.Control (drop 2 (b ∷ bytes)) (content_length 37 (drop 2 (b ∷ bytes)))
     either false false e k = rw (e, k) (omega arith)
 
--- fewer bytes are left behind the first piece
+-- fewer bytes are left after the first piece
 pub shorter : (left rest : List ℕ) → 0 < length left → length rest + (first_cut left).size ≡ length left → length rest < length left
 shorter [] rest some size = absurd (omega arith)
 shorter (b ∷ left) rest some size = let n = sized b left in omega (arith, n, size)
@@ -56,7 +56,7 @@ pub means_piece : (place : ℕ) (kind : Kind) (content : List ℕ) (c : Cut) (m 
 means_piece place kind content c m k e h =
     subst (λ (z : Kind). MeansAs z place c.content m) k (subst (λ (z : List ℕ). MeansAs kind place z m) e h)
 
--- the bytes behind a tag, counted from its content or from its first byte
+-- the bytes after a tag, counted from its content or from its first byte
 drop_two : (n : ℕ) (bytes : List ℕ) → drop n (drop 2 bytes) ≡ drop (2 + n) bytes
 drop_two n bytes = drop-drop n 2 bytes
 

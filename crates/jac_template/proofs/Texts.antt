@@ -93,7 +93,7 @@ mutual
   escaped_ends mark [] = tt
   escaped_ends mark (b ∷ bytes) = further_end b bytes (quoted_length mark bytes) (quoted_ends mark bytes)
 
--- behind a tag
+-- after a tag
 behind_tag_text : (kind : Kind) (a b : ℕ) (inside : List ℕ) (found : Option ℕ) → EndsAt inside found → IsUtf8 (a ∷ b ∷ inside)
     → IsUtf8 (drop (tag_cut kind inside found).size (a ∷ b ∷ inside))
 behind_tag_text kind a b inside (Some n) (most, is) text =

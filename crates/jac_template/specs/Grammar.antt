@@ -63,12 +63,12 @@ abbrev pub blocks_ended : List Block → Option (List Block)
 blocks_ended [] = None
 blocks_ended (b ∷ blocks) = Some blocks
 
--- the innermost block behind its `else`
+-- the innermost block after its `else`
 abbrev pub blocks_turned : List Block → Option (List Block)
 blocks_turned [] = None
 blocks_turned (b ∷ blocks) = if b.is_choice then Some (block b.place false ∷ blocks) else None
 
--- the blocks that are open behind a mark at this place, from the innermost one out; none where the
+-- the blocks that are open after a mark at this place, from the innermost one out; none where the
 -- mark may not stand there
 abbrev pub blocks_behind : ℕ → Mark → List Block → Option (List Block)
 blocks_behind place (Mark.put e) blocks = Some blocks

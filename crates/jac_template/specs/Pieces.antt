@@ -36,7 +36,7 @@ abbrev mutual
       option_map (λ n. n + 1) (if b == 34 then content_length mark bs else if b == 92
       then escaped_length mark bs else quoted_length mark bs)
 
-  -- from behind a backslash in a quoted text: whatever follows does not end it
+  -- from after a backslash in a quoted text: whatever follows does not end it
   pub escaped_length : ℕ → List ℕ → Option ℕ
   escaped_length mark [] = None
   escaped_length mark (b ∷ bs) = option_map (λ n. n + 1) (quoted_length mark bs)
@@ -50,7 +50,7 @@ pub record Cut : Type 0 where
 abbrev pub piece_cut : Kind → List ℕ → ℕ → Cut
 piece_cut kind content size = record { kind = kind; content = content; size = size }
 
--- a tag with these bytes behind its first two, and so many of them before its end
+-- a tag with these bytes after its first two, and so many of them before its end
 abbrev pub tag_cut : Kind → List ℕ → Option ℕ → Cut
 tag_cut kind inside (Some n) = piece_cut kind (take n inside) (n + 4)
 tag_cut kind inside None = piece_cut kinds.Endless [] (length inside + 2)

@@ -69,7 +69,7 @@ block_opened place opening p =
     if nat_lt (length p.blocks) 64 then Some (progress (open_block place opening p.body ∷ p.blocks)
     Statements.none) else None
 
--- the innermost block behind its `else`
+-- the innermost block after its `else`
 abbrev pub turned_in : ℕ → Opening → Statements → List OpenBlock → Statements → Option Progress
 turned_in place (Opening.first c) before blocks body =
     Some (progress (open_block place (Opening.second c (run_order body)) before ∷ blocks)
@@ -80,13 +80,13 @@ abbrev pub block_turned : List OpenBlock → Statements → Option Progress
 block_turned [] body = None
 block_turned (b ∷ blocks) body = turned_in b.place b.opening b.before blocks body
 
--- the innermost block behind its `end`
+-- the innermost block after its `end`
 abbrev pub block_closed : List OpenBlock → Statements → Option Progress
 block_closed [] body = None
 block_closed (b ∷ blocks) body =
     Some (progress blocks (Statements.more (statement b.opening (run_order body)) b.before))
 
--- behind a mark at this place; none where it may not stand there
+-- after a mark at this place; none where it may not stand there
 abbrev pub progress_after : ℕ → Mark → Progress → Option Progress
 progress_after place (Mark.put e) p = Some (progress p.blocks (Statements.more
     (Statement.put e) p.body))

@@ -68,7 +68,7 @@ fn expand_views(alloc: Global, views: Views) -> Result<Views, ViewFault>
     Ok(Views::from_vec(out))
 }
 
-// Puts the view with its templates expanded behind the others.
+// Puts the view with its templates expanded after the others.
 fn expand_view(alloc: Global, out: &mut Vec<View>, view: View) -> Result<(), TemplateFault>
     ensures view { OnOk result ((p : Page) × ExpandsView (page_of_view view) p
         × (are_untemplated p.body ≡ true) × (pages_of out.new.items ≡ pages_of out.old.items ++ p

@@ -12,7 +12,7 @@ pub fn expands_to_one()
         → ExpandsApplication a y → x ≡ y }
 {}
 
-/// A law: the sites of a view's creates are the same behind its expansion, since a template creates
+/// A law: the sites of a view's creates are the same after its expansion, since a template creates
 /// nothing.
 pub fn expansion_keeps_sites()
     ensures { (v : Page) (out : Page) → ExpandsView v out → sites out.body ≡ sites v.body }

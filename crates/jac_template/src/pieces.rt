@@ -27,7 +27,7 @@ pub struct Cut<'t> {
 enum Quoting {
     Outside,
     Quoted,
-    // Behind a backslash in a quoted text.
+    // After a backslash in a quoted text.
     Escaped,
 }
 

@@ -1,11 +1,11 @@
 //! A table that was read is held: the second read of the keeper within is to fail, so what is
-//! answered behind the first one was held.
+//! answered after the first one was held.
 ghost use Rattle.std.specs.Prelude.{IfOk, IsTrue};
 
-use jac_cached::CachedKeeper;
 use jac_io::Calls;
 use jac_keep::{Keeper, MemoryKeeper};
 use jac_rows::{State, Tables};
+use jac_table_cache::CachedKeeper;
 use jac_value::{Id, Memory, Value};
 use std::alloc::Global;
 use std::test::Fail;

@@ -5,7 +5,7 @@ use jac_forms::expr_of;
 use jac_keep::Work;
 use jac_lang::Expr;
 use jac_plain::Ctx;
-use jac_pruned::{At, PlainEnv, Support, eval_at};
+use jac_pruned::{PlainEnv, Support, WorldContext, eval_at};
 use jac_tree::read_tree;
 use jac_value::{Id, Value};
 use jac_world::{Assignment, Label};
@@ -31,7 +31,7 @@ fn value_at(alloc: Global, a: &Assignment, text: &str) -> Option<Value> {
     let mut work = Work::new(alloc, &mut keeper);
     let mut support = Support::empty(alloc);
     let env = PlainEnv::empty(alloc);
-    let at = At {
+    let at = WorldContext {
         app: &app,
         ctx: &ctx,
         assignment: a,

@@ -4,7 +4,7 @@ ghost use Rattle.std.specs.Prelude.{◌≡◌, ◌<◌, IsTrue};
 
 use crate::finder::{Finder, memory, new_finder};
 use crate::texts::{CALENDAR, app};
-use jac_expr::{Ctx, Env, Here, tuples};
+use jac_expr::{Ctx, Env, FacetedContext, tuples};
 use jac_forms::query_of;
 use jac_keep::{Keeper, MemoryKeeper, Stop, Work};
 use jac_lang::{App, Query};
@@ -107,7 +107,7 @@ fn answers_over<L: Ledger>(
     let env = Env::empty(alloc);
     let pc = Guard::empty(alloc);
     let ctx = nobody();
-    let here = Here {
+    let here = FacetedContext {
         app,
         ctx: &ctx,
         pc: &pc,

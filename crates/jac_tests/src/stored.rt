@@ -1,6 +1,6 @@
 //! A row and its bytes, worked out by hand.
+use jac_row_codec::{RowFault, decode_id, decode_row, encode_id, encode_row};
 use jac_rows::Row;
-use jac_stored::{RowFault, decode_id, decode_row, encode_id, encode_row};
 use jac_value::{Cells, Id, Kind, Memory, Txt, Value, loop_id_of};
 use jac_world::{Guard, Label};
 use std::alloc::Global;

@@ -13,7 +13,7 @@ use jac_lang::App;
 use jac_rows::{Row, State, Table, Tables};
 use jac_tree::read_tree;
 use jac_value::{Cells, Id, Memory, Txt, Value};
-use jac_why::{Reason, Scene, check_reason, why};
+use jac_why::{Reason, ViewerContext, check_reason, why};
 use jac_world::{Assignment, Label, Steps};
 use std::alloc::Global;
 use std::marker::Brand;
@@ -89,12 +89,12 @@ fn found<L: Ledger>(
     let app = app(alloc, text)?;
     let mut keeper = keeper(alloc).ok()?;
     let mut work = Work::new(alloc, &mut keeper);
-    let scene = Scene {
+    let context = ViewerContext {
         app: &app,
         viewer: None,
         labels,
     };
-    why(&mut work, &scene, hidden, evaluations).ok()
+    why(&mut work, &context, hidden, evaluations).ok()
 }
 
 // Whether the reason stands against the second note.
@@ -107,12 +107,12 @@ fn stands<L: Ledger>(
     let app = app(alloc, ONE)?;
     let mut keeper = keeper(alloc).ok()?;
     let mut work = Work::new(alloc, &mut keeper);
-    let scene = Scene {
+    let context = ViewerContext {
         app: &app,
         viewer: None,
         labels,
     };
-    check_reason(&mut work, &scene, Label(65536), reason, evaluations).ok()
+    check_reason(&mut work, &context, Label(65536), reason, evaluations).ok()
 }
 
 fn is_none(found: Option<Option<Reason>>) -> bool {

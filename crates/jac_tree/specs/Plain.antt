@@ -55,7 +55,7 @@ is_word word (atom a) = bytes_eq a word
 is_word word (text x) = false
 is_word word (list ts) = false
 
--- the trees of a list behind its head, where that is this word
+-- the trees of a list after its head, where that is this word
 abbrev pub tail_of : List ℕ → PlainTree → Option PlainTrees
 tail_of word (atom a) = None
 tail_of word (text x) = None

@@ -28,7 +28,7 @@ abbrev mutual
   printed_all PlainTrees.none = []
   printed_all (PlainTrees.more t ts) = printed_tree t ++ printed_after ts
 
-  -- the trees that stand behind another one
+  -- the trees that stand after another one
   pub printed_after : PlainTrees → List ℕ
   printed_after PlainTrees.none = []
   printed_after (PlainTrees.more t ts) = 32 ∷ (printed_tree t ++ printed_after ts)

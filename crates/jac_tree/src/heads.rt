@@ -16,7 +16,7 @@ pub fn is_word(tree: &Tree, word: &[u8]) -> bool
     }
 }
 
-/// What stands behind the head of a list, where that is this word.
+/// What stands after the head of a list, where that is this word.
 pub fn tail_of<'t>(tree: &'t Tree, word: &[u8]) -> Option<&'t Trees>
     ensures { option_map (λ ts. plain_all ts.now) result ≡ tail_of word.now (plain tree.now) }
 {

@@ -62,7 +62,7 @@ fn put_list(trees: &Trees, to: &mut String) -> Result<(), Memory>
     Ok(())
 }
 
-// The trees that stand behind another one.
+// The trees that stand after another one.
 #[cycle(print)]
 fn put_after(trees: &Trees, to: &mut String) -> Result<(), Memory>
     ensures { OnOk result (string_bytes to.new ≡ string_bytes to.old ++ printed_after

@@ -144,7 +144,7 @@ group-again at t = after IsGroup wants.Group at (group_in_trees at) (tail_of (co
 groups-again : (at : List ℕ) (k : ℕ) (ts : PlainTrees) → IfGot (each_in_trees group_in_tree at k ts) (AreRead group_in_tree trees_of_groups (count ts))
 groups-again at k ts = each-again IsGroup group_in_tree group_in_tree tree_of_group trees_of_groups refl (λ x xs. refl) group-again (λ to g h. h to) at k ts
 
--- the parts of a model are read again behind its name, from whatever child on
+-- the parts of a model are read again after its name, from whatever child on
 abbrev AreParts : Entity → Type 0
 AreParts m = (to : List ℕ) (k : ℕ) → entity_behind to m.nested k (PlainTree.atom m.name) (trees_of_parts m) ≡ got m
 

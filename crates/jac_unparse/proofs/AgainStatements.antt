@@ -161,7 +161,7 @@ create_again n name model cells b h k i l to =
     ∙ step (λ w. read_map (create name model n w) (statements_in_trees to 4 ss (next_site n))) set cells (i (child to 3))
     ∙ mapping (create name model n cells) (statements_in_trees to 4 ss (next_site n)) b (l to 4)
 
--- what stands behind the head, in each way that some statement takes it
+-- what stands after the head, in each way that some statement takes it
 record AreOperands (operands : StatementOperands) : Type 0 where
   single : (one : Single) → IfGot (operands.single one) IsSingle
   bind : (n : ℕ) → IfGot (operands.bind n) (IsCounted n)

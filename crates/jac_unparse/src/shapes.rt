@@ -36,7 +36,7 @@ pub fn number_tree(alloc: Global, number: i64) -> Result<Tree, Memory>
     Ok(Tree::Atom(Txt::from_string(digits)))
 }
 
-/// The tree, and behind it the others.
+/// The tree, and after it the others.
 pub fn more(alloc: Global, first: Tree, rest: Trees) -> Result<Trees, Memory>
     ensures { IfOk result (λ ts. plain_all ts ≡ PlainTrees.more (plain first) (plain_all rest)) }
 {

@@ -14,7 +14,7 @@ use Rattle.jac_rows.specs.declared.row.Row.{Row}
 use Rattle.jac_rows.specs.declared.state.State.{State}
 use Rattle.jac_plain.specs.Records.{plain_row, with_ids}
 use Rattle.jac_keep.specs.Alterations.{AreApart, ArePlaced, altered_rows, alternatives_named, overlaid, overlaid_from}
-use Rattle.jac_keep.specs.Kept.{changed_state}
+use Rattle.jac_keep.specs.ChangedState.{changed_state}
 use Rattle.jac_keep.specs.Records.{alternatives}
 use Rattle.jac_keep.specs.Reshaping.{widened_state}
 use Rattle.jac_keep.specs.Schema.{empties}

@@ -8,7 +8,7 @@ use Rattle.jac_lang.proofs.Places.{length-entities}
 use Rattle.jac_plain.specs.Models.{shapes_of}
 use Rattle.jac_rows.specs.Project.{project_at}
 use Rattle.jac_keep.specs.Alterations.{AreApart}
-use Rattle.jac_keep.specs.Kept.{changed_state}
+use Rattle.jac_keep.specs.ChangedState.{changed_state}
 use Rattle.jac_keep.specs.KeeperSeen.{IsLeft, KeeperSeen}
 use Rattle.jac_keep.specs.Reshaping.{widened_state}
 use Rattle.jac_keep.specs.Schema.{IsFit}

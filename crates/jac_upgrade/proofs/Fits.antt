@@ -21,7 +21,7 @@ use Rattle.jac_plain.specs.Models.{kinds_of_fields, shapes_of, shapes_of_models}
 use Rattle.jac_plain.specs.Records.{default_cells}
 use Rattle.jac_plain.proofs.GoodLaws.{kinds_shielded}
 use Rattle.jac_keep.specs.Alterations.{AreApart, alternatives_named, overlaid}
-use Rattle.jac_keep.specs.Kept.{changed_state}
+use Rattle.jac_keep.specs.ChangedState.{changed_state}
 use Rattle.jac_keep.specs.Records.{AreOf, alternatives}
 use Rattle.jac_keep.specs.Reshaping.{widened_state}
 use Rattle.jac_keep.specs.Schema.{IsFit, empties}

@@ -64,7 +64,7 @@ first_altered olds news m rows r a old new is one same renewed added =
       named = λ id fits h. (let here : a.id ≡ id = same ∙ starts_at id rows r is h in rw (here, same_id id) refl);
     }
 
--- the rows at the front that are of one record, and those behind them
+-- the rows at the front that are of one record, and those after them
 record Front (id : ℕ) (rows : List Row) (k : ℕ) : Type 0 where
   own : alternatives id rows ≡ take k rows
   above : AllByRecursion (λ (x : Row). id < x.id) (drop k rows)

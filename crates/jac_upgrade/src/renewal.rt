@@ -3,7 +3,7 @@ ghost use Rattle.std.specs.Prelude.{◌≡◌, ◌≤◌, ℕ, Bool, None, lengt
 ghost use Rattle.jac_check.specs.Well.{is_well};
 ghost use Rattle.jac_io.specs.Faults.{Rose};
 ghost use Rattle.jac_keep.specs.Alterations.{AreApart};
-ghost use Rattle.jac_keep.specs.Kept.{changed_state};
+ghost use Rattle.jac_keep.specs.ChangedState.{changed_state};
 ghost use Rattle.jac_keep.specs.KeeperSeen.{IsLeft};
 ghost use Rattle.jac_keep.specs.Reshaping.{widened_state};
 ghost use Rattle.jac_keep.specs.Schema.{IsFit};

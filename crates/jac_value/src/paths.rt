@@ -13,7 +13,7 @@ pub fn is_path(path: &[u8]) -> bool
     begins_with_slash(path) && are_segments(path)
 }
 
-/// What stands behind the first byte of a path, where that is its segments: `first_part` at `/`
+/// What stands after the first byte of a path, where that is its segments: `first_part` at `/`
 /// gives them one by one. The path `/` has none.
 pub fn segments_of(path: &[u8]) -> Option<&[u8]>
     ensures { parts_left 47 (option_now result) ≡ segments path.now }

@@ -12,7 +12,7 @@ use Rattle.jac_pruned.proofs.Growing.{agrees_same}
 use Rattle.jac_why.specs.declared.watch.Watchers.{Watchers}
 use Rattle.jac_why.specs.Named.{as_reason}
 use Rattle.jac_why.specs.Watched.{asks_again, IsUnmoved, IsWatching, AreWatching}
-use Rattle.jac_why.specs.Scene.{PlainScene}
+use Rattle.jac_why.specs.Context.{PlainContext}
 use Rattle.jac_why.specs.Whys.{beside, world_beside, first_forbidden, why_hidden}
 use Rattle.jac_world.proofs.Inserting.{shown-inserted, ascending-inserted}
 use Rattle.jac_why.proofs.Inserting.{grown}
@@ -33,12 +33,12 @@ apart xs k j hidden seen =
 agrees_with : (consulted labels : List ℕ) (k : ℕ) → shown_by consulted k ≡ false → Agrees consulted (shown_by labels) (with_label k (shown_by labels))
 agrees_with consulted labels k hidden = record { each = λ j seen. left_out (k == j) (shown_by labels j) (apart consulted k j hidden seen) }
 
-module _ (scene : PlainScene) where
+module _ (context : PlainContext) where
   abbrev Says : ℕ → List ℕ → Bool → Type 0
-  Says label consulted holds = (w : ℕ → Bool) → Agrees consulted (shown_by scene.labels) w → holds ≡ is_allowed scene.app (scene.worlds w) scene.viewer label
+  Says label consulted holds = (w : ℕ → Bool) → Agrees consulted (shown_by context.labels) w → holds ≡ is_allowed context.app (context.worlds w) context.viewer label
 
-  unmoved_by : (label : ℕ) (consulted : List ℕ) (holds : Bool) → Says label consulted holds → (k : ℕ) → shown_by consulted k ≡ false → IsUnmoved scene k label
-  unmoved_by label consulted holds says k hidden = sym (says (with_label k (shown_by scene.labels)) (agrees_with consulted scene.labels k hidden)) ∙ says (shown_by scene.labels) (agrees_same consulted (shown_by scene.labels))
+  unmoved_by : (label : ℕ) (consulted : List ℕ) (holds : Bool) → Says label consulted holds → (k : ℕ) → shown_by consulted k ≡ false → IsUnmoved context k label
+  unmoved_by label consulted holds says k hidden = sym (says (with_label k (shown_by context.labels)) (agrees_with consulted context.labels k hidden)) ∙ says (shown_by context.labels) (agrees_same consulted (shown_by context.labels))
 
   or_known : (p q : Bool) (r : Bool) → p ≡ ((q && true) || r) → p ≡ false → q ≡ false
   or_known p true r is none = absurd (true≢false (sym is ∙ none))
@@ -54,7 +54,7 @@ module _ (scene : PlainScene) where
 
   -- a label watches all that its policy consulted
   pub watching_by : (label : ℕ) (consulted : List ℕ) (holds : Bool) (old new : Watchers) → Says label consulted holds
-      → ((k j : ℕ) → asks_again new k j ≡ ((shown_by consulted k && label == j) || asks_again old k j)) → IsWatching scene label old new
+      → ((k j : ℕ) → asks_again new k j ≡ ((shown_by consulted k && label == j) || asks_again old k j)) → IsWatching context label old new
   watching_by label consulted holds old new says added = record {
     kept = λ k j h. kept_by (asks_again new k j) (shown_by consulted k && label == j) (asks_again old k j) (added k j) h;
     only = λ k j h. only_by (asks_again new k j) (shown_by consulted k) (label == j) (asks_again old k j) (added k j) h;
@@ -66,7 +66,7 @@ module _ (scene : PlainScene) where
       itself x = grind (arith, nat_tests)
 
   -- at the start all are left
-  pub watching_none : (watchers : Watchers) → ((k j : ℕ) → asks_again watchers k j ≡ false) → AreWatching scene scene.labels watchers
+  pub watching_none : (watchers : Watchers) → ((k j : ℕ) → asks_again watchers k j ≡ false) → AreWatching context context.labels watchers
   watching_none watchers none = record {
     among = λ k j h. absurd (true≢false (sym h ∙ none k j));
     unmoved = λ k j seen left h. absurd (true≢false (sym seen ∙ left));
@@ -76,27 +76,27 @@ module _ (scene : PlainScene) where
   not_kept true new kept none = absurd (true≢false (sym (kept refl) ∙ none))
   not_kept false new kept none = refl
 
-  among_by : (same old : Bool) (x j : ℕ) → (x == j) ≡ same → (same || old) ≡ true → shown_by scene.labels x ≡ true → (old ≡ true → shown_by scene.labels j ≡ true) → shown_by scene.labels j ≡ true
-  among_by true old x j is h here there = ap (shown_by scene.labels) (sym ((Decides-eqb x j).0 is)) ∙ here
+  among_by : (same old : Bool) (x j : ℕ) → (x == j) ≡ same → (same || old) ≡ true → shown_by context.labels x ≡ true → (old ≡ true → shown_by context.labels j ≡ true) → shown_by context.labels j ≡ true
+  among_by true old x j is h here there = ap (shown_by context.labels) (sym ((Decides-eqb x j).0 is)) ∙ here
   among_by false old x j is h here there = there h
 
   unmoved_if : (x k j : ℕ) (rest : List ℕ) (same : Bool) (old new : Watchers) → (x == j) ≡ same → shown_by rest j ≡ false → asks_again new k j ≡ false
-      → IsWatching scene x old new → ((same || shown_by rest j) ≡ false → asks_again old k j ≡ false → IsUnmoved scene k j) → IsUnmoved scene k j
+      → IsWatching context x old new → ((same || shown_by rest j) ≡ false → asks_again old k j ≡ false → IsUnmoved context k j) → IsUnmoved context k j
   unmoved_if x k j rest true old new is left none one before =
       let here : x ≡ j = (Decides-eqb x j).0 is in
-      subst (λ (i : ℕ). IsUnmoved scene k i) here (one.unmoved k (ap (asks_again new k) here ∙ none))
+      subst (λ (i : ℕ). IsUnmoved context k i) here (one.unmoved k (ap (asks_again new k) here ∙ none))
   unmoved_if x k j rest false old new is left none one before = before left (not_kept (asks_again old k j) (asks_again new k j) (one.kept k j) none)
 
   -- one label more watches
-  pub watching_on : (left rest : List ℕ) (x : ℕ) (old new : Watchers) → left ≡ x ∷ rest → shown_by scene.labels x ≡ true
-      → IsWatching scene x old new → AreWatching scene left old → AreWatching scene rest new
+  pub watching_on : (left rest : List ℕ) (x : ℕ) (old new : Watchers) → left ≡ x ∷ rest → shown_by context.labels x ≡ true
+      → IsWatching context x old new → AreWatching context left old → AreWatching context rest new
   watching_on left rest x old new is here one so_far = record {
     among = λ k j h. among_by (x == j) (asks_again old k j) x j refl (one.only k j h) here (so_far.among k j);
     unmoved = λ k j seen hidden none. unmoved_if x k j rest (x == j) old new refl hidden none one (λ out before. so_far.unmoved k j seen (ap (λ l. shown_by l j) is ∙ out) before);
   }
 
-  pub watching_all : (left : List ℕ) (watchers : Watchers) → left ≡ [] → AreWatching scene left watchers → AreWatching scene [] watchers
-  watching_all left watchers none so_far = subst (λ (l : List ℕ). AreWatching scene l watchers) none so_far
+  pub watching_all : (left : List ℕ) (watchers : Watchers) → left ≡ [] → AreWatching context left watchers → AreWatching context [] watchers
+  watching_all left watchers none so_far = subst (λ (l : List ℕ). AreWatching context l watchers) none so_far
 
 -- the first of rising labels that isn't allowed is the least one
 
@@ -138,7 +138,7 @@ module _ (app : Application) (t : PlainState) (viewer : Option ℕ) where
             omega (arith, later, above)
       ]
 
-  -- whether the first label is allowed, and what is found behind it
+  -- whether the first label is allowed, and what is found after it
   first_if : (x : ℕ) (xs : List ℕ) (b : Bool) → Allowed x ≡ b → IsAscending (x ∷ xs) → (o : Option ℕ) → IsFirst xs o → IsFirst (x ∷ xs) (if b then o else Some x)
   first_if x xs true is up None rest = λ j seen. step (x == j) j refl seen
     where
@@ -192,15 +192,15 @@ module _ (app : Application) (t : PlainState) (viewer : Option ℕ) where
 
 -- of those that are asked again with a label, and it, the first that isn't allowed is that of all
 
-module _ (scene : PlainScene) (watchers : Watchers) (k : ℕ) (asked : List ℕ)
-    (up : IsAscending scene.labels) (up_asked : IsAscending asked) (allowed : AreAllowed scene.app scene.worlds scene.viewer scene.labels) (watching : AreWatching scene [] watchers)
+module _ (context : PlainContext) (watchers : Watchers) (k : ℕ) (asked : List ℕ)
+    (up : IsAscending context.labels) (up_asked : IsAscending asked) (allowed : AreAllowed context.app context.worlds context.viewer context.labels) (watching : AreWatching context [] watchers)
     (are : (j : ℕ) → shown_by asked j ≡ (k == j || asks_again watchers k j)) where
-  within_if : (same again : Bool) (j : ℕ) → (again ≡ true → shown_by scene.labels j ≡ true) → (same || again) ≡ true → (same || shown_by scene.labels j) ≡ true
+  within_if : (same again : Bool) (j : ℕ) → (again ≡ true → shown_by context.labels j ≡ true) → (same || again) ≡ true → (same || shown_by context.labels j) ≡ true
   within_if true again j known h = refl
   within_if false again j known h = known h
 
-  asked_within : (j : ℕ) → shown_by asked j ≡ true → shown_by (beside scene k) j ≡ true
-  asked_within j seen = shown-inserted k scene.labels j ∙ within_if (k == j) (asks_again watchers k j) j (watching.among k j) (sym (are j) ∙ seen)
+  asked_within : (j : ℕ) → shown_by asked j ≡ true → shown_by (beside context k) j ≡ true
+  asked_within j seen = shown-inserted k context.labels j ∙ within_if (k == j) (asks_again watchers k j) j (watching.among k j) (sym (are j) ∙ seen)
 
   neither : (same again : Bool) → (same || again) ≡ false → (same ≡ false) × (again ≡ false)
   neither true again h = absurd (true≢false h)
@@ -210,12 +210,12 @@ module _ (scene : PlainScene) (watchers : Watchers) (k : ℕ) (asked : List ℕ)
   other_if true seen none h = cc
   other_if false seen none h = h
 
-  others_allowed : (j : ℕ) → shown_by (beside scene k) j ≡ true → shown_by asked j ≡ false → is_allowed scene.app (world_beside scene k) scene.viewer j ≡ true
+  others_allowed : (j : ℕ) → shown_by (beside context k) j ≡ true → shown_by asked j ≡ false → is_allowed context.app (world_beside context k) context.viewer j ≡ true
   others_allowed j seen out =
       let parts = neither (k == j) (asks_again watchers k j) (sym (are j) ∙ out) in
-      let here : shown_by scene.labels j ≡ true = other_if (k == j) (shown_by scene.labels j) parts.0 (sym (shown-inserted k scene.labels j) ∙ seen) in
-      subst (λ (w : ℕ → Bool). is_allowed scene.app (scene.worlds w) scene.viewer j ≡ true) (sym (grown k scene.labels))
+      let here : shown_by context.labels j ≡ true = other_if (k == j) (shown_by context.labels j) parts.0 (sym (shown-inserted k context.labels j) ∙ seen) in
+      subst (λ (w : ℕ → Bool). is_allowed context.app (context.worlds w) context.viewer j ≡ true) (sym (grown k context.labels))
       (watching.unmoved k j here refl parts.1 ∙ allowed j here)
 
-  pub why_among : option_map as_reason (first_forbidden scene.app (world_beside scene k) scene.viewer asked) ≡ why_hidden scene k
-  why_among = ap (option_map as_reason) (first_same scene.app (world_beside scene k) scene.viewer asked (beside scene k) asked_within others_allowed up_asked (ascending-inserted k scene.labels up))
+  pub why_among : option_map as_reason (first_forbidden context.app (world_beside context k) context.viewer asked) ≡ why_hidden context k
+  why_among = ap (option_map as_reason) (first_same context.app (world_beside context k) context.viewer asked (beside context k) asked_within others_allowed up_asked (ascending-inserted k context.labels up))

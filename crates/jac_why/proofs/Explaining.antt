@@ -13,7 +13,7 @@ use Rattle.jac_plain.specs.Policies.{is_allowed, with_label, AreAllowed, IsLiveL
 use Rattle.jac_why.specs.declared.reasons.Explanation.{Explanation}
 use Rattle.jac_why.specs.declared.reasons.Reason.{Reason}
 use Rattle.jac_why.specs.Named.{as_reason, names_its_label}
-use Rattle.jac_why.specs.Scene.{PlainScene}
+use Rattle.jac_why.specs.Context.{PlainContext}
 use Rattle.jac_why.specs.Whys.{first_forbidden, beside, world_beside, why_hidden, stands_against, is_standing, why_of, why_at, all_whys, AreExplained}
 use Rattle.jac_why.proofs.Inserting.{grown}
 
@@ -93,72 +93,72 @@ none_of : (o : Option ℕ) → option_map as_reason o ≡ None → o ≡ None
 none_of None h = refl
 none_of (Some k) h = absurd cc
 
-module _ (scene : PlainScene) where
+module _ (context : PlainContext) where
   abbrev Then : ℕ → List ℕ → Option ℕ
-  Then k = first_forbidden scene.app (world_beside scene k) scene.viewer
+  Then k = first_forbidden context.app (world_beside context k) context.viewer
 
-  stands_if : (k : ℕ) (reason : Reason) (o : Option ℕ) → Then k (beside scene k) ≡ o → option_map as_reason o ≡ Some reason → stands_against scene k reason ≡ true
+  stands_if : (k : ℕ) (reason : Reason) (o : Option ℕ) → Then k (beside context k) ≡ o → option_map as_reason o ≡ Some reason → stands_against context k reason ≡ true
   stands_if k reason None e h = absurd cc
   stands_if k reason (Some j) e h =
-      let found = first_is scene.app (world_beside scene k) scene.viewer (beside scene k) j e in
+      let found = first_is context.app (world_beside context k) context.viewer (beside context k) j e in
       let is : as_reason j ≡ reason = ap (reason_in (as_reason j)) h in
-      let allowed : Bool = is_allowed scene.app (world_beside scene k) scene.viewer j in
-      subst (λ (r : Reason). stands_against scene k r ≡ true) is
-      (and_from (shown_by (beside scene k) j) (names_its_label (as_reason j) && not allowed) found.is_shown
+      let allowed : Bool = is_allowed context.app (world_beside context k) context.viewer j in
+      subst (λ (r : Reason). stands_against context k r ≡ true) is
+      (and_from (shown_by (beside context k) j) (names_its_label (as_reason j) && not allowed) found.is_shown
       (and_from (names_its_label (as_reason j)) (not allowed) (named j) (ap not found.forbidden)))
 
-  some_if : (k : ℕ) (o : Option ℕ) → Then k (beside scene k) ≡ o → ShowsForbidden scene.app scene.worlds scene.viewer (shown_by (beside scene k)) → is_some (option_map as_reason o) ≡ true
-  some_if k None e one = absurd (true≢false (sym (none_all scene.app (world_beside scene k) scene.viewer (beside scene k) e one.label one.is_shown) ∙ one.forbidden))
+  some_if : (k : ℕ) (o : Option ℕ) → Then k (beside context k) ≡ o → ShowsForbidden context.app context.worlds context.viewer (shown_by (beside context k)) → is_some (option_map as_reason o) ≡ true
+  some_if k None e one = absurd (true≢false (sym (none_all context.app (world_beside context k) context.viewer (beside context k) e one.label one.is_shown) ∙ one.forbidden))
   some_if k (Some j) e one = refl
 
-  pub law_stands : (k : ℕ) (reason : Reason) → why_hidden scene k ≡ Some reason → stands_against scene k reason ≡ true
-  law_stands k reason h = stands_if k reason (Then k (beside scene k)) refl h
+  pub law_stands : (k : ℕ) (reason : Reason) → why_hidden context k ≡ Some reason → stands_against context k reason ≡ true
+  law_stands k reason h = stands_if k reason (Then k (beside context k)) refl h
 
-  pub law_full : AreExplained scene → (k : ℕ) → IsLiveLabel scene.app scene.worlds k → shown_by scene.labels k ≡ false → ShowsForbidden scene.app scene.worlds scene.viewer (with_label k (shown_by scene.labels))
+  pub law_full : AreExplained context → (k : ℕ) → IsLiveLabel context.app context.worlds k → shown_by context.labels k ≡ false → ShowsForbidden context.app context.worlds context.viewer (with_label k (shown_by context.labels))
   law_full explained k live hidden =
       let r = explained.reason k live hidden in
-      let allowed : Bool = is_allowed scene.app (world_beside scene k) scene.viewer r.label in
-      let parts = and_parts (shown_by (beside scene k) r.label) (names_its_label r && not allowed) (explained.stands k live hidden) in
-      let refusing : ShowsForbidden scene.app scene.worlds scene.viewer (shown_by (beside scene k)) = record {
+      let allowed : Bool = is_allowed context.app (world_beside context k) context.viewer r.label in
+      let parts = and_parts (shown_by (beside context k) r.label) (names_its_label r && not allowed) (explained.stands k live hidden) in
+      let refusing : ShowsForbidden context.app context.worlds context.viewer (shown_by (beside context k)) = record {
         label = r.label;
         is_shown = parts.0;
         forbidden = was_not allowed (and_parts (names_its_label r) (not allowed) parts.1).1;
       } in
-      subst (λ (w : ℕ → Bool). ShowsForbidden scene.app scene.worlds scene.viewer w) (grown k scene.labels) refusing
+      subst (λ (w : ℕ → Bool). ShowsForbidden context.app context.worlds context.viewer w) (grown k context.labels) refusing
 
-  pub law_settled : IsSettled scene.app scene.worlds scene.viewer scene.labels → (k : ℕ) → IsLiveLabel scene.app scene.worlds k → shown_by scene.labels k ≡ false → is_some (why_hidden scene k) ≡ true
+  pub law_settled : IsSettled context.app context.worlds context.viewer context.labels → (k : ℕ) → IsLiveLabel context.app context.worlds k → shown_by context.labels k ≡ false → is_some (why_hidden context k) ≡ true
   law_settled settled k live hidden =
-      some_if k (Then k (beside scene k)) refl
-      (subst (λ (w : ℕ → Bool). ShowsForbidden scene.app scene.worlds scene.viewer w) (sym (grown k scene.labels)) (settled.full k live hidden))
+      some_if k (Then k (beside context k)) refl
+      (subst (λ (w : ℕ → Bool). ShowsForbidden context.app context.worlds context.viewer w) (sym (grown k context.labels)) (settled.full k live hidden))
 
-  pub law_none : (k : ℕ) → (why_hidden scene k ≡ None ↔ AreAllowed scene.app scene.worlds scene.viewer (beside scene k))
+  pub law_none : (k : ℕ) → (why_hidden context k ≡ None ↔ AreAllowed context.app context.worlds context.viewer (beside context k))
   law_none k = (
-    λ h. none_all scene.app (world_beside scene k) scene.viewer (beside scene k) (none_of (Then k (beside scene k)) h),
-    λ each. ap (option_map as_reason) (all_none scene.app (world_beside scene k) scene.viewer (beside scene k) each),
+    λ h. none_all context.app (world_beside context k) context.viewer (beside context k) (none_of (Then k (beside context k)) h),
+    λ each. ap (option_map as_reason) (all_none context.app (world_beside context k) context.viewer (beside context k) each),
   )
 
   abbrev AllStand : List Explanation → Type 0
-  AllStand es = list_all (is_standing scene) es ≡ true
+  AllStand es = list_all (is_standing context) es ≡ true
 
-  one_stands : (k : ℕ) (o : Option Reason) → why_hidden scene k ≡ o → AllStand (why_of k o)
+  one_stands : (k : ℕ) (o : Option Reason) → why_hidden context k ≡ o → AllStand (why_of k o)
   one_stands k None is = refl
-  one_stands k (Some reason) is = and_from (stands_against scene k reason) true (law_stands k reason is) refl
+  one_stands k (Some reason) is = and_from (stands_against context k reason) true (law_stands k reason is) refl
 
-  at_stands : (k : ℕ) (b : Bool) → AllStand (if b then [] else why_of k (why_hidden scene k))
+  at_stands : (k : ℕ) (b : Bool) → AllStand (if b then [] else why_of k (why_hidden context k))
   at_stands k true = refl
-  at_stands k false = one_stands k (why_hidden scene k) refl
+  at_stands k false = one_stands k (why_hidden context k) refl
 
   -- all that is found stands
-  pub all_stand : (live : List ℕ) → AllStand (all_whys scene live)
+  pub all_stand : (live : List ℕ) → AllStand (all_whys context live)
   all_stand [] = refl
   all_stand (k ∷ ks) =
-      list_all-append (is_standing scene) (why_at scene k) (all_whys scene ks)
-      ∙ and_from (list_all (is_standing scene) (why_at scene k)) (list_all (is_standing scene) (all_whys scene ks)) (at_stands k (shown_by scene.labels k)) (all_stand ks)
+      list_all-append (is_standing context) (why_at context k) (all_whys context ks)
+      ∙ and_from (list_all (is_standing context) (why_at context k)) (list_all (is_standing context) (all_whys context ks)) (at_stands k (shown_by context.labels k)) (all_stand ks)
 
   -- one label more was asked
-  pub whys_on : (left more : List ℕ) (x : ℕ) (made new all : List Explanation) → left ≡ x ∷ more → new ≡ made ++ why_at scene x → made ++ all_whys scene left ≡ all → new ++ all_whys scene more ≡ all
+  pub whys_on : (left more : List ℕ) (x : ℕ) (made new all : List Explanation) → left ≡ x ∷ more → new ≡ made ++ why_at context x → made ++ all_whys context left ≡ all → new ++ all_whys context more ≡ all
   whys_on left more x made new all is added so_far =
-      ap (λ (es : List Explanation). es ++ all_whys scene more) added
-      ∙ append_assoc made (why_at scene x) (all_whys scene more)
-      ∙ ap (λ (ls : List ℕ). made ++ all_whys scene ls) (sym is)
+      ap (λ (es : List Explanation). es ++ all_whys context more) added
+      ∙ append_assoc made (why_at context x) (all_whys context more)
+      ∙ ap (λ (ls : List ℕ). made ++ all_whys context ls) (sym is)
       ∙ so_far

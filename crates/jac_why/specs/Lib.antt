@@ -1,4 +1,4 @@
 pub mod Named
-pub mod Scene
+pub mod Context
 pub mod Watched
 pub mod Whys

@@ -4,30 +4,31 @@ use Rattle.std.specs.Ordering.{nat_cmp}
 use Rattle.std.specs.BTreeMap.{get}
 use Rattle.jac_world.specs.World.{shown_by}
 use Rattle.jac_plain.specs.Policies.{is_allowed, with_label}
-use Rattle.jac_recall.specs.Recalled.{watched_in}
+use Rattle.jac_policy_cache.specs.Memo.{watched_in}
 use Rattle.jac_why.specs.declared.watch.Watchers.{Watchers}
-use Rattle.jac_why.specs.Scene.{PlainScene}
+use Rattle.jac_why.specs.Context.{PlainContext}
 
 -- the second label is asked again, where the first is shown too
 abbrev pub asks_again : Watchers → ℕ → ℕ → Bool
 asks_again watchers k j = watched_in (get nat_cmp watchers.lists k) j
 
 -- the second label is allowed where the first is shown too as it is without it
-abbrev pub IsUnmoved : PlainScene → ℕ → ℕ → Type 0
-IsUnmoved scene k j =
-    is_allowed scene.app (scene.worlds (with_label k (shown_by scene.labels))) scene.viewer j
-    ≡ is_allowed scene.app (scene.worlds (shown_by scene.labels)) scene.viewer j
+abbrev pub IsUnmoved : PlainContext → ℕ → ℕ → Type 0
+IsUnmoved context k j =
+    is_allowed context.app (context.worlds (with_label k (shown_by context.labels))) context.viewer
+    j
+    ≡ is_allowed context.app (context.worlds (shown_by context.labels)) context.viewer j
 
 -- one label more is asked again, where it has to be
-pub record IsWatching (scene : PlainScene) (label : ℕ) (old new : Watchers) : Type 0 where
+pub record IsWatching (context : PlainContext) (label : ℕ) (old new : Watchers) : Type 0 where
   pub kept : (k j : ℕ) → asks_again old k j ≡ true → asks_again new k j ≡ true
   pub only : (k j : ℕ) → asks_again new k j ≡ true → (label == j || asks_again old k j) ≡ true
-  pub unmoved : (k : ℕ) → asks_again new k label ≡ false → IsUnmoved scene k label
+  pub unmoved : (k : ℕ) → asks_again new k label ≡ false → IsUnmoved context k label
 
 -- of the labels that are shown, but for those that are left, each is asked again where it has
 -- to be, and no other is
-pub record AreWatching (scene : PlainScene) (left : List ℕ) (watchers : Watchers) : Type 0 where
-  pub among : (k j : ℕ) → asks_again watchers k j ≡ true → shown_by scene.labels j ≡ true
+pub record AreWatching (context : PlainContext) (left : List ℕ) (watchers : Watchers) : Type 0 where
+  pub among : (k j : ℕ) → asks_again watchers k j ≡ true → shown_by context.labels j ≡ true
   pub unmoved :
-      (k j : ℕ) → shown_by scene.labels j ≡ true → shown_by left j ≡ false
-      → asks_again watchers k j ≡ false → IsUnmoved scene k j
+      (k j : ℕ) → shown_by context.labels j ≡ true → shown_by left j ≡ false
+      → asks_again watchers k j ≡ false → IsUnmoved context k j

@@ -8,7 +8,7 @@ use Rattle.jac_plain.specs.Policies.{is_allowed, IsLiveLabel}
 use Rattle.jac_why.specs.declared.reasons.Reason.{Reason}
 use Rattle.jac_why.specs.declared.reasons.Explanation.{Explanation}
 use Rattle.jac_why.specs.Named.{as_reason, names_its_label}
-use Rattle.jac_why.specs.Scene.{PlainScene}
+use Rattle.jac_why.specs.Context.{PlainContext}
 
 -- the first of the labels that isn't allowed in a world
 abbrev pub first_forbidden : Application → PlainState → Option ℕ → List ℕ → Option ℕ
@@ -21,28 +21,28 @@ abbrev pub why_of : ℕ → Option Reason → List Explanation
 why_of k None = []
 why_of k (Some r) = record { hidden = k; reason = r } ∷ []
 
-module _ (scene : PlainScene) where
+module _ (context : PlainContext) where
   -- the labels that are shown, and this one
   abbrev pub beside : ℕ → List ℕ
-  beside k = with_number k scene.labels
+  beside k = with_number k context.labels
 
   -- the world that they show
   abbrev pub world_beside : ℕ → PlainState
-  world_beside k = scene.worlds (shown_by (beside k))
+  world_beside k = context.worlds (shown_by (beside k))
 
   -- what stands against a label: the least of those that are shown, and of it, that isn't
   -- allowed under them
   abbrev pub why_hidden : ℕ → Option Reason
   why_hidden k =
       option_map as_reason
-      (first_forbidden scene.app (world_beside k) scene.viewer (beside k))
+      (first_forbidden context.app (world_beside k) context.viewer (beside k))
 
   -- whether the reason stands against a label: it is one of those that are shown, or it, and
   -- isn't allowed under them
   abbrev pub stands_against : ℕ → Reason → Bool
   stands_against k r =
       shown_by (beside k) r.label
-      && (names_its_label r && not (is_allowed scene.app (world_beside k) scene.viewer r.label))
+      && (names_its_label r && not (is_allowed context.app (world_beside k) context.viewer r.label))
 
   -- whether what is found for a label stands against it
   abbrev pub is_standing : Explanation → Bool
@@ -50,7 +50,7 @@ module _ (scene : PlainScene) where
 
   -- what stands against a label, where it isn't shown
   abbrev pub why_at : ℕ → List Explanation
-  why_at k = if shown_by scene.labels k then [] else why_of k (why_hidden k)
+  why_at k = if shown_by context.labels k then [] else why_of k (why_hidden k)
 
   -- the labels that aren't shown, in their order, with what stands against each
   abbrev pub all_whys : List ℕ → List Explanation
@@ -60,7 +60,9 @@ module _ (scene : PlainScene) where
   -- a reason stands against each live label that isn't shown
   pub record AreExplained : Type 0 where
     pub reason :
-        (k : ℕ) → IsLiveLabel scene.app scene.worlds k → shown_by scene.labels k ≡ false → Reason
+        (k : ℕ) → IsLiveLabel context.app context.worlds k → shown_by context.labels k ≡ false →
+        Reason
     pub stands :
-        (k : ℕ) (live : IsLiveLabel scene.app scene.worlds k)
-        (hidden : shown_by scene.labels k ≡ false) → stands_against k (reason k live hidden) ≡ true
+        (k : ℕ) (live : IsLiveLabel context.app context.worlds k)
+        (hidden : shown_by context.labels k ≡ false) → stands_against k (reason k live hidden) ≡
+        true

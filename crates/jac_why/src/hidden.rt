@@ -3,16 +3,16 @@ ghost use Rattle.std.specs.Prelude.{◌≡◌, ◌≤◌, ◌++◌, [], IfOk, On
 ghost use Rattle.std.specs.Option.{option_map};
 ghost use Rattle.jac_world.specs.World.{shown_by, with_number};
 ghost use Rattle.jac_lang.specs.Mirror.{application_of};
-ghost use Rattle.jac_keep.specs.Worked.{state_of, IsTold, ReadsWork};
+ghost use Rattle.jac_keep.specs.WorkState.{state_of, IsTold, ReadsWork};
 ghost use Rattle.jac_plain.specs.Policies.{is_allowed, AreAllowed};
 ghost use Rattle.jac_why.specs.Named.{as_reason};
-ghost use Rattle.jac_why.specs.Scene.{scene_on};
+ghost use Rattle.jac_why.specs.Context.{context_on};
 ghost use Rattle.jac_why.specs.Watched.{IsWatching, AreWatching};
 ghost use Rattle.jac_why.specs.Whys.{first_forbidden, why_hidden, stands_against, why_of, why_at, all_whys};
 ghost use Rattle.jac_plain.specs.Shown.{worlds_of};
 
 use crate::watch::Watchers;
-use crate::{Explanation, Reason, Scene};
+use crate::{Explanation, Reason, ViewerContext};
 use jac_keep::{Keeper, Stop, Work};
 use jac_lang::App;
 use jac_resolve::allowed;
@@ -25,20 +25,20 @@ use std::sync::ledger::Ledger;
 /// isn't allowed under them. There is none exactly where all are allowed.
 pub fn why<K: Keeper, M: Ledger>(
     work: &mut Work<'_, K>,
-    scene: &Scene<'_>,
+    context: &ViewerContext<'_>,
     hidden: Label,
     evaluations: &mut Steps<M>,
 ) -> Result<Option<Reason>, Stop>
     requires { IsTrue (K.seen work.old.keeper.now).store.attached }
     ensures reason { IsTold K.seen work.new → IfOk result
-        (λ r. r ≡ why_hidden (scene_on (state_of K.seen work.old) scene.now) hidden) }
+        (λ r. r ≡ why_hidden (context_on (state_of K.seen work.old) context.now) hidden) }
     ensures later { evaluations.old ≤ evaluations.new }
     ensures reads { ReadsWork K.seen work.old work.new result }
 {
-    let beside = with_label(work.alloc, scene.labels, hidden)?;
+    let beside = with_label(work.alloc, context.labels, hidden)?;
     let labels = beside.as_slice();
-    let app = scene.app;
-    let viewer = &scene.viewer;
+    let app = context.app;
+    let viewer = &context.viewer;
     let first = find_forbidden(work, app, viewer, &beside, labels, evaluations)?;
     Ok(as_reason(first))
 }
@@ -47,26 +47,33 @@ pub fn why<K: Keeper, M: Ledger>(
 /// shown and this one, has this model and this group, and isn't allowed under them.
 pub fn check_reason<K: Keeper, M: Ledger>(
     work: &mut Work<'_, K>,
-    scene: &Scene<'_>,
+    context: &ViewerContext<'_>,
     hidden: Label,
     reason: &Reason,
     evaluations: &mut Steps<M>,
 ) -> Result<bool, Stop>
     requires { IsTrue (K.seen work.old.keeper.now).store.attached }
     ensures stands { IsTold K.seen work.new → IfOk result (λ b.
-        b ≡ stands_against (scene_on (state_of K.seen work.old) scene.now) hidden reason.now) }
+        b ≡ stands_against (context_on (state_of K.seen work.old) context.now) hidden reason.now) }
     ensures later { evaluations.old ≤ evaluations.new }
     ensures reads { ReadsWork K.seen work.old work.new result }
 {
-    let beside = with_label(work.alloc, scene.labels, hidden)?;
+    let beside = with_label(work.alloc, context.labels, hidden)?;
     if !beside.shows(reason.label) {
         return Ok(false);
     }
     if !reason.names_its_label() {
         return Ok(false);
     }
-    let app = scene.app;
-    let holds = ask(work, app, scene.viewer, &beside, reason.label, evaluations)?;
+    let app = context.app;
+    let holds = ask(
+        work,
+        app,
+        context.viewer,
+        &beside,
+        reason.label,
+        evaluations,
+    )?;
     Ok(!holds)
 }
 
@@ -74,45 +81,45 @@ pub fn check_reason<K: Keeper, M: Ledger>(
 /// that are shown are all allowed, each label costs no more than those that consulted it.
 pub fn whys<K: Keeper, M: Ledger>(
     work: &mut Work<'_, K>,
-    scene: &Scene<'_>,
+    context: &ViewerContext<'_>,
     live: &[Label],
     evaluations: &mut Steps<M>,
 ) -> Result<Vec<Explanation>, Stop>
     requires { IsTrue (K.seen work.old.keeper.now).store.attached }
     ensures whys { IsTold K.seen work.new
-        → AreAllowed (application_of scene.now.app.now) (worlds_of (state_of K.seen work.old))
-        scene.now.viewer scene.now.labels.now
+        → AreAllowed (application_of context.now.app.now) (worlds_of (state_of K.seen work.old))
+        context.now.viewer context.now.labels.now
         → IfOk result
-        (λ v. v.items ≡ all_whys (scene_on (state_of K.seen work.old) scene.now) live.now) }
+        (λ v. v.items ≡ all_whys (context_on (state_of K.seen work.old) context.now) live.now) }
     ensures later { evaluations.old ≤ evaluations.new }
     ensures reads { ReadsWork K.seen work.old work.new result }
 {
-    let watchers = watchers(work, scene, evaluations)?;
-    let whys = watched_whys(work, scene, live, &watchers, evaluations)?;
+    let watchers = watchers(work, context, evaluations)?;
+    let whys = watched_whys(work, context, live, &watchers, evaluations)?;
     Ok(whys)
 }
 
 // The same, by who watches which label.
 fn watched_whys<K: Keeper, M: Ledger>(
     work: &mut Work<'_, K>,
-    scene: &Scene<'_>,
+    context: &ViewerContext<'_>,
     live: &[Label],
     watchers: &Watchers,
     evaluations: &mut Steps<M>,
 ) -> Result<Vec<Explanation>, Stop>
     requires { IsTrue (K.seen work.old.keeper.now).store.attached }
     ensures whys { IsTold K.seen work.new
-        → AreAllowed (application_of scene.now.app.now) (worlds_of (state_of K.seen work.old))
-        scene.now.viewer scene.now.labels.now
-        → AreWatching (scene_on (state_of K.seen work.old) scene.now) [] watchers.now
+        → AreAllowed (application_of context.now.app.now) (worlds_of (state_of K.seen work.old))
+        context.now.viewer context.now.labels.now
+        → AreWatching (context_on (state_of K.seen work.old) context.now) [] watchers.now
         → IfOk result
-        (λ v. v.items ≡ all_whys (scene_on (state_of K.seen work.old) scene.now) live.now) }
+        (λ v. v.items ≡ all_whys (context_on (state_of K.seen work.old) context.now) live.now) }
     ensures later { evaluations.old ≤ evaluations.new }
     ensures reads { ReadsWork K.seen work.old work.new result }
 {
     let mut whys = Vec::new(work.alloc);
     'labels: for label in live {
-        add_why(work, scene, *label, watchers, &mut whys, evaluations)?;
+        add_why(work, context, *label, watchers, &mut whys, evaluations)?;
     }
     Ok(whys)
 }
@@ -120,7 +127,7 @@ fn watched_whys<K: Keeper, M: Ledger>(
 // What stands against the label, where it isn't shown.
 fn add_why<K: Keeper, M: Ledger>(
     work: &mut Work<'_, K>,
-    scene: &Scene<'_>,
+    context: &ViewerContext<'_>,
     label: Label,
     watchers: &Watchers,
     whys: &mut Vec<Explanation>,
@@ -128,18 +135,18 @@ fn add_why<K: Keeper, M: Ledger>(
 ) -> Result<(), Stop>
     requires { IsTrue (K.seen work.old.keeper.now).store.attached }
     ensures added { IsTold K.seen work.new
-        → AreAllowed (application_of scene.now.app.now) (worlds_of (state_of K.seen work.old))
-        scene.now.viewer scene.now.labels.now
-        → AreWatching (scene_on (state_of K.seen work.old) scene.now) [] watchers.now
+        → AreAllowed (application_of context.now.app.now) (worlds_of (state_of K.seen work.old))
+        context.now.viewer context.now.labels.now
+        → AreWatching (context_on (state_of K.seen work.old) context.now) [] watchers.now
         → OnOk result (whys.new.items
-        ≡ whys.old.items ++ why_at (scene_on (state_of K.seen work.old) scene.now) label) }
+        ≡ whys.old.items ++ why_at (context_on (state_of K.seen work.old) context.now) label) }
     ensures later { evaluations.old ≤ evaluations.new }
     ensures reads { ReadsWork K.seen work.old work.new result }
 {
-    if scene.labels.shows(label) {
+    if context.labels.shows(label) {
         return Ok(());
     }
-    let reason = watched_why(work, scene, label, watchers, evaluations)?;
+    let reason = watched_why(work, context, label, watchers, evaluations)?;
     push_why(whys, label, reason)?;
     Ok(())
 }
@@ -147,47 +154,47 @@ fn add_why<K: Keeper, M: Ledger>(
 // What stands against a label: only it, and those that watch it, are asked.
 fn watched_why<K: Keeper, M: Ledger>(
     work: &mut Work<'_, K>,
-    scene: &Scene<'_>,
+    context: &ViewerContext<'_>,
     label: Label,
     watchers: &Watchers,
     evaluations: &mut Steps<M>,
 ) -> Result<Option<Reason>, Stop>
     requires { IsTrue (K.seen work.old.keeper.now).store.attached }
     ensures reason { IsTold K.seen work.new
-        → AreAllowed (application_of scene.now.app.now) (worlds_of (state_of K.seen work.old))
-        scene.now.viewer scene.now.labels.now
-        → AreWatching (scene_on (state_of K.seen work.old) scene.now) [] watchers.now
+        → AreAllowed (application_of context.now.app.now) (worlds_of (state_of K.seen work.old))
+        context.now.viewer context.now.labels.now
+        → AreWatching (context_on (state_of K.seen work.old) context.now) [] watchers.now
         → IfOk result
-        (λ r. r ≡ why_hidden (scene_on (state_of K.seen work.old) scene.now) label) }
+        (λ r. r ≡ why_hidden (context_on (state_of K.seen work.old) context.now) label) }
     ensures later { evaluations.old ≤ evaluations.new }
     ensures reads { ReadsWork K.seen work.old work.new result }
 {
-    let beside = with_label(work.alloc, scene.labels, label)?;
+    let beside = with_label(work.alloc, context.labels, label)?;
     let asked = watchers.asked(work.alloc, label)?;
     let labels = asked.as_slice();
-    let app = scene.app;
-    let viewer = &scene.viewer;
+    let app = context.app;
+    let viewer = &context.viewer;
     let first = find_forbidden(work, app, viewer, &beside, labels, evaluations)?;
     // Labels that are read ascend.
-    let _ = scene.labels.as_slice();
+    let _ = context.labels.as_slice();
     Ok(as_reason(first))
 }
 
 // Which of the labels that are shown consulted which others.
 fn watchers<K: Keeper, M: Ledger>(
     work: &mut Work<'_, K>,
-    scene: &Scene<'_>,
+    context: &ViewerContext<'_>,
     evaluations: &mut Steps<M>,
 ) -> Result<Watchers, Stop>
     requires { IsTrue (K.seen work.old.keeper.now).store.attached }
     ensures watching { IsTold K.seen work.new
-        → IfOk result (AreWatching (scene_on (state_of K.seen work.old) scene.now) []) }
+        → IfOk result (AreWatching (context_on (state_of K.seen work.old) context.now) []) }
     ensures later { evaluations.old ≤ evaluations.new }
     ensures reads { ReadsWork K.seen work.old work.new result }
 {
     let mut watchers = Watchers::empty(work.alloc);
-    'labels: for label in scene.labels.as_slice() {
-        add_watcher(work, scene, *label, &mut watchers, evaluations)?;
+    'labels: for label in context.labels.as_slice() {
+        add_watcher(work, context, *label, &mut watchers, evaluations)?;
     }
     Ok(watchers)
 }
@@ -195,19 +202,19 @@ fn watchers<K: Keeper, M: Ledger>(
 // The label watches all that its policy consults.
 fn add_watcher<K: Keeper, M: Ledger>(
     work: &mut Work<'_, K>,
-    scene: &Scene<'_>,
+    context: &ViewerContext<'_>,
     label: Label,
     watchers: &mut Watchers,
     evaluations: &mut Steps<M>,
 ) -> Result<(), Stop>
     requires { IsTrue (K.seen work.old.keeper.now).store.attached }
     ensures watching { IsTold K.seen work.new → OnOk result (IsWatching
-        (scene_on (state_of K.seen work.old) scene.now) label watchers.old watchers.new) }
+        (context_on (state_of K.seen work.old) context.now) label watchers.old watchers.new) }
     ensures later { evaluations.old ≤ evaluations.new }
     ensures reads { ReadsWork K.seen work.old work.new result }
 {
-    let shown = scene.labels;
-    let (_, consulted) = allowed(work, scene.app, scene.viewer, shown, label, evaluations)?;
+    let shown = context.labels;
+    let (_, consulted) = allowed(work, context.app, context.viewer, shown, label, evaluations)?;
     watchers.watch(work.alloc, label, consulted.as_slice())?;
     Ok(())
 }

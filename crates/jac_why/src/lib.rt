@@ -4,7 +4,7 @@
 mod hidden;
 mod laws;
 mod reasons;
-mod scene;
+mod viewer_context;
 mod watch;
 
 pub use hidden::{check_reason, why, whys};
@@ -12,4 +12,4 @@ pub use laws::{
     explained_is_full, none_where_allowed, settled_is_explained, why_stands, whys_stand,
 };
 pub use reasons::{Explanation, Reason};
-pub use scene::Scene;
+pub use viewer_context::ViewerContext;

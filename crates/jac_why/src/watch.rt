@@ -3,10 +3,10 @@ ghost use Rattle.std.specs.Prelude.{◌≡◌, ◌==◌, ◌||◌, ◌&&◌, ℕ
 ghost use Rattle.std.specs.Ordering.{nat_cmp};
 ghost use Rattle.std.specs.BTreeMap.{get};
 ghost use Rattle.jac_world.specs.World.{shown_by};
-ghost use Rattle.jac_recall.specs.Recalled.{watched_in};
+ghost use Rattle.jac_policy_cache.specs.Memo.{watched_in};
 ghost use Rattle.jac_why.specs.Watched.{asks_again};
 
-use jac_recall::Labels;
+use jac_policy_cache::Labels;
 use jac_value::Memory;
 use jac_world::Label;
 use std::alloc::Global;

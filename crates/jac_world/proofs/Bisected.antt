@@ -102,7 +102,7 @@ shows_found xs x s k = found_if (x == k) refl
     found_if true e = ap (shown_by xs) (sym ((Decides-eqb x k).0 e)) ∙ s
     found_if false e = refl
 
--- each label behind the first is above it
+-- each label after the first is above it
 above_all : (x : ℕ) (xs : List ℕ) → IsAscending (x ∷ xs) → (k : ℕ) → shown_by xs k ≡ true → x < k
 above_all x [] up k s = absurd cc
 above_all x (y ∷ ys) up k s = above_if (y == k) refl s (λ later. (let first : x < y = up.0 in let rest : y < k = above_all y ys up.1 k later in omega (arith, first, rest)))

@@ -8,7 +8,7 @@ use Rattle.jac_rows.specs.Good.{IsSound}
 use Rattle.jac_rows.specs.Project.{project_at}
 use Rattle.jac_rows.specs.declared.state.State.{State}
 use Rattle.jac_keep.specs.KeeperSeen.{KeeperSeen, IsLeft}
-use Rattle.jac_keep.specs.Worked.{IsTold, state_of}
+use Rattle.jac_keep.specs.WorkState.{IsTold, state_of}
 use Rattle.jac_keep.specs.declared.alteration.Alterations.{Alterations}
 use Rattle.jac_keep.specs.declared.work.WorkOver.{WorkOver}
 use Rattle.jac_write.specs.Writes.{KeepsOrMerges, PlainTables, numbered_tables, Written, Writes, WritesEach, StaysTold, tables_after_each}

@@ -12,10 +12,10 @@ use Rattle.jac_rows.specs.declared.state.State.{State}
 use Rattle.jac_plain.specs.Records.{plain_row}
 use Rattle.jac_keep.proofs.AlteringLaws.{alternatives-altered, are_of}
 use Rattle.jac_keep.specs.Alterations.{altered_rows, overlaid_from}
-use Rattle.jac_keep.specs.Kept.{state_with}
+use Rattle.jac_keep.specs.ChangedState.{state_with}
 use Rattle.jac_keep.specs.Records.{alternatives, AreOf}
 use Rattle.jac_keep.specs.declared.alteration.Alteration.{Alteration}
-use Rattle.jac_merged.specs.Merged.{AreMerged, AreOfRecord, Shows}
+use Rattle.jac_row_merge.specs.Merged.{AreMerged, AreOfRecord, Shows}
 use Rattle.jac_write.specs.Writes.{KeepsOrMerges, cells_at}
 use Rattle.jac_write.proofs.RecordLaws.{cells}
 

@@ -20,7 +20,7 @@ use Rattle.jac_keep.specs.declared.alteration.Alteration.{Alteration}
 use Rattle.jac_keep.specs.declared.alteration.Change.{Change}
 use Rattle.jac_keep.proofs.AlteringLaws.{are_of}
 use Rattle.jac_keep.specs.Alterations.{altered_rows, overlaid_from}
-use Rattle.jac_keep.specs.Kept.{state_with, changed_state}
+use Rattle.jac_keep.specs.ChangedState.{state_with, changed_state}
 use Rattle.jac_keep.specs.Records.{with_id, alternatives, before, behind, placed_rows, AreOf}
 use Rattle.jac_keep.specs.Sound.{MayStand, AllStand}
 use Rattle.jac_write.specs.Writes.{PlainTables, numbered_tables, Written, cells_at}

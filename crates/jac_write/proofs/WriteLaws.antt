@@ -16,7 +16,7 @@ use Rattle.jac_plain.specs.Expressions.{stands}
 use Rattle.jac_plain.specs.Records.{plain_row, with_ids, with_row}
 use Rattle.jac_plain.specs.World.{record_with}
 use Rattle.jac_keep.proofs.AlteringLaws.{are_of}
-use Rattle.jac_keep.specs.Kept.{state_with}
+use Rattle.jac_keep.specs.ChangedState.{state_with}
 use Rattle.jac_keep.specs.Records.{alternatives}
 use Rattle.jac_write.specs.Writes.{numbered_tables, Written, cells_at}
 use Rattle.jac_write.proofs.RecordLaws.{ShowCells, SoundLaw, cells, cells_shown, record_made, shown_rows, shows_put, step_with_row, written}

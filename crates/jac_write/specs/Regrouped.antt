@@ -5,7 +5,7 @@ use Rattle.jac_lang.specs.Lookup.{fields_at, groups_at, group_in, hiding_place}
 use Rattle.jac_lang.specs.Syntax.{Entity}
 use Rattle.jac_plain.specs.Records.{is_hidden_by, shielded_cells}
 
--- a group is the one at this place, or stands behind it
+-- a group is the one at this place, or stands after it
 abbrev pub is_from : ℕ → Option ℕ → Bool
 is_from first None = false
 is_from first (Some g) = nat_le first g

@@ -9,7 +9,7 @@ use Rattle.jac_lang.specs.declared.field_kinds.Field.{Field}
 use Rattle.jac_lang.specs.Lookup.{fields_at, kind_at}
 use Rattle.jac_lang.specs.Mirror.{application_of}
 use Rattle.jac_lang.specs.Syntax.{Entity}
-use Rattle.jac_merged.specs.Merged.{AreMerged}
+use Rattle.jac_row_merge.specs.Merged.{AreMerged}
 use Rattle.jac_plain.specs.Expressions.{stands}
 use Rattle.jac_plain.specs.Records.{fitting, plain_row, shielded_cells, every_field, changed_rows, tables_after}
 use Rattle.jac_plain.specs.Statements.{is_kept, tables_made as tables_kept}
@@ -22,7 +22,7 @@ use Rattle.jac_rows.specs.declared.row.Row.{Row}
 use Rattle.jac_rows.specs.declared.state.State.{State}
 use Rattle.jac_keep.specs.KeeperSeen.{KeeperSeen}
 use Rattle.jac_keep.specs.Records.{alternatives}
-use Rattle.jac_keep.specs.Worked.{IsTold}
+use Rattle.jac_keep.specs.WorkState.{IsTold}
 use Rattle.jac_keep.specs.declared.alteration.Alterations.{Alterations}
 use Rattle.jac_keep.specs.declared.work.WorkOver.{WorkOver}
 use Rattle.jac_write.specs.declared.subject.Subject.{Subject}

@@ -83,7 +83,7 @@ pub(crate) fn add_row(
     Ok(())
 }
 
-/// Puts an alternative of the record behind the others.
+/// Puts an alternative of the record after the others.
 #[tactic(auto, using(crate::proofs::CellsLaws::cells_pushed))]
 pub(crate) fn put_row(id: Id, guard: Guard, cells: Cells, out: &mut Vec<Row>) -> Result<(), Memory>
     requires { All (λ (r : Seen). r.id ≡ id) out.old.items }
@@ -95,7 +95,7 @@ pub(crate) fn put_row(id: Id, guard: Guard, cells: Cells, out: &mut Vec<Row>) ->
     Ok(())
 }
 
-/// Puts these alternatives behind the others, as alternatives of the record.
+/// Puts these alternatives after the others, as alternatives of the record.
 #[tactic(auto, using(crate::proofs::CellsLaws::one_by_one_is))]
 pub(crate) fn put_rows(id: Id, rows: Vec<Row>, out: &mut Vec<Row>) -> Result<(), Memory>
     requires { All (λ (r : Seen). r.id ≡ id) out.old.items }

@@ -16,7 +16,7 @@ use std::alloc::Global;
 /// Where a value goes among the cells of a record.
 #[derive(Clone, Copy)]
 pub(crate) enum Spot {
-    /// Behind the last cell.
+    /// After the last cell.
     Behind,
     /// In place of the cell of this field.
     At(u8),

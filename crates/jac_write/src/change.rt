@@ -5,7 +5,7 @@ ghost use Rattle.jac_value.specs.Ids.{is_id_of};
 ghost use Rattle.jac_value.specs.declared.value.Value.{Value as Plain};
 ghost use Rattle.jac_lang.specs.Lookup.{fields_at};
 ghost use Rattle.jac_lang.specs.Mirror.{application_of};
-ghost use Rattle.jac_keep.specs.Worked.{state_of, IsTold, WritesWork};
+ghost use Rattle.jac_keep.specs.WorkState.{state_of, IsTold, WritesWork};
 ghost use Rattle.jac_plain.specs.Records.{changed_rows};
 ghost use Rattle.jac_rows.specs.Tables.{rows_of};
 ghost use Rattle.jac_rows.specs.declared.row.Row.{Row as Seen};

@@ -4,7 +4,7 @@ ghost use Rattle.jac_value.specs.Ids.{is_id_of, model_of_id};
 ghost use Rattle.jac_lang.specs.Lookup.{fields_at};
 ghost use Rattle.jac_lang.specs.Mirror.{application_of};
 ghost use Rattle.jac_expr.specs.Tupled.{all_at};
-ghost use Rattle.jac_keep.specs.Worked.{state_of, IsTold, WritesWork};
+ghost use Rattle.jac_keep.specs.WorkState.{state_of, IsTold, WritesWork};
 ghost use Rattle.jac_plain.specs.Records.{plain_row, tables_with};
 ghost use Rattle.jac_rows.specs.declared.row.Row.{Row as Seen};
 ghost use Rattle.jac_world.specs.World.{holds};
@@ -26,7 +26,7 @@ use jac_world::{Guard, Steps};
 use std::alloc::Global;
 use std::sync::ledger::Ledger;
 
-// The alternatives of a new record, behind those that stand.
+// The alternatives of a new record, after those that stand.
 fn with_new_record<L: Ledger>(
     alloc: Global,
     subject: &Subject<'_>,

@@ -3,7 +3,7 @@ ghost use Rattle.std.specs.Prelude.{◌<◌, length, slice_set, OnOk, IsTrue};
 ghost use Rattle.jac_value.specs.Ids.{model_of_id};
 ghost use Rattle.jac_facet.specs.Shape.{at};
 ghost use Rattle.jac_rows.specs.Tables.{rows_of};
-ghost use Rattle.jac_keep.specs.Worked.{state_of, IsTold, WritesWork};
+ghost use Rattle.jac_keep.specs.WorkState.{state_of, IsTold, WritesWork};
 ghost use Rattle.jac_plain.specs.Records.{tables_after, without};
 ghost use Rattle.jac_write.specs.Writes.{Writes, WritesEach, KeepsOrMerges, StaysTold};
 

@@ -1,7 +1,7 @@
 //! Records of a model that has got groups.
 ghost use Rattle.std.specs.Prelude.{◌≡◌, ◌<◌, ◌≤◌, ℕ, Bool, true, not, length, if◌then◌else◌, [], All, IfOk};
 ghost use Rattle.jac_lang.specs.Mirror.{application_of};
-ghost use Rattle.jac_merged.specs.Merged.{AreMerged};
+ghost use Rattle.jac_row_merge.specs.Merged.{AreMerged};
 ghost use Rattle.jac_rows.specs.declared.row.Row.{Row as Seen};
 ghost use Rattle.jac_value.specs.Ids.{is_id_of};
 ghost use Rattle.jac_world.specs.World.{holds};

@@ -1,10 +1,10 @@
 //! Alternatives of a record as they are stored.
 ghost use Rattle.std.specs.Prelude.{◌≡◌, ◌≤◌, ℕ, Bool, length, All, IfOk};
-ghost use Rattle.jac_merged.specs.Merged.{AreMerged};
+ghost use Rattle.jac_row_merge.specs.Merged.{AreMerged};
 ghost use Rattle.jac_rows.specs.declared.row.Row.{Row as Seen};
 ghost use Rattle.jac_write.specs.Writes.{cells_at};
 
-use jac_merged::merge_rows;
+use jac_row_merge::merge_rows;
 use jac_rows::{Row, Rows};
 use jac_value::Memory;
 use std::alloc::Global;

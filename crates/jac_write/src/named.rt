@@ -33,7 +33,7 @@ pub(crate) fn is_named(app: &App, model: u8, named: Named<'_>, field: u8) -> boo
     }
 }
 
-/// Whether there is a group, at this place or behind it.
+/// Whether there is a group, at this place or after it.
 pub(crate) fn is_from(first: u8, group: Option<u8>) -> bool
     ensures { result ≡ is_from first group }
 {

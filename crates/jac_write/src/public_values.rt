@@ -13,7 +13,7 @@ ghost use Rattle.jac_write.specs.Writes.{only};
 
 use crate::fit::fitted;
 use crate::schema::expression_of_field;
-use jac_expr::{Ctx, Env, Here, eval};
+use jac_expr::{Ctx, Env, FacetedContext, eval};
 use jac_io::Calls;
 use jac_keep::{MemoryKeeper, Stop, Work};
 use jac_lang::{App, Expr, kind_of};
@@ -122,7 +122,7 @@ fn value_in<L: Ledger>(
     let ctx = asked_of(id);
     let env = Env::empty(alloc);
     let everywhere = Guard::empty(alloc);
-    let here = Here {
+    let here = FacetedContext {
         app,
         ctx: &ctx,
         pc: &everywhere,

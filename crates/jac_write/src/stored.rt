@@ -117,7 +117,7 @@ fn stored_field<L: Ledger>(
     }
 }
 
-// What is stored of a cell of a draft. One behind the fields of the model stays as it is.
+// What is stored of a cell of a draft. One after the fields of the model stays as it is.
 #[tactic(auto, using(crate::proofs::SchemaLaws::past_stored))]
 fn stored_cell<L: Ledger>(
     alloc: Global,

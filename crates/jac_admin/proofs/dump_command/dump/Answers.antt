@@ -1,8 +1,8 @@
 use Rattle.std.proofs.Common.{inl}
 use Rattle.jac_lang.specs.Mirror.{application_of}
 use Rattle.jac_world.specs.World.{shown_by}
-use Rattle.jac_serving.specs.Outside.{span}
-use Rattle.jac_ending.proofs.EndingLemmas.{idle_ends, still_idle}
+use Rattle.jac_serve_events.specs.Outside.{span}
+use Rattle.jac_command_base.proofs.ExitReasonLemmas.{idle_ends, still_idle}
 use Rattle.jac_admin.proofs.DumpLemmas.{dump_ended, dump_halted}
 use Rattle.jac_admin.proofs.dump_command.dump.Goals as goal
 
@@ -17,7 +17,7 @@ returns-in-Err-open_store g c =
     let U = g.U.Sink in
     let K = g.K.Keeper in
     dump_halted (span (F.seen c.args.files.now) (F.seen c.open_store.new.files)) (g.O.Sink.seen c.args.out.now) (U.seen c.args.audit.now) (U.seen c.open_store.new.audit)
-    (span (K.seen c.args.vault.now) (K.seen c.open_store.new.vault)) c.args.command.now c.in-Err-open_store.ending c.in-Err-open_store.ensures
+    (span (K.seen c.args.vault.now) (K.seen c.open_store.new.vault)) c.args.command.now c.in-Err-open_store.exit_reason c.in-Err-open_store.ensures
 
 pub dump_attached-requires : goal.dump_attached-requires
 dump_attached-requires g c = record { attached = c.in-Ok-open_store.ensures.attaches.0.ok.attached }

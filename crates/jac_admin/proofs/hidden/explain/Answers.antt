@@ -1,5 +1,5 @@
 use Rattle.jac_lang.specs.Mirror.{application_of}
-use Rattle.jac_serving.specs.Outside.{span}
+use Rattle.jac_serve_events.specs.Outside.{span}
 use Rattle.jac_admin.proofs.ExplainLemmas.{sound_tables, why_ended, why_halted}
 use Rattle.jac_admin.proofs.hidden.explain.Goals as goal
 
@@ -9,7 +9,7 @@ returns-in-Err g c =
     let U = g.U.Sink in
     let K = g.K.Keeper in
     why_halted (span (F.seen c.args.files.now) (F.seen c.open_store.new.files)) (g.O.Sink.seen c.args.out.now) (U.seen c.args.audit.now) (U.seen c.open_store.new.audit)
-    (span (K.seen c.args.vault.now) (K.seen c.open_store.new.vault)) c.args.command.now c.in-Err.ending c.in-Err.ensures
+    (span (K.seen c.args.vault.now) (K.seen c.open_store.new.vault)) c.args.command.now c.in-Err.exit_reason c.in-Err.ensures
 
 pub explain_attached-requires-clause-attached : goal.explain_attached-requires-clause-attached
 explain_attached-requires-clause-attached g c = c.in-Ok.ensures.attaches.0.ok.attached

@@ -1,5 +1,5 @@
 use Rattle.jac_lang.specs.Mirror.{application_of}
-use Rattle.jac_keep.specs.Worked.{state_of}
+use Rattle.jac_keep.specs.WorkState.{state_of}
 use Rattle.jac_admin.proofs.ExplainLemmas.{all_lines}
 use Rattle.jac_admin.proofs.hidden.shown_lines.Goals as goal
 

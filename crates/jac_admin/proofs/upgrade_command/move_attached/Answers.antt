@@ -1,6 +1,6 @@
 use Rattle.std.proofs.Common.{ap, refl, inl, inr, Err}
 use Rattle.jac_keep.specs.declared.stop.Stop.{Stop}
-use Rattle.jac_ending.proofs.EndingLemmas.{Closed-none}
+use Rattle.jac_command_base.proofs.ExitReasonLemmas.{Closed-none}
 use Rattle.jac_admin.proofs.upgrade_command.move_attached.Goals as goal
 
 pub returns-in-Ok-put_upgraded : goal.returns-in-Ok-put_upgraded

@@ -1,7 +1,7 @@
 use Rattle.std.proofs.Common.{Some, refl, inl, inr}
 use Rattle.jac_lang.specs.Mirror.{application_of}
-use Rattle.jac_ending.specs.declared.ending.Ending.TheVariants as endings
-use Rattle.jac_ending.proofs.EndingLemmas.{Closed-on, Closed-none}
+use Rattle.jac_command_base.specs.declared.exit_reason.ExitReason.TheVariants as exits
+use Rattle.jac_command_base.proofs.ExitReasonLemmas.{Closed-on, Closed-none}
 use Rattle.jac_admin.proofs.UpgradeLemmas.{unattached_still}
 use Rattle.jac_admin.proofs.upgrade_command.move_store.Goals as goal
 
@@ -9,7 +9,7 @@ pub returns-in-Err : goal.returns-in-Err
 returns-in-Err g c =
     Closed-none (g.O.Sink.seen c.args.out.now) _
     (inl (record {
-      ending = endings.Memory;
+      exit_reason = exits.Memory;
       ended = refl;
       attaches = unattached_still (Some c.args.db.now) (application_of c.args.old.now) (g.K.Keeper.seen c.args.vault.now);
       no_out = refl;
@@ -25,4 +25,4 @@ returns-in-Ok-attach g c =
 pub returns-in-Err-attach : goal.returns-in-Err-attach
 returns-in-Err-attach g c =
     Closed-none (g.O.Sink.seen c.args.out.now) _
-    (inl (record { ending = c.in-Err-attach.ending; ended = refl; attaches = c.in-Err-attach.ensures.attaches; no_out = refl }))
+    (inl (record { exit_reason = c.in-Err-attach.exit_reason; ended = refl; attaches = c.in-Err-attach.ensures.attaches; no_out = refl }))

@@ -1,12 +1,12 @@
 use Rattle.std.proofs.Common.{refl, inl, inr, [], arith}
 use Rattle.jac_lang.specs.Mirror.{application_of}
-use Rattle.jac_words.specs.declared.role.Role.TheVariants as roles
-use Rattle.jac_words.specs.declared.words.Command.TheVariants as commands
-use Rattle.jac_serving.specs.Outside.{span}
-use Rattle.jac_ending.specs.Files.{sight}
-use Rattle.jac_serving.proofs.OutsideLemmas.{Took-none}
-use Rattle.jac_ending.proofs.EndingLemmas.{read_within, unread_ends, next_unopened_ends, idle_ends, still_idle}
-use Rattle.jac_ending.proofs.OutsetLemmas.{appless_ends, files_last, spelled_application, spelled_within, within_between}
+use Rattle.jac_cli.specs.declared.role.Role.TheVariants as roles
+use Rattle.jac_cli.specs.declared.words.Command.TheVariants as commands
+use Rattle.jac_serve_events.specs.Outside.{span}
+use Rattle.jac_command_base.specs.Files.{sight}
+use Rattle.jac_serve_events.proofs.OutsideLemmas.{Took-none}
+use Rattle.jac_command_base.proofs.ExitReasonLemmas.{read_within, unread_ends, next_unopened_ends, idle_ends, still_idle}
+use Rattle.jac_command_base.proofs.StartupLemmas.{appless_ends, files_last, spelled_application, spelled_within, within_between}
 use Rattle.jac_admin.proofs.WellLemmas.{is_well_if_spelled}
 use Rattle.jac_admin.proofs.upgrade_command.upgrade.Goals as goal
 
@@ -21,7 +21,7 @@ returns-in-Err g c =
     let b = F.seen c.read_app.new.files in
     idle_ends out audit _
     (inl (
-      appless_ends (sight a b out out audit audit k k) command (span a b) c.in-Err.ending (within_between a a b b (files_last a) c.in-Err.ensures.lasts (files_last b)) c.in-Err.ensures.appless,
+      appless_ends (sight a b out out audit audit k k) command (span a b) c.in-Err.exit_reason (within_between a a b b (files_last a) c.in-Err.ensures.lasts (files_last b)) c.in-Err.ensures.appless,
       still_idle audit k,
     ))
 
@@ -41,7 +41,7 @@ returns-in-Err-read_file g c =
     let seen = sight a d out out audit audit k k in
     idle_ends out audit _
     (inl (
-      unread_ends seen command roles.New (span b d) c.in-Err-read_file.ending (
+      unread_ends seen command roles.New (span b d) c.in-Err-read_file.exit_reason (
         (
           app,
           spelled_application seen command app
@@ -70,7 +70,7 @@ returns-in-Err-open_next g c =
     let seen = sight a d out out audit audit k k in
     idle_ends out audit _
     (inl (
-      next_unopened_ends seen command c.in-Ok-read_file.next c.in-Err-open_next.ending (
+      next_unopened_ends seen command c.in-Ok-read_file.next c.in-Err-open_next.exit_reason (
         (
           app,
           spelled_application seen command app

@@ -1,6 +1,6 @@
 use Rattle.std.proofs.Common.{sym, refl, inl, inr}
 use Rattle.jac_lang.specs.Mirror.{application_of}
-use Rattle.jac_ending.proofs.EndingLemmas.{Closed-on, Closed-none}
+use Rattle.jac_command_base.proofs.ExitReasonLemmas.{Closed-on, Closed-none}
 use Rattle.jac_admin.specs.Upgrade.{lack_line}
 use Rattle.jac_admin.proofs.UpgradeLemmas.{lacking_told}
 use Rattle.jac_admin.proofs.upgrade_command.upgrade_store.Goals as goal

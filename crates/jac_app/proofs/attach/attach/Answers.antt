@@ -1,6 +1,6 @@
 use Rattle.std.specs.Option.{option_copied}
 use Rattle.jac_lang.specs.Mirror.{application_of}
-use Rattle.jac_serving.specs.Outside.{span}
+use Rattle.jac_serve_events.specs.Outside.{span}
 use Rattle.jac_app.proofs.AttachLemmas.{starts_attached}
 use Rattle.jac_app.proofs.attach.attach.Goals as goal
 

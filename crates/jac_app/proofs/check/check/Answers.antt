@@ -1,11 +1,11 @@
 use Rattle.std.proofs.Common.{inl, inr, [], arith}
 use Rattle.jac_lang.specs.Mirror.{application_of}
-use Rattle.jac_words.specs.declared.words.Command.TheVariants as commands
-use Rattle.jac_serving.specs.Outside.{span}
-use Rattle.jac_ending.specs.Files.{sight}
-use Rattle.jac_serving.proofs.OutsideLemmas.{Took-none}
-use Rattle.jac_ending.proofs.EndingLemmas.{idle_ends, still_idle}
-use Rattle.jac_ending.proofs.OutsetLemmas.{appless_ends, files_last, within_between}
+use Rattle.jac_cli.specs.declared.words.Command.TheVariants as commands
+use Rattle.jac_serve_events.specs.Outside.{span}
+use Rattle.jac_command_base.specs.Files.{sight}
+use Rattle.jac_serve_events.proofs.OutsideLemmas.{Took-none}
+use Rattle.jac_command_base.proofs.ExitReasonLemmas.{idle_ends, still_idle}
+use Rattle.jac_command_base.proofs.StartupLemmas.{appless_ends, files_last, within_between}
 use Rattle.jac_app.proofs.check.check.Goals as goal
 
 pub returns-in-Err : goal.returns-in-Err
@@ -19,7 +19,7 @@ returns-in-Err g c =
     let b = F.seen c.read_app.new.files in
     idle_ends out audit _
     (inl (
-      appless_ends (sight a b out out audit audit k k) command (span a b) c.in-Err.ending (within_between a a b b (files_last a) c.in-Err.ensures.lasts (files_last b)) c.in-Err.ensures.appless,
+      appless_ends (sight a b out out audit audit k k) command (span a b) c.in-Err.exit_reason (within_between a a b b (files_last a) c.in-Err.ensures.lasts (files_last b)) c.in-Err.ensures.appless,
       still_idle audit k,
     ))
 

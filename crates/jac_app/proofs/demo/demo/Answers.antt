@@ -1,6 +1,6 @@
 use Rattle.std.proofs.Common.{inl, inr, refl}
 use Rattle.jac_lang.specs.Mirror.{application_of}
-use Rattle.jac_ending.proofs.EndingLemmas.{idle_ends, still_idle, WentAimed-on}
+use Rattle.jac_command_base.proofs.ExitReasonLemmas.{idle_ends, still_idle, WentAimed-on}
 use Rattle.jac_app.proofs.demo.demo.Goals as goal
 
 pub returns-in-Err-clause-ends : goal.returns-in-Err-clause-ends

@@ -2,16 +2,16 @@ use Rattle.std.proofs.Common.{◌∙◌, ◌<◌, ◌^◌, subst, sym, List, ℕ
 use Rattle.std.specs.List.{All}
 use Rattle.jac_events.specs.Lines.{line_of}
 use Rattle.jac_lang.specs.Mirror.{application_of}
-use Rattle.jac_calendar.specs.Asking.{IsAsking}
+use Rattle.jac_calendar_laws.specs.Asking.{IsAsking}
 use Rattle.jac_app.specs.Demo.{Tallies}
-use Rattle.jac_serving.specs.Desk.{kept}
-use Rattle.jac_serving.specs.Line.{lines_of}
-use Rattle.jac_serving.specs.Script.{script_of}
-use Rattle.jac_calendar.proofs.AskingLemmas.{text_asking, text_short}
-use Rattle.jac_serving.proofs.OutsideLemmas.{WentTo-none, WentTo-on}
-use Rattle.jac_serving.proofs.DeskLemmas.{keeps-none}
-use Rattle.jac_desk.specs.Answered.{answering}
-use Rattle.jac_desk.specs.Seen.{desk_seen}
+use Rattle.jac_serve_events.specs.Dispatcher.{kept}
+use Rattle.jac_serve_events.specs.Line.{lines_of}
+use Rattle.jac_serve_events.specs.Script.{script_of}
+use Rattle.jac_calendar_laws.proofs.AskingLemmas.{text_asking, text_short}
+use Rattle.jac_serve_events.proofs.OutsideLemmas.{WentTo-none, WentTo-on}
+use Rattle.jac_serve_events.proofs.DispatcherLemmas.{keeps-none}
+use Rattle.jac_dispatch.specs.Answered.{answer_spec}
+use Rattle.jac_dispatch.specs.Seen.{dispatcher_seen}
 use Rattle.jac_app.proofs.DemoLemmas.{tally_none}
 use Rattle.jac_app.proofs.demo.serve_calendar.Goals as goal
 
@@ -27,17 +27,17 @@ tally_events-requires-clause-asking g c =
 pub returns-in-Ok-clause-served : goal.returns-in-Ok-clause-served
 returns-in-Ok-clause-served g c =
     let K = g.K.Keeper in
-    let k = kept (desk_seen K.seen c.args.desk.now) (desk_seen K.seen c.tally_events.new.desk) in
+    let k = kept (dispatcher_seen K.seen c.args.dispatcher.now) (dispatcher_seen K.seen c.tally_events.new.dispatcher) in
     WentTo-on _ _ _
     (λ put h.
-    subst (λ (t : List ℕ). Tallies (application_of c.args.desk.now.service.now) k (script_of t) c.tally_events.result put)
+    subst (λ (t : List ℕ). Tallies (application_of c.args.dispatcher.now.service.now) k (script_of t) c.tally_events.result put)
     (c.as_slice.ensures ∙ c.in-Ok.ensures) h)
     c.tally_events.ensures.tallied
 
 pub returns-in-Err-clause-served : goal.returns-in-Err-clause-served
 returns-in-Err-clause-served g c =
-    let desk = desk_seen g.K.Keeper.seen c.args.desk.now in
-    WentTo-none (g.U.Sink.seen c.args.audit.now) _ (tally_none (application_of c.args.desk.now.service.now) desk.holding c.args.count c.requires.desk.ready)
+    let dispatcher = dispatcher_seen g.K.Keeper.seen c.args.dispatcher.now in
+    WentTo-none (g.U.Sink.seen c.args.audit.now) _ (tally_none (application_of c.args.dispatcher.now.service.now) dispatcher.run_seen c.args.count c.requires.dispatcher.ready)
 
 pub returns-in-Err-clause-keeps : goal.returns-in-Err-clause-keeps
-returns-in-Err-clause-keeps g c = keeps-none answering (desk_seen g.K.Keeper.seen c.args.desk.now) c.requires.desk
+returns-in-Err-clause-keeps g c = keeps-none answer_spec (dispatcher_seen g.K.Keeper.seen c.args.dispatcher.now) c.requires.dispatcher

@@ -1,5 +1,5 @@
-use Rattle.jac_serving.specs.Outside.{span}
-use Rattle.jac_ending.specs.Files.{sight}
+use Rattle.jac_serve_events.specs.Outside.{span}
+use Rattle.jac_command_base.specs.Files.{sight}
 use Rattle.jac_app.proofs.CauseLemmas.{comes_for, is_attached_so}
 use Rattle.jac_app.proofs.CompleteLemmas.{is_served, is_checked, is_shown, is_dumped, is_explained, is_upgraded, is_refused, is_listened}
 use Rattle.jac_app.proofs.program.run_counted.Goals as goal

@@ -1,7 +1,7 @@
 use Rattle.std.proofs.Common.{◌∙◌, sym, refl, inl, inr, [], ◌++◌, arith}
-use Rattle.jac_serving.proofs.OutsideLemmas.{Lasts-then, Took-none, Took-then}
-use Rattle.jac_words.proofs.CountLemmas.{has_count}
-use Rattle.jac_ending.proofs.EndingLemmas.{still_idle}
+use Rattle.jac_serve_events.proofs.OutsideLemmas.{Lasts-then, Took-none, Took-then}
+use Rattle.jac_cli.proofs.CountLemmas.{has_count}
+use Rattle.jac_command_base.proofs.ExitReasonLemmas.{still_idle}
 use Rattle.jac_app.proofs.program.run_words.Goals as goal
 
 pub take_steps-ended-requires-clause-count : goal.take_steps-ended-requires-clause-count

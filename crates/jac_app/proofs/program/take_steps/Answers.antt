@@ -1,5 +1,5 @@
 use Rattle.std.proofs.Common.{refl}
-use Rattle.jac_ending.proofs.EndingLemmas.{WentAimed-on}
+use Rattle.jac_command_base.proofs.ExitReasonLemmas.{WentAimed-on}
 use Rattle.jac_app.proofs.program.take_steps.Goals as goal
 
 pub returns-in-Check-clause-ends : goal.returns-in-Check-clause-ends

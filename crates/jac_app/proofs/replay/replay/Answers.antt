@@ -1,6 +1,6 @@
 use Rattle.jac_lang.specs.Mirror.{application_of}
-use Rattle.jac_serving.specs.Outside.{span}
-use Rattle.jac_desk.proofs.StartLaws.{starts}
+use Rattle.jac_serve_events.specs.Outside.{span}
+use Rattle.jac_dispatch.proofs.StartLaws.{starts}
 use Rattle.jac_app.proofs.ReplayLemmas.{few_events, replay_halted, replay_served}
 use Rattle.jac_app.proofs.replay.replay.Goals as goal
 
@@ -10,7 +10,7 @@ returns-in-Err-clause-ends g c =
     let U = g.U.Sink in
     let K = g.K.Keeper in
     replay_halted (span (F.seen c.args.files.now) (F.seen c.open_store.new.files)) (g.O.Sink.seen c.args.out.now) (U.seen c.args.audit.now) (U.seen c.open_store.new.audit)
-    (K.seen c.args.vault.now) (K.seen c.open_store.new.vault) c.args.counts.now.splits.now c.args.command.now c.in-Err.ending c.in-Err.ensures
+    (K.seen c.args.vault.now) (K.seen c.open_store.new.vault) c.args.counts.now.splits.now c.args.command.now c.in-Err.exit_reason c.in-Err.ensures
 
 pub serve_over-requires-clause-short : goal.serve_over-requires-clause-short
 serve_over-requires-clause-short g c =

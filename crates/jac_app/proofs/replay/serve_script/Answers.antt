@@ -1,8 +1,8 @@
 use Rattle.jac_lang.specs.Mirror.{application_of}
-use Rattle.jac_serving.specs.Keeping.{holding_of}
-use Rattle.jac_serving.specs.Outside.{span, sinks}
-use Rattle.jac_serving.proofs.OutsideLemmas.{Went-on}
-use Rattle.jac_desk.specs.Answered.{answering_of}
+use Rattle.jac_serve_events.specs.RunSeen.{run_seen_of}
+use Rattle.jac_serve_events.specs.Outside.{span, sinks}
+use Rattle.jac_serve_events.proofs.OutsideLemmas.{Went-on}
+use Rattle.jac_dispatch.specs.Answered.{answer_spec_of}
 use Rattle.jac_app.proofs.ReplayLemmas.{served_stopped}
 use Rattle.jac_app.proofs.replay.serve_script.Goals as goal
 
@@ -14,12 +14,12 @@ returns-in-Err-clause-served g c =
     let O = g.O.Sink in
     let U = g.U.Sink in
     let K = g.K.Keeper in
-    let desk = c.args.desk.now in
-    let after = c.serve_events.new.desk in
+    let dispatcher = c.args.dispatcher.now in
+    let after = c.serve_events.new.dispatcher in
     let s = sinks (O.seen c.args.out.now) (O.seen c.serve_events.new.out) (U.seen c.args.audit.now) (U.seen c.serve_events.new.audit) in
-    rw c.ending_of.ensures
+    rw c.exit_reason_of.ensures
     (Went-on _ _ _
     (λ o a h.
-    served_stopped (answering_of desk.lazy (application_of desk.service.now) desk.sessions.now)
-    (span (holding_of (K.seen desk.keeper.now) desk.splits.now) (holding_of (K.seen after.keeper.now) after.splits.now)) c.args.events.now c.in-Err.stopped s o a h)
+    served_stopped (answer_spec_of dispatcher.lazy (application_of dispatcher.service.now) dispatcher.sessions.now)
+    (span (run_seen_of (K.seen dispatcher.keeper.now) dispatcher.splits.now) (run_seen_of (K.seen after.keeper.now) after.splits.now)) c.args.events.now c.in-Err.stopped s o a h)
     (rw c.as_slice.ensures at c.in-Err.ensures.served))

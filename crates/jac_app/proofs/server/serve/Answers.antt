@@ -1,6 +1,6 @@
 use Rattle.jac_lang.specs.Mirror.{application_of}
-use Rattle.jac_serving.specs.Outside.{span}
-use Rattle.jac_desk.proofs.StartLaws.{starts}
+use Rattle.jac_serve_events.specs.Outside.{span}
+use Rattle.jac_dispatch.proofs.StartLaws.{starts}
 use Rattle.jac_app.proofs.ServerLemmas.{server_halted, server_served}
 use Rattle.jac_app.proofs.server.serve.Goals as goal
 
@@ -10,7 +10,7 @@ returns-in-Err-clause-ends g c =
     let U = g.U.Sink in
     let K = g.K.Keeper in
     server_halted g.D.Line.Link.seen (span (F.seen c.args.files.now) (F.seen c.open_store.new.files)) (g.O.Sink.seen c.args.out.now) (U.seen c.args.audit.now) (U.seen c.open_store.new.audit)
-    (K.seen c.args.vault.now) (K.seen c.open_store.new.vault) (g.D.Door.seen c.args.door.now) c.args.counts.now.splits.now c.args.serving.now c.in-Err.ending c.in-Err.ensures
+    (K.seen c.args.vault.now) (K.seen c.open_store.new.vault) (g.D.Door.seen c.args.door.now) c.args.counts.now.splits.now c.args.serving.now c.in-Err.exit_reason c.in-Err.ensures
 
 pub serve_over-requires-clause-attached : goal.serve_over-requires-clause-attached
 serve_over-requires-clause-attached g c = c.in-Ok.ensures.attaches.0.ok.attached

@@ -1,8 +1,8 @@
 use Rattle.std.proofs.Common.{◌++◌, codes}
 use Rattle.jac_io.specs.declared.sink.Failed.{Failed}
 use Rattle.jac_app.specs.Demo.{counts_text, sizes_text}
-use Rattle.jac_serving.specs.Outside.{span}
-use Rattle.jac_serving.proofs.OutsideLemmas.{IsPut-then, IsPut-torn}
+use Rattle.jac_serve_events.specs.Outside.{span}
+use Rattle.jac_serve_events.proofs.OutsideLemmas.{IsPut-then, IsPut-torn}
 use Rattle.jac_app.proofs.summary.put_summary.Goals as goal
 
 pub returns-in-Ok-put_sizes : goal.returns-in-Ok-put_sizes

@@ -1,7 +1,7 @@
 use Rattle.std.proofs.Common.{ℕ, IfOk, subst}
 use Rattle.jac_lang.specs.Mirror.{application_of}
 use Rattle.jac_route.specs.Found.{IsWithin}
-use Rattle.jac_opening.proofs.PlaceLaws.{length_pages}
+use Rattle.jac_app_load.proofs.PlaceLaws.{length_pages}
 use Rattle.jac_engine.proofs.answer.find_view.Goals as goal
 
 pub returns-clause-within : goal.returns-clause-within

@@ -7,5 +7,5 @@ returns-clause-prepared g c =
     let K = g.K.Keeper in
     let tells = (K.seen c.prepare_found.new.keeper).tells in
     let state = (K.seen c.args.keeper.now).state in
-    is_prepared c.args.manner.lazy tells (application_of c.args.service.now) state c.args.ask.now c.in_ok-seated.seated.prepared c.app-app.ensures.served c.app-app.ensures.few
-    (λ told. c.requires.start (c.in_ok-seated.ensures.reads.left.told told)) c.in_ok-seated.ensures.prepared
+    is_prepared c.args.manner.lazy tells (application_of c.args.service.now) state c.args.ask.now c.in_ok-valid.valid.prepared c.app-app.ensures.served c.app-app.ensures.few
+    (λ told. c.requires.start (c.in_ok-valid.ensures.reads.left.told told)) c.in_ok-valid.ensures.prepared

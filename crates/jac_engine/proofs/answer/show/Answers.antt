@@ -20,10 +20,10 @@ shown_page-requires-clause-ready g c = λ told.
     rw (left.same_state told) (ready_to_show (application_of c.args.visited.now.app.now) (page_of_view c.args.visited.now.view.now) (asked_with c.args.visited.now.path.now c.args.visited.now.ask.now) c.in_ok-number.number (g.K.Keeper.seen c.args.keeper.now).state c.requires.served start.sound
     (c.in_ok-number.ensures.exact told))
 
-pub shown_page-requires-clause-seated : goal.shown_page-requires-clause-seated
-shown_page-requires-clause-seated g c = λ told.
+pub shown_page-requires-clause-valid : goal.shown_page-requires-clause-valid
+shown_page-requires-clause-valid g c = λ told.
     let left = c.in_ok-number.ensures.reads.left in
-    rw (left.same_state told) (c.requires.seated (left.told told))
+    rw (left.same_state told) (c.requires.valid (left.told told))
 
 pub returns-clause-shown : goal.returns-clause-shown
 returns-clause-shown g c =
@@ -51,6 +51,6 @@ pub returns-clause-keeps : goal.returns-clause-keeps
 returns-clause-keeps g c =
     let left = c.in_ok-number.ensures.reads.left in
     record {
-      seated = λ told. rw (left.same_state (c.in_ok-shown.ensures.left.told told)) at (c.in_ok-shown.ensures.seated told);
-      touched = λ told. tt;
+      valid = λ told. rw (left.same_state (c.in_ok-shown.ensures.left.told told)) at (c.in_ok-shown.ensures.valid told);
+      affected = λ told. tt;
     }

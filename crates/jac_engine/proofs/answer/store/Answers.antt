@@ -19,10 +19,10 @@ stored_page-requires-clause-sound g c = λ told.
     let left = c.in_ok-number.ensures.reads.left in
     rw (left.same_state told) (c.requires.start (left.told told)).sound
 
-pub stored_page-requires-clause-seated : goal.stored_page-requires-clause-seated
-stored_page-requires-clause-seated g c = λ told.
+pub stored_page-requires-clause-valid : goal.stored_page-requires-clause-valid
+stored_page-requires-clause-valid g c = λ told.
     let left = c.in_ok-number.ensures.reads.left in
-    rw (left.same_state told) (c.requires.seated (left.told told))
+    rw (left.same_state told) (c.requires.valid (left.told told))
 
 pub stored_page-requires-clause-runnable : goal.stored_page-requires-clause-runnable
 stored_page-requires-clause-runnable g c =
@@ -75,6 +75,6 @@ returns-clause-keeps g c =
     let left = c.in_ok-number.ensures.reads.left in
     let change = c.in_ok-stored.stored.change in
     record {
-      seated = λ told. (rw (left.same_state (c.in_ok-stored.ensures.left.told told)) at (c.in_ok-stored.ensures.settles told)).seated change.number;
-      touched = λ told. (rw (left.same_state (c.in_ok-stored.ensures.left.told told)) at (c.in_ok-stored.ensures.settles told)).touched change.number;
+      valid = λ told. (rw (left.same_state (c.in_ok-stored.ensures.left.told told)) at (c.in_ok-stored.ensures.settles told)).valid change.number;
+      affected = λ told. (rw (left.same_state (c.in_ok-stored.ensures.left.told told)) at (c.in_ok-stored.ensures.settles told)).affected change.number;
     }

@@ -1,4 +1,4 @@
-use Rattle.jac_keep.specs.Worked.{state_of}
+use Rattle.jac_keep.specs.WorkState.{state_of}
 use Rattle.jac_engine.specs.Visits.{app_of, viewer_at}
 use Rattle.jac_engine.proofs.AnswerLaws.{settles_view}
 use Rattle.jac_engine.proofs.visit.settle_view.Goals as goal
@@ -6,7 +6,7 @@ use Rattle.jac_engine.proofs.visit.settle_view.Goals as goal
 pub returns-clause-settles : goal.returns-clause-settles
 returns-clause-settles g c = λ told.
     let K = g.K.Keeper in
-    let it = c.in_ok-touching in
+    let it = c.in_ok-with_invalidation in
     settles_view (app_of c.args.visited.now) (viewer_at c.args.visited.now) (K.seen c.args.work.now.keeper.now).state (state_of K.seen c.store_view.new.work)
-    it.touching.shown.labels c.store_view.new.seat it.touching.touch c.settled_by_tables.ensures c.seated_by_tables.ensures
-    (it.ensures.settled told) (it.ensures.seated told) (it.ensures.touched told)
+    it.with_invalidation.shown.labels c.store_view.new.cache it.with_invalidation.invalidation c.settled_by_tables.ensures c.valid_by_tables.ensures
+    (it.ensures.settled told) (it.ensures.valid told) (it.ensures.affected told)

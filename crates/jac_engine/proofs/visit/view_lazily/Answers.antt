@@ -1,5 +1,5 @@
 use Rattle.std.proofs.Common.{subst}
-use Rattle.jac_keep.specs.Worked.{state_of}
+use Rattle.jac_keep.specs.WorkState.{state_of}
 use Rattle.jac_lang.specs.Mirror.{page_of_view}
 use Rattle.jac_lazy.specs.Steady.{IsPageOf}
 use Rattle.jac_plain.specs.Requests.{Visit}

@@ -1,6 +1,6 @@
 use Rattle.std.proofs.Common.{rules, arith, ◌∙◌, ap, [], length}
 use Rattle.jac_lang.specs.Mirror.{binders_of}
-use Rattle.jac_keep.specs.Worked.{state_of}
+use Rattle.jac_keep.specs.WorkState.{state_of}
 use Rattle.jac_plain.specs.Expressions.{bound, look, key_of}
 use Rattle.jac_plain.specs.World.{got}
 use Rattle.jac_expr.proofs.AtTuples.{each-none, each-more, each-all, counted-more}

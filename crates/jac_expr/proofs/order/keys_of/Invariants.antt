@@ -1,7 +1,7 @@
 use Rattle.std.proofs.Common.{◌≡◌, ◌++◌, List, ℕ, Bool, length, drop}
 use Rattle.jac_value.specs.declared.value.Value.{Value}
 use Rattle.jac_lang.specs.Mirror.{binders_of}
-use Rattle.jac_keep.specs.Worked.{state_of}
+use Rattle.jac_keep.specs.WorkState.{state_of}
 use Rattle.jac_plain.specs.Expressions.{key_of}
 use Rattle.jac_plain.specs.declared.context.Ctx.{Ctx}
 use Rattle.jac_query.specs.Live.{live}

@@ -1,6 +1,6 @@
 use Rattle.std.proofs.Common.{rules, ◌≡◌, ◌∙◌}
 use Rattle.jac_lang.specs.Mirror.{binders_of}
-use Rattle.jac_keep.specs.Worked.{state_of}
+use Rattle.jac_keep.specs.WorkState.{state_of}
 use Rattle.jac_plain.specs.Expressions.{key_of}
 use Rattle.jac_query.specs.Live.{live}
 use Rattle.jac_query.specs.Marked.{marked_tuples}

@@ -4,7 +4,7 @@ use Rattle.jac_value.specs.declared.value.Value.TheVariants as value
 use Rattle.jac_facet.specs.Shape.{at}
 use Rattle.jac_facet.specs.Leaves.{leaves_seen}
 use Rattle.jac_rows.specs.Project.{project_at}
-use Rattle.jac_keep.specs.Worked.{state_of}
+use Rattle.jac_keep.specs.WorkState.{state_of}
 use Rattle.jac_expr.specs.Leafed.{last_by, stands_in}
 use Rattle.jac_expr.proofs.Working.{LoopOver}
 use Rattle.jac_expr.proofs.presence.leaves_stand.Given as goal

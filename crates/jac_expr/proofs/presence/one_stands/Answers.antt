@@ -2,7 +2,7 @@ use Rattle.std.proofs.Common.{rules, ◌≡◌, ◌∙◌, ap, sym, false, Some}
 use Rattle.jac_value.specs.Ids.{model_of_id}
 use Rattle.jac_value.specs.declared.value.Value.TheVariants as value
 use Rattle.jac_rows.specs.Project.{rows_at, project_at}
-use Rattle.jac_keep.specs.Worked.{state_of}
+use Rattle.jac_keep.specs.WorkState.{state_of}
 use Rattle.jac_expr.specs.Leafed.{stood_by, stands_in}
 use Rattle.jac_expr.proofs.Rows.{stands-shown}
 use Rattle.jac_expr.proofs.presence.one_stands.Goals as goal

@@ -1,6 +1,6 @@
 use Rattle.std.proofs.Common.{◌∙◌, ap}
 use Rattle.jac_facet.specs.Shape.{at}
-use Rattle.jac_keep.specs.Worked.{state_of}
+use Rattle.jac_keep.specs.WorkState.{state_of}
 use Rattle.jac_plain.specs.World.{got_of}
 use Rattle.jac_expr.proofs.reading.get.Goals as goal
 use Rattle.jac_plain.specs.Shown.{world_at}

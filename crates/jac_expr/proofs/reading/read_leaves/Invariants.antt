@@ -4,7 +4,7 @@ use Rattle.jac_facet.specs.Shape.{at}
 use Rattle.jac_facet.specs.Leaves.{leaves_seen}
 use Rattle.jac_rows.specs.Project.{project_at}
 use Rattle.jac_rows.specs.Tables.{rows_of}
-use Rattle.jac_keep.specs.Worked.{state_of}
+use Rattle.jac_keep.specs.WorkState.{state_of}
 use Rattle.jac_plain.specs.World.{referred_record, cell_of}
 use Rattle.jac_expr.specs.Leafed.{last_by}
 use Rattle.jac_expr.proofs.Working.{LoopOver}

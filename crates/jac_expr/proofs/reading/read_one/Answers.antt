@@ -2,7 +2,7 @@ use Rattle.std.proofs.Common.{rules, ◌≡◌, ◌∙◌, ap, sym, Some}
 use Rattle.jac_value.specs.declared.value.Value.TheVariants as value
 use Rattle.jac_rows.specs.Project.{rows_at, project_at}
 use Rattle.jac_rows.specs.Tables.{rows_of}
-use Rattle.jac_keep.specs.Worked.{state_of}
+use Rattle.jac_keep.specs.WorkState.{state_of}
 use Rattle.jac_query.specs.Field.{field_of}
 use Rattle.jac_plain.specs.World.{cell_of, referred_record}
 use Rattle.jac_expr.proofs.Rows.{field-shown}

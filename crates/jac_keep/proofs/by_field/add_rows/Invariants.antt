@@ -1,7 +1,7 @@
 use Rattle.std.proofs.Common.{◌≡◌, ◌||◌, ℕ, drop}
 use Rattle.jac_value.specs.declared.value.Value.{Value}
 use Rattle.jac_index.specs.Triples.{has_index_pair}
-use Rattle.jac_keep.specs.Holding.{holds_cell}
+use Rattle.jac_keep.specs.MatchingRecords.{holds_cell}
 use Rattle.jac_keep.proofs.by_field.add_rows.Given as goal
 
 -- a pair is there, or in a row that is left

@@ -1,7 +1,7 @@
 use Rattle.std.proofs.Common.{◌≡◌, ◌&&◌, not, ℕ, drop}
 use Rattle.jac_value.specs.declared.value.Value.{Value}
 use Rattle.jac_index.specs.Triples.{has_index_pair}
-use Rattle.jac_keep.specs.Holding.{holds_cell}
+use Rattle.jac_keep.specs.MatchingRecords.{holds_cell}
 use Rattle.jac_keep.proofs.by_field.remove_rows.Given as goal
 
 -- a pair is there, and not in a row that is left

@@ -1,5 +1,5 @@
 use Rattle.std.proofs.Common.{◌≡◌, ◌++◌, drop}
-use Rattle.jac_keep.specs.Holding.{masked_alterations}
+use Rattle.jac_keep.specs.MatchingRecords.{masked_alterations}
 use Rattle.jac_keep.proofs.masks.mask_each.Given as goal
 
 abbrev pub invariant-changed : goal.invariant-changed

@@ -1,6 +1,6 @@
 use Rattle.std.proofs.Common.{◌∙◌, ap, sym, subst}
 use Rattle.jac_keep.specs.Alterations.{AreApart}
-use Rattle.jac_keep.specs.Holding.{masked_alterations}
+use Rattle.jac_keep.specs.MatchingRecords.{masked_alterations}
 use Rattle.jac_keep.proofs.Held.{apart_masked}
 use Rattle.jac_keep.proofs.masks.masked.Goals as goal
 

@@ -1,7 +1,7 @@
 use Rattle.std.proofs.Common.{◌∙◌}
 use Rattle.jac_world.specs.World.{shown_by}
 use Rattle.jac_keep.proofs.PlacingLaws.{with_id-like}
-use Rattle.jac_keep.specs.Holding.{holds_cell}
+use Rattle.jac_keep.specs.MatchingRecords.{holds_cell}
 use Rattle.jac_keep.proofs.scan.holders.Goals as goal
 
 pub returns : goal.returns

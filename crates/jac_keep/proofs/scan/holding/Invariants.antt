@@ -1,6 +1,6 @@
 use Rattle.std.proofs.Common.{◌≡◌, ℕ, ◌||◌, drop}
 use Rattle.jac_world.specs.World.{shown_by}
-use Rattle.jac_keep.specs.Holding.{holds_cell}
+use Rattle.jac_keep.specs.MatchingRecords.{holds_cell}
 use Rattle.jac_keep.proofs.scan.holding.Given as goal
 
 -- a record that has the value was found, or is left

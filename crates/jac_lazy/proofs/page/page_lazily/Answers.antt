@@ -2,10 +2,10 @@ use Rattle.std.proofs.Common.{◌∙◌, ◌<◌, ◌≤◌, ℕ, List, sym, sub
 use Rattle.jac_world.specs.World.{IsAscending}
 use Rattle.jac_lang.specs.Mirror.{application_of}
 use Rattle.jac_rows.specs.declared.state.State.{State}
-use Rattle.jac_keep.specs.Worked.{state_of}
+use Rattle.jac_keep.specs.WorkState.{state_of}
 use Rattle.jac_pruned.specs.Consulted.{Grows}
 use Rattle.jac_pruned.proofs.Growing.{grows_then}
-use Rattle.jac_resolve.specs.Recalled.{IsPassed}
+use Rattle.jac_resolve.specs.RightMemo.{IsPassed}
 use Rattle.jac_resolve.specs.Live.{AreLiveOf}
 use Rattle.jac_lazy.specs.Steady.{IsSteady}
 use Rattle.jac_lazy.proofs.Shown.{counted_more, ended_steady, fewer_left}

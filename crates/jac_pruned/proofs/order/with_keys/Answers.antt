@@ -1,7 +1,7 @@
 use Rattle.std.proofs.Common.{rules, ◌+◌, ◌∙◌, ap, [], drop}
 use Rattle.std.proofs.lemmas.List.{drop_all}
 use Rattle.jac_lang.specs.Mirror.{binders_of}
-use Rattle.jac_keep.specs.Worked.{state_of}
+use Rattle.jac_keep.specs.WorkState.{state_of}
 use Rattle.jac_plain.specs.Expressions.{bound, look, key_of}
 use Rattle.jac_plain.specs.World.{got}
 use Rattle.jac_pruned.specs.Seen.{app_at, seen_at}

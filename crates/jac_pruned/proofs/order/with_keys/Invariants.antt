@@ -2,7 +2,7 @@ use Rattle.std.proofs.Common.{◌≡◌, ◌++◌, List, ℕ, Bool, true, Option
 use Rattle.jac_value.specs.declared.value.Value.{Value}
 use Rattle.jac_lang.specs.Mirror.{binders_of}
 use Rattle.jac_world.specs.World.{shown_by}
-use Rattle.jac_keep.specs.Worked.{state_of, IsTold}
+use Rattle.jac_keep.specs.WorkState.{state_of, IsTold}
 use Rattle.jac_plain.specs.Expressions.{key_of, model_of_binder}
 use Rattle.jac_pruned.specs.Consulted.{Agrees, Grows}
 use Rattle.jac_pruned.specs.Own.{IsOwn, is_own_table, table_named}

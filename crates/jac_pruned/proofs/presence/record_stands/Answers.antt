@@ -1,6 +1,6 @@
 use Rattle.std.proofs.Common.{◌∙◌, ap}
 use Rattle.jac_value.specs.Ids.{model_of_id}
-use Rattle.jac_keep.specs.Worked.{state_of}
+use Rattle.jac_keep.specs.WorkState.{state_of}
 use Rattle.jac_plain.specs.Expressions.{stands}
 use Rattle.jac_pruned.proofs.Rows.{record_of_alternatives}
 use Rattle.jac_rows.specs.Tables.{rows_of}

@@ -1,6 +1,6 @@
 use Rattle.std.proofs.Common.{rules, ◌≡◌, ◌∙◌, ap, sym, Some}
 use Rattle.jac_value.specs.declared.value.Value.TheVariants as value
-use Rattle.jac_keep.specs.Worked.{state_of}
+use Rattle.jac_keep.specs.WorkState.{state_of}
 use Rattle.jac_plain.specs.Expressions.{is_live}
 use Rattle.jac_pruned.specs.Own.{stands_own}
 use Rattle.jac_pruned.proofs.presence.stand.Goals as goal

@@ -1,5 +1,5 @@
 use Rattle.std.proofs.Common.{◌∙◌, ap}
-use Rattle.jac_keep.specs.Worked.{state_of}
+use Rattle.jac_keep.specs.WorkState.{state_of}
 use Rattle.jac_plain.specs.World.{got_of}
 use Rattle.jac_pruned.specs.Seen.{seen_at}
 use Rattle.jac_pruned.specs.Own.{reads_own, table_at}

@@ -1,6 +1,6 @@
 use Rattle.std.proofs.Common.{◌∙◌, ap, sym}
 use Rattle.jac_keep.specs.Records.{alternatives}
-use Rattle.jac_keep.specs.Worked.{state_of}
+use Rattle.jac_keep.specs.WorkState.{state_of}
 use Rattle.jac_rows.specs.Tables.{rows_of}
 use Rattle.jac_pruned.proofs.Rows.{record_of_alternatives, record_of_table}
 use Rattle.jac_pruned.specs.Own.{are_own_rows, is_own_row}

@@ -1,6 +1,6 @@
 use Rattle.std.proofs.Common.{◌≡◌, rules, ℕ, ◌+◌, List, Option, drop, subst}
 use Rattle.jac_lang.specs.Mirror.{binders_of, statements_of}
-use Rattle.jac_keep.specs.Worked.{state_of}
+use Rattle.jac_keep.specs.WorkState.{state_of}
 use Rattle.jac_plain.specs.Expressions.{bound}
 use Rattle.jac_plain.specs.Statements.{for_each, leaves_all, scoped_run}
 use Rattle.jac_pruned.specs.Runs.{run_in}

@@ -3,7 +3,7 @@ use Rattle.jac_lang.specs.declared.statements.Stmt.{size-Stmt}
 use Rattle.jac_lang.specs.declared.statements.Stmts.{size-Stmts}
 use Rattle.jac_lang.specs.Mirror.{binders_of, statements_of}
 use Rattle.jac_world.specs.World.{shown_by}
-use Rattle.jac_keep.specs.Worked.{state_of}
+use Rattle.jac_keep.specs.WorkState.{state_of}
 use Rattle.jac_plain.specs.Statements.{for_each, leaves_all}
 use Rattle.jac_pruned.specs.Consulted.{Agrees, Grows}
 use Rattle.jac_pruned.specs.Runs.{run_in, AreReading}

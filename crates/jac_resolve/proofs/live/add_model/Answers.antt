@@ -1,5 +1,5 @@
 use Rattle.jac_rows.specs.Tables.{rows_of}
-use Rattle.jac_keep.specs.Worked.{state_of}
+use Rattle.jac_keep.specs.WorkState.{state_of}
 use Rattle.jac_resolve.proofs.Collecting.{no_groups}
 use Rattle.jac_resolve.proofs.live.add_model.Goals as goal
 

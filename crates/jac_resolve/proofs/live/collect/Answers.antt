@@ -3,7 +3,7 @@ use Rattle.jac_rows.specs.declared.row.Row.{Row}
 use Rattle.jac_lang.specs.Mirror.{entities_of}
 use Rattle.jac_rows.specs.Tables.{rows_of}
 use Rattle.jac_rows.specs.declared.state.State.{State}
-use Rattle.jac_keep.specs.Worked.{state_of}
+use Rattle.jac_keep.specs.WorkState.{state_of}
 use Rattle.jac_resolve.specs.Collected.{labels_of_rows, CanHold}
 use Rattle.jac_resolve.proofs.Collecting.{in_range, count_there, collects_more}
 use Rattle.jac_resolve.proofs.live.collect.Goals as goal

@@ -1,5 +1,5 @@
 use Rattle.jac_lang.specs.Mirror.{entities_of}
-use Rattle.jac_keep.specs.Worked.{state_of}
+use Rattle.jac_keep.specs.WorkState.{state_of}
 use Rattle.jac_resolve.specs.Collected.{Collects}
 use Rattle.jac_pruned.proofs.Working.{LoopOver}
 use Rattle.jac_resolve.proofs.live.collect.Given as goal

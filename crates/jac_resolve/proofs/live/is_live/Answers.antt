@@ -1,6 +1,6 @@
 use Rattle.std.proofs.Common.{◌≡◌, true, rules}
 use Rattle.jac_lang.specs.Mirror.{application_of}
-use Rattle.jac_keep.specs.Worked.{state_of}
+use Rattle.jac_keep.specs.WorkState.{state_of}
 use Rattle.jac_plain.specs.Policies.{has_group}
 use Rattle.jac_resolve.proofs.Collecting.{live_by_record}
 use Rattle.jac_resolve.proofs.live.is_live.Goals as goal

@@ -1,5 +1,5 @@
 use Rattle.jac_lang.specs.Mirror.{application_of}
-use Rattle.jac_keep.specs.Worked.{state_of}
+use Rattle.jac_keep.specs.WorkState.{state_of}
 use Rattle.jac_resolve.proofs.Collecting.{are_live, by_rows, collects_all}
 use Rattle.jac_resolve.proofs.live.live_labels.Goals as goal
 

@@ -1,6 +1,6 @@
 use Rattle.std.proofs.Common.{drop}
 use Rattle.jac_lang.specs.Mirror.{application_of}
-use Rattle.jac_keep.specs.Worked.{state_of}
+use Rattle.jac_keep.specs.WorkState.{state_of}
 use Rattle.jac_pruned.proofs.Working.{LoopOver}
 use Rattle.jac_resolve.proofs.Living.{AreLiveBut}
 use Rattle.jac_resolve.proofs.live.live_of.Given as goal

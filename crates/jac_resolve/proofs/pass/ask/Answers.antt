@@ -1,7 +1,7 @@
 use Rattle.std.proofs.Common.{◌≡◌, ◌∙◌, ap, sym, None, true, is_some}
 use Rattle.jac_world.specs.World.{shown_by}
 use Rattle.jac_plain.specs.Policies.{with_label}
-use Rattle.jac_recall.specs.Recalled.{recall}
+use Rattle.jac_policy_cache.specs.Memo.{recall}
 use Rattle.jac_resolve.proofs.Room.{most_asked, spends_asked}
 use Rattle.jac_resolve.proofs.Underway.{shows_own}
 use Rattle.jac_resolve.proofs.pass.ask.Goals as goal

@@ -1,6 +1,6 @@
 use Rattle.jac_world.specs.World.{shown_by}
 use Rattle.jac_lang.specs.Mirror.{application_of}
-use Rattle.jac_keep.specs.Worked.{state_of}
+use Rattle.jac_keep.specs.WorkState.{state_of}
 use Rattle.jac_resolve.proofs.Underway.{stays_one}
 use Rattle.jac_resolve.proofs.pass.asked_stays.Goals as goal
 use Rattle.jac_plain.specs.Shown.{worlds_of}

@@ -1,7 +1,7 @@
 use Rattle.std.proofs.Common.{◌∙◌, ap, sym}
 use Rattle.jac_world.specs.World.{shown_by, holds, names}
 use Rattle.jac_lang.specs.Mirror.{application_of}
-use Rattle.jac_keep.specs.Worked.{state_of}
+use Rattle.jac_keep.specs.WorkState.{state_of}
 use Rattle.jac_resolve.proofs.Room.{signed_names}
 use Rattle.jac_resolve.proofs.Underway.{signed_holds, signed_right}
 use Rattle.jac_resolve.proofs.pass.evaluate.Goals as goal

@@ -2,7 +2,7 @@ use Rattle.std.proofs.Common.{ℕ, List, sym, subst}
 use Rattle.jac_world.specs.World.{IsAscending}
 use Rattle.jac_lang.specs.Mirror.{application_of}
 use Rattle.jac_rows.specs.declared.state.State.{State}
-use Rattle.jac_keep.specs.Worked.{state_of}
+use Rattle.jac_keep.specs.WorkState.{state_of}
 use Rattle.jac_pruned.specs.Local.{IsLocalCase}
 use Rattle.jac_resolve.specs.Rounds.{AreLive}
 use Rattle.jac_resolve.proofs.Room.{live_most}

@@ -1,7 +1,7 @@
 use Rattle.std.proofs.Common.{rules}
 use Rattle.jac_world.specs.World.{IsAscending}
 use Rattle.jac_lang.specs.Mirror.{application_of}
-use Rattle.jac_keep.specs.Worked.{state_of}
+use Rattle.jac_keep.specs.WorkState.{state_of}
 use Rattle.jac_resolve.proofs.Greedy.{passed_settled}
 use Rattle.jac_resolve.proofs.Room.{all_asked, own_start}
 use Rattle.jac_resolve.proofs.pass.settle.Goals as goal

@@ -2,9 +2,9 @@ use Rattle.std.proofs.Common.{◌≡◌, ℕ, true, List, [], sym, subst, rules,
 use Rattle.jac_world.specs.World.{shown_by}
 use Rattle.jac_lang.specs.Mirror.{application_of}
 use Rattle.jac_rows.specs.declared.state.State.{State}
-use Rattle.jac_keep.specs.Worked.{state_of}
+use Rattle.jac_keep.specs.WorkState.{state_of}
 use Rattle.jac_pruned.specs.Local.{IsLocalCase}
-use Rattle.jac_resolve.specs.Recalled.{IsUnderway}
+use Rattle.jac_resolve.specs.RightMemo.{IsUnderway}
 use Rattle.jac_resolve.proofs.Greedy.{within_then}
 use Rattle.jac_resolve.proofs.Room.{spends_same, spends_then}
 use Rattle.jac_resolve.proofs.pass.settle_among.Goals as goal

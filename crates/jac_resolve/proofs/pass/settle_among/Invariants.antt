@@ -1,8 +1,8 @@
 use Rattle.std.proofs.Common.{[], ◌≤◌}
 use Rattle.jac_world.specs.World.{shown_by}
 use Rattle.jac_lang.specs.Mirror.{application_of}
-use Rattle.jac_keep.specs.Worked.{state_of}
-use Rattle.jac_resolve.specs.Recalled.{IsUnderway}
+use Rattle.jac_keep.specs.WorkState.{state_of}
+use Rattle.jac_resolve.specs.RightMemo.{IsUnderway}
 use Rattle.jac_pruned.specs.Local.{IsLocalCase}
 use Rattle.jac_resolve.specs.Rounds.{Within, hidden_count}
 use Rattle.jac_pruned.proofs.Working.{LoopOver}

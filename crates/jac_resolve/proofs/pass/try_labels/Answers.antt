@@ -2,8 +2,8 @@ use Rattle.std.proofs.Common.{◌≡◌, ◌+◌, ◌≤◌, true, drop, length,
 use Rattle.jac_world.specs.World.{shown_by}
 use Rattle.jac_lang.specs.Mirror.{application_of}
 use Rattle.jac_rows.specs.declared.state.State.{State}
-use Rattle.jac_keep.specs.Worked.{state_of}
-use Rattle.jac_resolve.specs.Recalled.{IsUnderway, Tries}
+use Rattle.jac_keep.specs.WorkState.{state_of}
+use Rattle.jac_resolve.specs.RightMemo.{IsUnderway, Tries}
 use Rattle.jac_pruned.specs.Local.{IsLocalCase}
 use Rattle.jac_pruned.proofs.Working.{next}
 use Rattle.jac_resolve.proofs.Room.{most_then, spends_most, spends_then}

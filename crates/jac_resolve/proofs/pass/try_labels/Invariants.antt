@@ -1,7 +1,7 @@
 use Rattle.std.proofs.Common.{drop}
 use Rattle.jac_lang.specs.Mirror.{application_of}
-use Rattle.jac_keep.specs.Worked.{state_of}
-use Rattle.jac_resolve.specs.Recalled.{IsUnderway}
+use Rattle.jac_keep.specs.WorkState.{state_of}
+use Rattle.jac_resolve.specs.RightMemo.{IsUnderway}
 use Rattle.jac_pruned.specs.Local.{IsLocalCase}
 use Rattle.jac_resolve.specs.Room.{AreLocalAnswers, Spends}
 use Rattle.jac_pruned.proofs.Working.{LoopOver}

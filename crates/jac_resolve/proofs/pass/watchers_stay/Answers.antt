@@ -2,10 +2,10 @@ use Rattle.std.proofs.Common.{◌≡◌, ◌+◌, ◌==◌, Bool, true, is_some,
 use Rattle.jac_world.specs.World.{shown_by}
 use Rattle.jac_lang.specs.Mirror.{application_of}
 use Rattle.jac_rows.specs.declared.state.State.{State}
-use Rattle.jac_keep.specs.Worked.{state_of}
+use Rattle.jac_keep.specs.WorkState.{state_of}
 use Rattle.jac_plain.specs.Policies.{is_allowed}
-use Rattle.jac_recall.specs.Recalled.{recall}
-use Rattle.jac_resolve.specs.Recalled.{AreRight, Fitting, Stays}
+use Rattle.jac_policy_cache.specs.Memo.{recall}
+use Rattle.jac_resolve.specs.RightMemo.{AreRight, Fitting, Stays}
 use Rattle.jac_pruned.specs.Local.{IsLocalCase}
 use Rattle.jac_pruned.proofs.Working.{next}
 use Rattle.jac_resolve.proofs.Greedy.{first_is_shown}

@@ -2,7 +2,7 @@ use Rattle.std.proofs.Common.{rules, sym, subst, Some, ℕ}
 use Rattle.jac_value.specs.Ids.{model_of_id}
 use Rattle.jac_world.specs.World.{shown_by}
 use Rattle.jac_lang.specs.Mirror.{application_of, field_group_of}
-use Rattle.jac_keep.specs.Worked.{state_of}
+use Rattle.jac_keep.specs.WorkState.{state_of}
 use Rattle.jac_rows.specs.declared.state.State.{State}
 use Rattle.jac_pruned.specs.Local.{IsLocalCase}
 use Rattle.jac_pruned.specs.Own.{IsOwn}

@@ -4,7 +4,7 @@ use Rattle.std.specs.List.{list_any}
 use Rattle.std.specs.Option.{is_some}
 use Rattle.std.specs.Ordering.{nat_cmp, is_eq}
 use Rattle.jac_world.specs.World.{shown_by}
-use Rattle.jac_recall.proofs.Recalling.{left_alone, watched_is_key}
+use Rattle.jac_policy_cache.proofs.Recalling.{left_alone, watched_is_key}
 use Rattle.jac_resolve.proofs.recall.add_watched.Goals as goal
 
 pub returns-clause-added : goal.returns-clause-added

@@ -1,4 +1,4 @@
-use Rattle.jac_lines.specs.Statements.{reading}
+use Rattle.jac_sql_spec.specs.Statements.{reading}
 use Rattle.jac_sqlkeep.proofs.Steps.{found_by_row}
 use Rattle.jac_sqlkeep.proofs.meta.find_schema.Goals as goal
 

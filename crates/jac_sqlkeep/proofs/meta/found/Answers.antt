@@ -1,4 +1,4 @@
-use Rattle.jac_lines.specs.Statements.{founding}
+use Rattle.jac_sql_spec.specs.Statements.{founding}
 use Rattle.jac_sqlkeep.proofs.Steps.{inside_then}
 use Rattle.jac_sqlkeep.proofs.meta.found.Goals as goal
 

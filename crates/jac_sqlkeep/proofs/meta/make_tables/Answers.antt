@@ -1,8 +1,8 @@
 use Rattle.std.proofs.Common.{◌≡◌, Err, sym, subst, rules}
 use Rattle.sqlite.specs.Held.{Held, state}
 use Rattle.sqlite.specs.State.{HasCleanDisk}
-use Rattle.jac_lines.specs.Statements.{founding}
-use Rattle.jac_lines.specs.Transaction.{Transacts, EndsCommitted}
+use Rattle.jac_sql_spec.specs.Statements.{founding}
+use Rattle.jac_sql_spec.specs.Transaction.{Transacts, EndsCommitted}
 use Rattle.jac_sqlkeep.proofs.Steps.{transacts_end, transacts_none, ends_end, ends_none}
 use Rattle.jac_sqlkeep.proofs.meta.make_tables.Goals as goal
 

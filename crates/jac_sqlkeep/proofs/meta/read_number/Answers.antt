@@ -1,5 +1,5 @@
-use Rattle.jac_lines.specs.Statements.{reading}
-use Rattle.jac_lines.proofs.ReadRows.{number_told}
+use Rattle.jac_sql_spec.specs.Statements.{reading}
+use Rattle.jac_sql_spec.proofs.ReadRows.{number_told}
 use Rattle.jac_sqlkeep.proofs.Read.{is_asked}
 use Rattle.jac_sqlkeep.proofs.meta.read_number.Goals as goal
 

@@ -1,5 +1,5 @@
 use Rattle.std.proofs.Common.{◌≡◌, pos, to_z, of_z, w64, rules}
-use Rattle.jac_lines.specs.Statements.{numbering}
+use Rattle.jac_sql_spec.specs.Statements.{numbering}
 use Rattle.jac_sqlkeep.proofs.meta.set_number.Goals as goal
 
 pub returns-in-Ok-clause-inside : goal.returns-in-Ok-clause-inside

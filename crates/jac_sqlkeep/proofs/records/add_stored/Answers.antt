@@ -1,6 +1,6 @@
 use Rattle.std.proofs.Common.{w64}
 use Rattle.std.proofs.lemmas.Int.{to_z_pos}
-use Rattle.jac_lines.specs.Statements.{addition}
+use Rattle.jac_sql_spec.specs.Statements.{addition}
 use Rattle.jac_sqlkeep.proofs.records.add_stored.Goals as goal
 
 pub returns-clause-inside : goal.returns-clause-inside

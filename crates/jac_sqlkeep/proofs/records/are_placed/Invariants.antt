@@ -1,6 +1,6 @@
 use Rattle.std.proofs.Common.{length}
 use Rattle.jac_keep.specs.Alterations.{ArePlaced}
-use Rattle.jac_lines.specs.Stands.{AreNarrow}
+use Rattle.jac_sql_spec.specs.Stands.{AreNarrow}
 use Rattle.jac_sqlkeep.proofs.records.are_placed.Given as goal
 
 abbrev pub invariant-changed : goal.invariant-changed

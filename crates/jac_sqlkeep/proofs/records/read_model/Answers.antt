@@ -1,6 +1,6 @@
-use Rattle.jac_lines.specs.Reading.{IsModelRow}
-use Rattle.jac_lines.specs.Statements.{model_reading}
-use Rattle.jac_lines.proofs.ReadRows.{model_told}
+use Rattle.jac_sql_spec.specs.Reading.{IsModelRow}
+use Rattle.jac_sql_spec.specs.Statements.{model_reading}
+use Rattle.jac_sql_spec.proofs.ReadRows.{model_told}
 use Rattle.jac_sqlkeep.proofs.Read.{are_shown}
 use Rattle.jac_sqlkeep.proofs.records.read_model.Goals as goal
 

@@ -1,6 +1,6 @@
-use Rattle.jac_lines.specs.Reading.{IsRecordRow}
-use Rattle.jac_lines.specs.Statements.{record_reading}
-use Rattle.jac_lines.proofs.ReadRows.{record_told}
+use Rattle.jac_sql_spec.specs.Reading.{IsRecordRow}
+use Rattle.jac_sql_spec.specs.Statements.{record_reading}
+use Rattle.jac_sql_spec.proofs.ReadRows.{record_told}
 use Rattle.jac_sqlkeep.proofs.Read.{are_shown}
 use Rattle.jac_sqlkeep.proofs.records.read_record.Goals as goal
 

@@ -1,4 +1,4 @@
-use Rattle.jac_lines.specs.Statements.{removal}
+use Rattle.jac_sql_spec.specs.Statements.{removal}
 use Rattle.jac_sqlkeep.proofs.records.remove.Goals as goal
 
 pub returns-clause-inside : goal.returns-clause-inside

@@ -1,4 +1,4 @@
-use Rattle.jac_lines.specs.Reading.{IsModelRow}
+use Rattle.jac_sql_spec.specs.Reading.{IsModelRow}
 use Rattle.jac_sqlkeep.proofs.Read.{MadeTo}
 use Rattle.jac_sqlkeep.proofs.records.rows_of_model.Given as goal
 

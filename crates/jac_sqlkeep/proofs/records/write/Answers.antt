@@ -1,5 +1,5 @@
 use Rattle.std.proofs.Common.{option_copied}
-use Rattle.jac_lines.specs.Statements.{replacements, settings}
+use Rattle.jac_sql_spec.specs.Statements.{replacements, settings}
 use Rattle.jac_sqlkeep.proofs.Steps.{inside_then}
 use Rattle.jac_sqlkeep.proofs.Read.{on_ok}
 use Rattle.jac_sqlkeep.proofs.records.write.Goals as goal

@@ -1,7 +1,7 @@
 use Rattle.std.proofs.Common.{List, sym, subst, rules}
 use Rattle.jac_rows.specs.declared.row.Row.{Row as Kept}
-use Rattle.jac_lines.specs.Statements.{replacement, additions}
-use Rattle.jac_stored.specs.Faults.{CanBeSpelled}
+use Rattle.jac_sql_spec.specs.Statements.{replacement, additions}
+use Rattle.jac_row_codec.specs.Faults.{CanBeSpelled}
 use Rattle.jac_sqlkeep.proofs.Read.{all_from}
 use Rattle.jac_sqlkeep.proofs.Steps.{Halfway, replaced_start, replaced_next}
 use Rattle.jac_sqlkeep.proofs.records.write_record.Goals as goal

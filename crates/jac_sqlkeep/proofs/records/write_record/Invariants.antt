@@ -1,7 +1,7 @@
 use Rattle.std.proofs.Common.{◌≡◌, drop}
 use Rattle.std.specs.List.{AllByRecursion}
-use Rattle.jac_stored.specs.Faults.{CanBeSpelled}
-use Rattle.jac_lines.specs.Statements.{replacement, additions}
+use Rattle.jac_row_codec.specs.Faults.{CanBeSpelled}
+use Rattle.jac_sql_spec.specs.Statements.{replacement, additions}
 use Rattle.jac_sqlkeep.proofs.Steps.{Halfway}
 use Rattle.jac_sqlkeep.proofs.records.write_record.Given as goal
 

@@ -1,6 +1,6 @@
 use Rattle.std.proofs.Common.{◌≡◌, ◌∷◌, subst, sym, rules}
-use Rattle.jac_lines.specs.Telling.{CanAllBeSpelled}
-use Rattle.jac_lines.specs.Statements.{replacements}
+use Rattle.jac_sql_spec.specs.Telling.{CanAllBeSpelled}
+use Rattle.jac_sql_spec.specs.Statements.{replacements}
 use Rattle.jac_sqlkeep.proofs.Steps.{changed_next}
 use Rattle.jac_sqlkeep.proofs.records.write_records.Goals as goal
 

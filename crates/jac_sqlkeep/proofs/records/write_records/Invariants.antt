@@ -1,6 +1,6 @@
 use Rattle.std.proofs.Common.{◌≡◌, length}
-use Rattle.jac_lines.specs.Statements.{replacements}
-use Rattle.jac_lines.specs.Telling.{CanAllBeSpelled}
+use Rattle.jac_sql_spec.specs.Statements.{replacements}
+use Rattle.jac_sql_spec.specs.Telling.{CanAllBeSpelled}
 use Rattle.jac_sqlkeep.proofs.Steps.{Halfway}
 use Rattle.jac_sqlkeep.proofs.records.write_records.Given as goal
 

@@ -1,5 +1,5 @@
 use Rattle.std.proofs.Common.{None, length}
-use Rattle.jac_lines.specs.Testing.{AreRowidsAbove}
+use Rattle.jac_sql_spec.specs.Testing.{AreRowidsAbove}
 use Rattle.jac_sqlkeep.proofs.stored.are_rising.Given as goal
 
 abbrev pub invariant-found : goal.invariant-found

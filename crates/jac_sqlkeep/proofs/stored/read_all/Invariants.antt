@@ -1,5 +1,5 @@
 use Rattle.jac_keep.specs.Schema.{shapes_by}
-use Rattle.jac_lines.proofs.Gathered.{Gathered}
+use Rattle.jac_sql_spec.proofs.Gathered.{Gathered}
 use Rattle.jac_sqlkeep.proofs.stored.read_all.Given as goal
 
 abbrev pub invariant-found : goal.invariant-found

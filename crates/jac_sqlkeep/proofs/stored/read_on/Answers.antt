@@ -1,6 +1,6 @@
 use Rattle.std.proofs.Common.{◌∙◌}
 use Rattle.jac_keep.specs.Schema.{shapes_by}
-use Rattle.jac_lines.specs.Testing.{ReadsOn}
+use Rattle.jac_sql_spec.specs.Testing.{ReadsOn}
 use Rattle.jac_sqlkeep.specs.declared.stored.Last.{Last}
 use Rattle.jac_sqlkeep.proofs.Rows.{ok_then, reads_on_is}
 use Rattle.jac_sqlkeep.proofs.stored.read_on.Goals as goal

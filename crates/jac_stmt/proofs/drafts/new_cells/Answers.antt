@@ -2,7 +2,7 @@ use Rattle.std.proofs.Common.{sym, ◌∙◌, ap, ◌<◌, ℕ, List, length, Al
 use Rattle.jac_expr.specs.Seen.{env_at, world_here}
 use Rattle.jac_expr.specs.Tupled.{all_at}
 use Rattle.jac_facet.specs.Shape.{Shape}
-use Rattle.jac_keep.specs.Worked.{state_of}
+use Rattle.jac_keep.specs.WorkState.{state_of}
 use Rattle.jac_lang.specs.Lookup.{fields_at}
 use Rattle.jac_lang.specs.Syntax.{Expression}
 use Rattle.jac_lang.specs.Mirror.{application_of, assigned_of}

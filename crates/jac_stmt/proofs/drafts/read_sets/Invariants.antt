@@ -2,7 +2,7 @@ use Rattle.std.proofs.Common.{◌≡◌, ◌++◌, ◌<◌, IsTrue, ℕ, Bool, t
 use Rattle.jac_expr.proofs.Working.{LoopOver}
 use Rattle.jac_expr.specs.Seen.{env_at, world_here}
 use Rattle.jac_facet.specs.Shape.{Shape}
-use Rattle.jac_keep.specs.Worked.{state_of}
+use Rattle.jac_keep.specs.WorkState.{state_of}
 use Rattle.jac_lang.specs.Lookup.{fields_at}
 use Rattle.jac_lang.specs.Mirror.{application_of, assigned_of}
 use Rattle.jac_plain.specs.Expressions.{mean}

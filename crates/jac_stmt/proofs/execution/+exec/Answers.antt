@@ -4,7 +4,7 @@ use Rattle.jac_value.specs.Ids.{model_of_id}
 use Rattle.jac_world.specs.World.{holds}
 use Rattle.jac_facet.specs.Leaves.{leaves_seen}
 use Rattle.jac_facet.specs.Shape.{one, at}
-use Rattle.jac_keep.specs.Worked.{state_of}
+use Rattle.jac_keep.specs.WorkState.{state_of}
 use Rattle.jac_lang.specs.Mirror.{application_of, assigned_of, binders_of, expression_of, question_of, statements_of}
 use Rattle.jac_plain.specs.declared.context.Ctx.{Ctx}
 use Rattle.jac_plain.specs.Expressions.{bound, binding}

@@ -1,4 +1,4 @@
-use Rattle.jac_keep.specs.Worked.{state_of}
+use Rattle.jac_keep.specs.WorkState.{state_of}
 use Rattle.jac_lang.specs.Mirror.{expression_of}
 use Rattle.jac_stmt.proofs.RunLaws.{assigns}
 use Rattle.jac_stmt.proofs.execution.execute_assign.Goals as goal

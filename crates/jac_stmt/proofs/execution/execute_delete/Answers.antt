@@ -1,5 +1,5 @@
 use Rattle.std.proofs.Common.{rules, sym, ◌∙◌}
-use Rattle.jac_keep.specs.Worked.{state_of}
+use Rattle.jac_keep.specs.WorkState.{state_of}
 use Rattle.jac_lang.specs.Mirror.{expression_of}
 use Rattle.jac_stmt.proofs.WriteLaws.{deletes_none, deletes}
 use Rattle.jac_stmt.proofs.execution.execute_delete.Goals as goal

@@ -1,5 +1,5 @@
 use Rattle.std.proofs.Common.{refl}
-use Rattle.jac_keep.specs.Worked.{state_of}
+use Rattle.jac_keep.specs.WorkState.{state_of}
 use Rattle.jac_lang.specs.Mirror.{expression_of}
 use Rattle.jac_lang.specs.Syntax.{Statement}
 use Rattle.jac_plain.specs.declared.pieces.Form.TheVariants as form

@@ -1,5 +1,5 @@
 use Rattle.std.proofs.Common.{rules, sym, ap, ◌∙◌}
-use Rattle.jac_keep.specs.Worked.{state_of}
+use Rattle.jac_keep.specs.WorkState.{state_of}
 use Rattle.jac_expr.specs.Seen.{env_at, world_here}
 use Rattle.jac_lang.specs.Lookup.{fields_at}
 use Rattle.jac_lang.specs.Mirror.{application_of, assigned_of, expression_of}

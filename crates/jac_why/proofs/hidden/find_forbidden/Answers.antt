@@ -2,7 +2,7 @@ use Rattle.std.proofs.Common.{◌≡◌, ◌+◌, ◌≤◌, drop, length, subst
 use Rattle.jac_world.specs.World.{shown_by}
 use Rattle.jac_lang.specs.Mirror.{application_of}
 use Rattle.jac_rows.specs.declared.state.State.{State}
-use Rattle.jac_keep.specs.Worked.{state_of}
+use Rattle.jac_keep.specs.WorkState.{state_of}
 use Rattle.jac_plain.specs.Policies.{is_allowed}
 use Rattle.jac_pruned.proofs.Working.{next}
 use Rattle.jac_resolve.proofs.Greedy.{none_left}

@@ -1,9 +1,9 @@
 use Rattle.std.proofs.Common.{◌≡◌, ◌≤◌, ◌++◌, [], drop}
 use Rattle.jac_lang.specs.Mirror.{application_of}
-use Rattle.jac_keep.specs.Worked.{state_of}
+use Rattle.jac_keep.specs.WorkState.{state_of}
 use Rattle.jac_plain.specs.Policies.{AreAllowed}
 use Rattle.jac_pruned.proofs.Working.{LoopOver}
-use Rattle.jac_why.specs.Scene.{scene_on}
+use Rattle.jac_why.specs.Context.{context_on}
 use Rattle.jac_why.specs.Watched.{AreWatching}
 use Rattle.jac_why.specs.Whys.{all_whys}
 use Rattle.jac_why.proofs.hidden.watched_whys.Given as goal
@@ -13,8 +13,8 @@ abbrev pub invariant-labels : goal.invariant-labels
 invariant-labels g l =
     let k = g.K.Keeper in
     let s = state_of k.seen l.fn.work in
-    let scene = scene_on s l.scene in
+    let context = context_on s l.context in
     (l.fn.evaluations ≤ l.evaluations) ×
     LoopOver k.seen l.fn.work l.work
-    (AreAllowed (application_of l.scene.app.now) (worlds_of s) l.scene.viewer l.scene.labels.now → AreWatching scene [] l.watchers →
-    l.whys.items ++ all_whys scene (drop l.label-index l.live) ≡ all_whys scene l.live)
+    (AreAllowed (application_of l.context.app.now) (worlds_of s) l.context.viewer l.context.labels.now → AreWatching context [] l.watchers →
+    l.whys.items ++ all_whys context (drop l.label-index l.live) ≡ all_whys context l.live)

@@ -3,8 +3,8 @@ use Rattle.std.specs.BTreeMap.{get, is_at}
 use Rattle.std.specs.Map.{lookup}
 use Rattle.std.specs.Ordering.{nat_cmp}
 use Rattle.std.specs.BTreeMap.Entry.{map_with_value}
-use Rattle.jac_recall.specs.Recalled.{watched_in}
-use Rattle.jac_recall.proofs.Recalling.{at_end, watched_more, is_at_number}
+use Rattle.jac_policy_cache.specs.Memo.{watched_in}
+use Rattle.jac_policy_cache.proofs.Recalling.{at_end, watched_more, is_at_number}
 use Rattle.jac_why.proofs.watch.watch.Goals as goal
 
 pub returns : goal.returns

@@ -2,7 +2,7 @@ use Rattle.std.proofs.Common.{◌≡◌, ◌==◌, ◌||◌, ◌&&◌, ℕ, drop
 use Rattle.std.specs.Ordering.{nat_cmp}
 use Rattle.std.specs.BTreeMap.{get}
 use Rattle.jac_world.specs.World.{shown_by}
-use Rattle.jac_recall.specs.Recalled.{watched_in}
+use Rattle.jac_policy_cache.specs.Memo.{watched_in}
 use Rattle.jac_why.proofs.watch.watch_all.Given as goal
 
 abbrev pub invariant-labels : goal.invariant-labels

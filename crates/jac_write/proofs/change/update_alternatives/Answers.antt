@@ -3,7 +3,7 @@ use Rattle.std.proofs.lemmas.Bool.Decides.{nat_tests}
 use Rattle.jac_value.specs.Ids.{model_of_id}
 use Rattle.jac_value.specs.declared.value.Value.{Value}
 use Rattle.jac_keep.specs.Records.{alternatives}
-use Rattle.jac_keep.specs.Worked.{state_of}
+use Rattle.jac_keep.specs.WorkState.{state_of}
 use Rattle.jac_lang.specs.Mirror.{application_of}
 use Rattle.jac_plain.specs.Records.{changed_rows}
 use Rattle.jac_rows.specs.Tables.{rows_of}

@@ -1,5 +1,5 @@
 use Rattle.std.proofs.Common.{drop}
-use Rattle.jac_keep.specs.Worked.{state_of}
+use Rattle.jac_keep.specs.WorkState.{state_of}
 use Rattle.jac_lang.specs.Mirror.{application_of}
 use Rattle.jac_write.specs.Writes.{sets_at, tables_remade}
 use Rattle.jac_write.proofs.LeavesLaws.{LoopWrites, IsWriting}

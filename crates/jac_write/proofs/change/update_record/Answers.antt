@@ -1,7 +1,7 @@
 use Rattle.std.proofs.Common.{◌≡◌, refl, rules, ℕ, Bool, false, List, map}
 use Rattle.jac_value.specs.Ids.{is_id_of}
 use Rattle.jac_value.specs.declared.value.Value.{Value}
-use Rattle.jac_keep.specs.Worked.{state_of}
+use Rattle.jac_keep.specs.WorkState.{state_of}
 use Rattle.jac_lang.specs.Mirror.{application_of}
 use Rattle.jac_plain.specs.Records.{changed_rows}
 use Rattle.jac_write.specs.Writes.{remade_cells, sets_at}

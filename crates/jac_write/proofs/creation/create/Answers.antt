@@ -1,7 +1,7 @@
 use Rattle.std.proofs.Common.{refl}
 use Rattle.jac_value.specs.Ids.{model_of_id}
 use Rattle.jac_expr.specs.Tupled.{all_at}
-use Rattle.jac_keep.specs.Worked.{state_of}
+use Rattle.jac_keep.specs.WorkState.{state_of}
 use Rattle.jac_lang.specs.Mirror.{application_of}
 use Rattle.jac_plain.specs.Records.{plain_row}
 use Rattle.jac_plain.specs.Statements.{is_kept}

@@ -2,7 +2,7 @@ use Rattle.std.proofs.Common.{◌≡◌, ◌∙◌, ap, ℕ, Bool, List, [], ◌
 use Rattle.jac_value.specs.Ids.{model_of_id}
 use Rattle.jac_value.specs.declared.value.Value.{Value}
 use Rattle.jac_expr.specs.Tupled.{all_at}
-use Rattle.jac_keep.specs.Worked.{state_of}
+use Rattle.jac_keep.specs.WorkState.{state_of}
 use Rattle.jac_lang.specs.Mirror.{application_of}
 use Rattle.jac_world.specs.World.{holds}
 use Rattle.jac_write.specs.Writes.{cells_at, made_cells}

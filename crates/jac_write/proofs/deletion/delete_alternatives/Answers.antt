@@ -1,6 +1,6 @@
 use Rattle.std.proofs.Common.{refl, arith, []}
 use Rattle.jac_value.specs.Ids.{model_of_id}
-use Rattle.jac_keep.specs.Worked.{state_of}
+use Rattle.jac_keep.specs.WorkState.{state_of}
 use Rattle.jac_plain.specs.Records.{without}
 use Rattle.jac_write.proofs.MergedLaws.{kept, put_merged}
 use Rattle.jac_write.proofs.RecordLaws.{absent_by, replaced_by, step_without}

@@ -1,5 +1,5 @@
 use Rattle.std.proofs.Common.{drop}
-use Rattle.jac_keep.specs.Worked.{state_of}
+use Rattle.jac_keep.specs.WorkState.{state_of}
 use Rattle.jac_plain.specs.Records.{tables_after, without}
 use Rattle.jac_write.proofs.LeavesLaws.{LoopWrites, IsWriting}
 use Rattle.jac_write.proofs.deletion.delete_leaves.Given as goal

@@ -1,5 +1,5 @@
 use Rattle.std.proofs.Common.{refl, arith, []}
-use Rattle.jac_keep.specs.Worked.{state_of}
+use Rattle.jac_keep.specs.WorkState.{state_of}
 use Rattle.jac_plain.specs.Records.{without}
 use Rattle.jac_write.proofs.MergedLaws.{kept}
 use Rattle.jac_write.proofs.RecordLaws.{absent, no_other, step_without}

@@ -1,5 +1,5 @@
 use Rattle.std.proofs.Common.{sym, subst}
-use Rattle.jac_merged.specs.Merged.{AreOfRecord, Shows}
+use Rattle.jac_row_merge.specs.Merged.{AreOfRecord, Shows}
 use Rattle.jac_write.proofs.MergedLaws.{all_own, own_all, cells_kept}
 use Rattle.jac_write.proofs.merged.merged_rows.Goals as goal
 

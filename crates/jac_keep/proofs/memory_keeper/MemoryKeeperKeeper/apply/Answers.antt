@@ -1,5 +1,5 @@
 use Rattle.std.proofs.Common.{◌≡◌, ◌∙◌, ap}
-use Rattle.jac_keep.specs.Kept.{changed_state}
+use Rattle.jac_keep.specs.ChangedState.{changed_state}
 use Rattle.jac_keep.proofs.SoundLaws.{tables_of_sound}
 use Rattle.jac_keep.proofs.memory_keeper.MemoryKeeperKeeper.apply.Goals as goal
 

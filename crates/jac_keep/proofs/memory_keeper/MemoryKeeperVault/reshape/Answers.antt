@@ -2,7 +2,7 @@ use Rattle.std.proofs.Common.{◌≡◌, refl, ◌∙◌, ◌-◌, ◌++◌, IsT
 use Rattle.jac_rows.specs.declared.row.Row.{Row}
 use Rattle.jac_keep.specs.Alterations.{overlaid}
 use Rattle.jac_keep.specs.KeeperState.{KeeperState}
-use Rattle.jac_keep.specs.Kept.{changed_state}
+use Rattle.jac_keep.specs.ChangedState.{changed_state}
 use Rattle.jac_keep.specs.Reshaping.{widened_state}
 use Rattle.jac_keep.specs.Schema.{empties}
 use Rattle.jac_keep.proofs.ReshapingLaws.{tables_if_fit, keeping_if_fit}

@@ -1,7 +1,7 @@
 use Rattle.std.proofs.Common.{IsTrue, length, sym, subst}
 use Rattle.jac_rows.specs.Good.{IsSound}
-use Rattle.jac_keep.specs.Kept.{changed_state}
-use Rattle.jac_lines.proofs.Kept.{change_told}
+use Rattle.jac_keep.specs.ChangedState.{changed_state}
+use Rattle.jac_sql_spec.proofs.Kept.{change_told}
 use Rattle.jac_sqlkeep.specs.Based.{Based}
 use Rattle.jac_sqlkeep.proofs.Based.{applies_based, sound_before}
 use Rattle.jac_sqlkeep.proofs.database.Database.apply.Goals as goal

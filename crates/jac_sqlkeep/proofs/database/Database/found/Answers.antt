@@ -1,5 +1,5 @@
 use Rattle.std.proofs.Common.{length}
-use Rattle.jac_lines.proofs.Kept.{founded_told}
+use Rattle.jac_sql_spec.proofs.Kept.{founded_told}
 use Rattle.jac_sqlkeep.proofs.Based.{opens_told, fits_empty}
 use Rattle.jac_sqlkeep.proofs.database.Database.found.Goals as goal
 

@@ -1,5 +1,5 @@
 use Rattle.std.proofs.Common.{IsTrue, length, sym, subst}
-use Rattle.jac_keep.specs.Kept.{changed_state}
+use Rattle.jac_keep.specs.ChangedState.{changed_state}
 use Rattle.jac_keep.specs.Reshaping.{widened_state}
 use Rattle.jac_keep.specs.Schema.{IsFit, shapes_by}
 use Rattle.jac_sqlkeep.specs.Based.{Based}

@@ -1,7 +1,0 @@
-use Rattle.jac_cached.proofs.HeldLaws.{held_after}
-use Rattle.jac_cached.proofs.keeper.CachedKeeperKeeper.apply.Goals as goal
-
-pub invariant_of-self : goal.invariant_of-self
-invariant_of-self g c =
-    held_after (g.K.Keeper.seen c.self.inside.keeper) (g.K.Keeper.seen c.apply.new.self) c.args.change.now c.self.inside.tables c.alter.new.self c.self.invariant
-    c.alter.ensures c.in-Ok.ensures.kept.told c.in-Ok.ensures.kept.good c.in-Ok.ensures.exact

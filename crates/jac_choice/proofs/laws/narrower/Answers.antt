@@ -1,5 +1,0 @@
-use Rattle.jac_choice.proofs.Narrowing.{narrower}
-use Rattle.jac_choice.proofs.laws.narrower.Goals as goal
-
-pub returns : goal.returns
-returns c = narrower

@@ -1,4 +1,0 @@
-pub mod Asking
-pub mod Cut
-pub mod Fixed
-pub mod Found

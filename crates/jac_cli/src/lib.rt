@@ -1,0 +1,8 @@
+//! The words after the program's name, and the command that they give.
+#![tactic(auto)]
+
+mod role;
+mod words;
+
+pub use role::Role;
+pub use words::{Command, DumpArgs, Labels, Replay, ServeArgs, UpgradeArgs, WhyArgs, command_of};

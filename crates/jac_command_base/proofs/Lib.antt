@@ -1,0 +1,3 @@
+pub mod ExitReasonLemmas
+pub mod LaterLemmas
+pub mod StartupLemmas

@@ -1,0 +1,172 @@
+-- What a run sees of the outside, and the files that it reads.
+use Rattle.std.specs.Prelude.{◌≡◌, ◌≤◌, ◌<◌, ◌⊎◌, ⊤, ℕ, is_some, IsTrue, IsSomeAnd, Ok, Err, Option, Some, None, List, [], ◌∷◌, ◌++◌, length}
+use Rattle.jac_io.specs.Faults.{Rose}
+use Rattle.jac_io.specs.Seen.{FilesSeen, SinkSeen}
+use Rattle.jac_lang.specs.Syntax.{Application}
+use Rattle.jac_keep.specs.KeeperSeen.{KeeperSeen}
+use Rattle.jac_route.specs.declared.sessions.Session.{Session}
+use Rattle.jac_route.specs.Sessions.{sessions_in}
+use Rattle.jac_cli.specs.declared.words.Command.{Command}
+use Rattle.jac_command_base.specs.declared.exit_reason.ExitReason.{ExitReason}
+use Rattle.jac_command_base.specs.declared.exit_reason.ExitReason.TheVariants as exits
+use Rattle.jac_cli.specs.declared.role.Role.{Role}
+use Rattle.jac_cli.specs.declared.role.Role.TheVariants as roles
+use Rattle.jac_app_load.specs.Application.{IsApplication}
+use Rattle.jac_app_load.specs.Refusal.{IsRefusedBy}
+use Rattle.jac_serve_events.specs.RunSeen.{IsStill}
+use Rattle.jac_serve_events.specs.Outside.{Span, span, Sinks}
+use Rattle.jac_cli.specs.Commands.{file_of, name_of, limit_of}
+
+-- what a run sees of the outside, before and after
+pub record Sight : Type 0 where
+  pub files : Span FilesSeen
+  pub out : Span SinkSeen
+  pub audit : Span SinkSeen
+  pub keeper : Span KeeperSeen
+
+abbrev pub sight : FilesSeen → FilesSeen → SinkSeen → SinkSeen → SinkSeen → SinkSeen → KeeperSeen
+    → KeeperSeen → Sight
+sight files_before files_after out_before out_after audit_before audit_after keeper_before
+    keeper_after = record {
+      files = span files_before files_after;
+      out = span out_before out_after;
+      audit = span audit_before audit_after;
+      keeper = span keeper_before keeper_after;
+    }
+
+-- the same, until out stood so
+abbrev pub standing_at : Sight → SinkSeen → Sight
+standing_at seen standing = record seen { out = span seen.out.before standing }
+
+abbrev pub sinks_of : Sight → Sinks
+sinks_of seen = record { out = seen.out; audit = seen.audit }
+
+-- the file of this name and role was read whole
+pub record IsReadAs (files : Span FilesSeen) (name : List ℕ) (role : Role) (bytes : List ℕ) : Type 0
+  where
+    pub short : length bytes ≤ limit_of role
+    pub told : IsTrue files.after.tells → files.before.file name ≡ Some bytes
+
+abbrev pub IsRead : Sight → Command → Role → List ℕ → Type 0
+IsRead seen command role = IsReadAs seen.files (name_of command role) role
+
+-- it holds more than its limit
+abbrev pub IsLong : Sight → Command → Role → Type 0
+IsLong seen command role = IsTrue seen.files.after.tells
+    → IsSomeAnd (seen.files.before.file (name_of command role)) (λ bytes. limit_of role
+    < length bytes)
+
+-- the application's file was read, and spells this application
+pub record HasApplication (seen : Sight) (command : Command) (app : Application) : Type 0 where
+  pub bytes : List ℕ
+  pub read : IsRead seen command roles.App bytes
+  pub spelled : IsApplication bytes app
+
+-- the same of the file of this name
+pub record IsSpelledIn (files : Span FilesSeen) (name : List ℕ) (app : Application) : Type 0 where
+  pub bytes : List ℕ
+  pub read : IsReadAs files name roles.App bytes
+  pub spelled : IsApplication bytes app
+
+-- the file of the application that a store is brought to was read, and spells this application
+pub record HasNext (seen : Sight) (command : Command) (app : Application) : Type 0 where
+  pub bytes : List ℕ
+  pub read : IsRead seen command roles.New bytes
+  pub spelled : IsApplication bytes app
+
+-- the sessions of the file of this name, which was read; without a name there are none
+abbrev pub HasSessions : Span FilesSeen → Option (List ℕ) → List Session → Type 0
+HasSessions files None sessions = sessions ≡ []
+HasSessions files (Some name) sessions = (bytes : List ℕ) × IsReadAs files name roles.Sessions bytes
+    × (sessions_in bytes ≡ Ok sessions)
+
+-- the file of this name was read, and the line of this number is no session's
+abbrev pub HasBadLine : Span FilesSeen → Option (List ℕ) → ℕ → Type 0
+HasBadLine files None n = ⊥
+HasBadLine files (Some name) n = (bytes : List ℕ) × IsReadAs files name roles.Sessions bytes
+    × (sessions_in bytes ≡ Err n)
+
+-- and the sessions were had, and the events' file was read
+pub record IsOpened (seen : Sight) (command : Command) (app : Application) (sessions : List Session)
+    (events : List ℕ) : Type 0 where
+  pub application : HasApplication seen command app
+  pub sessions_had : HasSessions seen.files (file_of command roles.Sessions) sessions
+  pub events_read : IsRead seen command roles.Events events
+
+-- the steps before the file of this role is read
+abbrev pub IsReached : Sight → Command → Role → Type 0
+IsReached seen command roles.App = ⊤
+IsReached seen command roles.New = ((app : Application) × HasApplication seen command app)
+    × IsTrue (is_some (file_of command roles.New))
+IsReached seen command roles.Sessions = ((app : Application) × HasApplication seen command app)
+    × IsTrue (is_some (file_of command roles.Sessions))
+IsReached seen command roles.Events =
+    ((app : Application) × HasApplication seen command app) × ((sessions : List Session)
+    × HasSessions seen.files (file_of command roles.Sessions) sessions)
+    × IsTrue (is_some (file_of command roles.Events))
+
+-- the audit was aimed once, at this file or at none, before anything was put on it
+abbrev pub IsAimed : Option (List ℕ) → Span SinkSeen → Type 0
+IsAimed name audit = IsTrue audit.after.tells → audit.after.aims ≡ audit.before.aims
+    ++ (name, length audit.before.held) ∷ []
+
+-- nothing was put, the audit was not aimed, and the keeper was not called
+pub record IsIdle (audit : Span SinkSeen) (keeper : Span KeeperSeen) (out_bytes audit_bytes : List
+    ℕ) : Type 0 where
+  pub no_out : out_bytes ≡ []
+  pub no_audit : audit_bytes ≡ []
+  pub unaimed : IsTrue audit.after.tells → audit.after.aims ≡ audit.before.aims
+  pub still : IsStill keeper
+
+-- why the file of this role, with this name, wasn't read
+abbrev pub IsUnread : Span FilesSeen → List ℕ → Role → ExitReason → Type 0
+IsUnread files name role (exits.ReadFault r) = (r ≡ role)
+    × Rose files.before.faults files.after.faults
+IsUnread files name role (exits.TooLong r) =
+    (r ≡ role) × (IsTrue files.after.tells → IsSomeAnd (files.before.file name)
+    (λ bytes. limit_of role < length bytes))
+IsUnread files name role exits.Memory = ⊤
+IsUnread files name role (exits.AppRefused line) = ⊥
+IsUnread files name role (exits.NewRefused line) = ⊥
+IsUnread files name role (exits.UpgradeRefused line) = ⊥
+IsUnread files name role (exits.LineRefused event_fault) = ⊥
+IsUnread files name role (exits.SessionsRefused line) = ⊥
+IsUnread files name role exits.WriteFault = ⊥
+IsUnread files name role exits.StoreFault = ⊥
+IsUnread files name role exits.DoorFault = ⊥
+IsUnread files name role (exits.OtherStore stored wanted) = ⊥
+
+-- why bytes gave no application
+abbrev pub IsUnopened : List ℕ → ExitReason → Type 0
+IsUnopened bytes exit_reason =
+    ((line : List ℕ) × (exit_reason ≡ exits.AppRefused line) × IsRefusedBy bytes line)
+    ⊎ (exit_reason ≡ exits.Memory)
+
+-- why the file of this name gave none
+abbrev pub IsAppless : Span FilesSeen → List ℕ → ExitReason → Type 0
+IsAppless files name exit_reason =
+    IsUnread files name roles.App exit_reason
+    ⊎ ((bytes : List ℕ) × IsReadAs files name roles.App bytes × IsUnopened bytes exit_reason)
+
+-- an ending of the opening, where it is that of the application that a store is brought to
+abbrev pub of_next : ExitReason → ExitReason
+of_next (exits.AppRefused line) = exits.NewRefused line
+of_next exit_reason = exit_reason
+
+-- why bytes gave none
+abbrev pub IsNextUnopened : List ℕ → ExitReason → Type 0
+IsNextUnopened bytes exit_reason =
+    ((line : List ℕ) × (exit_reason ≡ exits.NewRefused line) × IsRefusedBy bytes line)
+    ⊎ (exit_reason ≡ exits.Memory)
+
+-- why bytes gave no sessions
+abbrev pub IsUnlisted : List ℕ → ExitReason → Type 0
+IsUnlisted bytes exit_reason = ((line : ℕ) × (exit_reason ≡ exits.SessionsRefused line)
+    × (sessions_in bytes ≡ Err line)) ⊎ (exit_reason ≡ exits.Memory)
+
+-- why a file of this name, where there is one, gave no sessions
+abbrev pub IsSessionless : Span FilesSeen → Option (List ℕ) → ExitReason → Type 0
+IsSessionless files None exit_reason = ⊥
+IsSessionless files (Some name) exit_reason =
+    IsUnread files name roles.Sessions exit_reason
+    ⊎ ((line : ℕ) × (exit_reason ≡ exits.SessionsRefused line) × HasBadLine files (Some name) line)

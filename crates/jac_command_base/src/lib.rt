@@ -1,0 +1,16 @@
+//! How a command ends, the files that it reads before, and the store that it attaches.
+#![tactic(auto)]
+
+mod attachment;
+mod exit_reason;
+mod files;
+mod names;
+mod startup;
+mod status;
+
+pub use attachment::attach;
+pub use exit_reason::{ExitReason, put_fault, status_of};
+pub use files::{open_app, open_next, read_app, read_file, read_sessions};
+pub use names::named;
+pub use startup::{Opened, StoreCommand, open_store};
+pub use status::Status;

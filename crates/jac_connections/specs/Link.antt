@@ -1,0 +1,77 @@
+-- Serving a link: its input is the pieces of one connection, and the replies go back on it as they
+-- are.
+use Rattle.std.specs.Prelude.{◌≡◌, ◌≤◌, ◌||◌, ◌⊎◌, ℕ, ◌+◌, Bool, true, false, IsTrue, IfOk, IsErr, nat_le, Result, Ok, Err, List, [], ◌∷◌, ◌++◌, length}
+use Rattle.std.specs.List.{concat}
+use Rattle.jac_io.specs.Faults.{Rose}
+use Rattle.jac_io.specs.Seen.{SinkSeen}
+use Rattle.jac_io.specs.Linked.{LinkSeen}
+use Rattle.jac_serve_events.specs.RunSeen.{RunSeen}
+use Rattle.jac_events.specs.declared.event.Event.{Event}
+use Rattle.jac_events.specs.declared.event.Event.TheVariants.{Begin, Piece, Finish}
+use Rattle.jac_hub.specs.Channel.{LIMIT}
+use Rattle.jac_hub.specs.Heard.{may_close}
+use Rattle.jac_connections.specs.declared.link.Halt.{Halt}
+use Rattle.jac_connections.specs.declared.link.Halt.TheVariants as halts
+use Rattle.jac_replies.specs.declared.reply.Spelling.TheVariants as spellings
+use Rattle.jac_serve_events.specs.declared.outputs.FailedSink.TheVariants as losses
+use Rattle.jac_serve_events.specs.AnswerSpec.{LogEntry, hearing, AnswerSpec}
+use Rattle.jac_serve_events.specs.Log.{replies_on, audited_from}
+use Rattle.jac_serve_events.specs.Outside.{Span}
+use Rattle.jac_serve_events.specs.Serve.{IsServed, IsLastLost}
+
+-- a link as a sink of what is put on it
+abbrev pub as_sink : LinkSeen → SinkSeen
+as_sink link = record { tells = link.tells; held = link.held; aims = []; faults = link.faults }
+
+-- the pieces of connection c
+abbrev pub pieces_of : ℕ → List (List ℕ) → List Event
+pieces_of c [] = []
+pieces_of c (piece ∷ pieces) = Piece c piece ∷ pieces_of c pieces
+
+-- the events of connection c, whose input comes in these pieces
+abbrev pub events_of : ℕ → List (List ℕ) → List Event
+events_of c pieces = Begin c ∷ (pieces_of c pieces ++ Finish c ∷ [])
+
+-- an entry closes its connection
+abbrev pub closes_in : AnswerSpec → List LogEntry → Bool
+closes_in app [] = false
+closes_in app (entry ∷ log) = may_close (hearing app) entry || closes_in app log
+
+-- the connection of these pieces and this log is closed: by an entry, or as all bytes that count
+-- were brought
+abbrev pub is_over : AnswerSpec → List (List ℕ) → List LogEntry → Bool
+is_over app pieces log = closes_in app log || nat_le LIMIT (length (concat pieces))
+
+-- of these entries, after so many replies, all was put: the reply of each, and its line
+pub record ArePut (first : ℕ) (log : List LogEntry) (out audit : List ℕ) : Type 0 where
+  pub out_text : out ≡ replies_on spellings.Raw log
+  pub audit_text : audit ≡ audited_from (first + 1) log
+
+-- what was put of these entries, by how serving their link ended: where a put on the link failed
+-- the connection ended, one on the audit is a write's refusal, and where memory ran out all was put
+abbrev pub PutsLog : ℕ → Span LinkSeen → List LogEntry → Result ℕ Halt → List ℕ → List ℕ → Type 0
+PutsLog first link log (Ok count) out audit =
+    ArePut first log out audit
+    ⊎ (IsLastLost spellings.Raw losses.Out first log out audit
+    × Rose link.before.faults link.after.faults)
+PutsLog first link log (Err halts.Write) out audit =
+    IsLastLost spellings.Raw losses.Audit first log out audit
+PutsLog first link log (Err halts.Memory) out audit = ArePut first log out audit
+
+-- connection c was served, before which there were `first` replies: these bytes went to its link,
+-- and these to the audit. It was heard in part only where the link failed or the call is refused;
+-- where a put failed, the log ends with the entry whose reply was lost: none after it was answered
+pub record IsLinkServed (app : AnswerSpec) (c first : ℕ) (link : Span LinkSeen) (k : Span RunSeen)
+    (result : Result ℕ Halt) (out audit : List ℕ) : Type 0 where
+  pub pieces : List (List ℕ)
+  pub log : List LogEntry
+  pub part : Bool
+  -- what was taken of the input: where it was heard whole, all of it, or up to the closing
+  pub taken : IsTrue link.after.tells → link.before.left ≡ concat pieces ++ link.after.left
+  pub ended : part ≡ false → (IsTrue link.after.tells → link.after.left ≡ [])
+      ⊎ (is_over app pieces log ≡ true)
+  pub cause : part ≡ true → Rose link.before.faults link.after.faults ⊎ IsErr result
+  pub served : IsServed part app k (events_of c pieces) log
+  pub few : length log ≤ 16777217
+  pub count : IfOk result (λ count. count ≡ length log)
+  pub puts : PutsLog first link log result out audit

@@ -1,0 +1,130 @@
+-- What is kept for those who looked, after an answer.
+use Rattle.std.proofs.Common.{◌≡◌, sym, subst, ℕ, Bool, IsTrue, IfSome, ◌⊎◌, inl, inr, Option, Some, None, List, []}
+use Rattle.jac_lang.specs.Syntax.{Application}
+use Rattle.jac_rows.specs.Good.{IsGood}
+use Rattle.jac_rows.specs.Project.{project_at}
+use Rattle.jac_rows.specs.declared.state.State.{State}
+use Rattle.jac_keep.specs.KeeperSeen.{KeeperSeen}
+use Rattle.jac_keep.specs.declared.alteration.Change.{Change}
+use Rattle.jac_plain.specs.Models.{shapes_of}
+use Rattle.jac_plain.specs.Requests.{Worlds}
+use Rattle.jac_policy_cache.specs.declared.viewer_cache.ViewerCache.{ViewerCache}
+use Rattle.jac_policy_cache.specs.declared.invalidation.Invalidation.{Invalidation}
+use Rattle.jac_policy_cache.specs.ViewerCache.{IsEmptyCache, Invalidates}
+use Rattle.jac_policy_cache.specs.Affected.{IsCovered}
+use Rattle.jac_resolve.specs.ValidCache.{IsValidCache}
+use Rattle.jac_replies.specs.declared.answer.Ask.{Ask}
+use Rattle.jac_engine.specs.Answers.{IsAnswerTo, world_left}
+use Rattle.jac_engine.specs.Prepared.{IsPrepared, applied_if}
+use Rattle.jac_engine.specs.Start.{IsStart}
+use Rattle.jac_engine.specs.declared.answer.Prepared.{Prepared}
+use Rattle.jac_viewer_caches.specs.CacheEntries.{IsOneOf, entry_of}
+use Rattle.jac_viewer_caches.specs.declared.viewer_caches.ViewerEntry.{ViewerEntry}
+use Rattle.jac_dispatch.specs.Answered.{DispatcherOf, AreValidCaches, AreAffected, AreInvalidatedIf, IsPutBack}
+use Rattle.jac_plain.specs.Shown.{worlds_of}
+
+none_in : {P : Type 0} (s : ViewerEntry) (viewer_caches : List ViewerEntry) → viewer_caches ≡ [] → IsOneOf s viewer_caches → P
+none_in s viewer_caches none is = let nothing : ⊥ = subst (λ (xs : List ViewerEntry). IsOneOf s xs) none is in absurd nothing
+
+-- where nothing is kept
+pub none_settled : (app : Application) (k : KeeperSeen) (viewer_caches : List ViewerEntry) → viewer_caches ≡ [] → AreValidCaches app k viewer_caches
+none_settled app k viewer_caches none = record { each = λ told s is. none_in s viewer_caches none is }
+
+-- what is settled for who asks is so for a dispatcher that is whose it was, on the state that it
+-- was
+pub still_valid : (was is : DispatcherOf) (a b : KeeperSeen) (change : Option Change) (viewer : Option ℕ) (cache : Option ViewerCache) → is ≡ was → (IsTrue b.tells → b.state ≡ a.state)
+    → (IsTrue b.tells → IfSome cache (IsValidCache was.app (worlds_of (applied_if change a.state)) viewer))
+    → IsTrue b.tells → IfSome cache (IsValidCache is.app (worlds_of (applied_if change b.state)) viewer)
+still_valid was is a b change viewer cache same left valid told =
+    subst (λ (of : DispatcherOf). IfSome cache (IsValidCache of.app (worlds_of (applied_if change b.state)) viewer)) (sym same)
+    (subst (λ (s : State). IfSome cache (IsValidCache was.app (worlds_of (applied_if change s)) viewer)) (sym (left told)) (valid told))
+
+-- fewer are kept, on the same state
+pub fewer_valid : (app : Application) (a b : KeeperSeen) (before after : List ViewerEntry)
+    → (IsTrue b.tells → IsTrue a.tells) → (IsTrue b.tells → b.state ≡ a.state)
+    → ((s : ViewerEntry) → IsOneOf s after → IsOneOf s before)
+    → AreValidCaches app a before → AreValidCaches app b after
+fewer_valid app a b before after told same fewer valid = record {
+  each = λ tells s is.
+      subst (λ (t : State). IsValidCache app (worlds_of t) s.viewer s.cache) (sym (same tells)) (valid.each (told tells) s (fewer s is));
+}
+
+-- what is taken out for somebody is what was kept, or nothing
+pub taken_valid : (app : Application) (k : KeeperSeen) (viewer_caches : List ViewerEntry) (viewer : Option ℕ) (cache : ViewerCache)
+    → ((app : Application) (worlds : Worlds) (viewer : Option ℕ) (cache : ViewerCache) → IsEmptyCache cache → IsValidCache app worlds viewer cache)
+    → AreValidCaches app k viewer_caches → IsOneOf (entry_of viewer cache) viewer_caches ⊎ IsEmptyCache cache → IsTrue k.tells → IsValidCache app (worlds_of k.state) viewer cache
+taken_valid app k viewer_caches viewer cache empty valid (inl kept) told = valid.each told (entry_of viewer cache) kept
+taken_valid app k viewer_caches viewer cache empty valid (inr none) told = empty app (worlds_of k.state) viewer cache none
+
+-- settled on what stands before a change, and on what stands after it
+record IsValidTwice (app : Application) (s later : State) (x : ViewerEntry) : Type 0 where
+  before : IsValidCache app (worlds_of s) x.viewer x.cache
+  behind : IsValidCache app (worlds_of later) x.viewer x.cache
+
+abbrev IsKept : Application → State → List ViewerEntry → Type 0
+IsKept app s viewer_caches = (x : ViewerEntry) → IsOneOf x viewer_caches → IsValidCache app (worlds_of s) x.viewer x.cache
+
+module _ (moves : (app : Application) (worlds later : Worlds) (viewer : Option ℕ) (invalidation : Invalidation) (old new : ViewerCache) → IsValidCache app worlds viewer old → Invalidates invalidation viewer old new → IsCovered app worlds later invalidation viewer → IsValidCache app later viewer new)
+    (nothing : (app : Application) (worlds : Worlds) (viewer : Option ℕ) (invalidation : Invalidation) → IsCovered app worlds worlds invalidation viewer)
+    (app : Application) (s : State) where
+  affected_twice : (change : Option Change) (invalidation : Option Invalidation) (old new : List ViewerEntry)
+      → AreAffected app s change invalidation old → AreInvalidatedIf invalidation old new → IsKept app s old → (x : ViewerEntry) → IsOneOf x new → IsValidTwice app s (applied_if change s) x
+  affected_twice change None old new (inl none) same kept x is = none_in x old none (subst (λ (xs : List ViewerEntry). IsOneOf x xs) same is)
+  affected_twice None None old new (inr affected) same kept x is =
+      let it = kept x (subst (λ (xs : List ViewerEntry). IsOneOf x xs) same is) in record { before = it; behind = it }
+  affected_twice (Some change) None old new (inr affected) same kept x is = absurd affected
+  affected_twice change (Some invalidation) old new (inl none) invalidated kept x is =
+      let was = invalidated.each x is in none_in (entry_of x.viewer was.before) old none was.kept
+  affected_twice None (Some invalidation) old new (inr affected) invalidated kept x is =
+      let was = invalidated.each x is in
+      let it = moves app (worlds_of s) (worlds_of s) x.viewer invalidation was.before x.cache (kept (entry_of x.viewer was.before) was.kept) was.invalidated (nothing app (worlds_of s) x.viewer invalidation) in
+      record { before = it; behind = it }
+  affected_twice (Some change) (Some invalidation) old new (inr affected) invalidated kept x is =
+      let was = invalidated.each x is in
+      let it = kept (entry_of x.viewer was.before) was.kept in
+      record {
+        before = moves app (worlds_of s) (worlds_of s) x.viewer invalidation was.before x.cache it was.invalidated (nothing app (worlds_of s) x.viewer invalidation);
+        behind = moves app (worlds_of s) (worlds_of (applied_if (Some change) s)) x.viewer invalidation was.before x.cache it was.invalidated (affected x.viewer);
+      }
+
+put_valid : (app : Application) (worlds : Worlds) (viewer : Option ℕ) (cache : Option ViewerCache) (x : ViewerEntry) → IsPutBack viewer cache x → IfSome cache (IsValidCache app worlds viewer)
+    → IsValidCache app worlds x.viewer x.cache
+put_valid app worlds viewer None x put valid = absurd put
+put_valid app worlds viewer (Some cache) x put valid = subst (λ (y : ViewerEntry). IsValidCache app worlds y.viewer y.cache) (sym put) valid
+
+-- after a change that was stored, or refused
+module _ (moves : (app : Application) (worlds later : Worlds) (viewer : Option ℕ) (invalidation : Invalidation) (old new : ViewerCache) → IsValidCache app worlds viewer old → Invalidates invalidation viewer old new → IsCovered app worlds later invalidation viewer → IsValidCache app later viewer new)
+    (nothing : (app : Application) (worlds : Worlds) (viewer : Option ℕ) (invalidation : Invalidation) → IsCovered app worlds worlds invalidation viewer)
+    (app : Application) (a b : KeeperSeen) (change : Option Change) (invalidation : Option Invalidation) (old mid : List ViewerEntry)
+    (told : IsTrue b.tells → IsTrue a.tells) (affected : IsTrue a.tells → AreAffected app a.state change invalidation old)
+    (invalidated : AreInvalidatedIf invalidation old mid) (valid : AreValidCaches app a old) where
+  pub stored_valid : (viewer : Option ℕ) (cache : Option ViewerCache) (after : List ViewerEntry) → (IsTrue b.tells → b.state ≡ applied_if change a.state)
+      → (IsTrue a.tells → IfSome cache (IsValidCache app (worlds_of (applied_if change a.state)) viewer))
+      → ((x : ViewerEntry) → IsOneOf x after → IsPutBack viewer cache x ⊎ IsOneOf x mid) → AreValidCaches app b after
+  stored_valid viewer cache after applied own put = record {
+    each = λ tells x is.
+        subst (λ (t : State). IsValidCache app (worlds_of t) x.viewer x.cache) (sym (applied tells))
+        (elim (put x is) [
+          | inl it ↦ put_valid app (worlds_of (applied_if change a.state)) viewer cache x it (own (told tells))
+          | inr was ↦ (affected_twice moves nothing app a.state change invalidation old mid (affected (told tells)) invalidated (valid.each (told tells)) x was).behind
+        ]);
+  }
+
+  pub refused_valid : (IsTrue b.tells → b.state ≡ a.state) → AreValidCaches app b mid
+  refused_valid same = record {
+    each = λ tells x is.
+        subst (λ (t : State). IsValidCache app (worlds_of t) x.viewer x.cache) (sym (same tells))
+        (affected_twice moves nothing app a.state change invalidation old mid (affected (told tells)) invalidated (valid.each (told tells)) x is).before;
+  }
+
+-- what was prepared on a state is prepared on the same state
+pub prepared_after : (lazy : Bool) (a b : KeeperSeen) (app : Application) (ask : Ask) (p : Prepared) (tells : Bool) → (IsTrue tells → IsTrue a.tells) → (IsTrue a.tells → a.state ≡ b.state)
+    → IsPrepared lazy tells app b.state ask p → IsPrepared lazy tells app a.state ask p
+prepared_after lazy a b app ask p tells told same is = record {
+  form = is.form;
+  stored = is.stored;
+  answered = λ on. subst (λ (s : State). IsAnswerTo lazy app (worlds_of s) ask p.answer) (sym (same (told on))) (is.answered on);
+  worlds = λ on w. subst (λ (s : State). project_at w (applied_if p.change s) ≡ world_left w app ask p.answer (project_at w s)) (sym (same (told on))) (is.worlds on w);
+  start = λ on. subst (λ (s : State). IsStart app (applied_if p.change s)) (sym (same (told on))) (is.start on);
+  good = λ on. subst (λ (s : State). IsGood (shapes_of app) s → IsGood (shapes_of app) (applied_if p.change s)) (sym (same (told on))) (is.good on);
+}

@@ -1,0 +1,84 @@
+use Rattle.std.proofs.Common.{◌≡◌, ◌∙◌, ap, sym, subst, IsTrue}
+use Rattle.jac_rows.specs.Project.{project_at}
+use Rattle.jac_rows.specs.declared.state.State.{State}
+use Rattle.jac_lang.specs.Mirror.{application_of}
+use Rattle.jac_engine.specs.Answers.{HasForm}
+use Rattle.jac_engine.specs.Prepared.{IsPrepared, applied_if}
+use Rattle.jac_dispatch.specs.Answered.{AreValidCaches, AreAffected, DispatcherOf}
+use Rattle.jac_dispatch.specs.Seen.{whose}
+use Rattle.jac_dispatch.proofs.EntryLemmas.{servable, unapplied}
+use Rattle.jac_dispatch.proofs.ViewerEntryLaws.{prepared_after, still_valid}
+use Rattle.jac_dispatch.proofs.answer.answer_ask.Goals as goal
+
+pub make_lines-requires-clause-status : goal.make_lines-requires-clause-status
+make_lines-requires-clause-status g c =
+    let app = application_of c.args.dispatcher.now.service.now in
+    let lazy = c.args.dispatcher.now.lazy in
+    let form : HasForm lazy app c.args.ask.now c.in_ok-ready.ready.prepared.answer = c.in_ok-ready.ensures.prepared.form in
+    (servable lazy app c.args.ask.now c.in_ok-ready.ready.prepared.answer form).phrase
+
+pub make_lines-requires-clause-answered : goal.make_lines-requires-clause-answered
+make_lines-requires-clause-answered g c =
+    let app = application_of c.args.dispatcher.now.service.now in
+    let lazy = c.args.dispatcher.now.lazy in
+    let form : HasForm lazy app c.args.ask.now c.in_ok-ready.ready.prepared.answer = c.in_ok-ready.ensures.prepared.form in
+    (servable lazy app c.args.ask.now c.in_ok-ready.ready.prepared.answer form).answered
+
+pub returns-clause-made : goal.returns-clause-made
+returns-clause-made g c =
+    let K = g.K.Keeper in
+    let app = application_of c.args.dispatcher.now.service.now in
+    let lazy = c.args.dispatcher.now.lazy in
+    let ask = c.args.ask.now in
+    let s = (K.seen c.args.dispatcher.now.keeper.now).state in
+    let later = (K.seen c.store_answer.new.dispatcher.keeper.now).state in
+    let tells = (K.seen c.ready_answer.new.dispatcher.keeper.now).tells in
+    let p = c.in_ok-ready.ready.prepared in
+    let prepared : IsPrepared lazy tells app s ask p = c.in_ok-ready.ensures.prepared in
+    let left = c.in_ok-ready.ensures.reads.left in
+    let stored : IsTrue (K.seen c.store_answer.new.dispatcher.keeper.now).tells → later ≡ applied_if p.change s =
+    λ told. rw (left.same_state (c.in_ok-store_answer.ensures.told told)) at (c.in_ok-store_answer.ensures.applied told) in
+    record {
+      answer = p.answer;
+      form = prepared.form;
+      answered = λ told. prepared.answered (c.in_ok-store_answer.ensures.told told);
+      worlds = λ told w. ap (λ (x : State). project_at w x) (stored told) ∙ prepared.worlds (c.in_ok-store_answer.ensures.told told) w;
+      goes_on = λ told. rw (stored told) (prepared.start (c.in_ok-store_answer.ensures.told told));
+      good = λ told good. rw (stored told) (prepared.good (c.in_ok-store_answer.ensures.told told) good);
+      unstored = λ told none. stored told ∙ unapplied p.change s (prepared.stored ∙ none);
+      unsplit = λ none. c.in_ok-store_answer.ensures.unsplit ∙ c.in_ok-ready.ensures.unsplit (prepared.stored ∙ none);
+      reply_made = c.in_ok-lines.ensures.reply;
+      audit_made = c.in_ok-lines.ensures.audit;
+    }
+
+pub store_answer-requires-clause-prepared : goal.store_answer-requires-clause-prepared
+store_answer-requires-clause-prepared g c =
+    let K = g.K.Keeper in
+    let left = c.in_ok-ready.ensures.reads.left in
+    let new = K.seen c.ready_answer.new.dispatcher.keeper.now in
+    subst (λ (of : DispatcherOf). IsPrepared of.lazy new.tells of.app new.state c.args.ask.now c.in_ok-ready.ready.prepared) (sym c.in_ok-ready.ensures.same)
+    (prepared_after c.args.dispatcher.now.lazy new (K.seen c.args.dispatcher.now.keeper.now) (application_of c.args.dispatcher.now.service.now)
+    c.args.ask.now c.in_ok-ready.ready.prepared new.tells (λ told. told) left.same_state c.in_ok-ready.ensures.prepared)
+
+pub store_answer-requires-clause-valid : goal.store_answer-requires-clause-valid
+store_answer-requires-clause-valid g c =
+    let K = g.K.Keeper in
+    let before = c.args.dispatcher.now in
+    let after = c.ready_answer.new.dispatcher in
+    let ready = c.in_ok-ready.ready in
+    still_valid (whose before) (whose after) (K.seen before.keeper.now) (K.seen after.keeper.now) ready.prepared.change c.args.ask.now.viewer ready.cache
+    c.in_ok-ready.ensures.same c.in_ok-ready.ensures.reads.left.same_state c.in_ok-ready.ensures.valid
+
+pub store_answer-requires-clause-affected : goal.store_answer-requires-clause-affected
+store_answer-requires-clause-affected g c = λ told.
+    let K = g.K.Keeper in
+    let left = c.in_ok-ready.ensures.reads.left in
+    let ready = c.in_ok-ready.ready in
+    let viewer_caches = c.ready_answer.new.dispatcher.viewer_caches.now in
+    subst (λ (of : DispatcherOf). AreAffected of.app (K.seen c.ready_answer.new.dispatcher.keeper.now).state ready.prepared.change ready.invalidation viewer_caches) (sym c.in_ok-ready.ensures.same)
+    (rw (left.same_state told) (c.in_ok-ready.ensures.affected told))
+
+pub store_answer-requires-clause-settled : goal.store_answer-requires-clause-settled
+store_answer-requires-clause-settled g c =
+    let new = g.K.Keeper.seen c.ready_answer.new.dispatcher.keeper.now in
+    subst (λ (of : DispatcherOf). AreValidCaches of.app new c.ready_answer.new.dispatcher.viewer_caches.now) (sym c.in_ok-ready.ensures.same) c.in_ok-ready.ensures.settled

@@ -1,0 +1,11 @@
+use Rattle.jac_lang.specs.Mirror.{application_of}
+use Rattle.jac_dispatch.proofs.ViewerEntryLaws.{none_settled}
+use Rattle.jac_dispatch.proofs.answer.ready_lazily.Goals as goal
+
+pub returns-clause-settled : goal.returns-clause-settled
+returns-clause-settled g c =
+    none_settled (application_of c.args.dispatcher.now.service.now) (g.K.Keeper.seen c.prepare.new.keeper) c.forget.new.self c.forget.ensures
+
+pub returns-in_err-prepared-clause-settled : goal.returns-in_err-prepared-clause-settled
+returns-in_err-prepared-clause-settled g c =
+    none_settled (application_of c.args.dispatcher.now.service.now) (g.K.Keeper.seen c.prepare.new.keeper) c.forget.new.self c.forget.ensures

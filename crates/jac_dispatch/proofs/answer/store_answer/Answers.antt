@@ -1,0 +1,20 @@
+use Rattle.jac_lang.specs.Mirror.{application_of}
+use Rattle.jac_dispatch.proofs.ViewerEntryLaws.{refused_valid, stored_valid}
+use Rattle.jac_dispatch.proofs.answer.store_answer.Goals as goal
+
+pub returns-in-Ok-clause-settled : goal.returns-in-Ok-clause-settled
+returns-in-Ok-clause-settled g c =
+    let K = g.K.Keeper in
+    let dispatcher = c.args.dispatcher.now in
+    let ready = c.args.ready in
+    stored_valid c.cache_moves.ensures c.covered_by_nothing.ensures (application_of dispatcher.service.now) (K.seen dispatcher.keeper.now) (K.seen c.commit.new.keeper) ready.prepared.change ready.invalidation
+    dispatcher.viewer_caches.now c.invalidate_by.new.viewer_caches c.in-Ok.ensures.told c.requires.affected c.invalidate_by.ensures c.requires.settled
+    c.args.ask.now.viewer ready.cache c.put_back.new.viewer_caches c.in-Ok.ensures.applied c.requires.valid c.put_back.ensures
+
+pub returns-in-Err-clause-settled : goal.returns-in-Err-clause-settled
+returns-in-Err-clause-settled g c =
+    let K = g.K.Keeper in
+    let dispatcher = c.args.dispatcher.now in
+    let ready = c.args.ready in
+    refused_valid c.cache_moves.ensures c.covered_by_nothing.ensures (application_of dispatcher.service.now) (K.seen dispatcher.keeper.now) (K.seen c.commit.new.keeper) ready.prepared.change ready.invalidation
+    dispatcher.viewer_caches.now c.invalidate_by.new.viewer_caches c.in-Err.ensures.told c.requires.affected c.invalidate_by.ensures c.requires.settled c.in-Err.ensures.refused

@@ -1,0 +1,171 @@
+-- How an application answers over a keeper.
+use Rattle.std.specs.Prelude.{◌≡◌, ℕ, ◌⊎◌, Bool, IsTrue, true, false, if◌then◌else◌, Option, Some, None, List, []}
+use Rattle.jac_lang.specs.Syntax.{Application}
+use Rattle.jac_rows.specs.Good.{IsGood}
+use Rattle.jac_rows.specs.Project.{project_at}
+use Rattle.jac_keep.specs.KeeperSeen.{KeeperSeen}
+use Rattle.jac_plain.specs.Models.{shapes_of}
+use Rattle.jac_engine.specs.Answers.{IsAnswerTo, HasForm, world_left, is_stored}
+use Rattle.jac_engine.specs.Prepared.{IsInvalidationOf}
+use Rattle.jac_engine.specs.Start.{IsStart}
+use Rattle.jac_http.specs.Replies.{reply_bytes}
+use Rattle.jac_hub.specs.declared.sent.Sent.{Sent}
+use Rattle.jac_hub.specs.declared.sent.Sent.TheVariants.{Made}
+use Rattle.jac_hub.specs.Channel.{fixed_500}
+use Rattle.jac_hub.specs.Hearing.{Source, asked, connection, whole}
+use Rattle.jac_replies.specs.declared.answer.Answer.{Answer}
+use Rattle.jac_replies.specs.declared.answer.Ask.{Ask}
+use Rattle.jac_replies.specs.declared.reply.Spelling.{Spelling}
+use Rattle.jac_replies.specs.declared.reply.Spelling.TheVariants as spellings
+use Rattle.jac_replies.specs.Spelled.{spelled_bytes, audit_rest}
+use Rattle.jac_route.specs.declared.sessions.Session.{Session}
+use Rattle.jac_policy_cache.specs.declared.viewer_cache.ViewerCache.{ViewerCache}
+use Rattle.jac_policy_cache.specs.declared.invalidation.Invalidation.{Invalidation}
+use Rattle.jac_resolve.specs.ValidCache.{IsValidCache}
+use Rattle.jac_rows.specs.declared.state.State.{State}
+use Rattle.jac_keep.specs.declared.alteration.Change.{Change}
+use Rattle.jac_viewer_caches.specs.CacheEntries.{AreInvalidated, IsOneOf, entry_of}
+use Rattle.jac_viewer_caches.specs.declared.viewer_caches.ViewerEntry.{ViewerEntry}
+use Rattle.jac_serve_events.specs.AnswerSpec.{LogSubject, LogEntry, AnswerSpec}
+use Rattle.jac_serve_events.specs.Dispatcher.{DispatcherSeen}
+use Rattle.jac_serve_events.specs.RunSeen.{Grew, RunSeen, run_seen_of}
+use Rattle.jac_serve_events.specs.Log.{reply_on}
+use Rattle.jac_serve_events.specs.Outside.{Span}
+use Rattle.jac_dispatch.specs.declared.answer.RequestSource.{RequestSource}
+use Rattle.jac_dispatch.specs.declared.answer.RequestSource.TheVariants as ways
+use Rattle.jac_dispatch.specs.Asked.{ask_in, request_in}
+use Rattle.jac_dispatch.specs.Log.{IsAnswer, IsFormed, AreFormed, AreAnswered, left_of, after_log, is_stored_for, may_split, is_unstored, is_unsplit, faults_in, is_fault_answer}
+use Rattle.jac_plain.specs.Shown.{worlds_of}
+
+abbrev pub source_of : RequestSource → Source
+source_of ways.Line = asked
+source_of (ways.Connection conn close spelling) = connection conn
+
+abbrev pub close_of : RequestSource → Bool
+close_of ways.Line = false
+close_of (ways.Connection conn close spelling) = close
+
+abbrev pub spelling_of : RequestSource → Spelling
+spelling_of ways.Line = spellings.Quoted
+spelling_of (ways.Connection conn close spelling) = spelling
+
+-- a request was answered, and its answer stored; these are the line of its reply and what follows
+-- the number of its audit line
+pub record IsAnswerMade (lazy : Bool) (app : Application) (k : Span RunSeen) (via : RequestSource)
+    (ask : Ask)
+    (reply audit : List ℕ) : Type 0 where
+  pub answer : Answer
+  pub form : HasForm lazy app ask answer
+  pub answered : IsTrue k.after.keeper.tells
+      → IsAnswerTo lazy app (worlds_of k.before.keeper.state) ask answer
+  pub worlds : IsTrue k.after.keeper.tells → (w : ℕ → Bool)
+      → project_at w k.after.keeper.state
+      ≡ world_left w app ask answer (project_at w k.before.keeper.state)
+  pub goes_on : IsTrue k.after.keeper.tells → IsStart app k.after.keeper.state
+  pub good : IsTrue k.after.keeper.tells → IsGood (shapes_of app) k.before.keeper.state
+      → IsGood (shapes_of app) k.after.keeper.state
+  pub unstored : IsTrue k.after.keeper.tells → is_stored app ask answer ≡ false
+      → k.after.keeper.state ≡ k.before.keeper.state
+  pub unsplit : is_stored app ask answer ≡ false → k.after.splits ≡ k.before.splits
+  pub reply_made : reply
+      ≡ reply_on (spelling_of via) (source_of via) (whole ask (close_of via)) answer
+  pub audit_made : audit ≡ audit_rest answer.status ask.viewer answer.shown answer.consulted
+
+-- the subject has this answer, and what that leaves
+pub record IsEntryOf (lazy : Bool) (app : Application) (k : Span RunSeen) (subject : LogSubject)
+    (answer : Answer) : Type 0 where
+  pub formed : IsFormed lazy app subject answer
+  pub told : IsTrue k.after.keeper.tells → IsTrue k.before.keeper.tells
+  pub answered : IsTrue k.after.keeper.tells
+      → IsAnswer lazy app (worlds_of k.before.keeper.state) subject answer
+  pub worlds : IsTrue k.after.keeper.tells → (w : ℕ → Bool)
+      → project_at w k.after.keeper.state
+      ≡ left_of w app subject answer (project_at w k.before.keeper.state)
+  pub goes_on : IsTrue k.after.keeper.tells → IsStart app k.after.keeper.state
+  pub good : IsTrue k.after.keeper.tells → IsGood (shapes_of app) k.before.keeper.state
+      → IsGood (shapes_of app) k.after.keeper.state
+  -- what isn't stored leaves the state as it was, and what doesn't store leaves the count of facets
+  -- that were split
+  pub unstored : IsTrue k.after.keeper.tells → is_stored_for app subject answer ≡ false
+      → k.after.keeper.state ≡ k.before.keeper.state
+  pub unsplit : may_split app subject answer ≡ false → k.after.splits ≡ k.before.splits
+  pub faults : Grew k.before.keeper.faults (if is_fault_answer answer then 1
+      else 0) k.after.keeper.faults
+
+-- some subjects were answered one after another
+pub record AreEntries (lazy : Bool) (app : Application) (k : Span RunSeen) (log : List LogEntry)
+    : Type 0 where
+  pub formed : AreFormed lazy app log
+  pub told : IsTrue k.after.keeper.tells → IsTrue k.before.keeper.tells
+  pub answered : IsTrue k.after.keeper.tells
+      → AreAnswered lazy app (worlds_of k.before.keeper.state) log
+  pub worlds : IsTrue k.after.keeper.tells → (w : ℕ → Bool)
+      → project_at w k.after.keeper.state ≡ after_log w app log (project_at w k.before.keeper.state)
+  pub goes_on : IsTrue k.after.keeper.tells → IsStart app k.after.keeper.state
+  pub good : IsTrue k.after.keeper.tells → IsGood (shapes_of app) k.before.keeper.state
+      → IsGood (shapes_of app) k.after.keeper.state
+  pub unstored : IsTrue k.after.keeper.tells → is_unstored app log ≡ true
+      → k.after.keeper.state ≡ k.before.keeper.state
+  pub unsplit : is_unsplit app log ≡ true → k.after.splits ≡ k.before.splits
+  pub faults : Grew k.before.keeper.faults (faults_in log) k.after.keeper.faults
+
+-- what is sent for what is refused with this status, unless memory runs out
+abbrev pub IsRefusalSent : Spelling → ℕ → ℕ → Sent → Type 0
+IsRefusalSent spelling c status sent =
+    (sent ≡ Made (spelled_bytes spelling c (reply_bytes status None None [] false false true))
+    (audit_rest status None None None) false)
+    ⊎ (sent ≡ fixed_500)
+
+-- what is kept for somebody is settled for them, but for what is stale, on what the keeper tells
+pub record AreValidCaches (app : Application) (k : KeeperSeen)
+    (viewer_caches : List ViewerEntry) : Type 0 where
+  pub each : IsTrue k.tells → (s : ViewerEntry) → IsOneOf s viewer_caches
+      → IsValidCache app (worlds_of k.state) s.viewer s.cache
+
+-- the change has its invalidation, or nothing is kept that it could affect
+abbrev pub AreAffected : Application → State → Option Change → Option Invalidation → List
+    ViewerEntry → Type 0
+AreAffected app s change invalidation viewer_caches = (viewer_caches ≡ []) ⊎ IsInvalidationOf app s
+    change invalidation
+
+abbrev pub AreInvalidatedIf : Option Invalidation → List ViewerEntry → List ViewerEntry → Type 0
+AreInvalidatedIf None old new = new ≡ old
+AreInvalidatedIf (Some invalidation) old new = AreInvalidated invalidation old new
+
+-- the entry is that of the viewer, with the cache that is put back
+abbrev pub IsPutBack : Option ℕ → Option ViewerCache → ViewerEntry → Type 0
+IsPutBack viewer None s = ⊥
+IsPutBack viewer (Some cache) s = s ≡ entry_of viewer cache
+
+-- how an application answers, whose sessions these are; the flag says that a GET's page resolves
+-- only what it consults
+abbrev pub answer_spec_of : Bool → Application → List Session → AnswerSpec
+answer_spec_of lazy app sessions = record {
+  wants = request_in app sessions;
+  asks = ask_in app;
+  ready = λ k. IsTrue k.keeper.tells → IsStart app k.keeper.state;
+  settled = AreValidCaches app;
+  entry = IsEntryOf lazy app;
+  entries = AreEntries lazy app;
+}
+
+-- whose a dispatcher is: an application's, with its sessions, whether a GET's page resolves only
+-- what it consults, and the references to its keeper and to the count of facets that were split
+pub record DispatcherOf : Type 0 where
+  pub app : Application
+  pub sessions : List Session
+  pub lazy : Bool
+  pub keeper : ℕ
+  pub splits : ℕ
+
+abbrev pub answer_spec : DispatcherOf → AnswerSpec
+answer_spec of = answer_spec_of of.lazy of.app of.sessions
+
+-- what contracts see of such a dispatcher
+abbrev pub dispatcher_of : DispatcherOf → KeeperSeen → ℕ → List ViewerEntry → DispatcherSeen
+    DispatcherOf
+dispatcher_of of keeper splits viewer_caches = record {
+  of = of;
+  run_seen = run_seen_of keeper splits;
+  viewer_caches = viewer_caches;
+}

@@ -1,0 +1,390 @@
+ghost use Rattle.std.specs.Prelude.{◌≡◌, ◌⊎◌, false, Some, IfOk, IfSome, IsTrue, IsSome, IsNone, OnOk, OnErr};
+ghost use Rattle.jac_lang.specs.Mirror.{application_of};
+ghost use Rattle.jac_keep.specs.Cause.{HasCause};
+ghost use Rattle.jac_keep.specs.KeeperSeen.{Reads};
+ghost use Rattle.jac_policy_cache.specs.ViewerCache.{IsEmptyCache};
+ghost use Rattle.jac_resolve.specs.ValidCache.{IsValidCache};
+ghost use Rattle.jac_engine.specs.Answers.{stores};
+ghost use Rattle.jac_engine.specs.Prepared.{IsPrepared, applied_if};
+ghost use Rattle.jac_engine.specs.Start.{IsStart};
+ghost use Rattle.jac_viewer_caches.specs.CacheEntries.{IsOneOf, entry_of};
+ghost use Rattle.jac_viewer_caches.specs.declared.viewer_caches.ViewerEntry.{ViewerEntry};
+ghost use Rattle.jac_http.specs.Replies.{phrase_of};
+ghost use Rattle.jac_hub.specs.Hearing.{whole};
+ghost use Rattle.jac_serve_events.specs.AnswerSpec.{is_failure};
+ghost use Rattle.jac_serve_events.specs.Dispatcher.{kept};
+ghost use Rattle.jac_serve_events.specs.Log.{reply_on};
+ghost use Rattle.jac_replies.specs.Spelled.{audit_rest};
+ghost use Rattle.jac_dispatch.specs.Answered.{source_of, close_of, spelling_of, IsAnswerMade, AreValidCaches, AreAffected, AreInvalidatedIf, IsPutBack};
+ghost use Rattle.jac_dispatch.specs.Seen.{whose, dispatcher_seen};
+ghost use Rattle.jac_plain.specs.Shown.{worlds_of};
+
+use crate::handler::AppDispatcher;
+use jac_engine::{Prepared, PreparedWithCache, commit, prepare, prepare_with_cache};
+use jac_keep::{Keeper, Stop};
+use jac_policy_cache::{Invalidation, ViewerCache};
+use jac_replies::{Answer, Ask, Spelling, audit_rest, is_head, reply_line, sent_reply, text_bytes};
+use jac_resolve::{cache_moves, covered_by_nothing, empty_cache_is_valid};
+use jac_value::{Bytes, Id, Memory, Txt};
+use jac_viewer_caches::ViewerCaches;
+use std::alloc::Global;
+use std::sync::ledger::Ledger;
+
+/// Where a request came from.
+#[derive(Clone, Copy, Debug, PartialEq, Eq)]
+pub enum RequestSource {
+    /// An `ask` line.
+    Line,
+    Connection {
+        conn: u32,
+        /// The connection ends after the reply.
+        close: bool,
+        spelling: Spelling,
+    },
+}
+
+/// The reply to a request, and what follows the number in its audit line.
+#[derive(Drop)]
+pub struct AnswerLines {
+    pub reply: Bytes,
+    pub audit: Txt,
+}
+
+/// An answer that isn't stored yet.
+#[derive(Drop)]
+pub struct PendingAnswer {
+    pub prepared: Prepared,
+    /// What is settled for who asks on what the answer leaves, where that is kept.
+    pub cache: Option<ViewerCache>,
+    /// What its change may affect of what is kept for others.
+    pub invalidation: Option<Invalidation>,
+}
+
+fn reply_via(alloc: Global, via: RequestSource, ask: &Ask, answer: &Answer) -> Result<Bytes, Memory>
+    requires status { IsSome (phrase_of answer.now.status) }
+    requires answered { is_failure answer.now ≡ false }
+    ensures { IfOk result (λ reply.
+        reply ≡ reply_on (spelling_of via) (source_of via) (whole ask.now (close_of via))
+        answer.now) }
+{
+    match via {
+        RequestSource::Line => {
+            let line = reply_line(alloc, ask.method.as_bytes(), answer)?;
+            Ok(text_bytes(line))
+        }
+        RequestSource::Connection {
+            conn,
+            close,
+            spelling,
+        } => sent_reply(
+            alloc,
+            spelling,
+            conn,
+            answer,
+            is_head(ask.method.as_bytes()),
+            close,
+        ),
+    }
+}
+
+fn make_lines(
+    alloc: Global,
+    via: RequestSource,
+    ask: &Ask,
+    answer: &Answer,
+) -> Result<AnswerLines, Memory>
+    requires status { IsSome (phrase_of answer.now.status) }
+    requires answered { is_failure answer.now ≡ false }
+    ensures reply { IfOk result (λ lines.
+        lines.reply ≡ reply_on (spelling_of via) (source_of via) (whole ask.now (close_of via))
+        answer.now) }
+    ensures audit { IfOk result (λ lines.
+        lines.audit ≡ audit_rest answer.now.status ask.now.viewer answer.now.shown
+        answer.now.consulted) }
+{
+    let reply = reply_via(alloc, via, ask, answer)?;
+    let audit = audit_rest(
+        alloc,
+        answer.status,
+        ask.viewer,
+        &answer.shown,
+        &answer.consulted,
+    )?;
+    Ok(AnswerLines { reply, audit })
+}
+
+/// Answers one request and stores what it leaves. The lines of its reply are made before, so that
+/// nothing is stored without them. What was settled for a viewer is kept, and what a change may
+/// invalidation of it is settled again; of a lazily made page nothing is kept.
+pub fn answer_ask<K: Keeper, L: Ledger, M: Ledger>(
+    dispatcher: &mut AppDispatcher<'_, '_, '_, '_, '_, '_, K, L, M>,
+    via: RequestSource,
+    ask: &Ask,
+) -> Result<AnswerLines, Stop>
+    requires attached { IsTrue (K.seen dispatcher.old.keeper.now).store.attached }
+    requires start { IsTrue (K.seen dispatcher.old.keeper.now).tells
+        → IsStart (whose dispatcher.old).app (K.seen dispatcher.old.keeper.now).state }
+    requires settled { AreValidCaches (whose dispatcher.old).app (K.seen dispatcher.old.keeper.now)
+        dispatcher.old.viewer_caches.now }
+    ensures made { IfOk result (λ lines. IsAnswerMade dispatcher.old.lazy (whose dispatcher.old).app
+        (kept (dispatcher_seen K.seen dispatcher.old) (dispatcher_seen K.seen dispatcher.new))
+        via ask.now lines.reply lines.audit) }
+    ensures refused { IsTrue (K.seen dispatcher.new.keeper.now).tells
+        → OnErr result ((K.seen dispatcher.new.keeper.now).state ≡
+        (K.seen dispatcher.old.keeper.now).state) }
+    ensures told { IsTrue (K.seen dispatcher.new.keeper.now).tells
+        → IsTrue (K.seen dispatcher.old.keeper.now).tells }
+    ensures cause { HasCause (K.seen dispatcher.old.keeper.now).faults
+        (K.seen dispatcher.new.keeper.now).faults result }
+    ensures attached { (K.seen dispatcher.new.keeper.now).store ≡
+        (K.seen dispatcher.old.keeper.now).store }
+    ensures settled { AreValidCaches (whose dispatcher.old).app (K.seen dispatcher.new.keeper.now)
+        dispatcher.new.viewer_caches.now }
+    ensures reading { stores (whose dispatcher.old).app ask.now ≡ false
+        → dispatcher.new.splits.now ≡ dispatcher.old.splits.now }
+    ensures same { whose dispatcher.new ≡ whose dispatcher.old }
+{
+    let ready = ready_answer(dispatcher, ask)?;
+    let lines = make_lines(dispatcher.alloc, via, ask, &ready.prepared.answer)?;
+    store_answer(dispatcher, ask, ready)?;
+    Ok(lines)
+}
+
+/// What answers the request, over what is kept for who asks, which is taken out. Nothing is stored.
+pub fn ready_answer<K: Keeper, L: Ledger, M: Ledger>(
+    dispatcher: &mut AppDispatcher<'_, '_, '_, '_, '_, '_, K, L, M>,
+    ask: &Ask,
+) -> Result<PendingAnswer, Stop>
+    requires attached { IsTrue (K.seen dispatcher.old.keeper.now).store.attached }
+    requires start { IsTrue (K.seen dispatcher.old.keeper.now).tells
+        → IsStart (whose dispatcher.old).app (K.seen dispatcher.old.keeper.now).state }
+    requires settled { AreValidCaches (whose dispatcher.old).app (K.seen dispatcher.old.keeper.now)
+        dispatcher.old.viewer_caches.now }
+    ensures prepared { IfOk result (λ r. IsPrepared dispatcher.old.lazy
+        (K.seen dispatcher.new.keeper.now).tells
+        (whose dispatcher.old).app (K.seen dispatcher.old.keeper.now).state ask.now r.prepared) }
+    ensures valid { IsTrue (K.seen dispatcher.new.keeper.now).tells
+        → IfOk result (λ r. IfSome r.cache (IsValidCache (whose dispatcher.old).app
+        (worlds_of (applied_if r.prepared.change (K.seen dispatcher.old.keeper.now).state))
+        ask.now.viewer)) }
+    ensures affected { IsTrue (K.seen dispatcher.new.keeper.now).tells
+        → IfOk result (λ r. AreAffected (whose dispatcher.old).app
+        (K.seen dispatcher.old.keeper.now).state
+        r.prepared.change r.invalidation dispatcher.new.viewer_caches.now) }
+    ensures unsplit { IfOk result (λ r. IsNone r.prepared.change
+        → dispatcher.new.splits.now ≡ dispatcher.old.splits.now) }
+    ensures reading { stores (whose dispatcher.old).app ask.now ≡ false
+        → dispatcher.new.splits.now ≡ dispatcher.old.splits.now }
+    ensures reads { Reads (K.seen dispatcher.old.keeper.now) (K.seen dispatcher.new.keeper.now)
+        result }
+    ensures settled { AreValidCaches (whose dispatcher.old).app (K.seen dispatcher.new.keeper.now)
+        dispatcher.new.viewer_caches.now }
+    ensures same { whose dispatcher.new ≡ whose dispatcher.old }
+{
+    if dispatcher.lazy {
+        return ready_lazily(dispatcher, ask);
+    }
+    ready_valid(dispatcher, ask)
+}
+
+// The same, where a GET's page resolves only what it consults: nothing is kept.
+fn ready_lazily<K: Keeper, L: Ledger, M: Ledger>(
+    dispatcher: &mut AppDispatcher<'_, '_, '_, '_, '_, '_, K, L, M>,
+    ask: &Ask,
+) -> Result<PendingAnswer, Stop>
+    requires attached { IsTrue (K.seen dispatcher.old.keeper.now).store.attached }
+    requires start { IsTrue (K.seen dispatcher.old.keeper.now).tells
+        → IsStart (whose dispatcher.old).app (K.seen dispatcher.old.keeper.now).state }
+    ensures prepared { IfOk result (λ r. IsPrepared dispatcher.old.lazy
+        (K.seen dispatcher.new.keeper.now).tells
+        (whose dispatcher.old).app (K.seen dispatcher.old.keeper.now).state ask.now r.prepared) }
+    ensures valid { IsTrue (K.seen dispatcher.new.keeper.now).tells
+        → IfOk result (λ r. IfSome r.cache (IsValidCache (whose dispatcher.old).app
+        (worlds_of (applied_if r.prepared.change (K.seen dispatcher.old.keeper.now).state))
+        ask.now.viewer)) }
+    ensures affected { IsTrue (K.seen dispatcher.new.keeper.now).tells
+        → IfOk result (λ r. AreAffected (whose dispatcher.old).app
+        (K.seen dispatcher.old.keeper.now).state
+        r.prepared.change r.invalidation dispatcher.new.viewer_caches.now) }
+    ensures unsplit { IfOk result (λ r. IsNone r.prepared.change
+        → dispatcher.new.splits.now ≡ dispatcher.old.splits.now) }
+    ensures reading { stores (whose dispatcher.old).app ask.now ≡ false
+        → dispatcher.new.splits.now ≡ dispatcher.old.splits.now }
+    ensures reads { Reads (K.seen dispatcher.old.keeper.now) (K.seen dispatcher.new.keeper.now)
+        result }
+    ensures settled { AreValidCaches (whose dispatcher.old).app (K.seen dispatcher.new.keeper.now)
+        dispatcher.new.viewer_caches.now }
+    ensures same { whose dispatcher.new ≡ whose dispatcher.old }
+{
+    dispatcher.viewer_caches.forget();
+    let prepared = prepare(
+        dispatcher.alloc,
+        dispatcher.service,
+        dispatcher.keeper,
+        ask,
+        dispatcher.lazy,
+        dispatcher.splits,
+        dispatcher.evaluations,
+    )?;
+    Ok(PendingAnswer {
+        prepared,
+        cache: None,
+        invalidation: None,
+    })
+}
+
+// The same, under labels that are settled.
+fn ready_valid<K: Keeper, L: Ledger, M: Ledger>(
+    dispatcher: &mut AppDispatcher<'_, '_, '_, '_, '_, '_, K, L, M>,
+    ask: &Ask,
+) -> Result<PendingAnswer, Stop>
+    requires attached { IsTrue (K.seen dispatcher.old.keeper.now).store.attached }
+    requires start { IsTrue (K.seen dispatcher.old.keeper.now).tells
+        → IsStart (whose dispatcher.old).app (K.seen dispatcher.old.keeper.now).state }
+    requires settled { AreValidCaches (whose dispatcher.old).app (K.seen dispatcher.old.keeper.now)
+        dispatcher.old.viewer_caches.now }
+    requires eager { dispatcher.old.lazy ≡ false }
+    ensures prepared { IfOk result (λ r. IsPrepared dispatcher.old.lazy
+        (K.seen dispatcher.new.keeper.now).tells
+        (whose dispatcher.old).app (K.seen dispatcher.old.keeper.now).state ask.now r.prepared) }
+    ensures valid { IsTrue (K.seen dispatcher.new.keeper.now).tells
+        → IfOk result (λ r. IfSome r.cache (IsValidCache (whose dispatcher.old).app
+        (worlds_of (applied_if r.prepared.change (K.seen dispatcher.old.keeper.now).state))
+        ask.now.viewer)) }
+    ensures affected { IsTrue (K.seen dispatcher.new.keeper.now).tells
+        → IfOk result (λ r. AreAffected (whose dispatcher.old).app
+        (K.seen dispatcher.old.keeper.now).state
+        r.prepared.change r.invalidation dispatcher.new.viewer_caches.now) }
+    ensures unsplit { IfOk result (λ r. IsNone r.prepared.change
+        → dispatcher.new.splits.now ≡ dispatcher.old.splits.now) }
+    ensures reading { stores (whose dispatcher.old).app ask.now ≡ false
+        → dispatcher.new.splits.now ≡ dispatcher.old.splits.now }
+    ensures reads { Reads (K.seen dispatcher.old.keeper.now) (K.seen dispatcher.new.keeper.now)
+        result }
+    ensures settled { AreValidCaches (whose dispatcher.old).app (K.seen dispatcher.new.keeper.now)
+        dispatcher.new.viewer_caches.now }
+    ensures same { whose dispatcher.new ≡ whose dispatcher.old }
+{
+    empty_cache_is_valid();
+    let cache = take_cache(dispatcher.alloc, dispatcher.viewer_caches, &ask.viewer);
+    let valid = prepare_with_cache(
+        dispatcher.alloc,
+        dispatcher.service,
+        dispatcher.keeper,
+        ask,
+        cache,
+        dispatcher.splits,
+        dispatcher.evaluations,
+    )?;
+    Ok(ready_of(valid))
+}
+
+fn ready_of(valid: PreparedWithCache) -> PendingAnswer
+    ensures { result
+        ≡ record {
+          prepared = valid.prepared;
+          cache = Some valid.cache;
+          invalidation =
+              valid.invalidation;
+        } }
+{
+    let PreparedWithCache {
+        prepared,
+        cache,
+        invalidation,
+    } = valid;
+    PendingAnswer {
+        prepared,
+        cache: Some(cache),
+        invalidation,
+    }
+}
+
+// Takes out what is kept for the viewer, or begins with nothing.
+fn take_cache(alloc: Global, viewer_caches: &mut ViewerCaches, viewer: &Option<Id>) -> ViewerCache
+    ensures taken { IsOneOf (entry_of viewer.now result) viewer_caches.old ⊎ IsEmptyCache result }
+    ensures left { (s : ViewerEntry) → IsOneOf s viewer_caches.new → IsOneOf s viewer_caches.old }
+{
+    match viewer_caches.take(viewer) {
+        Some(cache) => cache,
+        None => ViewerCache::empty(alloc),
+    }
+}
+
+/// Stores what was prepared. What is kept for others is right on what stood before and on what
+/// stands then; what is settled for who asks is kept again where all went well.
+pub fn store_answer<K: Keeper, L: Ledger, M: Ledger>(
+    dispatcher: &mut AppDispatcher<'_, '_, '_, '_, '_, '_, K, L, M>,
+    ask: &Ask,
+    ready: PendingAnswer,
+) -> Result<(), Stop>
+    requires attached { IsTrue (K.seen dispatcher.old.keeper.now).store.attached }
+    requires prepared { IsPrepared dispatcher.old.lazy (K.seen dispatcher.old.keeper.now).tells
+        (whose dispatcher.old).app (K.seen dispatcher.old.keeper.now).state ask.now ready.prepared }
+    requires valid { IsTrue (K.seen dispatcher.old.keeper.now).tells
+        → IfSome ready.cache (IsValidCache (whose dispatcher.old).app
+        (worlds_of (applied_if ready.prepared.change (K.seen dispatcher.old.keeper.now).state))
+        ask.now.viewer) }
+    requires affected { IsTrue (K.seen dispatcher.old.keeper.now).tells
+        → AreAffected (whose dispatcher.old).app (K.seen dispatcher.old.keeper.now).state
+        ready.prepared.change ready.invalidation dispatcher.old.viewer_caches.now }
+    requires settled { AreValidCaches (whose dispatcher.old).app (K.seen dispatcher.old.keeper.now)
+        dispatcher.old.viewer_caches.now }
+    ensures applied { IsTrue (K.seen dispatcher.new.keeper.now).tells
+        → OnOk result ((K.seen dispatcher.new.keeper.now).state
+        ≡ applied_if ready.prepared.change (K.seen dispatcher.old.keeper.now).state) }
+    ensures refused { IsTrue (K.seen dispatcher.new.keeper.now).tells
+        → OnErr result ((K.seen dispatcher.new.keeper.now).state ≡
+        (K.seen dispatcher.old.keeper.now).state) }
+    ensures told { IsTrue (K.seen dispatcher.new.keeper.now).tells
+        → IsTrue (K.seen dispatcher.old.keeper.now).tells }
+    ensures cause { HasCause (K.seen dispatcher.old.keeper.now).faults
+        (K.seen dispatcher.new.keeper.now).faults result }
+    ensures attached { (K.seen dispatcher.new.keeper.now).store ≡
+        (K.seen dispatcher.old.keeper.now).store }
+    ensures settled { AreValidCaches (whose dispatcher.old).app (K.seen dispatcher.new.keeper.now)
+        dispatcher.new.viewer_caches.now }
+    ensures unsplit { dispatcher.new.splits.now ≡ dispatcher.old.splits.now }
+    ensures same { whose dispatcher.new ≡ whose dispatcher.old }
+{
+    cache_moves();
+    covered_by_nothing();
+    let PendingAnswer {
+        prepared,
+        cache,
+        invalidation,
+    } = ready;
+    invalidate_by(dispatcher.alloc, dispatcher.viewer_caches, &invalidation);
+    match commit(dispatcher.alloc, dispatcher.keeper, prepared) {
+        Ok(_) => {
+            put_back(dispatcher.viewer_caches, ask.viewer, cache);
+            Ok(())
+        }
+        Err(stop) => Err(stop),
+    }
+}
+
+// Makes stale for each viewer what may be affected.
+fn invalidate_by(
+    alloc: Global,
+    viewer_caches: &mut ViewerCaches,
+    invalidation: &Option<Invalidation>,
+)
+    ensures { AreInvalidatedIf invalidation.now viewer_caches.old viewer_caches.new }
+{
+    match invalidation {
+        Some(invalidation) => viewer_caches.invalidate(alloc, invalidation),
+        None => (),
+    }
+}
+
+// Keeps what is settled for the viewer, if that is to be kept.
+fn put_back(viewer_caches: &mut ViewerCaches, viewer: Option<Id>, cache: Option<ViewerCache>)
+    ensures { (s : ViewerEntry) → IsOneOf s viewer_caches.new
+        → IsPutBack viewer cache s ⊎ IsOneOf s viewer_caches.old }
+{
+    match cache {
+        Some(cache) => viewer_caches.put(viewer, cache),
+        None => (),
+    }
+}

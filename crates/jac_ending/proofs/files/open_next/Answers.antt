@@ -1,5 +1,0 @@
-use Rattle.jac_ending.proofs.EndingLemmas.{next_unopened}
-use Rattle.jac_ending.proofs.files.open_next.Goals as goal
-
-pub returns-in-Err-clause-unopened : goal.returns-in-Err-clause-unopened
-returns-in-Err-clause-unopened c = rw c.of_next.ensures (next_unopened c.args.bytes.now c.in-Err.ending c.in-Err.ensures.unopened)

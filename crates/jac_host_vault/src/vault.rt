@@ -1,0 +1,139 @@
+ghost use Rattle.std.specs.Prelude.{◌≡◌, None, [], false};
+ghost use Rattle.jac_keep.specs.KeeperState.{IsStored, unattached_store};
+
+use crate::FileKeeper;
+use jac_io::Calls;
+use jac_keep::{AttachFault, Change, Keeper, MemoryKeeper, Stop, Vault};
+use jac_rows::{Rows, State};
+use jac_table_cache::CachedKeeper;
+use jac_value::{Id, Txt, Value};
+use std::alloc::Global;
+use std::marker::Model;
+
+/// Where the program keeps its state: in memory, or in the file that it is attached to. The tables
+/// of a file that were read are held in memory until they are changed.
+#[derive(Drop)]
+pub struct HostVault {
+    rt: HostRuntime,
+    makes: bool,
+    memory: MemoryKeeper,
+    file: Option<CachedKeeper<FileKeeper>>,
+}
+
+impl Model for HostVault {
+    ghost use Rattle.jac_host_vault.specs.HostSeen.{HostSeen, IsHost};
+
+    ghost Value = { HostSeen };
+
+    ghost view = { λ h. record { memory = h.memory; file = h.file } };
+
+    ghost invariant = { λ h. IsHost h.memory h.file };
+}
+
+impl HostVault {
+    /// A vault that wasn't attached yet, whose state in memory is this one, and which makes the
+    /// files that aren't there or refuses them.
+    pub fn new(alloc: Global, state: State, rt: HostRuntime, makes: bool) -> HostVault
+        requires { IsStored None state }
+        ensures { result ≡ record {
+          memory = record {
+            state = state;
+            store = unattached_store None;
+            fail_reads = [];
+            fail_applies = [];
+            reads = 0;
+            applies = 0;
+            faults = 0;
+          };
+          file = None;
+        } }
+    {
+        HostVault {
+            rt,
+            makes,
+            memory: MemoryKeeper::new(state, None, Calls::empty(alloc), Calls::empty(alloc)),
+            file: None,
+        }
+    }
+}
+
+impl Keeper for HostVault {
+    ghost use Rattle.jac_host_vault.specs.HostSeen.{seen_host};
+
+    ghost seen = { seen_host };
+
+    #[tactic(auto, using(crate::proofs::Attached::memory_reads))]
+    fn number(&mut self) -> Result<u64, Stop> {
+        match &mut self.file {
+            Some(file) => file.number(),
+            None => self.memory.number(),
+        }
+    }
+
+    #[tactic(auto, using(crate::proofs::Attached::memory_reads))]
+    fn rows(&mut self, alloc: Global, model: u8) -> Result<Rows, Stop> {
+        match &mut self.file {
+            Some(file) => file.rows(alloc, model),
+            None => self.memory.rows(alloc, model),
+        }
+    }
+
+    #[tactic(auto, using(crate::proofs::Attached::memory_reads))]
+    fn one(&mut self, alloc: Global, id: Id) -> Result<Rows, Stop> {
+        match &mut self.file {
+            Some(file) => file.one(alloc, id),
+            None => self.memory.one(alloc, id),
+        }
+    }
+
+    #[tactic(auto, using(crate::proofs::Attached::memory_reads))]
+    fn rows_with(
+        &mut self,
+        alloc: Global,
+        model: u8,
+        field: u8,
+        value: &Value,
+    ) -> Result<Rows, Stop> {
+        match &mut self.file {
+            Some(file) => file.rows_with(alloc, model, field, value),
+            None => self.memory.rows_with(alloc, model, field, value),
+        }
+    }
+
+    #[tactic(auto, using(crate::proofs::Attached::memory_keeps))]
+    fn apply(&mut self, alloc: Global, change: &Change) -> Result<(), Stop> {
+        match &mut self.file {
+            Some(file) => file.apply(alloc, change),
+            None => self.memory.apply(alloc, change),
+        }
+    }
+}
+
+impl Vault for HostVault {
+    /// The store of a name is a file; without one it is in memory.
+    #[tactic(auto, using(crate::proofs::Attached::memory_first, crate::proofs::Attached::file_attached, crate::proofs::Attached::memory_attached, crate::proofs::Attached::host_of_memory))]
+    fn attach(
+        &mut self,
+        alloc: Global,
+        name: Option<&Txt>,
+        schema: &Txt,
+    ) -> Result<(), AttachFault> {
+        match name {
+            Some(name) => {
+                let mut file = CachedKeeper::new(alloc, FileKeeper::new(self.rt, self.makes));
+                let attached = file.attach(alloc, Some(name), schema);
+                self.file = Some(file);
+                attached
+            }
+            None => self.memory.attach(alloc, None, schema),
+        }
+    }
+
+    #[tactic(auto, using(crate::proofs::Attached::memory_reshapes))]
+    fn reshape(&mut self, alloc: Global, change: &Change, schema: &Txt) -> Result<(), Stop> {
+        match &mut self.file {
+            Some(file) => file.reshape(alloc, change, schema),
+            None => self.memory.reshape(alloc, change, schema),
+        }
+    }
+}

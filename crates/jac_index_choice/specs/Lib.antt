@@ -1,0 +1,4 @@
+pub mod Predicates
+pub mod Cut
+pub mod Fixed
+pub mod Found

@@ -1,6 +1,0 @@
-use Rattle.jac_laws.proofs.SideBySide.{ends_agree}
-use Rattle.jac_laws.proofs.laws.ends_agree.Goals as goal
-
-pub returns : goal.returns
-returns c w app sessions events one two served served' =
-    ends_agree app sessions events one two served served' w

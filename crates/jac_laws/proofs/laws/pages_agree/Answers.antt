@@ -1,6 +1,0 @@
-use Rattle.jac_laws.proofs.SideBySide.{pages_agree}
-use Rattle.jac_laws.proofs.laws.pages_agree.Goals as goal
-
-pub returns : goal.returns
-returns c app sessions events one two served served' =
-    pages_agree app sessions events one two served served'

@@ -1,6 +1,0 @@
-use Rattle.jac_laws.proofs.SideBySide.{worlds_agree}
-use Rattle.jac_laws.proofs.laws.worlds_agree.Goals as goal
-
-pub returns : goal.returns
-returns c w app sessions events one two served served' =
-    worlds_agree app sessions events one two served served' w

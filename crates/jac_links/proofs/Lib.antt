@@ -1,7 +1,0 @@
-pub mod DeskSteps
-pub mod LinkPuts
-pub mod LostReplies
-pub mod LinkEvents
-pub mod LinkProgress
-pub mod LinkEnds
-pub mod DoorProgress

@@ -1,5 +1,0 @@
-use Rattle.jac_open.proofs.Settling.{even_allowed}
-use Rattle.jac_open.proofs.laws.even_policies.Goals as goal
-
-pub returns : goal.returns
-returns c = even_allowed

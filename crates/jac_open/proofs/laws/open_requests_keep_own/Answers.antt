@@ -1,8 +1,0 @@
-use Rattle.jac_open.proofs.OwnedRuns.{start_own, still_own}
-use Rattle.jac_open.proofs.laws.open_requests_keep_own.Goals as goal
-
-pub returns-clause-start : goal.returns-clause-start
-returns-clause-start c = start_own
-
-pub returns-clause-step : goal.returns-clause-step
-returns-clause-step c = still_own

@@ -1,5 +1,0 @@
-use Rattle.jac_open.proofs.Settling.{law_same}
-use Rattle.jac_open.proofs.laws.same_settled.Goals as goal
-
-pub returns : goal.returns
-returns c = law_same

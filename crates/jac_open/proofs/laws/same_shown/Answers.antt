@@ -1,5 +1,0 @@
-use Rattle.jac_open.proofs.Settling.{law_shown}
-use Rattle.jac_open.proofs.laws.same_shown.Goals as goal
-
-pub returns : goal.returns
-returns c = law_shown

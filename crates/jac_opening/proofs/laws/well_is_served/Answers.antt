@@ -1,5 +1,0 @@
-use Rattle.jac_opening.proofs.WellServed.{well_served}
-use Rattle.jac_opening.proofs.laws.well_is_served.Goals as goal
-
-pub returns : goal.returns
-returns c = well_served

@@ -1,8 +1,0 @@
-use Rattle.std.proofs.Common.{◌≡◌, ◌++◌, drop}
-use Rattle.std.specs.String.{string_bytes}
-use Rattle.jac_opening.specs.Refusal.{path_text, more_steps}
-use Rattle.jac_opening.proofs.refusal.path_text.Given as goal
-
--- the steps so far, before those of the rest, are those of all
-abbrev pub invariant-steps : goal.invariant-steps
-invariant-steps l = string_bytes l.text ++ more_steps (drop l.step-index l.rest) ≡ path_text l.path

@@ -1,0 +1,4 @@
+pub mod Linking
+pub mod Recalling
+pub mod Rising
+pub mod Invalidating

@@ -1,0 +1,4 @@
+pub mod Linked
+pub mod Memo
+pub mod ViewerCache
+pub mod Affected

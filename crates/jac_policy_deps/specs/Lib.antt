@@ -1,0 +1,4 @@
+pub mod Dependencies
+pub mod Cleared
+pub mod Altered
+pub mod Marks

@@ -1,0 +1,12 @@
+use jac_lang::App;
+use jac_plain::Ctx;
+use jac_world::Assignment;
+
+/// What stays the same through an evaluation: the application, what an expression is read in, and
+/// the assignment that shows the world.
+#[derive(Clone, Copy)]
+pub struct WorldContext<'a> {
+    pub app: &'a App,
+    pub ctx: &'a Ctx,
+    pub assignment: &'a Assignment,
+}

@@ -1,4 +1,0 @@
-pub mod Linking
-pub mod Recalling
-pub mod Rising
-pub mod Unsettling

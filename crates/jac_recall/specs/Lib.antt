@@ -1,4 +1,0 @@
-pub mod Linked
-pub mod Recalled
-pub mod Seats
-pub mod Touched

@@ -1,5 +1,0 @@
-use Rattle.jac_rests.proofs.Sparing.{spared_live}
-use Rattle.jac_rests.proofs.laws.others_are_live.Goals as goal
-
-pub returns : goal.returns
-returns c = λ app s over k sound apart placed stay. spared_live app s over sound apart.own placed k stay

@@ -1,5 +1,0 @@
-use Rattle.jac_rests.proofs.Sparing.{spared_allowed}
-use Rattle.jac_rests.proofs.laws.spared_are_allowed.Goals as goal
-
-pub returns : goal.returns
-returns c = λ app s over viewer k sound apart placed spared u. spared_allowed app s over sound apart.own placed viewer k spared u

@@ -1,6 +1,0 @@
-use Rattle.std.proofs.Common.{◌≡◌, ◌++◌, drop}
-use Rattle.jac_rests.specs.Marks.{own_marks}
-use Rattle.jac_rests.proofs.marker.mark_own.Given as goal
-
-abbrev pub invariant-over : goal.invariant-over
-invariant-over l = l.marks.items ++ own_marks l.place.model l.place.group (drop l.alteration-index l.over) ≡ l.fn.marks.items ++ own_marks l.place.model l.place.group l.over

@@ -1,4 +1,0 @@
-pub mod Rests
-pub mod Cleared
-pub mod Altered
-pub mod Marks

@@ -1,6 +1,0 @@
-use Rattle.jac_runs.proofs.SameBytes.{bytes_agree}
-use Rattle.jac_runs.proofs.laws.bytes_agree.Goals as goal
-
-pub returns : goal.returns
-returns g c replay one two app sessions events first second out other audit is is' quiet look small small' =
-    bytes_agree replay one two app sessions events first second out other audit is is' quiet look small small'

@@ -1,5 +1,0 @@
-use Rattle.jac_runs.proofs.Replays.{has_replayed}
-use Rattle.jac_runs.proofs.laws.replay_answers.Goals as goal
-
-pub returns : goal.returns
-returns g c words replay top ran is_replay told = has_replayed words replay top ran is_replay told

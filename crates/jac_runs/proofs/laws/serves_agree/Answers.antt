@@ -1,6 +1,0 @@
-use Rattle.jac_runs.proofs.DoorRuns.{serves_agree}
-use Rattle.jac_runs.proofs.laws.serves_agree.Goals as goal
-
-pub returns : goal.returns
-returns g c serving one two first second told told' files taken none none' =
-    serves_agree serving one two first second told told' files taken none none'

@@ -1,0 +1,9 @@
+pub mod OutsideLemmas
+pub mod EntriesLemmas
+pub mod DispatcherLemmas
+pub mod ReplyWriterLemmas
+pub mod BringsLemmas
+pub mod HubLemmas
+pub mod NextLemmas
+pub mod EventLemmas
+pub mod ProgressLemmas

@@ -1,0 +1,9 @@
+pub mod Outside
+pub mod RunSeen
+pub mod AnswerSpec
+pub mod Dispatcher
+pub mod ReplyWriter
+pub mod Log
+pub mod Line
+pub mod Script
+pub mod Serve

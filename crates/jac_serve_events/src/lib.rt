@@ -1,0 +1,17 @@
+//! Events of a text are taken by a hub, over any dispatcher that answers requests, and what it
+//! gives is put in order: the audit's line first, and then the reply.
+#![tactic(auto)]
+
+mod dispatcher;
+mod outputs;
+mod outside;
+mod puts;
+mod reply_writer;
+mod serve;
+
+pub use dispatcher::{AskOutcome, Dispatch};
+pub use outputs::{EventOutcome, FailedSink, WriteFailure, put_given};
+pub use outside::{put, put_five, put_four, put_three, put_two};
+pub use puts::{put_asked, put_failed_audit, put_numbered};
+pub use reply_writer::ReplyWriter;
+pub use serve::{EventFault, ReplayError, serve_events};

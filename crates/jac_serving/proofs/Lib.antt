@@ -1,9 +1,0 @@
-pub mod OutsideLemmas
-pub mod EntriesLemmas
-pub mod DeskLemmas
-pub mod TellerLemmas
-pub mod BringsLemmas
-pub mod HubLemmas
-pub mod NextLemmas
-pub mod EventLemmas
-pub mod ProgressLemmas

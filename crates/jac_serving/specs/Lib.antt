@@ -1,9 +1,0 @@
-pub mod Outside
-pub mod Keeping
-pub mod Answering
-pub mod Desk
-pub mod Teller
-pub mod Log
-pub mod Line
-pub mod Script
-pub mod Serve

@@ -1,4 +1,0 @@
-use Rattle.jac_sittings.proofs.sittings.Sittings.take.Goals as goal
-
-pub returns-clause-left : goal.returns-clause-left
-returns-clause-left c = rw (← c.self.view_is) c.take_from.ensures.left

@@ -1,5 +1,0 @@
-use Rattle.jac_spelled.proofs.Known.{eight_spelled_local}
-use Rattle.jac_spelled.proofs.laws.eight_is_local.Goals as goal
-
-pub returns : goal.returns
-returns c = eight_spelled_local
