@@ -47,7 +47,7 @@ use std::alloc::Global;
 use std::sync::ledger::Ledger;
 
 /// Why the answering of requests in silence ended early.
-#[derive(Clone, Copy, Debug, PartialEq, Eq)]
+#[derive(Clone, Copy, PartialEq, Eq)]
 pub enum DemoFault {
     /// A put on the audit failed.
     Write,

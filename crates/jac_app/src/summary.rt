@@ -14,7 +14,7 @@ use jac_world::Assignment;
 
 /// A log in numbers: requests, those of POST and of GET, the bytes of all bodies, and the labels in
 /// the audit lines of GETs.
-#[derive(Clone, Copy, Debug, PartialEq, Eq)]
+#[derive(Clone, Copy, PartialEq, Eq)]
 pub struct Summary {
     pub asks: u64,
     pub posts: u64,
@@ -24,7 +24,7 @@ pub struct Summary {
 }
 
 /// What is counted of one answer: the bytes of its body, and the labels of its audit line.
-#[derive(Clone, Copy, Debug, PartialEq, Eq)]
+#[derive(Clone, Copy, PartialEq, Eq)]
 pub struct Tally {
     pub bytes: usize,
     pub labels: usize,

@@ -14,7 +14,7 @@ use jac_value::{Memory, Txt};
 use std::alloc::Global;
 
 /// Why bytes are no application.
-#[derive(Debug, Drop)]
+#[derive(Drop)]
 pub enum Refusal {
     /// They spell no tree.
     Text(TreeFault),

@@ -2,7 +2,7 @@ use jac_lang::KindName;
 use jac_value::Txt;
 
 /// Where an application is not well.
-#[derive(Debug, Drop)]
+#[derive(Drop)]
 pub enum Place {
     /// At `(viewer M)`.
     Viewer,
@@ -13,7 +13,7 @@ pub enum Place {
 }
 
 /// The kind that a form wants.
-#[derive(Debug, Drop)]
+#[derive(Drop)]
 pub enum Wanted {
     One(KindName),
     /// An int or a text.
@@ -23,7 +23,7 @@ pub enum Wanted {
 }
 
 /// Why an application is not well.
-#[derive(Debug, Drop)]
+#[derive(Drop)]
 pub enum CheckCause {
     /// No model, field, parameter or binding has this name here.
     UnknownName(Txt),
@@ -41,7 +41,7 @@ pub enum CheckCause {
 }
 
 /// The first fault of an application.
-#[derive(Debug, Drop)]
+#[derive(Drop)]
 pub struct CheckFault {
     pub place: Place,
     pub cause: CheckCause,

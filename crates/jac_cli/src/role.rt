@@ -1,5 +1,5 @@
 /// Which file of a command.
-#[derive(Clone, Copy, Debug, PartialEq, Eq)]
+#[derive(Clone, Copy, PartialEq, Eq)]
 pub enum Role {
     App,
     /// The application that an upgrade brings a store to.

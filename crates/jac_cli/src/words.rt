@@ -19,7 +19,7 @@ use numbers::number_within;
 use std::alloc::Global;
 
 /// What the words ask the program to do.
-#[derive(Debug, Drop)]
+#[derive(Drop)]
 pub enum Command {
     /// The application's file.
     Check(Txt),
@@ -33,7 +33,7 @@ pub enum Command {
 }
 
 /// The files of a replay, and whether its pages are made lazily.
-#[derive(Debug, Drop)]
+#[derive(Drop)]
 pub struct Replay {
     pub app: Txt,
     pub events: Txt,
@@ -45,7 +45,7 @@ pub struct Replay {
 }
 
 /// An application to serve, on a port from 1 on, for a count of connections from 1 to 1,000,000.
-#[derive(Debug, Drop)]
+#[derive(Drop)]
 pub struct ServeArgs {
     pub app: Txt,
     pub port: u16,
@@ -58,7 +58,7 @@ pub struct ServeArgs {
 }
 
 /// A store to print, as it looks where the labels are shown.
-#[derive(Debug, Drop)]
+#[derive(Drop)]
 pub struct DumpArgs {
     pub app: Txt,
     pub labels: Labels,
@@ -66,7 +66,7 @@ pub struct DumpArgs {
 }
 
 /// A store of an application, to bring to the next one.
-#[derive(Debug, Drop)]
+#[derive(Drop)]
 pub struct UpgradeArgs {
     pub app: Txt,
     pub next: Txt,
@@ -75,7 +75,7 @@ pub struct UpgradeArgs {
 
 /// A store of which to tell what stands against each label that a viewer isn't shown. The viewer is
 /// the number of a record, as the word has it.
-#[derive(Debug, Drop)]
+#[derive(Drop)]
 pub struct WhyArgs {
     pub app: Txt,
     pub viewer: Option<u128>,
@@ -83,7 +83,7 @@ pub struct WhyArgs {
 }
 
 // What the options of a run that serves say.
-#[derive(Debug, Drop)]
+#[derive(Drop)]
 struct Options {
     db: Option<Txt>,
     sessions: Option<Txt>,

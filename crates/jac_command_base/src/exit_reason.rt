@@ -12,7 +12,7 @@ use jac_serve_events::{EventFault, put, put_five, put_three, put_two};
 use jac_value::Txt;
 
 /// Why the steps of a command ended early.
-#[derive(Debug, Drop)]
+#[derive(Drop)]
 pub enum ExitReason {
     ReadFault(Role),
     TooLong(Role),

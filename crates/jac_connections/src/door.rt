@@ -12,14 +12,14 @@ use jac_io::{AuditSink, Door, Failed};
 use jac_serve_events::Dispatch;
 
 /// How many connections were served, and how many replies they got.
-#[derive(Clone, Copy, Debug, PartialEq, Eq)]
+#[derive(Clone, Copy, PartialEq, Eq)]
 pub struct Tally {
     pub connections: u32,
     pub replies: u64,
 }
 
 /// Why serving a door ended early.
-#[derive(Clone, Copy, Debug, PartialEq, Eq)]
+#[derive(Clone, Copy, PartialEq, Eq)]
 pub enum DoorHalt {
     /// The door gave no link, or took none back.
     Door,

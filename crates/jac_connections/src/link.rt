@@ -22,7 +22,7 @@ use jac_value::Memory;
 use std::alloc::Global;
 
 /// Why serving a link ends the run.
-#[derive(Clone, Copy, Debug, PartialEq, Eq)]
+#[derive(Clone, Copy, PartialEq, Eq)]
 pub enum Halt {
     /// A put on the audit failed.
     Write,
@@ -30,7 +30,7 @@ pub enum Halt {
 }
 
 /// How a connection stands after a piece, and the count of replies by then.
-#[derive(Clone, Copy, Debug, PartialEq, Eq)]
+#[derive(Clone, Copy, PartialEq, Eq)]
 enum Standing {
     Open { count: u64 },
     Over { count: u64 },

@@ -16,7 +16,7 @@ use std::alloc::Global;
 const TAKE: usize = 4096;
 
 /// Why there is no piece.
-#[derive(Clone, Copy, Debug, PartialEq, Eq)]
+#[derive(Clone, Copy, PartialEq, Eq)]
 pub enum TakeError {
     /// The link failed.
     Link,

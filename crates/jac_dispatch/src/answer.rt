@@ -31,7 +31,7 @@ use std::alloc::Global;
 use std::sync::ledger::Ledger;
 
 /// Where a request came from.
-#[derive(Clone, Copy, Debug, PartialEq, Eq)]
+#[derive(Clone, Copy, PartialEq, Eq)]
 pub enum RequestSource {
     /// An `ask` line.
     Line,

@@ -38,7 +38,7 @@ use std::sync::ledger::Ledger;
 const LAST_NUMBER: u64 = 1 << 40;
 
 /// An answer, and what is to be stored with it.
-#[derive(Debug, Drop)]
+#[derive(Drop)]
 pub struct Prepared {
     pub answer: Answer,
     pub change: Option<Change>,
@@ -46,7 +46,7 @@ pub struct Prepared {
 
 /// What was prepared, what is settled for who asks on what it leaves, and what its change may
 /// affect, where there is one.
-#[derive(Debug, Drop)]
+#[derive(Drop)]
 pub struct PreparedWithCache {
     pub prepared: Prepared,
     pub cache: ViewerCache,

@@ -1,7 +1,7 @@
 use jac_value::{Bytes, Txt};
 
 /// What a line writes down.
-#[derive(Debug, Drop)]
+#[derive(Drop)]
 pub enum Event {
     /// A request without a connection. The viewer is the number of a record, as the line has it.
     Ask {
@@ -27,7 +27,7 @@ pub enum Event {
 }
 
 /// Why a line isn't read.
-#[derive(Clone, Copy, Debug, PartialEq, Eq)]
+#[derive(Clone, Copy, PartialEq, Eq)]
 pub enum LineFault {
     /// The line has no form.
     BadLine,

@@ -9,7 +9,7 @@ use std::alloc::{AllocError, AllocFailed, Global};
 pub type Path = List<u32>;
 
 /// What should stand where a form is wrong.
-#[derive(Clone, Copy, Debug, PartialEq, Eq)]
+#[derive(Clone, Copy, PartialEq, Eq)]
 pub enum Want {
     App,
     Item,
@@ -36,7 +36,7 @@ pub enum Want {
 
 /// What there is too much of: more than 64 models, 32 fields of a model, 8 groups of a model, 64
 /// `create` statements of a view, or 3 binders of a query.
-#[derive(Clone, Copy, Debug, PartialEq, Eq)]
+#[derive(Clone, Copy, PartialEq, Eq)]
 pub enum What {
     Models,
     Fields,
@@ -47,7 +47,7 @@ pub enum What {
 
 /// Why a tree is no such form: its first fault in reading order, where the head and the number of
 /// the trees of a list come first, then how many there may be, then each of them from the left.
-#[derive(Debug, Drop)]
+#[derive(Drop)]
 pub enum FormFault {
     /// The tree at this path isn't what should stand there.
     Form { path: Path, want: Want },

@@ -15,7 +15,7 @@ use jac_value::Txt;
 use std::alloc::Global;
 
 /// How many binders a query may have: one where its answers are counted or summed.
-#[derive(Clone, Copy, Debug, PartialEq, Eq)]
+#[derive(Clone, Copy, PartialEq, Eq)]
 pub enum Most {
     One,
     Three,

@@ -5,7 +5,7 @@ ghost use Rattle.jac_forms.specs.Statements.{single_of, step_around, step_of, st
 use jac_tree::Tree;
 
 /// The statements that have no statements inside.
-#[derive(Clone, Copy, Debug, PartialEq, Eq)]
+#[derive(Clone, Copy, PartialEq, Eq)]
 pub enum Single {
     Put,
     Esc,
@@ -18,7 +18,7 @@ pub enum Single {
 }
 
 /// What a statement is, by its head.
-#[derive(Clone, Copy, Debug, PartialEq, Eq)]
+#[derive(Clone, Copy, PartialEq, Eq)]
 pub enum Step {
     Single(Single),
     Let,

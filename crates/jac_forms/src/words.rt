@@ -6,7 +6,7 @@ use jac_lang::Op;
 use jac_tree::Tree;
 
 /// The forms of an expression that is a list.
-#[derive(Clone, Copy, Debug, PartialEq, Eq)]
+#[derive(Clone, Copy, PartialEq, Eq)]
 pub enum Form {
     NoneOf,
     Get,

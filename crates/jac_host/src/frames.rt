@@ -5,7 +5,7 @@
 const LENGTH: [u8; 15] = *b"content-length:";
 
 /// Where a connection stands after the bytes so far.
-#[derive(Clone, Copy, Debug, PartialEq, Eq)]
+#[derive(Clone, Copy, PartialEq, Eq)]
 pub(crate) enum Spot {
     /// After a whole request, or ahead of the first.
     Between,

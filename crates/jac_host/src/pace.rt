@@ -20,7 +20,7 @@ const KEPT_MILLIS: u64 = 20;
 const REQUEST_MILLIS: u64 = 3_000;
 
 /// What a connection is waited for.
-#[derive(Clone, Copy, Debug, PartialEq, Eq)]
+#[derive(Clone, Copy, PartialEq, Eq)]
 pub(crate) enum Phase {
     /// Its first byte.
     Fresh,

@@ -8,7 +8,7 @@ use jac_value::{Bytes, Memory, Txt};
 use std::alloc::Global;
 
 /// A reply that stands ready, so that it takes no memory.
-#[derive(Clone, Copy, Debug, PartialEq, Eq)]
+#[derive(Clone, Copy, PartialEq, Eq)]
 pub enum Fixed {
     /// A growth was refused.
     Memory500,

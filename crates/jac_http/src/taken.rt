@@ -1,7 +1,7 @@
 use jac_value::{Bytes, Txt};
 
 /// A request as views see it. The query follows the first `?` of the target, and isn't decoded.
-#[derive(Debug, Drop)]
+#[derive(Drop)]
 pub struct Request {
     pub method: Txt,
     pub path: Txt,
@@ -14,7 +14,7 @@ pub struct Request {
 }
 
 /// What stands at the front of a connection's bytes.
-#[derive(Debug, Drop)]
+#[derive(Drop)]
 pub enum Taken {
     /// The beginning of a request.
     More,

@@ -15,14 +15,14 @@ use std::marker::Model;
 const MOST: usize = 16_777_216;
 
 /// What a connection gives.
-#[derive(Debug, Drop)]
+#[derive(Drop)]
 pub enum Given {
     Reply(Sent),
     Closed,
 }
 
 /// The bytes of one connection. Those that requests used are dropped once they are the half.
-#[derive(Debug, Drop)]
+#[derive(Drop)]
 pub struct Channel {
     bytes: Vec<u8>,
     used: usize,

@@ -7,7 +7,7 @@ use crate::Sent;
 use jac_http::Request;
 
 /// What is heard of a connection.
-#[derive(Debug, Drop)]
+#[derive(Drop)]
 pub enum Heard {
     Whole(Request),
     /// The status of a refusal.

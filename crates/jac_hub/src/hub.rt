@@ -12,7 +12,7 @@ use std::alloc::Global;
 use std::collections::BTreeMap;
 
 /// Why an event isn't taken.
-#[derive(Clone, Copy, Debug, PartialEq, Eq)]
+#[derive(Clone, Copy, PartialEq, Eq)]
 pub enum HubFault {
     /// The connection hasn't begun.
     NotOpen(u32),
@@ -23,14 +23,14 @@ pub enum HubFault {
 }
 
 /// What a hub puts out.
-#[derive(Debug, Drop)]
+#[derive(Drop)]
 pub enum HubOut {
     Reply { conn: u32, sent: Sent },
     Closed { conn: u32 },
 }
 
 /// What is to come of the last event.
-#[derive(Clone, Copy, Debug)]
+#[derive(Clone, Copy)]
 enum Turn {
     /// Nothing: the next event may come.
     Idle,
@@ -45,7 +45,7 @@ enum Turn {
 }
 
 /// The connections that have begun, and what is to come of the last event.
-#[derive(Debug, Drop)]
+#[derive(Drop)]
 pub struct Hub {
     channels: BTreeMap<u32, Channel>,
     turn: Turn,

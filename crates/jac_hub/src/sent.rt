@@ -5,7 +5,7 @@ use jac_http::Fixed;
 use jac_value::{Bytes, Id};
 
 /// What is sent for what was heard.
-#[derive(Debug, Drop)]
+#[derive(Drop)]
 pub enum Sent {
     /// A reply that was made, and its audit line; and whether its connection ends after it.
     Made {

@@ -1,7 +1,7 @@
 use jac_value::{List, Txt, Value};
 
 /// A name and what it stands for.
-#[derive(Debug, Drop)]
+#[derive(Drop)]
 pub struct Binding {
     pub name: Txt,
     pub bound_to: Value,

@@ -7,7 +7,7 @@ use jac_value::Txt;
 use std::mem;
 
 /// Operations on two values. Sums, differences and products saturate at the ends of i64.
-#[derive(Clone, Copy, Debug, PartialEq, Eq)]
+#[derive(Clone, Copy, PartialEq, Eq)]
 pub enum Op {
     Add,
     Sub,

@@ -1,7 +1,7 @@
 use jac_value::{List, Txt};
 
 /// A kind as the text names it; a reference has the name of its model.
-#[derive(Debug, Drop, PartialEq, Eq)]
+#[derive(Drop, PartialEq, Eq)]
 pub enum KindName {
     Int,
     Text,
@@ -10,7 +10,7 @@ pub enum KindName {
 }
 
 /// A field of a model, or a parameter of a view.
-#[derive(Debug, Drop)]
+#[derive(Drop)]
 pub struct Field {
     pub name: Txt,
     pub kind: KindName,

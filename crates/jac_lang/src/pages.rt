@@ -2,7 +2,7 @@ use crate::{Fields, Stmts};
 use jac_value::{List, Txt};
 
 /// The method of the requests that a view answers.
-#[derive(Clone, Copy, Debug, PartialEq, Eq)]
+#[derive(Clone, Copy, PartialEq, Eq)]
 pub enum Verb {
     Get,
     Post,

@@ -6,14 +6,14 @@ use jac_value::Txt;
 use std::mem;
 
 /// A name for each record of a model in turn.
-#[derive(Debug, Drop)]
+#[derive(Drop)]
 pub struct Binder {
     pub name: Txt,
     pub model: Txt,
 }
 
 /// The binders of a query, the first the outermost.
-#[derive(Debug)]
+
 pub enum Binders {
     End,
     More(Binder, Box<Binders>),
@@ -21,7 +21,7 @@ pub enum Binders {
 
 /// The order of a query's answers: as they are found, or by a field of a binder, rising or falling.
 /// The binder comes first.
-#[derive(Debug, Drop)]
+#[derive(Drop)]
 pub enum Order {
     Key,
     Up(Txt, Txt),

@@ -1,7 +1,7 @@
 use jac_value::Id;
 
 /// What an expression is read with, beside a state and bindings.
-#[derive(Clone, Copy, Debug)]
+#[derive(Clone, Copy)]
 pub struct Ctx {
     /// The record of who asks.
     pub viewer: Option<Id>,

@@ -1,7 +1,7 @@
 use jac_value::{Bytes, Txt};
 
 /// A piece of a page, as a statement leaves it.
-#[derive(Debug, Drop)]
+#[derive(Drop)]
 pub enum Piece {
     Added(Bytes),
     Missing,
@@ -9,7 +9,7 @@ pub enum Piece {
 }
 
 /// What a reader gets. Only a status of 303 has a location, each byte of which is visible ASCII.
-#[derive(Debug, Drop)]
+#[derive(Drop)]
 pub struct Page {
     pub status: u16,
     pub location: Option<Txt>,

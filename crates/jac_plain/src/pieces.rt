@@ -10,7 +10,7 @@ use jac_value::{Bytes, Memory, Txt, Value, text_of};
 use std::alloc::Global;
 
 /// How a value comes onto a page.
-#[derive(Clone, Copy, Debug)]
+#[derive(Clone, Copy)]
 pub enum Form {
     Text,
     /// As HTML shows it.

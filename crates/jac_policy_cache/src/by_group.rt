@@ -18,7 +18,7 @@ use std::collections::BTreeMap;
 
 /// What was answered of each label. Those of one group of all records of a model stand together, by
 /// the remainder by 512, which tells both.
-#[derive(Debug, Drop)]
+#[derive(Drop)]
 pub struct ByGroup {
     groups: BTreeMap<u16, BTreeMap<Label, LabelMemo>>,
 }

@@ -8,7 +8,7 @@ use jac_value::{Id, id_model};
 use jac_world::Label;
 
 /// To whom a policy may answer otherwise.
-#[derive(Debug, Drop)]
+#[derive(Drop)]
 pub enum Audience {
     Everybody,
     /// To this viewer, or to nobody's requests.
@@ -16,7 +16,7 @@ pub enum Audience {
 }
 
 /// A group of all records of a model, whose policy may answer otherwise.
-#[derive(Debug, Drop)]
+#[derive(Drop)]
 pub struct AffectedGroup {
     pub model: u8,
     pub group: u8,
@@ -26,7 +26,7 @@ pub struct AffectedGroup {
 /// What a change may affect: the labels of each record that it names, those of records whose
 /// policies find such a record by a value, and whole groups whose policies go through a table, or
 /// read the viewer's own record.
-#[derive(Debug, Drop)]
+#[derive(Drop)]
 pub struct Invalidation {
     pub labels: Labels,
     pub groups: Vec<AffectedGroup>,

@@ -7,7 +7,7 @@ use std::alloc::Global;
 use std::marker::Model;
 
 /// Labels by rising number, each once.
-#[derive(Debug, Drop)]
+#[derive(Drop)]
 pub struct Labels {
     labels: Vec<Label>,
 }

@@ -17,21 +17,21 @@ use std::alloc::Global;
 use std::collections::BTreeMap;
 
 /// What the policy of a label answers wherever the labels that were consulted have these signs.
-#[derive(Debug, Drop)]
+#[derive(Drop)]
 pub struct MemoEntry {
     pub when: Guard,
     pub holds: bool,
 }
 
 /// All that was answered of one label, the oldest first.
-#[derive(Debug, Drop)]
+#[derive(Drop)]
 pub struct LabelMemo {
     pub answers: Vec<MemoEntry>,
 }
 
 /// What was answered of each label; and by each label the others, its watchers, that consulted it
 /// for an answer.
-#[derive(Debug, Drop)]
+#[derive(Drop)]
 pub struct PolicyMemo {
     pub given: ByGroup,
     pub watchers: BTreeMap<Label, Labels>,

@@ -13,7 +13,7 @@ use std::alloc::Global;
 /// What was settled for somebody: the labels, once there are some, what the policies answered, and
 /// the labels that are stale, since what was answered of them, or of what depends on them, may no
 /// longer be right.
-#[derive(Debug, Drop)]
+#[derive(Drop)]
 pub struct ViewerCache {
     pub labels: Option<Assignment>,
     pub answers: PolicyMemo,

@@ -2,7 +2,7 @@
 
 /// Which record a policy reads, or by which it finds others: the record itself, whose policy it
 /// is, the one that a field of it refers to, or the viewer's.
-#[derive(Clone, Copy, Debug, PartialEq, Eq)]
+#[derive(Clone, Copy, PartialEq, Eq)]
 pub enum Referent {
     This,
     /// By the places of the model and of its field.
@@ -11,7 +11,7 @@ pub enum Referent {
 }
 
 /// What a policy's answer depends on beside the record itself.
-#[derive(Clone, Copy, Debug, PartialEq, Eq)]
+#[derive(Clone, Copy, PartialEq, Eq)]
 pub enum Dependency {
     /// One record.
     One(Referent),

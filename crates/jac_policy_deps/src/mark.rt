@@ -5,7 +5,7 @@ use jac_world::Label;
 
 /// A label, or a group of all records of a model by their places, whose policy may answer
 /// otherwise.
-#[derive(Debug, Drop)]
+#[derive(Drop)]
 pub enum Mark {
     One(Label),
     /// The labels of a group of those records of a model of which an alternative refers by the

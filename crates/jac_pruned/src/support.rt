@@ -11,7 +11,7 @@ use std::marker::Model;
 
 /// The labels that were consulted, by rising number. None is taken away. What was found stays right
 /// under each assignment that shows the same of them.
-#[derive(Debug, Drop)]
+#[derive(Drop)]
 pub struct Support {
     labels: Vec<Label>,
 }

@@ -6,7 +6,7 @@ use jac_world::Assignment;
 
 /// A request: who looks, and what is asked. The pairs are those of the query and, for a POST, then
 /// those of the form body.
-#[derive(Debug, Drop)]
+#[derive(Drop)]
 pub struct Ask {
     pub viewer: Option<Id>,
     pub method: Txt,
@@ -16,7 +16,7 @@ pub struct Ask {
 
 /// What answers a request: a page and the labels that it was made under, or a refusal without
 /// labels. Where the labels alone were resolved that the page consulted, it has these too.
-#[derive(Debug, Drop)]
+#[derive(Drop)]
 pub struct Answer {
     pub status: u16,
     pub location: Option<Txt>,

@@ -12,7 +12,7 @@ use jac_world::Assignment;
 use std::alloc::Global;
 
 /// How the bytes of a reply on a connection are spelled.
-#[derive(Clone, Copy, Debug, PartialEq, Eq)]
+#[derive(Clone, Copy, PartialEq, Eq)]
 pub enum Spelling {
     /// As the line `sent N "BYTES"` of a text.
     Quoted,

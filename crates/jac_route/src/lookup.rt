@@ -10,14 +10,14 @@ use jac_value::{Memory, Txt};
 use std::alloc::Global;
 
 /// The methods that a path has; where it has GET, it has HEAD too.
-#[derive(Clone, Copy, Debug, PartialEq, Eq)]
+#[derive(Clone, Copy, PartialEq, Eq)]
 pub struct Allow {
     pub get: bool,
     pub post: bool,
 }
 
 /// What a request finds.
-#[derive(Debug, Drop)]
+#[derive(Drop)]
 pub enum Found {
     /// The number of the view, and what the path gives to the names in its pattern.
     View { view: u32, pairs: Pairs },

@@ -7,7 +7,7 @@ use jac_value::{List, Memory, TryClone, Txt};
 use std::alloc::Global;
 
 /// A name and its value, decoded. Bytes that are not UTF-8 stand as U+FFFD.
-#[derive(Debug, Drop)]
+#[derive(Drop)]
 pub struct Pair {
     pub name: Txt,
     pub value: Txt,

@@ -12,7 +12,7 @@ use std::alloc::Global;
 use std::marker::Model;
 
 /// A pattern, with the number of its view for each method.
-#[derive(Debug, Drop)]
+#[derive(Drop)]
 pub struct Route {
     pub pattern: Txt,
     pub get: Option<u32>,
@@ -26,7 +26,7 @@ pub struct Routes {
 }
 
 /// Why an application has no routes.
-#[derive(Clone, Copy, Debug, PartialEq, Eq)]
+#[derive(Clone, Copy, PartialEq, Eq)]
 pub enum RouteFault {
     /// The view of this number has the method and pattern of an earlier one, or a pattern that
     /// can't stand beside the earlier ones.

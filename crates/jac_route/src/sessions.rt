@@ -12,20 +12,20 @@ use std::alloc::Global;
 use std::marker::Model;
 
 /// A token, and the number of the record that looks by it; nobody looks by a session without one.
-#[derive(Debug, Drop)]
+#[derive(Drop)]
 pub struct Session {
     pub token: Txt,
     pub viewer: Option<u128>,
 }
 
 /// Sessions in their order.
-#[derive(Debug, Drop)]
+#[derive(Drop)]
 pub struct Sessions {
     sessions: Vec<Session>,
 }
 
 /// Why a file has no sessions.
-#[derive(Clone, Copy, Debug, PartialEq, Eq)]
+#[derive(Clone, Copy, PartialEq, Eq)]
 pub enum SessionFault {
     /// The first line that is neither empty nor a session, by its number from 1.
     BadLine(u64),

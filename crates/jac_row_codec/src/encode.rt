@@ -13,7 +13,7 @@ use jac_world::Label;
 use std::alloc::Global;
 
 /// The two columns of a row that are not plain numbers.
-#[derive(Debug, Drop)]
+#[derive(Drop)]
 pub struct Stored {
     /// Per label of the guard, rising, its number in 16 bytes, the most significant first, and one
     /// byte 1 (shown) or 0 (hidden).

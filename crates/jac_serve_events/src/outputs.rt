@@ -14,14 +14,14 @@ use jac_io::{AuditSink, Failed};
 
 /// What an event brought so far: the count of replies by then, and whether its connection was
 /// closed.
-#[derive(Clone, Copy, Debug, PartialEq, Eq)]
+#[derive(Clone, Copy, PartialEq, Eq)]
 pub struct EventOutcome {
     pub count: u64,
     pub closed: bool,
 }
 
 /// Where a put failed.
-#[derive(Clone, Copy, Debug, PartialEq, Eq)]
+#[derive(Clone, Copy, PartialEq, Eq)]
 pub enum FailedSink {
     /// Where replies are told.
     Out,
@@ -30,7 +30,7 @@ pub enum FailedSink {
 
 /// Why not all that an event brings was told: where the put failed, and the number of the reply
 /// that it was for, or of the next one.
-#[derive(Clone, Copy, Debug, PartialEq, Eq)]
+#[derive(Clone, Copy, PartialEq, Eq)]
 pub struct WriteFailure {
     pub lost: FailedSink,
     pub count: u64,

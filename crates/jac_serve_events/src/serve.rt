@@ -18,7 +18,7 @@ use jac_value::first_part;
 use std::alloc::Global;
 
 /// Why a line of the events is refused: its number, and that of its connection.
-#[derive(Clone, Copy, Debug, PartialEq, Eq)]
+#[derive(Clone, Copy, PartialEq, Eq)]
 pub enum EventFault {
     NoForm { line: u64 },
     /// The connection hasn't begun, or has ended.
@@ -28,7 +28,7 @@ pub enum EventFault {
 }
 
 /// Why serving the events of a file ended early.
-#[derive(Clone, Copy, Debug, PartialEq, Eq)]
+#[derive(Clone, Copy, PartialEq, Eq)]
 pub enum ReplayError {
     Refused(EventFault),
     /// A put failed.

@@ -28,7 +28,7 @@ pub fn stop_of(error: Error, faults: &mut u64) -> Stop
 }
 
 /// Why what is stored isn't attached.
-#[derive(Clone, Copy, Debug)]
+#[derive(Clone, Copy)]
 pub enum Unfit {
     /// A statement was refused.
     Refused(Error),

@@ -26,7 +26,7 @@ pub trait Opener {
 }
 
 /// Why a file wasn't opened.
-#[derive(Clone, Copy, Debug)]
+#[derive(Clone, Copy)]
 pub enum OpenFault {
     /// It isn't there, and none is to be made.
     Missing,
@@ -121,7 +121,7 @@ fn open_file(rt: &HostRuntime, name: Option<&Txt>) -> Result<Connection<FileStor
 }
 
 /// Opens a new database in memory, whatever the name.
-#[derive(Debug, Drop)]
+#[derive(Drop)]
 pub struct MemoryOpener {}
 
 impl MemoryOpener {

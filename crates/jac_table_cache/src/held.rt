@@ -15,7 +15,7 @@ use std::alloc::Global;
 use std::marker::Model;
 
 /// The rows of the models whose tables are held, and the indexes of the fields that were asked for.
-#[derive(Debug, Drop)]
+#[derive(Drop)]
 pub struct HeldTables {
     tables: Vec<Option<Rows>>,
     indexes: TableIndexes,

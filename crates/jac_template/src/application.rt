@@ -13,7 +13,7 @@ use jac_value::Memory;
 use std::alloc::Global;
 
 /// The first view, from 0, that has a template with a fault, and the first such fault of it.
-#[derive(Debug, Drop)]
+#[derive(Drop)]
 pub struct ViewFault {
     pub view: u32,
     pub fault: TemplateFault,

@@ -6,7 +6,7 @@ use jac_tree::TreeFault;
 use jac_value::Memory;
 
 /// Why a text is no template. Each place is that of the first byte of a tag, in bytes from 0.
-#[derive(Debug, Drop)]
+#[derive(Drop)]
 pub enum TemplateFault {
     /// A tag has no end, or a block has no `end`: of the blocks that are open at the end of the
     /// text, this is the innermost one.

@@ -3,7 +3,7 @@ ghost use Rattle.jac_template.specs.Pieces.{begins_with, begins_tag, literal_len
 ghost use Rattle.jac_template.specs.Quoting.{behind_byte, ends_here};
 
 /// What a piece of a template's text is.
-#[derive(Clone, Copy, Debug, PartialEq, Eq)]
+#[derive(Clone, Copy, PartialEq, Eq)]
 pub enum Kind {
     Literal,
     /// `{{ content }}`
@@ -23,7 +23,7 @@ pub struct Cut<'t> {
 }
 
 // Where a byte stands.
-#[derive(Clone, Copy, Debug, PartialEq, Eq)]
+#[derive(Clone, Copy, PartialEq, Eq)]
 enum Quoting {
     Outside,
     Quoted,

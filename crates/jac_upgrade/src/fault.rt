@@ -1,6 +1,6 @@
 /// The first part of an application that another one lacks, or has otherwise. Each place is one in
 /// the first application.
-#[derive(Clone, Copy, Debug, PartialEq, Eq)]
+#[derive(Clone, Copy, PartialEq, Eq)]
 pub enum UpgradeFault {
     /// A model, by its name and whether it is nested.
     Model(u8),

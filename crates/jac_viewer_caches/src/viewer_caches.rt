@@ -17,7 +17,7 @@ const VIEWERS: usize = 64;
 const ASKED: usize = 1 << 18;
 
 /// What was settled for somebody.
-#[derive(Debug, Drop)]
+#[derive(Drop)]
 pub struct ViewerEntry {
     /// Who looked, if anybody did.
     pub viewer: Option<Id>,
@@ -25,7 +25,7 @@ pub struct ViewerEntry {
 }
 
 /// What was settled, once for each of at most 64 viewers.
-#[derive(Debug, Drop)]
+#[derive(Drop)]
 pub struct ViewerCaches {
     viewer_caches: Vec<ViewerEntry>,
     /// How many were put in, by which it is chosen who is dropped.

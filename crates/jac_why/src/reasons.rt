@@ -7,7 +7,7 @@ use jac_world::Label;
 
 /// What stands against a hidden label: a label whose policy isn't true once that one is shown, with
 /// the model of its record and its group.
-#[derive(Clone, Copy, Debug, PartialEq, Eq)]
+#[derive(Clone, Copy, PartialEq, Eq)]
 pub struct Reason {
     pub label: Label,
     pub model: u8,
@@ -15,7 +15,7 @@ pub struct Reason {
 }
 
 /// A hidden label, and what stands against it.
-#[derive(Clone, Copy, Debug, PartialEq, Eq)]
+#[derive(Clone, Copy, PartialEq, Eq)]
 pub struct Explanation {
     pub hidden: Label,
     pub reason: Reason,

@@ -13,7 +13,7 @@ use std::alloc::Global;
 use std::collections::BTreeMap;
 
 /// By each label those that consulted it: they are asked again, where it is shown too.
-#[derive(Debug, Drop)]
+#[derive(Drop)]
 pub struct Watchers {
     lists: BTreeMap<Label, Labels>,
 }

@@ -10,7 +10,7 @@ use std::alloc::Global;
 use std::marker::Model;
 
 /// Labels as they were written, in any order.
-#[derive(Debug, Drop)]
+#[derive(Drop)]
 pub struct Labels {
     labels: Vec<Label>,
 }
