@@ -44,59 +44,41 @@ fn form_of_word(word: &str) -> Option<Form>
 fn op_of(word: &str) -> Option<Op>
     ensures { result ≡ op_of word.now }
 {
-    if word == "add" {
-        Some(Op::Add)
-    } else if word == "sub" {
-        Some(Op::Sub)
-    } else if word == "mul" {
-        Some(Op::Mul)
-    } else if word == "eq" {
-        Some(Op::Eq)
-    } else if word == "lt" {
-        Some(Op::Lt)
-    } else if word == "and" {
-        Some(Op::And)
-    } else if word == "or" {
-        Some(Op::Or)
-    } else {
-        None
+    match word {
+        "add" => Some(Op::Add),
+        "sub" => Some(Op::Sub),
+        "mul" => Some(Op::Mul),
+        "eq" => Some(Op::Eq),
+        "lt" => Some(Op::Lt),
+        "and" => Some(Op::And),
+        "or" => Some(Op::Or),
+        _ => None,
     }
 }
 
 fn plain_form_of(word: &str) -> Option<Form>
     ensures { result ≡ plain_form_of word.now }
 {
-    if word == "none" {
-        Some(Form::NoneOf)
-    } else if word == "get" {
-        Some(Form::Get)
-    } else if word == "live" {
-        Some(Form::Live)
-    } else if word == "not" {
-        Some(Form::Not)
-    } else if word == "cat" {
-        Some(Form::Cat)
-    } else if word == "str" {
-        Some(Form::Str)
-    } else if word == "pick" {
-        Some(Form::Pick)
-    } else {
-        asking_of(word)
+    match word {
+        "none" => Some(Form::NoneOf),
+        "get" => Some(Form::Get),
+        "live" => Some(Form::Live),
+        "not" => Some(Form::Not),
+        "cat" => Some(Form::Cat),
+        "str" => Some(Form::Str),
+        "pick" => Some(Form::Pick),
+        _ => asking_of(word),
     }
 }
 
 fn asking_of(word: &str) -> Option<Form>
     ensures { result ≡ asking_of word.now }
 {
-    if word == "count" {
-        Some(Form::Count)
-    } else if word == "sum" {
-        Some(Form::Sum)
-    } else if word == "some" {
-        Some(Form::AnyOf)
-    } else if word == "first" {
-        Some(Form::First)
-    } else {
-        None
+    match word {
+        "count" => Some(Form::Count),
+        "sum" => Some(Form::Sum),
+        "some" => Some(Form::AnyOf),
+        "first" => Some(Form::First),
+        _ => None,
     }
 }
