@@ -1,34 +1,49 @@
-ghost use Rattle.std.specs.Prelude.{◌≡◌, ◌≤◌, false, None, [], IfOk, vec_len};
+ghost use Rattle.std.specs.Prelude.{◌≡◌, ◌≤◌, ◌<◌, [], Some, Err, length, IfOk, IsTrue, IsSomeAnd, vec_len};
+ghost use Rattle.jac_host.specs.Gave.{agrees, files_seen};
 
+use crate::calls::{open_file, read_once};
 use crate::faults::counted;
+use crate::journal::Journal;
+use crate::outside::Outside;
 use crate::told::tell;
-use jac_io::{AuditSink, Failed, FileFault, Files, Sink};
+use jac_io::{Failed, FileFault, Files};
 use jac_value::{Bytes, Txt};
 use std::alloc::Global;
 use std::fs::File;
 use std::io;
-use std::io::{Read, Write};
+use std::io::ErrorKind;
+use std::marker::PhantomData;
 
 const CHUNK: usize = 65536;
 
-/// The files of the host. They tell nothing of what they hold.
+/// The files of the host. They tell what is supposed of them, as long as each read agreed with it.
 #[derive(Drop)]
-pub struct HostFiles<'r> {
+pub struct HostFiles<'r, O: Outside> {
     rt: &'r HostRuntime,
+    outside: PhantomData<O>,
+    journal: Journal,
     faults: u64,
 }
 
-impl<'r> HostFiles<'r> {
-    pub fn new(rt: &'r HostRuntime) -> HostFiles<'r> {
-        HostFiles { rt, faults: 0 }
+impl<'r, O: Outside> HostFiles<'r, O> {
+    pub fn new(rt: &'r HostRuntime) -> HostFiles<'r, O>
+        ensures events { result.journal.events ≡ [] }
+        ensures faults { result.faults ≡ 0 }
+    {
+        HostFiles {
+            rt,
+            outside: PhantomData,
+            journal: Journal::new(),
+            faults: 0,
+        }
     }
 }
 
-impl Files for HostFiles<'_> {
-    ghost seen = { λ f. record { tells = false; file = λ _. None; faults = f.faults } };
+impl<O: Outside> Files for HostFiles<'_, O> {
+    ghost seen = { λ f. files_seen O.file f.journal.events f.faults };
 
     fn read_all(&mut self, alloc: Global, name: &Txt, limit: usize) -> Result<Bytes, FileFault> {
-        match read_file(self.rt, alloc, name.as_str(), limit) {
+        match read_file::<O>(self.rt, &mut self.journal, alloc, name.as_str(), limit) {
             Ok(bytes) => Ok(Bytes::from_vec(bytes)),
             Err(Unread::Failed(error)) => {
                 tell(self.rt, &name.as_str(), &error);
@@ -49,17 +64,29 @@ enum Unread {
     Memory,
 }
 
-fn read_file(rt: &HostRuntime, alloc: Global, name: &str, limit: usize) -> Result<Vec<u8>, Unread>
-    ensures { IfOk result (λ v. vec_len v ≤ limit) }
+fn read_file<O: Outside>(
+    rt: &HostRuntime,
+    journal: &mut Journal,
+    alloc: Global,
+    name: &str,
+    limit: usize,
+) -> Result<Vec<u8>, Unread>
+    ensures within { IfOk result (λ v. vec_len v ≤ limit) }
+    ensures told { IsTrue (agrees O.file journal.new.events) → IsTrue (agrees O.file
+        journal.old.events) }
+    ensures exact { IsTrue (agrees O.file journal.new.events) → IfOk result
+        (λ v. O.file name.now ≡ Some v.items) }
+    ensures too_long { IsTrue (agrees O.file journal.new.events) → result ≡ Err Unread.TooLong →
+        IsSomeAnd (O.file name.now) (λ bytes. limit < length bytes) }
 {
     let mut bytes = Vec::new(alloc);
-    let mut file = match File::open(rt, name) {
+    let mut file = match open_file(rt, journal, name) {
         Ok(file) => file,
         Err(error) => return Err(Unread::Failed(error)),
     };
     let mut chunk = [0u8; CHUNK];
     'chunks: for _ in 0..u64::MAX {
-        let count = match file.read(&mut chunk) {
+        let count = match read_once(&mut file, journal, &mut chunk) {
             Ok(count) => count,
             Err(error) => return Err(Unread::Failed(error)),
         };
@@ -73,113 +100,5 @@ fn read_file(rt: &HostRuntime, alloc: Global, name: &str, limit: usize) -> Resul
             return Err(Unread::Memory);
         }
     }
-    Err(Unread::TooLong)
-}
-
-/// Standard output. Each put is written through at once.
-#[derive(Drop)]
-pub struct Stdout<'r> {
-    rt: &'r HostRuntime,
-    faults: u64,
-}
-
-impl<'r> Stdout<'r> {
-    pub fn new(rt: &'r HostRuntime) -> Stdout<'r> {
-        Stdout { rt, faults: 0 }
-    }
-}
-
-impl Sink for Stdout<'_> {
-    ghost seen = { λ s. record { tells = false; held = []; aims = []; faults = s.faults } };
-
-    fn put(&mut self, bytes: &[u8]) -> Result<(), Failed> {
-        match io::writer(self.rt).write_all(bytes) {
-            Ok(()) => Ok(()),
-            Err(error) => {
-                tell(self.rt, &"standard output", &error);
-                Err(counted(&mut self.faults))
-            }
-        }
-    }
-}
-
-/// The audit's file, which an aim makes where it isn't there, and goes on after what it holds. An
-/// audit that is aimed at none drops its bytes. Each put is written through at once.
-#[derive(Drop)]
-pub struct HostAudit<'r> {
-    rt: &'r HostRuntime,
-    file: Option<Named>,
-    faults: u64,
-}
-
-// A file that is open, and its name.
-#[derive(Drop)]
-struct Named {
-    name: Txt,
-    file: File,
-}
-
-impl<'r> HostAudit<'r> {
-    pub fn new(rt: &'r HostRuntime) -> HostAudit<'r> {
-        HostAudit {
-            rt,
-            file: None,
-            faults: 0,
-        }
-    }
-}
-
-impl Sink for HostAudit<'_> {
-    ghost seen = { λ s. record { tells = false; held = []; aims = []; faults = s.faults } };
-
-    fn put(&mut self, bytes: &[u8]) -> Result<(), Failed> {
-        match write_to(self.rt, &mut self.file, bytes) {
-            Ok(()) => Ok(()),
-            Err(Failed) => Err(counted(&mut self.faults)),
-        }
-    }
-}
-
-impl AuditSink for HostAudit<'_> {
-    fn aim(&mut self, name: Option<Txt>) -> Result<(), Failed> {
-        match open_named(self.rt, name) {
-            Ok(file) => {
-                self.file = file;
-                Ok(())
-            }
-            Err(Failed) => Err(counted(&mut self.faults)),
-        }
-    }
-}
-
-fn write_to(rt: &HostRuntime, file: &mut Option<Named>, bytes: &[u8]) -> Result<(), Failed> {
-    match file {
-        None => Ok(()),
-        Some(named) => match named.file.write_all(bytes) {
-            Ok(()) => Ok(()),
-            Err(error) => {
-                tell(rt, &named.name.as_str(), &error);
-                Err(Failed)
-            }
-        },
-    }
-}
-
-fn open_named(rt: &HostRuntime, name: Option<Txt>) -> Result<Option<Named>, Failed> {
-    match name {
-        None => Ok(None),
-        Some(name) => {
-            let opened = File::options()
-                .append(true)
-                .create(true)
-                .open(rt, name.as_str());
-            match opened {
-                Ok(file) => Ok(Some(Named { name, file })),
-                Err(error) => {
-                    tell(rt, &name.as_str(), &error);
-                    Err(Failed)
-                }
-            }
-        }
-    }
+    Err(Unread::Failed(io::Error::from(ErrorKind::Other)))
 }

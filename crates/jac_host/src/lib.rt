@@ -1,15 +1,25 @@
-//! The host's files, audit, standard output, connections and their door. Each tells nothing of what
-//! it holds, and counts its own failures, and says on standard error what the host said of them.
+//! The host's files, audit, standard output, connections and their door. Each tells what the system
+//! took, and what it gave as far as that is what is supposed of the outside; each counts its own
+//! failures, and says on standard error what the host said of them.
 #![tactic(auto)]
 
+mod calls;
+mod door;
 mod faults;
 mod files;
 mod frames;
-mod net;
+mod handed;
+mod journal;
+mod link;
+mod outside;
 mod pace;
+mod sinks;
 #[cfg(test)]
 mod tests;
 mod told;
 
-pub use files::{HostAudit, HostFiles, Stdout};
-pub use net::{HostDoor, HostLink};
+pub use door::HostDoor;
+pub use files::HostFiles;
+pub use link::HostLink;
+pub use outside::{Outside, Unknown};
+pub use sinks::{HostAudit, Stdout};

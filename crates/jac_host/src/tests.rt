@@ -1,7 +1,7 @@
 //! The host's connections, over the loopback of the machine.
 ghost use Rattle.std.specs.Prelude.{◌≡◌, ◌<◌, ◌≤◌};
 
-use crate::HostDoor;
+use crate::{HostDoor, Unknown};
 use jac_io::{Door, Failed, Link};
 use std::io::{Read, Write};
 use std::net::TcpStream;
@@ -9,7 +9,7 @@ use std::test::Fail;
 
 #[test]
 fn a_connection_of_the_host_is_read_and_answered(rt: HostRuntime) -> Result<(), Fail> {
-    let mut door = HostDoor::new(&rt);
+    let mut door = HostDoor::<Unknown>::new(&rt);
     door.listen(0)?;
     let address = door.address().ok_or(Failed)?;
     let mut client = TcpStream::connect(&rt, address)?;

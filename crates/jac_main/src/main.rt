@@ -1,7 +1,13 @@
 //! The program `jac`: the host's files, its audit, standard output and stores, beneath `jac_app`.
 #![tactic(auto)]
 
-ghost use Rattle.std.specs.Prelude.{◌≡◌, ◌<◌};
+ghost use Rattle.std.specs.Prelude.{◌≡◌, ◌<◌, false, []};
+ghost use Rattle.jac_host.specs.Gave.{files_seen};
+ghost use Rattle.jac_host.specs.Sinks.{sink_seen};
+ghost use Rattle.jac_host.specs.Links.{door_seen};
+ghost use Rattle.jac_serve_events.specs.Outside.{span};
+ghost use Rattle.jac_command_base.specs.Files.{sight};
+ghost use Rattle.jac_app.specs.Run.{IsRun};
 
 #[cfg(test)]
 mod database;
@@ -13,9 +19,10 @@ mod links;
 mod tests;
 
 use jac_app::{Status, run};
-use jac_host::{HostAudit, HostDoor, HostFiles, Stdout};
+use jac_host::{HostAudit, HostDoor, HostFiles, HostLink, Outside, Stdout, Unknown};
 use jac_host_vault::HostVault;
-use jac_io::{Failed, Sink};
+use jac_io::{Door, Failed, Files, Link, Sink};
+use jac_keep::Keeper;
 use jac_rows::{State, Tables};
 use jac_value::{Memory, Txt};
 use jac_world::Steps;
@@ -25,7 +32,7 @@ use std::sync::ledger::{Blank, Ledger};
 use std::{env, io};
 
 fn main(rt: HostRuntime) -> ExitCode {
-    let status = match run_words::<Brand, Brand>(&rt, Blank::new(1), Blank::new(1)) {
+    let status = match run_words::<Brand, Brand, Unknown>(&rt, Blank::new(1), Blank::new(1)) {
         Ok(status) => status,
         Err(Memory) => run_out(&rt),
     };
@@ -40,7 +47,7 @@ fn run_out(rt: &HostRuntime) -> Status {
     }
 }
 
-fn run_words<L: Ledger, M: Ledger>(
+fn run_words<L: Ledger, M: Ledger, O: Outside>(
     rt: &HostRuntime,
     blank: Blank,
     second: Blank,
@@ -65,8 +72,8 @@ fn run_words<L: Ledger, M: Ledger>(
     let mut door = HostDoor::new(rt);
     let mut splits: Steps<L> = Steps::new(blank);
     let mut evaluations: Steps<M> = Steps::new(second);
-    let status = run(
-        alloc,
+    let status = run_host::<O, L, M>(
+        rt,
         words.as_slice(),
         &mut files,
         &mut out,
@@ -77,6 +84,46 @@ fn run_words<L: Ledger, M: Ledger>(
         &mut evaluations,
     );
     Ok(status)
+}
+
+// The run over the host, of which nothing was asked yet. `O` is what is supposed of the outside:
+// where the files that were read and the input that was taken are as it says, each clause holds of
+// the bytes that writes took.
+fn run_host<O: Outside, L: Ledger, M: Ledger>(
+    rt: &HostRuntime,
+    words: &[Txt],
+    files: &mut HostFiles<'_, O>,
+    out: &mut Stdout<'_>,
+    audit: &mut HostAudit<'_>,
+    vault: &mut HostVault,
+    door: &mut HostDoor<'_, O>,
+    splits: &mut Steps<L>,
+    evaluations: &mut Steps<M>,
+) -> Status
+    requires files { ⟦<HostFiles<'static, O> as Files>⟧.seen files.old ≡ files_seen O.file [] 0 }
+    requires out { ⟦<Stdout<'static> as Sink>⟧.seen out.old ≡ sink_seen [] 0 }
+    requires audit { ⟦<HostAudit<'static> as Sink>⟧.seen audit.old ≡ sink_seen [] 0 }
+    requires door { ⟦<HostDoor<'static, O> as Door>⟧.seen door.old ≡ door_seen O.inputs [] [] 0 }
+    requires first { (⟦<HostVault as Keeper>⟧.seen vault.old).store.called ≡ false }
+    ensures { IsRun ⟦<HostLink<O> as Link>⟧.seen
+        (sight (files_seen O.file [] 0) (⟦<HostFiles<'static, O> as Files>⟧.seen files.new)
+        (sink_seen [] 0) (⟦<Stdout<'static> as Sink>⟧.seen out.new)
+        (sink_seen [] 0) (⟦<HostAudit<'static> as Sink>⟧.seen audit.new)
+        (⟦<HostVault as Keeper>⟧.seen vault.old) (⟦<HostVault as Keeper>⟧.seen vault.new))
+        (span (door_seen O.inputs [] [] 0) (⟦<HostDoor<'static, O> as Door>⟧.seen door.new))
+        (span splits.old splits.new) words.now result }
+{
+    run(
+        rt.alloc(),
+        words,
+        files,
+        out,
+        audit,
+        vault,
+        door,
+        splits,
+        evaluations,
+    )
 }
 
 // Whether the command makes a store that isn't there: a dump, an upgrade and a why take one that

@@ -1,0 +1,4 @@
+pub mod Steps
+pub mod SinkLaws
+pub mod LinkLaws
+pub mod OutsideLaws

@@ -1,0 +1,36 @@
+-- It has no bytes, so one of no values is made of nothing.
+use Rattle.jac_host.proofs.Steps.{[], ◌∷◌, refl, proved, owns, types_at, pure_i, nothing, alive, Stays, walk_of, says, ends_at, param, layouts, RattleType, inst_fn, Args, Fn, a_type, Val, vstruct, vcons, vnil, alloc_all, pass_all, free_all, look_at, get, sets, ‵, raw, ◌⊛◌, ◌$◌, ◌∵◌, !, qed, move, keep, split, suffices, done, agg, enter, returns, and_then, no_more}
+use Rattle.jac_host.specs.contracts.handed.Handed.{the_row as R}
+use Rattle.jac_host.specs.contracts.handed.Handed.new as f
+use Rattle.jac_host.proofs.handed.Handed.new.Statement.{statement}
+use Rattle.jac_host.proofs.handed.Handed.new.Code as code
+
+abbrev one : Val
+one = vstruct (vcons (vstruct vnil) vnil)
+
+module _ (T : RattleType) where
+  abbrev args : Args
+  args = layouts (a_type ∷ []) (T, tt)
+
+  abbrev function : Fn
+  function = inst_fn args code.function
+
+  abbrev stayed : Stays (f.ended T).signature.params (f.ended T).kept
+  stayed = tt
+
+pub new_spec : {M : Type 1} → statement M
+new_spec 𝓤 𝓛 𝓜 𝓡 wired T laws =
+    let c = f.clauses T 𝓛 𝓜.mem 𝓡.returns in let W = walk_of 𝓛 (f.ended T) (stayed T) c in
+    proved 𝓛 (f.ended T) (stayed T) c 𝓜 𝓡 tt (f.Key.name (args T)) (function T) (code.unfolded 𝓤 𝓛.H 𝓜 𝓡 wired (T, tt))
+    (λ κs. tt) (λ κs. tt) (λ κs qs bounds a g are.
+    let y : W.Ghost = ((κs, qs, bounds, a, tt), g) in
+    let made : (R (param 0 T)).Denot = record { of = record {}; items = [] } in
+    qed 𝓛 ((raw (alive 𝓛 (f.signature T) κs qs) ⊛ ‵ (owns (types_at (f.signature T).params κs) a y.0.4)) ∷ raw ((c κs a).requires g) ∷ []) ∵ split ! $ keep ! (0 ∷ []) $
+    enter ! _ _ _ _ _ $ alloc_all ! (λ l. pass_all ! refl tt $
+    sets ! (agg ! (no_more !)) refl (tt, tt) $
+    sets ! (agg ! (and_then ! (get ! refl) (no_more !))) refl (tt, (tt, tt)) $
+    returns ! (look_at ! 0 refl) $ free_all ! refl $
+    suffices ! _ (ends_at 𝓛 (f.ended T) (stayed T) c y one made tt tt) $ says ! refl $
+    pure_i ! ((R (param 0 T)).own_val made (one ∷ [])) ((λ vss. (tt, ((λ uss. (tt, tt)), tt))), tt)
+    (((vstruct vnil ∷ [], tt), (refl, ((tt, (refl, tt)), tt))), tt) $
+    nothing ! $ move ! (2 ∷ 0 ∷ 1 ∷ []) $ done !))

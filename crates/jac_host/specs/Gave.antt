@@ -1,0 +1,39 @@
+-- what reads gave, held against what is supposed to be there
+use Rattle.std.specs.Prelude.{ℕ, Bool, true, false, ◌&&◌, List, [], ◌∷◌, ◌++◌, Option, Some, None, length, take, ◌==◌, if◌then◌else◌}
+use Rattle.std.specs.Str.{bytes_eq}
+use Rattle.jac_io.specs.Seen.{FilesSeen}
+use Rattle.jac_host.specs.Events.{Event, Opened, Gave, Came}
+
+-- the bytes that reads gave since the last file was opened, or the last connection came
+abbrev pub given : List Event → List ℕ
+given [] = []
+given (Opened _ ∷ events) = []
+given (Came ∷ events) = []
+given (Gave bytes ∷ events) = given events ++ bytes
+given (_ ∷ events) = given events
+
+-- the name of the file that was opened last
+abbrev pub opened : List Event → List ℕ
+opened [] = []
+opened (Opened name ∷ events) = name
+opened (_ ∷ events) = opened events
+
+-- whether bytes that a read gave go on after those that were given, as the whole does: none only at
+-- its end
+abbrev pub goes_on : List ℕ → List ℕ → List ℕ → Bool
+goes_on whole before bytes = bytes_eq (if length bytes == 0 then whole else take (length (before ++ bytes)) whole)
+    (before ++ bytes)
+
+abbrev pub goes_on_in : Option (List ℕ) → List ℕ → List ℕ → Bool
+goes_on_in None before bytes = false
+goes_on_in (Some whole) before bytes = goes_on whole before bytes
+
+-- whether each read so far gave what stands in the file of this name
+abbrev pub agrees : (List ℕ → Option (List ℕ)) → List Event → Bool
+agrees file [] = true
+agrees file (Gave bytes ∷ events) = goes_on_in (file (opened events)) (given events) bytes && agrees file events
+agrees file (_ ∷ events) = agrees file events
+
+-- files that are supposed to hold this. They tell as long as each read agreed
+abbrev pub files_seen : (List ℕ → Option (List ℕ)) → List Event → ℕ → FilesSeen
+files_seen file events faults = record { tells = agrees file events; file = file; faults = faults }

@@ -1,0 +1,111 @@
+//! The calls of the system, one a function, each noted with what it answered. Nothing else notes.
+ghost use Rattle.std.specs.Prelude.{◌≡◌, ◌≤◌, [], ◌∷◌, Some, None, length, take, IfOk, OnOk, OnErr, MatchResult};
+ghost use Rattle.jac_host.specs.Events.{Opened, Gave, Took, Aimed, Listens, Came};
+
+use crate::journal::{Journal, Note};
+use std::fs::File;
+use std::io;
+use std::io::{Read, Write};
+use std::net::{SocketAddr, TcpListener};
+
+/// Opens a file.
+pub(crate) fn open_file(rt: &HostRuntime, journal: &mut Journal, name: &str) -> io::Result<File>
+    ensures { MatchResult result
+        (λ _. journal.new.events ≡ Opened name.now ∷ journal.old.events)
+        (λ _. journal.new.events ≡ journal.old.events) }
+{
+    let file = File::open(rt, name)?;
+    *journal = journal.then(&Note::Opened(name));
+    Ok(file)
+}
+
+/// Opens a file for an audit, which goes on after what it holds, or makes it.
+pub(crate) fn open_audit(rt: &HostRuntime, journal: &mut Journal, name: &str) -> io::Result<File>
+    ensures { MatchResult result
+        (λ _. journal.new.events ≡ Aimed (Some name.now) ∷ journal.old.events)
+        (λ _. journal.new.events ≡ journal.old.events) }
+{
+    let file = File::options().append(true).create(true).open(rt, name)?;
+    *journal = journal.then(&Note::Aimed(Some(name)));
+    Ok(file)
+}
+
+/// An audit is aimed at no file, which is no call.
+pub(crate) fn aim_nowhere(journal: &mut Journal)
+    ensures { journal.new.events ≡ Aimed None ∷ journal.old.events }
+{
+    *journal = journal.then(&Note::Aimed(None));
+}
+
+/// Reads once.
+pub(crate) fn read_once<R: Read>(
+    from: &mut R,
+    journal: &mut Journal,
+    into: &mut [u8],
+) -> io::Result<usize>
+    ensures within { IfOk result (λ count. count ≤ length into.new) }
+    ensures same_length { length into.new ≡ length into.old }
+    ensures noted { MatchResult result
+        (λ count. journal.new.events ≡ Gave (take count into.new) ∷ journal.old.events)
+        (λ _. journal.new.events ≡ journal.old.events) }
+{
+    let count = from.read(into)?;
+    *journal = journal.then(&Note::Gave(&into[..count]));
+    Ok(count)
+}
+
+/// Nothing came in time, which counts as a read at the end.
+pub(crate) fn none_came(journal: &mut Journal)
+    ensures { journal.new.events ≡ Gave [] ∷ journal.old.events }
+{
+    *journal = journal.then(&Note::Gave(&[]));
+}
+
+/// Writes once.
+pub(crate) fn write_once<W: Write>(
+    to: &mut W,
+    journal: &mut Journal,
+    bytes: &[u8],
+) -> io::Result<usize>
+    ensures within { IfOk result (λ count. count ≤ length bytes.now) }
+    ensures noted { MatchResult result
+        (λ count. journal.new.events ≡ Took (take count bytes.now) ∷ journal.old.events)
+        (λ _. journal.new.events ≡ journal.old.events) }
+{
+    let count = to.write(bytes)?;
+    *journal = journal.then(&Note::Took(&bytes[..count]));
+    Ok(count)
+}
+
+/// Bytes are dropped, since an audit is aimed at no file, which is no call.
+pub(crate) fn drop_bytes(journal: &mut Journal, bytes: &[u8])
+    ensures { journal.new.events ≡ Took bytes.now ∷ journal.old.events }
+{
+    *journal = journal.then(&Note::Took(bytes));
+}
+
+/// Listens on this port.
+pub(crate) fn listen(
+    rt: &HostRuntime,
+    journal: &mut Journal,
+    address: SocketAddr,
+    port: u16,
+) -> io::Result<TcpListener>
+    ensures { MatchResult result
+        (λ _. journal.new.events ≡ Listens port ∷ journal.old.events)
+        (λ _. journal.new.events ≡ journal.old.events) }
+{
+    let listener = TcpListener::bind(rt, address)?;
+    *journal = journal.then(&Note::Listens(port));
+    Ok(listener)
+}
+
+/// A connection came. Its own journal goes on from that of its door.
+pub(crate) fn one_came(journal: &mut Journal) -> Journal
+    ensures door { journal.new.events ≡ Came ∷ journal.old.events }
+    ensures link { result.events ≡ Came ∷ journal.old.events }
+{
+    let link = journal.then(&Note::Came);
+    *journal = journal.then(&Note::Came);
+    link
+}

@@ -1,0 +1,127 @@
+ghost use Rattle.std.specs.Prelude.{◌≡◌, ◌≤◌, [], None};
+
+use crate::calls::listen;
+use crate::faults::counted;
+use crate::handed::Handed;
+use crate::journal::Journal;
+use crate::link::{HostLink, link_of, read_away};
+use crate::outside::Outside;
+use crate::told::tell;
+use jac_io::{Door, Failed};
+use std::io;
+use std::io::ErrorKind;
+use std::marker::PhantomData;
+use std::net::{Ipv4Addr, SocketAddr, TcpListener, TcpStream};
+use std::time::Instant;
+
+/// A port of the host, for connections from the host itself. It tells the connections that are
+/// supposed, as long as no more came, and always waits for one more.
+#[derive(Drop)]
+pub struct HostDoor<'r, O: Outside> {
+    rt: &'r HostRuntime,
+    outside: PhantomData<O>,
+    listener: Option<TcpListener>,
+    journal: Journal,
+    returned: Handed<HostLink<O>>,
+    faults: u64,
+}
+
+impl<'r, O: Outside> HostDoor<'r, O> {
+    pub fn new(rt: &'r HostRuntime) -> HostDoor<'r, O>
+        ensures events { result.journal.events ≡ [] }
+        ensures returned { result.returned.items ≡ [] }
+        ensures faults { result.faults ≡ 0 }
+    {
+        HostDoor {
+            rt,
+            outside: PhantomData,
+            listener: None,
+            journal: Journal::new(),
+            returned: Handed::new(),
+            faults: 0,
+        }
+    }
+
+    /// Where it listens.
+    #[cfg(test)]
+    pub fn address(&self) -> Option<SocketAddr> {
+        self.listener.as_ref()?.local_addr().ok()
+    }
+}
+
+impl<O: Outside> Door for HostDoor<'_, O> {
+    ghost use Rattle.jac_host.specs.Links.{door_seen};
+
+    type Line = HostLink<O>;
+
+    ghost seen = { λ d. door_seen O.inputs d.journal.events d.returned.items d.faults };
+
+    fn listen(&mut self, port: u16) -> Result<(), Failed> {
+        let address = SocketAddr::from((Ipv4Addr::LOCALHOST, port));
+        match listen(self.rt, &mut self.journal, address, port) {
+            Ok(listener) => {
+                tell_listening(self.rt, &listener);
+                self.listener = Some(listener);
+                Ok(())
+            }
+            Err(error) => {
+                tell(self.rt, &address, &error);
+                Err(counted(&mut self.faults))
+            }
+        }
+    }
+
+    #[tactic(auto, using(crate::proofs::LinkLaws::next_comes))]
+    fn next(&mut self) -> Result<Option<HostLink<O>>, Failed> {
+        match next_stream(self.rt, &self.listener) {
+            Ok((stream, now)) => Ok(Some(link_of(self.rt, &mut self.journal, stream, now))),
+            Err(error) => {
+                tell(self.rt, &"the door", &error);
+                Err(counted(&mut self.faults))
+            }
+        }
+    }
+
+    fn close(&mut self, line: HostLink<O>) -> Result<(), Failed> {
+        self.returned = self.returned.and(&line);
+        let mut line = line;
+        read_away(&mut line);
+        Ok(())
+    }
+}
+
+// Says where connections are taken from now on.
+fn tell_listening(rt: &HostRuntime, listener: &TcpListener) {
+    if let Ok(address) = listener.local_addr() {
+        let _ = eprintln!(rt; "listening on {address}");
+    }
+}
+
+// The next connection, and when it came. A reply is one write, so it needn't wait for more to be
+// sent with it; where the host refuses that, it is done without.
+fn next_stream(
+    rt: &HostRuntime,
+    listener: &Option<TcpListener>,
+) -> io::Result<(TcpStream, Instant)> {
+    let stream = accept_one(listener)?;
+    let _ = stream.set_nodelay(true);
+    let now = Instant::now(rt)?;
+    Ok((stream, now))
+}
+
+// Waits for a connection. One that went away before it was accepted is passed over.
+fn accept_one(listener: &Option<TcpListener>) -> io::Result<TcpStream> {
+    let Some(listener) = listener else {
+        return Err(io::Error::from(ErrorKind::NotConnected));
+    };
+    'connections: for _ in 0..u64::MAX {
+        match listener.accept() {
+            Ok((stream, _)) => return Ok(stream),
+            Err(error) => match error.kind() {
+                ErrorKind::Interrupted | ErrorKind::ConnectionAborted => {}
+                _ => return Err(error),
+            },
+        }
+    }
+    Err(io::Error::from(ErrorKind::ConnectionAborted))
+}

@@ -1,0 +1,45 @@
+//! What the system was asked and what it answered, for clauses alone.
+ghost use Rattle.std.specs.Prelude.{◌≡◌, List, []};
+ghost use Rattle.std.specs.Borrow.{ftrue};
+ghost use Rattle.jac_host.specs.Events.{Event};
+
+use std::marker::Model;
+
+/// The events so far, the newest first. No memory holds them: it takes no bytes. So a note is true
+/// only where the call that it notes stands beside it.
+#[derive(Drop)]
+pub struct Journal {
+    pub ghost events: { List Event },
+}
+
+impl Model for Journal {
+    ghost also_owns = { λ _. ftrue };
+}
+
+/// One answer of the system.
+#[derive(Clone, Copy)]
+pub enum Note<'a> {
+    Opened(&'a str),
+    Gave(&'a [u8]),
+    Took(&'a [u8]),
+    Aimed(Option<&'a str>),
+    Listens(u16),
+    Came,
+}
+
+impl Journal {
+    ghost use Rattle.jac_host.specs.Noted.{noted};
+
+    pub fn new() -> Journal
+        ensures { result.events ≡ [] }
+    {
+        Journal {}
+    }
+
+    /// The journal with one event more.
+    pub fn then(&self, _note: &Note<'_>) -> Journal
+        ensures { result.events ≡ noted self.now.events _note.now }
+    {
+        Journal {}
+    }
+}

@@ -1,0 +1,228 @@
+ghost use Rattle.std.specs.Prelude.{◌≡◌, ◌≤◌, ◌<◌, ◌∷◌, ◌++◌, length, take, IfOk, OnOk, OnErr, MatchResult};
+ghost use Rattle.jac_io.specs.Put.{AddsPrefix};
+ghost use Rattle.jac_host.specs.Events.{Gave, Came};
+ghost use Rattle.jac_host.specs.Sinks.{took};
+ghost use Rattle.jac_host.specs.Wrote.{IsWritten};
+ghost use Rattle.jac_host.specs.Links.{came, input_at, fresh_link};
+
+use crate::calls::{none_came, one_came, read_once, write_once};
+use crate::faults::counted;
+use crate::journal::Journal;
+use crate::outside::Outside;
+use crate::pace::Pace;
+use jac_io::{Failed, Link};
+use std::io;
+use std::io::{ErrorKind, Read};
+use std::marker::{Model, PhantomData};
+use std::net::TcpStream;
+use std::time::{Duration, Instant};
+
+// How long a put may take, however slowly its bytes are read.
+const PUT_MILLIS: u64 = 3_000;
+
+// How many times what has arrived is read away as a connection ends.
+const LAST_READS: u32 = 64;
+
+/// A connection of the host. It tells the input that is supposed of it, as long as each take agreed
+/// with that, and the bytes that writes took. Each put is written through at once. Its input is at
+/// its end where the peer ended it, and where what is waited for didn't come in time: its first
+/// byte, the rest of a request, or one more request after a reply.
+#[derive(Drop)]
+pub struct HostLink<O: Outside> {
+    rt: HostRuntime,
+    outside: PhantomData<O>,
+    stream: TcpStream,
+    pace: Pace,
+    journal: Journal,
+    faults: u64,
+}
+
+impl<O: Outside> Model for HostLink<O> {
+    ghost use Rattle.jac_io.specs.Linked.{LinkSeen};
+    ghost use Rattle.jac_host.specs.Links.{link_seen};
+
+    ghost Value = { LinkSeen };
+
+    ghost view = { λ l. link_seen O.inputs l.journal.events l.faults };
+}
+
+impl<O: Outside> Link for HostLink<O> {
+    ghost seen = { λ l. l };
+
+    #[tactic(auto, using(crate::proofs::LinkLaws::goes_further, crate::proofs::LinkLaws::at_end))]
+    fn take(&mut self, into: &mut [u8]) -> Result<usize, Failed> {
+        match read_some(
+            &self.rt,
+            &mut self.stream,
+            &mut self.pace,
+            &mut self.journal,
+            into,
+        ) {
+            Ok(count) => Ok(count),
+            Err(_) => Err(counted(&mut self.faults)),
+        }
+    }
+
+    fn put(&mut self, bytes: &[u8]) -> Result<(), Failed> {
+        match write_whole(
+            &self.rt,
+            &mut self.stream,
+            &mut self.pace,
+            &mut self.journal,
+            bytes,
+        ) {
+            Ok(()) => Ok(()),
+            Err(_) => Err(counted(&mut self.faults)),
+        }
+    }
+}
+
+// Reads once. Where nothing came in time, the input ends. Where the clock fails, the next call does.
+fn read_some(
+    rt: &HostRuntime,
+    stream: &mut TcpStream,
+    pace: &mut Pace,
+    journal: &mut Journal,
+    into: &mut [u8],
+) -> io::Result<usize>
+    ensures within { IfOk result (λ count. count ≤ length into.new) }
+    ensures same_length { length into.new ≡ length into.old }
+    ensures noted { MatchResult result
+        (λ count. journal.new.events ≡ Gave (take count into.new) ∷ journal.old.events)
+        (λ _. journal.new.events ≡ journal.old.events) }
+{
+    let count = read_in_time(rt, stream, pace, journal, into)?;
+    if count > 0 {
+        keep_pace(rt, pace, &into[..count]);
+    }
+    Ok(count)
+}
+
+// The time of a request begins with its first byte.
+fn keep_pace(rt: &HostRuntime, pace: &mut Pace, bytes: &[u8]) {
+    if let Ok(now) = Instant::now(rt) {
+        pace.took(bytes, now);
+    }
+}
+
+// Reads once, and again after a signal, for as long as the pace allows.
+fn read_in_time(
+    rt: &HostRuntime,
+    stream: &mut TcpStream,
+    pace: &Pace,
+    journal: &mut Journal,
+    into: &mut [u8],
+) -> io::Result<usize>
+    ensures within { IfOk result (λ count. count ≤ length into.new) }
+    ensures same_length { length into.new ≡ length into.old }
+    ensures noted { MatchResult result
+        (λ count. journal.new.events ≡ Gave (take count into.new) ∷ journal.old.events)
+        (λ _. journal.new.events ≡ journal.old.events) }
+{
+    'reads: for _ in 0..u64::MAX {
+        let left = pace.left(Instant::now(rt)?);
+        if left.is_zero() {
+            none_came(journal);
+            return Ok(0);
+        }
+        stream.set_read_timeout(Some(left))?;
+        match read_once(stream, journal, into) {
+            Ok(count) => return Ok(count),
+            Err(error) => match error.kind() {
+                ErrorKind::Interrupted => {}
+                ErrorKind::WouldBlock => {
+                    none_came(journal);
+                    return Ok(0);
+                }
+                _ => return Err(error),
+            },
+        }
+    }
+    none_came(journal);
+    Ok(0)
+}
+
+// Writes all the bytes, within the time of a put.
+#[tactic(auto, using(crate::proofs::SinkLaws::front_put))]
+fn write_whole(
+    rt: &HostRuntime,
+    stream: &mut TcpStream,
+    pace: &mut Pace,
+    journal: &mut Journal,
+    bytes: &[u8],
+) -> io::Result<()>
+    ensures ok { OnOk result (took journal.new.events ≡ took journal.old.events ++ bytes.now) }
+    ensures err { OnErr result (AddsPrefix (took journal.old.events) (took journal.new.events)
+        bytes.now) }
+    ensures written { IsWritten journal.old.events journal.new.events }
+{
+    let began = Instant::now(rt)?;
+    let mut done = 0;
+    'writes: for _ in 0..u64::MAX {
+        let now = Instant::now(rt)?;
+        if done == bytes.len() {
+            pace.put(now);
+            return Ok(());
+        }
+        let left = Duration::from_millis(PUT_MILLIS).saturating_sub(now.duration_since(began));
+        stream.set_write_timeout(Some(left))?;
+        match write_some(stream, journal, &bytes[done..]) {
+            Ok(count) => done += count,
+            Err(error) => return Err(error),
+        }
+    }
+    Err(io::Error::from(ErrorKind::WriteZero))
+}
+
+// Writes once; after a signal none.
+fn write_some(stream: &mut TcpStream, journal: &mut Journal, bytes: &[u8]) -> io::Result<usize>
+    ensures within { IfOk result (λ count. count ≤ length bytes.now) }
+    ensures took { MatchResult result
+        (λ count. took journal.new.events ≡ took journal.old.events ++ take count bytes.now)
+        (λ _. took journal.new.events ≡ took journal.old.events) }
+    ensures written { IsWritten journal.old.events journal.new.events }
+{
+    match write_once(stream, journal, bytes) {
+        Ok(count) => Ok(count),
+        Err(error) => match error.kind() {
+            ErrorKind::Interrupted => Ok(0),
+            _ => Err(error),
+        },
+    }
+}
+
+/// A connection that came now, which is the next of its door.
+pub(crate) fn link_of<O: Outside>(
+    rt: &HostRuntime,
+    door: &mut Journal,
+    stream: TcpStream,
+    now: Instant,
+) -> HostLink<O>
+    ensures fresh { result ≡ fresh_link (input_at O.inputs (came door.old.events)) }
+    ensures door { door.new.events ≡ Came ∷ door.old.events }
+{
+    HostLink {
+        rt: *rt,
+        outside: PhantomData,
+        stream,
+        pace: Pace::new(now),
+        journal: one_came(door),
+        faults: 0,
+    }
+}
+
+/// Reads away what has arrived, without waiting for more: a connection that ends with input unread
+/// is reset, and its peer may lose the last reply (RFC 9112, section 9.6).
+pub(crate) fn read_away<O: Outside>(line: &mut HostLink<O>) {
+    let mut rest = [0u8; 4096];
+    if line.stream.set_nonblocking(true).is_err() {
+        return;
+    }
+    'reads: for _ in 0..LAST_READS {
+        match line.stream.read(&mut rest) {
+            Ok(0) => return,
+            Ok(_) => {}
+            Err(_) => return,
+        }
+    }
+}
