@@ -1,0 +1,5 @@
+pub mod Told
+pub mod RightAnswers
+pub mod Faithful
+pub mod SamePlace
+pub mod Visits
