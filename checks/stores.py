@@ -262,6 +262,71 @@ def missing(at):
     yield expect('what a dump of no store leaves', sorted(os.listdir(at.folder)), ['a'])
 
 
+def full_pipe():
+    """A pipe that takes no more bytes, by its two ends."""
+    reads, writes = os.pipe()
+    os.set_blocking(writes, False)
+    with contextlib.suppress(BlockingIOError):
+        while True:
+            os.write(writes, b'.' * 4096)
+    os.set_blocking(writes, True)
+    return reads, writes
+
+
+def until(holds, seconds=20):
+    """Whether it holds within the time."""
+    end = time.monotonic() + seconds
+    while time.monotonic() < end:
+        if holds():
+            return True
+        time.sleep(0.01)
+    return False
+
+
+def is_waiting_to_write(run):
+    """Whether the process is at a write that its full pipe doesn't take, by Linux's name for that place."""
+    with open('/proc/%d/wchan' % run.pid) as place, open('/proc/%d/stat' % run.pid) as stat:
+        return 'pipe_write' in place.read() or stat.read().rpartition(')')[2].split()[0] == 'S'
+
+
+def refused_beside_a_serve(at, words):
+    """A run that is refused, since the store isn't there, and that can't write its last line until another run has made
+    the store and answered joins. The refused run ends, and the other is killed: what it answered is kept."""
+    at.write('a', PLAIN)
+    at.write('n', NEXT)
+    name, form = 'beside a refused %s: ' % words[0], {'Content-Type': 'application/x-www-form-urlencoded'}
+    reads, writes = full_pipe()
+    run = subprocess.Popen([PROGRAM, *words, '--db', 'd'], cwd=at.folder, stdin=subprocess.DEVNULL, stdout=writes,
+                           stderr=subprocess.DEVNULL)
+    os.close(writes)
+    yield expect(name + 'it waits', until(lambda: is_waiting_to_write(run)) and run.poll(), None)
+    with served(PROGRAM, 'a', 7, at.folder, ('--db', 'd')) as serve:
+        for turn in range(6):
+            line = http.client.HTTPConnection('127.0.0.1', serve.port, timeout=10)
+            line.request('POST', '/join', b'name=Ann', form)
+            yield expect(name + 'a join', line.getresponse().status, 200)
+            if turn == 4:
+                out = b''
+                while len(out) < 2 ** 22 and (piece := os.read(reads, 2 ** 16)):
+                    out += piece
+                yield expect(name + 'its end', (run.wait(20), out.lstrip(b'.')), (6, b'store fault\n'))
+        yield expect(name + 'the log', os.path.exists(at.store + '-wal'), True)
+        serve.run.kill()
+        serve.run.wait()
+    os.close(reads)
+    yield expect(name + 'what is kept', at.replay(b'ask - GET "/count" ""\n'), (0, b'reply 200 "" "6"\n'))
+
+
+def refused_dump(at):
+    """A dump that is refused leaves the log of a run that began meanwhile."""
+    return refused_beside_a_serve(at, ('dump', 'a', '-'))
+
+
+def refused_upgrade(at):
+    """So does an upgrade."""
+    return refused_beside_a_serve(at, ('upgrade', 'a', 'n'))
+
+
 def held(at):
     """A store that another program holds is told apart from one that is damaged."""
     at.replay(STORY)
@@ -478,9 +543,8 @@ def fresh():
 
 def main():
     results = []
-    for part in (kept, spelled, shaped, made_by_hand, damaged, refused, missing, held, full, of_another, of_another_program,
-                 killed, upgraded,
-                 upgrades_killed, upgrade_of_many):
+    for part in (kept, spelled, shaped, made_by_hand, damaged, refused, missing, refused_dump, refused_upgrade, held, full,
+                 of_another, of_another_program, killed, upgraded, upgrades_killed, upgrade_of_many):
         with fresh() as at:
             results += list(part(at)) or [None]
     for wrong in filter(None, results):

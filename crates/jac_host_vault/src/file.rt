@@ -26,8 +26,8 @@ impl Model for FileKeeper {
 }
 
 // It is written out, so that a caller does not prove again how each part is dropped. What can't be
-// copied from the log into the file stays in the log beside it, where the next opening finds it. A
-// log that a refused opening left beside a file that had none holds nothing, and goes.
+// copied from the log into the file stays in the log beside it, where the next opening finds it. An
+// empty log that this run made beside a file which it refused goes.
 impl Drop for FileKeeper {
     fn drop(self) {
         let FileKeeper { rt, keeper, log } = self;
@@ -121,7 +121,7 @@ impl Vault for FileKeeper {
             if let Some(name) = name {
                 tell(&self.rt, name, &self.keeper);
             }
-            if !is_held(&self.keeper) {
+            if may_have_made_log(&attached, &self.keeper) {
                 self.log = log;
             }
         }
@@ -133,10 +133,15 @@ impl Vault for FileKeeper {
     }
 }
 
-// Whether another program has the file open.
-fn is_held(keeper: &SqlKeeper<FileOpener>) -> bool {
+// Whether this run may have made the log beside a file that it refused. It made none where it opened
+// nothing, since the file is missing or another program has it open: a log that came meanwhile is
+// the other program's. Where memory ran out it isn't known how far the opening came.
+fn may_have_made_log(attached: &Result<(), AttachFault>, keeper: &SqlKeeper<FileOpener>) -> bool {
+    if let Err(AttachFault::Memory) = attached {
+        return false;
+    }
     match keeper.opener().fault() {
-        Some(OpenFault::Held) => true,
-        _ => false,
+        Some(OpenFault::Missing | OpenFault::Held | OpenFault::Memory) => false,
+        _ => true,
     }
 }
