@@ -12,20 +12,20 @@ use Rattle.jac_route.specs.Found.{found}
 use Rattle.jac_route.specs.declared.lookup.Found.{Found}
 use Rattle.jac_route.specs.declared.lookup.Found.TheVariants as founds
 use Rattle.jac_replies.specs.declared.answer.Ask.{Ask}
-use Rattle.jac_serve_events.specs.AnswerSpec.{LogSubject, LogEntry, Answering, hearing}
+use Rattle.jac_serve_events.specs.AnswerSpec.{LogSubject, LogEntry, AnswerSpec, hearing}
 use Rattle.jac_serve_events.specs.Log.{Brings, viewer_of_subject}
 use Rattle.jac_serve_events.specs.Script.{script_of}
 use Rattle.jac_cli.specs.declared.words.Command.TheVariants as commands
 use Rattle.jac_cli.specs.declared.words.Replay.{Replay}
 use Rattle.jac_cli.specs.Words.{command_of}
-use Rattle.jac_dispatch.specs.Answered.{answering_of}
+use Rattle.jac_dispatch.specs.Answered.{answer_spec_of}
 use Rattle.jac_run_laws.specs.Replayed.{TopRun, IsTopRun}
 use Rattle.jac_headline.specs.Headline.{Given, HoldGiven, IsToldToEnd, HasReplayedFaithfully, IsFaithful, Has, Tells, visit_by, visit_in, world_behind}
 use Rattle.jac_headline.proofs.Told.{HasAnswered, has_answered}
 use Rattle.jac_headline.proofs.RightAnswers.{faithful_log}
 
 -- what the events bring doesn't depend on how they are answered
-pub tells : (x : Answering) (known : Connections Ask) (n : ℕ) (events : List Event) (log : List LogEntry) (text : List ℕ) (later : Connections Ask)
+pub tells : (x : AnswerSpec) (known : Connections Ask) (n : ℕ) (events : List Event) (log : List LogEntry) (text : List ℕ) (later : Connections Ask)
     → Brings x known n events log text later → Tells (hearing x) known n events log text
 tells x known n [] log text later (none, is, stays) = (none, is)
 tells x known n (event ∷ events) log text later (mine, others, rest, parts, is, brought, more) =
@@ -43,7 +43,7 @@ faithful replay given top run = record {
   told = record {
     text = run.text;
     told =
-        tells (answering_of replay.lazy run.app given.sessions) no_connections 0 (script_of given.events).events run.log run.text run.later run.brought;
+        tells (answer_spec_of replay.lazy run.app given.sessions) no_connections 0 (script_of given.events).events run.log run.text run.later run.brought;
     took = run.out_took;
   };
   audit_took = run.audit_took;

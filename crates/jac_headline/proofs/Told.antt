@@ -11,31 +11,31 @@ use Rattle.jac_route.specs.declared.sessions.Session.{Session}
 use Rattle.jac_route.specs.Sessions.{sessions_in}
 use Rattle.jac_replies.specs.declared.answer.Ask.{Ask}
 use Rattle.jac_serve_events.specs.AnswerSpec.{LogEntry}
-use Rattle.jac_serve_events.specs.RunSeen.{holding_of}
+use Rattle.jac_serve_events.specs.RunSeen.{run_seen_of}
 use Rattle.jac_serve_events.specs.Log.{Brings, audit_lines}
 use Rattle.jac_serve_events.specs.Outside.{Span, span, Took}
 use Rattle.jac_serve_events.specs.Script.{script_of}
 use Rattle.jac_serve_events.specs.Serve.{PutsServed}
-use Rattle.jac_serve_events.specs.declared.serve.EventFault.{Lapse}
+use Rattle.jac_serve_events.specs.declared.serve.EventFault.{EventFault}
 use Rattle.jac_cli.specs.declared.words.Command.{Command}
 use Rattle.jac_cli.specs.declared.words.Command.TheVariants as commands
 use Rattle.jac_cli.specs.declared.words.Replay.{Replay}
 use Rattle.jac_cli.specs.Words.{command_of}
-use Rattle.jac_command_base.specs.declared.exit_reason.ExitReason.{Ending}
-use Rattle.jac_command_base.specs.declared.exit_reason.ExitReason.TheVariants as endings
+use Rattle.jac_command_base.specs.declared.exit_reason.ExitReason.{ExitReason}
+use Rattle.jac_command_base.specs.declared.exit_reason.ExitReason.TheVariants as exits
 use Rattle.jac_command_base.specs.declared.status.Status.{Status}
 use Rattle.jac_command_base.specs.declared.status.Status.TheVariants as statuses
 use Rattle.jac_command_base.specs.Attached.{IsAttached}
-use Rattle.jac_command_base.specs.ExitReason.{lapse_line, Closes, Finishes}
+use Rattle.jac_command_base.specs.ExitReason.{event_fault_line, Closes, Finishes}
 use Rattle.jac_command_base.specs.Files.{standing_at, IsOpened, HasBadLine}
-use Rattle.jac_dispatch.specs.Answered.{answering_of}
+use Rattle.jac_dispatch.specs.Answered.{answer_spec_of}
 use Rattle.jac_dispatch.specs.Log.{Serves}
 use Rattle.jac_app.specs.Replay.{EndsReplay}
 use Rattle.jac_app.specs.Run.{Ends, Runs}
 use Rattle.jac_run_laws.specs.Replayed.{TopRun, IsTopRun, HoldSessions}
 use Rattle.jac_run_laws.proofs.Replays.{serves, sessions_held, same_command}
 use Rattle.jac_run_laws.proofs.SameReplays.{same_bytes, one_sessions}
-use Rattle.jac_headline.specs.Headline.{Given, HoldGiven, IsToldToEnd, lapse_text, status_by}
+use Rattle.jac_headline.specs.Headline.{Given, HoldGiven, IsToldToEnd, event_fault_text, status_by}
 
 -- what it read, and how it answered that
 pub record HasAnswered {L : Type 0} (replay : Replay) (given : Given) (top : TopRun L) : Type 0 where
@@ -50,9 +50,9 @@ pub record HasAnswered {L : Type 0} (replay : Replay) (given : Given) (top : Top
       Serves replay.lazy false app given.sessions opened.state (script_of given.events).events log
       top.seen.keeper.after.state
   pub brought :
-      Brings (answering_of replay.lazy app given.sessions) no_connections 0
+      Brings (answer_spec_of replay.lazy app given.sessions) no_connections 0
       (script_of given.events).events log text later
-  pub out_took : Took top.seen.out (text ++ lapse_text (script_of given.events).refused)
+  pub out_took : Took top.seen.out (text ++ event_fault_text (script_of given.events).refused)
   pub audit_took : Took top.seen.audit (audit_lines log)
   pub ended : top.status ≡ status_by (script_of given.events).refused
 
@@ -136,20 +136,20 @@ module _ {L : Type 0} (replay : Replay) (given : Given) (top : TopRun L) (told :
       let third = same_bytes bytes given.events (top.seen.files.before.file replay.events) (opened.events_read.told told.files) held.events_file in
       λ i. record { app = first i; sessions = second i; events = third i }
 
-  answered_on : (app : Application) (sessions : List Session) (bytes : List ℕ) (refused : Option Lapse)
+  answered_on : (app : Application) (sessions : List Session) (bytes : List ℕ) (refused : Option EventFault)
       → IsOpened (standing_at top.seen standing) (commands.Replay replay) app sessions bytes
       → (opened : KeeperSeen) → IsAttached replay.db app top.seen.keeper opened
-      → PutsServed false (answering_of replay.lazy app sessions)
-      (span (holding_of opened top.splits.before) (holding_of top.seen.keeper.after top.splits.after)) (script_of bytes) served audit
-      → (script_of bytes).refused ≡ refused → last ≡ lapse_text refused → top.status ≡ status_by refused
+      → PutsServed false (answer_spec_of replay.lazy app sessions)
+      (span (run_seen_of opened top.splits.before) (run_seen_of top.seen.keeper.after top.splits.after)) (script_of bytes) served audit
+      → (script_of bytes).refused ≡ refused → last ≡ event_fault_text refused → top.status ≡ status_by refused
       → HasAnswered replay given top
   answered_on app sessions bytes refused files opened attached lines stops line status =
       let all : (script_of bytes).events ≡ lines.events =
       lines.parts ∙ ap (λ (l : List Event). lines.events ++ l) (lines.ended refl) ∙ append-nil lines.events in
-      let brings : Brings (answering_of replay.lazy app sessions) no_connections 0 (script_of bytes).events lines.log served lines.later =
-      subst (λ (l : List Event). Brings (answering_of replay.lazy app sessions) no_connections 0 l lines.log served lines.later)
+      let brings : Brings (answer_spec_of replay.lazy app sessions) no_connections 0 (script_of bytes).events lines.log served lines.later =
+      subst (λ (l : List Event). Brings (answer_spec_of replay.lazy app sessions) no_connections 0 l lines.log served lines.later)
       (sym all) lines.out_text in
-      let last_is : last ≡ lapse_text (script_of bytes).refused = line ∙ ap lapse_text (sym stops) in
+      let last_is : last ≡ event_fault_text (script_of bytes).refused = line ∙ ap event_fault_text (sym stops) in
       let answered : HasAnswered replay (record { app = files.application.bytes; sessions = sessions; events = bytes }) top =
       record {
         app = app;
@@ -161,7 +161,7 @@ module _ {L : Type 0} (replay : Replay) (given : Given) (top : TopRun L) (told :
         attached = attached;
         served =
             serves replay.lazy false app sessions
-            (span (holding_of opened top.splits.before) (holding_of top.seen.keeper.after top.splits.after))
+            (span (run_seen_of opened top.splits.before) (run_seen_of top.seen.keeper.after top.splits.after))
             (script_of bytes).events lines.log lines.served told.keeper;
         brought = brings;
         out_took = subst (λ (l : List ℕ). Took top.seen.out (served ++ l)) last_is out_took;
@@ -172,28 +172,28 @@ module _ {L : Type 0} (replay : Replay) (given : Given) (top : TopRun L) (told :
 
   -- all events were answered
   replay_done : EndsReplay (standing_at top.seen standing) top.splits (commands.Replay replay) (Ok tt) served audit
-      → last ≡ lapse_text None → top.status ≡ statuses.Done → HasAnswered replay given top
+      → last ≡ event_fault_text None → top.status ≡ statuses.Done → HasAnswered replay given top
   replay_done (inl early) line status = absurd early.0
   replay_done (inr serving) line status =
       let on = serving.ends.1 in
       answered_on serving.app serving.sessions serving.events None serving.opened on.opened on.attached on.ends.1 on.ends.0 line status
 
   -- those before a line that is refused were
-  replay_stopped : (lapse : Lapse) → EndsReplay (standing_at top.seen standing) top.splits (commands.Replay replay) (Err (endings.LineRefused lapse)) served audit
-      → last ≡ lapse_line lapse → top.status ≡ statuses.LineRefused → HasAnswered replay given top
-  replay_stopped lapse (inl early) line status = absurd early.0.0
-  replay_stopped lapse (inr serving) line status =
+  replay_stopped : (event_fault : EventFault) → EndsReplay (standing_at top.seen standing) top.splits (commands.Replay replay) (Err (exits.LineRefused event_fault)) served audit
+      → last ≡ event_fault_line event_fault → top.status ≡ statuses.LineRefused → HasAnswered replay given top
+  replay_stopped event_fault (inl early) line status = absurd early.0.0
+  replay_stopped event_fault (inr serving) line status =
       let on = serving.ends.1 in
-      answered_on serving.app serving.sessions serving.events (Some lapse) serving.opened on.opened on.attached on.ends.1 on.ends.0 line status
+      answered_on serving.app serving.sessions serving.events (Some event_fault) serving.opened on.opened on.attached on.ends.1 on.ends.0 line status
 
   -- its sessions have a form
-  replay_unlisted : (n : ℕ) → EndsReplay (standing_at top.seen standing) top.splits (commands.Replay replay) (Err (endings.SessionsRefused n)) served audit
+  replay_unlisted : (n : ℕ) → EndsReplay (standing_at top.seen standing) top.splits (commands.Replay replay) (Err (exits.SessionsRefused n)) served audit
       → HasAnswered replay given top
   replay_unlisted n (inl early) = absurd (no_bad_line top replay.sessions given.sessions n told.files held.sessions_held early.0.0.1)
   replay_unlisted n (inr serving) = absurd serving.ends.1.ends
 
 module _ {L : Type 0} (words : List (List ℕ)) (replay : Replay) (given : Given) (top : TopRun L) (is_replay : command_of words ≡ Some (commands.Replay replay)) (told : IsToldToEnd top) (held : HoldGiven top.seen.files.before.file replay given) (out audit : List ℕ) (out_took : Took top.seen.out out) (audit_took : Took top.seen.audit audit) where
-  answered_so : (command : Command) (ended : Result (Unit {0}) Ending) (standing : SinkSeen) (served last : List ℕ)
+  answered_so : (command : Command) (ended : Result (Unit {0}) ExitReason) (standing : SinkSeen) (served last : List ℕ)
       → command ≡ commands.Replay replay
       → Ends top.line (standing_at top.seen standing) top.door top.splits command ended served audit
       → Finishes (span standing top.seen.out.after) command ended last top.status
@@ -202,34 +202,34 @@ module _ {L : Type 0} (words : List (List ℕ)) (replay : Replay) (given : Given
       let here = subst (λ (c : Command). Ends top.line (standing_at top.seen standing) top.door top.splits c (Ok tt) served audit) same ends in
       replay_done replay given top told held standing served last audit (subst (λ (l : List ℕ). Took top.seen.out l) text out_took) audit_took
       here.0 finishes.0 finishes.1
-  answered_so command (Err (endings.LineRefused lapse)) standing served last same ends finishes text =
-      let here = subst (λ (c : Command). Ends top.line (standing_at top.seen standing) top.door top.splits c (Err (endings.LineRefused lapse)) served audit) same ends in
-      let with = closed_with (span standing top.seen.out.after) (lapse_line lapse) last statuses.LineRefused top.status finishes told.status in
+  answered_so command (Err (exits.LineRefused event_fault)) standing served last same ends finishes text =
+      let here = subst (λ (c : Command). Ends top.line (standing_at top.seen standing) top.door top.splits c (Err (exits.LineRefused event_fault)) served audit) same ends in
+      let with = closed_with (span standing top.seen.out.after) (event_fault_line event_fault) last statuses.LineRefused top.status finishes told.status in
       replay_stopped replay given top told held standing served last audit (subst (λ (l : List ℕ). Took top.seen.out l) text out_took) audit_took
-      lapse here.0 with.0 with.1
-  answered_so command (Err (endings.SessionsRefused n)) standing served last same ends finishes text =
-      let here = subst (λ (c : Command). Ends top.line (standing_at top.seen standing) top.door top.splits c (Err (endings.SessionsRefused n)) served audit) same ends in
+      event_fault here.0 with.0 with.1
+  answered_so command (Err (exits.SessionsRefused n)) standing served last same ends finishes text =
+      let here = subst (λ (c : Command). Ends top.line (standing_at top.seen standing) top.door top.splits c (Err (exits.SessionsRefused n)) served audit) same ends in
       replay_unlisted replay given top told held standing served last audit (subst (λ (l : List ℕ). Took top.seen.out l) text out_took) audit_took
       n here.0
-  answered_so command (Err (endings.ReadFault role)) standing served last same ends finishes text =
+  answered_so command (Err (exits.ReadFault role)) standing served last same ends finishes text =
       absurd (not_read (closes_telling (span standing top.seen.out.after) _ last statuses.ReadFault top.status finishes told.status))
-  answered_so command (Err (endings.TooLong role)) standing served last same ends finishes text =
+  answered_so command (Err (exits.TooLong role)) standing served last same ends finishes text =
       absurd (not_long (closes_telling (span standing top.seen.out.after) _ last statuses.TooLong top.status finishes told.status))
-  answered_so command (Err (endings.AppRefused line)) standing served last same ends finishes text =
+  answered_so command (Err (exits.AppRefused line)) standing served last same ends finishes text =
       absurd (not_app (closes_telling (span standing top.seen.out.after) _ last statuses.AppRefused top.status finishes told.status))
-  answered_so command (Err (endings.NewRefused line)) standing served last same ends finishes text =
+  answered_so command (Err (exits.NewRefused line)) standing served last same ends finishes text =
       absurd (not_app (closes_telling (span standing top.seen.out.after) _ last statuses.AppRefused top.status finishes told.status))
-  answered_so command (Err (endings.UpgradeRefused line)) standing served last same ends finishes text =
+  answered_so command (Err (exits.UpgradeRefused line)) standing served last same ends finishes text =
       absurd (not_upgrade (closes_telling (span standing top.seen.out.after) _ last statuses.UpgradeRefused top.status finishes told.status))
-  answered_so command (Err endings.WriteFault) standing served last same ends finishes text =
+  answered_so command (Err exits.WriteFault) standing served last same ends finishes text =
       absurd (not_write (closes_telling (span standing top.seen.out.after) _ last statuses.WriteFault top.status finishes told.status))
-  answered_so command (Err endings.StoreFault) standing served last same ends finishes text =
+  answered_so command (Err exits.StoreFault) standing served last same ends finishes text =
       absurd (not_store (closes_telling (span standing top.seen.out.after) _ last statuses.StoreFault top.status finishes told.status))
-  answered_so command (Err endings.DoorFault) standing served last same ends finishes text =
+  answered_so command (Err exits.DoorFault) standing served last same ends finishes text =
       absurd (not_door (closes_telling (span standing top.seen.out.after) _ last statuses.DoorFault top.status finishes told.status))
-  answered_so command (Err (endings.OtherStore stored wanted)) standing served last same ends finishes text =
+  answered_so command (Err (exits.OtherStore stored wanted)) standing served last same ends finishes text =
       absurd (not_other (closes_telling (span standing top.seen.out.after) _ last statuses.OtherStore top.status finishes told.status))
-  answered_so command (Err endings.Memory) standing served last same ends finishes text =
+  answered_so command (Err exits.Memory) standing served last same ends finishes text =
       absurd (not_memory (closes_telling (span standing top.seen.out.after) _ last statuses.Memory top.status finishes told.status))
 
   answered_ran : Runs top.line top.seen top.door top.splits words top.status out audit → HasAnswered replay given top

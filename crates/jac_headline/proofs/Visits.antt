@@ -9,14 +9,14 @@ use Rattle.jac_plain.specs.Requests.{Worlds}
 use Rattle.jac_plain.specs.Shown.{worlds_of}
 use Rattle.jac_route.specs.declared.sessions.Session.{Session}
 use Rattle.jac_serve_events.specs.AnswerSpec.{LogEntry}
-use Rattle.jac_serve_events.specs.RunSeen.{Holding, holding_of}
+use Rattle.jac_serve_events.specs.RunSeen.{RunSeen, run_seen_of}
 use Rattle.jac_serve_events.specs.Log.{audit_lines}
 use Rattle.jac_serve_events.specs.Outside.{span}
 use Rattle.jac_connections.specs.Door.{LinkVisit, AreVisited}
 use Rattle.jac_cli.specs.declared.words.Command.TheVariants as commands
-use Rattle.jac_cli.specs.declared.words.ServeArgs.{Serving}
+use Rattle.jac_cli.specs.declared.words.ServeArgs.{ServeArgs}
 use Rattle.jac_cli.specs.Words.{command_of}
-use Rattle.jac_dispatch.specs.Answered.{answering_of, AreEntries}
+use Rattle.jac_dispatch.specs.Answered.{answer_spec_of, AreEntries}
 use Rattle.jac_dispatch.specs.Log.{AreAnswered, after_entry, after_log}
 use Rattle.jac_run_laws.specs.Doors.{HasServed, IsDoorServed}
 use Rattle.jac_run_laws.specs.Replayed.{TopRun, IsTopRun, IsToldToEnd}
@@ -36,20 +36,20 @@ after_append w app [] others t = refl
 after_append w app (entry ∷ log) others t = after_append w app log others (after_entry w app entry t)
 
 -- what was answered from one state to another, where the other is told
-pub record AreAnsweredOn (lazy : Bool) (app : Application) (before after : Holding) (log : List LogEntry) : Type 0 where
+pub record AreAnsweredOn (lazy : Bool) (app : Application) (before after : RunSeen) (log : List LogEntry) : Type 0 where
   pub told : IsTrue before.keeper.tells
   pub answered : AreAnswered lazy app (worlds_of before.keeper.state) log
   pub worlds : (w : ℕ → Bool) → project_at w after.keeper.state ≡ after_log w app log (project_at w before.keeper.state)
 
-entries_on : (lazy : Bool) (app : Application) (before after : Holding) (log : List LogEntry) → AreEntries lazy app (span before after) log
+entries_on : (lazy : Bool) (app : Application) (before after : RunSeen) (log : List LogEntry) → AreEntries lazy app (span before after) log
     → IsTrue after.keeper.tells → AreAnsweredOn lazy app before after log
 entries_on lazy app before after log entries told =
     record { told = entries.told told; answered = entries.answered told; worlds = entries.worlds told }
 
-none_on : (lazy : Bool) (app : Application) (before : Holding) → IsTrue before.keeper.tells → AreAnsweredOn lazy app before before []
+none_on : (lazy : Bool) (app : Application) (before : RunSeen) → IsTrue before.keeper.tells → AreAnsweredOn lazy app before before []
 none_on lazy app before told = record { told = told; answered = tt; worlds = λ w. refl }
 
-joined_on : (lazy : Bool) (app : Application) (before between after : Holding) (log others : List LogEntry) → AreAnsweredOn lazy app before between log
+joined_on : (lazy : Bool) (app : Application) (before between after : RunSeen) (log others : List LogEntry) → AreAnsweredOn lazy app before between log
     → AreAnsweredOn lazy app between after others → AreAnsweredOn lazy app before after (log ++ others)
 joined_on lazy app before between after log others one two =
     let same : ◌≡◌ {A = Worlds} (worlds_of between.keeper.state) (λ w. after_log w app log (project_at w before.keeper.state)) = λ i w. one.worlds w i in
@@ -63,12 +63,12 @@ joined_on lazy app before between after log others one two =
           ∙ after_append w app log others (project_at w before.keeper.state);
     }
 
-visits_on : {L : Type 0} (line : L → LinkSeen) (lazy : Bool) (app : Application) (sessions : List Session) (c first : ℕ) (before after : Holding)
-    (visits : List (LinkVisit L)) (log : List LogEntry) (audit : List ℕ) → AreVisited line (answering_of lazy app sessions) c first before visits log audit after
+visits_on : {L : Type 0} (line : L → LinkSeen) (lazy : Bool) (app : Application) (sessions : List Session) (c first : ℕ) (before after : RunSeen)
+    (visits : List (LinkVisit L)) (log : List LogEntry) (audit : List ℕ) → AreVisited line (answer_spec_of lazy app sessions) c first before visits log audit after
     → IsTrue after.keeper.tells → AreAnsweredOn lazy app before after log
 visits_on line lazy app sessions c first before after [] log audit (none, silent, same) told =
-    let still = subst (λ (k : Holding). IsTrue k.keeper.tells) same told in
-    let here = subst (λ (k : Holding). AreAnsweredOn lazy app before k []) (sym same) (none_on lazy app before still) in
+    let still = subst (λ (k : RunSeen). IsTrue k.keeper.tells) same told in
+    let here = subst (λ (k : RunSeen). AreAnsweredOn lazy app before k []) (sym same) (none_on lazy app before still) in
     subst (λ (l : List LogEntry). AreAnsweredOn lazy app before after l) (sym none) here
 visits_on line lazy app sessions c first before after (visit ∷ visits) log audit (between, mine, lines, others, more, visited, parts, text, rest) told =
     let later = visits_on line lazy app sessions (c + 1) (first + length mine) between after visits others more rest told in
@@ -76,16 +76,16 @@ visits_on line lazy app sessions c first before after (visit ∷ visits) log aud
     (entries_on lazy app before between visited.served.log visited.served.served.entries later.told) in
     subst (λ (l : List LogEntry). AreAnsweredOn lazy app before after l) (sym parts) (joined_on lazy app before between after mine others here later)
 
-door_told : {L : Type 0} (serving : Serving) (top : TopRun L) (app : Application) (sessions : List Session) (start : State) (visits : List (LinkVisit L))
+door_told : {L : Type 0} (serving : ServeArgs) (top : TopRun L) (app : Application) (sessions : List Session) (start : State) (visits : List (LinkVisit L))
     (log : List LogEntry) (audit lines : List ℕ) → audit ≡ lines → IsDoorServed serving top app sessions start visits log audit
     → IsDoorServed serving top app sessions start visits log lines
 door_told serving top app sessions start visits log audit lines same served =
     subst (λ (l : List ℕ). IsDoorServed serving top app sessions start visits log l) same served
 
-faithfully : {L : Type 0} (serving : Serving) (top : TopRun L) → HasServed serving top → IsToldToEnd top → HasServedFaithfully serving top
+faithfully : {L : Type 0} (serving : ServeArgs) (top : TopRun L) → HasServed serving top → IsToldToEnd top → HasServedFaithfully serving top
 faithfully serving top run ended =
     let s = run.door_served in
-    let on = visits_on top.line serving.lazy run.app run.sessions 1 0 (holding_of s.opened top.splits.before) (holding_of top.seen.keeper.after top.splits.after)
+    let on = visits_on top.line serving.lazy run.app run.sessions 1 0 (run_seen_of s.opened top.splits.before) (run_seen_of top.seen.keeper.after top.splits.after)
     run.visits run.log run.audit s.visited ended.keeper in
     let told = door_told serving top run.app run.sessions run.start run.visits run.log run.audit (audit_lines run.log) s.audit_is s in
     record {
@@ -100,6 +100,6 @@ faithfully serving top run ended =
       told = subst (λ (x : State). IsDoorServed serving top run.app run.sessions x run.visits run.log (audit_lines run.log)) s.starts told;
     }
 
-pub served_faithfully : {L : Type 0} (words : List (List ℕ)) (serving : Serving) (top : TopRun L) → IsTopRun words top
+pub served_faithfully : {L : Type 0} (words : List (List ℕ)) (serving : ServeArgs) (top : TopRun L) → IsTopRun words top
     → command_of words ≡ Some (commands.Serve serving) → IsToldToEnd top → HasServedFaithfully serving top
 served_faithfully words serving top ran is_serve ended = faithfully serving top (has_served words serving top ran is_serve ended) ended

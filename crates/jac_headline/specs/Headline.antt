@@ -21,19 +21,19 @@ use Rattle.jac_route.specs.declared.sessions.Session.{Session}
 use Rattle.jac_replies.specs.declared.answer.Answer.{Answer}
 use Rattle.jac_replies.specs.declared.answer.Ask.{Ask}
 use Rattle.jac_engine.specs.Answers.{visit_of, asked_with, HasNoNumber}
-use Rattle.jac_serve_events.specs.declared.serve.EventFault.{Lapse}
+use Rattle.jac_serve_events.specs.declared.serve.EventFault.{EventFault}
 use Rattle.jac_serve_events.specs.AnswerSpec.{LogSubject, LogEntry}
 use Rattle.jac_serve_events.specs.Log.{replies_text, closing_text, audit_lines}
 use Rattle.jac_serve_events.specs.Outside.{Span, Took}
 use Rattle.jac_serve_events.specs.Script.{Script, script_of}
 use Rattle.jac_cli.specs.declared.words.Replay.{Replay}
 use Rattle.jac_command_base.specs.Attached.{IsAttached}
-use Rattle.jac_command_base.specs.ExitReason.{lapse_line}
+use Rattle.jac_command_base.specs.ExitReason.{event_fault_line}
 use Rattle.jac_command_base.specs.declared.status.Status.{Status}
 use Rattle.jac_command_base.specs.declared.status.Status.TheVariants as statuses
 use Rattle.jac_dispatch.specs.Log.{application_hearing, after_log}
 use Rattle.jac_connections.specs.Door.{LinkVisit}
-use Rattle.jac_cli.specs.declared.words.ServeArgs.{Serving}
+use Rattle.jac_cli.specs.declared.words.ServeArgs.{ServeArgs}
 use Rattle.jac_run_laws.specs.Doors.{HoldServing, IsDoorServed}
 use Rattle.jac_run_laws.specs.Replayed.{TopRun, HoldSessions}
 
@@ -140,20 +140,20 @@ Tells h known n (event ∷ events) log text =
     × Tells h (after_both h event mine known) (n + 1) events others rest
 
 -- the line that tells of a refused line of the events
-abbrev pub lapse_text : Option Lapse → List ℕ
-lapse_text None = []
-lapse_text (Some lapse) = lapse_line lapse
+abbrev pub event_fault_text : Option EventFault → List ℕ
+event_fault_text None = []
+event_fault_text (Some event_fault) = event_fault_line event_fault
 
 -- out took the text of the log that the events of the script bring, and why they end
 pub record PutsLog (h : Hearing Ask Answer) (script : Script) (log : List LogEntry)
     (out : Span SinkSeen) : Type 0 where
   pub text : List ℕ
   pub told : Tells h no_connections 0 script.events log text
-  pub took : Took out (text ++ lapse_text script.refused)
+  pub took : Took out (text ++ event_fault_text script.refused)
 
-abbrev pub status_by : Option Lapse → Status
+abbrev pub status_by : Option EventFault → Status
 status_by None = statuses.Done
-status_by (Some lapse) = statuses.LineRefused
+status_by (Some event_fault) = statuses.LineRefused
 
 -- ---- the promise
 
@@ -178,7 +178,7 @@ pub record HasReplayedFaithfully {L : Type 0} (replay : Replay) (given : Given) 
 
 -- a serve was faithful: as a replay, and link by link, of those that the door gave and was handed
 -- back, the log has what each brought, and its replies went there
-pub record HasServedFaithfully {L : Type 0} (serving : Serving) (top : TopRun L) : Type 0 where
+pub record HasServedFaithfully {L : Type 0} (serving : ServeArgs) (top : TopRun L) : Type 0 where
   pub app : Application
   pub sessions : List Session
   pub opened : KeeperSeen

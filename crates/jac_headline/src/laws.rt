@@ -7,7 +7,7 @@ ghost use Rattle.jac_cli.specs.Words.{command_of};
 ghost use Rattle.jac_cli.specs.declared.words.Command.TheVariants as commands;
 ghost use Rattle.jac_cli.specs.declared.words.Replay.{Replay};
 ghost use Rattle.jac_write.specs.Writes.{PlainTables, Writes, numbered_tables};
-ghost use Rattle.jac_cli.specs.declared.words.ServeArgs.{Serving};
+ghost use Rattle.jac_cli.specs.declared.words.ServeArgs.{ServeArgs};
 ghost use Rattle.jac_run_laws.specs.Replayed.{TopRun, IsTopRun, IsToldToEnd as HasEnded};
 ghost use Rattle.jac_headline.specs.Headline.{Given, HoldGiven, IsToldToEnd, IsFaithful, HasReplayedFaithfully, HasServedFaithfully};
 ghost use Rattle.jac_headline.specs.Companions.{ShowsNothingForbidden, HideAlike, LeavesOthers};
@@ -30,7 +30,7 @@ pub fn headline<L>()
 /// The same of a serve that ended with status 0: one log that is faithful has the replies of all
 /// connections, in the order in which these were served.
 pub fn headline_of_serves<L>()
-    ensures { (words : List (List ℕ)) (serving : Serving) (top : TopRun L) →
+    ensures { (words : List (List ℕ)) (serving : ServeArgs) (top : TopRun L) →
         IsTopRun words top → command_of words ≡ Some (commands.Serve serving) → HasEnded top →
         HasServedFaithfully serving top }
 {}
