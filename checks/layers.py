@@ -1,0 +1,62 @@
+#!/usr/bin/env python3
+"""Makes the table of docs/LAYERS.md from crates.txt: each storey with its crates, their promises, which crates of the
+repository they use, and their lines of code. Where the page is out of date it says so, and its status is 1. It also
+fails where a crate has no promise, or uses one that doesn't come before it. With the word --write it writes the table
+anew."""
+import sys
+
+sys.dont_write_bytecode = True
+from pages import differences, read                                         # noqa: E402
+from testing import of_crate                                                # noqa: E402
+
+PAGE = 'docs/LAYERS.md'
+
+
+def storeys(text):
+    """The storeys as (heading, crates), each crate as (name, promise, the names that it uses), and what is wrong."""
+    found, wrong, comment, order = [], [], None, []
+    for line in text.split('\n'):
+        if line.startswith('# ') and line[2:3].isdigit():
+            found.append((line[2:], []))
+        elif line.startswith('# '):
+            comment = line[2:]
+        elif line and found:
+            name, _, uses = line.partition(':')
+            name = name.split()[0]
+            if comment is None:
+                wrong.append('crates.txt: %s has no promise' % name)
+            found[-1][1].append((name, comment or '', uses.split()))
+            order.append(name)
+            comment = None
+    own = set(order)
+    for number, name in enumerate(order):
+        uses = next(uses for _, crates in found for other, _, uses in crates if other == name)
+        wrong += ['crates.txt: %s uses %s, which comes after it' % (name, used) for used in uses
+                  if used in own and used not in order[:number]]
+    return found, wrong, own
+
+
+def table(found, own):
+    lines = []
+    for heading, crates in found:
+        lines += ['### ' + heading, '', '| Crate | Promise | Uses | Lines |', '|---|---|---|---|']
+        for name, promise, uses in crates:
+            inner = ' '.join(used[len('jac_'):] for used in uses if used in own)
+            outer = ' '.join('`%s`' % used for used in uses if used not in own and not used.startswith('sqlite_'))
+            cell = ', '.join(filter(None, (inner, outer))) or 'none'
+            lines.append('| `%s` | %s | %s | %d |' % (name, promise, cell, of_crate(name)[0]))
+        lines.append('')
+    return '\n'.join(lines).rstrip('\n')
+
+
+def main():
+    found, wrong, own = storeys(read('crates.txt'))
+    wrong += differences(PAGE, {'crates': table(found, own)}, 'checks/layers.py', '--write' in sys.argv[1:])
+    for line in wrong:
+        print('FAILED ' + line)
+    print('%d crates in %d storeys' % (len(own), len(found)))
+    sys.exit(1 if wrong else 0)
+
+
+if __name__ == '__main__':
+    main()
