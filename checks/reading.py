@@ -16,6 +16,20 @@ from pages import TOP, differences, read                                    # no
 START = ('jac_app', 'program', 'run')
 PAGE = 'docs/READING.md'
 NOTIONS = 'docs/DEFINITIONS.md'
+# The law that states the promise, with the definitions that READING quotes, and the pages that quote its words.
+LAWS = 'jac_headline', 'laws'
+HEADLINE = 'headline'
+QUOTED = 'HasReplayedFaithfully', 'IsFaithful', 'IsRightPage'
+QUOTERS = 'README.md', 'docs/GUARANTEES.md'
+# Of each law how many definitions it may reach, and the names at which that count stops: each is a notion with a text of
+# its own in docs/READING.md, and its insides aren't counted.
+LIMITS = {
+    'headline': (230, ('IsTopRun', 'command_of', 'HoldSessions', 'IsApplication', 'IsAttached', 'script_of',
+                       'application_hearing', 'found', 'parameters', 'PutsReplay', 'audit_lines')),
+    'nothing_forbidden_is_shown': (100, ('IsFaithful', 'world_behind')),
+    'hidden_changes_no_byte': (60, ('IsTopRun', 'command_of', 'HoldGiven', 'HasReplayedFaithfully', 'entry_on')),
+    'update_leaves_others': (30, ()),
+}
 
 WORD = re.compile(r"(\.?)([^\W\d][\w'-]*)")
 HEAD = re.compile(r"(?:(?:abbrev|unfoldable|opaque|pub)\s+)*(?:(record|data)\s+)?([^\W\d][\w'-]*)(\s.*)?$", re.S)
@@ -186,12 +200,16 @@ class Repository:
                 own.append(found)
         return own, library
 
-    def walk(self):
-        """The top call, and for each item that it reaches those that this cites; and the library's words."""
-        start = self.code[START[:2]].call(START[2])
+    def walk(self, call=START, stops=()):
+        """A call, and for each item that it reaches those that this cites, but for the items at which the walk stops; and
+        the library's words."""
+        start = self.code[call[:2]].call(call[2])
         seen, library = {}, set()
 
         def visit(item):
+            if item.name in stops:
+                seen[item] = []
+                return
             seen[item], words = self.cited(item)
             library.update(words)
             for other in reversed(seen[item]):
@@ -289,13 +307,46 @@ def unreached_notions(repository, seen):
     return '\n'.join(['| Notion | Reached |', '|---|---|'] + lines)
 
 
+def law_words(name):
+    """The doc comment of a law, as a page has it."""
+    text = read('crates/%s/src/%s.rt' % LAWS)
+    lines = re.search(r'((?:^///.*\n)+)pub fn %s\b' % name, text, re.M).group(1).rstrip('\n').split('\n')
+    return '\n'.join(line[4:] for line in lines)
+
+
+def law_code(repository, name):
+    """A law and the definitions that are quoted with it."""
+    _, seen, _ = repository.walk(LAWS + (name,))
+    law = re.search(r'(?ms)^pub fn %s\b.*?^\{\}' % name, read('crates/%s/src/%s.rt' % LAWS)).group()
+    items = {item.name: item for item in seen if item.place.crate == LAWS[0]}
+    return '\n'.join(['```', law, ''] + [items[word].text.rstrip('\n') + '\n' for word in QUOTED]).rstrip('\n') + '\n```'
+
+
+def law_counts(repository):
+    """Of each law how many definitions it reaches, as a table, and those that reach more than they may."""
+    lines, wrong = ['| Law | Definitions | Counted as one, without what it reaches |', '|---|---|---|'], []
+    for name, (limit, stops) in LIMITS.items():
+        _, seen, _ = repository.walk(LAWS + (name,), stops)
+        count = sum(1 for item in seen if isinstance(item.place, Specs))
+        lines.append('| `%s` | %d | %s |' % (name, count, names(stops)))
+        wrong += ['%s reaches %d definitions, and %d may be' % (name, count, limit)] if count > limit else []
+        wrong += ['%s: the walk meets no %s' % (name, stop) for stop in stops if stop not in {item.name for item in seen}]
+    return '\n'.join(lines), wrong
+
+
 def main():
     repository = Repository()
     start, seen, library = repository.walk()
     parts = tables(start, seen)
     parts['counts'] = sentence(repository, seen, library)
     parts['notions'] = unreached_notions(repository, seen)
-    wrong = lost_notions(repository) + differences(PAGE, parts, 'checks/reading.py', '--write' in sys.argv[1:])
+    parts['headline'] = law_words(HEADLINE)
+    parts['statement'] = law_code(repository, HEADLINE)
+    parts['laws'], wrong = law_counts(repository)
+    write = '--write' in sys.argv[1:]
+    for page in QUOTERS:
+        wrong += differences(page, {'headline': parts['headline']}, 'checks/reading.py', write)
+    wrong += lost_notions(repository) + differences(PAGE, parts, 'checks/reading.py', write)
     for line in wrong:
         print('FAILED ' + line)
     print(parts['counts'])

@@ -20,13 +20,13 @@ use Rattle.jac_cli.specs.declared.words.Replay.{Replay}
 use Rattle.jac_cli.specs.Words.{command_of}
 use Rattle.jac_dispatch.specs.Answered.{answer_spec_of}
 use Rattle.jac_run_laws.specs.Replayed.{TopRun, IsTopRun}
-use Rattle.jac_headline.specs.Headline.{Given, HoldGiven, IsToldToEnd, HasReplayedFaithfully, IsFaithful, Has, Tells, visit_by, visit_in, world_behind}
+use Rattle.jac_headline.specs.Headline.{Given, HoldGiven, IsReplayTold, HasReplayedFaithfully, IsFaithful, HasEntry, TellsLog, visit_by, visit_in, world_behind}
 use Rattle.jac_headline.proofs.Told.{HasAnswered, has_answered}
 use Rattle.jac_headline.proofs.RightAnswers.{faithful_log}
 
 -- what the events bring doesn't depend on how they are answered
 pub tells : (x : AnswerSpec) (known : Connections Ask) (n : ℕ) (events : List Event) (log : List LogEntry) (text : List ℕ) (later : Connections Ask)
-    → Brings x known n events log text later → Tells (hearing x) known n events log text
+    → Brings x known n events log text later → TellsLog (hearing x) known n events log text
 tells x known n [] log text later (none, is, stays) = (none, is)
 tells x known n (event ∷ events) log text later (mine, others, rest, parts, is, brought, more) =
     (mine, others, rest, parts, is, brought, tells x (after_both (hearing x) event mine known) (n + 1) events others rest later more)
@@ -51,7 +51,7 @@ faithful replay given top run = record {
 }
 
 pub headline : {L : Type 0} (words : List (List ℕ)) (replay : Replay) (given : Given) (top : TopRun L) → IsTopRun words top
-    → command_of words ≡ Some (commands.Replay replay) → HoldGiven top.seen.files.before.file replay given → IsToldToEnd top → HasReplayedFaithfully replay given top
+    → command_of words ≡ Some (commands.Replay replay) → HoldGiven top.seen.files.before.file replay given → IsReplayTold top → HasReplayedFaithfully replay given top
 headline words replay given top ran is_replay held told = faithful replay given top (has_answered words replay given top ran is_replay held told)
 
 -- ---- nothing that a policy forbids is shown
@@ -67,7 +67,7 @@ asked_viewer app (refused status) visit is = cc
 asked_viewer app broken visit is = cc
 
 pub nothing_forbidden : (lazy : Bool) (app : Application) (start finish : State) (log : List LogEntry) → IsFaithful lazy app start finish log
-    → (before : List LogEntry) (entry : LogEntry) (labels : List ℕ) (k : ℕ) → Has log before entry → entry.answer.shown ≡ Some labels → shown_by labels k ≡ true
+    → (before : List LogEntry) (entry : LogEntry) (labels : List ℕ) (k : ℕ) → HasEntry log before entry → entry.answer.shown ≡ Some labels → shown_by labels k ≡ true
     → is_allowed app (world_behind app start (before ++ entry ∷ []) (shown_by labels)) (viewer_of_subject entry.subject) k ≡ true
 nothing_forbidden lazy app start finish log run before entry labels k has on is =
     let right = run.pages before entry labels has on in

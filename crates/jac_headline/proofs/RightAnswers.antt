@@ -20,7 +20,7 @@ use Rattle.jac_hub.specs.Hearing.{whole, refused, broken}
 use Rattle.jac_serve_events.specs.AnswerSpec.{LogSubject, LogEntry}
 use Rattle.jac_dispatch.specs.Log.{HasFailed, IsAnswer, AreAnswered, left_of, after_entry, after_log}
 use Rattle.jac_plain.specs.Shown.{worlds_of}
-use Rattle.jac_headline.specs.Headline.{world_behind, visit_by, visit_in, page_seen, IsRightPage, IsRefusedBy, IsRefusal, Has, IsFaithful}
+use Rattle.jac_headline.specs.Headline.{world_behind, visit_by, visit_in, page_seen, IsRightPage, IsRefusedAsFound, IsRefusal, HasEntry, IsFaithful}
 
 some_none : (labels : List ℕ) → Some labels ≡ None → ⊥
 some_none labels e = cc
@@ -127,7 +127,7 @@ page_found lazy (founds.View n pairs) app before ask answer labels is on =
     )
 
 refusal_found : (lazy : Bool) (f : Found) (app : Application) (before : Worlds) (ask : Ask) (answer : Answer) → IsAnswerBy lazy f app before ask answer
-    → answer.shown ≡ None → IsRefusedBy f before answer.status
+    → answer.shown ≡ None → IsRefusedAsFound f before answer.status
 refusal_found lazy founds.NoRoute app before ask answer is none = ap (λ (a : Answer). a.status) is
 refusal_found lazy (founds.WrongMethod allow) app before ask answer is none = ap (λ (a : Answer). a.status) is
 refusal_found lazy (founds.View n pairs) app before ask answer is none =
@@ -188,7 +188,7 @@ after_last w app [] entry t = refl
 after_last w app (e ∷ before) entry t = after_last w app before entry (after_entry w app e t)
 
 entry_in : (lazy : Bool) (app : Application) (start : State) (log before : List LogEntry) (entry : LogEntry) → AreAnswered lazy app (worlds_of start) log
-    → (has : Has log before entry) → IsAnswer lazy app (world_behind app start before) entry.subject entry.answer
+    → (has : HasEntry log before entry) → IsAnswer lazy app (world_behind app start before) entry.subject entry.answer
 entry_in lazy app start log before entry answered has =
     answered_behind lazy app (worlds_of start) before entry has.later (subst (λ (l : List LogEntry). AreAnswered lazy app (worlds_of start) l) has.parts answered)
 

@@ -11,7 +11,7 @@ use Rattle.jac_cli.specs.Words.{command_of}
 use Rattle.jac_noninterference.specs.TwoRuns.{OneRun, IsRunServed, NoneFailed, IsSameWhereShown, AreSameWhereShown}
 use Rattle.jac_noninterference.proofs.SideBySide.{pages_agree}
 use Rattle.jac_run_laws.specs.Replayed.{TopRun, IsTopRun}
-use Rattle.jac_headline.specs.Headline.{Given, HoldGiven, IsToldToEnd}
+use Rattle.jac_headline.specs.Headline.{Given, HoldGiven, IsReplayTold}
 use Rattle.jac_headline.specs.Companions.{HideAlike}
 use Rattle.jac_headline.proofs.Told.{HasAnswered, has_answered}
 use Rattle.jac_headline.proofs.Faithful.{faithful}
@@ -51,6 +51,6 @@ hide_alike replay again given one two run run' =
 pub hidden_changes_nothing : {L M : Type 0} (words others : List (List ℕ)) (replay again : Replay) (given : Given) (one : TopRun L) (two : TopRun M)
     → IsTopRun words one → IsTopRun others two → command_of words ≡ Some (commands.Replay replay) → command_of others ≡ Some (commands.Replay again)
     → HoldGiven one.seen.files.before.file replay given → HoldGiven two.seen.files.before.file again given
-    → IsToldToEnd one → IsToldToEnd two → HideAlike replay again given one two
+    → IsReplayTold one → IsReplayTold two → HideAlike replay again given one two
 hidden_changes_nothing words others replay again given one two ran ran' is is' held held' told told' =
     hide_alike replay again given one two (has_answered words replay given one ran is held told) (has_answered others again given two ran' is' held' told')

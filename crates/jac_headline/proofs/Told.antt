@@ -35,7 +35,7 @@ use Rattle.jac_app.specs.Run.{Ends, Runs}
 use Rattle.jac_run_laws.specs.Replayed.{TopRun, IsTopRun, HoldSessions}
 use Rattle.jac_run_laws.proofs.Replays.{serves, sessions_held, same_command}
 use Rattle.jac_run_laws.proofs.SameReplays.{same_bytes, one_sessions}
-use Rattle.jac_headline.specs.Headline.{Given, HoldGiven, IsToldToEnd, event_fault_text, status_by}
+use Rattle.jac_headline.specs.Headline.{Given, HoldGiven, IsReplayTold, event_fault_text, status_by}
 
 -- what it read, and how it answered that
 pub record HasAnswered {L : Type 0} (replay : Replay) (given : Given) (top : TopRun L) : Type 0 where
@@ -124,7 +124,7 @@ no_bad_line top (Some name) sessions line told (bytes, file, listed) (other, rea
 
 -- ---- the events were answered
 
-module _ {L : Type 0} (replay : Replay) (given : Given) (top : TopRun L) (told : IsToldToEnd top) (held : HoldGiven top.seen.files.before.file replay given) (standing : SinkSeen) (served last audit : List ℕ) (out_took : Took top.seen.out (served ++ last)) (audit_took : Took top.seen.audit audit) where
+module _ {L : Type 0} (replay : Replay) (given : Given) (top : TopRun L) (told : IsReplayTold top) (held : HoldGiven top.seen.files.before.file replay given) (standing : SinkSeen) (served last audit : List ℕ) (out_took : Took top.seen.out (served ++ last)) (audit_took : Took top.seen.audit audit) where
   -- the files hold what was read
   read_is : (app : Application) (sessions : List Session) (bytes : List ℕ)
       → (opened : IsOpened (standing_at top.seen standing) (commands.Replay replay) app sessions bytes)
@@ -192,7 +192,7 @@ module _ {L : Type 0} (replay : Replay) (given : Given) (top : TopRun L) (told :
   replay_unlisted n (inl early) = absurd (no_bad_line top replay.sessions given.sessions n told.files held.sessions_held early.0.0.1)
   replay_unlisted n (inr serving) = absurd serving.ends.1.ends
 
-module _ {L : Type 0} (words : List (List ℕ)) (replay : Replay) (given : Given) (top : TopRun L) (is_replay : command_of words ≡ Some (commands.Replay replay)) (told : IsToldToEnd top) (held : HoldGiven top.seen.files.before.file replay given) (out audit : List ℕ) (out_took : Took top.seen.out out) (audit_took : Took top.seen.audit audit) where
+module _ {L : Type 0} (words : List (List ℕ)) (replay : Replay) (given : Given) (top : TopRun L) (is_replay : command_of words ≡ Some (commands.Replay replay)) (told : IsReplayTold top) (held : HoldGiven top.seen.files.before.file replay given) (out audit : List ℕ) (out_took : Took top.seen.out out) (audit_took : Took top.seen.audit audit) where
   answered_so : (command : Command) (ended : Result (Unit {0}) ExitReason) (standing : SinkSeen) (served last : List ℕ)
       → command ≡ commands.Replay replay
       → Ends top.line (standing_at top.seen standing) top.door top.splits command ended served audit
@@ -239,6 +239,6 @@ module _ {L : Type 0} (words : List (List ℕ)) (replay : Replay) (given : Given
   answered_ran (inr (inr r)) = absurd (not_memory (closes_telling top.seen.out _ out statuses.Memory top.status r.closes told.status))
 
 pub has_answered : {L : Type 0} (words : List (List ℕ)) (replay : Replay) (given : Given) (top : TopRun L) → IsTopRun words top
-    → command_of words ≡ Some (commands.Replay replay) → HoldGiven top.seen.files.before.file replay given → IsToldToEnd top → HasAnswered replay given top
+    → command_of words ≡ Some (commands.Replay replay) → HoldGiven top.seen.files.before.file replay given → IsReplayTold top → HasAnswered replay given top
 has_answered words replay given top ran is_replay held told =
     answered_ran words replay given top is_replay told held ran.ran.out ran.ran.audit ran.ran.out_took ran.ran.audit_took ran.ran.holds

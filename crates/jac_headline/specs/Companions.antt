@@ -11,14 +11,14 @@ use Rattle.jac_serve_events.specs.Log.{viewer_of_subject}
 use Rattle.jac_cli.specs.declared.words.Replay.{Replay}
 use Rattle.jac_noninterference.specs.TwoRuns.{LookSame, NoneFailed, IsSameReply}
 use Rattle.jac_run_laws.specs.Replayed.{TopRun}
-use Rattle.jac_headline.specs.Headline.{Given, HasReplayedFaithfully, Has, world_behind}
+use Rattle.jac_headline.specs.Headline.{Given, HasReplayedFaithfully, HasEntry, world_behind}
 
 -- each label of each page is allowed to who asks, in the world after the request that the page's
 -- labels show: its record stands there, and the policy of its group is true
 abbrev pub ShowsNothingForbidden : Application → State → List LogEntry → Type 0
 ShowsNothingForbidden app start log =
     (before : List LogEntry) (entry : LogEntry) (labels : List ℕ) (k : ℕ)
-    → Has log before entry → entry.answer.shown ≡ Some labels → shown_by labels k ≡ true
+    → HasEntry log before entry → entry.answer.shown ≡ Some labels → shown_by labels k ≡ true
     → is_allowed app (world_behind app start (before ++ entry ∷ []) (shown_by labels))
     (viewer_of_subject entry.subject) k ≡ true
 
@@ -30,7 +30,7 @@ pub record HideAlike {L M : Type 0} (replay again : Replay) (given : Given) (one
   pub first : HasReplayedFaithfully replay given one
   pub second : HasReplayedFaithfully again given two
   pub same : (before before' : List LogEntry) (entry other : LogEntry) (labels : List ℕ)
-      → Has first.log before entry → Has second.log before' other
+      → HasEntry first.log before entry → HasEntry second.log before' other
       → length before ≡ length before'
       → NoneFailed (before ++ entry ∷ []) → NoneFailed (before' ++ other ∷ [])
       → entry.answer.shown ≡ Some labels → other.answer.shown ≡ Some labels

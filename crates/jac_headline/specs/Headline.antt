@@ -54,7 +54,7 @@ pub record HoldGiven (file : List ℕ → Option (List ℕ)) (replay : Replay) (
 
 -- it ended with status 0, or with 3 where a line is refused, and its files and its store tell to
 -- the end
-pub record IsToldToEnd {L : Type 0} (top : TopRun L) : Type 0 where
+pub record IsReplayTold {L : Type 0} (top : TopRun L) : Type 0 where
   pub status : (top.status ≡ statuses.Done) ⊎ (top.status ≡ statuses.LineRefused)
   pub files : IsTrue top.seen.files.after.tells
   pub keeper : IsTrue top.seen.keeper.after.tells
@@ -93,21 +93,21 @@ pub record IsRightPage (lazy : Bool) (app : Application) (before behind : Worlds
   pub settled : lazy ≡ false → IsSettled app behind visit.viewer labels
 
 -- no view has the path; its views have other methods; or numbers are used up
-abbrev pub IsRefusedBy : Found → Worlds → ℕ → Type 0
-IsRefusedBy founds.NoRoute worlds status = status ≡ 404
-IsRefusedBy (founds.WrongMethod allow) worlds status = status ≡ 405
-IsRefusedBy (founds.View n pairs) worlds status = (status ≡ 507) × HasNoNumber worlds
+abbrev pub IsRefusedAsFound : Found → Worlds → ℕ → Type 0
+IsRefusedAsFound founds.NoRoute worlds status = status ≡ 404
+IsRefusedAsFound (founds.WrongMethod allow) worlds status = status ≡ 405
+IsRefusedAsFound (founds.View n pairs) worlds status = (status ≡ 507) × HasNoNumber worlds
 
 -- a status without a page has its cause: by what the request finds, or that it can't be read; or
 -- memory ran out, or the keeper failed
 abbrev pub IsRefusal : Application → Worlds → LogSubject → ℕ → Type 0
 IsRefusal app worlds (whole ask closes) status =
-    (status ≡ 500) ⊎ (status ≡ 503) ⊎ IsRefusedBy (found app ask.method ask.path) worlds status
+    (status ≡ 500) ⊎ (status ≡ 503) ⊎ IsRefusedAsFound (found app ask.method ask.path) worlds status
 IsRefusal app worlds (refused code) status = (status ≡ 500) ⊎ (status ≡ code)
 IsRefusal app worlds broken status = status ≡ 500
 
 -- the log has this entry, after these
-pub record Has (log before : List LogEntry) (entry : LogEntry) : Type 0 where
+pub record HasEntry (log before : List LogEntry) (entry : LogEntry) : Type 0 where
   pub later : List LogEntry
   pub parts : log ≡ before ++ entry ∷ later
 
@@ -118,26 +118,26 @@ pub record IsFaithful (lazy : Bool) (app : Application) (start finish : State)
     (log : List LogEntry) : Type 0 where
   pub stored : (w : ℕ → Bool) → project_at w finish ≡ world_behind app start log w
   pub pages : (before : List LogEntry) (entry : LogEntry) (labels : List ℕ)
-      → Has log before entry → entry.answer.shown ≡ Some labels
+      → HasEntry log before entry → entry.answer.shown ≡ Some labels
       → IsRightPage lazy app (world_behind app start before)
       (world_behind app start (before ++ entry ∷ [])) entry labels
   pub refusals : (before : List LogEntry) (entry : LogEntry)
-      → Has log before entry → entry.answer.shown ≡ None
+      → HasEntry log before entry → entry.answer.shown ≡ None
       → IsRefusal app (world_behind app start before) entry.subject entry.answer.status
 
 -- ---- what is read and put
 
 -- the events, of which the first is the n-th, bring the log, an entry for each request; and this is
 -- its text: the lines of the replies, and that a connection was closed
-abbrev pub Tells : Hearing Ask Answer → Connections Ask → ℕ → List Event → List LogEntry → List ℕ
+abbrev pub TellsLog : Hearing Ask Answer → Connections Ask → ℕ → List Event → List LogEntry → List ℕ
     → Type 0
-Tells h known n [] log text = (log ≡ []) × (text ≡ [])
-Tells h known n (event ∷ events) log text =
+TellsLog h known n [] log text = (log ≡ []) × (text ≡ [])
+TellsLog h known n (event ∷ events) log text =
     (mine : List LogEntry) × (others : List LogEntry) × (rest : List ℕ) × (log ≡ mine ++ others)
     × (text ≡ (replies_text mine ++ closing_text event known (after_both h event mine known))
     ++ rest)
     × IsBroughtBy h n event known mine
-    × Tells h (after_both h event mine known) (n + 1) events others rest
+    × TellsLog h (after_both h event mine known) (n + 1) events others rest
 
 -- the line that tells of a refused line of the events
 abbrev pub event_fault_text : Option EventFault → List ℕ
@@ -145,10 +145,10 @@ event_fault_text None = []
 event_fault_text (Some event_fault) = event_fault_line event_fault
 
 -- out took the text of the log that the events of the script bring, and why they end
-pub record PutsLog (h : Hearing Ask Answer) (script : Script) (log : List LogEntry)
+pub record PutsReplay (h : Hearing Ask Answer) (script : Script) (log : List LogEntry)
     (out : Span SinkSeen) : Type 0 where
   pub text : List ℕ
-  pub told : Tells h no_connections 0 script.events log text
+  pub told : TellsLog h no_connections 0 script.events log text
   pub took : Took out (text ++ event_fault_text script.refused)
 
 abbrev pub status_by : Option EventFault → Status
@@ -169,7 +169,7 @@ pub record HasReplayedFaithfully {L : Type 0} (replay : Replay) (given : Given) 
   pub spelled : IsApplication given.app app
   pub attached : IsAttached replay.db app top.seen.keeper opened
   pub faithful : IsFaithful replay.lazy app opened.state top.seen.keeper.after.state log
-  pub told : PutsLog (application_hearing app given.sessions) (script_of given.events) log
+  pub told : PutsReplay (application_hearing app given.sessions) (script_of given.events) log
       top.seen.out
   pub audit_took : Took top.seen.audit (audit_lines log)
   pub ended : top.status ≡ status_by (script_of given.events).refused

@@ -9,42 +9,48 @@ ghost use Rattle.jac_cli.specs.declared.words.Replay.{Replay};
 ghost use Rattle.jac_write.specs.Writes.{PlainTables, Writes, numbered_tables};
 ghost use Rattle.jac_cli.specs.declared.words.ServeArgs.{ServeArgs};
 ghost use Rattle.jac_run_laws.specs.Replayed.{TopRun, IsTopRun, IsToldToEnd as HasEnded};
-ghost use Rattle.jac_headline.specs.Headline.{Given, HoldGiven, IsToldToEnd, IsFaithful, HasReplayedFaithfully, HasServedFaithfully};
+ghost use Rattle.jac_headline.specs.Headline.{Given, HoldGiven, IsReplayTold, IsFaithful, HasReplayedFaithfully, HasServedFaithfully};
 ghost use Rattle.jac_headline.specs.Companions.{ShowsNothingForbidden, HideAlike, LeavesOthers};
 
-/// The promise. Let the words be a replay, let its files hold an application's bytes, sessions and
-/// events, and let it be told to its end, with status 0, or with 3 at a line of the events that is
-/// refused. Then its bytes spell an application, and there is a log with an entry for each request
-/// that the events bring. Under every assignment the stored rows show at the end what the ordinary
-/// interpreter leaves of what they showed once the store was attached. Each page is that
-/// interpreter's, in the world before the request that the labels of its audit line show; these are
-/// allowed to who asks, and, without `--lazy`, no single further one could be shown. What was put
-/// are the lines of the log.
+/// The promise, of a replay that ended with status 0, or with 3 at a refused line of its events,
+/// and whose files and store could be read to the end. Its file spells an application, and a log
+/// has one entry for each request that its events bring.
+///
+/// 1. **Stored rows.** Under every assignment of labels, the rows at the end show the tables that
+///    the ordinary interpreter leaves of what they showed when the store was attached (`stored`).
+/// 2. **Pages.** Each page is that interpreter's page, in the world before its request, under the
+///    labels that its audit line names (`made`).
+/// 3. **Nothing forbidden.** Each of these labels meets its policy for whoever asks (`allowed`).
+/// 4. **Nothing withheld.** No single further label could be shown (`settled`). With `--lazy` this
+///    isn't claimed.
+///
+/// The output took the replies of that log, and then the line that refuses an event, if one is
+/// refused. The audit took the lines of the log.
 pub fn headline<L>()
     ensures { (words : List (List ℕ)) (replay : Replay) (given : Given) (top : TopRun L) →
         IsTopRun words top → command_of words ≡ Some (commands.Replay replay) →
-        HoldGiven top.seen.files.before.file replay given → IsToldToEnd top →
+        HoldGiven top.seen.files.before.file replay given → IsReplayTold top →
         HasReplayedFaithfully replay given top }
 {}
 
-/// The same of a serve that ended with status 0: one log that is faithful has the replies of all
-/// connections, in the order in which these were served.
+/// The same of a serve that ended with status 0: one log has the replies of all connections, in the
+/// order in which they were served.
 pub fn headline_of_serves<L>()
     ensures { (words : List (List ℕ)) (serving : ServeArgs) (top : TopRun L) →
         IsTopRun words top → command_of words ≡ Some (commands.Serve serving) → HasEnded top →
         HasServedFaithfully serving top }
 {}
 
-/// A law: no page shows what a policy forbids. Each label of a page's audit line is of a record that
-/// stands, and its policy is true for who asks, in the world that these labels show.
+/// No page shows what a policy forbids. Each label of a page's audit line belongs to a record that
+/// exists, and its policy is true for whoever asks, in the world that these labels show.
 pub fn nothing_forbidden_is_shown()
     ensures { (lazy : Bool) (app : Application) (start finish : State) (log : List LogEntry) →
         IsFaithful lazy app start finish log → ShowsNothingForbidden app start log }
 {}
 
-/// A law: what is hidden changes no byte. Replay the same over two stores: replies at one place,
-/// whose pages were made under the same labels, are the same, where these labels show the same of
-/// both stores at the start, whatever else the stores hide.
+/// What is hidden changes no byte (noninterference). Replay the same events over two stores. Two
+/// replies at the same place, whose pages were made under the same labels, have the same bytes, if
+/// these labels show the same of both stores at the start, whatever else the stores hide.
 pub fn hidden_changes_no_byte<L, M>()
     ensures { (words others : List (List ℕ)) (replay again : Replay) (given : Given) →
         (one : TopRun L) (two : TopRun M) → IsTopRun words one → IsTopRun others two →
@@ -52,10 +58,10 @@ pub fn hidden_changes_no_byte<L, M>()
         command_of others ≡ Some (commands.Replay again) →
         HoldGiven one.seen.files.before.file replay given →
         HoldGiven two.seen.files.before.file again given →
-        IsToldToEnd one → IsToldToEnd two → HideAlike replay again given one two }
+        IsReplayTold one → IsReplayTold two → HideAlike replay again given one two }
 {}
 
-/// A law: a write under a path condition, such as an update's, leaves all other worlds alone.
+/// A write under a path condition, for example an update's, leaves all other worlds alone.
 pub fn update_leaves_others()
     ensures { (step : (ℕ → Bool) → PlainTables → PlainTables) (pc : List (ℕ × Bool)) →
         (old new : State) (n : ℕ) → Writes step pc old new → IsSound (numbered_tables n old) →

@@ -1,5 +1,5 @@
-//! The promise of a replay as one law to quote, and three beside it: nothing that a policy forbids is
-//! shown, what is hidden changes no byte, and a write leaves all other worlds alone.
+//! The promise of a replay as one law to quote, and three that follow: nothing that a policy
+//! forbids is shown, what is hidden changes no byte, and a write leaves all other worlds alone.
 #![tactic(auto)]
 
 mod laws;
