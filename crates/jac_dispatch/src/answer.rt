@@ -1,4 +1,4 @@
-ghost use Rattle.std.specs.Prelude.{◌≡◌, ◌⊎◌, false, Some, IfOk, IfSome, IsTrue, IsSome, IsNone, OnOk, OnErr};
+ghost use Rattle.std.specs.Prelude.{◌≡◌, ◌⊎◌, false, Some, IfOk, IfSome, IsTrue, IsSome, IsNone, OnOk, OnErr, IsErrOf, []};
 ghost use Rattle.jac_lang.specs.Mirror.{application_of};
 ghost use Rattle.jac_keep.specs.Cause.{HasCause};
 ghost use Rattle.jac_keep.specs.KeeperSeen.{Reads};
@@ -115,8 +115,49 @@ fn make_lines(
 
 /// Answers one request and stores what it leaves. The lines of its reply are made before, so that
 /// nothing is stored without them. What was settled for a viewer is kept, and what a change may
-/// invalidation of it is settled again; of a lazily made page nothing is kept.
+/// invalidate of it is settled again; of a lazily made page nothing is kept. After a fault of the
+/// keeper nothing is kept at all: what the keeper holds then may be something else.
 pub fn answer_ask<K: Keeper, L: Ledger, M: Ledger>(
+    dispatcher: &mut AppDispatcher<'_, '_, '_, '_, '_, '_, K, L, M>,
+    via: RequestSource,
+    ask: &Ask,
+) -> Result<AnswerLines, Stop>
+    requires attached { IsTrue (K.seen dispatcher.old.keeper.now).store.attached }
+    requires start { IsTrue (K.seen dispatcher.old.keeper.now).tells
+        → IsStart (whose dispatcher.old).app (K.seen dispatcher.old.keeper.now).state }
+    requires settled { AreValidCaches (whose dispatcher.old).app (K.seen dispatcher.old.keeper.now)
+        dispatcher.old.viewer_caches.now }
+    ensures made { IfOk result (λ lines. IsAnswerMade dispatcher.old.lazy (whose dispatcher.old).app
+        (kept (dispatcher_seen K.seen dispatcher.old) (dispatcher_seen K.seen dispatcher.new))
+        via ask.now lines.reply lines.audit) }
+    ensures refused { IsTrue (K.seen dispatcher.new.keeper.now).tells
+        → OnErr result ((K.seen dispatcher.new.keeper.now).state ≡
+        (K.seen dispatcher.old.keeper.now).state) }
+    ensures told { IsTrue (K.seen dispatcher.new.keeper.now).tells
+        → IsTrue (K.seen dispatcher.old.keeper.now).tells }
+    ensures cause { HasCause (K.seen dispatcher.old.keeper.now).faults
+        (K.seen dispatcher.new.keeper.now).faults result }
+    ensures attached { (K.seen dispatcher.new.keeper.now).store ≡
+        (K.seen dispatcher.old.keeper.now).store }
+    ensures settled { AreValidCaches (whose dispatcher.old).app (K.seen dispatcher.new.keeper.now)
+        dispatcher.new.viewer_caches.now }
+    ensures forgotten { IsErrOf result Stop.Keeper → dispatcher.new.viewer_caches.now ≡ [] }
+    ensures reading { stores (whose dispatcher.old).app ask.now ≡ false
+        → dispatcher.new.splits.now ≡ dispatcher.old.splits.now }
+    ensures same { whose dispatcher.new ≡ whose dispatcher.old }
+{
+    match answer_over_caches(dispatcher, via, ask) {
+        Ok(lines) => Ok(lines),
+        Err(Stop::Keeper) => {
+            dispatcher.viewer_caches.forget();
+            Err(Stop::Keeper)
+        }
+        Err(Stop::Memory) => Err(Stop::Memory),
+    }
+}
+
+// The same, whatever is kept then.
+fn answer_over_caches<K: Keeper, L: Ledger, M: Ledger>(
     dispatcher: &mut AppDispatcher<'_, '_, '_, '_, '_, '_, K, L, M>,
     via: RequestSource,
     ask: &Ask,

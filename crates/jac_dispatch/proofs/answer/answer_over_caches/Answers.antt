@@ -8,7 +8,7 @@ use Rattle.jac_dispatch.specs.Answered.{AreValidCaches, AreAffected, DispatcherO
 use Rattle.jac_dispatch.specs.Seen.{whose}
 use Rattle.jac_dispatch.proofs.EntryLemmas.{servable, unapplied}
 use Rattle.jac_dispatch.proofs.ViewerEntryLaws.{prepared_after, still_valid}
-use Rattle.jac_dispatch.proofs.answer.answer_ask.Goals as goal
+use Rattle.jac_dispatch.proofs.answer.answer_over_caches.Goals as goal
 
 pub make_lines-requires-clause-status : goal.make_lines-requires-clause-status
 make_lines-requires-clause-status g c =
