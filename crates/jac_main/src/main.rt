@@ -66,24 +66,32 @@ fn run_words<L: Ledger, M: Ledger, O: Outside>(
         number: 1,
     };
     let mut vault = HostVault::new(alloc, state, *rt, makes_files(words.as_slice()));
-    let mut files = HostFiles::new(rt);
-    let mut out = Stdout::new(rt);
-    let mut audit = HostAudit::new(rt);
-    let mut door = HostDoor::new(rt);
+    let mut host: Host<'_, O> = Host {
+        files: HostFiles::new(rt),
+        out: Stdout::new(rt),
+        audit: HostAudit::new(rt),
+        door: HostDoor::new(rt),
+    };
     let mut splits: Steps<L> = Steps::new(blank);
     let mut evaluations: Steps<M> = Steps::new(second);
-    let status = run_host::<O, L, M>(
+    let status = run_host(
         rt,
         words.as_slice(),
-        &mut files,
-        &mut out,
-        &mut audit,
+        &mut host,
         &mut vault,
-        &mut door,
         &mut splits,
         &mut evaluations,
     );
     Ok(status)
+}
+
+// What the program has of the machine, but for its store.
+#[derive(Drop)]
+struct Host<'h, O: Outside> {
+    files: HostFiles<'h, O>,
+    out: Stdout<'h>,
+    audit: HostAudit<'h>,
+    door: HostDoor<'h, O>,
 }
 
 // The run over the host, of which nothing was asked yet. `O` is what is supposed of the outside:
@@ -92,35 +100,34 @@ fn run_words<L: Ledger, M: Ledger, O: Outside>(
 fn run_host<O: Outside, L: Ledger, M: Ledger>(
     rt: &HostRuntime,
     words: &[Txt],
-    files: &mut HostFiles<'_, O>,
-    out: &mut Stdout<'_>,
-    audit: &mut HostAudit<'_>,
+    host: &mut Host<'_, O>,
     vault: &mut HostVault,
-    door: &mut HostDoor<'_, O>,
     splits: &mut Steps<L>,
     evaluations: &mut Steps<M>,
 ) -> Status
-    requires files { ⟦<HostFiles<'static, O> as Files>⟧.seen files.old ≡ files_seen O.file [] 0 }
-    requires out { ⟦<Stdout<'static> as Sink>⟧.seen out.old ≡ sink_seen [] 0 }
-    requires audit { ⟦<HostAudit<'static> as Sink>⟧.seen audit.old ≡ sink_seen [] 0 }
-    requires door { ⟦<HostDoor<'static, O> as Door>⟧.seen door.old ≡ door_seen O.inputs [] [] 0 }
+    requires files { ⟦<HostFiles<'static, O> as Files>⟧.seen host.old.files
+        ≡ files_seen O.file [] 0 }
+    requires out { ⟦<Stdout<'static> as Sink>⟧.seen host.old.out ≡ sink_seen [] 0 }
+    requires audit { ⟦<HostAudit<'static> as Sink>⟧.seen host.old.audit ≡ sink_seen [] 0 }
+    requires door { ⟦<HostDoor<'static, O> as Door>⟧.seen host.old.door
+        ≡ door_seen O.inputs [] [] 0 }
     requires first { (⟦<HostVault as Keeper>⟧.seen vault.old).store.called ≡ false }
     ensures { IsRun ⟦<HostLink<O> as Link>⟧.seen
-        (sight (files_seen O.file [] 0) (⟦<HostFiles<'static, O> as Files>⟧.seen files.new)
-        (sink_seen [] 0) (⟦<Stdout<'static> as Sink>⟧.seen out.new)
-        (sink_seen [] 0) (⟦<HostAudit<'static> as Sink>⟧.seen audit.new)
+        (sight (files_seen O.file [] 0) (⟦<HostFiles<'static, O> as Files>⟧.seen host.new.files)
+        (sink_seen [] 0) (⟦<Stdout<'static> as Sink>⟧.seen host.new.out)
+        (sink_seen [] 0) (⟦<HostAudit<'static> as Sink>⟧.seen host.new.audit)
         (⟦<HostVault as Keeper>⟧.seen vault.old) (⟦<HostVault as Keeper>⟧.seen vault.new))
-        (span (door_seen O.inputs [] [] 0) (⟦<HostDoor<'static, O> as Door>⟧.seen door.new))
+        (span (door_seen O.inputs [] [] 0) (⟦<HostDoor<'static, O> as Door>⟧.seen host.new.door))
         (span splits.old splits.new) words.now result }
 {
     run(
         rt.alloc(),
         words,
-        files,
-        out,
-        audit,
+        &mut host.files,
+        &mut host.out,
+        &mut host.audit,
         vault,
-        door,
+        &mut host.door,
         splits,
         evaluations,
     )
