@@ -6,6 +6,7 @@ ghost use Rattle.jac_value.specs.Quoted.{quoted_bytes};
 ghost use Rattle.jac_replies.specs.Spelled.{reply_text, sent_text, spelled_bytes, audit_rest, consulted_text, location_text, printed_body, viewer_text, labels_text, more_labels, shown_text};
 
 use crate::answer::Answer;
+use itoa::Buffer;
 use jac_http::write_reply;
 use jac_value::{Bytes, Id, Memory, Txt, escape_line};
 use jac_world::Assignment;
@@ -252,10 +253,10 @@ fn labels_text(alloc: Global, shown: &Assignment) -> Result<Txt, Memory>
         }
         Some((first, rest)) => {
             let mut text = number_text(alloc, first.0)?.into_string();
+            let mut buffer = Buffer::new();
             'labels: for label in rest {
-                let number = number_text(alloc, label.0)?;
                 text.push_str(",")?;
-                text.push_str(number.as_str())?;
+                text.push_str(buffer.format(label.0))?;
             }
             Ok(Txt::from_string(text))
         }
