@@ -1,4 +1,4 @@
-ghost use Rattle.std.specs.Prelude.{◌≡◌, ◌<◌, ◌≤◌, false, true, length, slice_get, IfOk, IsNone, OnOk, OnErr, IfSome, IsTrue, Some, None};
+ghost use Rattle.std.specs.Prelude.{◌≡◌, ◌<◌, ◌≤◌, false, true, length, slice_get, Ok, IfOk, IsNone, OnOk, OnErr, IfSome, IsTrue, Some, None};
 ghost use Rattle.jac_lang.specs.Mirror.{application_of, page_of_view, statements_of};
 ghost use Rattle.jac_lang.specs.declared.pages.Verb.TheVariants as verbs;
 ghost use Rattle.jac_plain.specs.Requests.{method_in};
@@ -484,6 +484,8 @@ pub fn commit<K: Keeper>(alloc: Global, keeper: &mut K, prepared: Prepared) -> R
     requires good { IsTrue (K.seen keeper.old).tells
         → IfSome prepared.change (λ c. IsSound (changed_state c (K.seen keeper.old).state)) }
     ensures answer { IfOk result (λ a. a ≡ prepared.answer) }
+    ensures unchanged { prepared.change ≡ None
+        → (result ≡ Ok prepared.answer) × (K.seen keeper.new ≡ K.seen keeper.old) }
     ensures applied { IsTrue (K.seen keeper.new).tells → OnOk result ((K.seen keeper.new).state
         ≡ applied_if prepared.change (K.seen keeper.old).state) }
     ensures refused { IsTrue (K.seen keeper.new).tells
