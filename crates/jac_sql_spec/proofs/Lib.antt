@@ -9,6 +9,7 @@ pub mod Founded
 pub mod Gathered
 pub mod IdOrder
 pub mod Kept
+pub mod Lasting
 pub mod Numbered
 pub mod Once
 pub mod Permuted

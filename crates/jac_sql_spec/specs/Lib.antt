@@ -1,5 +1,6 @@
 pub mod Facts
 pub mod Founding
+pub mod Lasting
 pub mod Lines
 pub mod Reading
 pub mod Spelled

@@ -1,5 +1,5 @@
 -- A keeper that is attached to the database that was opened.
-use Rattle.std.proofs.Common.{◌≡◌, refl, sym, ap, subst, ◌∙◌, ℕ, ◌≤◌, Bool, true, false, true≢false, List, [], length, Option, Some, None, is_some, Ok, Err, Result, IsTrue, arith}
+use Rattle.std.proofs.Common.{◌≡◌, refl, sym, ap, subst, ◌∙◌, ℕ, ◌≤◌, Bool, true, false, true≢false, List, [], length, Option, Some, None, is_some, Ok, Err, Result, IsTrue, IsSomeAnd, inl, inr, arith}
 use Rattle.jac_value.specs.declared.value.Kind.{Kind}
 use Rattle.jac_rows.specs.Good.{ModelShape}
 use Rattle.jac_rows.specs.declared.state.State.{State}
@@ -10,8 +10,11 @@ use Rattle.jac_keep.specs.Schema.{IsSchema, IsFit, shapes_by}
 use Rattle.jac_keep.specs.declared.alteration.Change.{Change}
 use Rattle.jac_keep.specs.declared.vault.AttachFault.{AttachFault}
 use Rattle.jac_keep.proofs.SchemaLaws.{schema_one, length_shapes}
-use Rattle.jac_sqlkeep.specs.Based.{Based, ReshapesBased}
-use Rattle.jac_sqlkeep.specs.Kept.{Kept, seen_kept, tells_of, based_state}
+use Rattle.sqlite_trees.specs.declared.store.Store.{Ghosts}
+use Rattle.sqlite.specs.Held.{Held}
+use Rattle.jac_keep.specs.declared.vault.AttachFault.TheVariants.{Failed, Memory, Other}
+use Rattle.jac_sqlkeep.specs.Based.{Based, OpensBased, Begins, Stood, ReshapesBased}
+use Rattle.jac_sqlkeep.specs.Kept.{Kept, seen_kept, tells_of, based_state, IsRefusedAs, BeginsGiven, StoodAs, IsLeftAs}
 
 -- before it was called it told nothing
 untold : (database : Option Based) (called : Bool) → (IsTrue (is_some database) → IsTrue called) → called ≡ false → tells_of database ≡ false
@@ -56,13 +59,13 @@ brought_fit k d schema shapes kinds nested change base is also fits told =
     let fit : IsFit shapes (widened_state (length shapes) s) = subst (λ (o : Option Based). IsFit shapes (widened_state (length shapes) (changed_state change (based_state o)))) base (fits (ap tells_of base ∙ told)) in
     subst (λ n. IsFit (shapes_by kinds nested) (widened_state n s)) (length_shapes kinds nested) (subst (λ ks. IsFit ks (widened_state (length ks) s)) same fit)
 
-module _ (called : Bool) (before name : Option (List ℕ)) (faults : ℕ) (refused database : Option Based) where
+module _ (called : Bool) (before name : Option (List ℕ)) (faults unopened : ℕ) (refused database : Option Based) where
   -- what such a keeper was
   abbrev was : Kept
-  was = record { store = record { called = called; attached = is_some database; schema = before; name = name }; faults = faults; database = database; refused = refused }
+  was = record { store = record { called = called; attached = is_some database; schema = before; name = name }; faults = faults; unopened = unopened; database = database; refused = refused }
 
   abbrev brought : Based → List ℕ → Kept
-  brought e copy = record { store = record { called = called; attached = true; schema = Some copy; name = name }; faults = faults; database = Some e; refused = refused }
+  brought e copy = record { store = record { called = called; attached = true; schema = Some copy; name = name }; faults = faults; unopened = unopened; database = Some e; refused = refused }
 
   pub reshaped_now : (old : Kept) (d e : Based) (copy schema : List ℕ) (change : Change) (kinds : List (List Kind)) (nested : List Bool) → was ≡ old → database ≡ Some d → copy ≡ schema → IsSchema schema (shapes_by kinds nested)
       → ReshapesBased change schema (length kinds) d e (Ok tt) → Reshapes (seen_kept old) (seen_kept (brought e copy)) change schema (Ok tt)
@@ -80,3 +83,31 @@ module _ (called : Bool) (before name : Option (List ℕ)) (faults : ℕ) (refus
         };
         err = tt;
       })
+
+-- ---- what was opened
+
+pub fit_now : {S E : Type 0} (g : Ghosts S) (schema : List ℕ) (kinds : List (List Kind)) (nested : List Bool) (given : Held S) (b : Based) (r : Result (Option (List ℕ)) E) → OpensBased g schema kinds nested given b r → r ≡ Ok None
+    → IsTrue b.tells → IsFit (shapes_by kinds nested) b.state
+fit_now g schema kinds nested given b r opens is = (subst (OpensBased g schema kinds nested given b) is opens).fit
+
+module _ {S E : Type 0} (g : Ghosts S) (Gives : Held S → Type 0) (schema : List ℕ) (kinds : List (List Kind)) (nested : List Bool) (given : Held S) (b : Based) (r : Result (Option (List ℕ)) E)
+    (opens : OpensBased g schema kinds nested given b r) (gave : Gives given) where
+  pub begun_now : r ≡ Ok None → Begins g schema kinds nested given b
+  begun_now is = subst (OpensBased g schema kinds nested given b) is opens
+
+  pub begins_as : (o : Option Based) → o ≡ Some b → r ≡ Ok None → IsSchema schema (shapes_by kinds nested) → IsSomeAnd o (BeginsGiven g Gives schema)
+  begins_as o some is shaped = subst (λ (o : Option Based). IsSomeAnd o (BeginsGiven g Gives schema)) (sym some) (record { given = given; gave = gave; kinds = kinds; nested = nested; is_schema = shaped; begins = begun_now is })
+
+  stood_as : Stood g given b → (o : Option Based) → o ≡ Some b → IsSomeAnd o (StoodAs g Gives)
+  stood_as stood o some = subst (λ (o : Option Based). IsSomeAnd o (StoodAs g Gives)) (sym some) (record { given = given; gave = gave; stood = stood })
+
+  pub left_other : (old before new : Kept) (stored : List ℕ) (result : Result (Unit {0}) AttachFault) → r ≡ Ok (Some stored) → IsRefusedAs before new b stored result → IsLeftAs g Gives old new result
+  left_other old before new stored (Ok done) is refused = absurd refused
+  left_other old before new stored (Err Failed) is refused = absurd refused
+  left_other old before new stored (Err Memory) is refused = inr (stood_as (subst (OpensBased g schema kinds nested given b) is opens).2 new.refused (ap (λ (k : Kept). k.refused) refused))
+  left_other old before new stored (Err (Other told)) is refused = stood_as (subst (OpensBased g schema kinds nested given b) is opens).2 new.refused (ap (λ (k : Kept). k.refused) refused.1)
+
+  pub left_failed : (old new : Kept) (e : E) (fault : AttachFault) → r ≡ Err e → new.refused ≡ Some b → IsLeftAs g Gives old new (Err fault)
+  left_failed old new e Failed is some = inr (stood_as (subst (OpensBased g schema kinds nested given b) is opens) new.refused some)
+  left_failed old new e Memory is some = inr (stood_as (subst (OpensBased g schema kinds nested given b) is opens) new.refused some)
+  left_failed old new e (Other told) is some = stood_as (subst (OpensBased g schema kinds nested given b) is opens) new.refused some

@@ -1,5 +1,5 @@
 -- What a database tells that was read, changed or opened.
-use Rattle.std.proofs.Common.{◌≡◌, refl, sym, ap, subst, ◌∙◌, ℕ, zero, suc, ◌+◌, ◌≤◌, Bool, true, false, true≢false, List, [], ◌∷◌, length, Option, Some, None, IfSome, Ok, Err, Result, IfOk, IfErr, OnOk, OnErr, IsTrue, slice_get, arith}
+use Rattle.std.proofs.Common.{◌≡◌, inl, refl, sym, ap, subst, ◌∙◌, ℕ, zero, suc, ◌+◌, ◌≤◌, Bool, true, false, true≢false, List, [], ◌∷◌, length, Option, Some, None, IfSome, Ok, Err, Result, IfOk, IfErr, OnOk, OnErr, IsTrue, slice_get, arith}
 use Rattle.sqlite_trees.specs.declared.store.Store.{Ghosts}
 use Rattle.sqlite.specs.declared.error.Error.{Error}
 use Rattle.sqlite.specs.Held.{Held, state}
@@ -24,7 +24,12 @@ use Rattle.jac_sql_spec.specs.Statements.{statements_with}
 use Rattle.jac_sql_spec.specs.Telling.{empty_state, IsAllCommitted, ReadsTold, AppliesTold, ReshapesTold, CanBeStored}
 use Rattle.jac_sql_spec.specs.Transaction.{Transacts, EndsCommitted}
 use Rattle.jac_sql_spec.proofs.Kept.{reshape_told}
-use Rattle.jac_sqlkeep.specs.Based.{Based, based_keeper, ReadsBased, AppliesBased, ReshapesBased, OpensBased}
+use Rattle.sqlite_schema.specs.declared.schema.Schema.{Schema}
+use Rattle.sqlite.specs.Effect.{Database}
+use Rattle.jac_sql_spec.specs.Lasting.{ConnectionLasts, IsSeenUnmoved}
+use Rattle.jac_sql_spec.specs.Tables.{no_tables, two_tables}
+use Rattle.jac_sqlkeep.specs.Kept.{KeeperGoesOn}
+use Rattle.jac_sqlkeep.specs.Based.{Based, based_keeper, DatabaseGoesOn, HasTables, Stood, Begins, IsWhole, ReadsBased, AppliesBased, ReshapesBased}
 
 never : {A : Type 0} → IsTrue false → A
 never t = absurd (true≢false (sym t))
@@ -123,12 +128,58 @@ pub fits_empty : (kinds : List (List Kind)) (nested : List Bool) (s : State) →
 fits_empty kinds nested s is =
     subst (IsFit (shapes_by kinds nested)) (sym (is ∙ ap empty_state (sym (length_shapes kinds nested)))) (empties_fit (shapes_by kinds nested) (record { tables = []; number = 1 }) (omega arith, omega arith))
 
-module _ {S : Type 0} (g : Ghosts S) (schema : List ℕ) (kinds : List (List Kind)) (nested : List Bool) (h : Held S) where
-  -- one that is told, with a schema that it has
-  pub opens_told : (IsTrue (state g h).is_open → IsFit (shapes_by kinds nested) (told (length kinds) (state g h).now)) → (IsTrue (state g h).is_open → schema_in (state g h).now ≡ schema)
-      → OpensBased schema kinds nested (based_keeper g kinds true h, None)
-  opens_told fit stored = record { fit = fit; stored = stored; other = tt }
+-- a keeper's tables are some
+some_tables : (s : Schema) → s ≡ two_tables 0 1 2 → ¬ (s ≡ no_tables)
+some_tables s has none = absurd (let e : two_tables 0 1 2 ≡ no_tables = sym has ∙ none in let e2 = ap (λ (s : Schema). length s.tables) e in cc)
 
-  -- one of another schema
-  pub opens_other : (other : List ℕ) → (IsTrue (state g h).is_open → schema_in (state g h).now ≡ other) → ¬ (other ≡ schema) → OpensBased schema kinds nested (based_keeper g kinds false h, Some other)
-  opens_other other stored is_other = record { fit = λ t. never t; stored = stored; other = is_other }
+module _ {S : Type 0} (g : Ghosts S) (kinds : List (List Kind)) (given h : Held S) where
+  same_tables : (known : Bool) → (state g h).now ≡ (state g given).now → HasTables (state g given).now (based_keeper g kinds known h)
+  same_tables known same = record { meta = ap (λ (d : Database). d.trees 0) same; rec = ap (λ (d : Database). d.trees 1) same }
+
+  -- one that is left as it stood
+  pub stood_by : (b : Based) → b ≡ based_keeper g kinds false h → ConnectionLasts (state g given) (state g h) → (IsTrue (state g h).is_open → IsTrue (state g given).is_open)
+      → (IsTrue (state g h).is_open → (state g h).now ≡ (state g given).now) → Stood g given b
+  stood_by b is lasts was same = subst (Stood g given) (sym is) (record { was_open = was; kept = λ opened. same_tables false (same opened); closes = lasts.closes; sure = λ law. law h.store })
+
+  -- a new store
+  pub begins_new : (schema : List ℕ) (nested : List Bool) → ConnectionLasts (state g given) (state g h) → (state g given).now.schema ≡ no_tables → (IsTrue (state g h).is_open → IsTrue (state g given).is_open)
+      → (IsTrue (state g h).is_open → told (length kinds) (state g h).now ≡ empty_state (length kinds)) → (IsTrue (state g h).is_open → schema_in (state g h).now ≡ schema)
+      → Begins g schema kinds nested given (based_keeper g kinds true h)
+  begins_new schema nested lasts none was empty stored = record {
+    tells = refl;
+    fit = λ opened. fits_empty kinds nested _ (empty opened);
+    stored = stored;
+    made = λ none opened. empty opened;
+    kept = λ some. absurd (some none);
+    was_open = was;
+    closes = lasts.closes;
+    sure = λ law. law h.store;
+  }
+
+  -- one that was made before
+  pub begins_again : (schema : List ℕ) (nested : List Bool) → ConnectionLasts (state g given) (state g h) → (state g given).now.schema ≡ two_tables 0 1 2 → IsSeenUnmoved (state g given) (state g h)
+      → IsWhole g schema kinds nested h → Begins g schema kinds nested given (based_keeper g kinds true h)
+  begins_again schema nested lasts has left whole = record {
+    tells = refl;
+    fit = whole.fit;
+    stored = whole.stored;
+    made = λ none. absurd (some_tables (state g given).now.schema has none);
+    kept = λ some opened. same_tables true (left.same opened);
+    was_open = left.was_open;
+    closes = lasts.closes;
+    sure = λ law. law h.store;
+  }
+
+-- ---- from call to call
+
+module _ {S : Type 0} (g : Ghosts S) (kinds more : List (List Kind)) (old new : Held S) where
+  pub goes_by : (known : Bool) → ConnectionLasts (state g old) (state g new) → DatabaseGoesOn g (based_keeper g kinds known old) (based_keeper g more known new)
+  goes_by false lasts = record { tells = λ t. never t; clean = lasts.clean; counts = lasts.counts; closes = lasts.closes; sure = λ law opened. law new.store }
+  goes_by true lasts = record { tells = λ told opened. opened; clean = lasts.clean; counts = lasts.counts; closes = lasts.closes; sure = λ law opened. law new.store }
+
+goes_same : {S : Type 0} (g : Ghosts S) (b : Based) → DatabaseGoesOn g b b
+goes_same g b = record { tells = λ told opened. told; clean = omega arith; counts = omega arith; closes = λ clean opened. inl opened; sure = λ law opened. opened }
+
+pub goes_on_same : {S : Type 0} (g : Ghosts S) (o : Option Based) → KeeperGoesOn g o o
+goes_on_same g None = tt
+goes_on_same g (Some b) = goes_same g b

@@ -1,8 +1,12 @@
 -- what contracts see of a keeper's database
-use Rattle.std.specs.Prelude.{◌≡◌, ℕ, Bool, ◌&&◌, List, length, Option, unwrap_or, IsTrue, Result, IfOk, IfSome, OnOk, OnErr}
+use Rattle.std.specs.Prelude.{◌≡◌, ◌≤◌, ◌⊎◌, ℕ, Bool, ◌&&◌, List, length, Option, Some, None, IsTrue, Result, Ok, Err, IfOk, OnOk, OnErr}
 use Rattle.sqlite_trees.specs.declared.store.Store.{Ghosts}
+use Rattle.sqlite_trees.specs.View.{doubt}
+use Rattle.sqlite_value.specs.Order.{Row as Values}
 use Rattle.sqlite.specs.declared.error.Error.{Error}
+use Rattle.sqlite.specs.Effect.{Database as Tables}
 use Rattle.sqlite.specs.Held.{Held, state}
+use Rattle.jac_io.specs.Faults.{Rose}
 use Rattle.jac_value.specs.declared.value.Kind.{Kind}
 use Rattle.jac_rows.specs.Good.{IsSound}
 use Rattle.jac_rows.specs.declared.state.State.{State}
@@ -10,14 +14,21 @@ use Rattle.jac_keep.specs.declared.alteration.Change.{Change}
 use Rattle.jac_keep.specs.ChangedState.{changed_state}
 use Rattle.jac_keep.specs.Reshaping.{widened_state}
 use Rattle.jac_keep.specs.Schema.{IsFit, shapes_by}
+use Rattle.jac_sql_spec.specs.Tables.{no_tables}
+use Rattle.jac_sql_spec.specs.Telling.{empty_state, IsAllCommitted}
 use Rattle.jac_sql_spec.specs.Told.{told, schema_in}
 
--- the kinds of its models' fields, whether its connection is open, the schema text that it has,
--- whether it tells its state, and its state
+-- the kinds of its models' fields, whether its connection is open, whether its disk has returned
+-- what was written and how often that failed, the schema text that it has, the rows of its two
+-- tables, whether it tells its state, and its state
 pub record Based : Type 0 where
   pub kinds : List (List Kind)
   pub is_open : Bool
+  pub is_clean : Bool
+  pub faults : ℕ
   pub schema : List ℕ
+  pub meta : List Values
+  pub rec : List Values
   pub tells : Bool
   pub state : State
 
@@ -26,18 +37,83 @@ abbrev pub based_keeper : {S : Type 0} → Ghosts S → List (List Kind) → Boo
 based_keeper g kinds known h = record {
   kinds = kinds;
   is_open = (state g h).is_open;
+  is_clean = (state g h).is_clean;
+  faults = (state g h).faults;
   schema = schema_in (state g h).now;
+  meta = (state g h).now.trees 0;
+  rec = (state g h).now.trees 1;
   tells = known && (state g h).is_open;
   state = told (length kinds) (state g h).now;
 }
 
--- what opening a database gives: one that has the schema, or another one, and whose state fits the
--- schema where it is told
-pub record OpensBased (schema : List ℕ) (kinds : List (List Kind)) (nested : List Bool)
-    (found : Based × Option (List ℕ)) : Type 0 where
-  pub fit : IsTrue found.0.tells → IsFit (shapes_by kinds nested) found.0.state
-  pub stored : IsTrue found.0.is_open → found.0.schema ≡ unwrap_or found.1 schema
-  pub other : IfSome found.1 (λ stored. ¬ (stored ≡ schema))
+-- connections over such a store are never shut, as those in memory
+abbrev pub NeverShut : {S : Type 0} → Ghosts S → Type 0
+NeverShut {S} g = (s : S) → IsTrue (g.view s).is_open
+
+-- between two calls: one that told tells while its connection is open, no fault is forgotten, and
+-- only a fault of the disk shuts the connection
+pub record DatabaseGoesOn {S : Type 0} (g : Ghosts S) (old new : Based) : Type 0 where
+  pub tells : IsTrue old.tells → IsTrue new.is_open → IsTrue new.tells
+  pub clean : doubt old.is_clean ≤ doubt new.is_clean
+  pub counts : old.faults ≤ new.faults
+  pub closes : doubt new.is_clean ≡ 0 → IsTrue old.is_open
+      → IsTrue new.is_open ⊎ Rose old.faults new.faults
+  pub sure : NeverShut g → IsTrue old.is_open → IsTrue new.is_open
+
+-- the rows of both tables are those that stood there
+pub record HasTables (db : Tables) (b : Based) : Type 0 where
+  pub meta : b.meta ≡ db.trees 0
+  pub rec : b.rec ≡ db.trees 1
+
+-- so they are, as long as the connection is open, which only a fault of the disk shuts
+pub record Stood {S : Type 0} (g : Ghosts S) (given : Held S) (b : Based) : Type 0 where
+  pub was_open : IsTrue b.is_open → IsTrue (state g given).is_open
+  pub kept : IsTrue b.is_open → HasTables (state g given).now b
+  pub closes : doubt b.is_clean ≡ 0 → IsTrue (state g given).is_open
+      → IsTrue b.is_open ⊎ Rose (state g given).faults b.faults
+  pub sure : NeverShut g → IsTrue b.is_open
+
+-- A store that may be called from now on: it has the schema, and tells its state, which fits the
+-- schema, while its connection is open. Where there was no table at all it is made, empty and with
+-- the number 1; else it is what stood there.
+pub record Begins {S : Type 0} (g : Ghosts S) (schema : List ℕ) (kinds : List (List Kind))
+    (nested : List Bool) (given : Held S) (b : Based) : Type 0 where
+  pub tells : b.tells ≡ b.is_open
+  pub fit : IsTrue b.tells → IsFit (shapes_by kinds nested) b.state
+  pub stored : IsTrue b.is_open → b.schema ≡ schema
+  pub made : (state g given).now.schema ≡ no_tables → IsTrue b.is_open
+      → b.state ≡ empty_state (length kinds)
+  pub kept : ¬ ((state g given).now.schema ≡ no_tables) → IsTrue b.is_open
+      → HasTables (state g given).now b
+  pub was_open : IsTrue b.is_open → IsTrue (state g given).is_open
+  pub closes : doubt b.is_clean ≡ 0 → IsTrue (state g given).is_open
+      → IsTrue b.is_open ⊎ Rose (state g given).faults b.faults
+  pub sure : NeverShut g → IsTrue b.is_open
+
+-- what opening a database gives: a store that may be called, or one that is left as it stood and
+-- isn't told, where it has another schema or can't be read
+abbrev pub OpensBased : {S E : Type 0} → Ghosts S → List ℕ → List (List Kind) → List Bool → Held S
+    → Based → Result (Option (List ℕ)) E → Type 0
+OpensBased g schema kinds nested given b (Ok None) = Begins g schema kinds nested given b
+OpensBased g schema kinds nested given b (Ok (Some stored)) =
+    (¬ (stored ≡ schema)) × (IsTrue b.is_open → b.schema ≡ stored) × Stood g given b
+OpensBased g schema kinds nested given b (Err e) = Stood g given b
+
+-- all of it was read, and is told
+pub record IsWhole {S : Type 0} (g : Ghosts S) (schema : List ℕ) (kinds : List (List Kind))
+    (nested : List Bool) (h : Held S) : Type 0 where
+  pub kept : IsAllCommitted (length kinds) (state g h)
+  pub fit : IsTrue (state g h).is_open
+      → IsFit (shapes_by kinds nested) (told (length kinds) (state g h).now)
+  pub stored : IsTrue (state g h).is_open → schema_in (state g h).now ≡ schema
+
+-- what was read of a store that stood there: it has this schema, its state is told and fits, or it
+-- has another one
+abbrev pub ReadsWhole : {S : Type 0} → Ghosts S → List ℕ → List (List Kind) → List Bool → Held S
+    → Option (List ℕ) → Type 0
+ReadsWhole g schema kinds nested h None = IsWhole g schema kinds nested h
+ReadsWhole g schema kinds nested h (Some stored) =
+    (¬ (stored ≡ schema)) × (IsTrue (state g h).is_open → schema_in (state g h).now ≡ stored)
 
 -- what was read is what the state has, and nothing was changed
 pub record ReadsBased {T : Type 0} (Is : State → T → Type 0) (old new : Based)

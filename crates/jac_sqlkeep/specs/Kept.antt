@@ -1,16 +1,22 @@
 -- what contracts see of a keeper over SQLite
-use Rattle.std.specs.Prelude.{◌≡◌, ℕ, Bool, false, List, [], Option, Some, None, Result, Ok, Err, IsTrue}
+use Rattle.std.specs.Prelude.{◌≡◌, ◌⊎◌, ⊤, ℕ, Bool, false, List, [], Option, Some, None, Result, Ok, Err, IsTrue, IsSomeAnd}
+use Rattle.sqlite_trees.specs.declared.store.Store.{Ghosts}
+use Rattle.sqlite.specs.Held.{Held}
+use Rattle.jac_value.specs.declared.value.Kind.{Kind}
+use Rattle.jac_io.specs.Faults.{Rose}
 use Rattle.jac_rows.specs.declared.state.State.{State}
 use Rattle.jac_keep.specs.KeeperSeen.{KeeperSeen, Store}
+use Rattle.jac_keep.specs.Schema.{IsSchema, shapes_by}
 use Rattle.jac_keep.specs.declared.vault.AttachFault.{AttachFault}
 use Rattle.jac_keep.specs.declared.vault.AttachFault.TheVariants.{Failed, Memory, Other}
-use Rattle.jac_sqlkeep.specs.Based.{Based}
+use Rattle.jac_sqlkeep.specs.Based.{Based, DatabaseGoesOn, Begins, Stood}
 
--- its store, how often it failed, its database, once it has one, and the one that had another
--- schema
+-- its store, how often it failed, and how often that was an opening, its database, once it has one,
+-- and the one that was refused
 pub record Kept : Type 0 where
   pub store : Store
   pub faults : ℕ
+  pub unopened : ℕ
   pub database : Option Based
   pub refused : Option Based
 
@@ -31,9 +37,9 @@ seen_kept k = record {
   store = k.store;
 }
 
--- one that nobody tried to attach
-abbrev pub untouched_keeper : Kept
-untouched_keeper = record {
+-- one that nobody tried to attach, over an opener that failed so often
+abbrev pub untouched_keeper : ℕ → Kept
+untouched_keeper unopened = record {
   store = record {
     called = false;
     attached = false;
@@ -41,6 +47,7 @@ untouched_keeper = record {
     name = None;
   };
   faults = 0;
+  unopened = unopened;
   database = None;
   refused = None;
 }
@@ -49,7 +56,7 @@ untouched_keeper = record {
 abbrev pub IsRefusedAs : Kept → Kept → Based → List ℕ → Result (Unit {0}) AttachFault → Type 0
 IsRefusedAs old new database stored (Ok done) = ⊥
 IsRefusedAs old new database stored (Err Failed) = ⊥
-IsRefusedAs old new database stored (Err Memory) = new ≡ old
+IsRefusedAs old new database stored (Err Memory) = new ≡ record old { refused = Some database }
 IsRefusedAs old new database stored (Err (Other told)) =
     (told ≡ stored) × (new ≡ record old {
       store = record old.store { schema = Some stored };
@@ -63,3 +70,35 @@ HasSchema schema b = IsTrue b.is_open → b.schema ≡ schema
 -- one that tells has this schema text
 abbrev pub TellsSchema : List ℕ → Based → Type 0
 TellsSchema schema b = IsTrue b.tells → b.schema ≡ schema
+
+-- a store that may be called, over what the opener gave
+pub record BeginsGiven {S : Type 0} (g : Ghosts S) (Gives : Held S → Type 0) (schema : List ℕ)
+    (b : Based) : Type 0 where
+  pub given : Held S
+  pub gave : Gives given
+  pub kinds : List (List Kind)
+  pub nested : List Bool
+  pub is_schema : IsSchema schema (shapes_by kinds nested)
+  pub begins : Begins g schema kinds nested given b
+
+-- what the opener gave is left as it stood
+pub record StoodAs {S : Type 0} (g : Ghosts S) (Gives : Held S → Type 0) (b : Based) : Type 0 where
+  pub given : Held S
+  pub gave : Gives given
+  pub stood : Stood g given b
+
+-- what a refused store is left as: where one could be opened, as it stood
+abbrev pub IsLeftAs : {S : Type 0} → Ghosts S → (Held S → Type 0) → Kept → Kept
+    → Result (Unit {0}) AttachFault → Type 0
+IsLeftAs g Gives old new (Ok done) = ⊤
+IsLeftAs g Gives old new (Err Failed) =
+    Rose old.unopened new.unopened ⊎ IsSomeAnd new.refused (StoodAs g Gives)
+IsLeftAs g Gives old new (Err Memory) =
+    (new.refused ≡ old.refused) ⊎ IsSomeAnd new.refused (StoodAs g Gives)
+IsLeftAs g Gives old new (Err (Other stored)) = IsSomeAnd new.refused (StoodAs g Gives)
+
+-- the database of a keeper that is attached, before a call and after it
+abbrev pub KeeperGoesOn : {S : Type 0} → Ghosts S → Option Based → Option Based → Type 0
+KeeperGoesOn g None new = ⊤
+KeeperGoesOn g (Some a) None = ⊥
+KeeperGoesOn g (Some a) (Some b) = DatabaseGoesOn g a b

@@ -10,8 +10,9 @@ ghost use Rattle.jac_keep.specs.Records.{alternatives};
 ghost use Rattle.jac_keep.specs.MatchingRecords.{holders};
 ghost use Rattle.jac_keep.specs.Reshaping.{widened_state};
 ghost use Rattle.jac_keep.specs.Schema.{IsFit, shapes_by};
+ghost use Rattle.jac_sql_spec.specs.Lasting.{ConnectionLasts, IsSeenUnmoved};
 ghost use Rattle.jac_sql_spec.specs.Tables.{no_tables, two_tables};
-ghost use Rattle.jac_sqlkeep.specs.Based.{ReadsBased, AppliesBased, ReshapesBased, OpensBased};
+ghost use Rattle.jac_sqlkeep.specs.Based.{DatabaseGoesOn, ReadsBased, AppliesBased, ReshapesBased, OpensBased, ReadsWhole, based_keeper};
 
 use crate::cause::{CORRUPT, NO_MEMORY, Unfit};
 use crate::form::has_form;
@@ -48,27 +49,41 @@ impl<S: Alter> Model for Database<S> {
     ghost invariant = { λ d. (d.conn.in_transaction ≡ false) × (IsTrue d.known → IsAllCommitted (length d.shape.kinds) (state S.Store d.conn)) };
 }
 
-impl<S: Alter + Drop> Database<S> {
+impl<S: Alter> Database<S> {
     /// Opens what is stored for this schema, or makes it where the database has nothing. Another
-    /// schema that is stored is told; of its store nothing is known.
+    /// schema that is stored is told; its store, and what is no store, is left as it is, and
+    /// nothing is known of it.
     pub fn open(
         alloc: Global,
         conn: Connection<S>,
         shape: Shape,
         schema: &Txt,
-    ) -> Result<(Database<S>, Option<Txt>), Unfit>
-        ensures { IfOk result (OpensBased schema.now shape.kinds shape.nested) }
+    ) -> (Database<S>, Result<Option<Txt>, Unfit>)
+        requires outside { conn.in_transaction ≡ false }
+        ensures { OpensBased S.Store schema.now shape.kinds shape.nested conn result.0 result.1 }
     {
         if !conn.is_autocommit() {
-            return Err(Unfit::Refused(CORRUPT));
+            unreachable!()
         }
         if has_nothing(&conn) {
             return Database::found(conn, shape, schema);
         }
         if !has_form(&conn) {
-            return Err(Unfit::Form);
+            return (Database::untold(conn, shape), Err(Unfit::Form));
         }
         Database::reopen(alloc, conn, shape, schema)
+    }
+
+    // One of which nothing is known.
+    fn untold(conn: Connection<S>, shape: Shape) -> Database<S>
+        requires outside { conn.in_transaction ≡ false }
+        ensures { result ≡ based_keeper S.Store shape.kinds false conn }
+    {
+        Database {
+            conn,
+            shape,
+            known: false,
+        }
     }
 
     // A new store.
@@ -76,21 +91,21 @@ impl<S: Alter + Drop> Database<S> {
         mut conn: Connection<S>,
         shape: Shape,
         schema: &Txt,
-    ) -> Result<(Database<S>, Option<Txt>), Unfit>
+    ) -> (Database<S>, Result<Option<Txt>, Unfit>)
         requires outside { conn.in_transaction ≡ false }
         requires none { (state S.Store conn).now.schema ≡ no_tables }
-        ensures { IfOk result (OpensBased schema.now shape.kinds shape.nested) }
+        ensures { OpensBased S.Store schema.now shape.kinds shape.nested conn result.0 result.1 }
     {
         match make_tables(&mut conn, schema) {
-            Ok(()) => Ok((
+            Ok(()) => (
                 Database {
                     conn,
                     shape,
                     known: true,
                 },
-                None,
-            )),
-            Err(error) => Err(Unfit::Refused(error)),
+                Ok(None),
+            ),
+            Err(error) => (Database::untold(conn, shape), Err(Unfit::Refused(error))),
         }
     }
 
@@ -100,37 +115,54 @@ impl<S: Alter + Drop> Database<S> {
         mut conn: Connection<S>,
         shape: Shape,
         schema: &Txt,
-    ) -> Result<(Database<S>, Option<Txt>), Unfit>
+    ) -> (Database<S>, Result<Option<Txt>, Unfit>)
         requires outside { conn.in_transaction ≡ false }
         requires settled { IsTrue (state S.Store conn).is_open → (state S.Store conn).now
             ≡ (state S.Store conn).committed }
         requires form { (state S.Store conn).now.schema ≡ two_tables 0 1 2 }
         requires live { IsLive (state S.Store conn) }
-        ensures { IfOk result (OpensBased schema.now shape.kinds shape.nested) }
+        ensures { OpensBased S.Store schema.now shape.kinds shape.nested conn result.0 result.1 }
     {
-        test_key(&mut conn)?;
-        match find_schema(alloc, &mut conn, schema) {
-            Ok(None) => {
-                test_stored(alloc, &mut conn, &shape)?;
-                Ok((
-                    Database {
-                        conn,
-                        shape,
-                        known: true,
-                    },
-                    None,
-                ))
-            }
-            Ok(Some(stored)) => Ok((
+        match read_whole(alloc, &mut conn, &shape, schema) {
+            Ok(None) => (
                 Database {
                     conn,
                     shape,
-                    known: false,
+                    known: true,
                 },
-                Some(stored),
-            )),
-            Err(error) => Err(Unfit::Refused(error)),
+                Ok(None),
+            ),
+            Ok(Some(stored)) => (Database::untold(conn, shape), Ok(Some(stored))),
+            Err(unfit) => (Database::untold(conn, shape), Err(unfit)),
         }
+    }
+}
+
+// Reads and tests all of a store that was made before, or tells of another schema.
+fn read_whole<S: Alter>(
+    alloc: Global,
+    conn: &mut Connection<S>,
+    shape: &Shape,
+    schema: &Txt,
+) -> Result<Option<Txt>, Unfit>
+    requires settled { IsTrue (state S.Store conn.old).is_open → (state S.Store conn.old).now
+        ≡ (state S.Store conn.old).committed }
+    requires form { (state S.Store conn.old).now.schema ≡ two_tables 0 1 2 }
+    requires live { IsLive (state S.Store conn.old) }
+    ensures read { IfOk result
+        (ReadsWhole S.Store schema.now shape.now.kinds shape.now.nested conn.new) }
+    ensures left { IsSeenUnmoved (state S.Store conn.old) (state S.Store conn.new) }
+    ensures lasts { ConnectionLasts (state S.Store conn.old) (state S.Store conn.new) }
+    ensures mode { conn.old.in_transaction ≡ false → conn.new.in_transaction ≡ false }
+{
+    test_key(conn)?;
+    match find_schema(alloc, conn, schema) {
+        Ok(None) => {
+            test_stored(alloc, conn, shape)?;
+            Ok(None)
+        }
+        Ok(Some(stored)) => Ok(Some(stored)),
+        Err(error) => Err(Unfit::Refused(error)),
     }
 }
 
@@ -148,13 +180,16 @@ impl<S: Alter> Database<S> {
     pub fn number(&mut self) -> Result<u64, Error>
         ensures in_range { IfOk result IsNext }
         ensures reads { ReadsBased (λ s n. n ≡ s.number) self.old self.new result }
+        ensures goes { DatabaseGoesOn S.Store self.old self.new }
     {
         read_number(&mut self.conn)
     }
 
     /// A model that the schema doesn't have has no rows.
     pub fn rows(&mut self, alloc: Global, model: u8) -> Result<Rows, Error>
-        ensures { ReadsBased (λ s rows. rows ≡ rows_of s.tables model) self.old self.new result }
+        ensures reads { ReadsBased (λ s rows. rows ≡ rows_of s.tables model)
+            self.old self.new result }
+        ensures goes { DatabaseGoesOn S.Store self.old self.new }
     {
         match kinds_of(&self.shape, model) {
             Some(kinds) => read_model(alloc, &mut self.conn, model, kinds),
@@ -163,8 +198,10 @@ impl<S: Alter> Database<S> {
     }
 
     pub fn one(&mut self, alloc: Global, id: Id) -> Result<Rows, Error>
-        ensures { ReadsBased (λ s rows. rows ≡ alternatives id (rows_of s.tables (model_of_id id)))
+        ensures reads { ReadsBased
+            (λ s rows. rows ≡ alternatives id (rows_of s.tables (model_of_id id)))
             self.old self.new result }
+        ensures goes { DatabaseGoesOn S.Store self.old self.new }
     {
         match kinds_of(&self.shape, id_model(id)) {
             Some(kinds) => read_record(alloc, &mut self.conn, id, kinds),
@@ -180,8 +217,10 @@ impl<S: Alter> Database<S> {
         field: u8,
         value: &Value,
     ) -> Result<Rows, Error>
-        ensures { ReadsBased (λ s rows. rows ≡ holders field value.now (rows_of s.tables model))
+        ensures reads { ReadsBased
+            (λ s rows. rows ≡ holders field value.now (rows_of s.tables model))
             self.old self.new result }
+        ensures goes { DatabaseGoesOn S.Store self.old self.new }
     {
         let rows = self.rows(alloc, model);
         found_among(alloc, rows, field, value)
@@ -190,6 +229,7 @@ impl<S: Alter> Database<S> {
     pub fn apply(&mut self, alloc: Global, change: &Change) -> Result<(), Error>
         requires good { IsTrue self.old.tells → IsSound (changed_state change.now self.old.state) }
         ensures applies { AppliesBased change.now self.old self.new result }
+        ensures goes { DatabaseGoesOn S.Store self.old self.new }
     {
         let models = self.shape.kinds.as_slice().len();
         write_change(alloc, &mut self.conn, models, change, None)
@@ -205,8 +245,9 @@ impl<S: Alter> Database<S> {
     ) -> Result<(), Error>
         requires fit { IsTrue self.old.tells → IsFit (shapes_by shape.kinds shape.nested)
             (widened_state (length shape.kinds) (changed_state change.now self.old.state)) }
-        ensures { ReshapesBased change.now schema.now (length shape.kinds) self.old self.new
-            result }
+        ensures reshapes { ReshapesBased change.now schema.now (length shape.kinds)
+            self.old self.new result }
+        ensures goes { DatabaseGoesOn S.Store self.old self.new }
     {
         let models = self.shape.kinds.as_slice().len();
         match write_change(alloc, &mut self.conn, models, change, Some(schema)) {

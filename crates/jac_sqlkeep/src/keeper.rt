@@ -1,4 +1,4 @@
-ghost use Rattle.std.specs.Prelude.{◌≡◌, ◌≤◌, ◌||◌, ℕ, List, Option, Err, IfOk, OnOk, OnErr, IsSomeAnd, IsTrue, true, false, is_some, length};
+ghost use Rattle.std.specs.Prelude.{◌≡◌, ◌≤◌, ◌^◌, ◌||◌, ℕ, List, Option, Err, IfOk, OnOk, OnErr, IsSomeAnd, IsTrue, true, false, is_some, length};
 ghost use Rattle.std.specs.Option.{option_copied};
 ghost use Rattle.jac_value.specs.Ids.{model_of_id};
 ghost use Rattle.jac_io.specs.Faults.{Rose};
@@ -13,7 +13,7 @@ ghost use Rattle.jac_keep.specs.Schema.{IsSchema, IsFit, shapes_by};
 ghost use Rattle.jac_keep.specs.Attaching.{Attaches};
 ghost use Rattle.jac_keep.specs.declared.vault.AttachFault.TheVariants.{Other};
 ghost use Rattle.jac_sqlkeep.specs.Based.{Based};
-ghost use Rattle.jac_sqlkeep.specs.Kept.{HasSchema, TellsSchema, IsRefusedAs};
+ghost use Rattle.jac_sqlkeep.specs.Kept.{HasSchema, TellsSchema, IsRefusedAs, BeginsGiven, IsLeftAs, KeeperGoesOn};
 
 use crate::Opener;
 use crate::cause::{Unfit, error_of, stop_of};
@@ -47,7 +47,7 @@ impl<O: Opener> Model for SqlKeeper<O> {
 
     ghost Value = { Kept };
 
-    ghost view = { λ k. record { store = record { called = k.called; attached = is_some k.database; schema = k.schema; name = k.name }; faults = k.faults; database = k.database; refused = k.refused } };
+    ghost view = { λ k. record { store = record { called = k.called; attached = is_some k.database; schema = k.schema; name = k.name }; faults = k.faults; unopened = O.faults k.opener; database = k.database; refused = k.refused } };
 
     ghost invariant = { λ k. IsTrue (is_some k.database) → IsTrue k.called };
 }
@@ -57,7 +57,7 @@ impl<O: Opener> SqlKeeper<O> {
 
     /// A keeper that wasn't attached yet.
     pub fn new(opener: O) -> SqlKeeper<O>
-        ensures { result ≡ untouched_keeper }
+        ensures { result ≡ untouched_keeper (O.faults opener) }
     {
         SqlKeeper {
             opener,
@@ -81,13 +81,19 @@ impl<O: Opener> SqlKeeper<O> {
     }
 }
 
-impl<O: Opener + Drop> SqlKeeper<O> {
-    /// The connection, if it is attached, or that to a store of another schema, which was refused.
-    pub fn into_connection(self) -> Option<Connection<O::Store>>
-        ensures { is_some result ≡ (is_some self.database || is_some self.refused) }
+impl<O: Opener> SqlKeeper<O> {
+    pub fn is_attached(&self) -> bool
+        ensures { result ≡ self.now.store.attached }
+    {
+        self.database.is_some()
+    }
+
+    /// The opener, and the connection, if it is attached, or that to a store that was refused.
+    pub fn into_parts(self) -> (O, Option<Connection<O::Store>>)
+        ensures some { is_some result.1 ≡ (is_some self.database || is_some self.refused) }
     {
         let SqlKeeper {
-            opener: _,
+            opener,
             called: _,
             schema: _,
             name: _,
@@ -96,13 +102,14 @@ impl<O: Opener + Drop> SqlKeeper<O> {
             unfit: _,
             faults: _,
         } = self;
-        match database {
+        let conn = match database {
             Some(database) => Some(database.into_connection()),
             None => match refused {
                 Some(refused) => Some(refused.into_connection()),
                 None => None,
             },
-        }
+        };
+        (opener, conn)
     }
 }
 
@@ -111,7 +118,14 @@ impl<O: Opener> Keeper for SqlKeeper<O> {
 
     ghost seen = { seen_kept };
 
-    fn number(&mut self) -> Result<u64, Stop> {
+    fn number(&mut self) -> Result<u64, Stop>
+        requires { IsTrue self.old.store.attached }
+        ensures exact { IsTrue (seen_kept self.new).tells
+            → IfOk result (λ n. n ≡ (seen_kept self.old).state.number) }
+        ensures in_range { IfOk result (λ n. (1 ≤ n) × (n ≤ 2 ^ 40)) }
+        ensures reads { Reads (seen_kept self.old) (seen_kept self.new) result }
+        ensures goes { KeeperGoesOn O.Store.Store self.old.database self.new.database }
+    {
         let Some(database) = &mut self.database else {
             unreachable!()
         };
@@ -121,7 +135,13 @@ impl<O: Opener> Keeper for SqlKeeper<O> {
         }
     }
 
-    fn rows(&mut self, alloc: Global, model: u8) -> Result<Rows, Stop> {
+    fn rows(&mut self, alloc: Global, model: u8) -> Result<Rows, Stop>
+        requires { IsTrue self.old.store.attached }
+        ensures exact { IsTrue (seen_kept self.new).tells
+            → IfOk result (λ rows. rows ≡ rows_of (seen_kept self.old).state.tables model) }
+        ensures reads { Reads (seen_kept self.old) (seen_kept self.new) result }
+        ensures goes { KeeperGoesOn O.Store.Store self.old.database self.new.database }
+    {
         let Some(database) = &mut self.database else {
             unreachable!()
         };
@@ -131,7 +151,14 @@ impl<O: Opener> Keeper for SqlKeeper<O> {
         }
     }
 
-    fn one(&mut self, alloc: Global, id: Id) -> Result<Rows, Stop> {
+    fn one(&mut self, alloc: Global, id: Id) -> Result<Rows, Stop>
+        requires { IsTrue self.old.store.attached }
+        ensures exact { IsTrue (seen_kept self.new).tells
+            → IfOk result (λ rows. rows ≡ alternatives id (rows_of (seen_kept self.old).state.tables
+            (model_of_id id))) }
+        ensures reads { Reads (seen_kept self.old) (seen_kept self.new) result }
+        ensures goes { KeeperGoesOn O.Store.Store self.old.database self.new.database }
+    {
         let Some(database) = &mut self.database else {
             unreachable!()
         };
@@ -148,7 +175,14 @@ impl<O: Opener> Keeper for SqlKeeper<O> {
         model: u8,
         field: u8,
         value: &Value,
-    ) -> Result<Rows, Stop> {
+    ) -> Result<Rows, Stop>
+        requires { IsTrue self.old.store.attached }
+        ensures exact { IsTrue (seen_kept self.new).tells
+            → IfOk result (λ rows. rows ≡ holders field value.now
+            (rows_of (seen_kept self.old).state.tables model)) }
+        ensures reads { Reads (seen_kept self.old) (seen_kept self.new) result }
+        ensures goes { KeeperGoesOn O.Store.Store self.old.database self.new.database }
+    {
         let Some(database) = &mut self.database else {
             unreachable!()
         };
@@ -158,7 +192,18 @@ impl<O: Opener> Keeper for SqlKeeper<O> {
         }
     }
 
-    fn apply(&mut self, alloc: Global, change: &Change) -> Result<(), Stop> {
+    fn apply(&mut self, alloc: Global, change: &Change) -> Result<(), Stop>
+        requires attached { IsTrue self.old.store.attached }
+        requires good { IsTrue (seen_kept self.old).tells
+            → IsSound (changed_state change.now (seen_kept self.old).state) }
+        ensures exact { IsTrue (seen_kept self.new).tells
+            → OnOk result ((seen_kept self.new).state
+            ≡ changed_state change.now (seen_kept self.old).state) }
+        ensures refused { IsTrue (seen_kept self.new).tells
+            → OnErr result ((seen_kept self.new).state ≡ (seen_kept self.old).state) }
+        ensures kept { Keeps (seen_kept self.old) (seen_kept self.new) result }
+        ensures goes { KeeperGoesOn O.Store.Store self.old.database self.new.database }
+    {
         let Some(database) = &mut self.database else {
             unreachable!()
         };
@@ -181,6 +226,10 @@ impl<O: Opener> Vault for SqlKeeper<O> {
         ensures stored { OnOk result (IsSomeAnd self.new.database (HasSchema schema.now)) }
         ensures other_stored { (stored : List ℕ) → result ≡ Err (Other stored)
             → IsSomeAnd self.new.refused (HasSchema stored) }
+        ensures begins { OnOk result (IsSomeAnd self.new.database
+            (BeginsGiven O.Store.Store (O.gives (option_copied name.entry)) schema.now)) }
+        ensures left { IsLeftAs O.Store.Store (O.gives (option_copied name.entry)) self.old self.new
+            result }
     {
         self.called = true;
         let Ok(known) = known_of(alloc, name, schema) else {
@@ -195,15 +244,14 @@ impl<O: Opener> Vault for SqlKeeper<O> {
             shape,
             schema: copy,
         } = known;
-        match Database::open(alloc, conn, shape, schema) {
-            Ok((database, other)) => match other {
-                None => {
-                    self.begin(database, name, copy);
-                    Ok(())
-                }
-                Some(stored) => self.refuse(alloc, database, stored),
-            },
-            Err(unfit) => Err(self.fail(unfit)),
+        let (database, told) = Database::open(alloc, conn, shape, schema);
+        match told {
+            Ok(None) => {
+                self.begin(database, name, copy);
+                Ok(())
+            }
+            Ok(Some(stored)) => self.refuse(alloc, database, stored),
+            Err(unfit) => Err(self.fail(database, unfit)),
         }
     }
 
@@ -216,6 +264,7 @@ impl<O: Opener> Vault for SqlKeeper<O> {
         ensures reshapes { Reshapes (seen_kept self.old) (seen_kept self.new) change.now schema.now
             result }
         ensures stored { OnOk result (IsSomeAnd self.new.database (TellsSchema schema.now)) }
+        ensures goes { KeeperGoesOn O.Store.Store self.old.database self.new.database }
     {
         let Ok(known) = known_of(alloc, None, schema) else {
             return Err(Stop::Memory);
@@ -266,10 +315,10 @@ impl<O: Opener> SqlKeeper<O> {
     ) -> Result<(), AttachFault>
         ensures refused { IsRefusedAs self.old self.new database stored result }
     {
+        self.refused = Some(database);
         match stored.copy(alloc) {
             Ok(copy) => {
                 self.schema = Some(copy);
-                self.refused = Some(database);
                 Err(AttachFault::Other(stored))
             }
             Err(Memory) => Err(AttachFault::Memory),
@@ -277,13 +326,17 @@ impl<O: Opener> SqlKeeper<O> {
     }
 
     // What is stored isn't attached.
-    fn fail(&mut self, unfit: Unfit) -> AttachFault
+    fn fail(&mut self, database: Database<O::Store>, unfit: Unfit) -> AttachFault
         ensures later { self.old.faults ≤ self.new.faults }
         ensures rose { result ≡ AttachFault.Failed → Rose self.old.faults self.new.faults }
         ensures other { (stored : List ℕ) → ¬ (result ≡ AttachFault.Other stored) }
-        ensures same { self.new ≡ record self.old { faults = self.new.faults } }
+        ensures same { self.new ≡ record self.old {
+          faults = self.new.faults;
+          refused = Some database;
+        } }
     {
         self.unfit = Some(unfit);
+        self.refused = Some(database);
         fault_of(stop_of(error_of(unfit), &mut self.faults))
     }
 }

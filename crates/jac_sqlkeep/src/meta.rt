@@ -7,6 +7,7 @@ ghost use Rattle.sqlite.specs.Held.{state};
 ghost use Rattle.sqlite.specs.State.{HasCleanDisk};
 ghost use Rattle.jac_rows.specs.Good.{IsNext};
 ghost use Rattle.jac_sql_spec.specs.Founding.{HasNumber, IsNumberAsked, IsFrom, FindsSchema, Tells};
+ghost use Rattle.jac_sql_spec.specs.Lasting.{ConnectionLasts, LeavesStoredTables};
 ghost use Rattle.jac_sql_spec.specs.Statements.{founding, numbering, reshaping, settings};
 ghost use Rattle.jac_sql_spec.specs.Tables.{no_tables};
 ghost use Rattle.jac_sql_spec.specs.Telling.{IsAllCommitted, ReadsTold};
@@ -47,6 +48,8 @@ pub fn read_number<S: Alter>(conn: &mut Connection<S>) -> Result<u64, Error>
         → IfOk result (IsNumberAsked S.Store conn.old conn.new) }
     ensures told { (models : _) → IsAllCommitted models (state S.Store conn.old)
         → ReadsTold S.Store (λ s n. n ≡ s.number) models conn.old conn.new result }
+    ensures left { LeavesStoredTables (state S.Store conn.old) (state S.Store conn.new) }
+    ensures lasts { ConnectionLasts (state S.Store conn.old) (state S.Store conn.new) }
     ensures mode { conn.old.in_transaction ≡ false → conn.new.in_transaction ≡ false }
 {
     let row = conn.query_row(READ, &[]);
@@ -82,8 +85,9 @@ fn number_of(row: &Row) -> Option<u64>
     }
 }
 
+/// The one text that sets the number.
 #[tactic(auto, unfolding(jac_sql_spec::specs::Statements::numbering))]
-fn set_number<S: Alter>(tx: &mut Transaction<'_, S>, number: u64) -> Result<(), Error>
+pub fn set_number<S: Alter>(tx: &mut Transaction<'_, S>, number: u64) -> Result<(), Error>
     ensures same { tx.new.conn.ghost_name ≡ tx.old.conn.ghost_name }
     ensures inside { Inside S.Store (numbering number ∷ []) tx.old.conn.now tx.new.conn.now result }
 {
@@ -109,8 +113,13 @@ pub fn set_meta<S: Alter>(
     }
 }
 
+/// The one text that sets the number and the schema text.
 #[tactic(auto, unfolding(jac_sql_spec::specs::Statements::reshaping))]
-fn set_schema<S: Alter>(tx: &mut Transaction<'_, S>, number: u64, schema: &Txt) -> Result<(), Error>
+pub fn set_schema<S: Alter>(
+    tx: &mut Transaction<'_, S>,
+    number: u64,
+    schema: &Txt,
+) -> Result<(), Error>
     ensures same { tx.new.conn.ghost_name ≡ tx.old.conn.ghost_name }
     ensures inside { Inside S.Store (reshaping number schema.now ∷ []) tx.old.conn.now
         tx.new.conn.now result }
@@ -143,6 +152,8 @@ fn is_nothing(schema: &Schema) -> bool
 pub fn test_key<S: Alter>(conn: &mut Connection<S>) -> Result<(), Unfit>
     ensures shown { HasCleanDisk (state S.Store conn.new)
         → OnOk result (ShowsKey S.Store conn.old conn.new) }
+    ensures left { LeavesStoredTables (state S.Store conn.old) (state S.Store conn.new) }
+    ensures lasts { ConnectionLasts (state S.Store conn.old) (state S.Store conn.new) }
     ensures mode { conn.old.in_transaction ≡ false → conn.new.in_transaction ≡ false }
 {
     let found = conn.query_all(KEYS, &[]);
@@ -192,6 +203,8 @@ pub fn find_schema<S: Alter>(
     ensures other { IfOk result (λ other. IfSome other (λ stored. ¬ (stored ≡ schema.now))) }
     ensures found { HasCleanDisk (state S.Store conn.new) → FindsSchema S.Store schema.now conn.old
         conn.new result }
+    ensures left { LeavesStoredTables (state S.Store conn.old) (state S.Store conn.new) }
+    ensures lasts { ConnectionLasts (state S.Store conn.old) (state S.Store conn.new) }
     ensures mode { conn.old.in_transaction ≡ false → conn.new.in_transaction ≡ false }
 {
     match conn.query_row(READ, &[]) {

@@ -1,12 +1,17 @@
-ghost use Rattle.std.specs.Prelude.{ℕ};
+ghost use Rattle.std.specs.Prelude.{◌≡◌, ℕ, List, Option, Some, None, codes, false, Err, IfOk, IsErr};
+ghost use Rattle.std.specs.Option.{option_copied};
+ghost use Rattle.sqlite.specs.Files.{file_state, IsOpened};
+ghost use Rattle.sqlite.specs.Held.{Held, IsNew, state};
+ghost use Rattle.sqlite.specs.State.{HasCleanDisk};
+ghost use Rattle.sqlite.specs.Steps.{over_memory, IsEmpty};
 ghost use Rattle.jac_sqlkeep.specs.Opening.{OpensFile};
 
 use crate::cause::stop_of;
 use jac_keep::{AttachFault, Stop};
 use jac_value::Txt;
-use sqlite::{Alter, Connection, Error, ErrorCode, File, FileStore, MemStore};
-use std::alloc::Global;
-use std::fs;
+use sqlite::{Alter, Connection, Error, ErrorCode, File, FileStore, MemStore, Unknown};
+use std::alloc::{AllocError, Global};
+use std::{fs, io};
 
 /// What opens a database.
 pub trait Opener {
@@ -16,13 +21,18 @@ pub trait Opener {
     /// How often an opening failed. It never falls, and stands still at 2^64 - 1.
     ghost faults: { Self → ℕ };
 
+    /// What is known of a connection of this name as it is given.
+    ghost gives: { Option (List ℕ) → Held Self.Store → Type 0 };
+
     /// Opens the database of this name, or makes it.
     fn open(
         &mut self,
         alloc: Global,
         name: Option<&Txt>,
     ) -> Result<Connection<Self::Store>, AttachFault>
-        ensures { OpensFile (faults self.old) (faults self.new) result };
+        ensures opens { OpensFile (faults self.old) (faults self.new) result }
+        ensures gives { IfOk result (gives (option_copied name.entry)) }
+        ensures outside { IfOk result (λ c. c.in_transaction ≡ false) };
 }
 
 /// Why a file wasn't opened.
@@ -43,19 +53,29 @@ pub enum OpenFault {
 pub struct FileOpener {
     rt: HostRuntime,
     makes: bool,
+    log: Option<Txt>,
     fault: Option<OpenFault>,
     faults: u64,
 }
 
 impl FileOpener {
     /// One that makes the files that aren't there, or one that doesn't open them.
-    pub fn new(rt: HostRuntime, makes: bool) -> FileOpener {
+    pub fn new(rt: HostRuntime, makes: bool) -> FileOpener
+        ensures { result.faults ≡ 0 }
+    {
         FileOpener {
             rt,
             makes,
+            log: None,
             fault: None,
             faults: 0,
         }
+    }
+
+    /// The name of the log that the last opening made beside a file that was there and had none,
+    /// where the file was opened.
+    pub fn new_log(&self) -> Option<&Txt> {
+        self.log.as_ref()
     }
 
     /// Why the last opening failed.
@@ -69,21 +89,32 @@ impl Opener for FileOpener {
 
     ghost faults = { λ o. o.faults };
 
-    /// `Failed` without a name.
+    ghost gives = { λ name c. (HasCleanDisk (file_state c) → IsOpened c) × IsNew c };
+
+    /// `Failed` without a name. That it is the file of the name is the host's to say: no clause
+    /// says it.
     fn open(
         &mut self,
         _: Global,
         name: Option<&Txt>,
     ) -> Result<Connection<FileStore<File>>, AttachFault>
-        ensures { OpensFile self.old.faults self.new.faults result }
+        ensures opens { OpensFile self.old.faults self.new.faults result }
+        ensures gives { IfOk result (λ c. (HasCleanDisk (file_state c) → IsOpened c) × IsNew c) }
+        ensures outside { IfOk result (λ c. c.in_transaction ≡ false) }
+        ensures unnamed { option_copied name.entry ≡ None → IsErr result }
+        ensures memory { option_copied name.entry ≡ Some (codes ":memory:") → IsErr result }
     {
         if !self.makes && !is_there(&self.rt, name) {
             self.fault = Some(OpenFault::Missing);
             self.faults = self.faults.saturating_add(1);
             return Err(AttachFault::Failed);
         }
-        match open_file(&self.rt, name) {
-            Ok(conn) => Ok(conn),
+        let log = log_to_come(&self.rt, name);
+        match open_file(&self.rt, name, log.as_ref()) {
+            Ok(conn) => {
+                self.log = log;
+                Ok(conn)
+            }
             Err(error) => {
                 self.fault = Some(fault_of(error));
                 match stop_of(error, &mut self.faults) {
@@ -113,11 +144,67 @@ fn fault_of(error: Error) -> OpenFault {
     }
 }
 
-fn open_file(rt: &HostRuntime, name: Option<&Txt>) -> Result<Connection<FileStore<File>>, Error> {
-    match name {
-        Some(name) => Connection::open(rt, name.as_str()),
-        None => Err(Error::SqliteFailure(ErrorCode::CannotOpen)),
+// A log that is made for a file that is refused is removed while the files are locked: so it is
+// this opening's own. One that something was written to stays, for the next opening.
+fn open_file(
+    rt: &HostRuntime,
+    name: Option<&Txt>,
+    log: Option<&Txt>,
+) -> Result<Connection<FileStore<File>>, Error>
+    ensures gives { IfOk result (λ c. (HasCleanDisk (file_state c) → IsOpened c) × IsNew c) }
+    ensures unnamed { option_copied name.entry ≡ None → IsErr result }
+    ensures memory { option_copied name.entry ≡ Some (codes ":memory:") → IsErr result }
+{
+    let Some(name) = name else {
+        return Err(Error::SqliteFailure(ErrorCode::CannotOpen));
+    };
+    match Connection::open_from(rt, name.as_str(), false, Unknown) {
+        Ok(conn) => Ok(conn),
+        Err((error, left)) => {
+            if left.is_some() {
+                remove_if_empty(rt, log);
+            }
+            Err(error)
+        }
     }
+}
+
+fn remove_if_empty(rt: &HostRuntime, log: Option<&Txt>) {
+    let Some(log) = log else {
+        return;
+    };
+    if is_empty(rt, log.as_str()) {
+        let _ = fs::remove_file(rt, log.as_str());
+    }
+}
+
+fn is_empty(rt: &HostRuntime, name: &str) -> bool {
+    match fs::metadata(rt, name) {
+        Ok(found) => found.len() == 0,
+        Err(_) => false,
+    }
+}
+
+// The name of the log beside a file that is there, where there is none yet: beside the file that a
+// link leads to, and not beside the link.
+fn log_to_come(rt: &HostRuntime, name: Option<&Txt>) -> Option<Txt> {
+    let name = name?;
+    let Ok(real) = fs::canonicalize(rt, name.as_str()) else {
+        return None;
+    };
+    let Ok(log) = log_beside(rt.alloc(), real.as_str()) else {
+        return None;
+    };
+    match fs::symlink_metadata(rt, log.as_str()) {
+        Err(error) if error.kind() == io::ErrorKind::NotFound => Some(log),
+        _ => None,
+    }
+}
+
+fn log_beside(alloc: Global, name: &str) -> Result<Txt, AllocError> {
+    let mut log = String::from_str(alloc, name)?;
+    log.push_str("-wal")?;
+    Ok(Txt::from_string(log))
 }
 
 /// Opens a new database in memory, whatever the name.
@@ -135,8 +222,13 @@ impl Opener for MemoryOpener {
 
     ghost faults = { λ _. 0 };
 
+    ghost gives = { λ name c. IsEmpty (state over_memory c) × IsNew c };
+
+    /// It has no table at all.
     fn open(&mut self, alloc: Global, _: Option<&Txt>) -> Result<Connection<MemStore>, AttachFault>
-        ensures { OpensFile 0 0 result }
+        ensures opens { OpensFile 0 0 result }
+        ensures gives { IfOk result (λ c. IsEmpty (state over_memory c) × IsNew c) }
+        ensures outside { IfOk result (λ c. c.in_transaction ≡ false) }
     {
         match Connection::open_in_memory(alloc) {
             Ok(conn) => Ok(conn),

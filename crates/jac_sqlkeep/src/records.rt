@@ -13,6 +13,7 @@ ghost use Rattle.jac_row_codec.specs.Faults.{CanBeSpelled};
 ghost use Rattle.jac_row_codec.specs.Spelling.{guard_bytes, cells_bytes};
 ghost use Rattle.jac_keep.specs.Alterations.{ArePlaced};
 ghost use Rattle.jac_keep.specs.Records.{alternatives};
+ghost use Rattle.jac_sql_spec.specs.Lasting.{ConnectionLasts};
 ghost use Rattle.jac_sql_spec.specs.Reading.{AreShown, Each, IsModelRow, IsRecordRow, IsRowIn};
 ghost use Rattle.jac_sql_spec.specs.Statements.{model_reading, record_reading, removal, addition, replacement, replacements, statements_with};
 ghost use Rattle.jac_sql_spec.specs.Stands.{AreNarrow};
@@ -52,6 +53,7 @@ pub fn read_model<S: Alter>(
     ensures told { (models : _) → IsAllCommitted models (state S.Store conn.old)
         → ReadsTold S.Store (λ s rows. rows ≡ rows_of s.tables model) models conn.old conn.new
         result }
+    ensures lasts { ConnectionLasts (state S.Store conn.old) (state S.Store conn.new) }
     ensures mode { conn.old.in_transaction ≡ false → conn.new.in_transaction ≡ false }
 {
     let found = conn.query_all(READ_MODEL, params![u32::from(model)]);
@@ -72,6 +74,7 @@ pub fn read_record<S: Alter>(
     ensures told { (models : _) → IsAllCommitted models (state S.Store conn.old)
         → ReadsTold S.Store (λ s rows. rows ≡ alternatives id (rows_of s.tables (model_of_id id)))
         models conn.old conn.new result }
+    ensures lasts { ConnectionLasts (state S.Store conn.old) (state S.Store conn.new) }
     ensures mode { conn.old.in_transaction ≡ false → conn.new.in_transaction ≡ false }
 {
     let jid = encode_id(id);
@@ -261,8 +264,9 @@ fn write_records<S: Alter>(
     Ok(())
 }
 
+/// Replaces one record: the text that removes it, and then one for each alternative.
 #[tactic(auto, using(crate::proofs::Steps::replaced_start, crate::proofs::Steps::replaced_next, crate::proofs::Steps::replaced_end, crate::proofs::Steps::halfway_failed, crate::proofs::Steps::failed_of, crate::proofs::Read::all_behind))]
-fn write_record<S: Alter>(
+pub fn write_record<S: Alter>(
     alloc: Global,
     tx: &mut Transaction<'_, S>,
     alteration: &Alteration,
@@ -280,8 +284,9 @@ fn write_record<S: Alter>(
     Ok(())
 }
 
+/// The one text that removes the alternatives of a record.
 #[tactic(auto, unfolding(jac_sql_spec::specs::Statements::removal))]
-fn remove<S: Alter>(tx: &mut Transaction<'_, S>, id: Id) -> Result<(), Error>
+pub fn remove<S: Alter>(tx: &mut Transaction<'_, S>, id: Id) -> Result<(), Error>
     ensures same { tx.new.conn.ghost_name ≡ tx.old.conn.ghost_name }
     ensures inside { Inside S.Store (removal id ∷ []) tx.old.conn.now tx.new.conn.now result }
 {
@@ -289,7 +294,8 @@ fn remove<S: Alter>(tx: &mut Transaction<'_, S>, id: Id) -> Result<(), Error>
     run(tx, REMOVE, params![u32::from(id_model(id)), jid.as_slice()])
 }
 
-fn add<S: Alter>(
+/// The one text that adds an alternative.
+pub fn add<S: Alter>(
     alloc: Global,
     tx: &mut Transaction<'_, S>,
     alt: usize,

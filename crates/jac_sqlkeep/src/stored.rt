@@ -9,6 +9,7 @@ ghost use Rattle.jac_value.specs.Ids.{number_of_id};
 ghost use Rattle.jac_world.specs.World.{IsApart};
 ghost use Rattle.jac_rows.specs.Good.{IsNext};
 ghost use Rattle.jac_keep.specs.Schema.{shapes_by};
+ghost use Rattle.jac_sql_spec.specs.Lasting.{ConnectionLasts, LeavesStoredTables};
 ghost use Rattle.jac_sql_spec.specs.Testing.{IsRowidAbove, AreRowidsAbove, MovesOn, ReadsOn, IsStoredRow, AreLinesOf, ShowsRowids, ShowsLines, ShowsStored};
 
 use crate::cause::{CORRUPT, NO_MEMORY, Unfit};
@@ -36,6 +37,8 @@ pub fn test_stored<S: Alter>(
     ensures shown { HasCleanDisk (state S.Store conn.new)
         → OnOk result (ShowsStored S.Store (shapes_by shape.now.kinds shape.now.nested) conn.old
         conn.new) }
+    ensures left { LeavesStoredTables (state S.Store conn.old) (state S.Store conn.new) }
+    ensures lasts { ConnectionLasts (state S.Store conn.old) (state S.Store conn.new) }
     ensures mode { conn.old.in_transaction ≡ false → conn.new.in_transaction ≡ false }
 {
     let number = match read_number(conn) {
@@ -46,11 +49,13 @@ pub fn test_stored<S: Alter>(
     test_rows(alloc, conn, shape, number)
 }
 
-// Tests that no rowid comes twice.
+/// Tests that no rowid comes twice.
 #[tactic(auto, unfolding(jac_sql_spec::specs::Statements::rowid_reading))]
-fn test_rowids<S: Alter>(conn: &mut Connection<S>) -> Result<(), Unfit>
+pub fn test_rowids<S: Alter>(conn: &mut Connection<S>) -> Result<(), Unfit>
     ensures shown { HasCleanDisk (state S.Store conn.new)
         → OnOk result (ShowsRowids S.Store conn.old conn.new) }
+    ensures left { LeavesStoredTables (state S.Store conn.old) (state S.Store conn.new) }
+    ensures lasts { ConnectionLasts (state S.Store conn.old) (state S.Store conn.new) }
     ensures mode { conn.old.in_transaction ≡ false → conn.new.in_transaction ≡ false }
 {
     let found = conn.query_all(ROWIDS, &[]);
@@ -101,9 +106,9 @@ fn rowid_above(last: Option<i64>, values: &Found) -> Option<i64>
     }
 }
 
-// Tests that the rows are those of tables of this shape.
+/// Tests that the rows are those of tables of this shape.
 #[tactic(auto, unfolding(jac_sql_spec::specs::Statements::all_reading))]
-fn test_rows<S: Alter>(
+pub fn test_rows<S: Alter>(
     alloc: Global,
     conn: &mut Connection<S>,
     shape: &Shape,
@@ -113,6 +118,8 @@ fn test_rows<S: Alter>(
     ensures shown { HasCleanDisk (state S.Store conn.new)
         → OnOk result (ShowsLines S.Store (shapes_by shape.now.kinds shape.now.nested) number
         conn.old conn.new) }
+    ensures left { LeavesStoredTables (state S.Store conn.old) (state S.Store conn.new) }
+    ensures lasts { ConnectionLasts (state S.Store conn.old) (state S.Store conn.new) }
     ensures mode { conn.old.in_transaction ≡ false → conn.new.in_transaction ≡ false }
 {
     let found = conn.query_all(ALL, &[]);

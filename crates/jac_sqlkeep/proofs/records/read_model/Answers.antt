@@ -2,6 +2,8 @@ use Rattle.jac_sql_spec.specs.Reading.{IsModelRow}
 use Rattle.jac_sql_spec.specs.Statements.{model_reading}
 use Rattle.jac_sql_spec.proofs.ReadRows.{model_told}
 use Rattle.jac_sqlkeep.proofs.Read.{are_shown}
+use Rattle.sqlite.specs.Held.{state}
+use Rattle.jac_sql_spec.proofs.Lasting.{lasts_of}
 use Rattle.jac_sqlkeep.proofs.records.read_model.Goals as goal
 
 pub returns-clause-shown : goal.returns-clause-shown
@@ -19,3 +21,6 @@ returns-clause-told g c models was =
     (rw (c.params-to_sql.ensures, c.from.ensures) at c.query_all-found.ensures.ok)
     (rw (c.params-to_sql.ensures, c.from.ensures) at c.query_all-found.ensures.err)
     c.model_found.ensures.each c.model_found.ensures.none was
+
+pub returns-clause-lasts : goal.returns-clause-lasts
+returns-clause-lasts g c = lasts_of (state g.S.Store c.args.conn.now) (state g.S.Store c.query_all-found.new.self) c.query_all-found.ensures.survives

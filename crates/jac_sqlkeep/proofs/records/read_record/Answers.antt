@@ -2,6 +2,8 @@ use Rattle.jac_sql_spec.specs.Reading.{IsRecordRow}
 use Rattle.jac_sql_spec.specs.Statements.{record_reading}
 use Rattle.jac_sql_spec.proofs.ReadRows.{record_told}
 use Rattle.jac_sqlkeep.proofs.Read.{are_shown}
+use Rattle.sqlite.specs.Held.{state}
+use Rattle.jac_sql_spec.proofs.Lasting.{lasts_of}
 use Rattle.jac_sqlkeep.proofs.records.read_record.Goals as goal
 
 pub returns-clause-shown : goal.returns-clause-shown
@@ -19,3 +21,6 @@ returns-clause-told g c models was =
     (rw (c.params-to_sql.ensures, c.from-model.ensures, c.id_model.ensures, c.params-to_sql-2.ensures, c.as_slice.ensures, c.encode_id-jid.ensures) at c.query_all-found.ensures.ok)
     (rw (c.params-to_sql.ensures, c.from-model.ensures, c.id_model.ensures, c.params-to_sql-2.ensures, c.as_slice.ensures, c.encode_id-jid.ensures) at c.query_all-found.ensures.err)
     c.record_found.ensures.each c.record_found.ensures.none was
+
+pub returns-clause-lasts : goal.returns-clause-lasts
+returns-clause-lasts g c = lasts_of (state g.S.Store c.args.conn.now) (state g.S.Store c.query_all-found.new.self) c.query_all-found.ensures.survives

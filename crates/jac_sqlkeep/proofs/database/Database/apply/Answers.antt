@@ -2,8 +2,10 @@ use Rattle.std.proofs.Common.{IsTrue, length, sym, subst}
 use Rattle.jac_rows.specs.Good.{IsSound}
 use Rattle.jac_keep.specs.ChangedState.{changed_state}
 use Rattle.jac_sql_spec.proofs.Kept.{change_told}
+use Rattle.sqlite.specs.Held.{state}
+use Rattle.jac_sql_spec.proofs.Lasting.{lasts_of}
 use Rattle.jac_sqlkeep.specs.Based.{Based}
-use Rattle.jac_sqlkeep.proofs.Based.{applies_based, sound_before}
+use Rattle.jac_sqlkeep.proofs.Based.{applies_based, sound_before, goes_by}
 use Rattle.jac_sqlkeep.proofs.database.Database.apply.Goals as goal
 
 pub invariant_of-self : goal.invariant_of-self
@@ -15,13 +17,16 @@ invariant_of-self g c = (
       (rw c.as_slice-models.ensures at c.write_change.ensures.stored) c.write_change.ensures.transacts).kept,
 )
 
-pub returns : goal.returns
-returns g c =
+pub returns-clause-applies : goal.returns-clause-applies
+returns-clause-applies g c =
     rw (← c.self.view_is)
-    (record {
-      applies = applies_based g.S.Store c.self.inside.shape.kinds c.self.inside.conn c.write_change.new.conn c.args.change.now c.write_change.result c.self.inside.known
-          (λ known. change_told g.S.Store (length c.self.inside.shape.kinds) c.self.inside.conn c.write_change.new.conn c.args.change.now (g.met.S.Store.shut_if_dirty c.write_change.new.conn.store)
-          (λ clean. c.write_change.ensures.ends clean c.self.invariant.0) (c.self.invariant.1 known) c.write_change.result
-          (sound_before g.S.Store c.self.inside.shape.kinds c.self.inside.conn c.args.change.now c.self.inside.known known (subst (λ (v : Based). IsTrue v.tells → IsSound (changed_state c.args.change.now v.state)) (sym c.self.view_is) c.requires.good))
-          (rw c.as_slice-models.ensures at c.write_change.ensures.stored) c.write_change.ensures.transacts);
-    })
+    (applies_based g.S.Store c.self.inside.shape.kinds c.self.inside.conn c.write_change.new.conn c.args.change.now c.write_change.result c.self.inside.known
+    (λ known. change_told g.S.Store (length c.self.inside.shape.kinds) c.self.inside.conn c.write_change.new.conn c.args.change.now (g.met.S.Store.shut_if_dirty c.write_change.new.conn.store)
+    (λ clean. c.write_change.ensures.ends clean c.self.invariant.0) (c.self.invariant.1 known) c.write_change.result
+    (sound_before g.S.Store c.self.inside.shape.kinds c.self.inside.conn c.args.change.now c.self.inside.known known (subst (λ (v : Based). IsTrue v.tells → IsSound (changed_state c.args.change.now v.state)) (sym c.self.view_is) c.requires.good))
+    (rw c.as_slice-models.ensures at c.write_change.ensures.stored) c.write_change.ensures.transacts))
+
+pub returns-clause-goes : goal.returns-clause-goes
+returns-clause-goes g c =
+    rw (← c.self.view_is)
+    (goes_by g.S.Store c.self.inside.shape.kinds c.self.inside.shape.kinds c.self.inside.conn c.write_change.new.conn c.self.inside.known (lasts_of (state g.S.Store c.self.inside.conn) (state g.S.Store c.write_change.new.conn) c.write_change.ensures.transacts.crash))

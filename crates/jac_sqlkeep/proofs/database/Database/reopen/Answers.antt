@@ -1,21 +1,21 @@
-use Rattle.jac_sqlkeep.proofs.Reopens.{reopens_kept, reopens_told, reopens_other}
+use Rattle.sqlite.specs.Held.{state}
+use Rattle.jac_sqlkeep.proofs.Based.{begins_again, stood_by}
 use Rattle.jac_sqlkeep.proofs.database.Database.reopen.Goals as goal
 
 pub invariant_of-result : goal.invariant_of-result
-invariant_of-result g c = (
-  c.in_ok-test_stored-in-Ok-None.ensures.mode (c.in-Ok-None.ensures.mode (c.in_ok-test_key.ensures.mode c.requires.outside)),
-  λ known. reopens_kept g.S.Store c.args.schema.now c.args.shape.kinds c.args.shape.nested c.args.conn c.test_key.new.conn c.find_schema.new.conn (g.met.S.Store.shut_if_dirty c.test_key.new.conn.store)
-      (g.met.S.Store.shut_if_dirty c.find_schema.new.conn.store) c.requires.settled c.requires.live c.requires.form c.in_ok-test_key.ensures.shown c.test_stored.new.conn (g.met.S.Store.shut_if_dirty c.test_stored.new.conn.store)
-      (rw c.in-Ok-None.field-0-is at c.in-Ok-None.ensures.found) c.in_ok-test_stored-in-Ok-None.ensures.shown,
-)
+invariant_of-result g c = (c.in-Ok-None.ensures.mode c.requires.outside, λ known. (rw c.in-Ok-None.field-0-is at c.in-Ok-None.ensures.read).kept)
 
-pub returns-in_ok-test_stored-in-Ok-None : goal.returns-in_ok-test_stored-in-Ok-None
-returns-in_ok-test_stored-in-Ok-None g c =
-    reopens_told g.S.Store c.args.schema.now c.args.shape.kinds c.args.shape.nested c.args.conn c.test_key.new.conn c.find_schema.new.conn (g.met.S.Store.shut_if_dirty c.test_key.new.conn.store)
-    (g.met.S.Store.shut_if_dirty c.find_schema.new.conn.store) c.requires.settled c.requires.live c.requires.form c.in_ok-test_key.ensures.shown c.test_stored.new.conn (g.met.S.Store.shut_if_dirty c.test_stored.new.conn.store)
-    (rw c.in-Ok-None.field-0-is at c.in-Ok-None.ensures.found) c.in_ok-test_stored-in-Ok-None.ensures.shown
+pub returns-in-Ok-None : goal.returns-in-Ok-None
+returns-in-Ok-None g c =
+    begins_again g.S.Store c.args.shape.kinds c.args.conn c.read_whole.new.conn c.args.schema.now c.args.shape.nested c.in-Ok-None.ensures.lasts c.requires.form c.in-Ok-None.ensures.left (rw c.in-Ok-None.field-0-is at c.in-Ok-None.ensures.read)
 
 pub returns-in-Ok-Some : goal.returns-in-Ok-Some
 returns-in-Ok-Some g c =
-    reopens_other g.S.Store c.args.schema.now c.args.shape.kinds c.args.shape.nested c.args.conn c.test_key.new.conn c.find_schema.new.conn (g.met.S.Store.shut_if_dirty c.test_key.new.conn.store)
-    (g.met.S.Store.shut_if_dirty c.find_schema.new.conn.store) c.requires.settled c.requires.live c.requires.form c.in_ok-test_key.ensures.shown c.in-Ok-Some.stored (rw c.in-Ok-Some.field-0-is at c.in-Ok-Some.ensures.found) (rw c.in-Ok-Some.field-0-is at c.in-Ok-Some.ensures.other)
+    let read = rw c.in-Ok-Some.field-0-is at c.in-Ok-Some.ensures.read in
+    let left = c.in-Ok-Some.ensures.left in
+    (read.0, rw c.untold.ensures read.1, stood_by g.S.Store c.args.shape.kinds c.args.conn c.read_whole.new.conn c.untold.result c.untold.ensures c.in-Ok-Some.ensures.lasts left.was_open left.same)
+
+pub returns-in-Err : goal.returns-in-Err
+returns-in-Err g c =
+    let left = c.in-Err.ensures.left in
+    stood_by g.S.Store c.args.shape.kinds c.args.conn c.read_whole.new.conn c.untold-in-Err.result c.untold-in-Err.ensures c.in-Err.ensures.lasts left.was_open left.same

@@ -1,6 +1,14 @@
 use Rattle.std.proofs.Common.{sym}
-use Rattle.jac_sqlkeep.proofs.Based.{no_rows}
+use Rattle.sqlite.specs.Held.{state}
+use Rattle.jac_sql_spec.proofs.Lasting.{lasts_same}
+use Rattle.jac_sqlkeep.proofs.Based.{no_rows, goes_by}
 use Rattle.jac_sqlkeep.proofs.database.Database.rows.Goals as goal
 
-pub returns-in-None : goal.returns-in-None
-returns-in-None g c = rw (← c.self.view_is, c.empty.ensures) (no_rows g.S.Store c.self.inside.shape.kinds c.self.inside.conn c.args.model c.self.inside.known c.self.invariant.1 (sym c.in-None.ensures))
+pub returns-in-None-clause-reads : goal.returns-in-None-clause-reads
+returns-in-None-clause-reads g c = rw (← c.self.view_is, c.empty.ensures) (no_rows g.S.Store c.self.inside.shape.kinds c.self.inside.conn c.args.model c.self.inside.known c.self.invariant.1 (sym c.in-None.ensures))
+
+pub returns-in-None-clause-goes : goal.returns-in-None-clause-goes
+returns-in-None-clause-goes g c = rw (← c.self.view_is) (goes_by g.S.Store c.self.inside.shape.kinds c.self.inside.shape.kinds c.self.inside.conn c.self.inside.conn c.self.inside.known (lasts_same (state g.S.Store c.self.inside.conn)))
+
+pub returns-in-Some-clause-goes : goal.returns-in-Some-clause-goes
+returns-in-Some-clause-goes g c = rw (← c.self.view_is) (goes_by g.S.Store c.self.inside.shape.kinds c.self.inside.shape.kinds c.self.inside.conn c.read_model.new.conn c.self.inside.known c.read_model.ensures.lasts)

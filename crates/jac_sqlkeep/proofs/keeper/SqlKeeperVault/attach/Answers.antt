@@ -1,14 +1,15 @@
-use Rattle.std.proofs.Common.{◌≡◌, ap, subst, sym, ◌∙◌, ℕ, List, Option, Some, None, unwrap_or, rules, IsTrue, is_some, IsSomeAnd, arith}
+use Rattle.std.proofs.Common.{◌≡◌, ap, subst, sym, ◌∙◌, List, Option, Some, None, Result, Ok, Err, rules, IsTrue, is_some, IsSomeAnd, arith}
 use Rattle.jac_sqlkeep.specs.Based.{Based}
-use Rattle.jac_sqlkeep.specs.Kept.{Kept, HasSchema}
-use Rattle.jac_sqlkeep.proofs.Attached.{attached_now}
+use Rattle.jac_sqlkeep.specs.Kept.{Kept}
+use Rattle.jac_sqlkeep.proofs.Attached.{attached_now, fit_now, begins_as, left_other, left_failed}
 use Rattle.jac_sqlkeep.proofs.keeper.SqlKeeperVault.attach.Goals as goal
 
-pub returns-in-None-clause-attaches : goal.returns-in-None-clause-attaches
-returns-in-None-clause-attaches g c =
+pub returns-in-Ok-None-clause-attaches : goal.returns-in-Ok-None-clause-attaches
+returns-in-Ok-None-clause-attaches g c =
     let known = subst (λ (k : Kept). IsTrue (is_some k.database) → IsTrue k.store.called) c.self.view_is c.self.invariant in
     let now = c.begin.ensures in
-    attached_now c.args.self.now c.begin.new.self _ _ c.in-Ok.known.shape.kinds c.in-Ok.known.shape.nested c.in-Ok-open-2.database known c.requires.first
+    let is : c.open-database.result.1 ≡ Ok None = search rules in
+    attached_now c.args.self.now c.begin.new.self _ _ c.in-Ok.known.shape.kinds c.in-Ok.known.shape.nested c.open-database.result.0 known c.requires.first
     (ap (λ (k : Kept). k.store.called) now)
     (ap (λ (k : Kept). k.store.attached) now)
     (ap (λ (k : Kept). k.store.name) now ∙ c.in-Ok.ensures.name)
@@ -16,10 +17,20 @@ returns-in-None-clause-attaches g c =
     (omega (arith, ap (λ (k : Kept). k.faults) now, ap (λ (k : Kept). k.faults) c.self.view_is))
     (ap (λ (k : Kept). k.database) now)
     c.in-Ok.ensures.shape
-    c.in-Ok-open-2.ensures.fit
+    (fit_now _ _ _ _ _ _ _ c.open-database.ensures is)
 
-pub returns-in-None-clause-stored : goal.returns-in-None-clause-stored
-returns-in-None-clause-stored g c =
-    let none : c.in-Ok-open-2.other ≡ None = search rules in
-    let has : HasSchema c.args.schema.now c.in-Ok-open-2.database = λ opened. c.in-Ok-open-2.ensures.stored opened ∙ ap (λ (o : Option (List ℕ)). unwrap_or o c.args.schema.now) none in
-    subst (λ (o : Option Based). IsSomeAnd o (HasSchema c.args.schema.now)) (sym (ap (λ (k : Kept). k.database) c.begin.ensures)) has
+pub returns-in-Ok-None-clause-begins : goal.returns-in-Ok-None-clause-begins
+returns-in-Ok-None-clause-begins g c =
+    let is : c.open-database.result.1 ≡ Ok None = search rules in
+    begins_as _ _ _ _ _ _ _ _ c.open-database.ensures c.in-Ok-open.ensures.gives c.begin.new.self.database (ap (λ (k : Kept). k.database) c.begin.ensures) is c.in-Ok.ensures.shape
+
+pub returns-in-Ok-Some-clause-left : goal.returns-in-Ok-Some-clause-left
+returns-in-Ok-Some-clause-left g c =
+    let is : c.open-database.result.1 ≡ Ok (Some c.in-Ok-Some.stored) = search rules in
+    left_other _ _ _ _ _ _ _ _ c.open-database.ensures c.in-Ok-open.ensures.gives c.args.self.now
+    (record { store = _; faults = _; unopened = _; database = _; refused = c.self.inside.refused }) c.refuse.new.self c.in-Ok-Some.stored c.refuse.result is c.refuse.ensures.refused
+
+pub returns-in-Err-told-clause-left : goal.returns-in-Err-told-clause-left
+returns-in-Err-told-clause-left g c =
+    let is : c.open-database.result.1 ≡ Err c.in-Err-told.unfit = search rules in
+    left_failed _ _ _ _ _ _ _ _ c.open-database.ensures c.in-Ok-open.ensures.gives c.args.self.now c.fail.new.self c.in-Err-told.unfit c.fail.result is (ap (λ (k : Kept). k.refused) c.fail.ensures.same)
