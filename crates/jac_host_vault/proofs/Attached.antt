@@ -1,61 +1,100 @@
 -- A vault that is attached by one of its keepers, and that is called in memory.
-use Rattle.std.proofs.Common.{◌≡◌, refl, ℕ, Bool, true, false, true≢false, List, Option, Some, None, Result, Ok, Err, OnOk, OnErr, IsTrue, sym, ap, ◌∙◌, subst, arith}
-use Rattle.jac_io.specs.Faults.{Rose}
+use Rattle.std.proofs.Common.{◌≡◌, ◌||◌, refl, ℕ, ◌≤◌, Bool, true, false, true≢false, List, Option, Some, None, Result, Ok, Err, OnOk, OnErr, IsErrOf, IsTrue, IsSomeAnd, sym, ap, ◌∙◌, subst, arith}
+use Rattle.jac_io.specs.Faults.{Rose, one_more_fault}
+use Rattle.jac_keep.specs.Cause.{HasCause}
 use Rattle.jac_keep.specs.KeeperSeen.{KeeperSeen, Store, Keeps, Reads}
 use Rattle.jac_keep.specs.KeeperState.{KeeperState, seen_keeper}
 use Rattle.jac_keep.specs.Attaching.{Attaches, OpensStore, IsRefused}
-use Rattle.jac_keep.specs.Reshaping.{Reshapes}
+use Rattle.jac_keep.specs.Reshaping.{Reshapes, IsReshaped, IsUnshaped}
 use Rattle.jac_keep.specs.declared.alteration.Change.{Change}
 use Rattle.jac_keep.specs.declared.stop.Stop.{Stop}
 use Rattle.jac_keep.specs.declared.vault.AttachFault.{AttachFault}
-use Rattle.jac_sqlkeep.specs.Kept.{Kept, seen_kept, untouched_keeper}
-use Rattle.jac_host_vault.specs.HostSeen.{seen_memory, seen_one, IsHost}
+use Rattle.jac_keep.specs.declared.vault.AttachFault.TheVariants.{Failed}
+use Rattle.sqlite_trees.specs.declared.store.Store.{Ghosts}
+use Rattle.sqlite.specs.Held.{Held}
+use Rattle.jac_sqlkeep.specs.Based.{Based}
+use Rattle.jac_sqlkeep.specs.Kept.{Kept, seen_kept, untouched_keeper, BeginsGiven}
+use Rattle.jac_host_vault.specs.HostSeen.{HostSeen, IsFileOf, IsStorePlaced, seen_memory, seen_one, seen_host, faults_with, store_with, IsHost}
 
 -- ---- memory is called
 
-attached_before : (old new : KeeperState) → new.store ≡ old.store → IsTrue new.store.attached → IsTrue old.store.attached
-attached_before old new same told = sym (ap (λ (s : Store). s.attached) same) ∙ told
+later_with : (m : Bool) (a b : ℕ) → a ≤ b → faults_with m a ≤ faults_with m b
+later_with true a b later = omega (arith, later)
+later_with false a b later = later
 
-pub memory_reads : {T : Type 0} (old new : KeeperState) (result : Result T Stop) → Reads (seen_keeper old) (seen_keeper new) result → Reads (seen_memory old) (seen_memory new) result
-memory_reads old new result reads = record {
-  left = record {
-    later = reads.left.later;
-    told = attached_before old new reads.left.same_store;
-    same_state = λ told. reads.left.same_state refl;
-    same_store = reads.left.same_store;
-  };
-  good = λ told. reads.good refl;
-  rose = reads.rose;
-}
+rose_with : (m : Bool) (a b : ℕ) → Rose a b → Rose (faults_with m a) (faults_with m b)
+rose_with true a b rose = omega (arith, rose)
+rose_with false a b rose = rose
 
-pub memory_keeps : {T : Type 0} (old new : KeeperState) (result : Result T Stop) → Keeps (seen_keeper old) (seen_keeper new) result → Keeps (seen_memory old) (seen_memory new) result
-memory_keeps old new result keeps = record {
-  cause = keeps.cause;
-  told = attached_before old new keeps.same_store;
-  good = λ told. keeps.good refl;
-  same_store = keeps.same_store;
-}
+tells_before : (alone : Bool) (old new : KeeperState) → new.store ≡ old.store → IsTrue (alone || new.store.attached) → IsTrue (alone || old.store.attached)
+tells_before alone old new same told = sym (ap (λ (s : Store). alone || s.attached) same) ∙ told
 
-pub memory_reshapes : (old new : KeeperState) (change : Change) (schema : List ℕ) (result : Result (Unit {0}) Stop) → IsTrue old.store.attached → Reshapes (seen_keeper old) (seen_keeper new) change schema result
-    → Reshapes (seen_memory old) (seen_memory new) change schema result
-memory_reshapes old new change schema (Ok done) attached reshapes = record {
-  cause = reshapes.cause;
-  told = λ told. attached;
-  ok = record { store = reshapes.ok.store; state = λ told. reshapes.ok.state refl };
+module _ (alone misnamed : Bool) (old new : KeeperState) where
+  pub memory_reads : {T : Type 0} (result : Result T Stop) → Reads (seen_keeper old) (seen_keeper new) result → Reads (seen_memory alone misnamed old) (seen_memory alone misnamed new) result
+  memory_reads result reads = record {
+    left = record {
+      later = later_with misnamed old.faults new.faults reads.left.later;
+      told = tells_before alone old new reads.left.same_store;
+      same_state = λ told. reads.left.same_state refl;
+      same_store = ap (store_with misnamed) reads.left.same_store;
+    };
+    good = λ told. reads.good refl;
+    rose = λ is. rose_with misnamed old.faults new.faults (reads.rose is);
+  }
+
+  cause_with : {T : Type 0} (result : Result T Stop) → HasCause old.faults new.faults result → HasCause (faults_with misnamed old.faults) (faults_with misnamed new.faults) result
+  cause_with result cause = record { later = later_with misnamed old.faults new.faults cause.later; rose = λ is. rose_with misnamed old.faults new.faults (cause.rose is) }
+
+  pub memory_keeps : {T : Type 0} (result : Result T Stop) → Keeps (seen_keeper old) (seen_keeper new) result → Keeps (seen_memory alone misnamed old) (seen_memory alone misnamed new) result
+  memory_keeps result keeps = record {
+    cause = cause_with result keeps.cause;
+    told = tells_before alone old new keeps.same_store;
+    good = λ told. keeps.good refl;
+    same_store = ap (store_with misnamed) keeps.same_store;
+  }
+
+schema_with : (m : Bool) (s : Store) (schema : Option (List ℕ)) → store_with m (record s { schema = schema }) ≡ record (store_with m s) { schema = schema }
+schema_with true s schema = refl
+schema_with false s schema = refl
+
+tells_attached : (alone attached : Bool) → IsTrue attached → IsTrue (alone || attached)
+tells_attached true attached is = refl
+tells_attached false attached is = is
+
+was_attached : (misnamed : Bool) (s : Store) → IsTrue (store_with misnamed s).attached → IsTrue s.attached
+was_attached true s is = is
+was_attached false s is = is
+
+pub memory_reshapes : (alone misnamed : Bool) (old new : KeeperState) (change : Change) (schema : List ℕ) (result : Result (Unit {0}) Stop) → IsTrue (seen_memory alone misnamed old).store.attached → Reshapes (seen_keeper old) (seen_keeper new) change schema result
+    → Reshapes (seen_memory alone misnamed old) (seen_memory alone misnamed new) change schema result
+memory_reshapes alone misnamed old new change schema (Ok done) attached reshapes = record {
+  cause = cause_with alone misnamed old new (Ok done) reshapes.cause;
+  told = λ told. tells_attached alone old.store.attached (was_attached misnamed old.store attached);
+  ok = record { store = ap (store_with misnamed) reshapes.ok.store ∙ schema_with misnamed old.store (Some schema); state = λ told. reshapes.ok.state refl };
   err = tt;
 }
-memory_reshapes old new change schema (Err e) attached reshapes = record {
-  cause = reshapes.cause;
-  told = λ told. attached;
+memory_reshapes alone misnamed old new change schema (Err e) attached reshapes = record {
+  cause = cause_with alone misnamed old new (Err e) reshapes.cause;
+  told = λ told. tells_attached alone old.store.attached (was_attached misnamed old.store attached);
   ok = tt;
-  err = record { same_store = reshapes.err.same_store; same_state = λ told. reshapes.err.same_state refl };
+  err = record { same_store = ap (store_with misnamed) reshapes.err.same_store; same_state = λ told. reshapes.err.same_state refl };
 }
 
--- ---- before anything was attached, memory is what is called
+-- ---- before anything was attached, memory is what is called, and nothing was asked for in vain
 
-pub memory_first : (memory : KeeperState) (file : Option Kept) → IsHost memory file → (seen_one memory file).store.called ≡ false → memory.store.called ≡ false
-memory_first memory None host first = first
-memory_first memory (Some f) host first = absurd (let called = host.called in cc)
+record IsFirst (h : HostSeen) : Type 0 where
+  pub uncalled : h.memory.store.called ≡ false
+  pub named : h.misnamed ≡ false
+  pub unfiled : h.file ≡ None
+
+first_in : (alone misnamed : Bool) (memory : KeeperState) (file : Option Kept) → IsHost (record { memory = memory; file = file; alone = alone; misnamed = misnamed }) → (seen_one alone misnamed memory file).store.called ≡ false
+    → IsFirst (record { memory = memory; file = file; alone = alone; misnamed = misnamed })
+first_in alone misnamed memory (Some f) host first = absurd (let called = host.called in cc)
+first_in alone true memory None host first = absurd (true≢false first)
+first_in alone false memory None host first = record { uncalled = first; named = refl; unfiled = refl }
+
+pub memory_first : (h : HostSeen) → IsHost h → (seen_host h).store.called ≡ false → h.memory.store.called ≡ false
+memory_first h host first = (first_in h.alone h.misnamed h.memory h.file host first).uncalled
 
 -- a vault that told nothing before it was attached
 module _ (old : KeeperSeen) (untold : old.tells ≡ false) where
@@ -74,9 +113,9 @@ module _ (old : KeeperSeen) (untold : old.tells ≡ false) where
     made = λ told then. never then;
   }
 
-untold_file : (old : KeeperSeen) (f : Kept) (result : Result (Unit {0}) AttachFault) → OnErr result (IsRefused (seen_kept untouched_keeper) (seen_kept f)) → OnErr result (IsRefused old (seen_kept f))
-untold_file old f (Ok done) refused = tt
-untold_file old f (Err e) refused = absurd (true≢false (sym refused.told))
+untold_file : (unopened : ℕ) (old : KeeperSeen) (f : Kept) (result : Result (Unit {0}) AttachFault) → OnErr result (IsRefused (seen_kept (untouched_keeper unopened)) (seen_kept f)) → OnErr result (IsRefused old (seen_kept f))
+untold_file unopened old f (Ok done) refused = tt
+untold_file unopened old f (Err e) refused = absurd (true≢false (sym refused.told))
 
 unattached_file : (f : Kept) (attached : Bool) (result : Result (Unit {0}) AttachFault) → attached ≡ false
     → OnErr result (f.store.attached ≡ false) → OnErr result (f.store.attached ≡ attached)
@@ -84,30 +123,36 @@ unattached_file f attached (Ok done) was same = tt
 unattached_file f attached (Err e) was same = same ∙ sym was
 
 -- a file is attached in place of memory
-pub file_attached : (memory : KeeperState) (file : Option Kept) (f : Kept) (name : Option (List ℕ)) (schema : List ℕ) (result : Result (Unit {0}) AttachFault)
-    → IsHost memory file → (seen_one memory file).store.called ≡ false
-    → Attaches (seen_kept untouched_keeper) (seen_kept f) name schema result → Attaches (seen_one memory file) (seen_kept f) name schema result
-file_attached memory (Some g) f name schema result host first attaches = absurd (let called = host.called in cc)
-file_attached memory None f name schema result host first attaches =
-    let unused : memory.faults ≡ 0 = host.unused first in
-    record {
-      later = omega (arith, unused);
-      called = attaches.called;
-      ok = opens_now (seen_memory memory) (host.detached first) (seen_kept untouched_keeper) (seen_kept f) name schema result attaches.ok;
-      err = λ told. untold_file (seen_memory memory) f result (attaches.err told);
-      unattached = unattached_file f memory.store.attached result (host.detached first) attaches.unattached;
-      rose = λ failed. subst (λ (n : ℕ). Rose n f.faults) (sym unused) (attaches.rose failed);
-      other = attaches.other;
-      known_other = attaches.known_other;
-    }
+file_first : (unopened : ℕ) (memory : KeeperState) (f : Kept) (name : Option (List ℕ)) (schema : List ℕ) (result : Result (Unit {0}) AttachFault)
+    → memory.store.attached ≡ false → memory.faults ≡ 0
+    → Attaches (seen_kept (untouched_keeper unopened)) (seen_kept f) name schema result → Attaches (seen_memory false false memory) (seen_kept f) name schema result
+file_first unopened memory f name schema result detached unused attaches = record {
+  later = omega (arith, unused);
+  called = attaches.called;
+  ok = opens_now (seen_memory false false memory) detached (seen_kept (untouched_keeper unopened)) (seen_kept f) name schema result attaches.ok;
+  err = λ told. untold_file unopened (seen_memory false false memory) f result (attaches.err told);
+  unattached = unattached_file f memory.store.attached result detached attaches.unattached;
+  rose = λ failed. subst (λ (n : ℕ). Rose n f.faults) (sym unused) (attaches.rose failed);
+  other = attaches.other;
+  known_other = attaches.known_other;
+}
+
+pub file_attached : (unopened : ℕ) (h : HostSeen) (f : Kept) (name : Option (List ℕ)) (schema : List ℕ) (result : Result (Unit {0}) AttachFault)
+    → IsHost h → (seen_host h).store.called ≡ false → h.alone ≡ false
+    → Attaches (seen_kept (untouched_keeper unopened)) (seen_kept f) name schema result → Attaches (seen_host h) (seen_kept f) name schema result
+file_attached unopened h f name schema result host first some attaches =
+    let it = first_in h.alone h.misnamed h.memory h.file host first in
+    let same : seen_memory false false h.memory ≡ seen_host h = λ i. seen_one (sym some i) (sym it.named i) h.memory (sym it.unfiled i) in
+    subst (λ (s : KeeperSeen). Attaches s (seen_kept f) name schema result) same
+    (file_first unopened h.memory f name schema result (host.detached it.uncalled) (host.unused it.uncalled) attaches)
 
 untold_memory : (memory new : KeeperState) (result : Result (Unit {0}) AttachFault) → memory.store.attached ≡ false → OnErr result (new.store.attached ≡ memory.store.attached)
-    → IsTrue new.store.attached → OnErr result (IsRefused (seen_memory memory) (seen_memory new))
+    → IsTrue new.store.attached → OnErr result (IsRefused (seen_memory false false memory) (seen_memory false false new))
 untold_memory memory new (Ok done) detached same told = tt
 untold_memory memory new (Err e) detached same told = absurd (true≢false (sym told ∙ (same ∙ detached)))
 
 opens_fit : (memory new : KeeperState) (name : Option (List ℕ)) (schema : List ℕ) (result : Result (Unit {0}) AttachFault)
-    → OnOk result (OpensStore (seen_keeper memory) (seen_keeper new) name schema) → OnOk result (OpensStore (seen_keeper memory) (seen_memory new) name schema)
+    → OnOk result (OpensStore (seen_keeper memory) (seen_keeper new) name schema) → OnOk result (OpensStore (seen_keeper memory) (seen_memory false false new) name schema)
 opens_fit memory new name schema (Err e) opens = tt
 opens_fit memory new name schema (Ok done) opens = record {
   attached = opens.attached;
@@ -119,23 +164,76 @@ opens_fit memory new name schema (Ok done) opens = record {
   made = λ told then. opens.made refl refl;
 }
 
--- memory is attached
-pub memory_attached : (memory new : KeeperState) (file : Option Kept) (name : Option (List ℕ)) (schema : List ℕ) (result : Result (Unit {0}) AttachFault)
-    → IsHost memory file → (seen_one memory file).store.called ≡ false
-    → Attaches (seen_keeper memory) (seen_keeper new) name schema result → Attaches (seen_one memory file) (seen_one new file) name schema result
-memory_attached memory new None name schema result host first attaches =
-    let detached = host.detached first in
-    record {
-      later = attaches.later;
-      called = attaches.called;
-      ok = opens_now (seen_memory memory) detached (seen_keeper memory) (seen_memory new) name schema result (opens_fit memory new name schema result attaches.ok);
-      err = untold_memory memory new result detached attaches.unattached;
-      unattached = attaches.unattached;
-      rose = attaches.rose;
-      other = attaches.other;
-      known_other = attaches.known_other;
-    }
-memory_attached memory new (Some g) name schema result host first attaches = absurd (let called = host.called in cc)
+-- memory is attached: where there is memory alone, what it told is what it keeps
+memory_then : (alone : Bool) (memory new : KeeperState) (name : Option (List ℕ)) (schema : List ℕ) (result : Result (Unit {0}) AttachFault) → memory.store.attached ≡ false
+    → Attaches (seen_keeper memory) (seen_keeper new) name schema result → Attaches (seen_memory alone false memory) (seen_memory alone false new) name schema result
+memory_then true memory new name schema result detached attaches = attaches
+memory_then false memory new name schema result detached attaches = record {
+  later = attaches.later;
+  called = attaches.called;
+  ok = opens_now (seen_memory false false memory) detached (seen_keeper memory) (seen_memory false false new) name schema result (opens_fit memory new name schema result attaches.ok);
+  err = untold_memory memory new result detached attaches.unattached;
+  unattached = attaches.unattached;
+  rose = attaches.rose;
+  other = attaches.other;
+  known_other = attaches.known_other;
+}
 
-pub host_of_memory : (memory new : KeeperState) (file : Option Kept) → IsHost memory file → IsTrue new.store.called → IsHost new file
-host_of_memory memory new file host called = record { called = host.called; detached = λ un. absurd cc; unused = λ un. absurd cc }
+pub memory_attached : (h : HostSeen) (new : KeeperState) (name : Option (List ℕ)) (schema : List ℕ) (result : Result (Unit {0}) AttachFault)
+    → IsHost h → (seen_host h).store.called ≡ false
+    → Attaches (seen_keeper h.memory) (seen_keeper new) name schema result → Attaches (seen_host h) (seen_host (record h { memory = new })) name schema result
+memory_attached h new name schema result host first attaches =
+    let it = first_in h.alone h.misnamed h.memory h.file host first in
+    let before : seen_memory h.alone false h.memory ≡ seen_host h = λ i. seen_one h.alone (sym it.named i) h.memory (sym it.unfiled i) in
+    let after : seen_memory h.alone false new ≡ seen_host (record h { memory = new }) = λ i. seen_one h.alone (sym it.named i) new (sym it.unfiled i) in
+    subst (λ (s : KeeperSeen). Attaches s (seen_host (record h { memory = new })) name schema result) before
+    (subst (λ (s : KeeperSeen). Attaches (seen_memory h.alone false h.memory) s name schema result) after
+    (memory_then h.alone h.memory new name schema result (host.detached it.uncalled) attaches))
+
+pub host_of_memory : (h : HostSeen) (new : KeeperState) → IsHost h → IsTrue new.store.called → IsHost (record h { memory = new })
+host_of_memory h new host called = record { called = host.called; detached = λ un. absurd cc; unused = λ un. absurd cc; unfiled = host.unfiled }
+
+-- ---- memory alone refuses a name
+
+refuses_name : (memory : KeeperState) (name : Option (List ℕ)) (schema : List ℕ) → memory.faults ≡ 0 → Attaches (seen_memory true false memory) (seen_memory true true memory) name schema (Err Failed)
+refuses_name memory name schema unused = record {
+  later = omega (arith, unused);
+  called = refl;
+  ok = tt;
+  err = λ told. record { told = refl; same_state = refl; same_schema = refl };
+  unattached = refl;
+  rose = λ failed. omega (arith, unused);
+  other = λ stored is. absurd cc;
+  known_other = λ stored is. absurd cc;
+}
+
+pub name_refused : (h : HostSeen) (name : Option (List ℕ)) (schema : List ℕ) → IsHost h → (seen_host h).store.called ≡ false → h.alone ≡ true → Attaches (seen_host h) (seen_host (record h { misnamed = true })) name schema (Err Failed)
+name_refused h name schema host first alone =
+    let it = first_in h.alone h.misnamed h.memory h.file host first in
+    let before : seen_memory true false h.memory ≡ seen_host h = λ i. seen_one (sym alone i) (sym it.named i) h.memory (sym it.unfiled i) in
+    let after : seen_memory true true h.memory ≡ seen_host (record h { misnamed = true }) = λ i. seen_one (sym alone i) true h.memory (sym it.unfiled i) in
+    subst (λ (s : KeeperSeen). Attaches s (seen_host (record h { misnamed = true })) name schema (Err Failed)) before
+    (subst (λ (s : KeeperSeen). Attaches (seen_memory true false h.memory) s name schema (Err Failed)) after (refuses_name h.memory name schema (host.unused it.uncalled)))
+
+-- ---- what is attached
+
+placed_at : {S : Type 0} (g : Ghosts S) (Gives : Held S → Type 0) (schema : List ℕ) (o : Option Based) → IsSomeAnd o (BeginsGiven g Gives schema) → IsSomeAnd o (λ (b : Based). (b.tells ≡ b.is_open) × (IsTrue b.is_open → b.schema ≡ schema))
+placed_at g Gives schema None begins = absurd begins
+placed_at g Gives schema (Some b) begins = (begins.begins.tells, begins.begins.stored)
+
+pub file_placed : {S : Type 0} (g : Ghosts S) (Gives : Held S → Type 0) (schema : List ℕ) (f : Kept) (result : Result (Unit {0}) AttachFault) → OnOk result (IsSomeAnd f.database (BeginsGiven g Gives schema)) → OnOk result (IsFileOf schema f)
+file_placed g Gives schema f (Ok done) begins = placed_at g Gives schema f.database begins
+file_placed g Gives schema f (Err e) begins = tt
+
+-- the file that was attached stands in the vault
+pub placed_in : (name schema : List ℕ) (h : HostSeen) (f : Kept) (result : Result (Unit {0}) AttachFault) → h.file ≡ Some f → OnOk result (IsFileOf schema f) → OnOk result (IsStorePlaced (Some name) schema h)
+placed_in name schema h f (Ok done) some begins = subst (λ (o : Option Kept). IsSomeAnd o (IsFileOf schema)) (sym some) begins
+placed_in name schema h f (Err e) some begins = tt
+
+-- memory that was attached tells
+pub memory_placed : (h : HostSeen) (new : KeeperState) (schema : List ℕ) (result : Result (Unit {0}) AttachFault) → IsHost h → (seen_host h).store.called ≡ false
+    → Attaches (seen_keeper h.memory) (seen_keeper new) None schema result → OnOk result (IsStorePlaced None schema (record h { memory = new }))
+memory_placed h new schema (Err e) host first attaches = tt
+memory_placed h new schema (Ok done) host first attaches =
+    let it = first_in h.alone h.misnamed h.memory h.file host first in
+    (it.unfiled, subst (λ (o : Option Kept). IsTrue (seen_one h.alone h.misnamed new o).tells) (sym it.unfiled) (tells_attached h.alone new.store.attached attaches.ok.attached))

@@ -1,27 +1,59 @@
 -- the program's store, in memory or in a file
-use Rattle.std.specs.Prelude.{◌≡◌, false, Option, Some, None, IfSome, IsTrue}
-use Rattle.jac_keep.specs.KeeperSeen.{KeeperSeen}
+use Rattle.std.specs.Prelude.{◌≡◌, ◌||◌, ℕ, Bool, true, false, List, Option, Some, None, IfSome, IsSomeAnd, IsTrue}
+use Rattle.jac_io.specs.Faults.{one_more_fault}
+use Rattle.jac_keep.specs.KeeperSeen.{KeeperSeen, Store}
 use Rattle.jac_keep.specs.KeeperState.{KeeperState, seen_keeper}
+use Rattle.jac_sqlkeep.specs.Based.{Based}
 use Rattle.jac_sqlkeep.specs.Kept.{Kept, seen_kept}
 
--- the keeper in memory, and the one in a file, once that is the one that is called
+-- the keeper in memory, and the one in a file, once that is the one that is called; whether it has
+-- memory alone, and was asked for a file nevertheless
 pub record HostSeen : Type 0 where
   pub memory : KeeperState
   pub file : Option Kept
+  pub alone : Bool
+  pub misnamed : Bool
 
--- the keeper in memory, which tells its state once it is attached
-abbrev pub seen_memory : KeeperState → KeeperSeen
-seen_memory memory = record (seen_keeper memory) { tells = memory.store.attached }
+-- one more fault, and a call to attach, where a file was asked for in vain
+abbrev pub faults_with : Bool → ℕ → ℕ
+faults_with true count = one_more_fault count
+faults_with false count = count
 
-abbrev pub seen_one : KeeperState → Option Kept → KeeperSeen
-seen_one memory None = seen_memory memory
-seen_one memory (Some file) = seen_kept file
+abbrev pub store_with : Bool → Store → Store
+store_with true store = record store { called = true }
+store_with false store = store
+
+-- the keeper in memory, which tells its state once it is attached, and from the first where there
+-- is memory alone
+abbrev pub seen_memory : Bool → Bool → KeeperState → KeeperSeen
+seen_memory alone misnamed memory = record {
+  tells = alone || memory.store.attached;
+  state = memory.state;
+  faults = faults_with misnamed memory.faults;
+  store = store_with misnamed memory.store;
+}
+
+abbrev pub seen_one : Bool → Bool → KeeperState → Option Kept → KeeperSeen
+seen_one alone misnamed memory None = seen_memory alone misnamed memory
+seen_one alone misnamed memory (Some file) = seen_kept file
 
 abbrev pub seen_host : HostSeen → KeeperSeen
-seen_host h = seen_one h.memory h.file
+seen_host h = seen_one h.alone h.misnamed h.memory h.file
 
--- a file was asked to attach; before memory was, it isn't attached, and didn't fail
-pub record IsHost (memory : KeeperState) (file : Option Kept) : Type 0 where
-  pub called : IfSome file (λ (f : Kept). IsTrue f.store.called)
-  pub detached : memory.store.called ≡ false → memory.store.attached ≡ false
-  pub unused : memory.store.called ≡ false → memory.faults ≡ 0
+-- a file was asked to attach, where there isn't memory alone; before memory was, it isn't attached,
+-- and didn't fail
+pub record IsHost (h : HostSeen) : Type 0 where
+  pub called : IfSome h.file (λ (f : Kept). IsTrue f.store.called)
+  pub detached : h.memory.store.called ≡ false → h.memory.store.attached ≡ false
+  pub unused : h.memory.store.called ≡ false → h.memory.faults ≡ 0
+  pub unfiled : IsTrue h.alone → h.file ≡ None
+
+-- a file whose database tells as long as its connection is open, and then has this schema
+abbrev pub IsFileOf : List ℕ → Kept → Type 0
+IsFileOf schema f = IsSomeAnd f.database (λ (b : Based). (b.tells ≡ b.is_open)
+    × (IsTrue b.is_open → b.schema ≡ schema))
+
+-- what is attached: memory where there is no name, which tells; and else a file
+abbrev pub IsStorePlaced : Option (List ℕ) → List ℕ → HostSeen → Type 0
+IsStorePlaced None schema h = (h.file ≡ None) × IsTrue (seen_host h).tells
+IsStorePlaced (Some name) schema h = IsSomeAnd h.file (IsFileOf schema)

@@ -1,20 +1,26 @@
-ghost use Rattle.std.specs.Prelude.{◌≡◌};
+ghost use Rattle.std.specs.Prelude.{◌≡◌, List, OnOk, false};
+ghost use Rattle.std.specs.Option.{option_copied};
+ghost use Rattle.jac_rows.specs.Good.{ModelShape};
+ghost use Rattle.jac_keep.specs.Attaching.{Attaches};
+ghost use Rattle.jac_keep.specs.Schema.{IsSchema};
+ghost use Rattle.jac_sqlkeep.specs.Kept.{seen_kept};
+ghost use Rattle.jac_host_vault.specs.HostSeen.{IsFileOf};
 
 use crate::told::tell;
 use jac_keep::{AttachFault, Change, Keeper, Stop, Vault};
 use jac_rows::Rows;
-use jac_sqlkeep::{FileOpener, OpenFault, SqlKeeper};
-use jac_value::{Id, Memory, Txt, Value};
+use jac_sqlkeep::{FileOpener, SqlKeeper};
+use jac_value::{Id, Txt, Value};
+use sqlite::{Connection, File, FileStore};
 use std::alloc::Global;
-use std::fs::{File, remove_file};
+use std::fs::remove_file;
 use std::marker::Model;
 
-/// A keeper in a file. It tells its state from when it is attached: what the file holds was then
-/// read and tested. As it is dropped, the file is closed.
+/// A keeper in a file. It tells its state from when it is attached, as long as its connection is
+/// open: what the file holds was then read and tested. As it is dropped, the file is closed.
 pub struct FileKeeper {
     rt: HostRuntime,
     keeper: SqlKeeper<FileOpener>,
-    log: Option<Txt>,
 }
 
 impl Model for FileKeeper {
@@ -25,17 +31,25 @@ impl Model for FileKeeper {
     ghost view = { λ k. k.keeper };
 }
 
-// It is written out, so that a caller does not prove again how each part is dropped. What can't be
-// copied from the log into the file stays in the log beside it, where the next opening finds it. An
-// empty log that this run made beside a file which it refused goes.
+// It is written out, so that a caller does not prove again how each part is dropped.
 impl Drop for FileKeeper {
     fn drop(self) {
-        let FileKeeper { rt, keeper, log } = self;
-        if let Some(conn) = keeper.into_connection() {
-            let _ = conn.close();
+        let FileKeeper { rt, keeper } = self;
+        let refused = !keeper.is_attached();
+        let (opener, conn) = keeper.into_parts();
+        if let Some(conn) = conn {
+            close(&rt, conn, if refused { opener.new_log() } else { None });
         }
+    }
+}
+
+// What can't be copied from the log into the file stays in the log beside it, where the next
+// opening finds it. A log that a refused opening made is copied whole and then removed, while the
+// files are still locked: so no other program has it.
+fn close(rt: &HostRuntime, conn: Connection<FileStore<File>>, log: Option<&Txt>) {
+    if let Ok(_files) = conn.close_files() {
         if let Some(log) = log {
-            let _ = remove_file(&rt, log.as_str());
+            let _ = remove_file(rt, log.as_str());
         }
     }
 }
@@ -46,38 +60,16 @@ impl FileKeeper {
     /// A keeper that wasn't attached yet. Where it makes no files it opens those alone that are
     /// there.
     pub fn new(rt: HostRuntime, makes: bool) -> FileKeeper
-        ensures { result ≡ untouched_keeper }
+        ensures { result ≡ untouched_keeper 0 }
     {
         FileKeeper {
             rt,
             keeper: SqlKeeper::new(FileOpener::new(rt, makes)),
-            log: None,
         }
     }
 }
 
-// The name of the log beside a file, where there is none yet.
-fn log_to_come(rt: &HostRuntime, name: Option<&Txt>) -> Option<Txt> {
-    let name = name?;
-    let log = match log_of(rt.alloc(), name) {
-        Ok(log) => log,
-        Err(Memory) => return None,
-    };
-    match File::open(rt, log.as_str()) {
-        Ok(_) => None,
-        Err(_) => Some(log),
-    }
-}
-
-fn log_of(alloc: Global, name: &Txt) -> Result<Txt, Memory> {
-    let mut log = name.copy(alloc)?.into_string();
-    log.push_str("-wal")?;
-    Ok(Txt::from_string(log))
-}
-
 impl Keeper for FileKeeper {
-    ghost use Rattle.jac_sqlkeep.specs.Kept.{seen_kept};
-
     ghost seen = { seen_kept };
 
     fn number(&mut self) -> Result<u64, Stop> {
@@ -108,21 +100,19 @@ impl Keeper for FileKeeper {
 }
 
 impl Vault for FileKeeper {
-    /// What a refused file lacks is told on standard error, and nothing is left beside it.
-    fn attach(
-        &mut self,
-        alloc: Global,
-        name: Option<&Txt>,
-        schema: &Txt,
-    ) -> Result<(), AttachFault> {
-        let log = log_to_come(&self.rt, name);
+    /// What a refused file lacks is told on standard error.
+    #[tactic(auto, using(crate::proofs::Attached::file_placed))]
+    fn attach(&mut self, alloc: Global, name: Option<&Txt>, schema: &Txt) -> Result<(), AttachFault>
+        requires first { self.old.store.called ≡ false }
+        requires schema { (shapes : List ModelShape) × IsSchema schema.now shapes }
+        ensures attaches { Attaches (seen_kept self.old) (seen_kept self.new)
+            (option_copied name.entry) schema.now result }
+        ensures begins { OnOk result (IsFileOf schema.now self.new) }
+    {
         let attached = self.keeper.attach(alloc, name, schema);
         if attached.is_err() {
             if let Some(name) = name {
                 tell(&self.rt, name, &self.keeper);
-            }
-            if may_have_made_log(&attached, &self.keeper) {
-                self.log = log;
             }
         }
         attached
@@ -130,18 +120,5 @@ impl Vault for FileKeeper {
 
     fn reshape(&mut self, alloc: Global, change: &Change, schema: &Txt) -> Result<(), Stop> {
         self.keeper.reshape(alloc, change, schema)
-    }
-}
-
-// Whether this run may have made the log beside a file that it refused. It made none where it opened
-// nothing, since the file is missing or another program has it open: a log that came meanwhile is
-// the other program's. Where memory ran out it isn't known how far the opening came.
-fn may_have_made_log(attached: &Result<(), AttachFault>, keeper: &SqlKeeper<FileOpener>) -> bool {
-    if let Err(AttachFault::Memory) = attached {
-        return false;
-    }
-    match keeper.opener().fault() {
-        Some(OpenFault::Missing | OpenFault::Held | OpenFault::Memory) => false,
-        _ => true,
     }
 }

@@ -1,5 +1,10 @@
-ghost use Rattle.std.specs.Prelude.{◌≡◌, None, [], false};
+ghost use Rattle.std.specs.Prelude.{◌≡◌, None, [], List, OnOk, true, false};
+ghost use Rattle.std.specs.Option.{option_copied};
+ghost use Rattle.jac_rows.specs.Good.{ModelShape};
+ghost use Rattle.jac_keep.specs.Attaching.{Attaches};
 ghost use Rattle.jac_keep.specs.KeeperState.{IsStored, unattached_store};
+ghost use Rattle.jac_keep.specs.Schema.{IsSchema};
+ghost use Rattle.jac_host_vault.specs.HostSeen.{IsStorePlaced};
 
 use crate::FileKeeper;
 use jac_io::Calls;
@@ -16,6 +21,8 @@ use std::marker::Model;
 pub struct HostVault {
     rt: HostRuntime,
     makes: bool,
+    alone: bool,
+    misnamed: bool,
     memory: MemoryKeeper,
     file: Option<CachedKeeper<FileKeeper>>,
 }
@@ -25,14 +32,25 @@ impl Model for HostVault {
 
     ghost Value = { HostSeen };
 
-    ghost view = { λ h. record { memory = h.memory; file = h.file } };
+    ghost view = { λ h. record {
+      memory = h.memory;
+      file = h.file;
+      alone = h.alone;
+      misnamed = h.misnamed;
+    } };
 
-    ghost invariant = { λ h. IsHost h.memory h.file };
+    ghost invariant = { λ h. IsHost (record {
+      memory = h.memory;
+      file = h.file;
+      alone = h.alone;
+      misnamed = h.misnamed;
+    }) };
 }
 
 impl HostVault {
     /// A vault that wasn't attached yet, whose state in memory is this one, and which makes the
-    /// files that aren't there or refuses them.
+    /// files that aren't there or refuses them. It tells nothing before it is attached, since that
+    /// may be to a file.
     pub fn new(alloc: Global, state: State, rt: HostRuntime, makes: bool) -> HostVault
         requires { IsStored None state }
         ensures { result ≡ record {
@@ -46,11 +64,44 @@ impl HostVault {
             faults = 0;
           };
           file = None;
+          alone = false;
+          misnamed = false;
         } }
     {
         HostVault {
             rt,
             makes,
+            alone: false,
+            misnamed: false,
+            memory: MemoryKeeper::new(state, None, Calls::empty(alloc), Calls::empty(alloc)),
+            file: None,
+        }
+    }
+
+    /// A vault that has memory alone, and this state, which it tells from now on. It refuses each
+    /// name.
+    pub fn in_memory(alloc: Global, state: State, rt: HostRuntime) -> HostVault
+        requires { IsStored None state }
+        ensures { result ≡ record {
+          memory = record {
+            state = state;
+            store = unattached_store None;
+            fail_reads = [];
+            fail_applies = [];
+            reads = 0;
+            applies = 0;
+            faults = 0;
+          };
+          file = None;
+          alone = true;
+          misnamed = false;
+        } }
+    {
+        HostVault {
+            rt,
+            makes: false,
+            alone: true,
+            misnamed: false,
             memory: MemoryKeeper::new(state, None, Calls::empty(alloc), Calls::empty(alloc)),
             file: None,
         }
@@ -110,19 +161,28 @@ impl Keeper for HostVault {
 }
 
 impl Vault for HostVault {
+    ghost use Rattle.jac_host_vault.specs.HostSeen.{seen_host};
+
     /// The store of a name is a file; without one it is in memory.
-    #[tactic(auto, using(crate::proofs::Attached::memory_first, crate::proofs::Attached::file_attached, crate::proofs::Attached::memory_attached, crate::proofs::Attached::host_of_memory))]
-    fn attach(
-        &mut self,
-        alloc: Global,
-        name: Option<&Txt>,
-        schema: &Txt,
-    ) -> Result<(), AttachFault> {
+    #[tactic(auto, using(crate::proofs::Attached::memory_first, crate::proofs::Attached::file_attached, crate::proofs::Attached::memory_attached, crate::proofs::Attached::host_of_memory, crate::proofs::Attached::name_refused, crate::proofs::Attached::placed_in, crate::proofs::Attached::memory_placed))]
+    fn attach(&mut self, alloc: Global, name: Option<&Txt>, schema: &Txt) -> Result<(), AttachFault>
+        requires first { (seen_host self.old).store.called ≡ false }
+        requires schema { (shapes : List ModelShape) × IsSchema schema.now shapes }
+        ensures attaches { Attaches (seen_host self.old) (seen_host self.new)
+            (option_copied name.entry) schema.now result }
+        ensures placed { OnOk result
+            (IsStorePlaced (option_copied name.entry) schema.now self.new) }
+        ensures same { self.new.alone ≡ self.old.alone }
+    {
         match name {
             Some(name) => {
-                let mut file = CachedKeeper::new(alloc, FileKeeper::new(self.rt, self.makes));
+                if self.alone {
+                    self.misnamed = true;
+                    return Err(AttachFault::Failed);
+                }
+                let mut file = FileKeeper::new(self.rt, self.makes);
                 let attached = file.attach(alloc, Some(name), schema);
-                self.file = Some(file);
+                self.file = Some(CachedKeeper::new(alloc, file));
                 attached
             }
             None => self.memory.attach(alloc, None, schema),
