@@ -61,11 +61,7 @@ fn run_words<L: Ledger, M: Ledger, O: Outside>(
 {
     let alloc = rt.alloc();
     let words = words_of(rt)?;
-    let state = State {
-        tables: Tables::empty(alloc),
-        number: 1,
-    };
-    let mut vault = HostVault::new(alloc, state, *rt, makes_files(words.as_slice()));
+    let mut vault = vault_for(rt, words.as_slice());
     let mut host: Host<'_, O> = Host {
         files: HostFiles::new(rt),
         out: Stdout::new(rt),
@@ -131,6 +127,28 @@ fn run_host<O: Outside, L: Ledger, M: Ledger>(
         splits,
         evaluations,
     )
+}
+
+// The store that these words ask for, which holds nothing yet: in memory, whose content is told
+// from now on, unless one of them names a file.
+fn vault_for(rt: &HostRuntime, words: &[Txt]) -> HostVault
+    ensures { (⟦<HostVault as Keeper>⟧.seen result).store.called ≡ false }
+{
+    let alloc = rt.alloc();
+    let state = State {
+        tables: Tables::empty(alloc),
+        number: 1,
+    };
+    if names_file(words) {
+        HostVault::new(alloc, state, *rt, makes_files(words))
+    } else {
+        HostVault::in_memory(alloc, state, *rt)
+    }
+}
+
+// Whether some word begins as the option that names a store's file.
+fn names_file(words: &[Txt]) -> bool {
+    words.iter().any(|word| word.as_str().starts_with("--db"))
 }
 
 // Whether the command makes a store that isn't there: a dump, an upgrade and a why take one that
