@@ -9,15 +9,6 @@ ghost use Rattle.jac_serve_events.specs.Outside.{span};
 ghost use Rattle.jac_command_base.specs.Files.{sight};
 ghost use Rattle.jac_app.specs.Run.{IsRun};
 
-#[cfg(test)]
-mod database;
-#[cfg(test)]
-mod faults;
-#[cfg(test)]
-mod links;
-#[cfg(test)]
-mod tests;
-
 use jac_app::{Status, run};
 use jac_host::{HostAudit, HostDoor, HostFiles, HostLink, Outside, Stdout, Unknown};
 use jac_host_vault::HostVault;

@@ -1,4 +1,4 @@
-use Rattle.jac_main.proofs.database.is_link_served.Given as goal
+use Rattle.jac_main_tests.proofs.database.is_link_served.Given as goal
 
 abbrev pub ghosts-serves_and_finds-L-Ledger : goal.ghosts-serves_and_finds-L-Ledger
 ghosts-serves_and_finds-L-Ledger a = record { name = a.blank.name; parts = a.blank.parts }

@@ -1,5 +1,5 @@
 //! Each call of a link and of its door fails in turn, and the audit and the keeper meanwhile.
-use crate::tests::{
+use crate::scripts::{
     CALENDAR, Fails, HELLO, Left, Line, NO_FAILS, Script, Wanted, is_left, run_script,
 };
 use jac_app::Status;

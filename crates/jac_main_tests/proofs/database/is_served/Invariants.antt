@@ -1,4 +1,4 @@
-use Rattle.jac_main.proofs.tests.run_script.Given as goal
+use Rattle.jac_main_tests.proofs.database.is_served.Given as goal
 
 abbrev pub ghosts-run_over-L-Ledger : goal.ghosts-run_over-L-Ledger
 ghosts-run_over-L-Ledger a = record { name = a.blank.name; parts = a.blank.parts }

@@ -1,7 +1,7 @@
 //! Requests that are answered over a database in memory, and what is found there.
 ghost use Rattle.std.specs.Prelude.{◌≡◌, ◌<◌, ◌≤◌, length, IsTrue};
 
-use crate::tests::{
+use crate::scripts::{
     CALENDAR, Line, NO_FAILS, REPLAY, Script, around_of, link_of, run_over, words_of,
 };
 use jac_app::{Status, attach_store, serve_link};

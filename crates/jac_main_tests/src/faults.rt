@@ -1,5 +1,5 @@
 //! Each call of what is around a run fails in turn, and each call of its keeper.
-use crate::tests::{CALENDAR, Fails, Left, NO_FAILS, REPLAY, Script, Wanted, leaves, run_script};
+use crate::scripts::{CALENDAR, Fails, Left, NO_FAILS, REPLAY, Script, Wanted, leaves, run_script};
 use jac_app::Status;
 use jac_value::Memory;
 use std::alloc::Global;
