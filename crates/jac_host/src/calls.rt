@@ -2,10 +2,12 @@
 ghost use Rattle.std.specs.Prelude.{◌≡◌, ◌≤◌, [], ◌∷◌, Some, None, length, take, IfOk, OnOk, OnErr, MatchResult};
 ghost use Rattle.jac_host.specs.Events.{Opened, Gave, Took, Aimed, Listens, Came};
 
+use crate::inherited::inherited;
 use crate::journal::{Journal, Note};
+use crate::room::Room;
 use std::fs::File;
 use std::io;
-use std::io::{Read, Write};
+use std::io::{ErrorKind, Read, Write};
 use std::net::{SocketAddr, TcpListener};
 
 /// Opens a file.
@@ -84,19 +86,31 @@ pub(crate) fn drop_bytes(journal: &mut Journal, bytes: &[u8])
     *journal = journal.then(&Note::Took(bytes));
 }
 
-/// Listens on this port.
+/// Listens on this port, or goes on listening where the port was handed in.
 pub(crate) fn listen(
     rt: &HostRuntime,
     journal: &mut Journal,
     address: SocketAddr,
     port: u16,
-) -> io::Result<TcpListener>
+) -> io::Result<Room>
     ensures { MatchResult result
         (λ _. journal.new.events ≡ Listens port ∷ journal.old.events)
         (λ _. journal.new.events ≡ journal.old.events) }
 {
-    let listener = TcpListener::bind(rt, address)?;
+    let room = Room::open(rt, listener_of(rt, address)?)?;
     *journal = journal.then(&Note::Listens(port));
+    Ok(room)
+}
+
+// The listener that was handed in, which has to listen at this address, or a new one, whose queue is
+// as long as the system allows.
+fn listener_of(rt: &HostRuntime, address: SocketAddr) -> io::Result<TcpListener> {
+    let Some(listener) = inherited(rt) else {
+        return Ok(TcpListener::from(mio::net::TcpListener::bind(rt, address)?));
+    };
+    if listener.local_addr()? != address {
+        return Err(io::Error::from(ErrorKind::AddrNotAvailable));
+    }
     Ok(listener)
 }
 

@@ -6,6 +6,7 @@ use crate::handed::Handed;
 use crate::journal::Journal;
 use crate::link::{HostLink, link_of, read_away};
 use crate::outside::Outside;
+use crate::room::Room;
 use crate::told::tell;
 use jac_io::{Door, Failed};
 use std::io;
@@ -20,7 +21,7 @@ use std::time::Instant;
 pub struct HostDoor<'r, O: Outside> {
     rt: &'r HostRuntime,
     outside: PhantomData<O>,
-    listener: Option<TcpListener>,
+    room: Option<Room>,
     journal: Journal,
     returned: Handed<HostLink<O>>,
     faults: u64,
@@ -35,7 +36,7 @@ impl<'r, O: Outside> HostDoor<'r, O> {
         HostDoor {
             rt,
             outside: PhantomData,
-            listener: None,
+            room: None,
             journal: Journal::new(),
             returned: Handed::new(),
             faults: 0,
@@ -45,7 +46,7 @@ impl<'r, O: Outside> HostDoor<'r, O> {
     /// Where it listens.
     #[cfg(test)]
     pub fn address(&self) -> Option<SocketAddr> {
-        self.listener.as_ref()?.local_addr().ok()
+        self.room.as_ref()?.listener().local_addr().ok()
     }
 }
 
@@ -59,9 +60,9 @@ impl<O: Outside> Door for HostDoor<'_, O> {
     fn listen(&mut self, port: u16) -> Result<(), Failed> {
         let address = SocketAddr::from((Ipv4Addr::LOCALHOST, port));
         match listen(self.rt, &mut self.journal, address, port) {
-            Ok(listener) => {
-                tell_listening(self.rt, &listener);
-                self.listener = Some(listener);
+            Ok(room) => {
+                tell_listening(self.rt, room.listener());
+                self.room = Some(room);
                 Ok(())
             }
             Err(error) => {
@@ -73,7 +74,7 @@ impl<O: Outside> Door for HostDoor<'_, O> {
 
     #[tactic(auto, using(crate::proofs::LinkLaws::next_comes))]
     fn next(&mut self) -> Result<Option<HostLink<O>>, Failed> {
-        match next_stream(self.rt, &self.listener) {
+        match next_stream(self.rt, &mut self.room) {
             Ok((stream, now)) => Ok(Some(link_of(self.rt, &mut self.journal, stream, now))),
             Err(error) => {
                 tell(self.rt, &"the door", &error);
@@ -97,31 +98,14 @@ fn tell_listening(rt: &HostRuntime, listener: &TcpListener) {
     }
 }
 
-// The next connection, and when it came. A reply is one write, so it needn't wait for more to be
-// sent with it; where the host refuses that, it is done without.
-fn next_stream(
-    rt: &HostRuntime,
-    listener: &Option<TcpListener>,
-) -> io::Result<(TcpStream, Instant)> {
-    let stream = accept_one(listener)?;
+// The next connection, and when it was handed out. A reply is one write, so it needn't wait for
+// more to be sent with it; where the host refuses that, it is done without.
+fn next_stream(rt: &HostRuntime, room: &mut Option<Room>) -> io::Result<(TcpStream, Instant)> {
+    let Some(room) = room else {
+        return Err(io::Error::from(ErrorKind::NotConnected));
+    };
+    let stream = room.next()?;
     let _ = stream.set_nodelay(true);
     let now = Instant::now(rt)?;
     Ok((stream, now))
-}
-
-// Waits for a connection. One that went away before it was accepted is passed over.
-fn accept_one(listener: &Option<TcpListener>) -> io::Result<TcpStream> {
-    let Some(listener) = listener else {
-        return Err(io::Error::from(ErrorKind::NotConnected));
-    };
-    'connections: for _ in 0..u64::MAX {
-        match listener.accept() {
-            Ok((stream, _)) => return Ok(stream),
-            Err(error) => match error.kind() {
-                ErrorKind::Interrupted | ErrorKind::ConnectionAborted => {}
-                _ => return Err(error),
-            },
-        }
-    }
-    Err(io::Error::from(ErrorKind::ConnectionAborted))
 }

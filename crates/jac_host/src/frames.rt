@@ -4,6 +4,9 @@
 // The field that tells how long a body is, with its colon.
 const LENGTH: [u8; 15] = *b"content-length:";
 
+// A body of more bytes isn't waited for with its head.
+const LONG: u64 = 8_192;
+
 /// Where a connection stands after the bytes so far.
 #[derive(Clone, Copy, PartialEq, Eq)]
 pub(crate) enum Spot {
@@ -27,6 +30,21 @@ pub(crate) fn spot_behind(spot: Spot, bytes: &[u8]) -> Spot {
         spot = next_spot(spot, *byte);
     }
     spot
+}
+
+/// Whether a whole request stands at the front of these bytes; or its head, where its body is too long
+/// to be waited for with it.
+pub(crate) fn has_request(bytes: &[u8]) -> bool {
+    let mut spot = Spot::Between;
+    'bytes: for byte in bytes {
+        let next = next_spot(spot, *byte);
+        match next {
+            Spot::Between if spot != Spot::Between => return true,
+            Spot::Body { left } if left > LONG => return true,
+            _ => spot = next,
+        }
+    }
+    false
 }
 
 // After one byte more. Empty lines ahead of a request belong to none.

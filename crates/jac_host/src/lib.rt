@@ -9,10 +9,12 @@ mod faults;
 mod files;
 mod frames;
 mod handed;
+mod inherited;
 mod journal;
 mod link;
 mod outside;
 mod pace;
+mod room;
 mod sinks;
 #[cfg(test)]
 mod tests;
