@@ -2,3 +2,4 @@ pub mod Steps
 pub mod SinkLaws
 pub mod LinkLaws
 pub mod OutsideLaws
+pub mod HeldLaws

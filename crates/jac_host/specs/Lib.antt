@@ -5,3 +5,4 @@ pub mod Sinks
 pub mod Gave
 pub mod Links
 pub mod Wrote
+pub mod Held

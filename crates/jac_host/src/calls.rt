@@ -56,6 +56,13 @@ pub(crate) fn read_once<R: Read>(
     Ok(count)
 }
 
+/// Bytes that a read gave are handed on, which is no call.
+pub(crate) fn hand_on(journal: &mut Journal, bytes: &[u8])
+    ensures { journal.new.events ≡ Gave bytes.now ∷ journal.old.events }
+{
+    *journal = journal.then(&Note::Gave(bytes));
+}
+
 /// Nothing came in time, which counts as a read at the end.
 pub(crate) fn none_came(journal: &mut Journal)
     ensures { journal.new.events ≡ Gave [] ∷ journal.old.events }

@@ -1,5 +1,6 @@
 ghost use Rattle.std.specs.Prelude.{◌≡◌, ◌≤◌, [], None};
 
+use crate::ahead::Ahead;
 use crate::calls::listen;
 use crate::faults::counted;
 use crate::handed::Handed;
@@ -75,7 +76,13 @@ impl<O: Outside> Door for HostDoor<'_, O> {
     #[tactic(auto, using(crate::proofs::LinkLaws::next_comes))]
     fn next(&mut self) -> Result<Option<HostLink<O>>, Failed> {
         match next_stream(self.rt, &mut self.room) {
-            Ok((stream, now)) => Ok(Some(link_of(self.rt, &mut self.journal, stream, now))),
+            Ok((stream, ahead, now)) => Ok(Some(link_of(
+                self.rt,
+                &mut self.journal,
+                stream,
+                ahead,
+                now,
+            ))),
             Err(error) => {
                 tell(self.rt, &"the door", &error);
                 Err(counted(&mut self.faults))
@@ -98,14 +105,17 @@ fn tell_listening(rt: &HostRuntime, listener: &TcpListener) {
     }
 }
 
-// The next connection, and when it was handed out. A reply is one write, so it needn't wait for
+// The next connection, what was read of it, and when it was handed out. A reply is one write, so it needn't wait for
 // more to be sent with it; where the host refuses that, it is done without.
-fn next_stream(rt: &HostRuntime, room: &mut Option<Room>) -> io::Result<(TcpStream, Instant)> {
+fn next_stream(
+    rt: &HostRuntime,
+    room: &mut Option<Room>,
+) -> io::Result<(TcpStream, Ahead, Instant)> {
     let Some(room) = room else {
         return Err(io::Error::from(ErrorKind::NotConnected));
     };
-    let stream = room.next()?;
+    let (stream, ahead) = room.next()?;
     let _ = stream.set_nodelay(true);
     let now = Instant::now(rt)?;
-    Ok((stream, now))
+    Ok((stream, ahead, now))
 }

@@ -4,8 +4,8 @@
 // The field that tells how long a body is, with its colon.
 const LENGTH: [u8; 15] = *b"content-length:";
 
-// A body of more bytes isn't waited for with its head.
-const LONG: u64 = 8_192;
+// A longer body is refused by its head alone.
+const LONGEST: u64 = 65_536;
 
 /// Where a connection stands after the bytes so far.
 #[derive(Clone, Copy, PartialEq, Eq)]
@@ -23,6 +23,13 @@ pub(crate) enum Spot {
     Body { left: u64 },
 }
 
+impl Spot {
+    /// Whether a head ended, and its body not yet.
+    pub(crate) fn is_in_body(self) -> bool {
+        matches!(self, Spot::Body { .. })
+    }
+}
+
 /// Where the connection stands after these bytes more.
 pub(crate) fn spot_behind(spot: Spot, bytes: &[u8]) -> Spot {
     let mut spot = spot;
@@ -32,19 +39,19 @@ pub(crate) fn spot_behind(spot: Spot, bytes: &[u8]) -> Spot {
     spot
 }
 
-/// Whether a whole request stands at the front of these bytes; or its head, where its body is too long
-/// to be waited for with it.
-pub(crate) fn has_request(bytes: &[u8]) -> bool {
-    let mut spot = Spot::Between;
+/// Whether a request ends within these bytes more, or one begins whose body is too long for any.
+pub(crate) fn ends_request(spot: &mut Spot, bytes: &[u8]) -> bool {
+    let mut ends = false;
     'bytes: for byte in bytes {
-        let next = next_spot(spot, *byte);
+        let next = next_spot(*spot, *byte);
         match next {
-            Spot::Between if spot != Spot::Between => return true,
-            Spot::Body { left } if left > LONG => return true,
-            _ => spot = next,
+            Spot::Between if *spot != Spot::Between => ends = true,
+            Spot::Body { left } if left > LONGEST => ends = true,
+            _ => {}
         }
+        *spot = next;
     }
-    false
+    ends
 }
 
 // After one byte more. Empty lines ahead of a request belong to none.

@@ -3,6 +3,7 @@
 //! failures, and says on standard error what the host said of them.
 #![tactic(auto)]
 
+mod ahead;
 mod calls;
 mod door;
 mod faults;

@@ -1,11 +1,13 @@
-ghost use Rattle.std.specs.Prelude.{◌≡◌, ◌≤◌, ◌<◌, ◌∷◌, ◌++◌, length, take, IfOk, OnOk, OnErr, MatchResult};
+ghost use Rattle.std.specs.Prelude.{◌≡◌, ◌≤◌, ◌<◌, [], ◌∷◌, ◌++◌, length, take, IfOk, OnOk, OnErr, MatchResult};
 ghost use Rattle.jac_io.specs.Put.{AddsPrefix};
 ghost use Rattle.jac_host.specs.Events.{Gave, Came};
+ghost use Rattle.jac_host.specs.Held.{HandsOver};
 ghost use Rattle.jac_host.specs.Sinks.{took};
 ghost use Rattle.jac_host.specs.Wrote.{IsWritten};
 ghost use Rattle.jac_host.specs.Links.{came, input_at, fresh_link};
 
-use crate::calls::{none_came, one_came, read_once, write_once};
+use crate::ahead::{Ahead, Input};
+use crate::calls::{hand_on, none_came, one_came, write_once};
 use crate::faults::counted;
 use crate::journal::Journal;
 use crate::outside::Outside;
@@ -32,28 +34,34 @@ pub struct HostLink<O: Outside> {
     rt: HostRuntime,
     outside: PhantomData<O>,
     stream: TcpStream,
+    input: Input,
     pace: Pace,
     journal: Journal,
     faults: u64,
 }
 
 impl<O: Outside> Model for HostLink<O> {
+    ghost use Rattle.std.specs.Prelude.{◌≡◌, ◌++◌};
     ghost use Rattle.jac_io.specs.Linked.{LinkSeen};
     ghost use Rattle.jac_host.specs.Links.{link_seen};
+    ghost use Rattle.jac_host.specs.Gave.{given};
 
     ghost Value = { LinkSeen };
 
     ghost view = { λ l. link_seen O.inputs l.journal.events l.faults };
+
+    ghost invariant = { λ l. given l.journal.events ++ l.input.rest ≡ l.input.whole };
 }
 
 impl<O: Outside> Link for HostLink<O> {
     ghost seen = { λ l. l };
 
-    #[tactic(auto, using(crate::proofs::LinkLaws::goes_further, crate::proofs::LinkLaws::at_end))]
+    #[tactic(auto, using(crate::proofs::LinkLaws::goes_further, crate::proofs::LinkLaws::at_end, crate::proofs::HeldLaws::taken_on))]
     fn take(&mut self, into: &mut [u8]) -> Result<usize, Failed> {
         match read_some(
             &self.rt,
             &mut self.stream,
+            &mut self.input,
             &mut self.pace,
             &mut self.journal,
             into,
@@ -77,10 +85,13 @@ impl<O: Outside> Link for HostLink<O> {
     }
 }
 
-// Reads once. Where nothing came in time, the input ends. Where the clock fails, the next call does.
+// Takes what was read ahead, or else reads once. Where nothing came in time, the input ends. Where the clock fails, the next
+// call does.
+#[tactic(auto, using(crate::proofs::HeldLaws::held_taken))]
 fn read_some(
     rt: &HostRuntime,
     stream: &mut TcpStream,
+    input: &mut Input,
     pace: &mut Pace,
     journal: &mut Journal,
     into: &mut [u8],
@@ -90,8 +101,17 @@ fn read_some(
     ensures noted { MatchResult result
         (λ count. journal.new.events ≡ Gave (take count into.new) ∷ journal.old.events)
         (λ _. journal.new.events ≡ journal.old.events) }
+    ensures handed { MatchResult result
+        (λ count. HandsOver input.old input.new (take count into.new))
+        (λ _. input.new ≡ input.old) }
 {
-    let count = read_in_time(rt, stream, pace, journal, into)?;
+    if input.holds() {
+        let count = input.take(into);
+        hand_on(journal, &into[..count]);
+        keep_pace(rt, pace, &into[..count]);
+        return Ok(count);
+    }
+    let count = read_in_time(rt, stream, input, pace, journal, into)?;
     if count > 0 {
         keep_pace(rt, pace, &into[..count]);
     }
@@ -106,18 +126,24 @@ fn keep_pace(rt: &HostRuntime, pace: &mut Pace, bytes: &[u8]) {
 }
 
 // Reads once, and again after a signal, for as long as the pace allows.
+#[tactic(auto, using(crate::proofs::HeldLaws::none_taken, crate::proofs::HeldLaws::read_taken))]
 fn read_in_time(
     rt: &HostRuntime,
     stream: &mut TcpStream,
+    input: &mut Input,
     pace: &Pace,
     journal: &mut Journal,
     into: &mut [u8],
 ) -> io::Result<usize>
+    requires none_held { input.old.rest ≡ [] }
     ensures within { IfOk result (λ count. count ≤ length into.new) }
     ensures same_length { length into.new ≡ length into.old }
     ensures noted { MatchResult result
         (λ count. journal.new.events ≡ Gave (take count into.new) ∷ journal.old.events)
         (λ _. journal.new.events ≡ journal.old.events) }
+    ensures handed { MatchResult result
+        (λ count. HandsOver input.old input.new (take count into.new))
+        (λ _. input.new ≡ input.old) }
 {
     'reads: for _ in 0..u64::MAX {
         let left = pace.left(Instant::now(rt)?);
@@ -126,8 +152,11 @@ fn read_in_time(
             return Ok(0);
         }
         stream.set_read_timeout(Some(left))?;
-        match read_once(stream, journal, into) {
-            Ok(count) => return Ok(count),
+        match input.read(stream, into) {
+            Ok(count) => {
+                hand_on(journal, &into[..count]);
+                return Ok(count);
+            }
             Err(error) => match error.kind() {
                 ErrorKind::Interrupted => {}
                 ErrorKind::WouldBlock => {
@@ -196,6 +225,7 @@ pub(crate) fn link_of<O: Outside>(
     rt: &HostRuntime,
     door: &mut Journal,
     stream: TcpStream,
+    ahead: Ahead,
     now: Instant,
 ) -> HostLink<O>
     ensures fresh { result ≡ fresh_link (input_at O.inputs (came door.old.events)) }
@@ -205,6 +235,7 @@ pub(crate) fn link_of<O: Outside>(
         rt: *rt,
         outside: PhantomData,
         stream,
+        input: Input::new(ahead),
         pace: Pace::new(now),
         journal: one_came(door),
         faults: 0,

@@ -1,7 +1,7 @@
-//! Connections that came, and of which a request is waited for. Who brought one is served, whoever
+//! Connections that came, and whose requests are waited for. Whoever brought one is served, whoever
 //! came before. Each is handed out once: when its request is there, when its peer ended it, or when
 //! its time is over, and then without what it might still bring.
-use crate::frames::has_request;
+use crate::ahead::Ahead;
 use mio::unix::SourceFd;
 use mio::{Events, Interest, Poll, Token};
 use std::alloc::Global;
@@ -17,16 +17,14 @@ const SEATS: usize = 128;
 // How long a connection may wait here.
 const WAIT_MILLIS: u64 = 3_000;
 
-// How many bytes of a request are waited for here. A longer one is handed out with these.
-const WINDOW: usize = 8_192;
+// How often it is told that connections were let go.
+const TELL_MILLIS: u64 = 1_000;
 
-// How long a look at what a connection brought may take, should the host have told of nothing.
-const LOOK_MILLIS: u64 = 1;
-
-// A connection, and whether it is to be handed out.
+// A connection, what was read of it, and whether it is to be handed out.
 #[derive(Drop)]
 struct Waiting {
     stream: TcpStream,
+    ahead: Ahead,
     token: usize,
     ready: bool,
     since: Instant,
@@ -36,6 +34,23 @@ impl Waiting {
     // Its time is over.
     fn end(&mut self) {
         let _ = self.stream.shutdown(Shutdown::Read);
+        self.ready = true;
+    }
+
+    // Reads what came. A connection that ended or failed brings no more.
+    fn look(&mut self) {
+        'reads: for _ in 0..u64::MAX {
+            match self.ahead.read(&mut self.stream) {
+                Ok(0) => break,
+                Ok(_) if self.ahead.is_enough() => break,
+                Ok(_) => {}
+                Err(error) => match error.kind() {
+                    ErrorKind::WouldBlock => return,
+                    ErrorKind::Interrupted => {}
+                    _ => break,
+                },
+            }
+        }
         self.ready = true;
     }
 }
@@ -49,6 +64,8 @@ pub(crate) struct Room {
     listener: TcpListener,
     waiting: Vec<Waiting>,
     token: usize,
+    let_go: u64,
+    told: Option<Instant>,
 }
 
 impl Room {
@@ -65,6 +82,8 @@ impl Room {
             listener,
             waiting: Vec::new(rt.alloc()),
             token: 0,
+            let_go: 0,
+            told: None,
         })
     }
 
@@ -72,11 +91,12 @@ impl Room {
         &self.listener
     }
 
-    /// The next connection that is handed out.
-    pub(crate) fn next(&mut self) -> io::Result<TcpStream> {
+    /// The next connection that is handed out, and what was read of it.
+    pub(crate) fn next(&mut self) -> io::Result<(TcpStream, Ahead)> {
         'turns: for _ in 0..u64::MAX {
-            if let Some(stream) = self.take_ready() {
-                return Ok(stream);
+            if let Some((stream, ahead)) = self.take_ready() {
+                stream.set_nonblocking(false)?;
+                return Ok((stream, ahead));
             }
             let wait = self.let_in()?;
             self.look(wait)?;
@@ -86,17 +106,17 @@ impl Room {
 
     // The first that came of those that are ready. The host may go on telling of it, under a token
     // that nobody has here.
-    fn take_ready(&mut self) -> Option<TcpStream> {
+    fn take_ready(&mut self) -> Option<(TcpStream, Ahead)> {
         let place = self.waiting.iter().position(|one| one.ready)?;
         if place >= self.waiting.len() {
             return None;
         }
-        let Waiting { stream, .. } = self.waiting.remove(place);
-        Some(stream)
+        let Waiting { stream, ahead, .. } = self.waiting.remove(place);
+        Some((stream, ahead))
     }
 
     // Lets one connection in, and says how long what it brings may be waited for: not at all where
-    // more may have come. The host tells of the port only behind the last that came.
+    // more may have come. The host tells of the port only after the last that came.
     fn let_in(&mut self) -> io::Result<Option<Duration>> {
         match self.listener.accept() {
             Ok((stream, _)) => {
@@ -116,10 +136,11 @@ impl Room {
         if self.waiting.len() >= SEATS {
             if let Some(first) = self.waiting.first_mut() {
                 first.end();
+                self.let_go = self.let_go.saturating_add(1);
             }
         }
         self.token = self.token.wrapping_add(1);
-        stream.set_read_timeout(Some(Duration::from_millis(LOOK_MILLIS)))?;
+        stream.set_nonblocking(true)?;
         let fd = stream.as_raw_fd();
         self.poll
             .registry()
@@ -127,6 +148,7 @@ impl Room {
         let since = Instant::now(&self.rt)?;
         self.waiting.push(Waiting {
             stream,
+            ahead: Ahead::new(self.rt.alloc()),
             token: self.token,
             ready: false,
             since,
@@ -134,18 +156,39 @@ impl Room {
         Ok(())
     }
 
-    // How long the first that came may still wait.
+    // How long nobody's time is over, and nothing is to be told.
     fn left(&mut self) -> io::Result<Option<Duration>> {
         let now = Instant::now(&self.rt)?;
+        let untold = self.tell_let_go(now);
         let Some(first) = self.waiting.first_mut() else {
-            return Ok(None);
+            return Ok(untold);
         };
-        let waited = now.duration_since(first.since);
-        let left = Duration::from_millis(WAIT_MILLIS).saturating_sub(waited);
+        let left = time_left(now, first.since, WAIT_MILLIS);
         if left.is_zero() {
             first.end();
+            self.let_go = self.let_go.saturating_add(1);
         }
         Ok(Some(left))
+    }
+
+    // Tells how many connections were let go, and says how long it waits to tell of more.
+    fn tell_let_go(&mut self, now: Instant) -> Option<Duration> {
+        if self.let_go == 0 {
+            return None;
+        }
+        if let Some(told) = self.told {
+            let left = time_left(now, told, TELL_MILLIS);
+            if !left.is_zero() {
+                return Some(left);
+            }
+        }
+        let count = self.let_go;
+        let _ = eprintln!(self.rt;
+            "jac: let {count} connections go, which brought no request in time"
+        );
+        self.told = Some(now);
+        self.let_go = 0;
+        None
     }
 
     // Waits until the host tells of the port or of somebody, and looks at whom it tells of.
@@ -156,8 +199,8 @@ impl Room {
         for event in events.iter() {
             let token = usize::from(event.token());
             for one in waiting.iter_mut() {
-                if one.token == token && event.is_readable() {
-                    one.ready = one.ready || event.is_read_closed() || has_come(&one.stream);
+                if one.token == token && !one.ready {
+                    one.look();
                 }
             }
         }
@@ -165,13 +208,7 @@ impl Room {
     }
 }
 
-// Whether a request is there, or as much of it as is waited for here. A connection that ended or
-// failed brings no more.
-fn has_come(stream: &TcpStream) -> bool {
-    let mut window = [0u8; WINDOW];
-    match stream.peek(&mut window) {
-        Ok(0) => true,
-        Ok(count) => count >= WINDOW || has_request(&window[..count]),
-        Err(error) => !matches!(error.kind(), ErrorKind::WouldBlock),
-    }
+// How much is left of so many milliseconds since then.
+fn time_left(now: Instant, since: Instant, millis: u64) -> Duration {
+    Duration::from_millis(millis).saturating_sub(now.duration_since(since))
 }
