@@ -9,7 +9,7 @@ use Rattle.std.proofs.lemmas.Slice.Eq.{bytes_eq-Decides}
 use Rattle.jac_host.specs.Events.{Event}
 use Rattle.jac_host.specs.Gave.{goes_on}
 use Rattle.jac_host.specs.Links.{input_at, fresh_link}
-use Rattle.jac_host.specs.Wrote.{IsWritten}
+use Rattle.jac_host.specs.Wrote.{OnlyWrites}
 
 -- what stands after the front of a list
 behind : (before bytes rest : List ℕ) → drop (length before) ((before ++ bytes) ++ rest) ≡ bytes ++ rest
@@ -49,7 +49,7 @@ next_comes (i ∷ is) (suc n) h =
     let one : suc n + 1 ≡ suc (n + 1) = omega arith in rw one (next_comes is n (omega (arith, h)))
 
 -- writes after writes
-pub written_on : (old mid new : List Event) → IsWritten old mid → IsWritten mid new → IsWritten old new
+pub written_on : (old mid new : List Event) → OnlyWrites old mid → OnlyWrites mid new → OnlyWrites old new
 written_on old mid new a b = record {
   given = b.given ∙ a.given;
   input = λ inputs. b.input inputs ∙ a.input inputs;

@@ -5,23 +5,24 @@ use Rattle.jac_io.specs.Seen.{FilesSeen}
 use Rattle.jac_host.specs.Events.{Event, Opened, Gave, Came}
 
 -- the bytes that reads gave since the last file was opened, or the last connection came
-abbrev pub given : List Event → List ℕ
-given [] = []
-given (Opened _ ∷ events) = []
-given (Came ∷ events) = []
-given (Gave bytes ∷ events) = given events ++ bytes
-given (_ ∷ events) = given events
+abbrev pub bytes_given : List Event → List ℕ
+bytes_given [] = []
+bytes_given (Opened _ ∷ events) = []
+bytes_given (Came ∷ events) = []
+bytes_given (Gave bytes ∷ events) = bytes_given events ++ bytes
+bytes_given (_ ∷ events) = bytes_given events
 
 -- the name of the file that was opened last
-abbrev pub opened : List Event → List ℕ
-opened [] = []
-opened (Opened name ∷ events) = name
-opened (_ ∷ events) = opened events
+abbrev pub last_opened : List Event → List ℕ
+last_opened [] = []
+last_opened (Opened name ∷ events) = name
+last_opened (_ ∷ events) = last_opened events
 
 -- whether bytes that a read gave go on after those that were given, as the whole does: none only at
 -- its end
 abbrev pub goes_on : List ℕ → List ℕ → List ℕ → Bool
-goes_on whole before bytes = bytes_eq (if length bytes == 0 then whole else take (length (before ++ bytes)) whole)
+goes_on whole before bytes = bytes_eq
+    (if length bytes == 0 then whole else take (length (before ++ bytes)) whole)
     (before ++ bytes)
 
 abbrev pub goes_on_in : Option (List ℕ) → List ℕ → List ℕ → Bool
@@ -31,7 +32,8 @@ goes_on_in (Some whole) before bytes = goes_on whole before bytes
 -- whether each read so far gave what stands in the file of this name
 abbrev pub agrees : (List ℕ → Option (List ℕ)) → List Event → Bool
 agrees file [] = true
-agrees file (Gave bytes ∷ events) = goes_on_in (file (opened events)) (given events) bytes && agrees file events
+agrees file (Gave bytes ∷ events) =
+    goes_on_in (file (last_opened events)) (bytes_given events) bytes && agrees file events
 agrees file (_ ∷ events) = agrees file events
 
 -- files that are supposed to hold this. They tell as long as each read agreed

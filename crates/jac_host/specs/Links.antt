@@ -2,7 +2,7 @@
 use Rattle.std.specs.Prelude.{ℕ, ◌+◌, Bool, true, ◌&&◌, List, [], ◌∷◌, Option, Some, None, length, drop, map, nat_le, zero, suc}
 use Rattle.jac_io.specs.Linked.{LinkSeen, DoorSeen}
 use Rattle.jac_host.specs.Events.{Event, Gave, Listens, Came}
-use Rattle.jac_host.specs.Gave.{given, goes_on}
+use Rattle.jac_host.specs.Gave.{bytes_given, goes_on}
 use Rattle.jac_host.specs.Sinks.{took}
 
 -- how many connections came
@@ -33,14 +33,14 @@ last_input inputs (_ ∷ events) = last_input inputs events
 abbrev pub brings : List ℕ → List Event → Bool
 brings input [] = true
 brings input (Came ∷ events) = true
-brings input (Gave bytes ∷ events) = goes_on input (given events) bytes && brings input events
+brings input (Gave bytes ∷ events) = goes_on input (bytes_given events) bytes && brings input events
 brings input (_ ∷ events) = brings input events
 
 -- a connection, where this is supposed of all of them. It tells as long as each read agreed
 abbrev pub link_seen : List (List ℕ) → List Event → ℕ → LinkSeen
 link_seen inputs events faults = record {
   tells = brings (last_input inputs events) events;
-  left = drop (length (given events)) (last_input inputs events);
+  left = drop (length (bytes_given events)) (last_input inputs events);
   held = took events;
   faults = faults;
 }

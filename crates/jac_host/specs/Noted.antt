@@ -4,14 +4,14 @@ use Rattle.jac_host.specs.Events.{Event, Opened, Gave, Took, Aimed, Listens, Cam
 use Rattle.jac_host.specs.declared.journal.Note.{Note}
 use Rattle.jac_host.specs.declared.journal.Note.TheVariants as notes
 
-abbrev pub event_of : Note → Event
-event_of (notes.Opened name) = Opened name.now
-event_of (notes.Gave bytes) = Gave bytes.now
-event_of (notes.Took bytes) = Took bytes.now
-event_of (notes.Aimed name) = Aimed (option_map (λ n. n.now) name)
-event_of (notes.Listens port) = Listens port
-event_of notes.Came = Came
+abbrev pub note_event : Note → Event
+note_event (notes.Opened name) = Opened name.now
+note_event (notes.Gave bytes) = Gave bytes.now
+note_event (notes.Took bytes) = Took bytes.now
+note_event (notes.Aimed name) = Aimed (option_map (λ n. n.now) name)
+note_event (notes.Listens port) = Listens port
+note_event notes.Came = Came
 
 -- the newest first
-abbrev pub noted : List Event → Note → List Event
-noted events note = event_of note ∷ events
+abbrev pub with_note : List Event → Note → List Event
+with_note events note = note_event note ∷ events

@@ -18,4 +18,9 @@ aims (_ ∷ events) = aims events
 
 -- a sink of these events that counted so many faults. It always tells
 abbrev pub sink_seen : List Event → ℕ → SinkSeen
-sink_seen events faults = record { tells = true; held = took events; aims = aims events; faults = faults }
+sink_seen events faults = record {
+  tells = true;
+  held = took events;
+  aims = aims events;
+  faults = faults;
+}

@@ -1,11 +1,11 @@
 -- what writes to a connection leave of its journal
 use Rattle.std.specs.Prelude.{◌≡◌, ℕ, List}
 use Rattle.jac_host.specs.Events.{Event}
-use Rattle.jac_host.specs.Gave.{given}
+use Rattle.jac_host.specs.Gave.{bytes_given}
 use Rattle.jac_host.specs.Links.{last_input, brings}
 
 -- nothing was read, and it is the same connection
-pub record IsWritten (old new : List Event) : Type 0 where
-  pub given : given new ≡ given old
+pub record OnlyWrites (old new : List Event) : Type 0 where
+  pub given : bytes_given new ≡ bytes_given old
   pub input : (inputs : List (List ℕ)) → last_input inputs new ≡ last_input inputs old
   pub brings : (input : List ℕ) → brings input new ≡ brings input old

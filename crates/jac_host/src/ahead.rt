@@ -30,13 +30,13 @@ pub(crate) struct Ahead {
 
 impl Model for Ahead {
     ghost use Rattle.std.specs.Prelude.{◌≡◌, ℕ, List};
-    ghost use Rattle.jac_host.specs.Gave.{given};
+    ghost use Rattle.jac_host.specs.Gave.{bytes_given};
 
     ghost Value = { List ℕ };
 
     ghost view = { λ a. a.bytes.items };
 
-    ghost invariant = { λ a. given a.reads.events ≡ a.bytes.items };
+    ghost invariant = { λ a. bytes_given a.reads.events ≡ a.bytes.items };
 }
 
 impl Ahead {
@@ -80,12 +80,15 @@ pub(crate) struct Input {
 
 impl Model for Input {
     ghost use Rattle.std.specs.Prelude.{◌≤◌, drop, length};
-    ghost use Rattle.jac_host.specs.Gave.{given};
+    ghost use Rattle.jac_host.specs.Gave.{bytes_given};
     ghost use Rattle.jac_host.specs.Held.{Held};
 
     ghost Value = { Held };
 
-    ghost view = { λ i. record { whole = given i.reads.events; rest = drop i.taken i.bytes.items } };
+    ghost view = { λ i. record {
+      whole = bytes_given i.reads.events;
+      rest = drop i.taken i.bytes.items;
+    } };
 
     ghost invariant = { λ i. i.taken ≤ length i.bytes.items };
 }

@@ -109,8 +109,8 @@ pub(crate) fn listen(
     Ok(room)
 }
 
-// The listener that was handed in, which has to listen at this address, or a new one, whose queue is
-// as long as the system allows.
+// The listener that was handed in, which has to listen at this address, or a new one, whose queue
+// is as long as the system allows.
 fn listener_of(rt: &HostRuntime, address: SocketAddr) -> io::Result<TcpListener> {
     let Some(listener) = inherited(rt) else {
         return Ok(TcpListener::from(mio::net::TcpListener::bind(rt, address)?));

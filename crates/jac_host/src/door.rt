@@ -105,8 +105,8 @@ fn tell_listening(rt: &HostRuntime, listener: &TcpListener) {
     }
 }
 
-// The next connection, what was read of it, and when it was handed out. A reply is one write, so it needn't wait for
-// more to be sent with it; where the host refuses that, it is done without.
+// The next connection, what was read of it, and when it was handed out. A reply is one write, so it
+// needn't wait for more to be sent with it; where the host refuses that, it is done without.
 fn next_stream(
     rt: &HostRuntime,
     room: &mut Option<Room>,

@@ -28,7 +28,7 @@ pub enum Note<'a> {
 }
 
 impl Journal {
-    ghost use Rattle.jac_host.specs.Noted.{noted};
+    ghost use Rattle.jac_host.specs.Noted.{with_note};
 
     pub fn new() -> Journal
         ensures { result.events ≡ [] }
@@ -38,7 +38,7 @@ impl Journal {
 
     /// The journal with one event more.
     pub fn then(&self, _note: &Note<'_>) -> Journal
-        ensures { result.events ≡ noted self.now.events _note.now }
+        ensures { result.events ≡ with_note self.now.events _note.now }
     {
         Journal {}
     }

@@ -3,7 +3,7 @@ ghost use Rattle.jac_io.specs.Put.{AddsPrefix};
 ghost use Rattle.jac_host.specs.Events.{Gave, Came};
 ghost use Rattle.jac_host.specs.Held.{HandsOver};
 ghost use Rattle.jac_host.specs.Sinks.{took};
-ghost use Rattle.jac_host.specs.Wrote.{IsWritten};
+ghost use Rattle.jac_host.specs.Wrote.{OnlyWrites};
 ghost use Rattle.jac_host.specs.Links.{came, input_at, fresh_link};
 
 use crate::ahead::{Ahead, Input};
@@ -44,13 +44,13 @@ impl<O: Outside> Model for HostLink<O> {
     ghost use Rattle.std.specs.Prelude.{◌≡◌, ◌++◌};
     ghost use Rattle.jac_io.specs.Linked.{LinkSeen};
     ghost use Rattle.jac_host.specs.Links.{link_seen};
-    ghost use Rattle.jac_host.specs.Gave.{given};
+    ghost use Rattle.jac_host.specs.Gave.{bytes_given};
 
     ghost Value = { LinkSeen };
 
     ghost view = { λ l. link_seen O.inputs l.journal.events l.faults };
 
-    ghost invariant = { λ l. given l.journal.events ++ l.input.rest ≡ l.input.whole };
+    ghost invariant = { λ l. bytes_given l.journal.events ++ l.input.rest ≡ l.input.whole };
 }
 
 impl<O: Outside> Link for HostLink<O> {
@@ -85,8 +85,8 @@ impl<O: Outside> Link for HostLink<O> {
     }
 }
 
-// Takes what was read ahead, or else reads once. Where nothing came in time, the input ends. Where the clock fails, the next
-// call does.
+// Takes what was read ahead, or else reads once. Where nothing came in time, the input ends. Where
+// the clock fails, the next call does.
 #[tactic(auto, using(crate::proofs::HeldLaws::held_taken))]
 fn read_some(
     rt: &HostRuntime,
@@ -183,7 +183,7 @@ fn write_whole(
     ensures ok { OnOk result (took journal.new.events ≡ took journal.old.events ++ bytes.now) }
     ensures err { OnErr result (AddsPrefix (took journal.old.events) (took journal.new.events)
         bytes.now) }
-    ensures written { IsWritten journal.old.events journal.new.events }
+    ensures written { OnlyWrites journal.old.events journal.new.events }
 {
     let began = Instant::now(rt)?;
     let mut done = 0;
@@ -209,7 +209,7 @@ fn write_some(stream: &mut TcpStream, journal: &mut Journal, bytes: &[u8]) -> io
     ensures took { MatchResult result
         (λ count. took journal.new.events ≡ took journal.old.events ++ take count bytes.now)
         (λ _. took journal.new.events ≡ took journal.old.events) }
-    ensures written { IsWritten journal.old.events journal.new.events }
+    ensures written { OnlyWrites journal.old.events journal.new.events }
 {
     match write_once(stream, journal, bytes) {
         Ok(count) => Ok(count),

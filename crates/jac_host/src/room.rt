@@ -193,7 +193,12 @@ impl Room {
 
     // Waits until the host tells of the port or of somebody, and looks at whom it tells of.
     fn look(&mut self, wait: Option<Duration>) -> io::Result<()> {
-        self.poll.poll(&mut self.events, wait)?;
+        if let Err(error) = self.poll.poll(&mut self.events, wait) {
+            return match error.kind() {
+                ErrorKind::Interrupted => Ok(()),
+                _ => Err(error),
+            };
+        }
         let events = &self.events;
         let waiting = &mut self.waiting;
         for event in events.iter() {

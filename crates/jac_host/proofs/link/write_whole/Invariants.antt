@@ -1,10 +1,10 @@
 use Rattle.std.proofs.Common.{◌≡◌, ◌≤◌, ◌++◌, length, take}
 use Rattle.jac_host.specs.Sinks.{took}
-use Rattle.jac_host.specs.Wrote.{IsWritten}
+use Rattle.jac_host.specs.Wrote.{OnlyWrites}
 use Rattle.jac_host.proofs.link.write_whole.Given as goal
 
 abbrev pub invariant-writes : goal.invariant-writes
 invariant-writes l =
     (l.done ≤ length l.bytes) ×
     (took l.journal.events ≡ took l.fn.journal.events ++ take l.done l.bytes) ×
-    IsWritten l.fn.journal.events l.journal.events
+    OnlyWrites l.fn.journal.events l.journal.events

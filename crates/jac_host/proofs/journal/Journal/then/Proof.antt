@@ -1,6 +1,6 @@
 -- The journal that comes is one of no bytes too, so it holds what the note adds.
 use Rattle.jac_host.proofs.Steps.{[], ◌∷◌, refl, proved, ftrue, RefOf, yes, owns, shr_vals, shr_Tells, pure_i, plain, types_at, named_lft, nothing, alive, Stays, walk_of, says, stay_dropped, Goes-dropped, ends_at, named, vstruct, vnil, alloc_all, pass_all, free_all, look_at, sets, ‵, raw, ◌⊛◌, ◌$◌, ◌∵◌, !, qed, move, keep, split, fjoin, suffices, done, agg, enter, returns, no_more}
-use Rattle.jac_host.specs.Noted.{noted}
+use Rattle.jac_host.specs.Noted.{with_note}
 use Rattle.jac_host.specs.contracts.journal.Journal.{the_row as R}
 use Rattle.jac_host.specs.contracts.journal.Note.{the_row as N}
 use Rattle.jac_host.specs.contracts.journal.Journal.then as f
@@ -21,7 +21,7 @@ then_spec 𝓤 𝓛 𝓜 𝓡 wired =
     (λ κs. (shr_Tells (named 0) κs.0 R, (shr_Tells (named 1) κs.1.0 (N (named_lft 3 2 tt κs)), tt)))
     (λ κs qs bounds a g are.
     let y : W.Ghost = ((κs, qs, bounds, a, (shr_vals a.0, (shr_vals a.1.0, tt))), g) in
-    let made : R.Denot = record { events = noted a.0.now.events a.1.0.now } in
+    let made : R.Denot = record { events = with_note a.0.now.events a.1.0.now } in
     qed 𝓛 ((raw (alive 𝓛 f.signature κs qs) ⊛ ‵ (owns (types_at f.signature.params κs) a y.0.4)) ∷ ‵ ftrue ∷ []) ∵
     split ! $ keep ! (0 ∷ []) $
     enter ! _ _ _ _ _ $ alloc_all ! (λ l. pass_all ! refl ((tt, tt), ((tt, tt), tt)) $
