@@ -16,8 +16,9 @@ from testing import crates, paths                                           # no
 
 LIST = 'checks/style.txt'
 COLUMNS, ARGUMENTS = 100, 7
-# What brings names in, and what says which tactics prove a crate, stands on a line of its own, as `rt fmt` lays it out.
-IMPORT = re.compile(r'\s*(?:ghost use|pub use|use) |#!\[tactic\(')
+# What brings names in, and what says which tactics prove a crate or a function, stands on one line, as `rt fmt` lays it
+# out.
+IMPORT = re.compile(r'\s*(?:ghost use|pub use|use) |\s*#!?\[tactic\(')
 FUNCTION = re.compile(r'\bfn (\w+)')
 MODULE = re.compile(r'(?m)^(?:pub )?mod (\w+)')
 GERUND = re.compile(r'[a-z]+ing$')
