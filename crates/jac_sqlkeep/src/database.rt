@@ -177,6 +177,13 @@ impl<S: Alter> Database<S> {
         conn
     }
 
+    /// It tells nothing from now on.
+    pub fn doubt(&mut self)
+        ensures { self.new ≡ record self.old { tells = false } }
+    {
+        self.known = false;
+    }
+
     pub fn number(&mut self) -> Result<u64, Error>
         ensures in_range { IfOk result IsNext }
         ensures reads { ReadsBased (λ s n. n ≡ s.number) self.old self.new result }

@@ -21,7 +21,7 @@ use crate::database::Database;
 use jac_keep::{AttachFault, Change, Keeper, Stop, Vault, shape_of};
 use jac_rows::{Rows, Shape};
 use jac_value::{Id, Memory, Txt, Value, copy_name};
-use sqlite::Connection;
+use sqlite::{Connection, Error};
 use std::alloc::Global;
 use std::marker::Model;
 
@@ -38,6 +38,7 @@ pub struct SqlKeeper<O: Opener> {
     database: Option<Database<O::Store>>,
     refused: Option<Database<O::Store>>,
     unfit: Option<Unfit>,
+    error: Option<Error>,
     faults: u64,
 }
 
@@ -67,6 +68,7 @@ impl<O: Opener> SqlKeeper<O> {
             database: None,
             refused: None,
             unfit: None,
+            error: None,
             faults: 0,
         }
     }
@@ -82,10 +84,35 @@ impl<O: Opener> SqlKeeper<O> {
 }
 
 impl<O: Opener> SqlKeeper<O> {
+    ghost use Rattle.jac_sqlkeep.specs.Kept.{seen_kept};
+
     pub fn is_attached(&self) -> bool
         ensures { result ≡ self.now.store.attached }
     {
         self.database.is_some()
+    }
+
+    /// How often it failed.
+    pub fn faults(&self) -> u64
+        ensures { result ≡ self.now.faults }
+    {
+        self.faults
+    }
+
+    /// Why the last statement was refused, if one was.
+    pub fn error(&self) -> Option<Error> {
+        self.error
+    }
+
+    /// It tells nothing from now on.
+    pub fn doubt(&mut self)
+        ensures untold { (seen_kept self.new).tells ≡ false }
+        ensures same_store { self.new.store ≡ self.old.store }
+        ensures same_faults { self.new.faults ≡ self.old.faults }
+    {
+        if let Some(database) = &mut self.database {
+            database.doubt();
+        }
     }
 
     /// The opener, and the connection, if it is attached, or that to a store that was refused.
@@ -100,6 +127,7 @@ impl<O: Opener> SqlKeeper<O> {
             database,
             refused,
             unfit: _,
+            error: _,
             faults: _,
         } = self;
         let conn = match database {
@@ -131,7 +159,10 @@ impl<O: Opener> Keeper for SqlKeeper<O> {
         };
         match database.number() {
             Ok(number) => Ok(number),
-            Err(error) => Err(stop_of(error, &mut self.faults)),
+            Err(error) => {
+                self.error = Some(error);
+                Err(stop_of(error, &mut self.faults))
+            }
         }
     }
 
@@ -147,7 +178,10 @@ impl<O: Opener> Keeper for SqlKeeper<O> {
         };
         match database.rows(alloc, model) {
             Ok(rows) => Ok(rows),
-            Err(error) => Err(stop_of(error, &mut self.faults)),
+            Err(error) => {
+                self.error = Some(error);
+                Err(stop_of(error, &mut self.faults))
+            }
         }
     }
 
@@ -164,7 +198,10 @@ impl<O: Opener> Keeper for SqlKeeper<O> {
         };
         match database.one(alloc, id) {
             Ok(rows) => Ok(rows),
-            Err(error) => Err(stop_of(error, &mut self.faults)),
+            Err(error) => {
+                self.error = Some(error);
+                Err(stop_of(error, &mut self.faults))
+            }
         }
     }
 
@@ -188,7 +225,10 @@ impl<O: Opener> Keeper for SqlKeeper<O> {
         };
         match database.rows_with(alloc, model, field, value) {
             Ok(rows) => Ok(rows),
-            Err(error) => Err(stop_of(error, &mut self.faults)),
+            Err(error) => {
+                self.error = Some(error);
+                Err(stop_of(error, &mut self.faults))
+            }
         }
     }
 
@@ -209,7 +249,10 @@ impl<O: Opener> Keeper for SqlKeeper<O> {
         };
         match database.apply(alloc, change) {
             Ok(()) => Ok(()),
-            Err(error) => Err(stop_of(error, &mut self.faults)),
+            Err(error) => {
+                self.error = Some(error);
+                Err(stop_of(error, &mut self.faults))
+            }
         }
     }
 }
@@ -282,7 +325,10 @@ impl<O: Opener> Vault for SqlKeeper<O> {
                 self.schema = Some(copy);
                 Ok(())
             }
-            Err(error) => Err(stop_of(error, &mut self.faults)),
+            Err(error) => {
+                self.error = Some(error);
+                Err(stop_of(error, &mut self.faults))
+            }
         }
     }
 }

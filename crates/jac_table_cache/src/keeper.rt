@@ -47,6 +47,13 @@ impl<K: Keeper> CachedKeeper<K> {
             tables: HeldTables::none(alloc),
         }
     }
+
+    /// The keeper within.
+    pub fn keeper(&self) -> &K
+        ensures { result.now ≡ self.now }
+    {
+        &self.keeper
+    }
 }
 
 impl<K: Keeper> Keeper for CachedKeeper<K> {

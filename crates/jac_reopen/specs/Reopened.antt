@@ -1,0 +1,56 @@
+-- what is seen of a store that may be opened again
+use Rattle.std.specs.Prelude.{◌≡◌, ℕ, true, false, List, [], Option, Some, None, IsTrue}
+use Rattle.jac_rows.specs.Good.{ModelShape}
+use Rattle.jac_keep.specs.KeeperSeen.{KeeperSeen, Store}
+use Rattle.jac_keep.specs.Schema.{IsSchema}
+
+-- a store's name and the schema that it was attached with
+pub record KnownSeen : Type 0 where
+  pub name : Option (List ℕ)
+  pub schema : List ℕ
+
+-- the store that is attached so
+abbrev pub known_store : KnownSeen → Store
+known_store k = record { called = true; attached = true; schema = Some k.schema; name = k.name }
+
+-- its schema is one of some models
+abbrev pub HasShapes : KnownSeen → Type 0
+HasShapes k = (shapes : List ModelShape) × IsSchema k.schema shapes
+
+-- a keeper that was attached and that tells nothing, by its store and how often it failed
+pub record UntoldSeen : Type 0 where
+  pub known : KnownSeen
+  pub faults : ℕ
+
+abbrev pub seen_untold : UntoldSeen → KeeperSeen
+seen_untold u = record {
+  tells = false;
+  state = record { tables = []; number = 0 };
+  faults = u.faults;
+  store = known_store u.known;
+}
+
+-- a keeper that nobody attached
+abbrev pub unopened_keeper : KeeperSeen
+unopened_keeper = record {
+  tells = false;
+  state = record { tables = []; number = 0 };
+  faults = 0;
+  store = record { called = false; attached = false; schema = None; name = None };
+}
+
+-- the vault that was attached first, and the keeper over the store that was opened again
+pub record ReopenSeen (V : Type 0) : Type 0 where
+  pub first : Option V
+  pub again : Option UntoldSeen
+
+abbrev pub seen_first : {V : Type 0} → (V → KeeperSeen) → Option V → KeeperSeen
+seen_first seen None = unopened_keeper
+seen_first seen (Some v) = seen v
+
+abbrev pub seen_either : {V : Type 0} → (V → KeeperSeen) → Option V → Option UntoldSeen → KeeperSeen
+seen_either seen first None = seen_first seen first
+seen_either seen first (Some u) = seen_untold u
+
+abbrev pub seen_reopening : {V : Type 0} → (V → KeeperSeen) → ReopenSeen V → KeeperSeen
+seen_reopening seen r = seen_either seen r.first r.again

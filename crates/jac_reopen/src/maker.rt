@@ -1,0 +1,45 @@
+ghost use Rattle.std.specs.Prelude.{◌≡◌, ℕ, List, false, IfOk, IfErr, OnOk, IsTrue};
+ghost use Rattle.std.specs.Option.{option_copied};
+ghost use Rattle.jac_rows.specs.Good.{ModelShape};
+ghost use Rattle.jac_keep.specs.Attaching.{Attaches};
+ghost use Rattle.jac_keep.specs.Schema.{IsSchema};
+ghost use Rattle.jac_reopen.specs.Reopened.{unopened_keeper, HasShapes};
+
+use crate::KnownStore;
+use jac_keep::{AttachFault, Stop, Vault};
+use jac_value::Txt;
+use std::alloc::Global;
+
+/// What opens vaults over one store.
+pub trait VaultMaker: Drop {
+    type Vault: Vault + Drop;
+
+    /// What is known of a vault that was attached with this schema.
+    ghost begins: { List ℕ → Self.Vault → Type 0 };
+
+    /// A vault over the store of this name, attached, or why it isn't.
+    fn attach(
+        &mut self,
+        alloc: Global,
+        name: Option<&Txt>,
+        schema: &Txt,
+    ) -> (Self::Vault, Result<(), AttachFault>)
+        requires schema { (shapes : List ModelShape) × IsSchema schema.now shapes }
+        ensures attaches { Attaches unopened_keeper (Self.Vault.Keeper.seen result.0)
+            (option_copied name.entry) schema.now result.1 }
+        ensures begins { OnOk result.1 (begins schema.now result.0) };
+
+    /// A vault over a store that was attached before, with all the tests of attaching. It tells
+    /// nothing, since nobody knows what became of the store meanwhile.
+    fn attach_again(&mut self, alloc: Global, store: &KnownStore) -> Result<Self::Vault, Stop>
+        requires schema { HasShapes store.now }
+        ensures attached { IfOk result (λ v. IsTrue (Self.Vault.Keeper.seen v).store.attached) }
+        ensures untold { IfOk result (λ v. (Self.Vault.Keeper.seen v).tells ≡ false) };
+
+    /// Says to whoever runs the program that a call of the vault over this store failed.
+    fn tell_fault(&mut self, vault: &Self::Vault, store: &KnownStore);
+
+    /// How often the vault failed.
+    fn faults(&self, vault: &Self::Vault) -> u64
+        ensures { result ≡ (Self.Vault.Keeper.seen vault.now).faults };
+}

@@ -1,0 +1,281 @@
+ghost use Rattle.std.specs.Prelude.{◌≡◌, ◌≤◌, ◌^◌, List, Some, None, length, IfOk, IfSome, IsErrOf, IsSomeAnd, OnOk, OnErr, IsTrue, false};
+ghost use Rattle.std.specs.Option.{option_copied};
+ghost use Rattle.jac_rows.specs.Good.{ModelShape, IsSound};
+ghost use Rattle.jac_keep.specs.Attaching.{Attaches};
+ghost use Rattle.jac_keep.specs.KeeperSeen.{IsLeft};
+ghost use Rattle.jac_keep.specs.ChangedState.{changed_state};
+ghost use Rattle.jac_keep.specs.Reshaping.{widened_state, Reshapes};
+ghost use Rattle.jac_keep.specs.Schema.{IsSchema, IsFit};
+ghost use Rattle.jac_reopen.specs.Reopened.{seen_reopening, unopened_keeper, known_store, HasShapes};
+
+use crate::{KnownStore, ReopenedKeeper, VaultMaker};
+use jac_keep::{AttachFault, Change, Keeper, Stop, Vault};
+use jac_rows::Rows;
+use jac_value::{Id, Memory, Txt, Value};
+use std::alloc::Global;
+use std::marker::Model;
+
+// What opens the store again.
+#[derive(Drop)]
+struct Spare<M: VaultMaker> {
+    maker: M,
+    store: KnownStore,
+}
+
+/// A keeper over a store that was attached. Where a fault of the disk closed the store, each later
+/// call opens it again, with all the tests of attaching, and answers by what it holds then. From
+/// then on it tells nothing.
+#[derive(Drop)]
+pub struct ReopeningKeeper<M: VaultMaker> {
+    alloc: Global,
+    first: Option<M::Vault>,
+    spare: Option<Spare<M>>,
+    again: Option<ReopenedKeeper<M>>,
+}
+
+impl<M: VaultMaker> Model for ReopeningKeeper<M> {
+    ghost use Rattle.std.specs.Prelude.{◌≡◌, IfSome};
+    ghost use Rattle.jac_reopen.specs.Reopened.{ReopenSeen, HasShapes, known_store};
+
+    ghost Value = { ReopenSeen M.Vault };
+
+    ghost view = { λ k. record { first = k.first; again = k.again } };
+
+    ghost invariant = { λ k. IfSome k.spare (λ s. HasShapes s.store × IfSome k.first (λ v.
+        (M.Vault.Keeper.seen v).store ≡ known_store s.store)) };
+}
+
+impl<M: VaultMaker> ReopeningKeeper<M> {
+    /// A keeper over the store of this name, attached, or why it isn't.
+    pub fn attach(
+        alloc: Global,
+        maker: M,
+        name: Option<&Txt>,
+        schema: &Txt,
+    ) -> (ReopeningKeeper<M>, Result<(), AttachFault>)
+        requires schema { (shapes : List ModelShape) × IsSchema schema.now shapes }
+        ensures attaches { Attaches unopened_keeper
+            (seen_reopening M.Vault.Keeper.seen result.0)
+            (option_copied name.entry) schema.now result.1 }
+        ensures begins { OnOk result.1 (IsSomeAnd result.0.first (M.begins schema.now)) }
+        ensures first { result.0.again ≡ None }
+    {
+        let mut maker = maker;
+        let (vault, attached) = maker.attach(alloc, name, schema);
+        match attached {
+            Ok(()) => {
+                let spare = spare_of(alloc, maker, name, schema);
+                (ReopeningKeeper::over(alloc, vault, spare), Ok(()))
+            }
+            Err(fault) => (ReopeningKeeper::over(alloc, vault, None), Err(fault)),
+        }
+    }
+
+    fn over(alloc: Global, vault: M::Vault, spare: Option<Spare<M>>) -> ReopeningKeeper<M>
+        requires { IfSome spare (λ s. HasShapes s.store
+            × ((M.Vault.Keeper.seen vault).store ≡ known_store s.store)) }
+        ensures { result ≡ record { first = Some vault; again = None } }
+    {
+        ReopeningKeeper {
+            alloc,
+            first: Some(vault),
+            spare,
+            again: None,
+        }
+    }
+
+    // After a fault: where the store answers nothing more, it is closed, and opened again by the next
+    // call.
+    fn close_if_shut(&mut self)
+        requires attached { IsTrue (seen_reopening M.Vault.Keeper.seen self.old).store.attached }
+        requires first { self.old.again ≡ None }
+        ensures left { IsLeft (seen_reopening M.Vault.Keeper.seen self.old)
+            (seen_reopening M.Vault.Keeper.seen self.new) }
+        ensures good { IsTrue (seen_reopening M.Vault.Keeper.seen self.new).tells
+            → IsSound (seen_reopening M.Vault.Keeper.seen self.new).state }
+    {
+        let Some(first) = &mut self.first else {
+            unreachable!()
+        };
+        if let Some(spare) = &mut self.spare {
+            spare.maker.tell_fault(first, &spare.store);
+        }
+        match first.number() {
+            Err(Stop::Keeper) => self.close(),
+            _ => (),
+        }
+    }
+
+    fn close(&mut self)
+        requires attached { IsTrue (seen_reopening M.Vault.Keeper.seen self.old).store.attached }
+        requires first { self.old.again ≡ None }
+        requires good { IsTrue (seen_reopening M.Vault.Keeper.seen self.old).tells
+            → IsSound (seen_reopening M.Vault.Keeper.seen self.old).state }
+        ensures left { IsLeft (seen_reopening M.Vault.Keeper.seen self.old)
+            (seen_reopening M.Vault.Keeper.seen self.new) }
+        ensures good { IsTrue (seen_reopening M.Vault.Keeper.seen self.new).tells
+            → IsSound (seen_reopening M.Vault.Keeper.seen self.new).state }
+    {
+        let Some(spare) = self.spare.take() else {
+            return;
+        };
+        let Some(first) = self.first.take() else {
+            unreachable!()
+        };
+        let Spare { maker, store } = spare;
+        let faults = maker.faults(&first);
+        drop(first);
+        self.again = Some(ReopenedKeeper::new(self.alloc, maker, store, faults));
+    }
+}
+
+impl<M: VaultMaker> ReopeningKeeper<M> {
+    /// As a vault's. A store that was opened again isn't brought to another schema.
+    #[tactic(auto, using(crate::proofs::Left::reshapes_then))]
+    pub fn reshape(&mut self, alloc: Global, change: &Change, schema: &Txt) -> Result<(), Stop>
+        requires attached { IsTrue (seen_reopening M.Vault.Keeper.seen self.old).store.attached }
+        requires schema { (shapes : List ModelShape) × IsSchema schema.now shapes
+            × (IsTrue (seen_reopening M.Vault.Keeper.seen self.old).tells
+            → IsFit shapes (widened_state (length shapes) (changed_state change.now
+            (seen_reopening M.Vault.Keeper.seen self.old).state))) }
+        ensures { Reshapes (seen_reopening M.Vault.Keeper.seen self.old)
+            (seen_reopening M.Vault.Keeper.seen self.new) change.now schema.now result }
+    {
+        if let Some(again) = &mut self.again {
+            return again.refuse();
+        }
+        let Some(first) = &mut self.first else {
+            unreachable!()
+        };
+        match first.reshape(alloc, change, schema) {
+            Ok(()) => {
+                self.spare = None;
+                Ok(())
+            }
+            Err(Stop::Memory) => Err(Stop::Memory),
+            Err(Stop::Keeper) => {
+                self.close_if_shut();
+                Err(Stop::Keeper)
+            }
+        }
+    }
+}
+
+// Where memory runs out the store isn't opened again.
+fn spare_of<M: VaultMaker>(
+    alloc: Global,
+    maker: M,
+    name: Option<&Txt>,
+    schema: &Txt,
+) -> Option<Spare<M>>
+    ensures { IfSome result (λ s. s.store ≡ record {
+      name = option_copied name.entry;
+      schema =
+          schema.now;
+    }) }
+{
+    match KnownStore::new(alloc, name, schema) {
+        Ok(store) => Some(Spare { maker, store }),
+        Err(Memory) => None,
+    }
+}
+
+impl<M: VaultMaker> Keeper for ReopeningKeeper<M> {
+    ghost seen = { seen_reopening M.Vault.Keeper.seen };
+
+    #[tactic(auto, using(crate::proofs::Left::reads_then))]
+    fn number(&mut self) -> Result<u64, Stop> {
+        if let Some(again) = &mut self.again {
+            return again.number();
+        }
+        let Some(first) = &mut self.first else {
+            unreachable!()
+        };
+        match first.number() {
+            Ok(number) => Ok(number),
+            Err(Stop::Memory) => Err(Stop::Memory),
+            Err(Stop::Keeper) => {
+                self.close_if_shut();
+                Err(Stop::Keeper)
+            }
+        }
+    }
+
+    #[tactic(auto, using(crate::proofs::Left::reads_then))]
+    fn rows(&mut self, alloc: Global, model: u8) -> Result<Rows, Stop> {
+        if let Some(again) = &mut self.again {
+            return again.rows(alloc, model);
+        }
+        let Some(first) = &mut self.first else {
+            unreachable!()
+        };
+        match first.rows(alloc, model) {
+            Ok(rows) => Ok(rows),
+            Err(Stop::Memory) => Err(Stop::Memory),
+            Err(Stop::Keeper) => {
+                self.close_if_shut();
+                Err(Stop::Keeper)
+            }
+        }
+    }
+
+    #[tactic(auto, using(crate::proofs::Left::reads_then))]
+    fn one(&mut self, alloc: Global, id: Id) -> Result<Rows, Stop> {
+        if let Some(again) = &mut self.again {
+            return again.one(alloc, id);
+        }
+        let Some(first) = &mut self.first else {
+            unreachable!()
+        };
+        match first.one(alloc, id) {
+            Ok(rows) => Ok(rows),
+            Err(Stop::Memory) => Err(Stop::Memory),
+            Err(Stop::Keeper) => {
+                self.close_if_shut();
+                Err(Stop::Keeper)
+            }
+        }
+    }
+
+    #[tactic(auto, using(crate::proofs::Left::reads_then))]
+    fn rows_with(
+        &mut self,
+        alloc: Global,
+        model: u8,
+        field: u8,
+        value: &Value,
+    ) -> Result<Rows, Stop> {
+        if let Some(again) = &mut self.again {
+            return again.rows_with(alloc, model, field, value);
+        }
+        let Some(first) = &mut self.first else {
+            unreachable!()
+        };
+        match first.rows_with(alloc, model, field, value) {
+            Ok(rows) => Ok(rows),
+            Err(Stop::Memory) => Err(Stop::Memory),
+            Err(Stop::Keeper) => {
+                self.close_if_shut();
+                Err(Stop::Keeper)
+            }
+        }
+    }
+
+    #[tactic(auto, using(crate::proofs::Left::keeps_then, crate::proofs::Left::refused_then))]
+    fn apply(&mut self, alloc: Global, change: &Change) -> Result<(), Stop> {
+        if let Some(again) = &mut self.again {
+            return again.apply(alloc, change);
+        }
+        let Some(first) = &mut self.first else {
+            unreachable!()
+        };
+        match first.apply(alloc, change) {
+            Ok(()) => Ok(()),
+            Err(Stop::Memory) => Err(Stop::Memory),
+            Err(Stop::Keeper) => {
+                self.close_if_shut();
+                Err(Stop::Keeper)
+            }
+        }
+    }
+}
