@@ -14,6 +14,7 @@ use Rattle.sqlite_trees.specs.declared.store.Store.{Ghosts}
 use Rattle.sqlite.specs.Held.{Held}
 use Rattle.jac_sqlkeep.specs.Based.{Based}
 use Rattle.jac_sqlkeep.specs.Kept.{Kept, seen_kept, untouched_keeper, BeginsGiven}
+use Rattle.jac_reopen.specs.Reopened.{ReopenSeen, seen_reopening, unopened_keeper}
 use Rattle.jac_host_vault.specs.HostSeen.{HostSeen, IsFileOf, IsStorePlaced, seen_memory, seen_one, seen_host, faults_with, store_with, IsHost}
 
 -- ---- memory is called
@@ -87,7 +88,7 @@ record IsFirst (h : HostSeen) : Type 0 where
   pub named : h.misnamed ≡ false
   pub unfiled : h.file ≡ None
 
-first_in : (alone misnamed : Bool) (memory : KeeperState) (file : Option Kept) → IsHost (record { memory = memory; file = file; alone = alone; misnamed = misnamed }) → (seen_one alone misnamed memory file).store.called ≡ false
+first_in : (alone misnamed : Bool) (memory : KeeperState) (file : Option (ReopenSeen Kept)) → IsHost (record { memory = memory; file = file; alone = alone; misnamed = misnamed }) → (seen_one alone misnamed memory file).store.called ≡ false
     → IsFirst (record { memory = memory; file = file; alone = alone; misnamed = misnamed })
 first_in alone misnamed memory (Some f) host first = absurd (let called = host.called in cc)
 first_in alone true memory None host first = absurd (true≢false first)
@@ -113,38 +114,50 @@ module _ (old : KeeperSeen) (untold : old.tells ≡ false) where
     made = λ told then. never then;
   }
 
-untold_file : (unopened : ℕ) (old : KeeperSeen) (f : Kept) (result : Result (Unit {0}) AttachFault) → OnErr result (IsRefused (seen_kept (untouched_keeper unopened)) (seen_kept f)) → OnErr result (IsRefused old (seen_kept f))
-untold_file unopened old f (Ok done) refused = tt
-untold_file unopened old f (Err e) refused = absurd (true≢false (sym refused.told))
+untold_refused : (before old new : KeeperSeen) (result : Result (Unit {0}) AttachFault) → before.tells ≡ false → OnErr result (IsRefused before new) → OnErr result (IsRefused old new)
+untold_refused before old new (Ok done) untold refused = tt
+untold_refused before old new (Err e) untold refused = absurd (true≢false (sym refused.told ∙ untold))
 
-unattached_file : (f : Kept) (attached : Bool) (result : Result (Unit {0}) AttachFault) → attached ≡ false
-    → OnErr result (f.store.attached ≡ false) → OnErr result (f.store.attached ≡ attached)
-unattached_file f attached (Ok done) was same = tt
-unattached_file f attached (Err e) was same = same ∙ sym was
+still_unattached : (new : KeeperSeen) (before old : Bool) (result : Result (Unit {0}) AttachFault) → before ≡ old
+    → OnErr result (new.store.attached ≡ before) → OnErr result (new.store.attached ≡ old)
+still_unattached new before old (Ok done) same is = tt
+still_unattached new before old (Err e) same is = is ∙ same
 
--- a file is attached in place of memory
-file_first : (unopened : ℕ) (memory : KeeperState) (f : Kept) (name : Option (List ℕ)) (schema : List ℕ) (result : Result (Unit {0}) AttachFault)
-    → memory.store.attached ≡ false → memory.faults ≡ 0
-    → Attaches (seen_kept (untouched_keeper unopened)) (seen_kept f) name schema result → Attaches (seen_memory false false memory) (seen_kept f) name schema result
-file_first unopened memory f name schema result detached unused attaches = record {
-  later = omega (arith, unused);
+-- attaching says the same of two keepers that tell nothing before it
+attaches_from : (before old new : KeeperSeen) (name : Option (List ℕ)) (schema : List ℕ) (result : Result (Unit {0}) AttachFault)
+    → before.tells ≡ false → old.tells ≡ false → before.faults ≡ old.faults → before.store.attached ≡ old.store.attached
+    → Attaches before new name schema result → Attaches old new name schema result
+attaches_from before old new name schema result untold untold_old faults attached attaches = record {
+  later = subst (λ (n : ℕ). n ≤ new.faults) faults attaches.later;
   called = attaches.called;
-  ok = opens_now (seen_memory false false memory) detached (seen_kept (untouched_keeper unopened)) (seen_kept f) name schema result attaches.ok;
-  err = λ told. untold_file unopened (seen_memory false false memory) f result (attaches.err told);
-  unattached = unattached_file f memory.store.attached result detached attaches.unattached;
-  rose = λ failed. subst (λ (n : ℕ). Rose n f.faults) (sym unused) (attaches.rose failed);
+  ok = opens_now old untold_old before new name schema result attaches.ok;
+  err = λ told. untold_refused before old new result untold (attaches.err told);
+  unattached = still_unattached new before.store.attached old.store.attached result attached attaches.unattached;
+  rose = λ failed. subst (λ (n : ℕ). Rose n new.faults) faults (attaches.rose failed);
   other = attaches.other;
   known_other = attaches.known_other;
 }
 
-pub file_attached : (unopened : ℕ) (h : HostSeen) (f : Kept) (name : Option (List ℕ)) (schema : List ℕ) (result : Result (Unit {0}) AttachFault)
+-- a file that nobody attached is as a keeper that nobody did
+pub unopened_first : (new : KeeperSeen) (name : Option (List ℕ)) (schema : List ℕ) (result : Result (Unit {0}) AttachFault)
+    → Attaches (seen_kept (untouched_keeper 0)) new name schema result → Attaches unopened_keeper new name schema result
+unopened_first new name schema result attaches = attaches_from (seen_kept (untouched_keeper 0)) unopened_keeper new name schema result refl refl refl refl attaches
+
+-- a file is attached in place of memory
+file_first : (memory : KeeperState) (new : KeeperSeen) (name : Option (List ℕ)) (schema : List ℕ) (result : Result (Unit {0}) AttachFault)
+    → memory.store.attached ≡ false → memory.faults ≡ 0
+    → Attaches unopened_keeper new name schema result → Attaches (seen_memory false false memory) new name schema result
+file_first memory new name schema result detached unused attaches =
+    attaches_from unopened_keeper (seen_memory false false memory) new name schema result refl detached (sym unused) (sym detached) attaches
+
+pub file_attached : (h : HostSeen) (new : KeeperSeen) (name : Option (List ℕ)) (schema : List ℕ) (result : Result (Unit {0}) AttachFault)
     → IsHost h → (seen_host h).store.called ≡ false → h.alone ≡ false
-    → Attaches (seen_kept (untouched_keeper unopened)) (seen_kept f) name schema result → Attaches (seen_host h) (seen_kept f) name schema result
-file_attached unopened h f name schema result host first some attaches =
+    → Attaches unopened_keeper new name schema result → Attaches (seen_host h) new name schema result
+file_attached h new name schema result host first some attaches =
     let it = first_in h.alone h.misnamed h.memory h.file host first in
     let same : seen_memory false false h.memory ≡ seen_host h = λ i. seen_one (sym some i) (sym it.named i) h.memory (sym it.unfiled i) in
-    subst (λ (s : KeeperSeen). Attaches s (seen_kept f) name schema result) same
-    (file_first unopened h.memory f name schema result (host.detached it.uncalled) (host.unused it.uncalled) attaches)
+    subst (λ (s : KeeperSeen). Attaches s new name schema result) same
+    (file_first h.memory new name schema result (host.detached it.uncalled) (host.unused it.uncalled) attaches)
 
 untold_memory : (memory new : KeeperState) (result : Result (Unit {0}) AttachFault) → memory.store.attached ≡ false → OnErr result (new.store.attached ≡ memory.store.attached)
     → IsTrue new.store.attached → OnErr result (IsRefused (seen_memory false false memory) (seen_memory false false new))
@@ -226,9 +239,11 @@ file_placed g Gives schema f (Ok done) begins = placed_at g Gives schema f.datab
 file_placed g Gives schema f (Err e) begins = tt
 
 -- the file that was attached stands in the vault
-pub placed_in : (name schema : List ℕ) (h : HostSeen) (f : Kept) (result : Result (Unit {0}) AttachFault) → h.file ≡ Some f → OnOk result (IsFileOf schema f) → OnOk result (IsStorePlaced (Some name) schema h)
-placed_in name schema h f (Ok done) some begins = subst (λ (o : Option Kept). IsSomeAnd o (IsFileOf schema)) (sym some) begins
-placed_in name schema h f (Err e) some begins = tt
+pub placed_in : (name schema : List ℕ) (h : HostSeen) (f : ReopenSeen Kept) (result : Result (Unit {0}) AttachFault) → h.file ≡ Some f → f.again ≡ None
+    → OnOk result (IsSomeAnd f.first (IsFileOf schema)) → OnOk result (IsStorePlaced (Some name) schema h)
+placed_in name schema h f (Ok done) some first begins =
+    subst (λ (o : Option (ReopenSeen Kept)). IsSomeAnd o (λ (f : ReopenSeen Kept). (f.again ≡ None) × IsSomeAnd f.first (IsFileOf schema))) (sym some) (first, begins)
+placed_in name schema h f (Err e) some first begins = tt
 
 -- memory that was attached tells
 pub memory_placed : (h : HostSeen) (new : KeeperState) (schema : List ℕ) (result : Result (Unit {0}) AttachFault) → IsHost h → (seen_host h).store.called ≡ false
@@ -236,4 +251,4 @@ pub memory_placed : (h : HostSeen) (new : KeeperState) (schema : List ℕ) (resu
 memory_placed h new schema (Err e) host first attaches = tt
 memory_placed h new schema (Ok done) host first attaches =
     let it = first_in h.alone h.misnamed h.memory h.file host first in
-    (it.unfiled, subst (λ (o : Option Kept). IsTrue (seen_one h.alone h.misnamed new o).tells) (sym it.unfiled) (tells_attached h.alone new.store.attached attaches.ok.attached))
+    (it.unfiled, subst (λ (o : Option (ReopenSeen Kept)). IsTrue (seen_one h.alone h.misnamed new o).tells) (sym it.unfiled) (tells_attached h.alone new.store.attached attaches.ok.attached))

@@ -5,12 +5,13 @@ use Rattle.jac_keep.specs.KeeperSeen.{KeeperSeen, Store}
 use Rattle.jac_keep.specs.KeeperState.{KeeperState, seen_keeper}
 use Rattle.jac_sqlkeep.specs.Based.{Based}
 use Rattle.jac_sqlkeep.specs.Kept.{Kept, seen_kept}
+use Rattle.jac_reopen.specs.Reopened.{ReopenSeen, seen_reopening}
 
 -- the keeper in memory, and the one in a file, once that is the one that is called; whether it has
 -- memory alone, and was asked for a file nevertheless
 pub record HostSeen : Type 0 where
   pub memory : KeeperState
-  pub file : Option Kept
+  pub file : Option (ReopenSeen Kept)
   pub alone : Bool
   pub misnamed : Bool
 
@@ -33,9 +34,9 @@ seen_memory alone misnamed memory = record {
   store = store_with misnamed memory.store;
 }
 
-abbrev pub seen_one : Bool → Bool → KeeperState → Option Kept → KeeperSeen
+abbrev pub seen_one : Bool → Bool → KeeperState → Option (ReopenSeen Kept) → KeeperSeen
 seen_one alone misnamed memory None = seen_memory alone misnamed memory
-seen_one alone misnamed memory (Some file) = seen_kept file
+seen_one alone misnamed memory (Some file) = seen_reopening seen_kept file
 
 abbrev pub seen_host : HostSeen → KeeperSeen
 seen_host h = seen_one h.alone h.misnamed h.memory h.file
@@ -43,7 +44,8 @@ seen_host h = seen_one h.alone h.misnamed h.memory h.file
 -- a file was asked to attach, where there isn't memory alone; before memory was, it isn't attached,
 -- and didn't fail
 pub record IsHost (h : HostSeen) : Type 0 where
-  pub called : IfSome h.file (λ (f : Kept). IsTrue f.store.called)
+  pub called : IfSome h.file (λ (f : ReopenSeen Kept).
+      IsTrue (seen_reopening seen_kept f).store.called)
   pub detached : h.memory.store.called ≡ false → h.memory.store.attached ≡ false
   pub unused : h.memory.store.called ≡ false → h.memory.faults ≡ 0
   pub unfiled : IsTrue h.alone → h.file ≡ None
@@ -56,4 +58,5 @@ IsFileOf schema f = IsSomeAnd f.database (λ (b : Based). (b.tells ≡ b.is_open
 -- what is attached: memory where there is no name, which tells; and else a file
 abbrev pub IsStorePlaced : Option (List ℕ) → List ℕ → HostSeen → Type 0
 IsStorePlaced None schema h = (h.file ≡ None) × IsTrue (seen_host h).tells
-IsStorePlaced (Some name) schema h = IsSomeAnd h.file (IsFileOf schema)
+IsStorePlaced (Some name) schema h = IsSomeAnd h.file (λ (f : ReopenSeen Kept).
+    (f.again ≡ None) × IsSomeAnd f.first (IsFileOf schema))

@@ -6,7 +6,7 @@ ghost use Rattle.jac_keep.specs.Schema.{IsSchema};
 ghost use Rattle.jac_sqlkeep.specs.Kept.{seen_kept};
 ghost use Rattle.jac_host_vault.specs.HostSeen.{IsFileOf};
 
-use crate::told::tell;
+use crate::told::{tell_refusal, words_of_error};
 use jac_keep::{AttachFault, Change, Keeper, Stop, Vault};
 use jac_rows::Rows;
 use jac_sqlkeep::{FileOpener, SqlKeeper};
@@ -67,6 +67,35 @@ impl FileKeeper {
             keeper: SqlKeeper::new(FileOpener::new(rt, makes)),
         }
     }
+
+    /// How often it failed.
+    pub fn faults(&self) -> u64
+        ensures { result ≡ self.now.faults }
+    {
+        self.keeper.faults()
+    }
+
+    /// It tells nothing from now on.
+    pub fn doubt(&mut self)
+        ensures untold { (seen_kept self.new).tells ≡ false }
+        ensures same_store { self.new.store ≡ self.old.store }
+        ensures same_faults { self.new.faults ≡ self.old.faults }
+    {
+        self.keeper.doubt();
+    }
+
+    /// Says on standard error why the file of this name wasn't attached.
+    pub(crate) fn tell_refusal(&self, name: &Txt) {
+        tell_refusal(&self.rt, name, &self.keeper);
+    }
+
+    /// Why the last call failed.
+    pub(crate) fn words_of_fault(&self) -> &'static str {
+        match self.keeper.error() {
+            Some(error) => words_of_error(error),
+            None => "the store can't be opened again",
+        }
+    }
 }
 
 impl Keeper for FileKeeper {
@@ -100,7 +129,6 @@ impl Keeper for FileKeeper {
 }
 
 impl Vault for FileKeeper {
-    /// What a refused file lacks is told on standard error.
     #[tactic(auto, using(crate::proofs::Attached::file_placed))]
     fn attach(&mut self, alloc: Global, name: Option<&Txt>, schema: &Txt) -> Result<(), AttachFault>
         requires first { self.old.store.called ≡ false }
@@ -109,13 +137,7 @@ impl Vault for FileKeeper {
             (option_copied name.entry) schema.now result }
         ensures begins { OnOk result (IsFileOf schema.now self.new) }
     {
-        let attached = self.keeper.attach(alloc, name, schema);
-        if attached.is_err() {
-            if let Some(name) = name {
-                tell(&self.rt, name, &self.keeper);
-            }
-        }
-        attached
+        self.keeper.attach(alloc, name, schema)
     }
 
     fn reshape(&mut self, alloc: Global, change: &Change, schema: &Txt) -> Result<(), Stop> {

@@ -3,8 +3,10 @@
 #![tactic(auto)]
 
 mod file;
+mod maker;
 mod told;
 mod vault;
 
 pub use file::FileKeeper;
+pub use maker::FileMaker;
 pub use vault::HostVault;

@@ -3,10 +3,12 @@
 
 use jac_sqlkeep::{FileOpener, OpenFault, SqlKeeper, Unfit};
 use jac_value::Txt;
+use sqlite::{Error, ErrorCode};
+use std::time::{Duration, Instant};
 
 /// Tells why the file of this name wasn't attached; what is told elsewhere, as another schema,
 /// isn't told here.
-pub(crate) fn tell(rt: &HostRuntime, name: &Txt, keeper: &SqlKeeper<FileOpener>) {
+pub(crate) fn tell_refusal(rt: &HostRuntime, name: &Txt, keeper: &SqlKeeper<FileOpener>) {
     if let Some(fault) = keeper.opener().fault() {
         say(rt, name, words_of_fault(fault));
         return;
@@ -39,6 +41,65 @@ fn words_of_fault(fault: OpenFault) -> &'static str {
         OpenFault::Unsound => "the file is no sound database",
         OpenFault::Memory => "no memory is left",
         OpenFault::Other => "the file can't be opened",
+    }
+}
+
+/// Why a call over a store failed that was attached.
+pub(crate) fn words_of_error(error: Error) -> &'static str {
+    match error {
+        Error::SqliteFailure(ErrorCode::DiskFull) => "the disk takes no more",
+        Error::SqliteFailure(ErrorCode::SystemIoFailure) => "the disk failed",
+        Error::SqliteFailure(ErrorCode::Closed) => "the store is closed after a fault of the disk",
+        Error::SqliteFailure(ErrorCode::DatabaseCorrupt) =>
+            "the store holds what can't stand there",
+        _ => "a statement was refused",
+    }
+}
+
+/// Tells faults of a store on standard error, at most one a second.
+#[derive(Drop)]
+pub(crate) struct FaultLog {
+    rt: HostRuntime,
+    since: Option<Instant>,
+    untold: u64,
+}
+
+impl FaultLog {
+    pub(crate) fn new(rt: HostRuntime) -> FaultLog {
+        FaultLog {
+            rt,
+            since: None,
+            untold: 0,
+        }
+    }
+
+    /// Tells of a fault of the store of this name, or counts it for the next line.
+    pub(crate) fn tell(&mut self, name: &str, what: &str) {
+        if self.is_early() {
+            self.untold = self.untold.saturating_add(1);
+            return;
+        }
+        let more = self.untold;
+        let _ = if more == 0 {
+            eprintln!(self.rt; "jac: {name}: {what}")
+        } else {
+            eprintln!(self.rt; "jac: {name}: {what}; {more} more faults since the last line")
+        };
+        self.untold = 0;
+    }
+
+    // Whether a second isn't over since the last line; where there is no clock it always is.
+    fn is_early(&mut self) -> bool {
+        let Ok(now) = Instant::now(&self.rt) else {
+            return false;
+        };
+        if let Some(since) = self.since {
+            if now.duration_since(since) < Duration::from_secs(1) {
+                return true;
+            }
+        }
+        self.since = Some(now);
+        false
     }
 }
 

@@ -6,17 +6,18 @@ ghost use Rattle.jac_keep.specs.KeeperState.{IsStored, unattached_store};
 ghost use Rattle.jac_keep.specs.Schema.{IsSchema};
 ghost use Rattle.jac_host_vault.specs.HostSeen.{IsStorePlaced};
 
-use crate::FileKeeper;
+use crate::FileMaker;
 use jac_io::Calls;
 use jac_keep::{AttachFault, Change, Keeper, MemoryKeeper, Stop, Vault};
+use jac_reopen::ReopeningKeeper;
 use jac_rows::{Rows, State};
-use jac_table_cache::CachedKeeper;
 use jac_value::{Id, Txt, Value};
 use std::alloc::Global;
 use std::marker::Model;
 
 /// Where the program keeps its state: in memory, or in the file that it is attached to. The tables
-/// of a file that were read are held in memory until they are changed.
+/// of a file that were read are held in memory until they are changed. A file that a fault of the
+/// disk closed is opened again by the next call, and tells nothing from then on.
 #[derive(Drop)]
 pub struct HostVault {
     rt: HostRuntime,
@@ -24,7 +25,7 @@ pub struct HostVault {
     alone: bool,
     misnamed: bool,
     memory: MemoryKeeper,
-    file: Option<CachedKeeper<FileKeeper>>,
+    file: Option<ReopeningKeeper<FileMaker>>,
 }
 
 impl Model for HostVault {
@@ -180,9 +181,9 @@ impl Vault for HostVault {
                     self.misnamed = true;
                     return Err(AttachFault::Failed);
                 }
-                let mut file = FileKeeper::new(self.rt, self.makes);
-                let attached = file.attach(alloc, Some(name), schema);
-                self.file = Some(CachedKeeper::new(alloc, file));
+                let maker = FileMaker::new(self.rt, self.makes);
+                let (file, attached) = ReopeningKeeper::attach(alloc, maker, Some(name), schema);
+                self.file = Some(file);
                 attached
             }
             None => self.memory.attach(alloc, None, schema),

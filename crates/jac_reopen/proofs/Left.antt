@@ -1,13 +1,11 @@
 -- Two steps of a keeper as one: a call that the keeper stopped, and then a look at whether its store is shut.
-use Rattle.std.proofs.Common.{◌≡◌, ◌∙◌, refl, ℕ, ◌≤◌, Bool, true, List, Option, Some, Result, Err, OnErr, IsTrue, sym, ap, arith}
-use Rattle.jac_keep.specs.Attaching.{Attaches}
+use Rattle.std.proofs.Common.{◌≡◌, ◌∙◌, ℕ, List, Some, Result, Err, IsTrue, arith}
 use Rattle.jac_keep.specs.KeeperSeen.{KeeperSeen, Store, Keeps, Reads, IsLeft}
 use Rattle.jac_keep.specs.Reshaping.{Reshapes}
 use Rattle.jac_keep.specs.declared.alteration.Change.{Change}
 use Rattle.jac_keep.specs.declared.stop.Stop.{Stop}
 use Rattle.jac_rows.specs.Good.{IsSound}
-use Rattle.jac_rows.specs.declared.state.State.{State}
-use Rattle.jac_reopen.specs.Reopened.{KnownSeen, known_store, unopened_keeper}
+use Rattle.jac_reopen.specs.Reopened.{KnownSeen, known_store}
 
 pub left_then : (a b c : KeeperSeen) → IsLeft a b → IsLeft b c → IsLeft a c
 left_then a b c one two = record {

@@ -1,5 +1,5 @@
 -- what is seen of a store that may be opened again
-use Rattle.std.specs.Prelude.{◌≡◌, ℕ, true, false, List, [], Option, Some, None, IsTrue}
+use Rattle.std.specs.Prelude.{ℕ, true, false, List, [], Option, Some, None}
 use Rattle.jac_rows.specs.Good.{ModelShape}
 use Rattle.jac_keep.specs.KeeperSeen.{KeeperSeen, Store}
 use Rattle.jac_keep.specs.Schema.{IsSchema}

@@ -84,8 +84,8 @@ impl<M: VaultMaker> ReopeningKeeper<M> {
         }
     }
 
-    // After a fault: where the store answers nothing more, it is closed, and opened again by the next
-    // call.
+    // After a fault: where the store answers nothing more, it is closed, and opened again by the
+    // next call.
     fn close_if_shut(&mut self)
         requires attached { IsTrue (seen_reopening M.Vault.Keeper.seen self.old).store.attached }
         requires first { self.old.again ≡ None }
