@@ -4,20 +4,20 @@ change, lists, the page of one record, what another viewer gets there, and a pag
 click through the calendar in turn, each as somebody else, 50 clicks a walk. No page may take longer than 0.3 seconds: as
 another program may take the machine for a moment, a page that does is looked at in a further walk, six at most, and has
 to come in time in one of them. None at all may take 5 seconds, which is what waiting for the other browser took. Words:
-the program, and a folder for pictures of the pages, if they are wanted. Prints each case that fails, and ends with a count. Where Chromium isn't installed
-nothing is done, and that is said."""
+the program, and a folder for pictures of the pages, if they are wanted. Prints each case that fails, and ends with a count. Where
+Chromium isn't installed nothing is done, and that is said (installed.py)."""
 import base64
 import contextlib
 import itertools
 import json
 import os
 import select
-import shutil
 import subprocess
 import sys
 import tempfile
 import time
 
+import installed
 import proved
 from serving import served
 
@@ -346,11 +346,8 @@ def in_turn(program, folder):
 
 
 def main():
-    found = next(filter(None, map(shutil.which, NAMES)), None)
-    if not found:
-        print('left out, as Chromium is not installed: all of it\n0 passed, 0 failed')
-        return
-    results = []
+    installed.need(NAMES)
+    found, results = installed.find(*NAMES), []
     # what the browser still writes as it ends may be left behind
     with tempfile.TemporaryDirectory(ignore_cleanup_errors=True) as folder, contextlib.closing(Browser(found, folder)) as browser:
         for steps in (calendar, conference, health, courses):

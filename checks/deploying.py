@@ -20,6 +20,7 @@ import threading
 import time
 import urllib.parse
 
+import installed
 import proved
 from serving import free_port, is_listening
 
@@ -113,7 +114,7 @@ class Site:
         types = 'include /etc/nginx/mime.types;' if os.path.exists('/etc/nginx/mime.types') else 'types { text/css css; }'
         write(MAIN % ('user root;' if os.geteuid() == 0 else '', types), folder, 'nginx.conf')
         self.trusted = ssl.create_default_context(cafile=os.path.join(folder, 'certificate.pem'))
-        self.run = subprocess.Popen(['nginx', '-p', folder, '-c', 'nginx.conf'], stdin=subprocess.DEVNULL,
+        self.run = subprocess.Popen([installed.find('nginx'), '-p', folder, '-c', 'nginx.conf'], stdin=subprocess.DEVNULL,
                                     stdout=subprocess.PIPE, stderr=subprocess.STDOUT)
         deadline = time.monotonic() + 20
         while self.run.poll() is None and not is_listening(self.tls) and time.monotonic() < deadline:
@@ -125,7 +126,7 @@ class Site:
 
     def told(self):
         """What nginx says is wrong with its files."""
-        done = subprocess.run(['nginx', '-p', self.folder, '-c', 'nginx.conf', '-t'], stdin=subprocess.DEVNULL,
+        done = subprocess.run([installed.find('nginx'), '-p', self.folder, '-c', 'nginx.conf', '-t'], stdin=subprocess.DEVNULL,
                               stdout=subprocess.PIPE, stderr=subprocess.STDOUT, text=True)
         return done.stdout
 
@@ -229,8 +230,8 @@ def other_sites(site):
 
 def load(site):
     """Many clients at once: no reply fails, and none is another's."""
-    if shutil.which('wrk'):
-        words = ['wrk', '-t2', '-c32', '-d10s', '-H', 'Authorization: ' + site.account('ann')['Authorization'],
+    if installed.find('wrk'):
+        words = [installed.find('wrk'), '-t2', '-c32', '-d10s', '-H', 'Authorization: ' + site.account('ann')['Authorization'],
                  'https://127.0.0.1:%d/' % site.tls]
         done = subprocess.run(words, stdin=subprocess.DEVNULL, stdout=subprocess.PIPE, text=True, timeout=60)
         wrong = [line.strip() for line in done.stdout.splitlines() if re.search('Socket errors|Non-2xx', line)]
@@ -238,7 +239,7 @@ def load(site):
         yield expect('32 connections of wrk', (wrong, bool(some and int(some[1]))), ([], True))
         print('wrk through nginx: ' + ', '.join(line.strip() for line in done.stdout.splitlines() if 'requests' in line.lower()))
     else:
-        print('left out, as wrk is not installed: 32 connections for 10 seconds')
+        installed.skip_part('32 connections for 10 seconds', 'wrk')
 
     def client(name, want, but):
         return [shows('%s among many' % name, site.ask('GET', '/', site.account(name)), want, but=but) for _ in range(10)]
@@ -309,9 +310,7 @@ def all_of(site):
 
 
 def main():
-    if not shutil.which('nginx') or not shutil.which('openssl'):
-        print('skipped, as nginx or openssl is not installed: all of it\n0 passed, 0 failed')
-        return
+    installed.need(['nginx'], ['openssl'])
     with tempfile.TemporaryDirectory() as folder:
         with contextlib.closing(Site(folder)) as site:
             if site.run.poll() is not None:

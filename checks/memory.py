@@ -5,7 +5,8 @@ same; and a store in a file holds what the answered requests left, no more and n
 dump and a `why` end as an undisturbed one does, or with status 7, and so does an upgrade, which then left the old store.
 Words: the program, and for how many seconds allocations are
 taken, 90 if not said. They are taken spread over the run, each once, as long as there is time. Prints each case that
-fails, and ends with a count. Where there is no C compiler nothing is done, and that is said.
+fails, and ends with a count. Where there is no C compiler nothing is done, and that is said
+(installed.py).
 
 A library that is loaded before the program counts its allocations, and fails those that it is told to."""
 import collections
@@ -14,13 +15,13 @@ import glob
 import os
 import random
 import re
-import shutil
 import sqlite3
 import subprocess
 import sys
 import tempfile
 import time
 
+import installed
 import proved
 
 PROGRAM = proved.binary(sys.argv[1])
@@ -326,11 +327,8 @@ def upgrades(tally, name, runs, seconds):
 
 
 def main():
-    compiler = next(filter(None, map(shutil.which, COMPILERS)), None)
-    if not compiler:
-        print('left out, as no C compiler is installed: all of it\n0 passed, 0 failed')
-        return
-    tally = Tally()
+    installed.need(COMPILERS)
+    compiler, tally = installed.find(*COMPILERS), Tally()
     # Files in memory, where there are some, spare the time that a disk takes.
     with tempfile.TemporaryDirectory(dir='/dev/shm' if os.access('/dev/shm', os.W_OK) else None) as folder:
         source, library = os.path.join(folder, 'fails.c'), os.path.join(folder, 'fails.so')

@@ -9,7 +9,6 @@ import contextlib
 import http.client
 import os
 import select
-import shutil
 import socket
 import statistics
 import struct
@@ -19,6 +18,7 @@ import tempfile
 import threading
 import time
 
+import installed
 import proved
 from serving import served
 
@@ -367,10 +367,10 @@ def main():
     results = []
     parts = [in_pieces, kept, refused, large, waited_for, dripped, let_go, taken_in_turn, gone, not_taken, taken_port,
              told, audits]
-    if shutil.which('curl'):
+    if installed.find('curl'):
         parts.append(forms)
     else:
-        print('left out, as curl is not installed: forms')
+        installed.skip_part('forms', 'curl')
     for part in parts:
         results += looked_at(part)
     for wrong in filter(None, results):
