@@ -24,7 +24,7 @@ def program(word):
         if subprocess.run([sys.executable, os.path.join(TOP, 'tools', 'program.py'), PROVED]).returncode:
             sys.exit('FAILED the proved program was built of other sources: ./prove proves these')
     elif path.startswith(TRIALS):
-        print('a trial is run, which is not proved: this is no check of the program', flush=True)
+        print('a trial is run, which is not proved', flush=True)
     return path
 
 

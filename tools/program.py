@@ -55,9 +55,11 @@ class State:
 
     def note(self, program):
         """Writes down that the program was built of them."""
-        with open(program + '.new', 'w', encoding='utf-8') as file:
+        # several checks may write it down at once
+        new = '%s.%d.new' % (program, os.getpid())
+        with open(new, 'w', encoding='utf-8') as file:
             file.write('\n'.join([self.look, self.content, *self.paths]) + '\n')
-        os.replace(program + '.new', program + '.sources')
+        os.replace(new, program + '.sources')
 
 
 def noted(program):
