@@ -2,8 +2,9 @@
 """Serves the calendar through nginx with the files of deploy/: TLS, two accounts and one without a token, passwords and
 cookies that are forged, forms of other sites, a style sheet, many clients at once, a service that is started again, and
 backups while it serves. Words: the program. Prints each case that fails, and ends with a count. Where nginx isn't
-installed, or can't be run, nothing is done, and that is said. With `wrk` the load is 32 connections for 10 seconds, and
-without it a smaller one."""
+installed, or can't be run, nothing is done, and that is said (installed.py). With `wrk` the load is 32 connections for
+10 seconds, and without it a smaller one. Where a request fails under the load, it is tried again, a bounded number of
+times (late.py)."""
 import base64
 import concurrent.futures
 import contextlib
@@ -22,6 +23,7 @@ import urllib.parse
 
 import installed
 import proved
+from late import Late, looked_at
 from serving import free_port, is_listening
 
 TOP = os.path.dirname(os.path.dirname(os.path.abspath(__file__)))
@@ -114,7 +116,8 @@ class Site:
         types = 'include /etc/nginx/mime.types;' if os.path.exists('/etc/nginx/mime.types') else 'types { text/css css; }'
         write(MAIN % ('user root;' if os.geteuid() == 0 else '', types), folder, 'nginx.conf')
         self.trusted = ssl.create_default_context(cafile=os.path.join(folder, 'certificate.pem'))
-        self.run = subprocess.Popen([installed.find('nginx'), '-p', folder, '-c', 'nginx.conf'], stdin=subprocess.DEVNULL,
+        self.words = [installed.find('nginx'), '-p', folder, '-c', 'nginx.conf']
+        self.run = subprocess.Popen(self.words, stdin=subprocess.DEVNULL,
                                     stdout=subprocess.PIPE, stderr=subprocess.STDOUT)
         deadline = time.monotonic() + 20
         while self.run.poll() is None and not is_listening(self.tls) and time.monotonic() < deadline:
@@ -126,7 +129,7 @@ class Site:
 
     def told(self):
         """What nginx says is wrong with its files."""
-        done = subprocess.run([installed.find('nginx'), '-p', self.folder, '-c', 'nginx.conf', '-t'], stdin=subprocess.DEVNULL,
+        done = subprocess.run([*self.words, '-t'], stdin=subprocess.DEVNULL,
                               stdout=subprocess.PIPE, stderr=subprocess.STDOUT, text=True)
         return done.stdout
 
@@ -228,6 +231,12 @@ def other_sites(site):
     yield expect('a link on another site', site.ask('GET', '/people', headers)[0], 200)
 
 
+def late_page(name, answer, *texts, but=()):
+    """The same of a page that nginx may have waited for too long, while another program had the machine."""
+    wrong = shows(name, answer, *texts, but=but)
+    return Late(wrong) if answer[0] in (502, 504) else wrong
+
+
 def load(site):
     """Many clients at once: no reply fails, and none is another's."""
     if installed.find('wrk'):
@@ -236,13 +245,14 @@ def load(site):
         done = subprocess.run(words, stdin=subprocess.DEVNULL, stdout=subprocess.PIPE, text=True, timeout=60)
         wrong = [line.strip() for line in done.stdout.splitlines() if re.search('Socket errors|Non-2xx', line)]
         some = re.search(r'(\d+) requests in', done.stdout)
-        yield expect('32 connections of wrk', (wrong, bool(some and int(some[1]))), ([], True))
+        fault = expect('32 connections of wrk', (wrong, bool(some and int(some[1]))), ([], True))
+        yield Late(fault) if fault and wrong else fault
         print('wrk through nginx: ' + ', '.join(line.strip() for line in done.stdout.splitlines() if 'requests' in line.lower()))
     else:
         installed.skip_part('32 connections for 10 seconds', 'wrk')
 
     def client(name, want, but):
-        return [shows('%s among many' % name, site.ask('GET', '/', site.account(name)), want, but=but) for _ in range(10)]
+        return [late_page('%s among many' % name, site.ask('GET', '/', site.account(name)), want, but=but) for _ in range(10)]
 
     with concurrent.futures.ThreadPoolExecutor(16) as pool:
         calls = [pool.submit(client, *who) for who in 8 * (('ann', 'Secret talk', ['You are Bob.']), ('bob', 'You are Bob.', ['Secret']))]
@@ -302,8 +312,10 @@ def started_again(site):
 def all_of(site):
     service = Service(site.folder, site.port, 1000000)
     try:
-        for part in (strangers, people, headers_of, other_sites, load, backups):
+        for part in (strangers, people, headers_of, other_sites):
             yield from part(site)
+        yield from looked_at('many clients', lambda: load(site))
+        yield from backups(site)
     finally:
         service.stop()
     yield from started_again(site)

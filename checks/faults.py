@@ -3,8 +3,10 @@
 that are full from each byte on, a disk that fills while requests are stored, a request that ends at each of its bytes,
 by events and over real connections, a client that breaks its connection there, requests that can't be read, and an
 application that ends at each of its bytes. A file is full where it may hold no more bytes than the process was granted.
-Words: the program. Prints each case that fails, and ends with a count."""
+Words: the program. Prints each case that fails, and ends with a count. Where a client was late, so that its connection
+was let go, its part is looked at again, a bounded number of times (late.py)."""
 import contextlib
+import functools
 import os
 import resource
 import signal
@@ -16,6 +18,7 @@ import sys
 import tempfile
 
 import proved
+from late import all_of, looked_at
 from serving import served
 
 PROGRAM = proved.binary(sys.argv[1])
@@ -235,12 +238,12 @@ def connections(at):
     with served(PROGRAM, 'a', 2 * len(FORM) + 2, at.folder) as run:
         for size in range(len(FORM)):
             yield expect('a connection that ends behind %d bytes' % size, asked(run, FORM[:size]), b'')
-        yield expect('a connection behind all that ended', asked(run, FORM), JOINED % (4, b'4096'))
+        yield all_of('a connection behind all that ended', asked(run, FORM), JOINED % (4, b'4096'))
         for size in range(len(FORM)):
             with run.connect() as line:
                 line.sendall(FORM[:size])
                 line.setsockopt(socket.SOL_SOCKET, socket.SO_LINGER, struct.pack('ii', 1, 0))
-        yield expect('a connection behind all that broke', asked(run, FORM), JOINED % (4, b'8192'))
+        yield all_of('a connection behind all that broke', asked(run, FORM), JOINED % (4, b'8192'))
         line = b'served %d connections, 2 replies\n' % (2 * len(FORM) + 2)
         yield expect('connections that end, at the end', run.end(), (0, line))
 
@@ -253,7 +256,7 @@ def broken(at):
                    b'\r\n%s\n' % (status, len(status) + 1, status)
             with run.connect() as line:
                 line.sendall(data)
-                yield expect('%r' % data[:80], read_all(line), want)
+                yield all_of('%r' % data[:80], read_all(line), want)
         line = b'served %d connections, %d replies\n' % (len(BROKEN), len(BROKEN))
         yield expect('what is no request, at the end', run.end(), (0, line))
 
@@ -274,11 +277,17 @@ def fresh():
         yield Folder(folder)
 
 
+def in_fresh(part):
+    with fresh() as at:
+        yield from part(at)
+
+
 def main():
     results = []
-    for part in unread, unaimed, audits, outputs, full_disks, fronts, connections, broken, applications:
-        with fresh() as at:
-            results += list(part(at))
+    for part in unread, unaimed, audits, outputs, full_disks, fronts, applications:
+        results += in_fresh(part)
+    for part in connections, broken:
+        results += looked_at(part.__name__, functools.partial(in_fresh, part))
     for wrong in filter(None, results):
         print('FAILED ' + wrong)
     failed = sum(1 for wrong in results if wrong)

@@ -2,9 +2,9 @@
 """Asks the built program over real connections, by sockets and by curl: replies byte by byte, connections that are
 kept, forms, cookies and redirects, what can't be read, clients that send nothing, drip or go away and how long they
 hold up others, audits that go on, what is told on standard error, and how a run ends. Words: the program. Prints each
-case that fails, and ends with a count. Where all that is wrong is that something came late, it is looked at again, twice
-at most, since another program may take the machine for a moment. What needs curl is left out where it isn't installed,
-and that is said."""
+case that fails, and ends with a count. Where something came late it is looked at again, a bounded number of times,
+since another program may take the machine for a moment (late.py). What needs curl is skipped where it isn't installed,
+and that is said (installed.py)."""
 import contextlib
 import http.client
 import os
@@ -20,6 +20,7 @@ import time
 
 import installed
 import proved
+from late import Late, all_of, as_many, looked_at
 from serving import served
 
 TOP = os.path.dirname(os.path.dirname(os.path.abspath(__file__)))
@@ -28,11 +29,7 @@ PROGRAM = proved.program(sys.argv[1])
 HELLO = b'(app (view get "/" (params) (put "hello"))' \
         b' (view get "/large" (params) %s (put "end")))' % (b'(put "%s")' % (b'x' * 1000) * 100)
 LARGE = 100 * 1000 + len('end')
-LOOKS = 3
-
-
-class Late(str):
-    """A case that fails in nothing but its time."""
+ATTEMPTS = 20       # of one of ten clients, until its page comes
 
 
 @contextlib.contextmanager
@@ -77,7 +74,7 @@ def in_pieces():
             for piece in (b'GE', b'T / HTTP/1', b'.0\r\n\r', b'\n'):
                 line.sendall(piece)
                 time.sleep(0.02)
-            yield expect('in pieces', read_all(line), reply(b'200 OK', True, b'hello'))
+            yield all_of('in pieces', read_all(line), reply(b'200 OK', True, b'hello'))
         yield ends('in pieces', run, 1, 1)
 
 
@@ -93,7 +90,7 @@ def kept():
         ask = b'GET / HTTP/1.1\r\nHost: a\r\n\r\n'
         line.sock.sendall(ask + ask.replace(b'\r\n\r\n', b'\r\nConnection: close\r\n\r\n') + ask)
         both = reply(b'200 OK', False, b'hello') + reply(b'200 OK', True, b'hello')
-        yield expect('several at once', read_all(line.sock), both)
+        yield all_of('several at once', read_all(line.sock), both)
         line.close()
         yield ends('kept', run, 1, 5)
 
@@ -106,10 +103,10 @@ def refused():
             want = reply(b'404 Not Found', False)
             want += reply(b'405 Method Not Allowed', False, further=b'Allow: GET, HEAD\r\n')
             want += reply(b'400 Bad Request', True)
-            yield expect('refused', read_all(line), want)
+            yield all_of('refused', read_all(line), want)
         with run.connect() as line:
             line.sendall(b'POST / HTTP/1.1\r\nHost: a\r\nTransfer-Encoding: chunked\r\n\r\n0\r\n\r\n')
-            yield expect('chunks', read_all(line), reply(b'501 Not Implemented', True))
+            yield all_of('chunks', read_all(line), reply(b'501 Not Implemented', True))
         yield ends('refused', run, 2, 4)
 
 
@@ -126,10 +123,12 @@ def large():
 
 
 def asked(line):
-    """Seconds until a page came on a connection that is then ended."""
+    """The page that came on a connection that is then ended, and the seconds until it did."""
     began = time.monotonic()
     line.sendall(b'GET / HTTP/1.0\r\n\r\n')
     page = read_all(line)
+    if not page:
+        raise ConnectionAbortedError('no page came')
     return page, time.monotonic() - began
 
 
@@ -165,7 +164,7 @@ def dripped():
                     if select.select([line], [], [], 2)[0]:
                         break
                     slow.sendall(bytes([byte]))
-                yield expect('behind a drip', read_all(line), reply(b'200 OK', True, b'hello'))
+                yield all_of('behind a drip', read_all(line), reply(b'200 OK', True, b'hello'))
                 yield in_time('behind a drip', time.monotonic() - began, 3)
                 with run.connect() as line:
                     yield in_time('behind a drip, once more', asked(line)[1], 0)
@@ -182,7 +181,7 @@ def let_go():
             with run.connect() as kept, run.connect() as line:
                 kept.sendall(first)
                 yield in_time('behind one that is kept', asked(line)[1], 0.02)
-                yield expect('one that was kept', read_all(kept).count(b'HTTP/1.1'), count)
+                yield as_many('one that was kept', read_all(kept).count(b'HTTP/1.1'), count)
         with run.connect() as line:
             for first, rest in ((ask + ask[:9], ask[9:]), (form + ask[:1], ask[1:]), (ask + form[:-3], form[-3:]),
                                 (ask + form[:-8], form[-8:]), (ask[:3], ask[3:])):
@@ -190,7 +189,7 @@ def let_go():
                 time.sleep(0.3)
                 line.sendall(rest)
             line.shutdown(socket.SHUT_WR)
-            yield expect('fronts that came along', read_all(line).count(b'HTTP/1.1'), 9)
+            yield as_many('fronts that came along', read_all(line).count(b'HTTP/1.1'), 9)
         yield ends('connections that are let go', run, 7, 17)
 
 
@@ -204,14 +203,14 @@ def taken_in_turn():
         time.sleep(place * 0.03)
         for _ in range(pages):
             began = time.monotonic()
-            while True:
+            for _ in range(ATTEMPTS):
                 try:
                     line.request('GET', '/')
                     line.getresponse().read()
+                    times.append(time.monotonic() - began)
                     break
                 except (http.client.HTTPException, OSError):
                     line.close()
-            times.append(time.monotonic() - began)
             time.sleep(0.3)
 
     with hello(10 * clients * pages) as run:
@@ -220,8 +219,8 @@ def taken_in_turn():
             thread.start()
         for thread in threads:
             thread.join()
-        mean = statistics.mean(times)
         yield expect('pages of ten clients', len(times), clients * pages)
+        mean = statistics.mean(times or [0])
         yield None if mean <= 0.15 else Late('ten clients: %.3f seconds a page on the average' % mean)
 
 
@@ -237,7 +236,7 @@ def gone():
             line.setsockopt(socket.SOL_SOCKET, socket.SO_LINGER, struct.pack('ii', 1, 0))
         with run.connect() as line:
             line.sendall(b'GET / HTTP/1.0\r\n\r\n')
-            yield expect('behind one that went away', read_all(line), reply(b'200 OK', True, b'hello'))
+            yield all_of('behind one that went away', read_all(line), reply(b'200 OK', True, b'hello'))
         status, out = run.end()
         yield expect('clients that go away', (status, out[:21]), (0, b'served 3 connections,'))
 
@@ -262,7 +261,7 @@ def not_taken():
             while len(took) < LARGE // 2:
                 took += slow.recv(4096)
                 time.sleep(0.02)
-            yield expect('a page that is taken slowly', len((took + read_all(slow)).partition(b'\r\n\r\n')[2]), LARGE)
+            yield as_many('a page that is taken slowly', len((took + read_all(slow)).partition(b'\r\n\r\n')[2]), LARGE)
         status, out = run.end()
         yield expect('replies that are not taken, at the end', (status, out[:21]), (0, b'served 4 connections,'))
 
@@ -324,6 +323,12 @@ def curl(*words):
     return done.stdout.decode()
 
 
+def followed(name, page):
+    """Whether a redirect was followed on the connection that brought it. A late curl has to make another one."""
+    told = page.splitlines()[-1]
+    return None if told == '200 1 1' else (Late if told == '200 1 2' else str)('%s: %r, not 200 1 1' % (name, told))
+
+
 def forms():
     """A browser's forms, by curl: cookies say who asks, and a redirect is followed on the kept connection."""
     with tempfile.TemporaryDirectory() as folder:
@@ -335,9 +340,9 @@ def forms():
                 return curl('-w', told, *words, run.address(path))
 
             page = ask('/setup', '-L', '-d', '')
-            yield expect('a form without fields', page.splitlines()[-1], '200 1 1')
+            yield followed('a form without fields', page)
             page = ask('/people', '-L', '-b', 'a=b; session=ann', '--data-urlencode', 'name=Zoë & <Co>')
-            yield expect('a form', page.splitlines()[-1], '200 1 1')
+            yield followed('a form', page)
             yield expect('what the form added', '<td>Zoë &amp; &lt;Co&gt;</td>' in page, True)
             page = ask('/people', '-d', 'name=Nobody')
             yield expect('a form of nobody', page.splitlines()[-1], '404 0 1')
@@ -353,30 +358,21 @@ def forms():
         yield expect('the audit', sum(([line[1], line[2]] for line in lines), []), want)
 
 
-def looked_at(part):
-    """What a part lacks, if anything, by the first look that nothing was late in, or by the last."""
-    for _ in range(LOOKS):
-        results = list(part())
-        wrong = list(filter(None, results))
-        if not wrong or not all(isinstance(one, Late) for one in wrong):
-            break
-    return results
-
-
 def main():
     results = []
     parts = [in_pieces, kept, refused, large, waited_for, dripped, let_go, taken_in_turn, gone, not_taken, taken_port,
              told, audits]
-    if installed.find('curl'):
+    has_curl = bool(installed.find('curl'))
+    if has_curl:
         parts.append(forms)
     else:
         installed.skip_part('forms', 'curl')
     for part in parts:
-        results += looked_at(part)
+        results += looked_at(part.__name__, part)
     for wrong in filter(None, results):
         print('FAILED ' + wrong)
     failed = sum(1 for wrong in results if wrong)
-    print('%d passed, %d failed' % (len(results) - failed, failed))
+    print('%d passed, %d failed%s' % (len(results) - failed, failed, '' if has_curl else ', 1 skipped'))
     sys.exit(1 if failed else 0)
 
 

@@ -1,11 +1,14 @@
-"""Runs of the program's command `serve` for the checks: on a port that is free, until they end or are no longer
-wanted."""
+"""Runs of the program's command `serve` for the checks: on a port that is free, until they end or are no longer wanted.
+Several checks may run at once, so a port that was free may be taken a moment later. Then another one is tried."""
 import contextlib
+import os
 import socket
 import subprocess
 import time
 
 HOST = '127.0.0.1'
+PORTS = 5       # that are tried
+TAKEN = 8       # the status of a run whose port is taken
 
 
 def free_port():
@@ -14,11 +17,30 @@ def free_port():
         return door.getsockname()[1]
 
 
-def is_listening(port):
-    """Whether somebody listens on the port, without a connection to it: state 0A in Linux's table."""
+def doors(port):
+    """The sockets that listen on the port, found without a connection to it: state 0A in Linux's table."""
     with open('/proc/net/tcp') as table:
         rows = [line.split() for line in table.readlines()[1:]]
-    return any(int(row[1].partition(':')[2], 16) == port and row[3] == '0A' for row in rows)
+    return ['socket:[%s]' % row[9] for row in rows if int(row[1].partition(':')[2], 16) == port and row[3] == '0A']
+
+
+def is_listening(port):
+    """Whether somebody listens on the port."""
+    return bool(doors(port))
+
+
+def listens(process, port):
+    """Whether this process is the one that listens on the port."""
+    found = doors(port)
+    if not found:
+        return False
+    folder = '/proc/%d/fd' % process
+    with contextlib.suppress(OSError):
+        for name in os.listdir(folder):
+            with contextlib.suppress(OSError):
+                if os.readlink(os.path.join(folder, name)) in found:
+                    return True
+    return False
 
 
 def processor_seconds(process):
@@ -55,19 +77,33 @@ class Served:
         self.run.wait()
 
 
+def end(run):
+    run.kill()
+    run.wait()
+    run.stdout.close()
+    run.stderr.close()
+
+
+def begin(program, app, count, folder, options):
+    """A run that listens, or ended, and its port."""
+    for left in reversed(range(PORTS)):
+        port = free_port()
+        words = [program, 'serve', app, str(port), str(count), *options]
+        run = subprocess.Popen(words, cwd=folder, stdin=subprocess.DEVNULL, stdout=subprocess.PIPE,
+                               stderr=subprocess.PIPE)
+        deadline = time.monotonic() + 20
+        while run.poll() is None and not listens(run.pid, port) and time.monotonic() < deadline:
+            time.sleep(0.01)
+        if run.returncode != TAKEN or not left:
+            return run, port
+        end(run)
+
+
 @contextlib.contextmanager
 def served(program, app, count, folder, options=()):
     """The application, served on a free port to so many connections. What still runs in the end is killed."""
-    port = free_port()
-    words = [program, 'serve', app, str(port), str(count), *options]
-    run = subprocess.Popen(words, cwd=folder, stdin=subprocess.DEVNULL, stdout=subprocess.PIPE, stderr=subprocess.PIPE)
+    run, port = begin(program, app, count, folder, options)
     try:
-        deadline = time.monotonic() + 20
-        while run.poll() is None and not is_listening(port) and time.monotonic() < deadline:
-            time.sleep(0.01)
         yield Served(run, port)
     finally:
-        run.kill()
-        run.wait()
-        run.stdout.close()
-        run.stderr.close()
+        end(run)

@@ -400,7 +400,7 @@ def killed(at):
     """Runs over one store that are killed at a random moment: each answer that was given is kept, at most one join
     more, and no record in part."""
     ways = replay_killed, serve_killed
-    known, randomness, deadline = 0, random.Random(7), time.monotonic() + 150
+    known, randomness, deadline = 0, random.Random(7), time.monotonic() + 400
     for turn in range(KILLS):
         if time.monotonic() > deadline:
             yield 'killed runs: only %d of %d within the time' % (turn, KILLS)

@@ -1,8 +1,8 @@
 #!/usr/bin/env python3
-"""Runs the checks of the program from outside, several at once, and those that measure time one after another. They take
-the proved program of these sources where it is built, or else the trial, which is built first; with JAC_PROVED in the
-environment there has to be the proved one. A line says how each check ended, and the last line how many passed, failed
-and were skipped, whole or in part, because a program isn't installed. The status is 1 where one failed."""
+"""Runs the checks of the program from outside, several at once, and those that measure time one after another. They
+take the proved program of these sources where it is built, or else the trial, which is built first. With JAC_PROVED in
+the environment there has to be the proved one. A line says how each check ended, and the last line how many passed,
+failed and were skipped, whole or in part, because a program isn't installed. The status is 1 where one failed."""
 import argparse
 import collections
 import os
@@ -25,9 +25,8 @@ from installed import SKIPPED, missing, told                                # no
 
 LIST = os.path.join(CHECKS, 'list.txt')
 TAIL = 40                           # lines of a failed check that are printed
-COUNT = re.compile(r'\d+ passed, \d+ failed')
-PART = re.compile(r'(?m)^skipped: (.*)$')
-NOTHING = re.compile(r'0 passed, 0 failed')
+COUNT = re.compile(r'(?m)^(\d+) passed, (\d+) failed(?:, (\d+) skipped)?$')
+PART = re.compile(r'(?m)^skipped:? (.*)$')
 FAULT = 70                          # the status where there is no program to check
 
 Check = collections.namedtuple('Check', 'name words needs seconds alone about')     # a line of the list
@@ -106,7 +105,7 @@ class Run:
 
     def most(self):
         """The seconds after which it is taken for one that never ends."""
-        return 300 + 10 * self.check.seconds
+        return 600 + 10 * self.check.seconds
 
     def is_over(self):
         ended = os.waitid(os.P_PID, self.process.pid, os.WEXITED | os.WNOHANG | os.WNOWAIT)
@@ -128,14 +127,33 @@ class Run:
         self.log.seek(0)
         return self.log.read().decode('utf-8', 'replace')
 
-    def fault(self, output):
+
+class Outcome:
+    """What came of a check, by its status and by what it printed."""
+
+    def __init__(self, run):
+        self.output, self.status = run.output(), run.process.returncode
+        counted = None
+        for counted in COUNT.finditer(self.output):
+            pass
+        self.counted = counted.group() if counted else ''
+        self.passed, self.failed, skipped = (int(count or 0) for count in counted.groups()) if counted else (None, 0, 0)
+        self.parts = PART.findall(self.output) or ['%d parts' % skipped] * bool(skipped)
+        self.hangs = run.late
+
+    def is_skipped(self):
+        nothing = self.status == SKIPPED or self.status == self.passed == 0
+        return nothing and not self.failed and bool(self.parts)
+
+    def fault(self):
         """Why it counts as failed, or nothing."""
-        if self.late:
-            return 'ended after %d seconds, as it seems to hang' % self.seconds
-        if self.process.returncode:
-            return 'ended with status %d' % self.process.returncode
-        counts = COUNT.findall(output)
-        return 'checked nothing' if counts and NOTHING.match(counts[-1]) else None
+        if self.hangs:
+            return 'was ended, as it seemed to hang'
+        if self.status:
+            return 'ended with status %d' % self.status
+        if self.failed:
+            return 'ended with status 0, and %s' % self.counted
+        return 'checked nothing' if self.passed == 0 else None
 
 
 class Report:
@@ -152,20 +170,15 @@ class Report:
         self.line('skipped', name, '', why)
 
     def ended(self, run):
-        output, took = run.output(), '%.1f s' % run.seconds
-        counts, parts = COUNT.findall(output), PART.findall(output)
-        if run.process.returncode == SKIPPED and parts:
-            for part in parts:
-                self.skip(run.check.name, part)
-            return
-        fault, counted = run.fault(output), counts[-1] if counts else ''
-        if fault:
-            self.line('failed', run.check.name, took, fault)
-            print(''.join('         | %s\n' % line for line in output.splitlines()[-TAIL:]), end='', flush=True)
-        else:
-            self.line('passed', run.check.name, took, counted)
-        for part in parts:
-            self.skip(run.check.name, part)
+        name, outcome, took = run.check.name, Outcome(run), '%.1f s' % run.seconds
+        if not outcome.is_skipped():
+            fault = outcome.fault()
+            self.line('failed' if fault else 'passed', name, took, fault or outcome.counted)
+            if fault:
+                tail = outcome.output.splitlines()[-TAIL:]
+                print(''.join('         | %s\n' % line for line in tail), end='', flush=True)
+        for part in outcome.parts:
+            self.skip(name, part)
 
     def last(self):
         skipped = self.counts['skipped']

@@ -1,0 +1,43 @@
+"""Cases that fail because something came late, and for no other reason that is known. Another program may take the machine
+for a moment, so they are looked at again, a bounded number of times. What is late in each look fails."""
+import http.client
+import subprocess
+import time
+
+LOOKS = 6
+# What ends a part early where a client or the program was too slow: a connection that was let go, or a wait that ended.
+ENDINGS = TimeoutError, ConnectionError, http.client.HTTPException, subprocess.TimeoutExpired
+
+
+class Late(str):
+    """A case that may have failed in nothing but its time."""
+
+
+def all_of(name, have, want):
+    """Whether all of these bytes came. Where the last ones didn't, the connection may have been let go before them."""
+    if have == want:
+        return None
+    return (Late if want.startswith(have) else str)('%s: %r, not %r' % (name, have, want))
+
+
+def as_many(name, have, want):
+    """Whether there are as many as are wanted. Where there are fewer, the connection may have been let go before."""
+    if have == want:
+        return None
+    return (Late if have < want else str)('%s: %d, not %d' % (name, have, want))
+
+
+def looked_at(name, part, looks=LOOKS):
+    """What a part lacks, if anything, by the first look in which nothing was late, or by the last one. The looks are
+    further and further apart."""
+    for look in range(looks):
+        time.sleep(look)
+        try:
+            results = list(part())
+        except ENDINGS as error:
+            results = [Late('%s: %s: %s' % (name, type(error).__name__, error))]
+        late = [one for one in results if isinstance(one, Late)]
+        if not late:
+            break
+        print('%s: look %d of %d was late: %s' % (name, look + 1, looks, late[0][:200]), flush=True)
+    return results
