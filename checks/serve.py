@@ -21,7 +21,7 @@ import time
 import installed
 import proved
 from late import Late, all_of, as_many, looked_at
-from serving import served
+from serving import Served, free_port, is_listening, served
 
 TOP = os.path.dirname(os.path.dirname(os.path.abspath(__file__)))
 CALENDAR = os.path.join(TOP, 'examples', 'calendar')
@@ -266,6 +266,155 @@ def not_taken():
         yield expect('replies that are not taken, at the end', (status, out[:21]), (0, b'served 4 connections,'))
 
 
+HALF_FORM = b'POST /none HTTP/1.1\r\nHost: a\r\nContent-Length: %d\r\n\r\n'
+ASKS = 60
+
+
+def drip(lines, byte, over):
+    """Sends a byte on each connection every half second, until it is over or the connection is."""
+    while not over.wait(0.5):
+        for line in lines:
+            with contextlib.suppress(OSError):
+                line.sendall(byte)
+
+
+def beside(name, count, front, byte):
+    """One client's pages beside a crowd, each of which brought a front of a request, and drips the rest of it."""
+    with hello(count + ASKS) as run, contextlib.ExitStack() as lines:
+        crowd = [lines.enter_context(run.connect()) for _ in range(count)]
+        for line in crowd:
+            line.sendall(front)
+        over, times = threading.Event(), []
+        dripping = threading.Thread(target=drip, args=(crowd, byte, over))
+        dripping.start()
+        for _ in range(ASKS):
+            with run.connect() as line:
+                page, seconds = asked(line)
+            times.append(seconds)
+            if page != reply(b'200 OK', True, b'hello'):
+                yield '%s: %r' % (name, page)
+        over.set()
+        dripping.join()
+        for most, seconds in (0.005, statistics.median(times)), (0.05, max(times)):
+            yield None if seconds <= most else Late('%s: %.4f seconds, not %.3f' % (name, seconds, most))
+        lines.close()
+        yield expect('%s, at the end' % name, run.end()[0], 0)
+
+
+def beside_idle():
+    yield from beside('beside 100 that are idle', 100, b'', b'')
+
+
+def beside_heads():
+    yield from beside('beside 100 that drip heads', 100, b'GET / HTT', b'x')
+
+
+def beside_bodies():
+    yield from beside('beside 20 that drip bodies', 20, HALF_FORM % 9000 + b'a=' + b'b' * 8400, b'b')
+
+
+def late_request():
+    """A connection that is idle for two of its three seconds is answered, and so is a long form in two parts; one that
+    brings the front of a request alone is let go, and that is told."""
+    with hello(3) as run:
+        with run.connect() as idle, run.connect() as form, run.connect() as never:
+            form.sendall(HALF_FORM % 9000 + b'a=' + b'b' * 4000)
+            never.sendall(b'GET / HTT')
+            time.sleep(2)
+            yield expect('one that was idle', asked(idle)[0], reply(b'200 OK', True, b'hello'))
+            form.sendall(b'b' * 4998)
+            form.shutdown(socket.SHUT_WR)
+            yield expect('a form in two parts', read_all(form), reply(b'404 Not Found', False))
+            yield expect('one that never asks', read_all(never), b'')
+        yield ends('late requests', run, 3, 2)
+        yield expect('what is told of one that is let go', b'jac: connections let go, without a request in time: 1\n' in run.told, True)
+
+
+def many():
+    """Connections one after another, as many as come in fifteen seconds and at most 100,000: neither descriptors nor
+    memory grow. Of eight in turn one asks, one goes away at once, and the others bring a part of a request."""
+    fronts = b'', b'GET / HT', HALF_FORM % 9000 + b'a=' * 300, b'GET / HTTP/1.0\r\n\r\n', b'\r\n', b'G', b'GET /', b'P'
+    with hello(1_000_000) as run:
+        def held():
+            with open('/proc/%d/statm' % run.run.pid) as pages:
+                return len(os.listdir('/proc/%d/fd' % run.run.pid)), int(pages.read().split()[1]) * 4096
+
+        def some(count):
+            for place in range(count):
+                with run.connect() as line:
+                    line.sendall(fronts[place % len(fronts)])
+                    if place % len(fronts) == 3:
+                        read_all(line)
+            time.sleep(0.2)
+            return asked(run.connect())[0]
+
+        some(2000)
+        descriptors, memory = held()
+        done, until = 2000, time.monotonic() + 15
+        while done < 100_000 and time.monotonic() < until:
+            yield expect('after %d connections' % done, some(2000), reply(b'200 OK', True, b'hello'))
+            done += 2000
+        now = held()
+        yield expect('descriptors after %d connections' % done, now[0], descriptors)
+        grown = now[1] - memory
+        yield None if grown <= 1 << 20 else 'memory grew by %d bytes in %d connections' % (grown, done)
+        print('connections one after another: %d' % done)
+
+
+HANDS_IN = '''
+import os, socket, sys
+kind, whose, words = sys.argv[1], sys.argv[2], sys.argv[3:]
+if kind == 'file':
+    one = open('app')
+else:
+    one = socket.socket()
+    one.setsockopt(socket.SOL_SOCKET, socket.SO_REUSEADDR, 1)
+    one.bind(('127.0.0.1', int(kind)))
+    one.listen(300)
+if one.fileno() != 3:
+    os.dup2(one.fileno(), 3)
+os.set_inheritable(3, True)
+os.environ.update(LISTEN_FDS='1', LISTEN_PID=str(os.getpid()) if whose == 'own' else '1')
+os.execv(words[0], words)
+'''
+
+
+@contextlib.contextmanager
+def handed_in(kind, whose, port, count):
+    """A run that is started with a descriptor 3: a socket that listens on a port, or a file."""
+    with tempfile.TemporaryDirectory() as folder:
+        with open(os.path.join(folder, 'app'), 'wb') as app:
+            app.write(HELLO)
+        words = [sys.executable, '-c', HANDS_IN, kind, whose, PROGRAM, 'serve', 'app', str(port), str(count)]
+        run = subprocess.Popen(words, cwd=folder, stdin=subprocess.DEVNULL, stdout=subprocess.PIPE,
+                               stderr=subprocess.PIPE)
+        try:
+            deadline = time.monotonic() + 20
+            while run.poll() is None and not is_listening(port) and time.monotonic() < deadline:
+                time.sleep(0.01)
+            yield Served(run, port)
+        finally:
+            run.kill()
+            run.wait()
+            run.stdout.close()
+            run.stderr.close()
+
+
+def inherited():
+    """A socket that is handed in as systemd does it is served; one for another process isn't looked at; one that listens
+    elsewhere, and what is no socket, are refused."""
+    port, other = free_port(), free_port()
+    for name, kind, whose in ('handed in', str(port), 'own'), ('handed to another', str(other), 'another'):
+        with handed_in(kind, whose, port, 1) as run:
+            with run.connect() as line:
+                yield expect('a page on a port that is %s' % name, asked(line)[0], reply(b'200 OK', True, b'hello'))
+            yield ends('a port that is %s' % name, run, 1, 1)
+    for name, kind in ('elsewhere', str(other)), ('a file', 'file'):
+        with handed_in(kind, 'own', port, 1) as run:
+            yield expect('handed in, %s' % name, run.end(), (8, b'door fault\n'))
+            yield expect('handed in, %s: what is told' % name, run.told[:len('jac: 127.0.0.1:')], b'jac: 127.0.0.1:')
+
+
 def taken_port():
     with contextlib.closing(socket.socket()) as door, tempfile.TemporaryDirectory() as folder:
         door.bind(('127.0.0.1', 0))
@@ -361,9 +510,8 @@ def forms():
 def main():
     results = []
     parts = [in_pieces, kept, refused, large, waited_for, dripped, let_go, taken_in_turn, gone, not_taken, taken_port,
-             told, audits]
-    has_curl = bool(installed.find('curl'))
-    if has_curl:
+             told, audits, beside_idle, beside_heads, beside_bodies, late_request, many, inherited]
+    if installed.find('curl'):
         parts.append(forms)
     else:
         installed.skip_part('forms', 'curl')

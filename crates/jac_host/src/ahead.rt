@@ -49,7 +49,8 @@ impl Ahead {
         }
     }
 
-    /// Reads once, and says whether more may have come. Where memory lacks, it reads nothing.
+    /// Reads once, and gives the number of bytes: none where the peer ended the connection. Where
+    /// memory lacks, it fails and reads nothing.
     pub(crate) fn read(&mut self, stream: &mut TcpStream) -> io::Result<usize> {
         self.bytes.reserve_exact(CHUNK)?;
         let mut chunk = [0u8; CHUNK];

@@ -1,8 +1,9 @@
 //! What is supposed of the outside, for clauses alone.
 ghost use Rattle.std.specs.Prelude.{ℕ, List, [], Option, None};
 
-/// What each file holds, and what each connection brings, in the order in which they come. No code
-/// can read either, so a function over `O: Outside` is proved for all files and all input.
+/// What each file holds, and what each connection brings, in the order in which the door gives
+/// them. No code can read either, so a function over `O: Outside` is proved for all files and all
+/// input.
 pub trait Outside: Drop {
     ghost file: { List ℕ → Option (List ℕ) };
 

@@ -1,5 +1,5 @@
-//! How long the host waits for what a connection brings next. Connections are served one after
-//! another, so whoever brings nothing holds up all later ones.
+//! How long the host waits for what a connection brings next, once it is handed out. Connections
+//! are served one after another, so whoever brings nothing then holds up all later ones.
 ghost use Rattle.std.specs.Prelude.{◌≡◌, ◌-◌};
 ghost use Rattle.std.specs.Time.{instant_nanos};
 ghost use Rattle.std.specs.Duration.{as_nanos};
@@ -8,8 +8,8 @@ ghost use Rattle.jac_host.specs.Pace.{time_allowed, phase_began, phase_behind};
 use crate::frames::{Spot, spot_behind};
 use std::time::{Duration, Instant};
 
-// How long a new connection may bring nothing. A browser opens some ahead, and sends its request a
-// moment later.
+// How long a connection may bring nothing as it is handed out. What was read ahead isn't waited
+// for.
 const FRESH_MILLIS: u64 = 100;
 
 // How long a connection may bring nothing after a reply: the next request of one that is kept may

@@ -183,9 +183,7 @@ impl Room {
             }
         }
         let count = self.let_go;
-        let _ = eprintln!(self.rt;
-            "jac: let {count} connections go, which brought no request in time"
-        );
+        let _ = eprintln!(self.rt; "jac: connections let go, without a request in time: {count}");
         self.told = Some(now);
         self.let_go = 0;
         None

@@ -65,7 +65,7 @@ fn a_body_that_drips_holds_nobody_up(rt: HostRuntime) -> Result<(), Fail> {
     let head = line.take(&mut into)?;
     let mut into = [0u8; 16384];
     let rest = line.take(&mut into)?;
-    assert_eq!(rt; head + rest, 43 + 9000);
+    assert_eq!(rt; head + rest, 41 + 9000);
     assert!(rt; into[..rest].ends_with(&[b'b'; 5000]));
     door.close(line)?;
     Ok(())
