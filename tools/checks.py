@@ -142,8 +142,7 @@ class Outcome:
         self.hangs = run.late
 
     def is_skipped(self):
-        nothing = self.status == SKIPPED or self.status == self.passed == 0
-        return nothing and not self.failed and bool(self.parts)
+        return self.status in (0, SKIPPED) and bool(self.parts) and not self.passed and not self.failed
 
     def fault(self):
         """Why it counts as failed, or nothing."""
