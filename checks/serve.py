@@ -511,7 +511,8 @@ def main():
     results = []
     parts = [in_pieces, kept, refused, large, waited_for, dripped, let_go, taken_in_turn, gone, not_taken, taken_port,
              told, audits, beside_idle, beside_heads, beside_bodies, late_request, many, inherited]
-    if installed.find('curl'):
+    has_curl = bool(installed.find('curl'))
+    if has_curl:
         parts.append(forms)
     else:
         installed.skip_part('forms', 'curl')
